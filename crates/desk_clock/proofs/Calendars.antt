@@ -1,7 +1,7 @@
 -- jiff's calendar and the calendar of 2000 to 2099 are one.
-use Rattle.std.proofs.Common.{◌≡◌, ℕ, zero, suc, ◌+◌, ◌-◌, ◌*◌, ◌/◌, ◌%◌, ◌<◌, ◌≤◌, ◌==◌, ◌||◌, List, [], ◌∷◌, sum, take, get_or, cond, nat_lt, ℤ, pos, ◌≤ℤ◌, inl, inr, refl, sym, ap, ◌∙◌, arith, rules, true, false, Bool}
+use Rattle.std.proofs.Common.{◌≡◌, ℕ, zero, suc, ◌+◌, ◌-◌, ◌/◌, ◌%◌, ◌<◌, ◌≤◌, ◌==◌, ◌||◌, List, [], ◌∷◌, sum, take, get_or, cond, nat_lt, pos, ◌≤ℤ◌, inl, inr, refl, sym, ap, ◌∙◌, arith, rules, true, false, Bool}
 use Rattle.std.proofs.lemmas.Bool.Decides.{nat_tests}
-use Rattle.jiff_core.specs.Calendar.{is_leap_year, days_in_year, days_in_month, days_of_months, day_of_year, day_count, days_from_civil, IsYear, IsCivilDate}
+use Rattle.jiff_core.specs.Calendar.{is_leap_year, days_in_year, days_in_month, days_of_months, day_count, days_from_civil}
 use Rattle.jiff_core.specs.Date.{epoch_day}
 use Rattle.jiff_core.specs.declared.civil.date.Date.{Date}
 use Rattle.jiff_core.proofs.CalendarLemmas.{day_count-next_year, day_count-day_of_year, days_of_months_table, days_from_civil-day_count, days_in_month_bounds}
@@ -10,8 +10,7 @@ use Rattle.jiff_core.proofs.MarchLemmas.{leap_day}
 use Rattle.jiff_core.proofs.SignedLemmas.{signed_arith}
 use Rattle.jiff_tz.proofs.OnLiterals.{jiff_tz_rules_on_literals}
 use Rattle.hazard_types.specs.declared.calendar.Civil.{Civil}
-use Rattle.hazard_types.specs.Calendar.{year_length, days_before_year, month_lengths, days_before_month, IsCivil, minute_of, civil_of}
-use Rattle.hazard_types.proofs.Years.{civil_ok, minute_ok}
+use Rattle.hazard_types.specs.Calendar.{year_length, days_before_year, month_lengths, days_before_month, IsCivil, minute_of}
 
 first_count : day_count (pos 2000) 1 1 ≡ 4382910
 unfolding jiff_tz_rules_on_literals
@@ -99,7 +98,9 @@ same_month_length y m below low high = rw (same_leap y below) (of_month (y % 4 =
 -- a date of the calendar as one of jiff's
 jiff_date : (c : Civil) → IsCivil c → Date
 jiff_date c is = record {
-  year = pos (2000 + c.year); month = c.month; day = c.day;
+  year = pos (2000 + c.year);
+  month = c.month;
+  day = c.day;
   year_in = omega (arith, signed_arith, is.year);
   month_in = (is.first_month, is.last_month);
   day_in = (is.first_day, omega (arith, is.last_day, same_month_length c.year c.month is.year is.first_month is.last_month));

@@ -1,6 +1,6 @@
 -- The first place at which a test passes, as an option and as a number.
-use Rattle.std.proofs.Common.{◌≡◌, ℕ, ◌+◌, ◌-◌, ◌<◌, ◌≤◌, ◌⊎◌, inl, inr, Bool, List, length, take, drop, Option, Some, None, sym, ap, ◌∙◌, arith, not, []}
-use Rattle.std.specs.List.{position, position_or_len, before_first, after_first, prefix_len}
+use Rattle.std.proofs.Common.{◌≡◌, ℕ, ◌+◌, ◌-◌, inl, inr, Bool, List, length, take, drop, Option, Some, None, sym, ap, ◌∙◌, arith, not, []}
+use Rattle.std.specs.List.{position, position_or_len, before_first, after_first}
 use Rattle.std.proofs.lemmas.Bool.{cases_lt, lt-ltb, le-ltb}
 use Rattle.std.proofs.lemmas.List.{take_rest}
 use Rattle.std.proofs.lemmas.List.Sums.{prefix_len-le-length}

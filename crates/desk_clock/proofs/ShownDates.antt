@@ -1,9 +1,9 @@
 -- The minutes that a date and time is, by jiff's number of its day.
-use Rattle.std.proofs.Common.{◌≡◌, ◌≢◌, ℕ, ◌+◌, ◌-◌, ◌*◌, ◌/◌, ◌%◌, ◌<◌, ◌≤◌, ◌⊎◌, ◌==◌, ◌&&◌, nat_le, nat_lt, inl, inr, Option, Some, None, ℤ, pos, ◌≤ℤ◌, ◌<ℤ◌, cond, refl, sym, ap, ◌∙◌, arith, Bool, true, false, get_or}
+use Rattle.std.proofs.Common.{◌≡◌, ℕ, ◌+◌, ◌-◌, ◌*◌, ◌/◌, ◌%◌, ◌<◌, ◌≤◌, ◌⊎◌, ◌&&◌, nat_le, inl, inr, Option, Some, None, ℤ, pos, ◌≤ℤ◌, refl, sym, ap, ◌∙◌, arith, Bool, true, false, get_or}
 use Rattle.std.proofs.lemmas.Bool.{cases_lt, le-leb, leb-true, and_parts}
 use Rattle.std.proofs.lemmas.Option.{cond_some}
 use Rattle.std.proofs.lemmas.Bool.Decides.{nat_tests}
-use Rattle.jiff_core.specs.Calendar.{days_in_month, days_from_civil}
+use Rattle.jiff_core.specs.Calendar.{days_in_month}
 use Rattle.jiff_core.specs.Date.{epoch_day}
 use Rattle.jiff_core.specs.declared.civil.date.Date.{Date}
 use Rattle.jiff_core.proofs.SignedLemmas.{signed_arith}
@@ -14,7 +14,7 @@ use Rattle.desk_clock.specs.LocalTimes.{in_2000, is_last_of_1999, shown_of, has_
 use Rattle.desk_clock.proofs.Calendars.{day_number, same_month_length, late_1999, last_epoch}
 use Rattle.hazard_types.proofs.Years.{days_fit}
 
-civil_tested : (c : Civil) → IsCivil c → is_civil c ≡ true
+pub civil_tested : (c : Civil) → IsCivil c → is_civil c ≡ true
 unfolding is_civil
 civil_tested c h = grind (arith, nat_tests)
 
@@ -40,10 +40,10 @@ minute_day : (c : Civil) → IsCivil c → (minute_of c / 1440 ≡ days_before_y
 unfolding minute_of
 minute_day c is = let hour = is.hour in let minute = is.minute in (omega arith, omega arith)
 
-last_tested : (t : LocalTime) → t.year ≡ 1999 → t.month ≡ 12 → t.day ≡ 31 → t.hour < 24 → t.minute < 60 → is_last_of_1999 t ≡ true
+pub last_tested : (t : LocalTime) → t.year ≡ 1999 → t.month ≡ 12 → t.day ≡ 31 → t.hour < 24 → t.minute < 60 → is_last_of_1999 t ≡ true
 last_tested t y m d h n = grind (arith, nat_tests)
 
-not_last : (t : LocalTime) → 2000 ≤ t.year → is_last_of_1999 t ≡ false
+pub not_last : (t : LocalTime) → 2000 ≤ t.year → is_last_of_1999 t ≡ false
 not_last t h = grind (arith, nat_tests)
 
 same_length : {y z : ℤ} {m n : ℕ} → y ≡ z → m ≡ n → days_in_month y m ≡ days_in_month z n
@@ -55,9 +55,13 @@ civil_parts t d parts low high hour minute =
     let year : d.year ≡ pos (2000 + (t.year - 2000)) = parts.year ∙ ap pos (omega arith) in
     let day_in : (1 ≤ t.day) × (t.day ≤ days_in_month (pos (2000 + (t.year - 2000))) t.month) = (omega (arith, d.day_in.0, parts.day), omega (arith, d.day_in.1, parts.day, same_length year parts.month)) in
     record {
-      year = omega arith; first_month = month_in.0; last_month = month_in.1;
-      first_day = day_in.0; last_day = omega (arith, day_in.1, same_month_length (t.year - 2000) t.month (omega arith) month_in.0 month_in.1);
-      hour = hour; minute = minute;
+      year = omega arith;
+      first_month = month_in.0;
+      last_month = month_in.1;
+      first_day = day_in.0;
+      last_day = omega (arith, day_in.1, same_month_length (t.year - 2000) t.month (omega arith) month_in.0 month_in.1);
+      hour = hour;
+      minute = minute;
     }
 
 epoch_is : (t : LocalTime) (d : Date) → Parts t d → 2000 ≤ t.year → IsCivil (in_2000 t) → epoch_day d ≡ pos (10957 + minute_of (in_2000 t) / 1440)
@@ -105,17 +109,19 @@ shows_last t last =
     let december : days_in_month (pos t.year) t.month ≡ 31 = rw (year, month) refl in
     record {
       date = has_date_if t (omega arith) (omega arith) (omega arith) (omega arith) (omega arith) (omega arith);
-      hour = grind (arith, nat_tests); minute = grind (arith, nat_tests);
+      hour = grind (arith, nat_tests);
+      minute = grind (arith, nat_tests);
       late = λ d parts. let e = last_epoch d (parts.year ∙ ap pos year) (parts.month ∙ month) (parts.day ∙ day) in omega (arith, signed_arith, e);
     }
 
 shows_civil : (t : LocalTime) → 2000 ≤ t.year → IsCivil (in_2000 t) → Shows t
 shows_civil t low is =
     let same : pos t.year ≡ pos (2000 + (t.year - 2000)) = ap pos (omega arith) in
-    let length : days_in_month (pos t.year) t.month ≡ get_or (month_lengths (t.year - 2000)) (t.month - 1) 0 = same_length same refl ∙ same_month_length (t.year - 2000) t.month is.year is.first_month is.last_month in
+    let length : days_in_month (pos t.year) t.month ≡ get_or (month_lengths (t.year - 2000)) (t.month - 1) 0 = same_length {m = t.month} {n = t.month} same refl ∙ same_month_length (t.year - 2000) t.month is.year is.first_month is.last_month in
     record {
       date = has_date_if t (omega arith) (let y = is.year in omega arith) is.first_month is.last_month is.first_day (let most = is.last_day in omega (arith, length, most));
-      hour = is.hour; minute = is.minute;
+      hour = is.hour;
+      minute = is.minute;
       late = λ d parts. let e = epoch_is t d parts low is in omega (arith, signed_arith, e);
     }
 

@@ -1,15 +1,14 @@
 -- The local time of a minute, by jiff's date of its day.
-use Rattle.std.proofs.Common.{◌≡◌, ℕ, ◌+◌, ◌-◌, ◌*◌, ◌/◌, ◌%◌, ◌<◌, ◌≤◌, ◌⊎◌, inl, inr, ℤ, pos, nat_abs, cond, nat_lt, refl, sym, ap, ◌∙◌, arith, true, false, T, Fits, w16}
+use Rattle.std.proofs.Common.{◌≡◌, ℕ, ◌+◌, ◌-◌, ◌/◌, ◌%◌, ◌<◌, ◌≤◌, ◌⊎◌, inl, inr, pos, nat_abs, refl, sym, ap, ◌∙◌, arith, T, Fits, w16}
 use Rattle.std.proofs.lemmas.Bool.{cases_lt, lt-ltb, le-ltb}
 use Rattle.std.specs.Int.Signed.{non_neg}
 use Rattle.jiff_core.specs.Date.{epoch_day}
 use Rattle.jiff_core.specs.declared.civil.date.Date.{Date}
-use Rattle.jiff_core.proofs.SignedLemmas.{signed_arith}
 use Rattle.hazard_types.specs.declared.calendar.Civil.{Civil}
 use Rattle.hazard_types.specs.Calendar.{IsCivil, minute_of, civil_of}
 use Rattle.hazard_types.proofs.Years.{civil_ok, minute_ok, day_at_most}
 use Rattle.desk_clock.specs.declared.local_times.LocalTime.{LocalTime}
-use Rattle.desk_clock.specs.LocalTimes.{local_time, IsShown, on_last_day_of_1999, from_2000}
+use Rattle.desk_clock.specs.LocalTimes.{local_time, IsShown}
 use Rattle.desk_clock.proofs.Calendars.{date_is, last_is}
 use Rattle.desk_clock.proofs.StampTimes.{hour_of, minute_of as minute_part}
 

@@ -1,5 +1,5 @@
 -- The sizes of the tables of names.
-use Rattle.std.proofs.Common.{◌≡◌, List, length, refl}
+use Rattle.std.proofs.Common.{◌≡◌, length, refl}
 use Rattle.desk_clock.specs.Names.{month_names, weekday_names}
 
 pub twelve_names : length month_names ≡ 12

@@ -1,5 +1,5 @@
 -- Local lines as they are read.
-use Rattle.std.specs.Prelude.{◌≡◌, ◌≢◌, ℕ, ◌+◌, ◌-◌, ◌*◌, ◌<◌, ◌≤◌, ◌⊎◌, ◌==◌, ◌&&◌, Bool, true, false, nat_le, nat_lt, pos, List, [], Option, Some, None, Result, Ok, Err, if◌then◌else◌}
+use Rattle.std.specs.Prelude.{◌≡◌, ℕ, ◌<◌, ◌≤◌, ◌⊎◌, ◌==◌, false, pos, List, Option, Some, None, Result, Ok, Err, if◌then◌else◌}
 use Rattle.jiff_core.specs.Calendar.{IsCivilDate}
 use Rattle.desk_clock.specs.declared.abbreviations.Abbreviation.{Abbreviation}
 use Rattle.desk_clock.specs.declared.local_times.LocalTime.{LocalTime}
@@ -28,7 +28,7 @@ pub record IsForm (b : List ℕ) (w : Written) : Type 0 where
   pub first : IsWord clock b from_half
   pub second : IsWord half from_half from_letters
   pub third : IsWord letters from_letters from_aside
-  pub aside : (from_aside ≡ from_weekday) ⊎ IsAside from_aside from_weekday
+  pub aside : ((begins_with (λ c. c == 47) from_aside ≡ false) × (from_aside ≡ from_weekday)) ⊎ IsAside from_aside from_weekday
   pub fourth : IsWord weekday from_weekday from_month
   pub fifth : IsWord month from_month from_day
   pub sixth : IsWord day from_day year

@@ -1,9 +1,8 @@
 -- What the words of a local line say.
-use Rattle.std.specs.Prelude.{ℕ, ◌+◌, ◌-◌, ◌*◌, ◌%◌, ◌==◌, ◌&&◌, nat_le, nat_lt, Bool, true, false, length, List, [], take, drop, slice_index, Option, Some, None, option_map, codes, is_some, if◌then◌else◌}
+use Rattle.std.specs.Prelude.{ℕ, ◌+◌, ◌-◌, ◌*◌, ◌%◌, ◌==◌, ◌&&◌, nat_le, nat_lt, Bool, length, List, take, drop, slice_index, Option, Some, None, option_map, codes, is_some, if◌then◌else◌}
 use Rattle.std.specs.List.{list_all}
 use Rattle.std.specs.Option.{option_and_then}
 use Rattle.std.specs.Char.{is_ascii_alphabetic, is_ascii_digit}
-use Rattle.desk_clock.specs.declared.local_times.LocalTime.{LocalTime}
 use Rattle.desk_clock.specs.declared.reading.Written.{Written}
 use Rattle.desk_clock.specs.Names.{same_letters, place_of, month_names, weekday_names, abbreviation_named}
 

@@ -1,5 +1,5 @@
 -- The names of months and weekdays, and names read without regard to letter case.
-use Rattle.std.specs.Prelude.{ℕ, ◌+◌, ◌-◌, ◌%◌, Bool, List, [], ◌∷◌, codes, slice_index_or, Option, option_map}
+use Rattle.std.specs.Prelude.{ℕ, ◌+◌, ◌-◌, ◌%◌, Bool, List, [], ◌∷◌, codes, slice_index_or, Option}
 use Rattle.std.specs.List.{position, find}
 use Rattle.std.specs.Str.{str_eq_ignore_ascii_case}
 use Rattle.desk_clock.specs.declared.abbreviations.Abbreviation.{Abbreviation}

@@ -28,8 +28,7 @@ const FIRST: u32 = 4_382_543;
 /// jiff's day numbers are the days of this calendar, where 2000-01-01 is day 10957.
 pub fn calendars_agree()
     ensures { (c : Civil) → IsCivil c → days_from_civil (pos (2000 + c.year)) c.month c.day ≡ pos (10957 + minute_of c / 1440) }
-{
-}
+{}
 
 /// The local time of a minute since the beginning of 1999-12-31.
 pub fn local_time(shown: u32) -> LocalTime

@@ -22,7 +22,9 @@ fn month_names() -> [[u8; 3]; 12]
 fn weekday_names() -> [[u8; 3]; 7]
     ensures { result ≡ weekday_names }
 {
-    [*b"Mon", *b"Tue", *b"Wed", *b"Thu", *b"Fri", *b"Sat", *b"Sun"]
+    [
+        *b"Mon", *b"Tue", *b"Wed", *b"Thu", *b"Fri", *b"Sat", *b"Sun",
+    ]
 }
 
 #[tactic(auto, unfolding(crate::specs::Names::abbreviations))]

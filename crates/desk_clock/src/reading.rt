@@ -1,9 +1,12 @@
 //! Local lines as they are read.
-ghost use Rattle.std.specs.Prelude.{◌≡◌, ◌≤◌, IfSome};
+ghost use Rattle.std.specs.Prelude.{◌≡◌, ◌≤◌, ◌<◌, ℕ, List, IfSome};
+ghost use Rattle.hazard_types.specs.declared.codes.LocalZone.{LocalZone as Zone};
+ghost use Rattle.desk_clock.specs.LocalText.{local_line_of};
+ghost use Rattle.desk_clock.specs.declared.reading.Written.{Written as Said};
 ghost use Rattle.std.specs.List.{list_all};
 ghost use Rattle.std.specs.Char.{is_ascii_alphabetic};
 ghost use Rattle.desk_clock.specs.LocalWords.{digit, number_of, half_of, time_said, year_said, date_said, words_say, are_letters};
-ghost use Rattle.desk_clock.specs.LocalForm.{written_in, minute_of, read_of};
+ghost use Rattle.desk_clock.specs.LocalForm.{written_in, minute_of, read_of, IsForm};
 
 use crate::abbreviations::Abbreviation;
 use crate::local_times::{LocalTime, has_date, minute_shown};
@@ -200,3 +203,13 @@ pub fn read_local_line(b: &[u8]) -> Result<Minute, LocalFault>
         None => Err(LocalFault::NoLocalTime),
     }
 }
+
+/// A line of the form says what its words say.
+pub fn forms_are_read()
+    ensures { (b : List ℕ) (w : Said) → IsForm b w → written_in b ≡ Some w }
+{}
+
+/// A local line reads back to its minute.
+pub fn lines_read_back()
+    ensures { (z : Zone) (m : ℕ) → m < 52596000 → read_of (local_line_of z m) ≡ Ok m }
+{}

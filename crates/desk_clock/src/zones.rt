@@ -91,5 +91,4 @@ pub fn abbreviation_at(zone: LocalZone, m: Minute) -> Abbreviation
 /// The text of each zone is a rule, so no offset is one of a text that can't be read.
 pub fn rules_are_read()
     ensures { (z : Zone) → IsSome (read_whole (rule_text z)) }
-{
-}
+{}
