@@ -49,5 +49,4 @@ pub fn code_of<T: Copy + Eq, const N: usize>(rows: &[Coded<T>; N], value: T) -> 
 pub fn tables_are_inverse<T: Copy + Eq>()
     ensures read_back { (rows : List (Coded T)) (code : List ℕ) (v : T) → HoldsOfIdentical T.eq → IsTable rows → value_beside rows code ≡ Some v → code_beside T.eq rows v ≡ Some (filled code) }
     ensures written_back { (rows : List (Coded T)) (code : List ℕ) (v : T) → HoldsOfIdentical T.eq → IsTable rows → code_beside T.eq rows v ≡ Some code → value_beside rows (unfilled code) ≡ Some v }
-{
-}
+{}
