@@ -1,10 +1,9 @@
 -- What a look-up in the rows of a table finds, and that the two ways are inverse.
-use Rattle.std.proofs.Common.{◌≡◌, ◌≢◌, ℕ, Bool, true, false, List, [], ◌∷◌, Option, Some, None, refl, ap, sym, ◌∙◌, cond, inl, inr}
-use Rattle.std.specs.List.{AllByRecursion}
+use Rattle.std.proofs.Common.{◌≡◌, ◌≢◌, ℕ, Bool, true, false, List, [], ◌∷◌, Some, None, refl, ap, sym, ◌∙◌, cond, inl, inr}
 use Rattle.std.specs.Str.{bytes_eq}
 use Rattle.std.proofs.lemmas.Slice.Eq.{bytes_eq-Decides}
 use Rattle.hazard_types.specs.declared.codes.Coded.{Coded}
-use Rattle.hazard_types.specs.Codes.{unfilled, filled, IsCode, HoldsOfIdentical, value_beside, code_beside, SomeRow, StandsAlone, IsTable}
+use Rattle.hazard_types.specs.Codes.{unfilled, filled, HoldsOfIdentical, value_beside, code_beside, SomeRow, StandsAlone, IsTable}
 
 some_is : {X : Type 0} {a b : X} → Some a ≡ Some b → a ≡ b
 some_is e = cc

@@ -1,5 +1,5 @@
 -- That the tables have no repeats: a test that computes.
-use Rattle.std.proofs.Common.{◌≡◌, ◌==◌, ◌&&◌, ℕ, Bool, true, false, not, List, [], ◌∷◌, length, nat_le, refl, ap, sym, ◌∙◌, leb-true, arith, ◌≤◌}
+use Rattle.std.proofs.Common.{◌≡◌, ◌==◌, ◌&&◌, ℕ, Bool, true, false, not, List, [], ◌∷◌, length, nat_le, refl, ap, ◌∙◌, leb-true, arith, ◌≤◌}
 use Rattle.std.specs.List.{list_all}
 use Rattle.std.specs.Str.{bytes_eq}
 use Rattle.std.proofs.lemmas.Bool.{and_parts, eqb-true}
@@ -7,7 +7,9 @@ use Rattle.std.proofs.lemmas.Slice.Eq.{bytes_eq-Decides}
 use Rattle.hazard_types.specs.declared.codes.Coded.{Coded}
 use Rattle.hazard_types.specs.Codes.{unfilled, filled, IsCode, StandsAlone, IsTable}
 use Rattle.hazard_types.specs.Tables.{class_rows, action_rows, sig_rows, severity_rows, cause_rows, status_rows, category_rows}
-use Rattle.hazard_types.proofs.Equality.{class_itself, action_itself, sig_itself, severity_itself, cause_itself, status_itself, category_itself}
+use Rattle.hazard_types.proofs.Equality.{class_itself, action_itself, sig_itself, severity_itself, cause_itself, status_itself, category_itself, hazard_itself}
+use Rattle.hazard_types.specs.Hazards.{hazard_rows, desk_hazards}
+use Rattle.hazard_types.specs.contracts.hazard.HazardPartialEq.TheImpl as hazard
 use Rattle.hazard_types.specs.contracts.codes.ClassPartialEq.TheImpl as class
 use Rattle.hazard_types.specs.contracts.codes.ActionPartialEq.TheImpl as action
 use Rattle.hazard_types.specs.contracts.hazard.SigPartialEq.TheImpl as sig
@@ -81,3 +83,7 @@ status_table = table_by_test status.eq-value.it status_itself status_rows refl
 pub category_table : IsTable category_rows
 unfolding category_rows
 category_table = table_by_test category.eq-value.it category_itself category_rows refl
+
+pub hazard_table : IsTable hazard_rows
+unfolding hazard_rows desk_hazards
+hazard_table = table_by_test hazard.eq-value.it hazard_itself hazard_rows refl

@@ -1,4 +1,4 @@
-use Rattle.std.proofs.Common.{◌==◌, ℕ, ap, sym, take, arith, eq-eqb}
+use Rattle.std.proofs.Common.{◌==◌, ap, sym, take, arith, eq-eqb}
 use Rattle.std.proofs.lemmas.List.Sums.{position_or_len_is}
 use Rattle.hazard_types.proofs.table.unfilled.Goals as goal
 
