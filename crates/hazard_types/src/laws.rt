@@ -24,8 +24,7 @@ pub fn equality_is_identity()
     ensures segment_lines { (a b : SegLine) → Decides (⟦<SegLine as PartialEq>⟧.eq a b) (a ≡ b) }
     ensures rows { (a b : Row) → Decides (⟦<Row as PartialEq>⟧.eq a b) (a ≡ b) }
     ensures requests { (a b : Request) → Decides (⟦<Request as PartialEq>⟧.eq a b) (a ≡ b) }
-{
-}
+{}
 
 /// Zones, hazards, events and ends are totally ordered, and what ties is identical.
 #[tactic(auto, using(crate::proofs::OrderLaws::by_place_total, crate::proofs::OrderLaws::by_place_ties, crate::proofs::OrderLaws::by_hazard_total, crate::proofs::OrderLaws::by_hazard_ties, crate::proofs::OrderLaws::by_event_total, crate::proofs::OrderLaws::by_event_ties, crate::proofs::OrderLaws::by_end_total, crate::proofs::OrderLaws::by_end_ties))]
@@ -38,13 +37,11 @@ pub fn orders_are_total()
     ensures event_ties { (a b : Event) → by_event a b ≡ Equal → a ≡ b }
     ensures ends { IsTotalOrder ⟦<End as Ord>⟧.cmp }
     ensures end_ties { (a b : End) → ⟦<End as Ord>⟧.cmp a b ≡ Equal → a ≡ b }
-{
-}
+{}
 
 /// Stamps are read back: the stamp of a minute spells it, and what spells a minute is its stamp.
 #[tactic(auto, using(crate::proofs::Stamps::stamp_spells, crate::proofs::Stamps::spells_stamp))]
 pub fn stamps_are_inverse()
     ensures reads { (m : ℕ) → m < 52596000 → stamp_at (stamp_of m) ≡ Some m }
     ensures writes { (bytes : List ℕ) (m : ℕ) → stamp_at bytes ≡ Some m → bytes ≡ stamp_of m }
-{
-}
+{}
