@@ -105,6 +105,9 @@ is_tied Greater h = cc
 tie_decides : {K : Type 0} {R : K → K → Ordering} → IsTotalOrder R → ((a b : K) → R a b ≡ Equal → a ≡ b) → (a b : K) → Decides (eq_by_cmp R a b) (a ≡ b)
 tie_decides {K} {R} total ties a b = (λ h. ties a b (is_tied (R a b) h), λ e. ap (λ x. is_eq (R a x)) (sym e) ∙ ap is_eq (tied_itself total a))
 
+pub same_hazard_decides : (a b : Hazard) → Decides (eq_by_cmp by_hazard a b) (a ≡ b)
+same_hazard_decides = tie_decides by_hazard_total by_hazard_ties
+
 -- `==` of hazards is the test by their order
 pub same_hazard_is : (a b : Hazard) → hazard.eq-value.it a b ≡ eq_by_cmp by_hazard a b
 same_hazard_is a b = same_from_decides _ _ (hazard_decides a b) (tie_decides by_hazard_total by_hazard_ties a b)

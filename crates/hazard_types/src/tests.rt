@@ -114,7 +114,7 @@ fn hazard(letters: [u8; 2], sig: Sig) -> Option<Hazard> {
 }
 
 /// Whether the desk issues a hazard of public zones under this name, with these facts.
-fn is_known(h: Hazard, name: &str, category: Category, family: Family, rank: u8) -> bool {
+fn is_known(h: &Hazard, name: &str, category: Category, family: Family, rank: u8) -> bool {
     let wanted = Facts {
         opens: category,
         follows: category,
@@ -123,7 +123,11 @@ fn is_known(h: Hazard, name: &str, category: Category, family: Family, rank: u8)
         ufn: false,
         flood: false,
     };
-    name_of(h) == Some(name) && facts(h) == Some(wanted)
+    name_of(*h) == Some(name) && facts(*h) == Some(wanted)
+}
+
+fn is_unknown(h: &Hazard) -> bool {
+    name_of(*h).is_none() && facts(*h).is_none()
 }
 
 #[test]
