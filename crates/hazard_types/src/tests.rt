@@ -200,7 +200,7 @@ fn hazards(rt: HostRuntime) {
         ),
     ] {
         let known = hazard(*letters, sig).is_some_and(|h| is_known(
-            h, name, category, family, rank,
+            &h, name, category, family, rank,
         ));
         assert!(rt; known);
     }
@@ -211,8 +211,7 @@ fn hazards(rt: HostRuntime) {
         (b"TO", Sig::W),
         (b"WS", Sig::Y),
     ] {
-        let unknown = hazard(*letters, sig).is_some_and(|h| facts(h).is_none()
-            && name_of(h).is_none());
+        let unknown = hazard(*letters, sig).is_some_and(|h| is_unknown(&h));
         assert!(rt; unknown);
     }
     let codes = hazard_codes();
