@@ -105,6 +105,14 @@ module _ {A : Type 0} where
   pub prefix_length : (xs ys : List A) → IsPrefix xs ys → length xs ≤ length ys
   prefix_length xs ys p = let t : length (xs ++ p.0) ≡ length ys = ap length p.1 in let u = length-append xs p.0 in omega arith
 
+  -- a beginning that is as long is the whole
+  pub prefix_whole : (xs ys : List A) → IsPrefix xs ys → length ys ≤ length xs → ys ≡ xs
+  prefix_whole xs ys p le = go p.0 p.1
+    where
+      go : (rest : List A) → xs ++ rest ≡ ys → ys ≡ xs
+      go [] e = sym e ∙ append-nil xs
+      go (x ∷ rest) e = let t : length (xs ++ x ∷ rest) ≡ length ys = ap length e in let u = length-append xs (x ∷ rest) in absurd (omega arith)
+
   pub prefix_more : (xs ys zs : List A) → IsPrefix xs ys → IsPrefix xs (ys ++ zs)
   prefix_more xs ys zs p = (p.0 ++ zs, sym (append_assoc xs p.0 zs) ∙ ap (λ (z : List A). z ++ zs) p.1)
 
@@ -143,6 +151,22 @@ module _ {B E : Type 0} where
   total_part f [] i v e = absurd (some-ne-none v (sym e))
   total_part f (x ∷ xs) zero v e = let is : f x ≡ f v = ap f (some-injective x v e) in omega arith
   total_part f (x ∷ xs) (suc i) v e = let t = total_part f xs i v e in omega arith
+
+  total_none : (f : View B E → ℕ) (views : List (View B E)) → ((j : ℕ) (u : View B E) → get_elem? views j ≡ some u → f u ≡ 0) → total_of f views ≡ 0
+  total_none f [] nothing = refl
+  total_none f (x ∷ xs) nothing = let is : f x ≡ 0 = nothing zero x refl in let t = total_none f xs (λ j u q. nothing (suc j) u q) in omega arith
+
+  -- where the others are nothing, one member is the total
+  pub total_only : (f : View B E → ℕ) (views : List (View B E)) (i : ℕ) (v : View B E) → get_elem? views i ≡ some v → ((j : ℕ) (u : View B E) → j ≢ i → get_elem? views j ≡ some u → f u ≡ 0) → total_of f views ≡ f v
+  total_only f [] i v e none_else = absurd (some-ne-none v (sym e))
+  total_only f (x ∷ xs) zero v e none_else =
+      let is : f x ≡ f v = ap f (some-injective x v e) in
+      let t = total_none f xs (λ j u q. none_else (suc j) u (λ z. omega arith) q) in
+      omega arith
+  total_only f (x ∷ xs) (suc i) v e none_else =
+      let is : f x ≡ 0 = none_else zero x (λ z. omega arith) refl in
+      let t = total_only f xs i v e (λ j u n q. none_else (suc j) u (λ z. n (omega arith)) q) in
+      omega arith
 
   -- two members are no more than the total
   pub total_two : (f : View B E → ℕ) (views : List (View B E)) (i j : ℕ) (v w : View B E) → i ≢ j → get_elem? views i ≡ some v → get_elem? views j ≡ some w → f v + f w ≤ total_of f views

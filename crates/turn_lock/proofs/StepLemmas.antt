@@ -5,7 +5,7 @@ use mathlib.Core.Logic.{dite}
 use mathlib.Core.Option.{none, some, some-ne-none, some-injective}
 use mathlib.Core.Option as maybe
 use mathlib.Core.List.{IsPrefix}
-use native.Mathlib.Decide.{ℕ_discrete}
+use native.Mathlib.Decide.{ℕ_discrete, dec_le}
 use lib.ListN.{get_elem?}
 use lib.Seq.{set-get_or}
 use prog.Atomic.{either}
@@ -16,7 +16,7 @@ use Rattle.turn_lock.specs.declared.view.Stage.{Stage}
 use Rattle.turn_lock.specs.declared.view.Stage.TheVariants.{Idle, Waits, Serves, Learnt}
 use Rattle.turn_lock.specs.Passes.{LockName, longer, shorter, base_in, pass_of, Closes}
 use Rattle.turn_lock.specs.Turns.{staged, starting, ticket_of, cut, given, both, spent, taught, grown, turn_of, total_of, Stands, Lives, IsSpent, IsFree, KeepsTurns, drawn, looked, learns, adds, passed, settles}
-use Rattle.turn_lock.proofs.Parts.{has_base, at_index, contains_at, put, put_here, put_else, taken_out, inside, at_snoc', at_both, at_right, prefix_length, prefix_more, prefix_same, total_set, total_snoc, total_part, total_two, longer_is, shorter_is}
+use Rattle.turn_lock.proofs.Parts.{has_base, at_index, contains_at, put, put_here, put_else, taken_out, inside, at_snoc', at_both, at_right, prefix_length, prefix_whole, prefix_more, prefix_same, total_set, total_snoc, total_part, total_only, total_two, longer_is, shorter_is}
 
 module _ {E : Type 0} where
   abbrev ticket_or : ℕ → Stage E → ℕ
@@ -141,7 +141,7 @@ module _ (T B E : Type 0) (base_of : T → B) (story_of : T → List E) where
     places = (let t = total_set (λ (x : V). length x.mine) s.views me v w at in let k : length w.mine ≡ length v.mine = ap length mine in let a = r.places in omega arith);
     each = λ j u e. ⊎_elim
         (λ (t : (j ≡ me) × (w ≡ u)). inr (subst (λ (x : ℕ × V). Lives r.base r.first owner (get_or words 0 0) (get_or words 1 0) r.log x.0 x.1) (λ i. (sym t.0 i, t.1 i)) known))
-        (λ (t : (j ≢ me) × (get_elem? s.views j ≡ some u)). ⊎_elim inl (λ (l : LivesIn s r j u). inr record { based = l.based; began = l.began; prefix = l.prefix; met = l.met; shared = l.shared; stands = others j u t.0 l.stands }) (r.each j u t.1))
+        (λ (t : (j ≢ me) × (get_elem? s.views j ≡ some u)). ⊎_elim inl (λ (l : LivesIn s r j u). inr record { based = l.based; began = l.began; prefix = l.prefix; opened = l.opened; met = l.met; shared = l.shared; stands = others j u t.0 l.stands }) (r.each j u t.1))
         (at_set s.views me j w u e);
     theirs = λ j u e i p q. ⊎_elim
         (λ (t : (j ≡ me) × (w ≡ u)).
@@ -165,6 +165,36 @@ module _ (T B E : Type 0) (base_of : T → B) (story_of : T → List E) where
   -- a step that changes no word and no view
   same : (s : S) (i me : ℕ) (cs : List (ℕ × Option T)) (v : V) → get_elem? s.views me ≡ some v → Rule s → Rule (stepped s i (get_or s.words i 0) me cs v keeps)
   same s i me cs v at r = subst (λ (x : List ℕ × List V). Rule record { words = x.0; homes = s.homes; views = x.1 }) (λ k. (sym (set-get_or s.words i 0) k, sym (set_again s.views me v at) k)) r
+
+  -- where a view has all shares, the others are spent
+  others_spent : (s : S) (r : Rule s) (id : ℕ) (v : V) → get_elem? s.views id ≡ some v → v.shares ≡ 1024 → (j : ℕ) (u : V) → j ≢ id → get_elem? s.views j ≡ some u → IsSpent u
+  others_spent s r id v at all j u other q = ⊎_elim
+      (λ (z : IsSpent u). z)
+      (λ (z : LivesIn s r j u).
+          let t = total_two (λ (y : V). y.shares) s.views id j v u (λ e. other (sym e)) at q in
+          let some_share = z.shared in
+          let a = r.all_shares in
+          absurd (omega arith))
+      (r.each j u q)
+
+  -- and each place from the first length on is its own
+  all_mine : (s : S) (r : Rule s) (id : ℕ) (v : V) → get_elem? s.views id ≡ some v → v.shares ≡ 1024 → (p : ℕ) → r.first ≤ p → p < length r.log → get_elem? v.mine (r.rank p) ≡ some p
+  all_mine s r id v at all p low high =
+      let t = r.made p low high in
+      let by_me : r.author p ≡ id = dite (ℕ_discrete (r.author p) id) (λ e. e) (λ other.
+          absurd (some-ne-none p (sym t.2 ∙ ap (λ (z : List ℕ). get_elem? z (r.rank p)) (others_spent s r id v at all (r.author p) t.0 other t.1).empty))) in
+      let same_view : t.0 ≡ v = some-injective t.0 v (sym t.1 ∙ (ap (get_elem? s.views) by_me ∙ at)) in
+      ap (λ (z : V). get_elem? z.mine (r.rank p)) (sym same_view) ∙ t.2
+
+  -- and it has seen the whole list
+  seen_whole : (s : S) (r : Rule s) (id : ℕ) (v : V) → get_elem? s.views id ≡ some v → LivesIn s r id v → v.shares ≡ 1024 → r.log ≡ v.seen
+  seen_whole s r id v at l all = prefix_whole v.seen r.log l.prefix (go (length r.log) refl)
+    where
+      go : (n : ℕ) → length r.log ≡ n → n ≤ length v.seen
+      go zero e = omega arith
+      go (suc p) e = dite (dec_le r.first p)
+          (λ (low : r.first ≤ p). let t = (r.theirs id v at (r.rank p) p (all_mine s r id v at all p low (omega arith))).3 in omega arith)
+          (λ (above : r.first ≤ p → ⊥). let t = l.opened in omega arith)
 
   pub starts : (x : T) (n : ℕ) → n ≡ length (story_of x) → Rule (opening (0 ∷ 0 ∷ n ∷ []) (Some x ∷ []) (starting (base_of x) (story_of x)))
   starts x n is = record {
@@ -196,7 +226,7 @@ module _ (T B E : Type 0) (base_of : T → B) (story_of : T → List E) where
       nothing : (l : List ℕ) (i p : ℕ) → l ≡ [] → get_elem? l i ≡ some p → ⊥
       nothing l i p none_there e = some-ne-none p (sym e ∙ ap (λ (z : List ℕ). get_elem? z i) none_there)
       first_lives : (seat : ℕ) (v : V) → seat ≡ 0 → one ≡ v → Lives (base_of x) (length (story_of x)) (λ _. 0) 0 0 (story_of x) seat v
-      first_lives seat v z e = subst (Lives (base_of x) (length (story_of x)) (λ _. 0) 0 0 (story_of x) seat) e record { based = refl; began = refl; prefix = prefix_same (story_of x); met = (story_of x, refl); shared = omega arith; stands = tt }
+      first_lives seat v z e = subst (Lives (base_of x) (length (story_of x)) (λ _. 0) 0 0 (story_of x) seat) e record { based = refl; began = refl; prefix = prefix_same (story_of x); opened = omega arith; met = (story_of x, refl); shared = omega arith; stands = tt }
 
   pub draws : (slots id next : ℕ) (v : V) (b : B) → v.stage ≡ Idle → v.base ≡ Some b → next < 18446744073709551615
       → Allows Rule slots id (v, []) 0 (λ n. either (eqb n next) (next + 1) n) (drawn {T = T} (step slots 0 next (next + 1) none) (v, []))
@@ -220,7 +250,7 @@ module _ (T B E : Type 0) (base_of : T → B) (story_of : T → List E) where
             tt,
             moves s r id v w (put r.owner n id) words s.homes at refl refl (omega arith) (length-set s.words 0 (next + 1) ∙ wide) r.deep (omega arith) (omega arith) (get_or-set_other s.words 0 2 (next + 1) 0 (λ e. omega arith))
                 (subst (λ (x : ℕ × ℕ). Lives r.base r.first (put r.owner n id) x.0 x.1 r.log id w) (λ k. (sym here k, sym there k))
-                record { based = l.based; began = l.began; prefix = l.prefix; met = l.met; shared = l.shared; stands = (put_here r.owner n id, omega arith, omega arith) })
+                record { based = l.based; began = l.began; prefix = l.prefix; opened = l.opened; met = l.met; shared = l.shared; stands = (put_here r.owner n id, omega arith, omega arith) })
                 (λ j u _ k. subst (λ (x : ℕ × ℕ). Stands (put r.owner n id) x.0 x.1 r.log j u.seen u.stage) (λ q. (sym here q, sym there q)) (others_draw r.owner n (get_or s.words 1 0) id j r.log u.seen u.stage k))
                 (λ free. r.home (still_free s id words s.homes v w at off free)),
             ((λ _. refl), (λ ne. absurd (ne hit))),
@@ -252,12 +282,12 @@ module _ (T B E : Type 0) (base_of : T → B) (story_of : T → List E) where
             there.1,
             subst (λ (ws : List ℕ). Rule record { words = ws; homes = set s.homes 0 none; views = set s.views id w }) (sym (set-get_or s.words 1 0))
                 (moves s r id v w r.owner s.words (set s.homes 0 none) at refl refl (omega arith) r.wide (length-set s.homes 0 none ∙ deep) (omega arith) r.small refl
-                record { based = l.based; began = l.began; prefix = l.prefix; met = l.met; shared = l.shared; stands = (mine.0, sym hit, mine.2, there.3) }
+                record { based = l.based; began = l.began; prefix = l.prefix; opened = l.opened; met = l.met; shared = l.shared; stands = (mine.0, sym hit, mine.2, there.3) }
                 (λ j u _ x. x)
                 (λ none_serves. absurd (let t : turn_of (Serves n held) ≡ 0 = none_serves id w (set_here s.views id w (inside s.views id v at)) in omega arith))),
             (λ m m_is.
                 let ticket : n ≡ m = ap (ticket_or 0) (sym waits ∙ m_is) in
-                ((λ _. (there.0, (λ i. (staged (Serves (ticket i) held) v, (0, Some there.0) ∷ [])), l.based ∙ ap (λ (z : B). let o : Option B = Some z in o) (sym there.2), subst (IsPrefix v.seen) (sym there.3) l.prefix)), (λ ne. absurd (ne (hit ∙ ticket))))),
+                ((λ _. (there.0, (λ i. (staged (Serves (ticket i) held) v, (0, Some there.0) ∷ [])), l.based ∙ ap (λ (z : B). let o : Option B = Some z in o) (sym there.2), subst (IsPrefix v.seen) (sym there.3) l.prefix, (λ all. there.3 ∙ seen_whole s r id v at l all))), (λ ne. absurd (ne (hit ∙ ticket))))),
           ))
       (λ miss. (v, keeps, tt, same s 1 id [] v at r, (λ m m_is. let ticket : n ≡ m = ap (ticket_or 0) (sym waits ∙ m_is) in ((λ e. absurd (miss (e ∙ sym ticket))), (λ _. refl)))))
 
@@ -277,7 +307,7 @@ module _ (T B E : Type 0) (base_of : T → B) (story_of : T → List E) where
         tt,
         subst (λ (ws : List ℕ). Rule record { words = ws; homes = s.homes; views = set s.views id w }) (sym (set-get_or s.words 2 0))
             (moves s r id v w r.owner s.words s.homes at refl refl longer_now r.wide r.deep (omega arith) r.small refl
-            record { based = l.based; began = l.began; prefix = subst (λ (z : List E). IsPrefix z r.log) (sym whole) (prefix_same r.log); met = (held, refl); shared = l.shared; stands = (mine.0, mine.1, mine.2, whole) }
+            record { based = l.based; began = l.began; prefix = subst (λ (z : List E). IsPrefix z r.log) (sym whole) (prefix_same r.log); opened = (let t = l.opened in omega arith); met = (held, refl); shared = l.shared; stands = (mine.0, mine.1, mine.2, whole) }
             (λ j u _ x. x)
             (λ none_serves. absurd (let st : Stage E = Learnt n in let t : turn_of st ≡ 0 = none_serves id w (set_here s.views id w (inside s.views id v at)) in omega arith))),
         (λ m h m_is.
@@ -311,7 +341,7 @@ module _ (T B E : Type 0) (base_of : T → B) (story_of : T → List E) where
         tt,
         moves s r id v w r.owner words (set s.homes 0 (some (Some x))) at refl refl (omega arith) (length-set s.words 1 y ∙ wide) (length-set s.homes 0 (some (Some x)) ∙ deep) (omega arith)
             (subst (λ (z : ℕ). z < 18446744073709551616) (sym there) r.small) (get_or-set_other s.words 1 2 y 0 (λ e. omega arith))
-            record { based = l.based; began = l.began; prefix = l.prefix; met = l.met; shared = l.shared; stands = tt }
+            record { based = l.based; began = l.began; prefix = l.prefix; opened = l.opened; met = l.met; shared = l.shared; stands = tt }
             (λ j u other q. subst (λ (z : ℕ × ℕ). Stands r.owner z.0 z.1 r.log j u.seen u.stage) (λ i. (sym there i, sym here i)) (others_pass r.owner top k id j r.log u.seen (ap r.owner (sym turn) ∙ mine.0) other u.stage q))
             (λ _. (x, set_here s.homes 0 (some (Some x)) (omega arith), sym base ∙ some_b, story ∙ mine.3)),
         refl,
@@ -381,10 +411,10 @@ module _ (T B E : Type 0) (base_of : T → B) (story_of : T → List E) where
           each = λ j u q. ⊎_elim
               (λ (t : (j ≡ id) × (w ≡ u)). inr (subst (λ (z : ℕ × V). Lives r.base r.first r.owner (get_or words 0 0) (get_or words 1 0) now z.0 z.1) (λ i. (sym t.0 i, t.1 i))
                   (subst (λ (z : ℕ × ℕ). Lives r.base r.first r.owner z.0 z.1 now id w) (λ i. (sym same0 i, sym same1 i))
-                  record { based = l.based; began = l.began; prefix = prefix_same now; met = (now, refl); shared = l.shared; stands = subst (Stands r.owner top k now id now) (sym learnt) (mine.0, mine.1, mine.2, refl) })))
+                  record { based = l.based; began = l.began; prefix = prefix_same now; opened = (let t = l.opened in omega arith); met = (now, refl); shared = l.shared; stands = subst (Stands r.owner top k now id now) (sym learnt) (mine.0, mine.1, mine.2, refl) })))
               (λ (t : (j ≢ id) × (get_elem? s.views j ≡ some u)). ⊎_elim inl
                   (λ (o : LivesIn s r j u). inr (subst (λ (z : ℕ × ℕ). Lives r.base r.first r.owner z.0 z.1 now j u) (λ i. (sym same0 i, sym same1 i))
-                  record { based = o.based; began = o.began; prefix = grows u.seen o.prefix; met = o.met; shared = o.shared; stands = others_add r.owner top k id j r.log now u.seen at_ticket t.0 u.stage o.stands }))
+                  record { based = o.based; began = o.began; prefix = grows u.seen o.prefix; opened = o.opened; met = o.met; shared = o.shared; stands = others_add r.owner top k id j r.log now u.seen at_ticket t.0 u.stage o.stands }))
                   (r.each j u t.1))
               (at_set s.views id j w u q);
           theirs = λ j u q i p f. ⊎_elim
@@ -460,10 +490,10 @@ module _ (T B E : Type 0) (base_of : T → B) (story_of : T → List E) where
         places = (let t = total_set (λ (z : V). length z.mine) s.views id v w at in let n = total_snoc (λ (z : V). length z.mine) vs o in let a = r.places in omega arith);
         each = λ j u q. ⊎_elim
             (λ (q' : get_elem? vs j ≡ some u). ⊎_elim
-                (λ (t : (j ≡ id) × (w ≡ u)). inr (subst (λ (z : ℕ × V). LivesIn s r z.0 z.1) (λ i. (sym t.0 i, t.1 i)) record { based = l.based; began = l.began; prefix = l.prefix; met = l.met; shared = omega arith; stands = l.stands }))
+                (λ (t : (j ≡ id) × (w ≡ u)). inr (subst (λ (z : ℕ × V). LivesIn s r z.0 z.1) (λ i. (sym t.0 i, t.1 i)) record { based = l.based; began = l.began; prefix = l.prefix; opened = l.opened; met = l.met; shared = omega arith; stands = l.stands }))
                 (λ (t : (j ≢ id) × (get_elem? s.views j ≡ some u)). r.each j u t.1)
                 (at_set s.views id j w u q'))
-            (λ (new : o ≡ u). inr (subst (LivesIn s r j) new record { based = l.based; began = l.began; prefix = l.prefix; met = (v.seen, refl); shared = omega arith; stands = tt }))
+            (λ (new : o ≡ u). inr (subst (LivesIn s r j) new record { based = l.based; began = l.began; prefix = l.prefix; opened = l.opened; met = (v.seen, refl); shared = omega arith; stands = tt }))
             (at_snoc vs o u j q);
         theirs = λ j u q i p f. ⊎_elim
             (λ (q' : get_elem? vs j ≡ some u). ⊎_elim
@@ -530,7 +560,7 @@ module _ (T B E : Type 0) (base_of : T → B) (story_of : T → List E) where
             (λ (t : (j ≡ other) × (spent ≡ x)). inl (subst IsSpent t.1 record { baseless = refl; shareless = refl; idle = refl; empty = refl }))
             (λ (t : (j ≢ other) × (get_elem? vs j ≡ some x)). ⊎_elim
                 (λ (k : (j ≡ id) × (w ≡ x)). inr (subst (λ (z : ℕ × V). LivesIn s r z.0 z.1) (λ i. (sym k.0 i, k.1 i))
-                    record { based = l.based; began = l.began; prefix = line.0; met = shorter_is v.seen u.seen r.log line; shared = omega arith; stands = off_stands r.owner (get_or s.words 0 0) (get_or s.words 1 0) r.log id v.seen (longer v.seen u.seen) v.stage off l.stands }))
+                    record { based = l.based; began = l.began; prefix = line.0; opened = (let t = l.opened in omega arith); met = shorter_is v.seen u.seen r.log line; shared = omega arith; stands = off_stands r.owner (get_or s.words 0 0) (get_or s.words 1 0) r.log id v.seen (longer v.seen u.seen) v.stage off l.stands }))
                 (λ (k : (j ≢ id) × (get_elem? s.views j ≡ some x)). r.each j x k.1)
                 (at_set s.views id j w x t.1))
             (at_set vs other j spent x q);
@@ -591,14 +621,7 @@ module _ (T B E : Type 0) (base_of : T → B) (story_of : T → List E) where
   pub closes : (s : S) (id : ℕ) (v : V) (b : B) → Rule s → get_elem? s.views id ≡ some v → v.base ≡ Some b → v.stage ≡ Idle → v.shares ≡ 1024 → (lock : LockName) (at_base : IsSome v.base) → (x : T) × (get_elem? s.homes 0 ≡ some (some (Some x))) × Closes (pass_of lock v at_base) (base_of x) (story_of x)
   closes s id v b r at is idle all lock at_base =
       let l = live s r id v b at is in
-      let alone : (j : ℕ) (u : V) → j ≢ id → get_elem? s.views j ≡ some u → IsSpent u = (λ j u other q. ⊎_elim
-          (λ (z : IsSpent u). z)
-          (λ (z : LivesIn s r j u).
-              let t = total_two (λ (y : V). y.shares) s.views id j v u (λ e. other (sym e)) at q in
-              let some_share = z.shared in
-              let a = r.all_shares in
-              absurd (omega arith))
-          (r.each j u q)) in
+      let alone = others_spent s r id v at all in
       let there = r.home (λ j u q. dite (ℕ_discrete j id)
           (λ (same_seat : j ≡ id). ap (λ (z : V). turn_of z.stage) (some-injective u v (sym q ∙ (ap (get_elem? s.views) same_seat ∙ at))) ∙ ap turn_of idle)
           (λ (other : j ≢ id). ap turn_of (alone j u other q).idle)) in
@@ -618,11 +641,11 @@ module _ (T B E : Type 0) (base_of : T → B) (story_of : T → List E) where
               let same_rank : i ≡ j = sym first_rank ∙ (ap r.rank one ∙ later_rank) in
               omega arith;
           all = λ p low high.
-              let t = r.made p (omega arith) (omega arith) in
-              let by_me : r.author p ≡ id = dite (ℕ_discrete (r.author p) id) (λ e. e) (λ other.
-                  absurd (some-ne-none p (sym t.2 ∙ ap (λ (z : List ℕ). get_elem? z (r.rank p)) (alone (r.author p) t.0 other t.1).empty))) in
-              let same_view : t.0 ≡ v = some-injective t.0 v (sym t.1 ∙ (ap (get_elem? s.views) by_me ∙ at)) in
-              contains_at v.mine (r.rank p) p (ap (λ (z : V). get_elem? z.mine (r.rank p)) (sym same_view) ∙ t.2);
+              contains_at v.mine (r.rank p) p (all_mine s r id v at all p (omega arith) (omega arith));
+          counted =
+              (let t = total_only (λ (z : V). length z.mine) s.views id v at (λ j u other q. ap length (alone j u other q).empty) in
+              let a = r.places in
+              omega arith);
         },
       )
     where

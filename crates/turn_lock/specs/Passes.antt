@@ -68,6 +68,8 @@ pub record TakesTurn {T B E Out : Type 0} (base_of : T → B) (story_of : T → 
   pub base_before : base_of before ≡ old.base
   pub base_after : base_of after ≡ old.base
   pub begins : IsPrefix old.seen (story_of before)
+  -- a pass with all shares is the only one
+  pub alone : old.shares ≡ 1024 → story_of before ≡ old.seen
   pub met : meets old.base (story_of before) (story_of after) answer
   pub seen : new.seen ≡ story_of after
   pub mine : PlacesAfter (story_of before) (story_of after) old.mine new.mine
@@ -79,6 +81,7 @@ pub record Closes {B E : Type 0} (pass : PassRecord B E) (base : B) (list : List
   pub holds : All (λ place. (pass.first ≤ place) × (place < length list)) pass.mine
   pub once : AllPairs (λ place later. place ≢ later) pass.mine
   pub all : (place : ℕ) → pass.first ≤ place → place < length list → Contains pass.mine place
+  pub counted : length list ≡ pass.first + length pass.mine
 
 module _ {B : Type 0} where
   -- the base of a view that has one

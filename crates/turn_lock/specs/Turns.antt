@@ -74,6 +74,7 @@ module _ {B E : Type 0} where
     pub began : v.first ≡ first
     -- history: what it has seen begins the longest list
     pub prefix : IsPrefix v.seen log
+    pub opened : first ≤ length v.seen
     pub met : IsPrefix v.met v.seen
     -- shares: it has at least one
     pub shared : 0 < v.shares
@@ -129,10 +130,10 @@ module _ {T B E : Type 0} where
   abbrev pub drawn : Step (Option T) → Me (Option T) (View B E) → ℕ → Me (Option T) (View B E) → Type 0
   drawn st m found m' = (found ≡ st.first → m' ≡ (staged (Waits found) m.0, m.1)) × (found ≢ st.first → m' ≡ m)
 
-  -- the turn has come with the value, or nothing changed
+  -- the turn has come with the value, or nothing changed; who has all shares finds what it had seen
   abbrev pub looked : (T → B) → (T → List E) → Step (Option T) → Me (Option T) (View B E) → ℕ → Me (Option T) (View B E) → Type 0
   looked base_of story_of st m found m' = (n : ℕ) → m.0.stage ≡ Waits n
-      → (found ≡ n → (x : T) × (m' ≡ (staged (Serves n (story_of x)) m.0, (0, Some x) ∷ m.1)) × (m.0.base ≡ Some (base_of x)) × IsPrefix m.0.seen (story_of x)) × (found ≢ n → m' ≡ m)
+      → (found ≡ n → (x : T) × (m' ≡ (staged (Serves n (story_of x)) m.0, (0, Some x) ∷ m.1)) × (m.0.base ≡ Some (base_of x)) × IsPrefix m.0.seen (story_of x) × (m.0.shares ≡ 1024 → story_of x ≡ m.0.seen)) × (found ≢ n → m' ≡ m)
 
   -- what was taken out is the whole list, whose length was found
   abbrev pub learns : Step (Option T) → Me (Option T) (View B E) → ℕ → Me (Option T) (View B E) → Type 0

@@ -55,6 +55,7 @@ impl<T: Storied> TurnLock<T> {
         requires { (seat.old.table_id ≡ self.now) × (seat.old.me.0.stage ≡ Waits ticket) × (seat.old.me.1 ≡ []) × ((b : T.Base) × (seat.old.me.0.base ≡ Some b)) }
         ensures seat { (seat.new.table_id ≡ seat.old.table_id) × (seat.new.id ≡ seat.old.id) × (seat.new.me ≡ (staged (Serves ticket (T.story result)) seat.old.me.0, (0, None) ∷ [])) }
         ensures value { (seat.old.me.0.base ≡ Some (T.base result)) × IsPrefix seat.old.me.0.seen (T.story result) }
+        ensures alone { seat.old.me.0.shares ≡ 1024 → T.story result ≡ seat.old.me.0.seen }
     {
         let shared = &self.table.shared;
         for _ in rt.forever() {
