@@ -1,5 +1,5 @@
 //! Two threads over one list of numbers.
-ghost use Rattle.std.specs.Prelude.{◌≡◌, ◌+◌, [], length, IfSome};
+ghost use Rattle.std.specs.Prelude.{◌≡◌, ◌+◌, [], length, vec_len, IfSome};
 ghost use Rattle.turn_lock.specs.Passes.{KeepsRights};
 ghost use Rattle.turn_lock.specs.Story.{StandAt, IsOfTwo};
 
@@ -75,14 +75,17 @@ fn add_each<R: Wait>(
     Some(pass)
 }
 
-/// What two threads add to one empty list, each its numbers; `None` where memory ran out.
+/// What two threads add to one empty list, each its hundred numbers; `None` where memory ran out.
 fn add_side_by_side<R: Threads + Wait + Sync>(
     rt: &R,
     alloc: Global,
     ours: &[u64],
     theirs: &[u64],
 ) -> Option<Numbers>
-    ensures { IfSome result (λ numbers. (numbers.label ≡ 7) × IsOfTwo numbers.items.items ours.now theirs.now) }
+    requires { (length ours.now ≡ 100) × (length theirs.now ≡ 100) }
+    ensures base { IfSome result (λ numbers. numbers.label ≡ 7) }
+    ensures shared { IfSome result (λ numbers. IsOfTwo numbers.items.items ours.now theirs.now) }
+    ensures count { IfSome result (λ numbers. vec_len numbers.items ≡ 200) }
 {
     let empty = Numbers {
         label: 7,
@@ -123,8 +126,20 @@ fn split_after_three<R: Wait>(rt: &R, alloc: Global) -> Option<Pass<Numbers>>
     let Ok((lock, pass)) = TurnLock::start(alloc, empty) else {
         return None;
     };
+    cross(&lock, &pass);
     let mut after = add_each(rt, &lock, pass, &[5, 6, 7])?;
     lock.split(&mut after).ok()
+}
+
+fn may_cross<X: Send>(_value: &X) {}
+
+fn may_be_shared<X: Sync>(_value: &X) {}
+
+/// A lock may cross threads and be shared by them, and a pass may cross them, wherever the value may cross.
+fn cross<T: Storied + Send>(lock: &TurnLock<T>, pass: &Pass<T>) {
+    may_cross(lock);
+    may_be_shared(lock);
+    may_cross(pass);
 }
 
 #[test]
@@ -135,6 +150,7 @@ fn two_threads_add_a_hundred_numbers_each(rt: HostRuntime) -> Result<(), Fail> {
         ours.push(number)?;
         theirs.push(1000 + number)?;
     }
+    assert_eq!(rt; (ours.len(), theirs.len()), (100, 100));
     let made = add_side_by_side(&rt, rt.alloc(), ours.as_slice(), theirs.as_slice());
     let numbers = made.ok_or("memory")?;
     assert_eq!(rt; numbers.items.len(), 200);

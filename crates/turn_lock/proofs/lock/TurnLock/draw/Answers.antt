@@ -1,4 +1,4 @@
-use Rattle.std.proofs.Common.{◌≡◌, ℕ, [], rules, sym, subst, ap, ◌∙◌, ◌+◌, eqb, Option}
+use Rattle.std.proofs.Common.{arith, ◌≡◌, ℕ, [], rules, sym, subst, ap, ◌∙◌, ◌+◌, eqb, Option}
 use mathlib.Core.Option.{none}
 use prog.Atomic.{either}
 use Rattle.atomic_table.specs.Table.{Allows, step, Me}
@@ -17,5 +17,5 @@ compare_exchange-requires g c =
       search rules,
       subst (λ (m : Me (Option g.row.T.Denot) (View g.row.T-Base.Denot g.row.T-Entry.Denot)). Allows (KeepsTurns base_of story_of) slots c.loop.seat.id m 0 (λ n. either (eqb n next) (next + 1) n) (drawn (step slots 0 next (next + 1) none) m))
           (sym c.loop.invariant.2)
-          (draws g.row.T.Denot g.row.T-Base.Denot g.row.T-Entry.Denot base_of story_of slots c.loop.seat.id next c.args.seat.now.me.0 c.requires.3.0 c.requires.1 c.requires.3.1 c.if-next-lt18446744073709551615.true),
+          (draws g.row.T.Denot g.row.T-Base.Denot g.row.T-Entry.Denot base_of story_of slots c.loop.seat.id next c.args.seat.now.me.0 c.requires.3.0 c.requires.1 c.requires.3.1 (omega arith)),
     )

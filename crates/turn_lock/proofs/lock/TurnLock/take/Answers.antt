@@ -24,6 +24,6 @@ load-requires g c =
 pub exchange-requires : goal.exchange-requires
 exchange-requires g c =
     let m = c.loop.invariant.2 in
-    let won = (c.load.ensures.2 c.args.ticket (ap (λ z. z.0.stage) m ∙ c.requires.1)).0 c.if-load-ticket.true in
+    let won = (c.load.ensures.2 c.args.ticket (ap (λ z. z.0.stage) m ∙ c.requires.1)).0 (search rules) in
     let got = ap (λ z. z.1) won.1 in
     (search rules, (Some won.0, got ∙ ap (λ l. (0, Some won.0) ∷ rest l) (sym got)))
