@@ -2,7 +2,7 @@
 use Rattle.std.specs.Prelude.{Option, Some, None, IsSome, Contains}
 use Rattle.std.proofs.lemmas.Bool.{false≢true}
 use Rattle.std.proofs.Common.{get_or, ◌≡◌, ◌≢◌, ◌⊎◌, ℕ, zero, suc, ◌+◌, ◌<◌, ◌≤◌, List, [], ◌∷◌, ◌++◌, length, set, sym, refl, ap, ◌∙◌, subst, inl, inr, arith, leb, cond, true, false, Bool, length-append}
-use mathlib.Core.Option.{none, some, some-ne-none, some-injective}
+use mathlib.Core.Option.{some, some-ne-none, some-injective}
 use mathlib.Core.List.{IsPrefix, append-nil, append_assoc}
 use native.Mathlib.Decide.{ℕ_discrete}
 use lib.ListN.{get_elem?}
@@ -183,6 +183,7 @@ module _ {E : Type 0} where
     where
       le_of : (a b : ℕ) → leb a b ≡ true → a ≤ b
       le_of a b e = Rattle.std.proofs.lemmas.Bool.leb-true a b e
+
       go : (c : Bool) → leb (length xs) (length ys) ≡ c → IsPrefix (cond c ys xs) l × IsPrefix xs (cond c ys xs) × IsPrefix ys (cond c ys xs)
       go true e = (k, in_line xs ys l h k (le_of (length xs) (length ys) e), prefix_same ys)
       go false e = (h, prefix_same xs, in_line ys xs l k h (less (length xs) (length ys) e))

@@ -1,6 +1,6 @@
 -- Entries at their places: what stands in a list when it grows.
-use Rattle.std.proofs.Common.{◌≡◌, ℕ, zero, suc, ◌+◌, ◌<◌, ◌≤◌, List, [], ◌∷◌, ◌++◌, length, get_or, refl, sym, subst, ap, ◌∙◌, arith, ◌⊎◌, ⊎_elim, Some, length-append}
-use Rattle.std.specs.Prelude.{slice_get, AllPairs, Contains, Option, IfSome}
+use Rattle.std.proofs.Common.{◌≡◌, ℕ, zero, suc, ◌+◌, ◌<◌, List, [], ◌∷◌, ◌++◌, length, get_or, refl, sym, subst, ap, ◌∙◌, arith, ⊎_elim, Some, length-append}
+use Rattle.std.specs.Prelude.{slice_get, Contains, Option, IfSome}
 use Rattle.std.specs.List.{AllZip}
 use Rattle.std.proofs.lemmas.List.Quantifiers.{all_pairs_push}
 use Rattle.std.proofs.lemmas.Option.{slice_get_within}
@@ -58,12 +58,12 @@ module _ {T B E Out : Type 0} {base_of : T → B} {story_of : T → List E} {mee
   pub turn_pushes : (old new : PassRecord B E) (answer : Out) (entries : List E) (e : E) → (t : TakesTurn base_of story_of meets old new answer) → story_of t.after ≡ story_of t.before ++ e ∷ [] → StandAt old.seen old.mine entries → StandAt new.seen new.mine (entries ++ e ∷ [])
   turn_pushes old new answer entries e t is s = ⊎_elim
       (λ (stays : (story_of t.after ≡ story_of t.before) × (new.mine ≡ old.mine)).
-          let a : length (story_of t.before) ≡ length (story_of t.before ++ e ∷ []) = ap length (sym stays.0 ∙ is) in
-          let b = length-append (story_of t.before) (e ∷ []) in
-          absurd (omega arith))
+      let a : length (story_of t.before) ≡ length (story_of t.before ++ e ∷ []) = ap length (sym stays.0 ∙ is) in
+      let b = length-append (story_of t.before) (e ∷ []) in
+      absurd (omega arith))
       (λ (one : (x : E) × (story_of t.after ≡ story_of t.before ++ x ∷ []) × (new.mine ≡ old.mine ++ length (story_of t.before) ∷ [])).
-          subst (λ (z : List E × List ℕ). StandAt z.0 z.1 (entries ++ e ∷ [])) (λ i. (sym t.seen i, sym one.2 i))
-              (stand_push old.seen (story_of t.before) (story_of t.after) old.mine entries e s t.begins is))
+      subst (λ (z : List E × List ℕ). StandAt z.0 z.1 (entries ++ e ∷ [])) (λ i. (sym t.seen i, sym one.2 i))
+      (stand_push old.seen (story_of t.before) (story_of t.after) old.mine entries e s t.begins is))
       t.mine
 
   pub turn_lengthens : (old new : PassRecord B E) (answer : Out) (e : E) → (t : TakesTurn base_of story_of meets old new answer) → story_of t.after ≡ story_of t.before ++ e ∷ [] → old.shares ≡ 1024 → length new.seen ≡ length old.seen + 1

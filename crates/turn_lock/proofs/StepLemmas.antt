@@ -1,5 +1,5 @@
 -- Each step of the lock keeps its rule.
-use Rattle.std.proofs.Common.{◌≡◌, ◌≢◌, ◌⊎◌, ℕ, zero, suc, ◌+◌, ◌-◌, ◌%◌, ◌^◌, ◌<◌, ◌≤◌, eqb, List, [], ◌∷◌, ◌++◌, length, get_or, set, sym, refl, ap, ◌∙◌, subst, ⊎_elim, inl, inr, arith, Option, Some, None, length-set, length-append, get_or-set_other, get_or-set_same}
+use Rattle.std.proofs.Common.{◌≡◌, ◌≢◌, ◌⊎◌, ℕ, zero, suc, ◌+◌, ◌%◌, ◌^◌, ◌<◌, ◌≤◌, eqb, List, [], ◌∷◌, ◌++◌, length, get_or, set, sym, refl, ap, ◌∙◌, subst, ⊎_elim, inl, inr, arith, Option, Some, None, length-set, length-append, get_or-set_other, get_or-set_same}
 use Rattle.std.specs.Prelude.{IsSome}
 use mathlib.Core.Logic.{dite}
 use mathlib.Core.Option.{none, some, some-ne-none, some-injective}
@@ -14,9 +14,9 @@ use Rattle.atomic_table.proofs.Lists.{at_set, at_snoc, at_last, at_longer, set_h
 use Rattle.turn_lock.specs.declared.view.View.{View}
 use Rattle.turn_lock.specs.declared.view.Stage.{Stage}
 use Rattle.turn_lock.specs.declared.view.Stage.TheVariants.{Idle, Waits, Serves, Learnt}
-use Rattle.turn_lock.specs.Passes.{LockName, longer, shorter, base_in, pass_of, Closes}
-use Rattle.turn_lock.specs.Turns.{staged, starting, ticket_of, cut, given, both, spent, taught, grown, turn_of, total_of, Stands, Lives, IsSpent, IsFree, KeepsTurns, drawn, looked, learns, adds, passed, settles}
-use Rattle.turn_lock.proofs.Parts.{has_base, at_index, contains_at, put, put_here, put_else, taken_out, inside, at_snoc', at_both, at_right, prefix_length, prefix_whole, prefix_more, prefix_same, total_set, total_snoc, total_part, total_only, total_two, longer_is, shorter_is}
+use Rattle.turn_lock.specs.Passes.{LockName, longer, base_in, pass_of, Closes}
+use Rattle.turn_lock.specs.Turns.{staged, starting, ticket_of, cut, given, both, spent, taught, grown, turn_of, Stands, Lives, IsSpent, IsFree, KeepsTurns, drawn, looked, learns, adds, passed, settles}
+use Rattle.turn_lock.proofs.Parts.{has_base, at_index, contains_at, put, put_here, put_else, taken_out, inside, at_snoc', at_both, at_right, prefix_length, prefix_whole, prefix_more, prefix_same, total_set, total_snoc, total_only, total_two, longer_is, shorter_is}
 
 module _ {E : Type 0} where
   abbrev ticket_or : ℕ → Stage E → ℕ
@@ -108,6 +108,7 @@ module _ (T B E : Type 0) (base_of : T → B) (story_of : T → List E) where
       full : Option B → ℕ
       full None = 0
       full (Some x) = 1
+
       go : IsSpent v ⊎ LivesIn s r me v → LivesIn s r me v
       go (inl x) = absurd (let t = ap full (sym is ∙ x.baseless) in omega arith)
       go (inr x) = x
@@ -145,18 +146,18 @@ module _ (T B E : Type 0) (base_of : T → B) (story_of : T → List E) where
         (at_set s.views me j w u e);
     theirs = λ j u e i p q. ⊎_elim
         (λ (t : (j ≡ me) × (w ≡ u)).
-            let old = r.theirs me v at i p (subst (λ (l : List ℕ). get_elem? l i ≡ some p) (ap (λ (x : V). x.mine) (sym t.1) ∙ mine) q) in
-            let most : length w.seen ≡ length u.seen = ap (λ (x : V). length x.seen) t.1 in
-            let low = old.3 in
-            (old.0 ∙ sym t.0, old.1, old.2, omega arith))
+        let old = r.theirs me v at i p (subst (λ (l : List ℕ). get_elem? l i ≡ some p) (ap (λ (x : V). x.mine) (sym t.1) ∙ mine) q) in
+        let most : length w.seen ≡ length u.seen = ap (λ (x : V). length x.seen) t.1 in
+        let low = old.3 in
+        (old.0 ∙ sym t.0, old.1, old.2, omega arith))
         (λ (t : (j ≢ me) × (get_elem? s.views j ≡ some u)). r.theirs j u t.1 i p q)
         (at_set s.views me j w u e);
     made = λ p low high.
         let t = r.made p low high in
         dite (ℕ_discrete (r.author p) me)
         (λ is.
-            let same : t.0 ≡ v = some-injective t.0 v (sym t.1 ∙ (ap (get_elem? s.views) is ∙ at)) in
-            (w, ap (get_elem? (set s.views me w)) is ∙ set_here s.views me w (inside s.views me v at), subst (λ (l : List ℕ). get_elem? l (r.rank p) ≡ some p) (ap (λ (x : V). x.mine) same ∙ sym mine) t.2))
+        let same : t.0 ≡ v = some-injective t.0 v (sym t.1 ∙ (ap (get_elem? s.views) is ∙ at)) in
+        (w, ap (get_elem? (set s.views me w)) is ∙ set_here s.views me w (inside s.views me v at), subst (λ (l : List ℕ). get_elem? l (r.rank p) ≡ some p) (ap (λ (x : V). x.mine) same ∙ sym mine) t.2))
         (λ other. (t.0, set_else s.views me (r.author p) w other ∙ t.1, t.2));
     all_shares = (let t = total_set (λ (x : V). x.shares) s.views me v w at in let a = r.all_shares in omega arith);
     home = home;
@@ -171,10 +172,10 @@ module _ (T B E : Type 0) (base_of : T → B) (story_of : T → List E) where
   others_spent s r id v at all j u other q = ⊎_elim
       (λ (z : IsSpent u). z)
       (λ (z : LivesIn s r j u).
-          let t = total_two (λ (y : V). y.shares) s.views id j v u (λ e. other (sym e)) at q in
-          let some_share = z.shared in
-          let a = r.all_shares in
-          absurd (omega arith))
+      let t = total_two (λ (y : V). y.shares) s.views id j v u (λ e. other (sym e)) at q in
+      let some_share = z.shared in
+      let a = r.all_shares in
+      absurd (omega arith))
       (r.each j u q)
 
   -- and each place from the first length on is its own
@@ -182,7 +183,7 @@ module _ (T B E : Type 0) (base_of : T → B) (story_of : T → List E) where
   all_mine s r id v at all p low high =
       let t = r.made p low high in
       let by_me : r.author p ≡ id = dite (ℕ_discrete (r.author p) id) (λ e. e) (λ other.
-          absurd (some-ne-none p (sym t.2 ∙ ap (λ (z : List ℕ). get_elem? z (r.rank p)) (others_spent s r id v at all (r.author p) t.0 other t.1).empty))) in
+      absurd (some-ne-none p (sym t.2 ∙ ap (λ (z : List ℕ). get_elem? z (r.rank p)) (others_spent s r id v at all (r.author p) t.0 other t.1).empty))) in
       let same_view : t.0 ≡ v = some-injective t.0 v (sym t.1 ∙ (ap (get_elem? s.views) by_me ∙ at)) in
       ap (λ (z : V). get_elem? z.mine (r.rank p)) (sym same_view) ∙ t.2
 
@@ -220,11 +221,14 @@ module _ (T B E : Type 0) (base_of : T → B) (story_of : T → List E) where
     where
       one : V
       one = starting (base_of x) (story_of x)
+
       only : (seat : ℕ) (v : V) → get_elem? (one ∷ []) seat ≡ some v → (seat ≡ 0) × (one ≡ v)
       only zero v e = (refl, some-injective one v e)
       only (suc seat) v e = absurd (some-ne-none v (sym e))
+
       nothing : (l : List ℕ) (i p : ℕ) → l ≡ [] → get_elem? l i ≡ some p → ⊥
       nothing l i p none_there e = some-ne-none p (sym e ∙ ap (λ (z : List ℕ). get_elem? z i) none_there)
+
       first_lives : (seat : ℕ) (v : V) → seat ≡ 0 → one ≡ v → Lives (base_of x) (length (story_of x)) (λ _. 0) 0 0 (story_of x) seat v
       first_lives seat v z e = subst (Lives (base_of x) (length (story_of x)) (λ _. 0) 0 0 (story_of x) seat) e record { based = refl; began = refl; prefix = prefix_same (story_of x); opened = omega arith; met = (story_of x, refl); shared = omega arith; stands = tt }
 
@@ -237,24 +241,24 @@ module _ (T B E : Type 0) (base_of : T → B) (story_of : T → List E) where
       exchanged n next (next + 1)
       (λ (k : ℕ). (w : V) × (a : Act (Option T)) × Valid s.homes [] a × Rule (stepped s 0 k id [] w a) × drawn (step slots 0 next (next + 1) none) (v, []) n (w, carried_after [] a))
       (λ hit.
-          let w : V = staged (Waits n) v in
-          let words : List ℕ = set s.words 0 (next + 1) in
-          let put_in = get_or-set_same s.words 0 (next + 1) 0 (omega arith) in
-          let here : get_or words 0 0 ≡ n + 1 = omega arith in
-          let there : get_or words 1 0 ≡ get_or s.words 1 0 = get_or-set_other s.words 0 1 (next + 1) 0 (λ e. omega arith) in
-          let low = r.tickets in
-          let off : turn_of v.stage ≡ 0 = ap turn_of idle in
-          let none_held : ticket_of v.stage ≡ 0 = ap ticket_of idle in (
-            w,
-            keeps,
-            tt,
-            moves s r id v w (put r.owner n id) words s.homes at refl refl (omega arith) (length-set s.words 0 (next + 1) ∙ wide) r.deep (omega arith) (omega arith) (get_or-set_other s.words 0 2 (next + 1) 0 (λ e. omega arith))
-                (subst (λ (x : ℕ × ℕ). Lives r.base r.first (put r.owner n id) x.0 x.1 r.log id w) (λ k. (sym here k, sym there k))
-                record { based = l.based; began = l.began; prefix = l.prefix; opened = l.opened; met = l.met; shared = l.shared; stands = (put_here r.owner n id, omega arith, omega arith) })
-                (λ j u _ k. subst (λ (x : ℕ × ℕ). Stands (put r.owner n id) x.0 x.1 r.log j u.seen u.stage) (λ q. (sym here q, sym there q)) (others_draw r.owner n (get_or s.words 1 0) id j r.log u.seen u.stage k))
-                (λ free. r.home (still_free s id words s.homes v w at off free)),
-            ((λ _. refl), (λ ne. absurd (ne hit))),
-          ))
+      let w : V = staged (Waits n) v in
+      let words : List ℕ = set s.words 0 (next + 1) in
+      let put_in = get_or-set_same s.words 0 (next + 1) 0 (omega arith) in
+      let here : get_or words 0 0 ≡ n + 1 = omega arith in
+      let there : get_or words 1 0 ≡ get_or s.words 1 0 = get_or-set_other s.words 0 1 (next + 1) 0 (λ e. omega arith) in
+      let low = r.tickets in
+      let off : turn_of v.stage ≡ 0 = ap turn_of idle in
+      let none_held : ticket_of v.stage ≡ 0 = ap ticket_of idle in (
+        w,
+        keeps,
+        tt,
+        moves s r id v w (put r.owner n id) words s.homes at refl refl (omega arith) (length-set s.words 0 (next + 1) ∙ wide) r.deep (omega arith) (omega arith) (get_or-set_other s.words 0 2 (next + 1) 0 (λ e. omega arith))
+            (subst (λ (x : ℕ × ℕ). Lives r.base r.first (put r.owner n id) x.0 x.1 r.log id w) (λ k. (sym here k, sym there k))
+            record { based = l.based; began = l.began; prefix = l.prefix; opened = l.opened; met = l.met; shared = l.shared; stands = (put_here r.owner n id, omega arith, omega arith) })
+            (λ j u _ k. subst (λ (x : ℕ × ℕ). Stands (put r.owner n id) x.0 x.1 r.log j u.seen u.stage) (λ q. (sym here q, sym there q)) (others_draw r.owner n (get_or s.words 1 0) id j r.log u.seen u.stage k))
+            (λ free. r.home (still_free s id words s.homes v w at off free)),
+        ((λ _. refl), (λ ne. absurd (ne hit))),
+      ))
       (λ miss. (v, keeps, tt, same s 0 id [] v at r, ((λ e. absurd (miss e)), (λ _. refl))))
 
   pub looks : (slots id n : ℕ) (v : V) (b : B) → v.stage ≡ Waits n → v.base ≡ Some b → Allows Rule slots id (v, []) 1 (λ k. k) (looked base_of story_of (step slots 1 0 0 none) (v, []))
@@ -268,27 +272,27 @@ module _ (T B E : Type 0) (base_of : T → B) (story_of : T → List E) where
       let held_one : ticket_of v.stage ≡ 1 = ap ticket_of waits in
       dite (ℕ_discrete k n)
       (λ hit.
-          let free : IsFree s = (λ j u e. dite (ℕ_discrete (turn_of u.stage) 0) (λ z. z) (λ on. ⊎_elim
-              (λ (x : IsSpent u). ap turn_of x.idle)
-              (λ (x : LivesIn s r j u).
-                  let one : j ≡ id = sym (has_turn r.owner top k r.log j u.seen u.stage x.stands on) ∙ (ap r.owner hit ∙ mine.0) in
-                  ap (λ (y : V). turn_of y.stage) (some-injective u v (sym e ∙ (ap (get_elem? s.views) one ∙ at))) ∙ off)
-              (r.each j u e))) in
-          let there = r.home free in
-          let held : List E = story_of there.0 in
-          let w : V = staged (Serves n held) v in (
-            w,
-            takes 0 (Some there.0),
-            there.1,
-            subst (λ (ws : List ℕ). Rule record { words = ws; homes = set s.homes 0 none; views = set s.views id w }) (sym (set-get_or s.words 1 0))
-                (moves s r id v w r.owner s.words (set s.homes 0 none) at refl refl (omega arith) r.wide (length-set s.homes 0 none ∙ deep) (omega arith) r.small refl
-                record { based = l.based; began = l.began; prefix = l.prefix; opened = l.opened; met = l.met; shared = l.shared; stands = (mine.0, sym hit, mine.2, there.3) }
-                (λ j u _ x. x)
-                (λ none_serves. absurd (let t : turn_of (Serves n held) ≡ 0 = none_serves id w (set_here s.views id w (inside s.views id v at)) in omega arith))),
-            (λ m m_is.
-                let ticket : n ≡ m = ap (ticket_or 0) (sym waits ∙ m_is) in
-                ((λ _. (there.0, (λ i. (staged (Serves (ticket i) held) v, (0, Some there.0) ∷ [])), l.based ∙ ap (λ (z : B). let o : Option B = Some z in o) (sym there.2), subst (IsPrefix v.seen) (sym there.3) l.prefix, (λ all. there.3 ∙ seen_whole s r id v at l all))), (λ ne. absurd (ne (hit ∙ ticket))))),
-          ))
+      let free : IsFree s = (λ j u e. dite (ℕ_discrete (turn_of u.stage) 0) (λ z. z) (λ on. ⊎_elim
+      (λ (x : IsSpent u). ap turn_of x.idle)
+      (λ (x : LivesIn s r j u).
+      let one : j ≡ id = sym (has_turn r.owner top k r.log j u.seen u.stage x.stands on) ∙ (ap r.owner hit ∙ mine.0) in
+      ap (λ (y : V). turn_of y.stage) (some-injective u v (sym e ∙ (ap (get_elem? s.views) one ∙ at))) ∙ off)
+      (r.each j u e))) in
+      let there = r.home free in
+      let held : List E = story_of there.0 in
+      let w : V = staged (Serves n held) v in (
+        w,
+        takes 0 (Some there.0),
+        there.1,
+        subst (λ (ws : List ℕ). Rule record { words = ws; homes = set s.homes 0 none; views = set s.views id w }) (sym (set-get_or s.words 1 0))
+            (moves s r id v w r.owner s.words (set s.homes 0 none) at refl refl (omega arith) r.wide (length-set s.homes 0 none ∙ deep) (omega arith) r.small refl
+            record { based = l.based; began = l.began; prefix = l.prefix; opened = l.opened; met = l.met; shared = l.shared; stands = (mine.0, sym hit, mine.2, there.3) }
+            (λ j u _ x. x)
+            (λ none_serves. absurd (let t : turn_of (Serves n held) ≡ 0 = none_serves id w (set_here s.views id w (inside s.views id v at)) in omega arith))),
+        (λ m m_is.
+            let ticket : n ≡ m = ap (ticket_or 0) (sym waits ∙ m_is) in
+            ((λ _. (there.0, (λ i. (staged (Serves (ticket i) held) v, (0, Some there.0) ∷ [])), l.based ∙ ap (λ (z : B). let o : Option B = Some z in o) (sym there.2), subst (IsPrefix v.seen) (sym there.3) l.prefix, (λ all. there.3 ∙ seen_whole s r id v at l all))), (λ ne. absurd (ne (hit ∙ ticket))))),
+      ))
       (λ miss. (v, keeps, tt, same s 1 id [] v at r, (λ m m_is. let ticket : n ≡ m = ap (ticket_or 0) (sym waits ∙ m_is) in ((λ e. absurd (miss (e ∙ sym ticket))), (λ _. refl)))))
 
   pub learns_all : (slots id n : ℕ) (held : List E) (v : V) (b : B) (more : List (ℕ × Option T)) → v.stage ≡ Serves n held → v.base ≡ Some b
@@ -349,9 +353,11 @@ module _ (T B E : Type 0) (base_of : T → B) (story_of : T → List E) where
     where
       fits : (a : ℕ) → a < 2 ^ 64 → a % 2 ^ 64 ≡ a
       fits a h = omega arith
+
       base_or : B → Option B → B
       base_or d None = d
       base_or d (Some z) = z
+
       base_is : (a c : B) → Some a ≡ Some c → a ≡ c
       base_is a c e = ap (base_or a) e
 
@@ -410,32 +416,32 @@ module _ (T B E : Type 0) (base_of : T → B) (story_of : T → List E) where
           places = (let t = total_set (λ (z : V). length z.mine) s.views id v w at in omega arith);
           each = λ j u q. ⊎_elim
               (λ (t : (j ≡ id) × (w ≡ u)). inr (subst (λ (z : ℕ × V). Lives r.base r.first r.owner (get_or words 0 0) (get_or words 1 0) now z.0 z.1) (λ i. (sym t.0 i, t.1 i))
-                  (subst (λ (z : ℕ × ℕ). Lives r.base r.first r.owner z.0 z.1 now id w) (λ i. (sym same0 i, sym same1 i))
-                  record { based = l.based; began = l.began; prefix = prefix_same now; opened = (let t = l.opened in omega arith); met = (now, refl); shared = l.shared; stands = subst (Stands r.owner top k now id now) (sym learnt) (mine.0, mine.1, mine.2, refl) })))
+              (subst (λ (z : ℕ × ℕ). Lives r.base r.first r.owner z.0 z.1 now id w) (λ i. (sym same0 i, sym same1 i))
+              record { based = l.based; began = l.began; prefix = prefix_same now; opened = (let t = l.opened in omega arith); met = (now, refl); shared = l.shared; stands = subst (Stands r.owner top k now id now) (sym learnt) (mine.0, mine.1, mine.2, refl) })))
               (λ (t : (j ≢ id) × (get_elem? s.views j ≡ some u)). ⊎_elim inl
-                  (λ (o : LivesIn s r j u). inr (subst (λ (z : ℕ × ℕ). Lives r.base r.first r.owner z.0 z.1 now j u) (λ i. (sym same0 i, sym same1 i))
-                  record { based = o.based; began = o.began; prefix = grows u.seen o.prefix; opened = o.opened; met = o.met; shared = o.shared; stands = others_add r.owner top k id j r.log now u.seen at_ticket t.0 u.stage o.stands }))
-                  (r.each j u t.1))
+              (λ (o : LivesIn s r j u). inr (subst (λ (z : ℕ × ℕ). Lives r.base r.first r.owner z.0 z.1 now j u) (λ i. (sym same0 i, sym same1 i))
+              record { based = o.based; began = o.began; prefix = grows u.seen o.prefix; opened = o.opened; met = o.met; shared = o.shared; stands = others_add r.owner top k id j r.log now u.seen at_ticket t.0 u.stage o.stands }))
+              (r.each j u t.1))
               (at_set s.views id j w u q);
           theirs = λ j u q i p f. ⊎_elim
               (λ (t : (j ≡ id) × (w ≡ u)).
-                  let most : length w.seen ≡ length u.seen = ap (λ (z : V). length z.seen) t.1 in
-                  ⊎_elim
-                  (λ (old : get_elem? v.mine i ≡ some p).
-                      let o = r.theirs id v at i p old in
-                      let below = o.3 in
-                      let apart : p ≢ length r.log = (λ z. omega arith) in
-                      (put_else r.author (length r.log) id p apart ∙ (o.0 ∙ sym t.0), put_else r.rank (length r.log) (length v.mine) p apart ∙ o.1, o.2, omega arith))
-                  (λ (new : (i ≡ length v.mine) × (length v.seen ≡ p)).
-                      let p_is : p ≡ length r.log = sym new.1 ∙ seen_len in
-                      (ap (put r.author (length r.log) id) p_is ∙ (put_here r.author (length r.log) id ∙ sym t.0), ap (put r.rank (length r.log) (length v.mine)) p_is ∙ (put_here r.rank (length r.log) (length v.mine) ∙ sym new.0), omega arith, omega arith))
-                  (at_snoc' v.mine (length v.seen) p i (subst (λ (z : V). get_elem? z.mine i ≡ some p) (sym t.1) f)))
+              let most : length w.seen ≡ length u.seen = ap (λ (z : V). length z.seen) t.1 in
+              ⊎_elim
+              (λ (old : get_elem? v.mine i ≡ some p).
+              let o = r.theirs id v at i p old in
+              let below = o.3 in
+              let apart : p ≢ length r.log = (λ z. omega arith) in
+              (put_else r.author (length r.log) id p apart ∙ (o.0 ∙ sym t.0), put_else r.rank (length r.log) (length v.mine) p apart ∙ o.1, o.2, omega arith))
+              (λ (new : (i ≡ length v.mine) × (length v.seen ≡ p)).
+              let p_is : p ≡ length r.log = sym new.1 ∙ seen_len in
+              (ap (put r.author (length r.log) id) p_is ∙ (put_here r.author (length r.log) id ∙ sym t.0), ap (put r.rank (length r.log) (length v.mine)) p_is ∙ (put_here r.rank (length r.log) (length v.mine) ∙ sym new.0), omega arith, omega arith))
+              (at_snoc' v.mine (length v.seen) p i (subst (λ (z : V). get_elem? z.mine i ≡ some p) (sym t.1) f)))
               (λ (t : (j ≢ id) × (get_elem? s.views j ≡ some u)).
-                  let o = r.theirs j u t.1 i p f in
-                  let below = o.3 in
-                  let least = under s r j u t.1 i p f in
-                  let apart : p ≢ length r.log = (λ z. omega arith) in
-                  (put_else r.author (length r.log) id p apart ∙ o.0, put_else r.rank (length r.log) (length v.mine) p apart ∙ o.1, o.2, o.3))
+              let o = r.theirs j u t.1 i p f in
+              let below = o.3 in
+              let least = under s r j u t.1 i p f in
+              let apart : p ≢ length r.log = (λ z. omega arith) in
+              (put_else r.author (length r.log) id p apart ∙ o.0, put_else r.rank (length r.log) (length v.mine) p apart ∙ o.1, o.2, o.3))
               (at_set s.views id j w u q);
           made = λ p low high. dite (ℕ_discrete p (length r.log))
               (λ (p_is : p ≡ length r.log). (
@@ -444,17 +450,17 @@ module _ (T B E : Type 0) (base_of : T → B) (story_of : T → List E) where
                 ap (get_elem? w.mine) (ap (put r.rank (length r.log) (length v.mine)) p_is ∙ put_here r.rank (length r.log) (length v.mine)) ∙ (at_last v.mine (length v.seen) (length v.mine) refl ∙ ap (λ (z : ℕ). let o : maybe.Option ℕ = some z in o) (seen_len ∙ sym p_is)),
               ))
               (λ (apart : p ≢ length r.log).
-                  let t = r.made p low (omega arith) in
-                  let author_is = put_else r.author (length r.log) id p apart in
-                  let rank_is = put_else r.rank (length r.log) (length v.mine) p apart in
-                  dite (ℕ_discrete (r.author p) id)
-                  (λ by_me.
-                      let same_view : t.0 ≡ v = some-injective t.0 v (sym t.1 ∙ (ap (get_elem? s.views) by_me ∙ at)) in (
-                        w,
-                        ap (get_elem? (set s.views id w)) (author_is ∙ by_me) ∙ set_here s.views id w room,
-                        ap (get_elem? w.mine) rank_is ∙ at_longer v.mine (length v.seen ∷ []) (r.rank p) p (ap (λ (z : V). get_elem? z.mine (r.rank p)) (sym same_view) ∙ t.2),
-                      ))
-                  (λ by_other. (t.0, ap (get_elem? (set s.views id w)) author_is ∙ (set_else s.views id (r.author p) w by_other ∙ t.1), ap (get_elem? t.0.mine) rank_is ∙ t.2)));
+              let t = r.made p low (omega arith) in
+              let author_is = put_else r.author (length r.log) id p apart in
+              let rank_is = put_else r.rank (length r.log) (length v.mine) p apart in
+              dite (ℕ_discrete (r.author p) id)
+              (λ by_me.
+              let same_view : t.0 ≡ v = some-injective t.0 v (sym t.1 ∙ (ap (get_elem? s.views) by_me ∙ at)) in (
+                w,
+                ap (get_elem? (set s.views id w)) (author_is ∙ by_me) ∙ set_here s.views id w room,
+                ap (get_elem? w.mine) rank_is ∙ at_longer v.mine (length v.seen ∷ []) (r.rank p) p (ap (λ (z : V). get_elem? z.mine (r.rank p)) (sym same_view) ∙ t.2),
+              ))
+              (λ by_other. (t.0, ap (get_elem? (set s.views id w)) author_is ∙ (set_else s.views id (r.author p) w by_other ∙ t.1), ap (get_elem? t.0.mine) rank_is ∙ t.2)));
           all_shares = (let t = total_set (λ (z : V). z.shares) s.views id v w at in let a = r.all_shares in omega arith);
           home = λ none_serves. absurd (let t : turn_of v.stage ≡ 0 = none_serves id w (set_here s.views id w room) in let o : turn_of v.stage ≡ 1 = ap turn_of learnt in omega arith);
         },
@@ -463,6 +469,7 @@ module _ (T B E : Type 0) (base_of : T → B) (story_of : T → List E) where
     where
       fits : (a : ℕ) → a < 2 ^ 64 → a % 2 ^ 64 ≡ a
       fits a h = omega arith
+
       value_or : T → Option T → T
       value_or d None = d
       value_or d (Some z) = z
@@ -490,34 +497,34 @@ module _ (T B E : Type 0) (base_of : T → B) (story_of : T → List E) where
         places = (let t = total_set (λ (z : V). length z.mine) s.views id v w at in let n = total_snoc (λ (z : V). length z.mine) vs o in let a = r.places in omega arith);
         each = λ j u q. ⊎_elim
             (λ (q' : get_elem? vs j ≡ some u). ⊎_elim
-                (λ (t : (j ≡ id) × (w ≡ u)). inr (subst (λ (z : ℕ × V). LivesIn s r z.0 z.1) (λ i. (sym t.0 i, t.1 i)) record { based = l.based; began = l.began; prefix = l.prefix; opened = l.opened; met = l.met; shared = omega arith; stands = l.stands }))
-                (λ (t : (j ≢ id) × (get_elem? s.views j ≡ some u)). r.each j u t.1)
-                (at_set s.views id j w u q'))
+            (λ (t : (j ≡ id) × (w ≡ u)). inr (subst (λ (z : ℕ × V). LivesIn s r z.0 z.1) (λ i. (sym t.0 i, t.1 i)) record { based = l.based; began = l.began; prefix = l.prefix; opened = l.opened; met = l.met; shared = omega arith; stands = l.stands }))
+            (λ (t : (j ≢ id) × (get_elem? s.views j ≡ some u)). r.each j u t.1)
+            (at_set s.views id j w u q'))
             (λ (new : o ≡ u). inr (subst (LivesIn s r j) new record { based = l.based; began = l.began; prefix = l.prefix; opened = l.opened; met = (v.seen, refl); shared = omega arith; stands = tt }))
             (at_snoc vs o u j q);
         theirs = λ j u q i p f. ⊎_elim
             (λ (q' : get_elem? vs j ≡ some u). ⊎_elim
-                (λ (t : (j ≡ id) × (w ≡ u)).
-                    let old = r.theirs id v at i p (subst (λ (z : V). get_elem? z.mine i ≡ some p) (sym t.1) f) in
-                    let most : length v.seen ≡ length u.seen = ap (λ (z : V). length z.seen) t.1 in
-                    let low = old.3 in
-                    (old.0 ∙ sym t.0, old.1, old.2, omega arith))
-                (λ (t : (j ≢ id) × (get_elem? s.views j ≡ some u)). r.theirs j u t.1 i p f)
-                (at_set s.views id j w u q'))
+            (λ (t : (j ≡ id) × (w ≡ u)).
+            let old = r.theirs id v at i p (subst (λ (z : V). get_elem? z.mine i ≡ some p) (sym t.1) f) in
+            let most : length v.seen ≡ length u.seen = ap (λ (z : V). length z.seen) t.1 in
+            let low = old.3 in
+            (old.0 ∙ sym t.0, old.1, old.2, omega arith))
+            (λ (t : (j ≢ id) × (get_elem? s.views j ≡ some u)). r.theirs j u t.1 i p f)
+            (at_set s.views id j w u q'))
             (λ (new : o ≡ u). absurd (some-ne-none p (sym (subst (λ (z : V). get_elem? z.mine i ≡ some p) (sym new) f))))
             (at_snoc vs o u j q);
         made = λ p low high.
             let t = r.made p low high in
             dite (ℕ_discrete (r.author p) id)
             (λ by_me.
-                let same_view : t.0 ≡ v = some-injective t.0 v (sym t.1 ∙ (ap (get_elem? s.views) by_me ∙ at)) in
-                (w, at_longer vs (o ∷ []) (r.author p) w (ap (get_elem? vs) by_me ∙ set_here s.views id w room), ap (λ (z : V). get_elem? z.mine (r.rank p)) (sym same_view) ∙ t.2))
+            let same_view : t.0 ≡ v = some-injective t.0 v (sym t.1 ∙ (ap (get_elem? s.views) by_me ∙ at)) in
+            (w, at_longer vs (o ∷ []) (r.author p) w (ap (get_elem? vs) by_me ∙ set_here s.views id w room), ap (λ (z : V). get_elem? z.mine (r.rank p)) (sym same_view) ∙ t.2))
             (λ by_other. (t.0, at_longer vs (o ∷ []) (r.author p) t.0 (set_else s.views id (r.author p) w by_other ∙ t.1), t.2));
         all_shares = (let t = total_set (λ (z : V). z.shares) s.views id v w at in let n = total_snoc (λ (z : V). z.shares) vs o in let a = r.all_shares in omega arith);
         home = λ free. r.home (λ j u q. dite (ℕ_discrete j id)
             (λ (same_seat : j ≡ id).
-                let u_is : u ≡ v = some-injective u v (sym q ∙ (ap (get_elem? s.views) same_seat ∙ at)) in
-                ap (λ (z : V). turn_of z.stage) u_is ∙ free id w (at_longer vs (o ∷ []) id w (set_here s.views id w room)))
+            let u_is : u ≡ v = some-injective u v (sym q ∙ (ap (get_elem? s.views) same_seat ∙ at)) in
+            ap (λ (z : V). turn_of z.stage) u_is ∙ free id w (at_longer vs (o ∷ []) id w (set_here s.views id w room)))
             (λ (other : j ≢ id). free j u (at_longer vs (o ∷ []) j u (set_else s.views id j w other ∙ q))));
       }
 
@@ -559,62 +566,62 @@ module _ (T B E : Type 0) (base_of : T → B) (story_of : T → List E) where
         each = λ j x q. ⊎_elim
             (λ (t : (j ≡ other) × (spent ≡ x)). inl (subst IsSpent t.1 record { baseless = refl; shareless = refl; idle = refl; empty = refl }))
             (λ (t : (j ≢ other) × (get_elem? vs j ≡ some x)). ⊎_elim
-                (λ (k : (j ≡ id) × (w ≡ x)). inr (subst (λ (z : ℕ × V). LivesIn s r z.0 z.1) (λ i. (sym k.0 i, k.1 i))
-                    record { based = l.based; began = l.began; prefix = line.0; opened = (let t = l.opened in omega arith); met = shorter_is v.seen u.seen r.log line; shared = omega arith; stands = off_stands r.owner (get_or s.words 0 0) (get_or s.words 1 0) r.log id v.seen (longer v.seen u.seen) v.stage off l.stands }))
-                (λ (k : (j ≢ id) × (get_elem? s.views j ≡ some x)). r.each j x k.1)
-                (at_set s.views id j w x t.1))
+            (λ (k : (j ≡ id) × (w ≡ x)). inr (subst (λ (z : ℕ × V). LivesIn s r z.0 z.1) (λ i. (sym k.0 i, k.1 i))
+            record { based = l.based; began = l.began; prefix = line.0; opened = (let t = l.opened in omega arith); met = shorter_is v.seen u.seen r.log line; shared = omega arith; stands = off_stands r.owner (get_or s.words 0 0) (get_or s.words 1 0) r.log id v.seen (longer v.seen u.seen) v.stage off l.stands }))
+            (λ (k : (j ≢ id) × (get_elem? s.views j ≡ some x)). r.each j x k.1)
+            (at_set s.views id j w x t.1))
             (at_set vs other j spent x q);
         theirs = λ j x q i p f. ⊎_elim
             (λ (t : (j ≡ other) × (spent ≡ x)). absurd (some-ne-none p (sym (subst (λ (z : V). get_elem? z.mine i ≡ some p) (sym t.1) f))))
             (λ (t : (j ≢ other) × (get_elem? vs j ≡ some x)). ⊎_elim
-                (λ (k : (j ≡ id) × (w ≡ x)).
-                    let most : length (longer v.seen u.seen) ≡ length x.seen = ap (λ (z : V). length z.seen) k.1 in
-                    ⊎_elim
-                    (λ (old : get_elem? v.mine i ≡ some p).
-                        let o = r.theirs id v at i p old in
-                        let low = o.3 in
-                        let not_other : r.author p ≢ other = (λ e. apart (sym e ∙ o.0)) in
-                        (chosen_else (r.author p) other id (r.author p) not_other ∙ (o.0 ∙ sym k.0), chosen_else (r.author p) other (length v.mine + r.rank p) (r.rank p) not_other ∙ o.1, o.2, omega arith))
-                    (λ (new : (n : ℕ) × (i ≡ length v.mine + n) × (get_elem? u.mine n ≡ some p)).
-                        let o = r.theirs other u was new.0 p new.2 in
-                        let low = o.3 in
-                        let rank_is = o.1 in
-                        let i_is = new.1 in
-                        (chosen_here (r.author p) other id (r.author p) o.0 ∙ sym k.0, chosen_here (r.author p) other (length v.mine + r.rank p) (r.rank p) o.0 ∙ omega arith, o.2, omega arith))
-                    (at_both v.mine u.mine p i (subst (λ (z : V). get_elem? z.mine i ≡ some p) (sym k.1) f)))
-                (λ (k : (j ≢ id) × (get_elem? s.views j ≡ some x)).
-                    let o = r.theirs j x k.1 i p f in
-                    let not_other : r.author p ≢ other = (λ e. t.0 (sym o.0 ∙ e)) in
-                    (chosen_else (r.author p) other id (r.author p) not_other ∙ o.0, chosen_else (r.author p) other (length v.mine + r.rank p) (r.rank p) not_other ∙ o.1, o.2, o.3))
-                (at_set s.views id j w x t.1))
+            (λ (k : (j ≡ id) × (w ≡ x)).
+            let most : length (longer v.seen u.seen) ≡ length x.seen = ap (λ (z : V). length z.seen) k.1 in
+            ⊎_elim
+            (λ (old : get_elem? v.mine i ≡ some p).
+            let o = r.theirs id v at i p old in
+            let low = o.3 in
+            let not_other : r.author p ≢ other = (λ e. apart (sym e ∙ o.0)) in
+            (chosen_else (r.author p) other id (r.author p) not_other ∙ (o.0 ∙ sym k.0), chosen_else (r.author p) other (length v.mine + r.rank p) (r.rank p) not_other ∙ o.1, o.2, omega arith))
+            (λ (new : (n : ℕ) × (i ≡ length v.mine + n) × (get_elem? u.mine n ≡ some p)).
+            let o = r.theirs other u was new.0 p new.2 in
+            let low = o.3 in
+            let rank_is = o.1 in
+            let i_is = new.1 in
+            (chosen_here (r.author p) other id (r.author p) o.0 ∙ sym k.0, chosen_here (r.author p) other (length v.mine + r.rank p) (r.rank p) o.0 ∙ omega arith, o.2, omega arith))
+            (at_both v.mine u.mine p i (subst (λ (z : V). get_elem? z.mine i ≡ some p) (sym k.1) f)))
+            (λ (k : (j ≢ id) × (get_elem? s.views j ≡ some x)).
+            let o = r.theirs j x k.1 i p f in
+            let not_other : r.author p ≢ other = (λ e. t.0 (sym o.0 ∙ e)) in
+            (chosen_else (r.author p) other id (r.author p) not_other ∙ o.0, chosen_else (r.author p) other (length v.mine + r.rank p) (r.rank p) not_other ∙ o.1, o.2, o.3))
+            (at_set s.views id j w x t.1))
             (at_set vs other j spent x q);
         made = λ p low high.
             let t = r.made p low high in
             dite (ℕ_discrete (r.author p) other)
             (λ by_other.
-                let same_view : t.0 ≡ u = some-injective t.0 u (sym t.1 ∙ (ap (get_elem? s.views) by_other ∙ was)) in (
-                  w,
-                  ap (get_elem? now) (chosen_here (r.author p) other id (r.author p) by_other) ∙ here,
-                  ap (get_elem? w.mine) (chosen_here (r.author p) other (length v.mine + r.rank p) (r.rank p) by_other) ∙ at_right v.mine u.mine p (r.rank p) (ap (λ (z : V). get_elem? z.mine (r.rank p)) (sym same_view) ∙ t.2),
-                ))
+            let same_view : t.0 ≡ u = some-injective t.0 u (sym t.1 ∙ (ap (get_elem? s.views) by_other ∙ was)) in (
+              w,
+              ap (get_elem? now) (chosen_here (r.author p) other id (r.author p) by_other) ∙ here,
+              ap (get_elem? w.mine) (chosen_here (r.author p) other (length v.mine + r.rank p) (r.rank p) by_other) ∙ at_right v.mine u.mine p (r.rank p) (ap (λ (z : V). get_elem? z.mine (r.rank p)) (sym same_view) ∙ t.2),
+            ))
             (λ not_other. dite (ℕ_discrete (r.author p) id)
-                (λ by_me.
-                    let same_view : t.0 ≡ v = some-injective t.0 v (sym t.1 ∙ (ap (get_elem? s.views) by_me ∙ at)) in (
-                      w,
-                      ap (get_elem? now) (chosen_else (r.author p) other id (r.author p) not_other ∙ by_me) ∙ here,
-                      ap (get_elem? w.mine) (chosen_else (r.author p) other (length v.mine + r.rank p) (r.rank p) not_other) ∙ at_longer v.mine u.mine (r.rank p) p (ap (λ (z : V). get_elem? z.mine (r.rank p)) (sym same_view) ∙ t.2),
-                    ))
-                (λ not_me. (
-                  t.0,
-                  ap (get_elem? now) (chosen_else (r.author p) other id (r.author p) not_other) ∙ (set_else vs other (r.author p) spent not_other ∙ (set_else s.views id (r.author p) w not_me ∙ t.1)),
-                  ap (get_elem? t.0.mine) (chosen_else (r.author p) other (length v.mine + r.rank p) (r.rank p) not_other) ∙ t.2,
-                )));
+            (λ by_me.
+            let same_view : t.0 ≡ v = some-injective t.0 v (sym t.1 ∙ (ap (get_elem? s.views) by_me ∙ at)) in (
+              w,
+              ap (get_elem? now) (chosen_else (r.author p) other id (r.author p) not_other ∙ by_me) ∙ here,
+              ap (get_elem? w.mine) (chosen_else (r.author p) other (length v.mine + r.rank p) (r.rank p) not_other) ∙ at_longer v.mine u.mine (r.rank p) p (ap (λ (z : V). get_elem? z.mine (r.rank p)) (sym same_view) ∙ t.2),
+            ))
+            (λ not_me. (
+              t.0,
+              ap (get_elem? now) (chosen_else (r.author p) other id (r.author p) not_other) ∙ (set_else vs other (r.author p) spent not_other ∙ (set_else s.views id (r.author p) w not_me ∙ t.1)),
+              ap (get_elem? t.0.mine) (chosen_else (r.author p) other (length v.mine + r.rank p) (r.rank p) not_other) ∙ t.2,
+            )));
         all_shares = (let t = total_set (λ (z : V). z.shares) s.views id v w at in let n = total_set (λ (z : V). z.shares) vs other u spent there in let a = r.all_shares in omega arith);
         home = λ free. r.home (λ j x q. dite (ℕ_discrete j other)
             (λ (same_seat : j ≡ other). ap (λ (z : V). turn_of z.stage) (some-injective x u (sym q ∙ (ap (get_elem? s.views) same_seat ∙ was))) ∙ ap turn_of idle)
             (λ (not_other : j ≢ other). dite (ℕ_discrete j id)
-                (λ (same_seat : j ≡ id). ap (λ (z : V). turn_of z.stage) (some-injective x v (sym q ∙ (ap (get_elem? s.views) same_seat ∙ at))) ∙ off)
-                (λ (not_me : j ≢ id). free j x (set_else vs other j spent not_other ∙ (set_else s.views id j w not_me ∙ q)))));
+            (λ (same_seat : j ≡ id). ap (λ (z : V). turn_of z.stage) (some-injective x v (sym q ∙ (ap (get_elem? s.views) same_seat ∙ at))) ∙ off)
+            (λ (not_me : j ≢ id). free j x (set_else vs other j spent not_other ∙ (set_else s.views id j w not_me ∙ q)))));
       }
 
   -- who has all shares finds the value at home
@@ -623,8 +630,8 @@ module _ (T B E : Type 0) (base_of : T → B) (story_of : T → List E) where
       let l = live s r id v b at is in
       let alone = others_spent s r id v at all in
       let there = r.home (λ j u q. dite (ℕ_discrete j id)
-          (λ (same_seat : j ≡ id). ap (λ (z : V). turn_of z.stage) (some-injective u v (sym q ∙ (ap (get_elem? s.views) same_seat ∙ at))) ∙ ap turn_of idle)
-          (λ (other : j ≢ id). ap turn_of (alone j u other q).idle)) in
+      (λ (same_seat : j ≡ id). ap (λ (z : V). turn_of z.stage) (some-injective u v (sym q ∙ (ap (get_elem? s.views) same_seat ∙ at))) ∙ ap turn_of idle)
+      (λ (other : j ≢ id). ap turn_of (alone j u other q).idle)) in
       let began = l.began in
       let long : length (story_of there.0) ≡ length r.log = ap length there.3 in
       let short = prefix_length v.seen r.log l.prefix in
@@ -652,6 +659,7 @@ module _ (T B E : Type 0) (base_of : T → B) (story_of : T → List E) where
       base_or : B → Option B → B
       base_or d None = d
       base_or d (Some z) = z
+
       base_is : (a c : B) → Some a ≡ Some c → a ≡ c
       base_is a c e = ap (base_or a) e
 
@@ -674,4 +682,3 @@ module _ (T B E : Type 0) (base_of : T → B) (story_of : T → List E) where
 
   pub settles_all : (slots id i : ℕ) (m : Me (Option T) V) (b : B) → m.0.base ≡ Some b → Allows Rule slots id m i (λ k. k) (settles {T = T} (step slots i 0 0 none) m)
   settles_all slots id i m b is s r _ at _ = (m.0, keeps, tt, same s i id m.1 m.0 at r, (refl, (λ a b p x y. sym (r.theirs id m.0 at a p x).1 ∙ (r.theirs id m.0 at b p y).1), (live s r id m.0 b at is).met))
-  

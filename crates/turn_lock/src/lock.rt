@@ -66,11 +66,10 @@ impl<T: Storied> TurnLock<T> {
         ensures ran { TakesTurn T.base T.story (J.meets job) pass.old pass.new result }
     {
         let ticket = self.draw(rt, &mut pass.seat);
-        let mut value = self.take(rt, &mut pass.seat, ticket);
-        let before = self.learn(&mut pass.seat, ticket, &value);
+        let (mut value, before) = self.take(rt, &mut pass.seat, ticket);
         let answer = job.run(&mut value);
-        self.put_back(&mut pass.seat, ticket, value, before);
-        self.pass_on(&mut pass.seat, ticket);
+        self.put_back(&mut pass.seat, value, before);
+        self.pass_on(&mut pass.seat);
         answer
     }
 

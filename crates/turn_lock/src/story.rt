@@ -6,6 +6,7 @@ ghost use Rattle.turn_lock.specs.Story.{GrowsByOneAtMost};
 /// No value of the two types need be made.
 pub trait Storied {
     type Base;
+
     type Entry;
 
     ghost base: { Self → Self.Base };

@@ -1,4 +1,4 @@
-use Rattle.std.proofs.Common.{arith, ◌≡◌, ℕ, [], rules, sym, subst, ap, ◌∙◌, ◌+◌, eqb, Option}
+use Rattle.std.proofs.Common.{arith, ℕ, rules, sym, subst, ◌+◌, eqb, Option}
 use mathlib.Core.Option.{none}
 use prog.Atomic.{either}
 use Rattle.atomic_table.specs.Table.{Allows, step, Me}

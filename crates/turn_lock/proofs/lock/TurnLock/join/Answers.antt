@@ -12,14 +12,22 @@ use Rattle.turn_lock.proofs.lock.TurnLock.join.Goals as goal
 pub join_seat-requires : goal.join_seat-requires
 join_seat-requires g c =
     let mine = c.pass.inside.seat in
-    let theirs = c.other.inside.seat in
-    (search rules, search rules, search rules, search rules, joins g.row.T.Denot g.row.T-Base.Denot g.row.T-Entry.Denot g.T.Storied.base g.T.Storied.story
-        mine.id mine.me.0 _ theirs.id theirs.me.0 _ (has_base _ c.pass.inside.live) (has_base _ c.other.inside.live) c.other.invariant.0 (ap turn_of c.pass.invariant.0))
+    let theirs = c.other.inside.seat in (
+      search rules,
+      search rules,
+      search rules,
+      search rules,
+      joins g.row.T.Denot g.row.T-Base.Denot g.row.T-Entry.Denot g.T.Storied.base g.T.Storied.story
+          mine.id mine.me.0 _ theirs.id theirs.me.0 _ (has_base _ c.pass.inside.live) (has_base _ c.other.inside.live) c.other.invariant.0 (ap turn_of c.pass.invariant.0),
+    )
 
 pub load-requires : goal.load-requires
-load-requires g c =
-    (search rules, search rules, settles_all g.row.T.Denot g.row.T-Base.Denot g.row.T-Entry.Denot g.T.Storied.base g.T.Storied.story _ _ _ _ _
-        (ap (λ z. z.0.base) c.join_seat.ensures.2 ∙ has_base _ c.pass.inside.live))
+load-requires g c = (
+  search rules,
+  search rules,
+  settles_all g.row.T.Denot g.row.T-Base.Denot g.row.T-Entry.Denot g.T.Storied.base g.T.Storied.story _ _ _ _ _
+      (ap (λ z. z.0.base) c.join_seat.ensures.2 ∙ has_base _ c.pass.inside.live),
+)
 
 pub returns-clause-apart : goal.returns-clause-apart
 returns-clause-apart g c = λ place left right.

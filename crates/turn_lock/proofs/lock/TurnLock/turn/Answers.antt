@@ -7,8 +7,3 @@ pub take-value-requires : goal.take-value-requires
 take-value-requires g c =
     let live = c.pass.inside.live in
     (search rules, search rules, search rules, (base_in _ live, ap (λ z. z.0.base) c.draw-ticket.ensures.2 ∙ has_base _ live))
-
-pub learn-before-requires : goal.learn-before-requires
-learn-before-requires g c =
-    let live = c.pass.inside.live in
-    (search rules, ap (λ z. z.0.stage) c.take-value.ensures.seat.2, (base_in _ live, ap (λ z. z.0.base) c.take-value.ensures.seat.2 ∙ ap (λ z. z.0.base) c.draw-ticket.ensures.2 ∙ has_base _ live))
