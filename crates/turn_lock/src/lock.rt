@@ -15,7 +15,7 @@ use std::marker::Model;
 use std::snapshot::Snapshot;
 use std::sync::Wait;
 
-/// A value that one pass at a time works on. A contract sees a lock as its name.
+/// A value that one pass at a time works on, in the order of the tickets that passes draw. A contract sees a lock as its name.
 #[derive(Drop)]
 pub struct TurnLock<T: Storied> {
     pub(crate) table: Table<Option<T>, View<T::Base, T::Entry>, Snapshot<T>, Turns, Global>,
@@ -73,7 +73,8 @@ impl<T: Storied> TurnLock<T> {
         answer
     }
 
-    /// A pass that has seen what this one has, has no entries of its own, and gets one of its shares. On `Oom` the pass is as it was.
+    /// A pass that has seen what this one has, has no entries of its own, and gets one of its shares.
+    /// On `Oom` the pass is as it was; no clause says when that comes.
     pub fn split(&self, pass: &mut Pass<T>) -> Result<Pass<T>, Oom>
         requires pass { pass.old.lock ≡ self.now }
         requires shares { 2 ≤ pass.old.shares }
@@ -92,7 +93,7 @@ impl<T: Storied> TurnLock<T> {
         ensures both { pass.new ≡ joined pass.old other }
 
         // Each list begins the longer one.
-        ensures begin { IsPrefix pass.old.seen pass.new.seen × IsPrefix other.seen pass.new.seen }
+        ensures begins { IsPrefix pass.old.seen pass.new.seen × IsPrefix other.seen pass.new.seen }
         ensures apart { (place : ℕ) → Contains pass.old.mine place → ¬ Contains other.mine place }
     {
         let Pass { seat } = other;

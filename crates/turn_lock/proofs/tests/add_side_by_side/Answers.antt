@@ -12,7 +12,7 @@ returns g c =
     let start = c.in-Ok.ensures.ok in
     let both : IsOfTwo c.close.result.items.items c.args.ours.now c.args.theirs.now =
     of_two c.in_ok-ours_pass.ours_pass c.in_ok-theirs_pass.theirs_pass c.join.new.pass c.close.result.label c.close.result.items.items c.args.ours.now c.args.theirs.now
-    (ours.0.first ∙ ap (λ p. p.first) split ∙ ap (λ p. p.first) start ∙ ap length c.new.ensures.items) ours.1 theirs.1 c.join.ensures.both c.join.ensures.begin.0 c.join.ensures.begin.1 c.join.ensures.apart c.close.ensures in record {
+    (ours.0.first ∙ ap (λ p. p.first) split ∙ ap (λ p. p.first) start ∙ ap length c.new.ensures.items) ours.1 theirs.1 c.join.ensures.both c.join.ensures.begins.0 c.join.ensures.begins.1 c.join.ensures.apart c.close.ensures in record {
       base = c.close.ensures.same_base ∙ ap (λ p. p.base) c.join.ensures.both ∙ ours.0.base ∙ ap (λ p. p.base) split ∙ ap (λ p. p.base) start;
       shared = both;
       count =
