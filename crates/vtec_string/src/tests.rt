@@ -2,25 +2,28 @@
 use crate::{read_vtec, vtec_text};
 use hazard_types::{Action, Class, Sig, read_stamp};
 
-/// The flood warning that goes on until further notice, read and written.
+/// The flood warning that goes on until further notice.
 #[test]
 fn reads_a_text_without_times(rt: HostRuntime) {
-    let text = b"/O.CON.KLWX.FL.W.0007.000000T0000Z-000000T0000Z/";
-    match read_vtec(text) {
-        Some(v) => {
-            let office = v.office;
-            let letters = v.hazard.phen.letters();
-            assert_eq!(rt; v.class, Class::O);
-            assert_eq!(rt; v.action, Action::Con);
-            assert_eq!(rt; office, *b"KLWX");
-            assert_eq!(rt; letters, *b"FL");
-            assert_eq!(rt; v.hazard.sig, Sig::W);
-            assert_eq!(rt; v.etn, 7);
-            assert!(rt; v.begin.is_none());
-            assert!(rt; v.end.is_none());
-        }
-        None => assert!(rt; false),
-    }
+    let v = read_vtec(b"/O.CON.KLWX.FL.W.0007.000000T0000Z-000000T0000Z/").expect(&rt, "a text");
+    assert!(rt; v.begin.is_none() && v.end.is_none());
+    assert!(rt;
+        matches!(
+            (v.class, v.action, v.hazard.sig),
+            (Class::O, Action::Con, Sig::W)
+        )
+    );
+    assert_eq!(rt; v.etn, 7);
+}
+
+/// Its office and its phenomenon.
+#[test]
+fn reads_office_and_phenomenon(rt: HostRuntime) {
+    let v = read_vtec(b"/O.CON.KLWX.FL.W.0007.000000T0000Z-000000T0000Z/").expect(&rt, "a text");
+    let office = v.office;
+    let letters = v.hazard.phen.letters();
+    assert_eq!(rt; office, *b"KLWX");
+    assert_eq!(rt; letters, *b"FL");
 }
 
 /// The stamp of a day is read where the calendar has it.
