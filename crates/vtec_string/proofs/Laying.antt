@@ -1,9 +1,9 @@
 -- The columns of a text, laid one behind another.
-use Rattle.std.proofs.Common.{◌≡◌, ◌≢◌, ℕ, ◌+◌, ◌-◌, ◌<◌, ◌≤◌, List, [], ◌∷◌, ◌++◌, length, take, drop, get_or, refl, ap, subst, sym, ◌∙◌, arith, IsTrue, lit≤, lit<, length-drop}
+use Rattle.std.proofs.Common.{◌≡◌, ℕ, ◌+◌, ◌-◌, ◌<◌, ◌≤◌, List, [], ◌∷◌, ◌++◌, length, drop, get_or, refl, ap, subst, sym, ◌∙◌, arith, IsTrue, lit≤, lit<, length-drop}
 use Rattle.std.specs.Prelude.{Option, None, Some, true, MatchOption}
 use Rattle.std.specs.Prelude.{codes}
 use Rattle.std.specs.List.{slice_range}
-use Rattle.std.proofs.lemmas.List.{drop_more, drop-drop, length-append}
+use Rattle.std.proofs.lemmas.List.{drop_more, drop-drop}
 use Rattle.std.proofs.Math.Seq.{take-append_seam, drop-append_seam}
 use Rattle.std.proofs.lemmas.Bool.{and_parts, eqb-true}
 use Rattle.std.proofs.lemmas.List.Folds.{drop_split}
@@ -18,7 +18,7 @@ use Rattle.hazard_types.specs.declared.codes.Sig.{Sig}
 use Rattle.hazard_types.specs.declared.codes.Sig.TheVariants as sig
 use Rattle.hazard_types.specs.declared.codes.Vtec.{Vtec}
 use Rattle.vtec_string.specs.Letters.{class_code, action_code, sig_code}
-use Rattle.vtec_string.specs.Columns.{is_office, four_digits, IsTime, AreSeparated, IsVtec, time_text, vtec_text}
+use Rattle.vtec_string.specs.Columns.{is_office, four_digits, IsTime, IsVtec, time_text, vtec_text}
 use Rattle.vtec_string.proofs.Lettering.{one_class, one_action, one_sig, one_number}
 use Rattle.vtec_string.proofs.Times.{time_is, one_time}
 

@@ -1,5 +1,5 @@
 -- P-VTEC by its columns: /k.aaa.cccc.pp.s.####.yymmddThhnnZ-yymmddThhnnZ/
-use Rattle.std.specs.Prelude.{◌≡◌, ℕ, ◌+◌, ◌/◌, ◌%◌, ◌≤◌, ◌&&◌, ◌||◌, ◌==◌, Bool, IsTrue, length, nat_le, List, [], ◌∷◌, ◌++◌, Option, None, Some, codes}
+use Rattle.std.specs.Prelude.{◌≡◌, ℕ, ◌+◌, ◌/◌, ◌%◌, ◌≤◌, ◌&&◌, ◌||◌, ◌==◌, Bool, IsTrue, length, List, [], ◌∷◌, ◌++◌, Option, None, Some, codes}
 use Rattle.std.specs.List.{slice_range, list_all}
 use Rattle.hazard_types.specs.Calendar.{stamp_of, IsStamp, is_digit}
 use Rattle.hazard_types.specs.Zones.{is_capital, are_letters}
