@@ -1,14 +1,14 @@
 -- A group, and what its text is.
-use Rattle.std.proofs.Common.{append-nil, subst, ◌≡◌, ◌≢◌, ℕ, zero, suc, ◌+◌, ◌-◌, ◌*◌, ◌/◌, ◌%◌, ◌<◌, ◌≤◌, ◌==◌, ◌&&◌, Bool, true, false, List, [], ◌∷◌, ◌++◌, length, get_or, take, drop, refl, ap, sym, ◌∙◌, arith, Option, None, Some, Result, Ok, Err, is_some, inl, inr, IsTrue, cond}
-use Rattle.std.specs.Prelude.{slice_index, nat_le, nat_lt, ◌⊎◌}
-use Rattle.std.proofs.lemmas.Bool.{and_parts, and_from, cases_Bool, lt-ltb, le-ltb, ltb-false, ltb-true, eqb-true, eqb-false, eq-eqb, ne_eqb, leb-true, cases_eq}
+use Rattle.std.proofs.Common.{append-nil, subst, ◌≡◌, ◌≢◌, ℕ, ◌+◌, ◌-◌, ◌*◌, ◌/◌, ◌%◌, ◌<◌, ◌≤◌, ◌==◌, true, false, List, [], ◌∷◌, ◌++◌, length, get_or, take, drop, refl, ap, sym, ◌∙◌, arith, Option, None, Some, Result, Ok, Err, is_some, inl, inr, IsTrue, cond}
+use Rattle.std.specs.Prelude.{slice_index, nat_lt, ◌⊎◌}
+use Rattle.std.proofs.lemmas.Bool.{and_parts, and_from, cases_Bool, lt-ltb, le-ltb, ltb-false, ltb-true, eqb-true, eq-eqb, ne_eqb, leb-true}
 use Rattle.std.proofs.lemmas.Option.{cond_some, option_and_then_some, same_Some, none-some}
 use Rattle.std.proofs.lemmas.Slice.Eq.{text_from_reads}
 use Rattle.std.proofs.lemmas.List.{drop_more, take-append-drop}
 use Rattle.std.proofs.Math.ListN.{drop_of_length-le}
 use Rattle.std.proofs.lemmas.Bool.Decides.{eqb_tells, nat_tests}
 use Rattle.hazard_types.specs.Calendar.{is_digit}
-use Rattle.hazard_types.specs.Zones.{Place, IsPlace, are_letters, is_number}
+use Rattle.hazard_types.specs.Zones.{Place, are_letters, is_number}
 use Rattle.hazard_types.specs.declared.zone.Kind.{Kind}
 use Rattle.hazard_types.specs.declared.zone.Kind.TheVariants.{C, Z}
 use Rattle.hazard_types.specs.declared.calendar.DayStamp.{DayStamp}

@@ -1,10 +1,10 @@
 -- The grammar and the reading are one.
-use Rattle.std.proofs.Common.{subst, ◌≡◌, ◌≢◌, ℕ, zero, suc, ◌+◌, ◌-◌, ◌/◌, ◌%◌, ◌<◌, ◌≤◌, ◌==◌, ◌&&◌, Bool, true, false, List, [], ◌∷◌, ◌++◌, length, refl, ap, sym, ◌∙◌, arith, append_assoc, append-nil, length-append, Option, None, Some, Result, Ok, Err, is_some, inl, inr, IsTrue, cond}
+use Rattle.std.proofs.Common.{subst, ◌≡◌, ℕ, suc, ◌+◌, ◌-◌, ◌≤◌, ◌==◌, ◌&&◌, true, false, List, [], ◌∷◌, ◌++◌, length, refl, ap, sym, ◌∙◌, arith, append_assoc, append-nil, length-append, Option, None, Some, Result, Ok, Err, is_some, inl, inr, IsTrue, cond}
 use Rattle.std.specs.Prelude.{◌⊎◌, nat_le}
 use Rattle.std.specs.List.{AllByRecursion}
-use Rattle.std.proofs.lemmas.Bool.{both_ways, leb-true, and_parts, and_left, and_right, cases_Bool, and_from}
+use Rattle.std.proofs.lemmas.Bool.{both_ways, leb-true, and_parts, and_left, and_right, cases_Bool}
 use Rattle.std.proofs.lemmas.Bool.Decides.{eqb_tells, nat_tests}
-use Rattle.hazard_types.specs.Zones.{Place, are_letters, is_capital, is_number}
+use Rattle.hazard_types.specs.Zones.{Place, are_letters, is_capital}
 use Rattle.hazard_types.specs.declared.zone.Kind.{Kind}
 use Rattle.hazard_types.specs.declared.zone.Kind.TheVariants.{C, Z}
 use Rattle.hazard_types.specs.declared.calendar.DayStamp.{DayStamp}
@@ -17,9 +17,9 @@ use Rattle.ugc_codes.specs.declared.read.UgcFault.TheVariants.{NotACode, BadRang
 use Rattle.ugc_codes.specs.declared.read.UgcRead.{UgcRead}
 use Rattle.ugc_codes.specs.declared.span.Span.{Span}
 use Rattle.ugc_codes.specs.Codes.{group_of}
-use Rattle.ugc_codes.specs.Faults.{Faults, FirstFault, HasNoHyphen, BeginsInNoGap, IsNoGroup, IsBackwards}
+use Rattle.ugc_codes.specs.Faults.{Faults, FirstFault, HasNoHyphen, BeginsInNoGap}
 use Rattle.ugc_codes.specs.Reading.{is_none_yet, settle, fault_at, read_from, ugc_of}
-use Rattle.ugc_codes.specs.Grammar.{is_day_stamp, add_run, is_gap, IsSpan, kind_code, three_digits, two_digits, day_text, code_text, run_end, full_text, short_text, Follows, Spells, HasCode, IsGap, AreGroups, last_code, add_spans, zones_of, IsUgc}
+use Rattle.ugc_codes.specs.Grammar.{is_day_stamp, add_run, is_gap, IsSpan, three_digits, day_text, code_text, run_end, Spells, HasCode, IsGap, AreGroups, last_code, add_spans, zones_of, IsUgc}
 use Rattle.ugc_codes.proofs.Groups.{IsBefore, group_spelled, group_back, day_read, day_back, range_read, range_back, none_read, none_back}
 
 abbrev pub read_as : List Place → DayStamp → ℕ → Result UgcRead UgcFault

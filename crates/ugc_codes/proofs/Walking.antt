@@ -1,17 +1,15 @@
 -- The bytes of a text, one after another.
-use Rattle.std.proofs.Common.{subst, ◌≡◌, ◌≢◌, ℕ, zero, suc, ◌+◌, ◌-◌, ◌<◌, ◌≤◌, ◌==◌, ◌&&◌, Bool, true, false, List, [], ◌∷◌, ◌++◌, length, get_or, take, drop, refl, ap, sym, ◌∙◌, arith, Option, None, Some, Result, Ok, Err, is_some, length-drop, inl, inr}
+use Rattle.std.proofs.Common.{subst, ◌≡◌, ◌≢◌, ℕ, ◌+◌, ◌-◌, ◌<◌, ◌≤◌, ◌==◌, ◌&&◌, true, false, List, [], ◌∷◌, ◌++◌, length, get_or, take, drop, refl, ap, sym, ◌∙◌, arith, Option, None, Some, Ok, Err, is_some, length-drop, inl, inr}
 use Rattle.std.specs.List.{slice_range}
 use Rattle.std.proofs.lemmas.Bool.Decides.{eqb_tells}
 use Rattle.std.proofs.lemmas.Bool.{and_left, and_right}
 use Rattle.std.proofs.lemmas.List.{drop_more, take_more, get_or-drop}
 use Rattle.hazard_types.specs.Zones.{Place}
 use Rattle.hazard_types.specs.declared.calendar.DayStamp.{DayStamp}
-use Rattle.ugc_codes.specs.declared.read.Group.{Group}
 use Rattle.ugc_codes.specs.declared.read.Group.TheVariants.{Zones, Expiry}
 use Rattle.ugc_codes.specs.declared.read.Refused.{Refused}
 use Rattle.ugc_codes.specs.declared.read.UgcFault.{UgcFault}
 use Rattle.ugc_codes.specs.declared.read.UgcFault.TheVariants.{CutShort}
-use Rattle.ugc_codes.specs.declared.read.UgcRead.{UgcRead}
 use Rattle.std.proofs.Math.ListN.{drop_of_length-le}
 use Rattle.ugc_codes.specs.Codes.{group_of}
 use Rattle.ugc_codes.specs.Grammar.{add_run, is_gap}

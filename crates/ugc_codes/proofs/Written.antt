@@ -1,24 +1,22 @@
 -- What is written reads back.
-use Rattle.std.proofs.Common.{subst, ◌≡◌, ◌≢◌, ℕ, zero, suc, ◌+◌, ◌-◌, ◌/◌, ◌%◌, ◌<◌, ◌≤◌, ◌==◌, ◌&&◌, Bool, true, false, List, [], ◌∷◌, ◌++◌, length, get_or, refl, ap, sym, ◌∙◌, arith, append_assoc, append-nil, length-append, Option, None, Some, inl, inr, IsTrue, cond, lit≤}
-use Rattle.std.specs.Prelude.{◌⊎◌, nat_le, nat_lt, flat_map}
+use Rattle.std.proofs.Common.{◌≡◌, ℕ, zero, suc, ◌+◌, ◌-◌, ◌<◌, ◌≤◌, ◌==◌, true, false, List, [], ◌∷◌, ◌++◌, length, get_or, refl, ap, sym, ◌∙◌, arith, append_assoc, append-nil, length-append, Option, None, Some, inl, inr, cond, lit≤}
+use Rattle.std.specs.Prelude.{nat_le, flat_map}
 use Rattle.std.specs.List.{AllByRecursion, All}
 use Rattle.std.specs.List.Sorted.{IsStrictlySortedBy}
-use Rattle.std.specs.declared.cmp.Ordering.{Ordering}
-use Rattle.std.specs.declared.cmp.Ordering.TheVariants.{Less, Equal, Greater}
+use Rattle.std.specs.declared.cmp.Ordering.TheVariants.{Less, Greater}
 use Rattle.std.specs.Cmp.{IsTotalOrder}
 use Rattle.std.specs.Cmp.Rules.{comparing}
 use Rattle.std.specs.Ordering.{ordering_reverse}
 use Rattle.std.proofs.Common.{rules}
-use Rattle.std.proofs.lemmas.Bool.{le-ltb, both_ways, leb-true, and_parts, cases_Bool, and_from, eqb-true, eq-eqb, ltb-true, ltb-false}
+use Rattle.std.proofs.lemmas.Bool.{le-ltb, both_ways, leb-true, and_parts, cases_Bool, and_from, eqb-true}
 use Rattle.std.proofs.lemmas.Bool.Decides.{eqb_tells, nat_tests}
-use Rattle.std.proofs.lemmas.Slice.Eq.{text_from_reads}
 use Rattle.hazard_types.specs.Zones.{Place, IsPlace, are_letters, is_number, by_place}
 use Rattle.hazard_types.specs.declared.zone.Kind.{Kind}
 use Rattle.hazard_types.specs.declared.zone.Kind.TheVariants.{C, Z}
 use Rattle.hazard_types.specs.declared.calendar.DayStamp.{DayStamp}
 use Rattle.ugc_codes.specs.declared.span.Span.{Span}
-use Rattle.ugc_codes.specs.Grammar.{is_day_stamp, numbered, add, add_run, is_gap, IsSpan, kind_code, three_digits, two_digits, day_text, code_text, run_end, full_text, short_text, Follows, Spells, HasCode, IsGap, AreGroups, last_code, add_spans, zones_of, IsUgc}
-use Rattle.ugc_codes.specs.Written.{are_alike, goes_on, single, pieces, groups_from, groups, is_short, code_part, own_text, passes, put_text, put_column, lay, ugc_text}
+use Rattle.ugc_codes.specs.Grammar.{is_day_stamp, numbered, add, add_run, IsSpan, kind_code, three_digits, day_text, code_text, run_end, Spells, HasCode, IsGap, AreGroups, last_code, add_spans, zones_of, IsUgc}
+use Rattle.ugc_codes.specs.Written.{are_alike, goes_on, single, pieces, groups_from, code_part, own_text, passes, put_text, put_column, lay, ugc_text}
 
 -- ---- places that are alike
 

@@ -1,5 +1,5 @@
 -- The groups of a UGC text, as a reader takes them.
-use Rattle.std.specs.Prelude.{ℕ, ◌+◌, ◌*◌, ◌-◌, ◌==◌, ◌&&◌, Bool, nat_le, nat_lt, List, [], ◌∷◌, length, slice_index, take, Option, Some, None, Result, Ok, Err, if◌then◌else◌, option_and_then, option_map, is_some}
+use Rattle.std.specs.Prelude.{ℕ, ◌+◌, ◌*◌, ◌-◌, ◌==◌, ◌&&◌, Bool, nat_le, nat_lt, List, [], ◌∷◌, length, slice_index, take, Option, Some, None, Result, Ok, Err, if◌then◌else◌, option_and_then, is_some}
 use Rattle.std.specs.Prelude.{◌≤◌}
 use Rattle.hazard_types.specs.Calendar.{is_digit}
 use Rattle.hazard_types.specs.Zones.{Place, are_letters, is_number}

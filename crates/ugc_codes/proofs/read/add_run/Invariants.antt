@@ -1,4 +1,4 @@
-use Rattle.std.proofs.Common.{◌≡◌, ◌-◌, ◌≤◌}
+use Rattle.std.proofs.Common.{◌≡◌, ◌-◌}
 use Rattle.ugc_codes.specs.Grammar.{numbered, add_run}
 use Rattle.ugc_codes.proofs.read.add_run.Given as goal
 

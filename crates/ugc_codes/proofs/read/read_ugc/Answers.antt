@@ -1,11 +1,9 @@
-use Rattle.std.proofs.Common.{◌≡◌, ◌<◌, ℕ, List, length, Result, Ok, Err, subst}
+use Rattle.std.proofs.Common.{◌<◌, ℕ, List, length, Result, Ok, Err, subst}
 use Rattle.std.specs.Prelude.{IfOk, IsTrue}
 use Rattle.hazard_types.specs.Given.{Gives}
 use Rattle.hazard_types.specs.declared.or.Or.{Or}
-use Rattle.hazard_types.specs.declared.or.Or.TheVariants.{No}
 use Rattle.ugc_codes.specs.declared.read.UgcFault.{UgcFault}
 use Rattle.ugc_codes.specs.declared.read.UgcRead.{UgcRead}
-use Rattle.ugc_codes.specs.Faults.{FirstFault}
 use Rattle.ugc_codes.specs.Grammar.{IsUgc, is_day_stamp}
 use Rattle.ugc_codes.specs.Reading.{ugc_of}
 use Rattle.ugc_codes.proofs.Adding.{zones_some}

@@ -1,6 +1,6 @@
-use Rattle.std.proofs.Common.{rules, arith, ◌∙◌, sym}
+use Rattle.std.proofs.Common.{rules, arith}
 use Rattle.std.proofs.lemmas.Grind.{common_steps}
-use Rattle.ugc_codes.proofs.Adding.{places_more, places_all}
+use Rattle.ugc_codes.proofs.Adding.{places_more}
 use Rattle.ugc_codes.proofs.write.groups_of.Goals as goal
 
 pub loop-zone-preserved : goal.loop-zone-preserved
