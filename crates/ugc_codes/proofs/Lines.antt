@@ -453,3 +453,24 @@ pub no_prefix : (text more : List ℕ) (zones zones' : List Place) (d d' : DaySt
 no_prefix text more zones zones' d d' u v =
     let once = ugc_once text more zones zones' d d' (length text) (length (text ++ more)) u v in
     no_more more (length text) (once.2 ∙ length-append text more)
+
+-- ---- a text or a fault, and one
+
+pub text_or_fault : (bytes : List ℕ) → ((zones : List Place) × (d : DayStamp) × (n : ℕ) × IsUgc bytes zones d n) ⊎ ((f : UgcFault) × FirstFault bytes f)
+text_or_fault bytes = of_read (ugc_of bytes) refl
+  where
+    of_read : (r : Result UgcRead UgcFault) → ugc_of bytes ≡ r → ((zones : List Place) × (d : DayStamp) × (n : ℕ) × IsUgc bytes zones d n) ⊎ ((f : UgcFault) × FirstFault bytes f)
+    of_read (Ok u) h = inl (u.zones, u.expiry, u.used, read_is_ugc bytes u h)
+    of_read (Err f) h = inr (f, refused_is_fault bytes f h)
+
+ok_or_err : (u : UgcRead) (f : UgcFault) → ◌≡◌ {A = Result UgcRead UgcFault} (Ok u) (Err f) → ⊥
+ok_or_err u f e = cc e
+
+pub not_both : (bytes : List ℕ) (zones : List Place) (d : DayStamp) (n : ℕ) (f : UgcFault) → IsUgc bytes zones d n → FirstFault bytes f → ⊥
+not_both bytes zones d n f u h = ok_or_err _ f (sym (ugc_is_read bytes zones d n u) ∙ fault_is_read bytes f h)
+
+same_fault : (f g : UgcFault) → ◌≡◌ {A = Result UgcRead UgcFault} (Err f) (Err g) → f ≡ g
+same_fault f g e = cc e
+
+pub one_fault : (bytes : List ℕ) (f g : UgcFault) → FirstFault bytes f → FirstFault bytes g → f ≡ g
+one_fault bytes f g h k = same_fault f g (sym (fault_is_read bytes f h) ∙ fault_is_read bytes g k)

@@ -23,6 +23,7 @@ pub record IsNoGroup (before : Option Place) (text : List ℕ) : Type 0 where
   pub no_run : IsBackwards before text → ⊥
   pub no_expiry : (d : DayStamp) → HasCode before → IsTrue (is_day_stamp d) → text ≡ day_text d → ⊥
 
+-- no byte is a hyphen
 abbrev pub HasNoHyphen : List ℕ → Type 0
 HasNoHyphen = AllByRecursion (λ c. (c == 45) ≡ false)
 
@@ -36,6 +37,7 @@ Faults before place rest (NotACode at) = (at ≡ place) × NextIs rest (IsNoGrou
 Faults before place rest (BadRange at) = (at ≡ place) × NextIs rest (IsBackwards before)
 Faults before place rest CutShort = HasNoHyphen rest
 
+-- the first byte is no blank, CR or LF
 abbrev pub BeginsInNoGap : List ℕ → Type 0
 BeginsInNoGap [] = Unit {0}
 BeginsInNoGap (c ∷ cs) = is_gap c ≡ false

@@ -16,13 +16,16 @@ pub record IsSpan (s : Span) : Type 0 where
   pub last : s.last ≤ 999
   pub order : s.first.number ≤ s.last
 
+-- the letter of a kind, C or Z
 abbrev pub kind_code : Kind → ℕ
 kind_code C = 67
 kind_code Z = 90
 
+-- a number below 100 in two digits
 abbrev pub two_digits : ℕ → List ℕ
 two_digits n = (48 + n / 10) ∷ (48 + n % 10) ∷ []
 
+-- a number below 1,000 in three digits
 abbrev pub three_digits : ℕ → List ℕ
 three_digits n = (48 + n / 100) ∷ (48 + n / 10 % 10) ∷ (48 + n % 10) ∷ []
 
@@ -42,9 +45,11 @@ code_text p = p.state ++ kind_code p.kind ∷ three_digits p.number
 unfoldable pub run_end : Span → List ℕ
 run_end s = if s.first.number == s.last then [] else 62 ∷ three_digits s.last
 
+-- a group with state and kind
 abbrev pub full_text : Span → List ℕ
 full_text s = code_text s.first ++ run_end s
 
+-- a group that takes state and kind from the code before
 abbrev pub short_text : Span → List ℕ
 short_text s = three_digits s.first.number ++ run_end s
 
@@ -61,6 +66,7 @@ Spells before s text = (text ≡ full_text s) ⊎ (Follows before s.first × (te
 abbrev pub is_gap : ℕ → Bool
 is_gap c = (c == 32) || (c == 9) || (c == 13) || (c == 10)
 
+-- blanks, CR and LF alone
 abbrev pub IsGap : List ℕ → Type 0
 IsGap = AllByRecursion (λ c. IsTrue (is_gap c))
 
@@ -74,6 +80,7 @@ abbrev pub last_code : Option Place → List Span → Option Place
 last_code before [] = before
 last_code before (s ∷ spans) = last_code (Some s.first) spans
 
+-- a code stands before
 abbrev pub HasCode : Option Place → Type 0
 HasCode None = ⊥
 HasCode (Some p) = Unit {0}
@@ -82,6 +89,7 @@ HasCode (Some p) = Unit {0}
 abbrev pub add : List Place → Place → List Place
 add = insert_key by_place
 
+-- the zone of the same state and kind with another number
 abbrev pub numbered : Place → ℕ → Place
 numbered p n = record { state = p.state; kind = p.kind; number = n }
 

@@ -14,24 +14,28 @@ use Rattle.hazard_types.specs.declared.or.Or.TheVariants.{No, OutOfMemory}
 use Rattle.ugc_codes.specs.Grammar.{add_run, is_gap}
 use Rattle.ugc_codes.specs.Codes.{group_of}
 
+-- no byte of a group so far
 abbrev pub is_none_yet : List ℕ → Bool
 is_none_yet [] = true
 is_none_yet (c ∷ cs) = false
 
+-- the fault of a group that begins at a place
 abbrev pub fault_at : ℕ → Refused → UgcFault
 fault_at at NoCode = NotACode at
 fault_at at NoRange = BadRange at
 
+-- what follows a group, by what it is
 abbrev pub settle : {X : Type 0} → Result Group Refused → (Place → ℕ → X) → (DayStamp → X) → (Refused → X) → X
 settle (Ok (Zones p n)) zones expiry refused = zones p n
 settle (Ok (Expiry d)) zones expiry refused = expiry d
 settle (Err e) zones expiry refused = refused e
 
--- a group ends: what the zones and the last code are then, or the expiry, or the fault
+-- why a group is refused, unless memory ran out
 abbrev pub Refuses : Or UgcFault → ℕ → Result Group Refused → Type 0
 Refuses (No f) start group = (e : Refused) × (group ≡ Err e) × (f ≡ fault_at start e)
 Refuses OutOfMemory start group = Unit {0}
 
+-- what a group makes of the last code and the zones, or the expiry, or why it is refused
 abbrev pub Closes : Result (Option DayStamp) (Or UgcFault) → ℕ → Option Place → List Place → Option Place → List Place → Result Group Refused → Type 0
 Closes (Ok None) start before zones before' zones' group = (p : Place) × (n : ℕ) × (group ≡ Ok (Zones p n)) × (before' ≡ Some p) × (zones' ≡ add_run zones p (n + 1 - p.number))
 Closes (Ok (Some d)) start before zones before' zones' group = (group ≡ Ok (Expiry d)) × (zones' ≡ zones)
@@ -49,5 +53,6 @@ read_from before zones start group at (c ∷ bytes) =
     else (if is_gap c && is_none_yet group && is_some before then read_from before zones (at + 1) [] (at + 1) bytes
     else read_from before zones start (group ++ c ∷ []) (at + 1) bytes)
 
+-- the UGC text that bytes begin with, or the first fault
 abbrev pub ugc_of : List ℕ → Result UgcRead UgcFault
 ugc_of bytes = read_from None [] 0 [] 0 bytes

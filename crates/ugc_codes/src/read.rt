@@ -1,5 +1,5 @@
 //! UGC texts are read.
-ghost use Rattle.std.specs.Prelude.{◌≡◌, ◌+◌, ◌*◌, ◌-◌, ◌≤◌, ◌<◌, ◌++◌, [], Some, None, Ok, IfOk, IfSome, OnOk, length, IsTrue, List as Seq, ℕ};
+ghost use Rattle.std.specs.Prelude.{◌≡◌, ◌⊎◌, ◌+◌, ◌*◌, ◌-◌, ◌≤◌, ◌<◌, ◌++◌, [], Some, None, Ok, IfOk, IfSome, OnOk, length, IsTrue, List as Seq, ℕ};
 ghost use Rattle.std.specs.List.Sorted.{IsStrictlySortedBy};
 ghost use Rattle.hazard_types.specs.Calendar.{is_digit};
 ghost use Rattle.hazard_types.specs.Given.{Gives};
@@ -343,4 +343,11 @@ pub fn read_ugc(alloc: Global, bytes: &[u8]) -> Result<UgcRead, Or<UgcFault>>
 pub fn one_text()
     ensures same { (bytes more : Seq ℕ) (zones zones' : Seq Place) (d d' : Expiry) (n n' : ℕ) → IsUgc bytes zones d n → IsUgc (bytes ++ more) zones' d' n' → (zones ≡ zones') × (d ≡ d') × (n ≡ n') }
     ensures no_prefix { (text more : Seq ℕ) (zones zones' : Seq Place) (d d' : Expiry) → IsUgc text zones d (length text) → IsUgc (text ++ more) zones' d' (length (text ++ more)) → more ≡ [] }
+{}
+
+/// Bytes begin with a UGC text or have a first fault, never both, and one fault at most.
+pub fn text_or_fault()
+    ensures either { (bytes : Seq ℕ) → ((zones : Seq Place) × (d : Expiry) × (n : ℕ) × IsUgc bytes zones d n) ⊎ ((f : UgcFault) × FirstFault bytes f) }
+    ensures not_both { (bytes : Seq ℕ) (zones : Seq Place) (d : Expiry) (n : ℕ) (f : UgcFault) → IsUgc bytes zones d n → FirstFault bytes f → ⊥ }
+    ensures one_fault { (bytes : Seq ℕ) (f g : UgcFault) → FirstFault bytes f → FirstFault bytes g → f ≡ g }
 {}

@@ -10,6 +10,7 @@ use Rattle.vtec_string.specs.Letters.{class_code, action_code, sig_code}
 abbrev pub is_office : List ℕ → Bool
 is_office office = (length office == 4) && list_all (λ c. is_capital c || is_digit c) office
 
+-- a number up to 9,999 in four digits
 abbrev pub four_digits : ℕ → List ℕ
 four_digits n = (48 + n / 1000) ∷ (48 + n / 100 % 10) ∷ (48 + n / 10 % 10) ∷ (48 + n % 10) ∷ []
 

@@ -7,12 +7,14 @@ use Rattle.hazard_types.specs.declared.codes.Action.TheVariants as action
 use Rattle.hazard_types.specs.declared.codes.Sig.{Sig}
 use Rattle.hazard_types.specs.declared.codes.Sig.TheVariants as sig
 
+-- the letter of a class
 abbrev pub class_code : Class → List ℕ
 class_code class.O = codes "O"
 class_code class.T = codes "T"
 class_code class.E = codes "E"
 class_code class.X = codes "X"
 
+-- the letters of an action
 abbrev pub action_code : Action → List ℕ
 action_code action.New = codes "NEW"
 action_code action.Con = codes "CON"
@@ -25,6 +27,7 @@ action_code action.Exp = codes "EXP"
 action_code action.Cor = codes "COR"
 action_code action.Rou = codes "ROU"
 
+-- the letter of a significance
 abbrev pub sig_code : Sig → List ℕ
 sig_code sig.W = codes "W"
 sig_code sig.A = codes "A"
