@@ -1,5 +1,5 @@
 //! A disk in memory, as a disk.
-ghost use Rattle.std.specs.Prelude.{◌≡◌, ◌⊎◌, ◌≤◌, ◌<◌, ◌+◌, ◌++◌, ◌∷◌, ◌↔◌, [], ℕ, Some, false,  Contains, length, take, drop, OnOk, OnErr, IfOk, IsTrue, if◌then◌else◌};
+ghost use Rattle.std.specs.Prelude.{◌≡◌, ◌⊎◌, ◌≤◌, ◌<◌, ◌+◌, ◌++◌, ◌∷◌, ◌↔◌, [], ℕ, Some, false, Contains, length, take, drop, OnOk, OnErr, IfOk, IsTrue, if◌then◌else◌};
 ghost use Rattle.desk_traits.specs.Crash.{Passes};
 ghost use Rattle.desk_traits.specs.Faults.{HasCause, Rose};
 ghost use Rattle.desk_traits.specs.File.{Torn, Same, IsWithin, Writes, Gives, IsLength, Only, Answers};
@@ -282,7 +282,10 @@ impl Disk for MemDisk {
         ensures counts { Counts self.old self.new (Read at (length into.old)) (ReadFailed at (length into.old)) result }
     {
         let count = into.len();
-        if !self.asked(DiskCall::Read { at, count }, DiskCall::ReadFailed { at, count }) {
+        if !self.asked(
+            DiskCall::Read { at, count },
+            DiskCall::ReadFailed { at, count },
+        ) {
             return Err(Failed);
         }
         let from = at as usize;

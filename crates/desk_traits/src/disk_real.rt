@@ -7,6 +7,7 @@ use std::fs::File;
 use std::os::unix::fs::FileExt;
 
 /// A file of the system with a count of its faults. Without a file each call fails.
+#[derive(Drop)]
 pub struct FileDisk {
     file: Option<File>,
     faults: u64,

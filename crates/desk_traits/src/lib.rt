@@ -6,6 +6,8 @@ mod disk;
 mod disk_memory;
 mod disk_real;
 mod disk_record;
+#[cfg(test)]
+mod disk_tests;
 mod faults;
 mod steps;
 mod sure_disk;

@@ -8,7 +8,7 @@ use Rattle.journal_core.specs.Image.{spelled, records, Fits, Image, Fresh}
 use Rattle.journal_core.specs.Packet.{framed}
 use Rattle.journal_core.specs.Create.{IsBlank, IsMade, IsMaking}
 use Rattle.journal_core.proofs.Bytes.{torn_behind, written_behind, torn_gate, written_gate}
-use Rattle.journal_core.proofs.Moments.{After, told_after, one, both}
+use Rattle.desk_traits.proofs.Moments.{After, told_after, one, both}
 use Rattle.journal_core.proofs.Steps.{only_told}
 
 begun : (rest : List ℕ) → Fresh (46 ∷ rest)

@@ -8,7 +8,7 @@ use Rattle.journal_core.specs.Create.{IsMade}
 use Rattle.journal_core.proofs.Frames.{length-spelled}
 use Rattle.journal_core.specs.Journal.{Rests, StandsFor, IsStaged}
 use Rattle.journal_core.proofs.Files.{torn_image, staged_half, torn_half, closed_half, opened_half, records-push}
-use Rattle.journal_core.proofs.Moments.{After, told_after, nothing, one, both, ends}
+use Rattle.desk_traits.proofs.Moments.{After, told_after, nothing, one, both, ends}
 
 pub on_err : {T E P : Type 0} (r : Result T E) → P → OnErr r P
 on_err (Ok x) p = tt

@@ -59,7 +59,7 @@ pub(crate) enum Found {
 }
 
 ghost use Rattle.journal_core.specs.Image.{Fresh};
-ghost use Rattle.journal_core.specs.Adopt.{Steps, Ends, IsFound};
+ghost use Rattle.journal_core.specs.Adopt.{Steps, Ends, IsFound, Settles};
 
 // The number that four bytes spell, most significant first.
 fn size_of(head: [u8; 4]) -> u32
@@ -74,6 +74,7 @@ fn read_record<D: Disk>(alloc: Global, disk: &mut D, at: u64, n: u64) -> Result<
     requires place { at < n }
     requires length { IsLength n (D.seen disk.old) }
     ensures seen { D.seen disk.new ≡ D.seen disk.old }
+    ensures syncs { D.syncs disk.new ≡ D.syncs disk.old }
     ensures step { IfOk result (λ step. Steps at step (D.seen disk.old)) }
     ensures bound { IfOk result (λ step. Ends at n step) }
     ensures crash { Passes Same (D.moment disk.old) (D.moment disk.new) (D.may_leave disk.old) (D.left_since disk.old) (D.left_since disk.new) }
@@ -103,6 +104,7 @@ fn read_record<D: Disk>(alloc: Global, disk: &mut D, at: u64, n: u64) -> Result<
 fn scan<D: Disk>(alloc: Global, disk: &mut D, n: u64) -> Result<Found, ReadFault>
     requires { IsLength n (D.seen disk.old) }
     ensures seen { D.seen disk.new ≡ D.seen disk.old }
+    ensures syncs { D.syncs disk.new ≡ D.syncs disk.old }
     ensures found { (file : List ℕ) → D.seen disk.old ≡ Some file → (Fresh file → ⊥) → IfOk result (λ found. IsFound found file) }
     ensures crash { Passes Same (D.moment disk.old) (D.moment disk.new) (D.may_leave disk.old) (D.left_since disk.old) (D.left_since disk.new) }
     ensures later { D.faults disk.old ≤ D.faults disk.new }
@@ -133,6 +135,7 @@ pub(crate) fn find<D: Disk>(alloc: Global, disk: &mut D) -> Result<Found, ReadFa
     ensures seen { D.seen disk.new ≡ D.seen disk.old }
     ensures found { (file : List ℕ) → D.seen disk.old ≡ Some file → IfOk result (λ found. IsFound found file) }
     ensures durable { (file : List ℕ) → D.seen disk.old ≡ Some file → OnOk result ((c : List ℕ) → D.may_leave disk.new c → c ≡ file) }
+    ensures settled { (file before : List ℕ) → D.seen disk.old ≡ Some file → D.syncs disk.old ≡ Some before → OnOk result (Settles D.moment D.left_since D.syncs before file disk.new) }
     ensures crash { Passes Same (D.moment disk.old) (D.moment disk.new) (D.may_leave disk.old) (D.left_since disk.old) (D.left_since disk.new) }
     ensures later { D.faults disk.old ≤ D.faults disk.new }
     ensures cause { IsErrOf result ReadFault.Failing → Rose (D.faults disk.old) (D.faults disk.new) }

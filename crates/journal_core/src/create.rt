@@ -16,12 +16,14 @@ pub(crate) enum Start {
 }
 
 ghost use Rattle.journal_core.specs.Create.{Starts};
+ghost use Rattle.journal_core.specs.Adopt.{Settles};
 
 // Makes what is there stable, and looks at it.
 pub(crate) fn look<D: Disk>(disk: &mut D) -> Result<Start, Failed>
     ensures seen { D.seen disk.new ≡ D.seen disk.old }
     ensures start { IfOk result (λ start. Starts start (D.seen disk.old)) }
     ensures durable { OnOk result (Only (D.seen disk.new) (D.may_leave disk.new)) }
+    ensures settled { (file before : List ℕ) → D.seen disk.old ≡ Some file → D.syncs disk.old ≡ Some before → OnOk result (Settles D.moment D.left_since D.syncs before file disk.new) }
     ensures crash { Passes Same (D.moment disk.old) (D.moment disk.new) (D.may_leave disk.old) (D.left_since disk.old) (D.left_since disk.new) }
     ensures cause { HasCause (D.faults disk.old) (D.faults disk.new) result }
 {

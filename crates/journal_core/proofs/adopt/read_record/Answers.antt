@@ -5,7 +5,7 @@ use Rattle.std.proofs.lemmas.List.{take_at}
 use Rattle.desk_traits.specs.File.{Gives}
 use Rattle.journal_core.specs.Image.{Fits}
 use Rattle.journal_core.proofs.Reading.{steps_cut, steps_whole}
-use Rattle.journal_core.proofs.Moments.{same_both}
+use Rattle.desk_traits.proofs.Moments.{same_both}
 use Rattle.journal_core.proofs.adopt.read_record.Goals as goal
 
 pub returns-then-n-at-clause-step : goal.returns-then-n-at-clause-step

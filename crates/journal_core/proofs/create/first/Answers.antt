@@ -1,5 +1,5 @@
 use Rattle.std.proofs.Common.{arith}
-use Rattle.desk_traits.specs.declared.disk.Failed.{Failed}
+use Rattle.desk_traits.specs.declared.faults.Failed.{Failed}
 use Rattle.journal_core.specs.Image.{Fits}
 use Rattle.journal_core.proofs.Making.{written, making, made}
 use Rattle.journal_core.proofs.create.first.Goals as goal

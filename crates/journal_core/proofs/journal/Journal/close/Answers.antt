@@ -1,4 +1,4 @@
-use Rattle.desk_traits.specs.declared.disk.Failed.{Failed}
+use Rattle.desk_traits.specs.declared.faults.Failed.{Failed}
 use Rattle.journal_core.proofs.Steps.{on_err, close_moments, close_err, close_ok}
 use Rattle.journal_core.proofs.journal.Journal.close.Goals as goal
 

@@ -1,4 +1,4 @@
-use Rattle.desk_traits.specs.declared.disk.Failed.{Failed}
+use Rattle.desk_traits.specs.declared.faults.Failed.{Failed}
 use Rattle.std.proofs.Common.{◌≡◌, ◌+◌, arith, ap, length}
 use Rattle.journal_core.proofs.Steps.{on_err, open_moments, open_err, open_ok, length-push}
 use Rattle.journal_core.proofs.journal.Journal.open.Goals as goal
