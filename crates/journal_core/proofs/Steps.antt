@@ -14,6 +14,10 @@ pub on_err : {T E P : Type 0} (r : Result T E) → P → OnErr r P
 on_err (Ok x) p = tt
 on_err (Err e) p = p
 
+pub on_ok : {T E P : Type 0} (r : Result T E) → P → OnOk r P
+on_ok (Ok x) p = p
+on_ok (Err e) p = tt
+
 pub only_told : (o : Option (List ℕ)) (leaves : List ℕ → Type 0) (f : List ℕ) → o ≡ Some f → Only o leaves → (c : List ℕ) → leaves c → c ≡ f
 only_told None leaves f e only c left = absurd (cc)
 only_told (Some o) leaves f e only c left = let is : o ≡ f = cc in only c left ∙ is

@@ -66,7 +66,7 @@ impl<D: Disk> Journal<D> {
 
     // Closes the gate that may stand open since a fault.
     fn close(&mut self) -> Result<(), Failed>
-        ensures gate { gate_of self.new ≡ gate_of self.old }
+        ensures gate { self.new.gate ≡ self.old.gate }
         ensures ok { (bodies : List (List ℕ)) (pending : Option (List ℕ)) → Keeps D.seen D.may_leave self.old bodies pending
             → OnOk result (Keeps D.seen D.may_leave self.new bodies None) }
         ensures err { (bodies : List (List ℕ)) (pending : Option (List ℕ)) → Keeps D.seen D.may_leave self.old bodies pending
@@ -84,11 +84,11 @@ impl<D: Disk> Journal<D> {
 
     // Writes the body behind the closed gate.
     fn stage(&mut self, body: &Packet) -> Result<(), Failed>
-        requires { gate_of self.old + 6 + length body.now ≤ 268435456 }
-        ensures behind { OnOk result (IsWithin (gate_of self.new + 6 + length body.now) (D.seen (disk_of self.new))) }
-        ensures gate { gate_of self.new ≡ gate_of self.old }
+        requires { self.old.gate + 6 + length body.now ≤ 268435456 }
+        ensures behind { OnOk result (IsWithin (self.new.gate + 6 + length body.now) (D.seen (disk_of self.new))) }
+        ensures gate { self.new.gate ≡ self.old.gate }
         ensures ok { (bodies : List (List ℕ)) → Keeps D.seen D.may_leave self.old bodies None
-            → OnOk result (IsStaged D.seen D.may_leave self.new.disk gate_of self.new bodies body.now) }
+            → OnOk result (IsStaged D.seen D.may_leave self.new.disk self.new.gate bodies body.now) }
         ensures err { (bodies : List (List ℕ)) → Keeps D.seen D.may_leave self.old bodies None
             → OnErr result (Keeps D.seen D.may_leave self.new bodies None) }
         ensures any_moment { (bodies : List (List ℕ)) → Keeps D.seen D.may_leave self.old bodies None
@@ -100,13 +100,13 @@ impl<D: Disk> Journal<D> {
 
     // Opens the gate before the body that stands behind it.
     fn open(&mut self, body: &Packet) -> Result<(), Failed>
-        requires within { IsWithin (gate_of self.old + 6 + length body.now) (D.seen (disk_of self.old)) }
-        requires room { gate_of self.old + 6 + length body.now ≤ 268435456 }
-        ensures ok { (bodies : List (List ℕ)) → IsStaged D.seen D.may_leave self.old.disk gate_of self.old bodies body.now
+        requires within { IsWithin (self.old.gate + 6 + length body.now) (D.seen (disk_of self.old)) }
+        requires room { self.old.gate + 6 + length body.now ≤ 268435456 }
+        ensures ok { (bodies : List (List ℕ)) → IsStaged D.seen D.may_leave self.old.disk self.old.gate bodies body.now
             → OnOk result (Keeps D.seen D.may_leave self.new (bodies ++ body.now ∷ []) None × Only (D.seen (disk_of self.new)) (D.may_leave (disk_of self.new))) }
-        ensures err { (bodies : List (List ℕ)) → IsStaged D.seen D.may_leave self.old.disk gate_of self.old bodies body.now
+        ensures err { (bodies : List (List ℕ)) → IsStaged D.seen D.may_leave self.old.disk self.old.gate bodies body.now
             → OnErr result (Keeps D.seen D.may_leave self.new bodies (Some body.now)) }
-        ensures any_moment { (bodies : List (List ℕ)) → IsStaged D.seen D.may_leave self.old.disk gate_of self.old bodies body.now
+        ensures any_moment { (bodies : List (List ℕ)) → IsStaged D.seen D.may_leave self.old.disk self.old.gate bodies body.now
             → LeavesOnly D.moment D.left_since (disk_of self.old) (disk_of self.new) (λ c. Half c bodies body.now) }
         ensures cause { HasCause (D.faults (disk_of self.old)) (D.faults (disk_of self.new)) result }
     {
