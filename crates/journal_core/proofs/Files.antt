@@ -4,7 +4,7 @@ use Rattle.std.proofs.lemmas.Bool.{cases_eq}
 use Rattle.std.specs.List.{AllByRecursion}
 use Rattle.desk_traits.specs.File.{Holds, Torn}
 use Rattle.journal_core.specs.Image.{spelled, records, Fits, Image, Half, IsOneOf}
-use Rattle.journal_core.specs.Journal.{Rests}
+use Rattle.journal_core.specs.Journal.{Rests, LeavesBodies, MayPend}
 use Rattle.journal_core.specs.Packet.{framed}
 use Rattle.journal_core.proofs.Bytes.{length_gate, torn_behind, written_behind, torn_gate, written_gate}
 
@@ -116,3 +116,13 @@ image_one bodies (Some q) body c image = inl image
 pub half_one : (bodies : List (List ℕ)) (pending : Option (List ℕ)) (body c : List ℕ) → Half c bodies body → IsOneOf bodies pending body c
 half_one bodies None body c half = half_is bodies c body half
 half_one bodies (Some q) body c half = ⊎_elim (λ image. inl image) (λ image. inr (inl image)) (half_is bodies c body half)
+
+-- what a crash leaves of a journal
+pub rests_left : (bodies : List (List ℕ)) (pending : Option (List ℕ)) (c : List ℕ) → Rests bodies pending c → LeavesBodies bodies pending c
+rests_left bodies None c rests = rests
+rests_left bodies (Some pending) c rests = half_one bodies None pending c rests
+
+-- the pending body may stay pending
+pub may_keep : (pending : Option (List ℕ)) (body : List ℕ) → MayPend pending body pending
+may_keep None body = tt
+may_keep (Some p) body = inl refl

@@ -4,7 +4,7 @@ ghost use Rattle.desk_traits.specs.Crash.{LeavesOnly};
 ghost use Rattle.desk_traits.specs.Faults.{HasCause, Rose};
 ghost use Rattle.desk_traits.specs.File.{IsWithin, Only};
 ghost use Rattle.journal_core.specs.Image.{Image, Half, IsOneOf, Fresh};
-ghost use Rattle.journal_core.specs.Journal.{StandsFor, IsStaged, MayPend, Rests};
+ghost use Rattle.journal_core.specs.Journal.{StandsFor, IsStaged, MayPend, Rests, LeavesBodies};
 ghost use Rattle.journal_core.specs.Kept.{disk_of, gate_of, Keeps};
 ghost use Rattle.journal_core.specs.declared.faults.AppendFault.TheVariants.{DiskFault};
 
@@ -47,9 +47,11 @@ impl<D: Disk> Journal<D> {
         ensures ok { (bodies : List (List ℕ)) (pending : Option (List ℕ)) → Keeps D.seen D.may_leave self.old bodies pending
             → OnOk result (Keeps D.seen D.may_leave self.new (bodies ++ body.now ∷ []) None × Only (D.seen (disk_of self.new)) (D.may_leave (disk_of self.new))) }
 
-        // The bodies are as before, and at most one is pending.
+        // The bodies are as before, and at most one is pending, which was so before or is this one. A crash now
+        // leaves the bodies, or them with the pending one.
         ensures failed { (bodies : List (List ℕ)) (pending : Option (List ℕ)) → Keeps D.seen D.may_leave self.old bodies pending
-            → IsErrOf result AppendFault.DiskFault → (next : Option (List ℕ)) × MayPend pending body.now next × Keeps D.seen D.may_leave self.new bodies next }
+            → IsErrOf result AppendFault.DiskFault → (next : Option (List ℕ)) × MayPend pending body.now next × Keeps D.seen D.may_leave self.new bodies next
+            × ((c : List ℕ) → D.may_leave (disk_of self.new) c → LeavesBodies bodies next c) }
 
         // A crash at any moment of the call leaves the bodies, with the one that was pending, with this one, or with neither.
         ensures any_moment { (bodies : List (List ℕ)) (pending : Option (List ℕ)) → Keeps D.seen D.may_leave self.old bodies pending

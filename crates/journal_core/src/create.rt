@@ -1,5 +1,5 @@
 //! How a journal is made on a fresh disk.
-ghost use Rattle.std.specs.Prelude.{◌≡◌, ◌⊎◌, ◌↔◌, ◌+◌, ◌<◌, ◌≤◌, ℕ, List, Option, None, Some, [], ◌∷◌, ◌++◌, length, IfOk, OnOk, IsTrue, IsErrOf};
+ghost use Rattle.std.specs.Prelude.{◌≡◌, ◌⊎◌, ◌↔◌, ◌+◌, ◌<◌, ◌≤◌, ℕ, List, Option, None, Some, [], ◌∷◌, ◌++◌, length, IfOk, OnOk, IsTrue, IsErrOf, false};
 ghost use Rattle.desk_traits.specs.Crash.{Passes, LeavesOnly};
 ghost use Rattle.desk_traits.specs.Faults.{HasCause, Rose};
 ghost use Rattle.desk_traits.specs.File.{Same, IsWithin, Only};
@@ -61,6 +61,7 @@ pub(crate) fn make<D: Disk>(disk: &mut D, body: &Packet) -> Result<bool, Failed>
     requires { length body.now ≤ 268435450 }
     ensures fresh { (file : List ℕ) → D.seen disk.old ≡ Some file → IfOk result (λ made. IsTrue made ↔ Fresh file) }
     ensures same { IfOk result (λ made. IsTrue made ⊎ (D.seen disk.new ≡ D.seen disk.old)) }
+    ensures untouched { IfOk result (λ made. made ≡ false → LeavesOnly D.moment D.left_since disk.old disk.new (D.may_leave disk.old)) }
     ensures within { IfOk result (λ made. IsTrue made → IsWithin (length body.now + 6) (D.seen disk.new)) }
     ensures made { (file : List ℕ) → D.seen disk.old ≡ Some file → IfOk result (λ made. IsTrue made → IsMade D.seen D.may_leave disk.new body.now) }
     ensures any_moment { (file : List ℕ) → D.seen disk.old ≡ Some file

@@ -9,6 +9,8 @@ mod journal;
 mod laws;
 mod opening;
 mod packet;
+#[cfg(test)]
+mod tests;
 
 pub use faults::{AdoptFault, AppendFault, CreateFault};
 pub use journal::Journal;

@@ -31,6 +31,8 @@ impl<D: Disk> Journal<D> {
         ensures not_fresh { (file : List ℕ) → D.seen disk ≡ Some file → IfErr result (λ e. e.1 ≡ CreateFault.NotFresh → (Fresh file → ⊥)) }
         ensures same { IfErr result (λ e. e.1 ≡ CreateFault.NotFresh → D.seen e.0 ≡ D.seen disk) }
 
+        ensures untouched { IfErr result (λ e. e.1 ≡ CreateFault.NotFresh → LeavesOnly D.moment D.left_since disk e.0 (D.may_leave disk)) }
+
         // The disk failed in this call.
         ensures cause { IfErr result (λ e. e.1 ≡ CreateFault.DiskFault → Rose (D.faults disk) (D.faults e.0)) }
         ensures later { MatchResult result (λ journal. D.faults disk ≤ D.faults (disk_of journal)) (λ e. D.faults disk ≤ D.faults e.0) }
