@@ -1,5 +1,5 @@
 //! Clocks, which give minutes from 2000-01-01T00:00Z.
-ghost use Rattle.std.specs.Prelude.{◌≡◌, ◌<◌, ℤ, ℕ, List as Seq, Option, None, Some, Contains, length, drop, IfOk};
+ghost use Rattle.std.specs.Prelude.{◌≡◌, ◌<◌, ◌↔◌, ℤ, ℕ, List as Seq, Option, None, Some, Contains, length, drop, IfOk};
 ghost use Rattle.desk_traits.specs.Clocks.{Ticks, GivesTheSame};
 
 use hazard_types::{List, Oom};
@@ -44,7 +44,7 @@ impl SetClock {
     pub fn new(readings: &List<i64>) -> Result<Self, Oom>
         requires { 0 < length readings.now }
         ensures ahead { IfOk result (λ clock. ⟦<SetClock as Clock>⟧.ahead clock ≡ Some readings.now) }
-        ensures gives { IfOk result (λ clock. (m : ℤ) → ⟦<SetClock as Clock>⟧.gives clock m → Contains readings.now m) }
+        ensures gives { IfOk result (λ clock. (m : ℤ) → ⟦<SetClock as Clock>⟧.gives clock m ↔ Contains readings.now m) }
     {
         Ok(SetClock {
             readings: readings.clone()?,

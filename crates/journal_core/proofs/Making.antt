@@ -3,17 +3,24 @@ use Rattle.std.proofs.Common.{◌≡◌, ◌⊎◌, inl, inr, ⊎_elim, ℕ, ◌
 use Rattle.std.proofs.lemmas.List.{append-nil}
 use Rattle.std.proofs.lemmas.Bool.{cases_eq}
 use Rattle.desk_traits.specs.Crash.{Passes, LeavesOnly}
-use Rattle.desk_traits.specs.File.{Torn, Holds, Writes, Only}
+use Rattle.desk_traits.specs.File.{Torn, Holds, Writes, Only, Same}
 use Rattle.journal_core.specs.Image.{spelled, records, Fits, Image, Fresh}
 use Rattle.journal_core.specs.Packet.{framed}
-use Rattle.journal_core.specs.Create.{IsBlank, IsMade, IsMaking}
+use Rattle.journal_core.specs.Create.{IsBlank, IsMade, IsMaking, IsStart, Starts}
+use Rattle.journal_core.specs.declared.create.Start.{Start}
+use Rattle.journal_core.specs.declared.create.Start.TheVariants.{Short, Begun}
 use Rattle.journal_core.proofs.Bytes.{torn_behind, written_behind, torn_gate, written_gate}
-use Rattle.desk_traits.proofs.Moments.{After, told_after, one, both}
+use Rattle.desk_traits.proofs.Moments.{After, told_after, one, both, weaker}
 use Rattle.journal_core.proofs.Steps.{only_told}
 
 begun : (rest : List ℕ) → Fresh (46 ∷ rest)
 begun [] = tt
 begun (b ∷ rest) = refl
+
+short_fresh : (c : List ℕ) → length c ≤ 1 → Fresh c
+short_fresh [] short = tt
+short_fresh (b ∷ []) short = tt
+short_fresh (b ∷ d ∷ c) short = absurd (omega arith)
 
 pub fresh_is : (c rest : List ℕ) → c ≡ 46 ∷ rest → Fresh c
 fresh_is c rest is = subst Fresh (sym is) (begun rest)
@@ -84,3 +91,28 @@ module _ {D : Type 0} (seen : D → Option (List ℕ)) (moment : D → ℕ) (lef
   blank E x old new f told short writes only =
       let a : After {E = E} 0 (46 ∷ []) f (seen new) (Ok x) = told_after 0 (46 ∷ []) (seen old) (seen new) (Ok x) f told writes in
       record { tail = drop 1 f; told = a.told ∙ ap (λ (l : List ℕ). Some l) a.holds; only = λ c left. only_told (seen new) (may_leave new) a.file a.told only c left ∙ a.holds }
+
+  abbrev Making : D → List ℕ → List ℕ → Type 0
+  Making old body c = may_leave old c ⊎ IsMaking body c
+
+  -- a look leaves what might have been left before
+  pub looked : (old new : D) (body : List ℕ) → Passes Same (moment old) (moment new) (may_leave old) (left_since old) (left_since new) → LeavesOnly moment left_since old new (Making old body)
+  looked old new body passes = one moment left_since may_leave counts_now only_now earlier old new Same (Making old body) passes (λ d c left is. inl (subst (may_leave old) (sym is) left))
+
+  -- a first byte where there was at most one
+  pub dotted : (old new : D) (f body : List ℕ) → ((c : List ℕ) → may_leave old c → c ≡ f) → length f ≤ 1 → Step 0 1 old new → LeavesOnly moment left_since old new (IsMaking body)
+  dotted old new f body only short step =
+      one moment left_since may_leave counts_now only_now earlier old new (Torn 0 1) (IsMaking body) step (λ d c left torn. inl (short_fresh c (omega (arith, torn.no_longer, ap length (only d left), short))))
+
+  pub goes_on : (old mid new : D) (body : List ℕ) → LeavesOnly moment left_since old mid (Making old body) → LeavesOnly moment left_since mid new (IsMaking body) → LeavesOnly moment left_since old new (Making old body)
+  goes_on old mid new body first second =
+      both moment left_since may_leave counts_now only_now earlier old mid new (Making old body) (Making old body) first
+      (weaker moment left_since may_leave counts_now only_now earlier mid new (IsMaking body) (Making old body) (λ c m. inr m) second) (λ c p. p)
+
+pub starts_told : (start : Start) (o : Option (List ℕ)) (f : List ℕ) → o ≡ Some f → Starts start o → IsStart start f
+starts_told start None f e s = absurd (cc)
+starts_told start (Some o) f e s = let is : o ≡ f = cc in subst (IsStart start) is s
+
+-- a file that begins as one that is being made, and is stable
+pub blank_begun : {D : Type 0} (seen : D → Option (List ℕ)) (may_leave : D → List ℕ → Type 0) (disk : D) (f : List ℕ) → seen disk ≡ Some f → ((c : List ℕ) → may_leave disk c → c ≡ f) → IsStart Begun f → IsBlank seen may_leave disk
+blank_begun seen may_leave disk f told only begins = record { tail = begins.0; told = told ∙ ap (λ (l : List ℕ). Some l) begins.1; only = λ c left. only c left ∙ begins.1 }

@@ -123,6 +123,10 @@ pub if_told : (o : Option (List ℕ)) (P : List ℕ → Type 0) → ((f : List �
 if_told None P f = tt
 if_told (Some o) P f = f o refl
 
+pub when_told : (o : Option (List ℕ)) (P : List ℕ → Type 0) (f : List ℕ) → o ≡ Some f → IfSome o P → P f
+when_told None P f e p = absurd (cc)
+when_told (Some o) P f e p = let is : o ≡ f = cc in subst P is p
+
 -- a journal that was just opened
 pub image_stands : {D : Type 0} (seen : D → Option (List ℕ)) (may_leave : D → List ℕ → Type 0) (disk : D) (file : List ℕ) (bodies : List (List ℕ)) (gate : ℕ) → seen disk ≡ Some file → Image file bodies → gate ≡ length (records bodies)
     → ((c : List ℕ) → may_leave disk c → c ≡ file) → Image file bodies × StandsFor seen may_leave disk gate false bodies None × Only (seen disk) (may_leave disk)

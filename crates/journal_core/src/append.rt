@@ -1,10 +1,12 @@
 //! How a body is added to a journal.
-ghost use Rattle.std.specs.Prelude.{◌≡◌, ◌⊎◌, ◌+◌, ◌<◌, ◌≤◌, ◌↔◌, ℕ, List, Option, None, Some, [], ◌∷◌, ◌++◌, length, IfOk, IfErr, OnOk, OnErr, MatchResult, IsTrue, IsErrOf};
+ghost use Rattle.std.specs.Prelude.{◌≡◌, ◌⊎◌, ◌+◌, ◌<◌, ◌≤◌, ◌↔◌, ℕ, List, Option, None, Some, option_map, [], ◌∷◌, ◌++◌, length, IfOk, IfErr, OnOk, OnErr, MatchResult, IsTrue, IsErrOf};
 ghost use Rattle.desk_traits.specs.Crash.{LeavesOnly};
 ghost use Rattle.desk_traits.specs.Faults.{HasCause, Rose};
 ghost use Rattle.desk_traits.specs.File.{IsWithin, Only};
 ghost use Rattle.journal_core.specs.Image.{Image, Half, IsOneOf, Fresh};
 ghost use Rattle.journal_core.specs.Journal.{StandsFor, IsStaged, MayPend, Rests, LeavesBodies};
+ghost use Rattle.journal_core.specs.Packet.{framed};
+ghost use Rattle.journal_core.specs.Written.{put, with_record};
 ghost use Rattle.journal_core.specs.Kept.{disk_of, gate_of, Keeps};
 ghost use Rattle.journal_core.specs.declared.faults.AppendFault.TheVariants.{DiskFault};
 
@@ -47,6 +49,9 @@ impl<D: Disk> Journal<D> {
         ensures ok { (bodies : List (List ℕ)) (pending : Option (List ℕ)) → Keeps D.seen D.may_leave self.old bodies pending
             → OnOk result (Keeps D.seen D.may_leave self.new (bodies ++ body.now ∷ []) None × Only (D.seen (disk_of self.new)) (D.may_leave (disk_of self.new))) }
 
+        // The body's record stands at the last gate, with a closed gate behind it, and no other byte is changed.
+        ensures written { (file : List ℕ) → D.seen (disk_of self.old) ≡ Some file → OnOk result (D.seen (disk_of self.new) ≡ Some (with_record (gate_of self.old) body.now file)) }
+
         // The bodies are as before, and at most one is pending, which was so before or is this one. A crash now
         // leaves the bodies, or them with the pending one.
         ensures failed { (bodies : List (List ℕ)) (pending : Option (List ℕ)) → Keeps D.seen D.may_leave self.old bodies pending
@@ -68,6 +73,7 @@ impl<D: Disk> Journal<D> {
 
     // Closes the gate that may stand open since a fault.
     fn close(&mut self) -> Result<(), Failed>
+        ensures put { OnOk result ((D.seen self.new.disk ≡ D.seen self.old.disk) ⊎ (D.seen self.new.disk ≡ option_map (put self.old.gate (46 ∷ [])) (D.seen self.old.disk))) }
         ensures gate { self.new.gate ≡ self.old.gate }
         ensures ok { (bodies : List (List ℕ)) (pending : Option (List ℕ)) → Keeps D.seen D.may_leave self.old bodies pending
             → OnOk result (Keeps D.seen D.may_leave self.new bodies None) }
@@ -87,6 +93,7 @@ impl<D: Disk> Journal<D> {
     // Writes the body behind the closed gate.
     fn stage(&mut self, body: &Packet) -> Result<(), Failed>
         requires { self.old.gate + 6 + length body.now ≤ 268435456 }
+        ensures put { OnOk result (D.seen self.new.disk ≡ option_map (put (self.old.gate + 1) (framed body.now)) (D.seen self.old.disk)) }
         ensures behind { OnOk result (IsWithin (self.new.gate + 6 + length body.now) (D.seen (disk_of self.new))) }
         ensures gate { self.new.gate ≡ self.old.gate }
         ensures ok { (bodies : List (List ℕ)) → Keeps D.seen D.may_leave self.old bodies None
@@ -104,6 +111,7 @@ impl<D: Disk> Journal<D> {
     fn open(&mut self, body: &Packet) -> Result<(), Failed>
         requires within { IsWithin (self.old.gate + 6 + length body.now) (D.seen (disk_of self.old)) }
         requires room { self.old.gate + 6 + length body.now ≤ 268435456 }
+        ensures put { OnOk result (D.seen self.new.disk ≡ option_map (put self.old.gate (71 ∷ [])) (D.seen self.old.disk)) }
         ensures ok { (bodies : List (List ℕ)) → IsStaged D.seen D.may_leave self.old.disk self.old.gate bodies body.now
             → OnOk result (Keeps D.seen D.may_leave self.new (bodies ++ body.now ∷ []) None × Only (D.seen (disk_of self.new)) (D.may_leave (disk_of self.new))) }
         ensures err { (bodies : List (List ℕ)) → IsStaged D.seen D.may_leave self.old.disk self.old.gate bodies body.now

@@ -1,5 +1,5 @@
 //! How a journal is made on a fresh disk.
-ghost use Rattle.std.specs.Prelude.{◌≡◌, ◌⊎◌, ◌↔◌, ◌+◌, ◌<◌, ◌≤◌, ℕ, List, Option, None, Some, [], ◌∷◌, ◌++◌, length, IfOk, OnOk, IsTrue, IsErrOf, false};
+ghost use Rattle.std.specs.Prelude.{◌≡◌, ◌⊎◌, ◌↔◌, ◌+◌, ◌<◌, ◌≤◌, ℕ, List, Option, None, Some, option_map, [], ◌∷◌, ◌++◌, length, IfOk, OnOk, IsTrue, IsErrOf, false};
 ghost use Rattle.desk_traits.specs.Crash.{Passes, LeavesOnly};
 ghost use Rattle.desk_traits.specs.Faults.{HasCause, Rose};
 ghost use Rattle.desk_traits.specs.File.{Same, IsWithin, Only};
@@ -42,11 +42,14 @@ pub(crate) fn look<D: Disk>(disk: &mut D) -> Result<Start, Failed>
 
 ghost use Rattle.journal_core.specs.Create.{IsBlank, IsMade, IsMaking};
 ghost use Rattle.journal_core.specs.Image.{Fresh};
+ghost use Rattle.journal_core.specs.Packet.{framed};
+ghost use Rattle.journal_core.specs.Written.{put, with_record};
 
 // Writes the body behind a byte that is no open gate, and then opens it.
 fn first<D: Disk>(disk: &mut D, body: &Packet) -> Result<(), Failed>
     requires within { IsWithin 1 (D.seen disk.old) }
     requires room { length body.now ≤ 268435450 }
+    ensures put { OnOk result (D.seen disk.new ≡ option_map (put 0 (71 ∷ [])) (option_map (put 1 (framed body.now)) (D.seen disk.old))) }
     ensures within { OnOk result (IsWithin (length body.now + 6) (D.seen disk.new)) }
     ensures made { IsBlank D.seen D.may_leave disk.old → OnOk result (IsMade D.seen D.may_leave disk.new body.now) }
     ensures any_moment { IsBlank D.seen D.may_leave disk.old → LeavesOnly D.moment D.left_since disk.old disk.new (IsMaking body.now) }
@@ -61,6 +64,7 @@ pub(crate) fn make<D: Disk>(disk: &mut D, body: &Packet) -> Result<bool, Failed>
     requires { length body.now ≤ 268435450 }
     ensures fresh { (file : List ℕ) → D.seen disk.old ≡ Some file → IfOk result (λ made. IsTrue made ↔ Fresh file) }
     ensures same { IfOk result (λ made. IsTrue made ⊎ (D.seen disk.new ≡ D.seen disk.old)) }
+    ensures written { (file : List ℕ) → D.seen disk.old ≡ Some file → IfOk result (λ made. IsTrue made → D.seen disk.new ≡ Some (with_record 0 body.now file)) }
     ensures untouched { IfOk result (λ made. made ≡ false → LeavesOnly D.moment D.left_since disk.old disk.new (D.may_leave disk.old)) }
     ensures within { IfOk result (λ made. IsTrue made → IsWithin (length body.now + 6) (D.seen disk.new)) }
     ensures made { (file : List ℕ) → D.seen disk.old ≡ Some file → IfOk result (λ made. IsTrue made → IsMade D.seen D.may_leave disk.new body.now) }

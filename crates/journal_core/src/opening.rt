@@ -5,6 +5,7 @@ ghost use Rattle.desk_traits.specs.Faults.{HasCause, Rose};
 ghost use Rattle.desk_traits.specs.File.{IsWithin, Only};
 ghost use Rattle.journal_core.specs.Image.{Image, Half, IsOneOf, Fresh};
 ghost use Rattle.journal_core.specs.Journal.{StandsFor, IsStaged, MayPend, Rests};
+ghost use Rattle.journal_core.specs.Written.{with_record};
 ghost use Rattle.journal_core.specs.Kept.{disk_of, gate_of, Keeps};
 ghost use Rattle.journal_core.specs.Create.{IsMaking};
 ghost use Rattle.journal_core.specs.Adopt.{DamagedAt, Settles};
@@ -26,6 +27,9 @@ impl<D: Disk> Journal<D> {
         ensures fresh { (file : List ℕ) → D.seen disk ≡ Some file → OnOk result (Fresh file) }
         ensures ok { (file : List ℕ) → D.seen disk ≡ Some file
             → IfOk result (λ journal. Keeps D.seen D.may_leave journal (body.now ∷ []) None × Only (D.seen (disk_of journal)) (D.may_leave (disk_of journal))) }
+
+        // Its record stands at the begin of the file, with a closed gate behind it, and no other byte is changed.
+        ensures written { (file : List ℕ) → D.seen disk ≡ Some file → IfOk result (λ journal. D.seen (disk_of journal) ≡ Some (with_record 0 body.now file)) }
 
         // The file was not fresh, and is as before.
         ensures not_fresh { (file : List ℕ) → D.seen disk ≡ Some file → IfErr result (λ e. e.1 ≡ CreateFault.NotFresh → (Fresh file → ⊥)) }

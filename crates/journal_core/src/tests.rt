@@ -1,6 +1,8 @@
 //! What the clauses leave open: the bytes of a file, which crash leaves which list, and that the calls
 //! succeed.
 
+ghost use Rattle.std.specs.Prelude.{◌<◌};
+
 use crate::{AdoptFault, AppendFault, CreateFault, Journal, Packet};
 use desk_traits::{FileDisk, MemDisk};
 use hazard_types::{List, Oom};
@@ -172,6 +174,27 @@ fn files_are_told_apart(rt: HostRuntime) -> Result<(), Fail> {
     Ok(())
 }
 
+// Whether a journal was made on a disk and got a body, and why it was not made.
+fn made_on(disk: FileDisk, settings: &Packet, body: &Packet) -> Result<bool, CreateFault> {
+    match Journal::create(disk, settings) {
+        Ok(mut journal) => Ok(journal.append(body).is_ok()),
+        Err((_, fault)) => Err(fault),
+    }
+}
+
+// How many bodies a journal has on a disk, and whether it has room for bodies of two lengths.
+fn opened_on(
+    alloc: Global,
+    disk: FileDisk,
+    first: usize,
+    second: usize,
+) -> Result<(usize, bool, bool), AdoptFault> {
+    match Journal::adopt(alloc, disk) {
+        Ok((journal, bodies)) => Ok((bodies.len(), journal.room(first), journal.room(second))),
+        Err((_, fault)) => Err(fault),
+    }
+}
+
 #[test]
 fn a_real_file_keeps_a_journal(rt: HostRuntime) -> Result<(), Fail> {
     let alloc = rt.alloc();
@@ -179,22 +202,15 @@ fn a_real_file_keeps_a_journal(rt: HostRuntime) -> Result<(), Fail> {
     let body = Packet::new(alloc, b"xyz")?;
     let mut options = OpenOptions::new();
     options.read(true).write(true).create(true);
-    let file = options.open(&rt, "real.journal")?;
-    match Journal::create(FileDisk::new(Some(file)), &settings) {
-        Err(_) => assert!(rt; false),
-        Ok(mut journal) => assert!(rt; journal.append(&body).is_ok()),
-    }
-    let file = options.open(&rt, "real.journal")?;
-    match Journal::adopt(alloc, FileDisk::new(Some(file))) {
-        Err(_) => assert!(rt; false),
-        Ok((journal, bodies)) => {
-            assert!(rt; journal.room(268_435_435) && !journal.room(268_435_436));
-            assert!(rt; bodies.len() == 2);
-        }
-    }
-    let file = options.open(&rt, "real.journal")?;
-    let again = Journal::create(FileDisk::new(Some(file)), &settings);
-    assert!(rt; matches!(again, Err((_, CreateFault::NotFresh))));
+    let first = options.open(&rt, "real.journal")?;
+    assert!(rt; made_on(FileDisk::new(Some(first)), &settings, &body) == Ok(true));
+    let second = options.open(&rt, "real.journal")?;
+    // its last gate is at 15
+    let opened = opened_on(alloc, FileDisk::new(Some(second)), 268_435_435, 268_435_436);
+    assert!(rt; opened == Ok((2, true, false)));
+    let third = options.open(&rt, "real.journal")?;
+    let again = made_on(FileDisk::new(Some(third)), &settings, &body);
+    assert!(rt; again == Err(CreateFault::NotFresh));
     fs::remove_file(&rt, "real.journal")?;
     Ok(())
 }
