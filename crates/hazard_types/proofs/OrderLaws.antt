@@ -21,6 +21,7 @@ use Rattle.hazard_types.specs.declared.zone.Kind.TheVariants.{C, Z}
 use Rattle.hazard_types.specs.declared.period.End.{End}
 use Rattle.hazard_types.specs.declared.period.End.TheVariants.{At, Ufn}
 use Rattle.hazard_types.specs.contracts.period.EndOrd.TheImpl as end
+use Rattle.hazard_types.specs.contracts.hazard.EventOrd.TheImpl as event
 use Rattle.hazard_types.specs.contracts.period.EndOrd.TheImpl.Laws as end_laws
 use Rattle.hazard_types.specs.contracts.hazard.HazardPartialEq.TheImpl as hazard
 use Rattle.hazard_types.proofs.Equality.{hazard_decides}
@@ -119,3 +120,7 @@ pub by_end_ties : (a b : End) → end.cmp-value.it a b ≡ Equal → a ≡ b
 by_end_ties (At m) (At n) h = ap At (numbers_tied m n h)
 by_end_ties Ufn Ufn h = refl
 by_end_ties _ _ h = cc
+
+-- the derived order of events is by phenomenon, letter, number and year
+pub event_cmp_is : (a b : Event) → event.cmp-value.it a b ≡ by_event a b
+event_cmp_is a b = refl

@@ -27,13 +27,14 @@ pub fn equality_is_identity()
 {}
 
 /// Zones, hazards, events and ends are totally ordered, and what ties is identical.
-#[tactic(auto, using(crate::proofs::OrderLaws::by_place_total, crate::proofs::OrderLaws::by_place_ties, crate::proofs::OrderLaws::by_hazard_total, crate::proofs::OrderLaws::by_hazard_ties, crate::proofs::OrderLaws::by_event_total, crate::proofs::OrderLaws::by_event_ties, crate::proofs::OrderLaws::by_end_total, crate::proofs::OrderLaws::by_end_ties))]
+#[tactic(auto, using(crate::proofs::OrderLaws::by_place_total, crate::proofs::OrderLaws::by_place_ties, crate::proofs::OrderLaws::by_hazard_total, crate::proofs::OrderLaws::by_hazard_ties, crate::proofs::OrderLaws::by_event_total, crate::proofs::OrderLaws::by_event_ties, crate::proofs::OrderLaws::event_cmp_is, crate::proofs::OrderLaws::by_end_total, crate::proofs::OrderLaws::by_end_ties))]
 pub fn orders_are_total()
     ensures zones { IsTotalOrder by_place }
     ensures zone_ties { (a b : Place) → by_place a b ≡ Equal → a ≡ b }
     ensures hazards { IsTotalOrder by_hazard }
     ensures hazard_ties { (a b : Hazard) → by_hazard a b ≡ Equal → a ≡ b }
     ensures events { IsTotalOrder by_event }
+    ensures event_order { (a b : Event) → ⟦<Event as Ord>⟧.cmp a b ≡ by_event a b }
     ensures event_ties { (a b : Event) → by_event a b ≡ Equal → a ≡ b }
     ensures ends { IsTotalOrder ⟦<End as Ord>⟧.cmp }
     ensures end_ties { (a b : End) → ⟦<End as Ord>⟧.cmp a b ≡ Equal → a ≡ b }

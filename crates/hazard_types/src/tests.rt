@@ -269,6 +269,9 @@ fn lists(rt: HostRuntime) -> Result<(), Fail> {
     let alloc = rt.alloc();
     let mut text: Text = List::from_slice(alloc, b"snow")?;
     let copy = text.clone()?;
+    let mut numbers = List::new(alloc);
+    numbers.push(7u32)?;
+    assert!(rt; numbers.get(0) == Some(&7) && numbers.len() == 1);
     assert!(rt; text == copy);
     text.extend(b" and ice")?;
     assert!(rt; text.as_slice() == b"snow and ice".as_slice());
