@@ -1,5 +1,5 @@
 -- What stands beside a hazard, row by row.
-use Rattle.std.proofs.Common.{◌≡◌, ◌≢◌, ◌∙◌, ◌<◌, ◌≤◌, ◌+◌, ℕ, zero, suc, Bool, true, false, List, [], ◌∷◌, length, get_or, drop, map, Option, Some, None, refl, ap, sym, drop-cons, cond, Bor, arith, Contains, IfSome, IfNone}
+use Rattle.std.proofs.Common.{◌≡◌, ◌≢◌, ◌∙◌, ◌<◌, ℕ, zero, suc, Bool, true, false, List, [], ◌∷◌, length, get_or, drop, map, Option, Some, None, refl, ap, sym, drop-cons, cond, Bor, arith, Contains, IfSome, IfNone}
 use Rattle.std.specs.Option.{option_copied}
 use Rattle.hazard_types.specs.declared.hazard.Hazard.{Hazard}
 use Rattle.hazard_types.specs.Hazards.{DeskHazard, desk_hazards, beside, same_hazard, facts_of, name_of, fact_rows, name_rows}
