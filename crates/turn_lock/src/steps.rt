@@ -3,7 +3,7 @@ ghost use Rattle.std.specs.Prelude.{◌≡◌, ℕ, ◌⊎◌, ◌++◌, ◌∷�
 ghost use mathlib.Core.List.{IsPrefix};
 ghost use Rattle.turn_lock.specs.Story.{GrowsByOneAtMost};
 ghost use Rattle.turn_lock.specs.Turns.{staged, taught, grown};
-ghost use Rattle.turn_lock.specs.declared.view.Stage.TheVariants.{Idle, Waits, Serves, Learnt};
+ghost use Rattle.turn_lock.specs.declared.view.Stage.TheVariants.{Idle, Waits, Learnt};
 
 use crate::lock::TurnLock;
 use crate::plays::{Add, Draw, Learn, Look, PassOn};
