@@ -1,3 +1,4 @@
+pub mod Firsts
 pub mod Higher
 pub mod Lives
 pub mod Openings
