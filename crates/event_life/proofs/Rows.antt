@@ -104,25 +104,6 @@ pub rows_after-sorted : (rows : List Row) (t : ℕ) (lines : List Line) → IsSt
 unfolding rows_after
 rows_after-sorted rows t lines up = put_all-sorted rows t (lawful_of (judged rows t lines)) rows up
 
--- the lawful lines of an event in a zone
-
-routine_free : List Line → Type 0
-routine_free lines = AllByRecursion (λ (l : Line). is_routine l.action ≡ false) lines
-
-lawful_first : List Row → ℕ → List Line → Option Line → List Line
-lawful_first rows t all None = []
-lawful_first rows t all (Some line) = cond (is_lawful rows t all line) (line ∷ []) []
-
-breach_in-second : (rows : List Row) (t : ℕ) (all earlier : List Line) (line : Line) → is_routine line.action ≡ false → is_second earlier line ≡ true →
-    breach_in rows t all earlier line ≡ Some Twice
-unfolding breach_in
-breach_in-second rows t all earlier line p q = rw (p, q)
-
-breach_in-first : (rows : List Row) (t : ℕ) (all earlier : List Line) (line : Line) → is_routine line.action ≡ false → is_second earlier line ≡ false →
-    breach_in rows t all earlier line ≡ breach_of_line (life_at rows line) line t (around_of rows t all line)
-unfolding breach_in
-breach_in-first rows t all earlier line p q = rw (p, q)
-
 -- a line of the event in the zone is no routine line, and names them
 pub speaks_of-parts : (e : Event) (z : Place) (line : Line) → speaks_of e z line ≡ true → (is_routine line.action ≡ false) × (line.event ≡ e) × (line.zone ≡ z)
 speaks_of-parts e z line h =
