@@ -1,5 +1,5 @@
 -- Rows after a product: in order, each pair of zone and event once, and read off pointwise.
-use Rattle.std.proofs.Common.{◌≡◌, ◌≢◌, ◌&&◌, not, ℕ, List, [], ◌∷◌, Bool, true, false, Option, Some, None, Ordering, Less, Equal, Greater, refl, sym, ap, ◌∙◌, cond}
+use Rattle.std.proofs.Common.{◌≡◌, ◌≢◌, ◌&&◌, not, ℕ, List, [], ◌∷◌, Bool, true, false, Option, Some, Ordering, Less, Equal, Greater, refl, sym, ap, ◌∙◌, cond}
 use Rattle.std.proofs.lemmas.Bool.{and_parts, false_from_ne_true, not-true}
 use Rattle.std.specs.List.{AllByRecursion}
 use Rattle.std.specs.List.Sorted.{IsStrictlySortedBy}
@@ -9,10 +9,7 @@ use Rattle.hazard_types.specs.Same.{same_zone, same_event}
 use Rattle.hazard_types.specs.declared.hazard.Event.{Event}
 use Rattle.hazard_types.specs.declared.line.Line.{Line}
 use Rattle.hazard_types.specs.declared.line.Row.{Row}
-use Rattle.event_life.specs.declared.life.Breach.TheVariants.{Twice}
-use Rattle.event_life.specs.Table.{breach_of_line}
-use Rattle.event_life.specs.Products.{by_key, placed, put, row_at, life_at, row_after, is_routine, speaks_of, is_second, around_of, breach_in, judged, lawful_of, put_all, rows_after}
-use Rattle.event_life.specs.Firsts.{is_lawful}
+use Rattle.event_life.specs.Products.{by_key, placed, put, row_at, row_after, is_routine, speaks_of, judged, lawful_of, put_all, rows_after}
 use Rattle.event_life.proofs.Keys.{zone_same, event_same, by_key-total, key_exact, key_ties}
 
 -- the row is of this event in this zone
