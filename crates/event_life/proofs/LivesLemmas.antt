@@ -14,7 +14,7 @@ use Rattle.event_life.specs.Table.{breach_of_line, life_after, first_of, on_life
 use Rattle.event_life.specs.Products.{Product, row_at, life_of, life_at, row_after, is_routine, speaks_of, around_of, judged, lawful_of, lines_of, rows_with}
 use Rattle.event_life.specs.Firsts.{is_lawful, first_line, row_by_first, row_by_first_line}
 use Rattle.event_life.specs.Lives.{steps_of, track_from, track_of, GoesOn, IsLifelong, actions_of}
-use Rattle.event_life.proofs.Rows.{speaks_of-parts}
+use Rattle.event_life.proofs.Puts.{speaks_of-parts}
 use Rattle.event_life.proofs.Spoken.{lawful_first, spoken, row_at-rows_after, steps_of-lines, step_of}
 
 -- what may come after such a life, or where none stands

@@ -14,7 +14,7 @@ use Rattle.event_life.specs.Table.{breach_of_line}
 use Rattle.event_life.specs.Products.{put, row_at, life_at, row_after, is_routine, speaks_of, is_second, around_of, breach_in, judged_from, judged, lawful_of, put_all, rows_after}
 use Rattle.event_life.specs.Firsts.{is_lawful, first_line, row_by_first, row_by_first_line}
 use Rattle.event_life.specs.Lives.{steps_of}
-use Rattle.event_life.proofs.Rows.{at_key, row_at-put, speaks_of-parts}
+use Rattle.event_life.proofs.Puts.{at_key, row_at-put, speaks_of-parts}
 
 -- the breach of a line that is the first of its event in its zone, or a later one
 
