@@ -6,6 +6,8 @@ mod life;
 mod periods;
 mod rows;
 mod step_laws;
+#[cfg(test)]
+mod step_tests;
 
 pub use laws::{first_line_decides, lives_are_lifelong, rows_stay_in_order};
 pub use life::{Around, Breach, Life, life_step};
