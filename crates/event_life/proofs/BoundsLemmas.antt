@@ -46,7 +46,7 @@ ok_none : {X : Type 0} (o : Option Breach) (x : X) → IsOk (unless_breach o x) 
 ok_none None x h = refl
 ok_none (Some breach) x h = cc
 
-none_ok : {X : Type 0} (o : Option Breach) (x : X) → o ≡ None → IsOk (unless_breach o x)
+pub none_ok : {X : Type 0} (o : Option Breach) (x : X) → o ≡ None → IsOk (unless_breach o x)
 none_ok None x h = refl
 none_ok (Some breach) x h = cc
 

@@ -4,7 +4,6 @@ use Rattle.std.proofs.lemmas.Cmp.{tied_itself, then_total, on_total}
 use Rattle.std.specs.Cmp.{IsTotalOrder}
 use Rattle.std.specs.Ordering.{ordering_then}
 use Rattle.hazard_types.specs.Places.{by_place}
-use Rattle.hazard_types.specs.Orders.{by_event}
 use Rattle.hazard_types.specs.declared.line.Row.{Row}
 use Rattle.hazard_types.proofs.OrderLaws.{by_place_total, by_event_total, by_place_ties, by_event_ties}
 use Rattle.event_life.specs.Products.{by_key}

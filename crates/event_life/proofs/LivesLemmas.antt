@@ -66,11 +66,11 @@ unfolding breach_of_line life_after
 may_step None line t around more r h on = on_nothing-opens line.action line t around more r h on
 may_step (Some life) line t around more r h on = may_some life line t around more life.ended refl r h on
 
-none_from_test : {X : Type 0} (o : Option X) → is_none o ≡ true → o ≡ None
+pub none_from_test : {X : Type 0} (o : Option X) → is_none o ≡ true → o ≡ None
 none_from_test None h = refl
 none_from_test (Some x) h = cc
 
-find-passes : {X : Type 0} (p : X → Bool) (xs : List X) (x : X) → find p xs ≡ Some x → p x ≡ true
+pub find-passes : {X : Type 0} (p : X → Bool) (xs : List X) (x : X) → find p xs ≡ Some x → p x ≡ true
 find-passes p [] x h = cc
 find-passes {X} p (y ∷ ys) x h =
     let step : (b : Bool) → p y ≡ b → cond b (Some y) (find p ys) ≡ Some x → p x ≡ true =

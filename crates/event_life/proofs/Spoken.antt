@@ -18,12 +18,12 @@ use Rattle.event_life.proofs.Puts.{at_key, row_at-put, speaks_of-parts}
 
 -- the breach of a line that is the first of its event in its zone, or a later one
 
-breach_in-second : (rows : List Row) (t : ℕ) (all earlier : List Line) (line : Line) → is_routine line.action ≡ false → is_second earlier line ≡ true →
+pub breach_in-second : (rows : List Row) (t : ℕ) (all earlier : List Line) (line : Line) → is_routine line.action ≡ false → is_second earlier line ≡ true →
     breach_in rows t all earlier line ≡ Some Twice
 unfolding breach_in
 breach_in-second rows t all earlier line p q = rw (p, q)
 
-breach_in-first : (rows : List Row) (t : ℕ) (all earlier : List Line) (line : Line) → is_routine line.action ≡ false → is_second earlier line ≡ false →
+pub breach_in-first : (rows : List Row) (t : ℕ) (all earlier : List Line) (line : Line) → is_routine line.action ≡ false → is_second earlier line ≡ false →
     breach_in rows t all earlier line ≡ breach_of_line (life_at rows line) line t (around_of rows t all line)
 unfolding breach_in
 breach_in-first rows t all earlier line p q = rw (p, q)
@@ -49,7 +49,7 @@ abbrev pub lawful_first : List Row → ℕ → List Line → Option Line → Lis
 lawful_first rows t all None = []
 lawful_first rows t all (Some line) = cond (is_lawful rows t all line) (line ∷ []) []
 
-filter-cond : (S : Line → Bool) (line : Line) (lines : List Line) (s keep : Bool) → S line ≡ s →
+pub filter-cond : (S : Line → Bool) (line : Line) (lines : List Line) (s keep : Bool) → S line ≡ s →
     filter S (cond keep (line ∷ lines) lines) ≡ cond s (cond keep (line ∷ filter S lines) (filter S lines)) (filter S lines)
 filter-cond S line lines true true h = rw h
 filter-cond S line lines false true h = rw h

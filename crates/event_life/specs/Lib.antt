@@ -4,6 +4,7 @@ pub mod Higher
 pub mod Lives
 pub mod Openings
 pub mod Periods
+pub mod Printed
 pub mod Products
 pub mod Shown
 pub mod Table

@@ -9,7 +9,10 @@ mod step_laws;
 #[cfg(test)]
 mod step_tests;
 
-pub use laws::{first_line_decides, lives_are_lifelong, rows_stay_in_order};
+pub use laws::{
+    first_line_decides, gapless_without_gaps, higher_rows_are_lawful_rows, lawful_lines_read_back,
+    lives_are_lifelong, rows_stay_in_order,
+};
 pub use life::{Around, Breach, Life, life_step};
 pub use periods::{ends_after, ends_within, is_live, keeps_open, overlaps, same_at, same_end};
 pub use rows::{

@@ -244,6 +244,18 @@ fn life_of(before: Before) -> Result<Option<Life>, Fail> {
     }))
 }
 
+fn stepped(
+    before: Option<Life>,
+    line: &Line,
+    t: Minute,
+    around: Around,
+) -> Result<Result<Life, Breach>, Fail> {
+    if let Rou = line.action {
+        return Err("a routine line".into());
+    }
+    Ok(life_step(before, line, t, around))
+}
+
 /// The begin that a line leaves, with its own end, and ended where it ends the life.
 fn answer(
     before: Before,
@@ -251,13 +263,10 @@ fn answer(
     around: Around,
     ends: bool,
 ) -> Result<Result<u32, Breach>, Fail> {
-    if let Rou = line.action {
-        return Err("a routine line".into());
-    }
-    match life_step(life_of(before)?, line, minute(1000)?, around) {
-        Ok(life) if life.ended == ends && life.period.end == line.end => Ok(Ok(
-            life.period.begin.get(),
-        )),
+    match stepped(life_of(before)?, line, minute(1000)?, around)? {
+        Ok(life) if life.ended == ends && life.period.end == line.end => {
+            Ok(Ok(life.period.begin.get()))
+        }
         Ok(_) => Err("another life".into()),
         Err(breach) => Ok(Err(breach)),
     }
@@ -292,11 +301,8 @@ fn stamped(text: &[u8; 12]) -> Result<Minute, Fail> {
     Ok(read_stamp(text).ok_or("no stamp")?)
 }
 
-/// The answer to a line on a life from 180103T1000Z to 1500Z.
-fn ending(action: Action, t: Minute) -> Result<Result<Life, Breach>, Fail> {
-    if let Rou = action {
-        return Err("a routine line".into());
-    }
+/// The breach of a line on a life from 180103T1000Z to 1500Z.
+fn ending(action: Action, text: &[u8; 12]) -> Result<Option<Breach>, Fail> {
     let begin = stamped(b"180103T1000Z")?;
     let end = End::At(stamped(b"180103T1500Z")?);
     let life = Life {
@@ -305,16 +311,19 @@ fn ending(action: Action, t: Minute) -> Result<Result<Life, Breach>, Fail> {
         ended: false,
     };
     let line = line_of(action, None, end)?;
-    Ok(life_step(Some(life), &line, t, OPEN))
+    match stepped(Some(life), &line, stamped(text)?, OPEN)? {
+        Ok(_) => Ok(None),
+        Err(breach) => Ok(Some(breach)),
+    }
 }
 
 #[test]
 fn an_end_within_half_an_hour(rt: HostRuntime) -> Result<(), Fail> {
-    assert_eq!(rt; ending(Exp, stamped(b"180103T1531Z")?)?, Err(TooLate));
-    assert_eq!(rt; ending(Can, stamped(b"180103T1430Z")?)?, Err(TooLate));
-    assert!(rt; ending(Can, stamped(b"180103T1429Z")?)?.is_ok());
-    assert!(rt; ending(Exp, stamped(b"180103T1430Z")?)?.is_ok());
-    assert!(rt; ending(Exp, stamped(b"180103T1530Z")?)?.is_ok());
+    assert_eq!(rt; ending(Exp, b"180103T1531Z")?, Some(TooLate));
+    assert_eq!(rt; ending(Exp, b"180103T1530Z")?, None);
+    assert_eq!(rt; ending(Exp, b"180103T1430Z")?, None);
+    assert_eq!(rt; ending(Can, b"180103T1430Z")?, Some(TooLate));
+    assert_eq!(rt; ending(Can, b"180103T1429Z")?, None);
     Ok(())
 }
 
@@ -322,18 +331,15 @@ fn an_end_within_half_an_hour(rt: HostRuntime) -> Result<(), Fail> {
 fn a_zero_begin_is_now(rt: HostRuntime) -> Result<(), Fail> {
     let t = stamped(b"180103T1200Z")?;
     let end = End::At(stamped(b"180103T1800Z")?);
+    let period = Period { begin: t, end };
     let joined = Life {
-        period: Period { begin: t, end },
+        period,
         flood: None,
         ended: false,
     };
-    assert_eq!(rt;
-        life_step(None, &line_of(Exb, None, end)?, t, OPEN),
-        Ok(joined)
-    );
-    assert_eq!(rt;
-        life_step(None, &line_of(New, None, end)?, t, ALONE),
-        Err(ZeroBegin)
-    );
+    let join = line_of(Exb, None, end)?;
+    assert_eq!(rt; stepped(None, &join, t, OPEN)?, Ok(joined));
+    let open = line_of(New, None, end)?;
+    assert_eq!(rt; stepped(None, &open, t, ALONE)?, Err(ZeroBegin));
     Ok(())
 }
