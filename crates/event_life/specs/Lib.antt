@@ -1,3 +1,5 @@
+pub mod Bounds
+pub mod Firsts
 pub mod Higher
 pub mod Lives
 pub mod Openings

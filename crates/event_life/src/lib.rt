@@ -1,10 +1,12 @@
 //! The life of one event in one zone: which lines are lawful, and what they leave.
 #![tactic(auto)]
 
+mod laws;
 mod life;
 mod periods;
 mod rows;
 
+pub use laws::{first_line_decides, lives_are_lifelong, rows_stay_in_order};
 pub use life::{Around, Breach, Life, life_step};
 pub use periods::{ends_after, ends_within, is_live, keeps_open, overlaps, same_at, same_end};
 pub use rows::{
