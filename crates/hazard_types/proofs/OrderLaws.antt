@@ -18,6 +18,10 @@ use Rattle.hazard_types.specs.declared.hazard.Hazard.{Hazard}
 use Rattle.hazard_types.specs.declared.hazard.Event.{Event}
 use Rattle.hazard_types.specs.declared.zone.Kind.{Kind}
 use Rattle.hazard_types.specs.declared.zone.Kind.TheVariants.{C, Z}
+use Rattle.hazard_types.specs.declared.period.End.{End}
+use Rattle.hazard_types.specs.declared.period.End.TheVariants.{At, Ufn}
+use Rattle.hazard_types.specs.contracts.period.EndOrd.TheImpl as end
+use Rattle.hazard_types.specs.contracts.period.EndOrd.TheImpl.Laws as end_laws
 use Rattle.hazard_types.specs.contracts.hazard.HazardPartialEq.TheImpl as hazard
 use Rattle.hazard_types.proofs.Equality.{hazard_decides}
 
@@ -101,6 +105,17 @@ is_tied Greater h = cc
 tie_decides : {K : Type 0} {R : K → K → Ordering} → IsTotalOrder R → ((a b : K) → R a b ≡ Equal → a ≡ b) → (a b : K) → Decides (eq_by_cmp R a b) (a ≡ b)
 tie_decides {K} {R} total ties a b = (λ h. ties a b (is_tied (R a b) h), λ e. ap (λ x. is_eq (R a x)) (sym e) ∙ ap is_eq (tied_itself total a))
 
+pub same_hazard_decides : (a b : Hazard) → Decides (eq_by_cmp by_hazard a b) (a ≡ b)
+same_hazard_decides = tie_decides by_hazard_total by_hazard_ties
+
 -- `==` of hazards is the test by their order
 pub same_hazard_is : (a b : Hazard) → hazard.eq-value.it a b ≡ eq_by_cmp by_hazard a b
 same_hazard_is a b = same_from_decides _ _ (hazard_decides a b) (tie_decides by_hazard_total by_hazard_ties a b)
+
+pub by_end_total : IsTotalOrder end.cmp-value.it
+by_end_total = end_laws.total-law
+
+pub by_end_ties : (a b : End) → end.cmp-value.it a b ≡ Equal → a ≡ b
+by_end_ties (At m) (At n) h = ap At (numbers_tied m n h)
+by_end_ties Ufn Ufn h = refl
+by_end_ties _ _ h = cc

@@ -1,8 +1,8 @@
 //! The hazards that the desk issues: their codes, names and facts.
-ghost use Rattle.std.specs.Prelude.{◌≡◌, map, option_copied};
+ghost use Rattle.std.specs.Prelude.{◌≡◌, ◌≢◌, map, option_copied, IfSome, IfNone, Contains};
 ghost use Rattle.hazard_types.specs.Codes.{IsTable};
 ghost use Rattle.hazard_types.specs.Tables.{row};
-ghost use Rattle.hazard_types.specs.Hazards.{desk_hazards, fact_rows, name_rows, hazard_rows, hazard_code, facts_of, name_of, beside};
+ghost use Rattle.hazard_types.specs.Hazards.{DeskHazard, desk_hazards, fact_rows, name_rows, hazard_rows, hazard_code, facts_of, name_of, beside};
 
 use crate::codes::{Category, Coded, Family};
 use crate::facts::Facts;
@@ -127,9 +127,11 @@ fn beside<V: Copy>(rows: &[(Hazard, V)], h: Hazard) -> Option<V>
 }
 
 /// What the desk knows of a hazard. None exactly where it does not issue the hazard.
-#[tactic(auto, unfolding(crate::specs::Hazards::facts_of))]
+#[tactic(auto, using(crate::proofs::DeskRows::fact_stands), unfolding(crate::specs::Hazards::facts_of))]
 pub fn facts(h: Hazard) -> Option<Facts>
-    ensures { result ≡ facts_of h }
+    ensures value { result ≡ facts_of h }
+    ensures stands { IfSome result (λ f. (d : DeskHazard) × Contains desk_hazards d × (d.hazard ≡ h) × (d.facts ≡ f)) }
+    ensures none { IfNone result ((d : DeskHazard) → Contains desk_hazards d → d.hazard ≢ h) }
 {
     beside(&all_facts(), h)
 }
@@ -137,7 +139,9 @@ pub fn facts(h: Hazard) -> Option<Facts>
 /// A hazard's name in headlines. None exactly where the desk does not issue the hazard.
 #[tactic(auto, unfolding(crate::specs::Hazards::name_of))]
 pub fn name_of(h: Hazard) -> Option<&'static str>
-    ensures { option_copied result ≡ name_of h }
+    ensures value { option_copied result ≡ name_of h }
+    ensures stands { IfSome result (λ name. (d : DeskHazard) × Contains desk_hazards d × (d.hazard ≡ h) × (d.name ≡ name.now)) }
+    ensures none { IfNone result ((d : DeskHazard) → Contains desk_hazards d → d.hazard ≢ h) }
 {
     beside(&all_names(), h)
 }
