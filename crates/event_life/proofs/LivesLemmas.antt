@@ -1,6 +1,6 @@
 -- What the lawful lines of an event in a zone do, one after another: it opens, goes on, ends once, and stays ended.
-use Rattle.std.proofs.Common.{◌≡◌, ◌⊎◌, inl, inr, ◌&&◌, ◌||◌, not, ℕ, List, [], ◌∷◌, ◌++◌, Bool, true, false, Option, Some, None, refl, sym, ap, subst, ◌∙◌, cond, map, option_map}
-use Rattle.std.specs.List.{filter, find}
+use Rattle.std.proofs.Common.{◌≡◌, inl, inr, ℕ, List, [], ◌∷◌, ◌++◌, Bool, true, false, Option, Some, None, refl, sym, ap, subst, ◌∙◌, cond, map, option_map}
+use Rattle.std.specs.List.{find}
 use Rattle.std.specs.Option.{is_none}
 use Rattle.hazard_types.specs.Places.{Place}
 use Rattle.hazard_types.specs.declared.codes.Action.{Action}
@@ -10,13 +10,11 @@ use Rattle.hazard_types.specs.declared.line.Line.{Line}
 use Rattle.hazard_types.specs.declared.line.Row.{Row}
 use Rattle.event_life.specs.declared.life.Life.{Life}
 use Rattle.event_life.specs.declared.life.Around.{Around}
-use Rattle.event_life.specs.declared.life.Breach.{Breach}
-use Rattle.event_life.specs.declared.life.Breach.TheVariants.{Reopened, NotLive}
 use Rattle.event_life.specs.Table.{breach_of_line, life_after, first_of, on_life, on_nothing, left_of_life}
-use Rattle.event_life.specs.Products.{Product, row_at, life_of, life_at, row_of, row_after, is_routine, speaks_of, around_of, judged, lawful_of, lines_of, rows_after, rows_with}
+use Rattle.event_life.specs.Products.{Product, row_at, life_of, life_at, row_after, is_routine, speaks_of, around_of, judged, lawful_of, lines_of, rows_with}
 use Rattle.event_life.specs.Firsts.{is_lawful, first_line, row_by_first, row_by_first_line}
-use Rattle.event_life.specs.Lives.{judged_product, steps_of, track_from, track_of, opens, goes_on, ends, GoesOn, IsLifelong, actions_of}
-use Rattle.event_life.proofs.Rows.{speaks_of-parts}
+use Rattle.event_life.specs.Lives.{steps_of, track_from, track_of, GoesOn, IsLifelong, actions_of}
+use Rattle.event_life.proofs.Puts.{speaks_of-parts}
 use Rattle.event_life.proofs.Spoken.{lawful_first, spoken, row_at-rows_after, steps_of-lines, step_of}
 
 -- what may come after such a life, or where none stands
@@ -76,9 +74,10 @@ find-passes : {X : Type 0} (p : X → Bool) (xs : List X) (x : X) → find p xs 
 find-passes p [] x h = cc
 find-passes {X} p (y ∷ ys) x h =
     let step : (b : Bool) → p y ≡ b → cond b (Some y) (find p ys) ≡ Some x → p x ≡ true =
-        λ b. elim b as (λ b. p y ≡ b → cond b (Some y) (find p ys) ≡ Some x → p x ≡ true) [
-          true ↦ λ e g. let same : y ≡ x = cc in subst (λ (v : X). p v ≡ true) same e
-        | false ↦ λ e g. find-passes p ys x g ] in
+    λ b. elim b as (λ b. p y ≡ b → cond b (Some y) (find p ys) ≡ Some x → p x ≡ true) [
+      | true ↦ λ e g. let same : y ≡ x = cc in subst (λ (v : X). p v ≡ true) same e
+      | false ↦ λ e g. find-passes p ys x g
+    ] in
     step (p y) refl h
 
 by_product : (rows : List Row) (t : ℕ) (lines : List Line) (e : Event) (z : Place) (first : Option Line) (more : List (Action × ℕ)) → find (speaks_of e z) lines ≡ first →
@@ -89,14 +88,15 @@ by_product rows t lines e z (Some line) more h on =
     let parts = speaks_of-parts e z line (find-passes (speaks_of e z) lines line h) in
     let own : life_at rows line ≡ option_map life_of (row_at rows e z) = rw (parts.1, parts.2) in
     let step : (b : Bool) → is_lawful rows t lines line ≡ b →
-          May (option_map life_of (cond b (Some (row_after rows t line)) (row_at rows e z))) (actions_of more) →
-          May (option_map life_of (row_at rows e z)) (actions_of (map (step_of t) (cond b (line ∷ []) []) ++ more)) =
-        λ b. elim b as (λ b. is_lawful rows t lines line ≡ b →
-          May (option_map life_of (cond b (Some (row_after rows t line)) (row_at rows e z))) (actions_of more) →
-          May (option_map life_of (row_at rows e z)) (actions_of (map (step_of t) (cond b (line ∷ []) []) ++ more))) [
-          true ↦ λ q on. subst (λ (o : Option Life). May o (line.action ∷ actions_of more)) own
-            (may_step (life_at rows line) line t (around_of rows t lines line) (actions_of more) parts.0 (none_from_test _ q) on)
-        | false ↦ λ q on. on ] in
+    May (option_map life_of (cond b (Some (row_after rows t line)) (row_at rows e z))) (actions_of more) →
+    May (option_map life_of (row_at rows e z)) (actions_of (map (step_of t) (cond b (line ∷ []) []) ++ more)) =
+    λ b. elim b as (λ b. is_lawful rows t lines line ≡ b →
+    May (option_map life_of (cond b (Some (row_after rows t line)) (row_at rows e z))) (actions_of more) →
+    May (option_map life_of (row_at rows e z)) (actions_of (map (step_of t) (cond b (line ∷ []) []) ++ more))) [
+      | true ↦ λ q on. subst (λ (o : Option Life). May o (line.action ∷ actions_of more)) own
+          (may_step (life_at rows line) line t (around_of rows t lines line) (actions_of more) parts.0 (none_from_test _ q) on)
+      | false ↦ λ q on. on
+    ] in
     step (is_lawful rows t lines line) refl on
 
 -- what a product's lawful lines do to the event in the zone
@@ -114,9 +114,9 @@ track_may rows [] e z = may_end (option_map life_of (row_at rows e z))
 track_may rows (p ∷ products) e z =
     let lines = lines_of rows p.issue p.said in
     let after : May (option_map life_of (row_by_first_line rows p.issue lines e z)) (actions_of (track_from (rows_with rows p) products e z)) =
-        subst (λ (o : Option Row). May (option_map life_of o) (actions_of (track_from (rows_with rows p) products e z))) (row_at-rows_after rows p.issue lines e z) (track_may (rows_with rows p) products e z) in
+    subst (λ (o : Option Row). May (option_map life_of o) (actions_of (track_from (rows_with rows p) products e z))) (row_at-rows_after rows p.issue lines e z) (track_may (rows_with rows p) products e z) in
     subst (λ (steps : List (Action × ℕ)). May (option_map life_of (row_at rows e z)) (actions_of (steps ++ track_from (rows_with rows p) products e z))) (sym (steps_first rows p.issue lines e z))
-      (by_product rows p.issue lines e z (first_line lines e z) (track_from (rows_with rows p) products e z) refl after)
+    (by_product rows p.issue lines e z (first_line lines e z) (track_from (rows_with rows p) products e z) refl after)
 
 -- the lawful lines of an event in a zone over any products
 pub track_of-lifelong : (products : List Product) (e : Event) (z : Place) → IsLifelong (actions_of (track_of products e z))

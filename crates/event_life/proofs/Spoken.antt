@@ -1,11 +1,9 @@
 -- The lawful lines of a product that speak of an event in a zone: the first line of these, where it is lawful.
 use Rattle.std.proofs.Common.{◌≡◌, ◌&&◌, ◌||◌, not, ℕ, List, [], ◌∷◌, ◌++◌, Bool, true, false, Option, Some, None, refl, sym, ap, ◌∙◌, cond, map}
-use Rattle.std.proofs.lemmas.Bool.{not-true}
 use Rattle.std.proofs.lemmas.List.Folds.{list_any-append}
 use Rattle.std.specs.List.{AllByRecursion, filter, find, list_any}
 use Rattle.std.specs.Option.{is_none}
 use Rattle.hazard_types.specs.Places.{Place}
-use Rattle.hazard_types.specs.Same.{same_zone, same_event}
 use Rattle.hazard_types.specs.declared.codes.Action.{Action}
 use Rattle.hazard_types.specs.declared.hazard.Event.{Event}
 use Rattle.hazard_types.specs.declared.line.Line.{Line}
@@ -16,7 +14,7 @@ use Rattle.event_life.specs.Table.{breach_of_line}
 use Rattle.event_life.specs.Products.{put, row_at, life_at, row_after, is_routine, speaks_of, is_second, around_of, breach_in, judged_from, judged, lawful_of, put_all, rows_after}
 use Rattle.event_life.specs.Firsts.{is_lawful, first_line, row_by_first, row_by_first_line}
 use Rattle.event_life.specs.Lives.{steps_of}
-use Rattle.event_life.proofs.Rows.{at_key, row_at-put, speaks_of-parts}
+use Rattle.event_life.proofs.Puts.{at_key, row_at-put, speaks_of-parts}
 
 -- the breach of a line that is the first of its event in its zone, or a later one
 

@@ -1,5 +1,5 @@
 -- Which lines are lawful, action by action, in plain inequalities.
-use Rattle.std.specs.Prelude.{◌≡◌, ◌⊎◌, ◌≤◌, ◌<◌, ◌+◌, ⊤, ℕ, Bool, true, false, min, Option, Some, None, unwrap_or, IfSome, IsSomeAnd}
+use Rattle.std.specs.Prelude.{◌≡◌, ◌⊎◌, ◌≤◌, ◌<◌, ◌+◌, ⊤, ℕ, true, false, min, Some, None, unwrap_or, IfSome, IsSomeAnd, MatchOption}
 use Rattle.hazard_types.specs.declared.period.End.{End}
 use Rattle.hazard_types.specs.declared.period.End.TheVariants.{At, Ufn}
 use Rattle.hazard_types.specs.declared.period.Period.{Period}
@@ -60,3 +60,27 @@ pub record EndsAsPrinted (life : Life) (line : Line) (t : ℕ) : Type 0 where
   pub begun : life.period.begin ≤ t → line.begin ≡ None
   pub later : t < life.period.begin → line.begin ≡ Some life.period.begin
   pub end : line.end ≡ life.period.end
+
+-- a line's H-VTEC values replace those of the life, and a line without leaves them
+abbrev pub TakesFlood : Life → Line → Life → Type 0
+TakesFlood life line after = MatchOption line.flood (after.flood ≡ life.flood) (λ flood. after.flood ≡ Some flood)
+
+-- what a lawful NEW, EXA or EXB leaves
+pub record IsOpened (line : Line) (t : ℕ) (after : Life) : Type 0 where
+  pub begin : after.period.begin ≡ unwrap_or line.begin t
+  pub end : after.period.end ≡ line.end
+  pub flood : after.flood ≡ line.flood
+  pub going : after.ended ≡ false
+
+-- what a lawful CON, COR or EXT leaves
+pub record IsCarriedOn (life : Life) (line : Line) (t : ℕ) (after : Life) : Type 0 where
+  pub begin : after.period.begin ≡ begin_left life line t
+  pub end : after.period.end ≡ line.end
+  pub flood : TakesFlood life line after
+  pub going : after.ended ≡ false
+
+-- what a lawful CAN, EXP or UPG leaves
+pub record IsEnded (life : Life) (line : Line) (after : Life) : Type 0 where
+  pub period : after.period ≡ life.period
+  pub flood : TakesFlood life line after
+  pub ended : after.ended ≡ true

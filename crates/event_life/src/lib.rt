@@ -5,6 +5,9 @@ mod laws;
 mod life;
 mod periods;
 mod rows;
+mod step_laws;
+#[cfg(test)]
+mod step_tests;
 
 pub use laws::{first_line_decides, lives_are_lifelong, rows_stay_in_order};
 pub use life::{Around, Breach, Life, life_step};
@@ -12,4 +15,10 @@ pub use periods::{ends_after, ends_within, is_live, keeps_open, overlaps, same_a
 pub use rows::{
     around, event_of, going_in, has_period, has_rows, has_same, is_held, is_open, life_at,
     opened_period, row_at,
+};
+pub use step_laws::{
+    can_comes_before_the_last_half_hour, con_and_cor_keep_the_period, ended_lives_stay_ended,
+    exa_joins_a_period_of_the_event, exb_joins_at_another_period,
+    exp_comes_within_half_an_hour_of_the_end, ext_changes_the_period, lawful_lines_leave,
+    new_opens_an_event, steps_are_never_twice, upg_comes_before_the_end,
 };

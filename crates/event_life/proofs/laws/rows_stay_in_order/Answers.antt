@@ -1,4 +1,4 @@
-use Rattle.event_life.proofs.Rows.{rows_after-sorted}
+use Rattle.event_life.proofs.Puts.{rows_after-sorted}
 use Rattle.event_life.proofs.laws.rows_stay_in_order.Goals as goal
 
 pub returns : goal.returns

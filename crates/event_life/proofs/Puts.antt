@@ -1,5 +1,5 @@
 -- Rows after a product: in order, each pair of zone and event once, and read off pointwise.
-use Rattle.std.proofs.Common.{◌≡◌, ◌≢◌, ◌&&◌, not, ℕ, List, [], ◌∷◌, Bool, true, false, Option, Some, None, Ordering, Less, Equal, Greater, refl, sym, ap, ◌∙◌, cond}
+use Rattle.std.proofs.Common.{◌≡◌, ◌≢◌, ◌&&◌, not, ℕ, List, [], ◌∷◌, Bool, true, false, Option, Some, Ordering, Less, Equal, Greater, refl, sym, ap, ◌∙◌, cond}
 use Rattle.std.proofs.lemmas.Bool.{and_parts, false_from_ne_true, not-true}
 use Rattle.std.specs.List.{AllByRecursion}
 use Rattle.std.specs.List.Sorted.{IsStrictlySortedBy}
@@ -9,11 +9,9 @@ use Rattle.hazard_types.specs.Same.{same_zone, same_event}
 use Rattle.hazard_types.specs.declared.hazard.Event.{Event}
 use Rattle.hazard_types.specs.declared.line.Line.{Line}
 use Rattle.hazard_types.specs.declared.line.Row.{Row}
-use Rattle.event_life.specs.declared.life.Breach.TheVariants.{Twice}
-use Rattle.event_life.specs.Table.{breach_of_line}
-use Rattle.event_life.specs.Products.{by_key, placed, put, row_at, life_at, row_after, is_routine, speaks_of, is_second, around_of, breach_in, judged, lawful_of, put_all, rows_after}
-use Rattle.event_life.specs.Firsts.{is_lawful}
-use Rattle.event_life.proofs.Keys.{zone_same, event_same, by_key-total, key_exact, key_ties}
+use Rattle.event_life.specs.Products.{by_key, placed, put, row_at, row_after, is_routine, speaks_of, judged, lawful_of, put_all, rows_after}
+use Rattle.hazard_types.proofs.Equality.{zone_one, event_one}
+use Rattle.event_life.proofs.Keys.{by_key-total, key_exact, key_ties}
 
 -- the row is of this event in this zone
 abbrev pub at_key : Event → Place → Row → Bool
@@ -22,7 +20,7 @@ at_key e z r = same_event r.event e && same_zone r.zone z
 pub at_key-parts : (e : Event) (z : Place) (r : Row) → at_key e z r ≡ true → (r.event ≡ e) × (r.zone ≡ z)
 at_key-parts e z r h =
     let p = and_parts (same_event r.event e) _ h in
-    (event_same r.event e p.0, zone_same r.zone z p.1)
+    (event_one r.event e p.0, zone_one r.zone z p.1)
 
 at_key-same : (e : Event) (z : Place) (r s : Row) → r.zone ≡ s.zone → r.event ≡ s.event → at_key e z r ≡ at_key e z s
 at_key-same e z r s p q = rw (p, q)
@@ -109,4 +107,4 @@ pub speaks_of-parts : (e : Event) (z : Place) (line : Line) → speaks_of e z li
 speaks_of-parts e z line h =
     let p = and_parts (not (is_routine line.action) && same_event line.event e) _ h in
     let q = and_parts (not (is_routine line.action)) _ p.0 in
-    (not-true (is_routine line.action) q.0, event_same line.event e q.1, zone_same line.zone z p.1)
+    (not-true (is_routine line.action) q.0, event_one line.event e q.1, zone_one line.zone z p.1)
