@@ -1,8 +1,8 @@
 //! Clashes of rows.
-ghost use Rattle.std.specs.Prelude.{◌≡◌};
+ghost use Rattle.std.specs.Prelude.{◌≡◌, find, option_map};
 ghost use Rattle.event_life.specs.Higher.{family_of, are_kin};
 ghost use Rattle.hazard_types.specs.Hazards.{facts_of};
-ghost use Rattle.hazard_board.specs.Clashes.{clash, first_clash};
+ghost use Rattle.hazard_board.specs.Clashes.{clash, clash_of, first_clash};
 
 use event_life::{is_live, overlaps};
 use hazard_types::desk_hazards::facts;
@@ -33,20 +33,27 @@ fn clash(t: Minute, a: &Row, b: &Row) -> bool
         && overlaps(&a.period, &b.period)
 }
 
+/// The first of the other rows that clashes with this one.
+fn clash_with(first: &Row, others: &[Row], t: Minute) -> Option<Clash>
+    ensures { result ≡ option_map (clash_of first.now) (find (clash t first.now) others.now) }
+{
+    let second = others.iter().find(|row| clash(t, first, row))?;
+    Some(Clash {
+        zone: first.zone,
+        first: first.event,
+        second: second.event,
+    })
+}
+
 /// The first row that clashes with a later one, with the first that it clashes with.
 pub fn first_clash(rows: &[Row], t: Minute) -> Option<Clash>
     ensures { result ≡ first_clash t rows.now }
 {
-    let mut rest = rows;
-    while let [first, others @ ..] = rest {
-        if let Some(second) = others.iter().find(|row| clash(t, first, row)) {
-            return Some(Clash {
-                zone: first.zone,
-                first: first.event,
-                second: second.event,
-            });
+    for (place, first) in rows.iter().enumerate() {
+        let found = clash_with(first, &rows[place + 1..], t);
+        if found.is_some() {
+            return found;
         }
-        rest = others;
     }
     None
 }

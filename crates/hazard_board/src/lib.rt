@@ -1,5 +1,6 @@
 //! The board: the rows of the events that were opened, by zone, then event.
 #![tactic(auto)]
+
 ghost use Rattle.std.specs.Prelude.{◌≡◌, ◌+◌, ◌≤◌, ◌<◌, [], IfOk, OnOk, OnErr, IsTrue};
 ghost use Rattle.std.specs.List.Sorted.{IsStrictlySortedBy};
 ghost use Rattle.event_life.specs.Products.{by_key, row_at, has_rows, going_in, rows_after};
@@ -12,10 +13,10 @@ mod conflicts;
 mod lines;
 
 use conflicts::first_clash;
-use lines::{rows_taken, take_lines};
 use event_life::{going_in, has_period, has_rows, is_live, row_at};
 use hazard_types::{Clash, Event, Hazard, Line, List, Minute, Oom, Period, Row, Zone};
-use std::alloc::Global;
+use lines::{rows_taken, take_lines};
+use std::alloc::{AllocError, Global};
 use std::marker::Model;
 
 /// The rows of all events that were opened, by zone, then event, each pair once.
@@ -36,6 +37,26 @@ impl Model for Board {
     ghost view = { λ b. record { rows = b.rows.items; spare = vec_capacity b.rows - vec_len b.rows } };
 
     ghost invariant = { λ b. IsStrictlySortedBy by_key b.rows.items };
+}
+
+/// The live rows of a zone.
+fn live_in(alloc: Global, rows: &[Row], z: &Zone, t: Minute) -> Result<Vec<Row>, AllocError>
+    ensures { IfOk result (λ live. live.items ≡ live_in z.now t rows.now) }
+{
+    rows.iter()
+        .filter(|row| row.zone == *z && is_live(row, t))
+        .copied()
+        .collect(alloc)
+}
+
+/// The live rows.
+fn live(alloc: Global, rows: &[Row], t: Minute) -> Result<Vec<Row>, AllocError>
+    ensures { IfOk result (λ live. live.items ≡ shown_at t rows.now) }
+{
+    rows.iter()
+        .filter(|row| is_live(row, t))
+        .copied()
+        .collect(alloc)
 }
 
 impl Board {
@@ -92,27 +113,14 @@ impl Board {
     pub fn rows_of(&self, alloc: Global, z: Zone, t: Minute) -> Result<List<Row>, Oom>
         ensures { IfOk result (λ live. live ≡ live_in z t self.now.rows) }
     {
-        let zone = &z;
-        let live = self
-            .rows
-            .iter()
-            .filter(|row| row.zone == *zone && is_live(row, t))
-            .copied()
-            .collect(alloc)?;
-        Ok(List::from_vec(live))
+        Ok(List::from_vec(live_in(alloc, &self.rows, &z, t)?))
     }
 
     /// The live rows, by zone, then event.
     pub fn shown(&self, alloc: Global, t: Minute) -> Result<List<Row>, Oom>
         ensures { IfOk result (λ live. live ≡ shown_at t self.now.rows) }
     {
-        let live = self
-            .rows
-            .iter()
-            .filter(|row| is_live(row, t))
-            .copied()
-            .collect(alloc)?;
-        Ok(List::from_vec(live))
+        Ok(List::from_vec(live(alloc, &self.rows, t)?))
     }
 
     /// Applies the lawful lines of a product. ROU leaves the rows as they are.
