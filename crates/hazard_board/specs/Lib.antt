@@ -1,0 +1,4 @@
+pub mod Board
+pub mod Clashes
+pub mod Seats
+pub mod Taken
