@@ -1,0 +1,73 @@
+-- Tracks and lives: what the lawful lines of a list of products did to an event in a zone.
+use Rattle.std.specs.Prelude.{◌≡◌, ◌⊎◌, ℕ, Bool, true, false, List, [], ◌∷◌, ◌++◌, map, if◌then◌else◌, Option, None}
+use Rattle.hazard_types.specs.Places.{Place}
+use Rattle.hazard_types.specs.declared.codes.Action.{Action}
+use Rattle.hazard_types.specs.declared.codes.Action.TheVariants.{New, Con, Exa, Ext, Exb, Upg, Can, Exp, Cor}
+use Rattle.hazard_types.specs.declared.hazard.Event.{Event}
+use Rattle.hazard_types.specs.declared.line.Line.{Line}
+use Rattle.hazard_types.specs.declared.line.Row.{Row}
+use Rattle.event_life.specs.declared.life.Breach.{Breach}
+use Rattle.event_life.specs.Products.{Product, speaks_of, judged, lawful_of, lines_of, rows_with}
+
+-- the lines of a product, each with its breach
+abbrev pub judged_product : List Row → Product → List (Line × Option Breach)
+judged_product rows p = judged rows p.issue (lines_of rows p.issue p.said)
+
+-- action and issue minute of those lines that speak of the event in the zone
+abbrev pub steps_of : ℕ → Event → Place → List Line → List (Action × ℕ)
+steps_of issue e z [] = []
+steps_of issue e z (line ∷ lines) = if speaks_of e z line then (line.action, issue) ∷ steps_of issue e z lines else steps_of issue e z lines
+
+abbrev pub track_from : List Row → List Product → Event → Place → List (Action × ℕ)
+track_from rows [] e z = []
+track_from rows (p ∷ products) e z = steps_of p.issue e z (lawful_of (judged_product rows p)) ++ track_from (rows_with rows p) products e z
+
+-- action and issue minute of the lawful lines of an event in a zone
+abbrev pub track_of : List Product → Event → Place → List (Action × ℕ)
+track_of products e z = track_from [] products e z
+
+-- none of the lines that speak of the event in the zone has a breach
+abbrev pub AreLawful : Event → Place → List (Line × Option Breach) → Type 0
+AreLawful e z [] = Unit {0}
+AreLawful e z (l ∷ ls) = (speaks_of e z l.0 ≡ true → l.1 ≡ None) × AreLawful e z ls
+
+abbrev pub IsLawfulFrom : List Row → List Product → Event → Place → Type 0
+IsLawfulFrom rows [] e z = Unit {0}
+IsLawfulFrom rows (p ∷ products) e z = AreLawful e z (judged_product rows p) × IsLawfulFrom (rows_with rows p) products e z
+
+-- the life of an event in a zone over a list of products is lawful
+abbrev pub IsLawfulLife : List Product → Event → Place → Type 0
+IsLawfulLife products e z = IsLawfulFrom [] products e z
+
+-- the shape of a life
+
+abbrev pub opens : Action → Bool
+opens New = true
+opens Exa = true
+opens Exb = true
+opens _ = false
+
+abbrev pub goes_on : Action → Bool
+goes_on Con = true
+goes_on Cor = true
+goes_on Ext = true
+goes_on _ = false
+
+abbrev pub ends : Action → Bool
+ends Can = true
+ends Exp = true
+ends Upg = true
+ends _ = false
+
+-- it goes on, and ends at most once, with nothing after that
+abbrev pub GoesOn : List Action → Type 0
+GoesOn [] = Unit {0}
+GoesOn (a ∷ more) = ((goes_on a ≡ true) × GoesOn more) ⊎ ((ends a ≡ true) × (more ≡ []))
+
+-- it opens, and goes on
+abbrev pub IsLifelong : List Action → Type 0
+IsLifelong [] = Unit {0}
+IsLifelong (a ∷ more) = (opens a ≡ true) × GoesOn more
+
+abbrev pub actions_of : List (Action × ℕ) → List Action
+actions_of steps = map (λ (s : Action × ℕ). s.0) steps

@@ -1,0 +1,71 @@
+//! Periods and rows at a minute.
+ghost use Rattle.std.specs.Prelude.{◌≡◌};
+ghost use Rattle.event_life.specs.Periods.{ends_after, ends_within, same_end, overlaps, same_at, is_live, keeps_open};
+
+use hazard_types::{End, Minute, Period, Row};
+
+/// Whether the end is after this minute. Until further notice always is.
+pub fn ends_after(end: &End, t: Minute) -> bool
+    ensures { result ≡ ends_after end.now t }
+{
+    match end {
+        End::At(minute) => t.get() < minute.get(),
+        End::Ufn => true,
+    }
+}
+
+/// Whether the end is at most half an hour before this minute, or after it.
+pub fn ends_within(end: &End, t: Minute) -> bool
+    ensures { result ≡ ends_within end.now t }
+{
+    match end {
+        End::At(minute) => t.get() <= minute.get() + 30,
+        End::Ufn => true,
+    }
+}
+
+/// Whether two ends are equal.
+pub fn same_end(a: &End, b: &End) -> bool
+    ensures { result ≡ same_end a.now b.now }
+{
+    match a {
+        End::At(m) => match b {
+            End::At(n) => m.get() == n.get(),
+            End::Ufn => false,
+        },
+        End::Ufn => match b {
+            End::At(_) => false,
+            End::Ufn => true,
+        },
+    }
+}
+
+/// Whether each begins before the other ends.
+pub fn overlaps(p: &Period, q: &Period) -> bool
+    ensures { result ≡ overlaps p.now q.now }
+{
+    ends_after(&q.end, p.begin) && ends_after(&p.end, q.begin)
+}
+
+/// Whether the ends are equal, and the begins are equal or both at most this minute.
+pub fn same_at(t: Minute, p: &Period, q: &Period) -> bool
+    ensures { result ≡ same_at t p.now q.now }
+{
+    let now = t.get();
+    let (b, c) = (p.begin.get(), q.begin.get());
+    same_end(&p.end, &q.end) && (b == c || (b <= now && c <= now))
+}
+
+/// Whether no line has ended the row, and this minute is before its end.
+pub fn is_live(row: &Row, t: Minute) -> bool
+    ensures { result ≡ is_live t row.now }
+{
+    !row.ended && ends_after(&row.period.end, t)
+}
+
+/// Whether no line has ended the row, and its end is at most half an hour past.
+pub fn keeps_open(row: &Row, t: Minute) -> bool
+    ensures { result ≡ keeps_open t row.now }
+{
+    !row.ended && ends_within(&row.period.end, t)
+}

@@ -1,0 +1,86 @@
+//! The names of desks.
+ghost use Rattle.std.specs.Prelude.{◌≡◌, ◌≤◌, ◌&&◌, if◌then◌else◌, length, nat_le, List, ℕ, IsTrue};
+ghost use Rattle.hazard_types.specs.Desks.{is_desk_name, is_name_byte, padded};
+ghost use Rattle.std.specs.List.{list_all};
+
+use std::marker::Model;
+
+/// The most characters of a desk's name.
+const MOST: usize = 16;
+
+/// A desk's name: 1 to 16 characters of `A` to `Z` and `0` to `9`.
+#[derive(Clone, Copy, Debug, PartialEq, Eq)]
+pub struct Desk {
+    // The name, and zeros behind it.
+    name: [u8; 16],
+    count: u8,
+}
+
+impl Model for Desk {
+    ghost use Rattle.std.specs.Prelude.{List, ℕ, take, length};
+    ghost use Rattle.hazard_types.specs.Desks.{IsName, padded, padded_back};
+
+    ghost Value = { List ℕ };
+
+    ghost view = { λ d. take d.count d.name };
+
+    ghost invariant = { λ d. IsName d.name d.count };
+
+    ghost inverse = { λ xs. record { name = padded xs; count = length xs } };
+
+    ghost inverse_ok = { λ d h. λ i. record { name = (padded_back d.name d.count h).0 i; count = (padded_back d.name d.count h).1 i } };
+}
+
+fn is_name_byte(byte: u8) -> bool
+    ensures { result ≡ is_name_byte byte }
+{
+    byte.is_ascii_uppercase() || byte.is_ascii_digit()
+}
+
+/// Whether all of these may stand in a name.
+fn are_name_bytes(bytes: &[u8]) -> bool
+    ensures { result ≡ list_all is_name_byte bytes.now }
+{
+    bytes.iter().all(|byte| is_name_byte(*byte))
+}
+
+/// Whether these bytes are a desk's name.
+fn is_desk_name(bytes: &[u8]) -> bool
+    ensures { result ≡ is_desk_name bytes.now }
+{
+    !bytes.is_empty() && bytes.len() <= MOST && are_name_bytes(bytes)
+}
+
+/// The bytes, and zeros behind them.
+fn padded(bytes: &[u8]) -> [u8; 16]
+    requires { length bytes.now ≤ 16 }
+    ensures { result ≡ padded bytes.now }
+{
+    let mut name = [0; 16];
+    name[..bytes.len()].copy_from_slice(bytes);
+    name
+}
+
+impl Desk {
+    /// The desk of this name, if it is one.
+    #[tactic(auto, using(crate::specs::Desks::padded_name, crate::specs::Desks::padded_take))]
+    pub fn new(bytes: &[u8]) -> Option<Self>
+        ensures { result ≡ (if is_desk_name bytes.now then Some bytes.now else None) }
+    {
+        if !is_desk_name(bytes) {
+            return None;
+        }
+        Some(Desk {
+            name: padded(bytes),
+            count: bytes.len() as u8,
+        })
+    }
+
+    /// The bytes of the name.
+    pub fn bytes(&self) -> &[u8]
+        ensures value { result.now ≡ self.now }
+        ensures name { IsTrue (is_desk_name result.now) }
+    {
+        &self.name[..usize::from(self.count)]
+    }
+}

@@ -1,0 +1,166 @@
+//! Hazards and events: what a code names.
+ghost use Rattle.std.specs.Prelude.{◌≡◌, if◌then◌else◌, IsTrue};
+ghost use Rattle.hazard_types.specs.Places.{are_letters};
+ghost use Rattle.hazard_types.specs.Orders.{sig_letter, by_letter, by_hazard, by_event};
+ghost use Rattle.std.proofs.Common.{rules};
+ghost use Rattle.std.specs.Cmp.{partial_order_from_own_ties};
+ghost use Rattle.std.specs.Cmp.Rules.{comparing};
+ghost use Rattle.std.specs.Ordering.{as_partial_cmp};
+
+use std::cmp::Ordering;
+use std::marker::Model;
+
+/// A phenomenon: two capital letters.
+#[derive(Clone, Copy, Debug, PartialEq, Eq, PartialOrd, Ord, Hash)]
+pub struct Phen {
+    letters: [u8; 2],
+}
+
+impl Model for Phen {
+    ghost use Rattle.std.specs.Prelude.{List, ℕ, IsTrue, ◌≡◌, length};
+    ghost use Rattle.hazard_types.specs.Places.{are_letters};
+
+    ghost Value = { List ℕ };
+
+    ghost view = { λ p. p.letters };
+
+    ghost invariant = { λ p. IsTrue (are_letters p.letters) × (length p.letters ≡ 2) };
+
+    ghost inverse = { λ xs. record { letters = xs } };
+}
+
+impl Phen {
+    /// The phenomenon of these letters, if both are capital letters.
+    pub fn new(letters: [u8; 2]) -> Option<Self>
+        ensures { result ≡ (if are_letters letters then Some letters else None) }
+    {
+        if letters[0].is_ascii_uppercase() && letters[1].is_ascii_uppercase() {
+            Some(Phen { letters })
+        } else {
+            None
+        }
+    }
+
+    /// The phenomenon of two capital letters.
+    pub(crate) fn of(letters: [u8; 2]) -> Self
+        requires { IsTrue (are_letters letters) }
+        ensures { result ≡ letters }
+    {
+        Phen { letters }
+    }
+
+    /// The two letters.
+    pub fn letters(self) -> [u8; 2]
+        ensures value { result ≡ self }
+    {
+        self.letters
+    }
+}
+
+/// A significance, as the last part of a hazard's code.
+#[derive(Clone, Copy, Debug, PartialEq, Eq, Hash)]
+pub enum Sig {
+    /// Warning.
+    W,
+    /// Watch.
+    A,
+    /// Advisory.
+    Y,
+    /// Statement.
+    S,
+    /// Forecast.
+    F,
+    /// Outlook.
+    O,
+    /// Synopsis.
+    N,
+}
+
+impl Sig {
+    /// The letter of the code.
+    pub fn letter(self) -> u8
+        ensures { result ≡ sig_letter self }
+    {
+        match self {
+            Sig::W => b'W',
+            Sig::A => b'A',
+            Sig::Y => b'Y',
+            Sig::S => b'S',
+            Sig::F => b'F',
+            Sig::O => b'O',
+            Sig::N => b'N',
+        }
+    }
+}
+
+impl Ord for Sig {
+    ghost cmp = { by_letter };
+
+    ghost total = { Prim.search (comparing, rules) };
+
+    ghost matches_partial_cmp = { Prim.search (comparing, rules) };
+
+    ghost matches_eq = { Prim.search (comparing, rules) };
+
+    fn cmp(&self, other: &Sig) -> Ordering {
+        self.letter().cmp(&other.letter())
+    }
+}
+
+impl PartialOrd for Sig {
+    ghost partial_cmp = { as_partial_cmp by_letter };
+
+    ghost laws = { partial_order_from_own_ties (Prim.search (comparing, rules)) (Prim.search (comparing, rules)) };
+
+    fn partial_cmp(&self, other: &Sig) -> Option<Ordering> {
+        Some(self.cmp(other))
+    }
+}
+
+/// A hazard's code, as `WS.W`: in order by phenomenon, then by the letter of the significance.
+#[derive(Clone, Copy, Debug, PartialEq, Eq, Hash)]
+pub struct Hazard {
+    pub phen: Phen,
+    pub sig: Sig,
+}
+
+impl Ord for Hazard {
+    ghost cmp = { by_hazard };
+
+    ghost total = { Prim.search (comparing, rules) };
+
+    ghost matches_partial_cmp = { Prim.search (comparing, rules) };
+
+    ghost matches_eq = { Prim.search (comparing, rules) };
+
+    fn cmp(&self, other: &Hazard) -> Ordering {
+        self.phen.cmp(&other.phen).then(self.sig.cmp(&other.sig))
+    }
+}
+
+impl PartialOrd for Hazard {
+    ghost partial_cmp = { as_partial_cmp by_hazard };
+
+    ghost laws = { partial_order_from_own_ties (Prim.search (comparing, rules)) (Prim.search (comparing, rules)) };
+
+    fn partial_cmp(&self, other: &Hazard) -> Option<Ordering> {
+        Some(self.cmp(other))
+    }
+}
+
+/// One event of a hazard: its number (ETN) and the year in which it was opened.
+#[derive(Clone, Copy, Debug, PartialEq, Eq, PartialOrd, Ord, Hash)]
+pub struct Event {
+    pub hazard: Hazard,
+    pub etn: u16,
+    pub year: u16,
+}
+
+impl Event {
+    /// How two events stand in the order of events: by phenomenon, letter, number, year.
+    pub fn order(&self, other: &Event) -> Ordering
+        ensures { result ≡ by_event self.now other.now }
+    {
+        self.cmp(other)
+    }
+}
