@@ -2,16 +2,16 @@
 use Rattle.std.specs.Prelude.{◌==◌, ◌&&◌, ◌+◌, ◌-◌, ◌*◌, ℕ, List, [], ◌∷◌, length, slice_index, nat_lt, if◌then◌else◌, Option, Some, None, option_map, codes}
 use Rattle.std.specs.Str.{bytes_eq}
 use Rattle.hazard_types.specs.Calendar.{stamp_at, is_digit}
-use Rattle.hazard_types.specs.Zones.{Place, is_capital}
+use Rattle.hazard_types.specs.Places.{Place, is_capital}
 use Rattle.hazard_types.specs.declared.zone.Kind.{Kind}
 use Rattle.hazard_types.specs.declared.zone.Kind.TheVariants as kind
-use Rattle.hazard_types.specs.declared.codes.Sig.{Sig}
-use Rattle.hazard_types.specs.declared.codes.Sig.TheVariants as sig
-use Rattle.hazard_types.specs.declared.codes.Hazard.{Hazard}
-use Rattle.request_json.specs.declared.fields.Begin.{Begin}
-use Rattle.request_json.specs.declared.fields.Begin.TheVariants as begin
-use Rattle.request_json.specs.declared.fields.End.{End}
-use Rattle.request_json.specs.declared.fields.End.TheVariants as end
+use Rattle.hazard_types.specs.declared.hazard.Sig.{Sig}
+use Rattle.hazard_types.specs.declared.hazard.Sig.TheVariants as sig
+use Rattle.hazard_types.specs.declared.hazard.Hazard.{Hazard}
+use Rattle.hazard_types.specs.declared.period.Begin.{Begin}
+use Rattle.hazard_types.specs.declared.period.Begin.TheVariants as begin
+use Rattle.hazard_types.specs.declared.period.End.{End}
+use Rattle.hazard_types.specs.declared.period.End.TheVariants as end
 
 abbrev pub sig_at : ℕ → Option Sig
 sig_at c = if c == 87 then Some sig.W else (if c == 65 then Some sig.A else (if c == 89 then Some sig.Y else (if c == 83 then Some sig.S else (if c == 70 then Some sig.F else (if c == 79 then Some sig.O else (if c == 78 then Some sig.N else None))))))

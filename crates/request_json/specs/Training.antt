@@ -5,12 +5,12 @@ use Rattle.std.specs.Str.{bytes_eq}
 use Rattle.serde_json.specs.Data.{Data, Items, no_items, item, Members, no_members, member}
 use Rattle.serde_json.specs.Find.{get, as_str, as_array, as_object}
 use Rattle.hazard_types.specs.Given.{◌>>=◌}
-use Rattle.hazard_types.specs.Zones.{Place}
-use Rattle.hazard_types.specs.declared.codes.Hazard.{Hazard}
+use Rattle.hazard_types.specs.Places.{Place}
+use Rattle.hazard_types.specs.declared.hazard.Hazard.{Hazard}
 use Rattle.request_json.specs.Fields.{hazard_at, zone_at, begin_at, end_at}
 use Rattle.request_json.specs.Json.{json_of, text_at}
-use Rattle.request_json.specs.declared.fields.Begin.{Begin}
-use Rattle.request_json.specs.declared.fields.End.{End}
+use Rattle.hazard_types.specs.declared.period.Begin.{Begin}
+use Rattle.hazard_types.specs.declared.period.End.{End}
 use Rattle.request_json.specs.declared.training.Field.TheVariants as field
 use Rattle.request_json.specs.declared.training.TrainingRefusal.{TrainingRefusal}
 use Rattle.request_json.specs.declared.training.TrainingRefusal.TheVariants.{NotJson, WrongShape}

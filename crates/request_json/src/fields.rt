@@ -2,21 +2,7 @@
 ghost use Rattle.std.specs.Prelude.{◌≡◌};
 ghost use Rattle.request_json.specs.Fields.{sig_at, kind_at, hazard_at, zone_at, begin_at, end_at};
 
-use hazard_types::{Hazard, Kind, Minute, Phen, Sig, Zone, read_stamp};
-
-/// When an event begins.
-#[derive(Clone, Copy, Debug, PartialEq, Eq)]
-pub enum Begin {
-    Now,
-    At(Minute),
-}
-
-/// When an event ends: at a minute, or on further notice.
-#[derive(Clone, Copy, Debug, PartialEq, Eq)]
-pub enum End {
-    At(Minute),
-    Ufn,
-}
+use hazard_types::{Begin, End, Hazard, Kind, Minute, Phen, Sig, Zone, read_stamp};
 
 fn sig_of(code: u8) -> Option<Sig>
     ensures { result ≡ sig_at code }

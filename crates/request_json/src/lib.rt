@@ -4,7 +4,6 @@
 mod fields;
 mod training;
 
-pub use fields::{Begin, End};
 pub use training::{Field, Part, Training, TrainingRefusal, read_training};
 
 #[cfg(test)]

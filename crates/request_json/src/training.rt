@@ -5,8 +5,8 @@ ghost use Rattle.serde_json.specs.View.{view, items_view, members_view};
 ghost use Rattle.request_json.specs.Json.{json_of, text_at};
 ghost use Rattle.request_json.specs.Training.{is_issue, is_known, all_known, zones_at, hazard_field, zones_field, begin_field, end_field, training_in, training_of};
 
-use crate::fields::{Begin, End, begin_of, end_of, hazard_of, zone_of};
-use hazard_types::{Hazard, List, Minute, Oom, Or, Zone};
+use crate::fields::{begin_of, end_of, hazard_of, zone_of};
+use hazard_types::{Begin, End, Hazard, List, Minute, Oom, Or, Zone};
 use serde_json::{Map, Value};
 use std::alloc::Global;
 

@@ -1,8 +1,8 @@
 -- How a run ends.
-use Rattle.std.proofs.Common.{ℕ, ◌≡◌, ◌≤◌, ◌<◌, ◌+◌, ◌-◌, min, List, [], ◌∷◌, ◌++◌, length, take, drop, refl, ap, sym, ◌∙◌, append_assoc, Option, Result, Ok, Err, OnOk, IsErrOf, arith, length-append, append-nil}
-use Rattle.std.proofs.lemmas.List.{take-append-drop, length-take, take_all}
+use Rattle.std.proofs.Common.{ℕ, ◌≡◌, ◌≤◌, ◌<◌, ◌+◌, ◌-◌, min, List, [], ◌∷◌, ◌++◌, length, take, drop, refl, ap, sym, ◌∙◌, append_assoc, Option, Result, Ok, Err, OnOk, IsErrOf, IsErrAnd, arith, length-append, append-nil}
+use Rattle.std.proofs.lemmas.List.{take-append-drop, take-append-le, length-take, take_all}
 use Rattle.std.proofs.Math.Seq.{take-append-add}
-use Rattle.hazard_types.specs.Zones.{Place}
+use Rattle.hazard_types.specs.Places.{Place}
 use Rattle.desk_traits.specs.Streams.{Adds, Takes, IsAtEnd}
 use Rattle.desk_traits.proofs.Pieces.{takes_both}
 use Rattle.warn_main.specs.declared.run.Stop.{Stop}
@@ -11,56 +11,70 @@ use Rattle.warn_main.specs.declared.words.Dry.{Dry}
 use Rattle.warn_main.specs.Lines.{Pending, rest_from, fit}
 use Rattle.warn_main.specs.Answers.{answers_to, answers_so_far, line_reply}
 use Rattle.warn_main.specs.Runs.{Begins, AddsFront, Feeds, FeedsSome, Ends, limit}
-use Rattle.warn_main.proofs.Running.{Ran, so_far_front, so_far_begins, ran_adds, ran_out, ran_some, ran_cut, ran_out_cut}
+use Rattle.warn_main.proofs.Running.{Ran, so_far_front, so_far_begins, ran_more, ran_adds, ran_out, ran_some, ran_cut, ran_out_cut}
 
-ok_absurd : {T E : Type 0} (r : Result T E) (P : Type 0) → OnOk r ⊥ → OnOk r P
-ok_absurd (Ok x) P h = absurd h
-ok_absurd (Err e) P h = tt
+-- the reason of a result that has it
+pub stops_by : {T : Type 0} (result : Result T Stop) (why : Stop) → IsErrAnd result (λ e. e ≡ why) → result ≡ Err why
+stops_by (Ok x) why h = absurd h
+stops_by (Err e) why h = ap (λ (s : Stop). Err s) h
+
+-- a front of a chunk that stands in a buffer
+pub front_part : (buffer : List ℕ) (count n : ℕ) → n ≤ count → count ≤ length buffer → take n buffer ≡ take n (take count buffer)
+front_part buffer count n few fits =
+    let short : n ≤ length (take count buffer) = omega (arith, length-take count buffer) in
+    ap (λ (l : List ℕ). take n l) (sym (take-append-drop count buffer)) ∙ take-append-le n (take count buffer) (drop count buffer) short
 
 module _ (dry : Dry) (left taken : Option (List ℕ)) (done : List Place) (line : Pending) (total : ℕ) (mid mid' : Option (List ℕ)) where
   -- a read failed
   pub ends_read : {T : Type 0} → Ran dry left taken done line total mid mid' → total ≤ limit → (left' : Option (List ℕ)) → left' ≡ mid → Ends {T = T} dry left left' taken mid' (Err stop.Read)
   ends_read ran few left' same = record {
-      read = ran.read;
-      written = answers_so_far dry ran.read;
-      takes = rw same ran.takes;
-      adds = ran.adds;
-      within = omega (arith, ran.total_is);
-      ended = tt;
-      read_fault = λ _. (omega (arith, ran.total_is), refl);
-      too_long = λ e. absurd (cc);
-      some = so_far_front dry ran.read;
-    }
+    read = ran.read;
+    written = answers_so_far dry ran.read;
+    takes = rw same ran.takes;
+    adds = ran.adds;
+    within = omega (arith, ran.total_is);
+    ended = tt;
+    read_fault = λ _. (omega (arith, ran.total_is), refl);
+    too_long = λ e. absurd (cc);
+    some = so_far_front dry ran.read;
+  }
 
   -- the input's end was read, and its last line answered
   pub ends_done : {T : Type 0} (x : T) → (ran : Ran dry left taken done line total mid mid') → total ≤ limit → (chunk : List ℕ) (left' : Option (List ℕ)) → Takes mid left' chunk → chunk ≡ [] → IsAtEnd left'
       → (text : List ℕ) (taken' : Option (List ℕ)) → Adds mid' taken' text → text ≡ (line_reply dry done (fit (rest_from [] ran.read))).0 → Ends dry left left' taken taken' (Ok x)
   ends_done x ran few chunk left' takes none at_end text taken' adds text_is = record {
-      read = ran.read;
-      written = answers_to dry ran.read;
-      takes = takes_both _ _ _ _ _ _ ran.takes takes (rw none (append-nil ran.read));
-      adds = ran_out dry left taken done line total mid mid' ran text taken' adds text_is;
-      within = omega (arith, ran.total_is);
-      ended = (at_end, omega (arith, ran.total_is), refl);
-      read_fault = λ e. absurd (cc);
-      too_long = λ e. absurd (cc);
-      some = ([], sym (append-nil (answers_to dry ran.read)));
-    }
+    read = ran.read;
+    written = answers_to dry ran.read;
+    takes = takes_both _ _ _ _ _ _ ran.takes takes (rw none (append-nil ran.read));
+    adds = ran_out dry left taken done line total mid mid' ran text taken' adds text_is;
+    within = omega (arith, ran.total_is);
+    ended = (at_end, omega (arith, ran.total_is), refl);
+    read_fault = λ e. absurd (cc);
+    too_long = λ e. absurd (cc);
+    some = ([], sym (append-nil (answers_to dry ran.read)));
+  }
 
   -- memory lacked, or a write failed
-  pub ends_some : {T : Type 0} (result : Result T Stop) → (ran : Ran dry left taken done line total mid mid') → total ≤ limit → (chunk : List ℕ) (left' : Option (List ℕ)) → Takes mid left' chunk → total + length chunk ≤ limit + 1
-      → (taken' : Option (List ℕ)) → AddsFront taken taken' (answers_to dry (ran.read ++ chunk)) → OnOk result ⊥ → (IsErrOf result stop.Read → ⊥) → (IsErrOf result stop.TooLong → ⊥) → Ends dry left left' taken taken' result
-  ends_some result ran few chunk left' takes within taken' some no_ok no_read no_long = record {
-      read = ran.read ++ chunk;
-      written = some.front;
-      takes = takes_both _ _ _ _ _ _ ran.takes takes refl;
-      adds = some.adds;
-      within = omega (arith, ran.total_is, length-append ran.read chunk);
-      ended = ok_absurd result _ no_ok;
-      read_fault = λ e. absurd (no_read e);
-      too_long = λ e. absurd (no_long e);
-      some = some.begins;
-    }
+  pub ends_some : {T : Type 0} (why : Stop) → (why ≡ stop.Read → ⊥) → (why ≡ stop.TooLong → ⊥) → (ran : Ran dry left taken done line total mid mid') → total ≤ limit → (chunk : List ℕ) (left' : Option (List ℕ)) → Takes mid left' chunk → total + length chunk ≤ limit + 1
+      → (taken' : Option (List ℕ)) → AddsFront taken taken' (answers_to dry (ran.read ++ chunk)) → Ends {T = T} dry left left' taken taken' (Err why)
+  ends_some why no_read no_long ran few chunk left' takes within taken' some = record {
+    read = ran.read ++ chunk;
+    written = some.front;
+    takes = takes_both _ _ _ _ _ _ ran.takes takes refl;
+    adds = some.adds;
+    within = omega (arith, ran.total_is, length-append ran.read chunk);
+    ended = tt;
+    read_fault = λ e. absurd (no_read (cc));
+    too_long = λ e. absurd (no_long (cc));
+    some = some.begins;
+  }
+
+  -- a chunk was answered, and all of it is within the limit
+  pub ran_next : (ran : Ran dry left taken done line total mid mid') → (chunk part : List ℕ) (n : ℕ) → part ≡ take n chunk → length chunk ≤ n → (after : List Place) (begun : Pending) (more : ℕ) (left' taken' : Option (List ℕ))
+      → Takes mid left' chunk → Feeds dry done (rest_from [] ran.read) part mid' after begun taken' → more ≡ total + length chunk → Ran dry left taken after begun more left' taken'
+  ran_next ran chunk part n part_is whole after begun more left' taken' takes feeds more_is =
+      let same : part ≡ chunk = part_is ∙ take_all n chunk whole in
+      ran_more dry left taken done line total mid mid' ran chunk after begun more left' taken' takes (rw same at feeds) more_is
 
   -- where memory lacked for the answer to the last line
   pub some_before : (ran : Ran dry left taken done line total mid mid') → (chunk : List ℕ) → AddsFront taken mid' (answers_to dry (ran.read ++ chunk))

@@ -2,7 +2,7 @@
 use Rattle.std.proofs.Common.{ℕ, ◌≡◌, ◌≢◌, ◌<◌, ◌+◌, ◌==◌, ◌≤◌, List, [], ◌∷◌, ◌++◌, length, get_or, take, drop, refl, ap, sym, ◌∙◌, append_assoc, Option, false, inl, inr}
 use Rattle.std.proofs.lemmas.Bool.Decides.{eqb_tells}
 use Rattle.std.proofs.lemmas.List.{drop_more, take-append-drop}
-use Rattle.hazard_types.specs.Zones.{Place}
+use Rattle.hazard_types.specs.Places.{Place}
 use Rattle.desk_traits.specs.Streams.{Adds}
 use Rattle.desk_traits.proofs.Pieces.{adds_both}
 use Rattle.warn_main.specs.declared.words.Dry.{Dry}
@@ -71,7 +71,10 @@ module _ (dry : Dry) (zones : List Place) (begun chunk : List ℕ) (taken : Opti
       fed.told ∙ rw (left, is) refl in
       record {
         front = fed.written ++ take n text;
-        begins = (rest, told ∙ ap (λ (t : List ℕ). fed.written ++ (t ++ answers dry after (lines_from [] (drop (i + 1) chunk)))) (sym (take-append-drop n text))
-            ∙ ap (λ (t : List ℕ). fed.written ++ t) (append_assoc (take n text) (drop n text) _) ∙ sym (append_assoc fed.written (take n text) rest));
+        begins = (
+          rest,
+          told ∙ ap (λ (t : List ℕ). fed.written ++ (t ++ answers dry after (lines_from [] (drop (i + 1) chunk)))) (sym (take-append-drop n text))
+              ∙ ap (λ (t : List ℕ). fed.written ++ t) (append_assoc (take n text) (drop n text) _) ∙ sym (append_assoc fed.written (take n text) rest),
+        );
         adds = adds_both _ _ _ _ _ _ fed.added add refl;
       }

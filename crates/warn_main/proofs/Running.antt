@@ -1,7 +1,7 @@
 -- Chunks that are read one after another.
 use Rattle.std.proofs.Common.{ℕ, ◌≡◌, ◌≤◌, ◌+◌, ◌==◌, true, false, cond, List, [], ◌∷◌, ◌++◌, length, take, drop, refl, ap, sym, ◌∙◌, append_assoc, Option, arith, length-append, append-nil}
 use Rattle.std.proofs.lemmas.List.{take-append-drop, take-append-le, take_at}
-use Rattle.hazard_types.specs.Zones.{Place}
+use Rattle.hazard_types.specs.Places.{Place}
 use Rattle.desk_traits.specs.Streams.{Adds, Takes}
 use Rattle.desk_traits.proofs.Pieces.{adds_both, takes_both}
 use Rattle.warn_main.specs.declared.words.Dry.{Dry}

@@ -1,13 +1,13 @@
 -- The answers to lines, as bytes.
 use Rattle.std.specs.Prelude.{ℕ, ◌+◌, ◌==◌, min, Bool, false, List, [], ◌∷◌, ◌++◌, length, if◌then◌else◌, Option, Some, None, codes, decimal, Result, Ok, Err}
-use Rattle.hazard_types.specs.Zones.{Place}
+use Rattle.hazard_types.specs.Places.{Place}
 use Rattle.hazard_types.specs.Days.{day_stamp_of}
 use Rattle.hazard_types.specs.declared.codes.Class.TheVariants as class
 use Rattle.hazard_types.specs.declared.codes.Action.TheVariants as action
-use Rattle.hazard_types.specs.declared.codes.Sig.TheVariants as sig
-use Rattle.hazard_types.specs.declared.codes.Vtec.{Vtec}
-use Rattle.ugc_codes.specs.Ugc.{ugc_text}
-use Rattle.vtec_string.specs.Text.{vtec_text}
+use Rattle.hazard_types.specs.declared.hazard.Sig.TheVariants as sig
+use Rattle.hazard_types.specs.declared.line.Vtec.{Vtec}
+use Rattle.ugc_codes.specs.Written.{ugc_text}
+use Rattle.vtec_string.specs.Columns.{vtec_text}
 use Rattle.request_json.specs.declared.training.Part.{Part}
 use Rattle.request_json.specs.declared.training.Part.TheVariants as part
 use Rattle.request_json.specs.declared.training.Field.{Field}
@@ -64,7 +64,7 @@ expiry_of now end = min (now + 480) end
 
 -- the four lines of an accepted issue
 unfoldable pub accepted_text : Dry → ℕ → Accepted → List ℕ
-accepted_text dry number a = ugc_text a.zone (day_stamp_of (expiry_of dry.minute a.end)) ++ codes "\n" ++ vtec_text (training_vtec dry number a) ++ codes "\n$$\n\n"
+accepted_text dry number a = ugc_text (a.zone ∷ []) (day_stamp_of (expiry_of dry.minute a.end)) ++ codes "\n" ++ vtec_text (training_vtec dry number a) ++ codes "\n$$\n\n"
 
 -- a line's answer, and the zones that are accepted after it
 abbrev pub answered : Dry → List Place → Result Accepted TrainingRefusal → List ℕ × List Place

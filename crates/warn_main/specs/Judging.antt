@@ -3,17 +3,17 @@ use Rattle.std.specs.Prelude.{ℕ, ◌==◌, ◌&&◌, not, Bool, true, false, L
 use Rattle.std.specs.List.{list_any}
 use Rattle.std.specs.Str.{bytes_eq}
 use Rattle.hazard_types.specs.Given.{◌>>=◌}
-use Rattle.hazard_types.specs.Zones.{Place}
-use Rattle.hazard_types.specs.declared.codes.Hazard.{Hazard}
-use Rattle.hazard_types.specs.declared.codes.Sig.{Sig}
-use Rattle.hazard_types.specs.declared.codes.Sig.TheVariants as sig
+use Rattle.hazard_types.specs.Places.{Place}
+use Rattle.hazard_types.specs.declared.hazard.Hazard.{Hazard}
+use Rattle.hazard_types.specs.declared.hazard.Sig.{Sig}
+use Rattle.hazard_types.specs.declared.hazard.Sig.TheVariants as sig
 use Rattle.hazard_types.specs.declared.zone.Kind.{Kind}
 use Rattle.hazard_types.specs.declared.zone.Kind.TheVariants as kind
 use Rattle.request_json.specs.Training.{training_of}
-use Rattle.request_json.specs.declared.fields.Begin.{Begin}
-use Rattle.request_json.specs.declared.fields.Begin.TheVariants as begin
-use Rattle.request_json.specs.declared.fields.End.{End}
-use Rattle.request_json.specs.declared.fields.End.TheVariants as end
+use Rattle.hazard_types.specs.declared.period.Begin.{Begin}
+use Rattle.hazard_types.specs.declared.period.Begin.TheVariants as begin
+use Rattle.hazard_types.specs.declared.period.End.{End}
+use Rattle.hazard_types.specs.declared.period.End.TheVariants as end
 use Rattle.request_json.specs.declared.training.Part.{Part}
 use Rattle.request_json.specs.declared.training.Part.TheVariants as part
 use Rattle.request_json.specs.declared.training.TrainingRefusal.{TrainingRefusal}

@@ -4,7 +4,7 @@ use Rattle.desk_traits.specs.Streams.{Takes, Adds, IsAtEnd}
 use Rattle.warn_main.specs.declared.run.Stop.{Stop}
 use Rattle.warn_main.specs.declared.run.Stop.TheVariants as stop
 use Rattle.warn_main.specs.declared.words.Dry.{Dry}
-use Rattle.hazard_types.specs.Zones.{Place}
+use Rattle.hazard_types.specs.Places.{Place}
 use Rattle.warn_main.specs.Lines.{Pending, pending_of, lines_from, rest_from}
 use Rattle.warn_main.specs.Answers.{answers, zones_after, answers_to, answers_so_far}
 

@@ -2,13 +2,9 @@
 use Rattle.std.specs.Prelude.{ℕ, ◌==◌, ◌&&◌, ◌||◌, Bool, List, [], ◌∷◌, length, if◌then◌else◌, Option, Some, None, option_map, codes}
 use Rattle.std.specs.List.{list_all}
 use Rattle.std.specs.Str.{bytes_eq}
-use Rattle.hazard_types.specs.Calendar.{stamp_at, is_digit}
-use Rattle.hazard_types.specs.Zones.{is_capital}
+use Rattle.hazard_types.specs.Calendar.{stamp_at}
+use Rattle.vtec_string.specs.Columns.{is_office}
 use Rattle.warn_main.specs.declared.words.Dry.{Dry}
-
--- four of A to Z and 0 to 9
-abbrev pub is_office : List ℕ → Bool
-is_office bytes = (length bytes == 4) && list_all (λ c. is_capital c || is_digit c) bytes
 
 -- the office and the minute of `dry OFFICE STAMP`, which are all the words
 unfoldable pub dry_words : List (List ℕ) → Option Dry

@@ -1,11 +1,14 @@
 //! The answers to lines, as bytes.
-ghost use Rattle.std.specs.Prelude.{◌≡◌, ◌≤◌, ◌<◌, ◌+◌, length, IfOk, OnOk, OnErr, codes, string_bytes, min, option_map};
+ghost use Rattle.std.specs.Prelude.{◌≡◌, ◌≤◌, ◌<◌, ◌+◌, length, IsTrue, IfOk, OnOk, OnErr, codes, string_bytes, min, option_map};
+ghost use Rattle.hazard_types.specs.Days.{day_stamp_of};
+ghost use Rattle.ugc_codes.specs.Grammar.{is_day_stamp};
+ghost use Rattle.vtec_string.specs.Columns.{is_office};
 ghost use Rattle.warn_main.specs.Answers.{field_name, part_name, refusal_text, accepted_text, expiry_of, is_empty, line_reply};
 
 use crate::judge::{Accepted, verdict};
 use crate::words::Dry;
 use hazard_types::{
-    Action, Class, Hazard, List, Minute, Oom, Or, Phen, Sig, Text, Vtec, Zone, day_stamp,
+    Action, Class, DayStamp, Hazard, List, Minute, Oom, Or, Phen, Sig, Text, Vtec, Zone, civil_of,
 };
 use request_json::{Field, Part, TrainingRefusal};
 use std::alloc::{AllocError, Global};
@@ -78,6 +81,20 @@ fn expiry_of(now: Minute, end: Minute) -> Minute
     }
 }
 
+/// The day stamp of a minute, which is that of a day.
+#[tactic(auto, using(crate::proofs::Expiries::is_day))]
+fn expiry_stamp(minute: Minute) -> DayStamp
+    ensures value { result ≡ day_stamp_of minute }
+    ensures day { IsTrue (is_day_stamp result) }
+{
+    let civil = civil_of(minute);
+    DayStamp {
+        day: civil.day,
+        hour: civil.hour,
+        minute: civil.minute,
+    }
+}
+
 fn winter_storm() -> Hazard
     ensures { result ≡ record { phen = codes "WS"; sig = Sig.W } }
 {
@@ -88,14 +105,15 @@ fn winter_storm() -> Hazard
 /// The four lines of an accepted issue.
 #[tactic(auto, unfolding(crate::specs::Answers::accepted_text))]
 fn accepted_text(alloc: Global, dry: &Dry, number: u16, accepted: &Accepted) -> Result<Text, Oom>
-    requires { number ≤ 9999 }
+    requires office { IsTrue (is_office dry.now.office) }
+    requires number { number ≤ 9999 }
     ensures { IfOk result (λ text. text ≡ accepted_text dry.now number accepted.now) }
 {
     let expiry = expiry_of(dry.minute, accepted.end);
     let mut zones = List::new(alloc);
     let zone = accepted.zone;
     zones.push(zone)?;
-    let mut text = write_ugc(alloc, &zones, day_stamp(expiry))?;
+    let mut text = write_ugc(alloc, &zones, expiry_stamp(expiry))?;
     text.extend(b"\n")?;
     let office = dry.office;
     text.extend(&vtec_text(&Vtec {
@@ -128,7 +146,8 @@ pub fn line_reply(
     done: &mut List<Zone>,
     line: Option<&[u8]>,
 ) -> Result<Text, Oom>
-    requires { length done.old ≤ 999 }
+    requires office { IsTrue (is_office dry.now.office) }
+    requires few { length done.old ≤ 999 }
     ensures text { IfOk result (λ text. text ≡ (line_reply dry.now done.old (option_map (λ bytes. bytes.now) line.entry)).0) }
     ensures done { OnOk result (done.new ≡ (line_reply dry.now done.old (option_map (λ bytes. bytes.now) line.entry)).1) }
     ensures few { length done.new ≤ 999 }

@@ -49,6 +49,10 @@ pub fn desk_run<S: Source, K: Sink>(
     // A fault is told only where a count rose.
     ensures read_fault { result ≡ 7 → Rose (S.faults input.old) (S.faults input.new) }
     ensures write_fault { result ≡ 8 → Rose (K.faults output.old) (K.faults output.new) }
+
+    // Where no count rose, the lines of a command are answered to the input's end or its limit, or memory lacked.
+    ensures complete { IsSome (dry_words words.now) → ¬ Rose (S.faults input.old) (S.faults input.new) → ¬ Rose (K.faults output.old) (K.faults output.new)
+        → (result ≡ 0) ⊎ (result ≡ 12) ⊎ (result ≡ 13) }
 {
     let Some(dry) = dry_words(words) else {
         return fault(output, b"fault Usage\n", USAGE);

@@ -4,8 +4,8 @@ ghost use Rattle.std.specs.List.{list_any};
 ghost use Rattle.hazard_types.specs.Given.{Gives};
 ghost use Rattle.warn_main.specs.Judging.{same_place, is_winter_storm, only_zone, is_fresh, judged, verdict};
 
-use hazard_types::{Hazard, Kind, List, Minute, Or, Sig, Zone};
-use request_json::{Begin, End, Part, Training, TrainingRefusal, read_training};
+use hazard_types::{Begin, End, Hazard, Kind, List, Minute, Or, Sig, Zone};
+use request_json::{Part, Training, TrainingRefusal, read_training};
 use std::alloc::Global;
 
 /// An issue that is accepted: its zone, and when it ends.

@@ -1,6 +1,8 @@
 //! The run over the lines of a source.
-ghost use Rattle.std.specs.Prelude.{◌≡◌, ◌≤◌, [], ℕ, List, length, OnOk, OnErr, IsErrOf};
-ghost use Rattle.desk_traits.specs.Faults.{Rose};
+ghost use Rattle.std.specs.Prelude.{◌≡◌, ◌≤◌, ◌<◌, [], ℕ, List, length, take, IsTrue, Ok, IfOk, OnOk, OnErr, IsErrOf};
+ghost use Rattle.desk_traits.specs.Faults.{Rose, HasCause};
+ghost use Rattle.desk_traits.specs.Streams.{Takes, IsAtEnd};
+ghost use Rattle.vtec_string.specs.Columns.{is_office};
 ghost use Rattle.warn_main.specs.Lines.{pending_of};
 ghost use Rattle.warn_main.specs.Runs.{Ends, Feeds, FeedsSome};
 
@@ -49,7 +51,8 @@ fn feed<K: Sink>(
     chunk: &[u8],
     sink: &mut K,
 ) -> Result<(), Stop>
-    requires { length done.old ≤ 999 }
+    requires office { IsTrue (is_office dry.now.office) }
+    requires few { length done.old ≤ 999 }
     ensures fed { OnOk result ((begun : List ℕ) → line.old ≡ pending_of begun
         → Feeds dry.now done.old begun chunk.now (K.taken sink.old) done.new line.new (K.taken sink.new)) }
     ensures some { OnErr result ((begun : List ℕ) → line.old ≡ pending_of begun
@@ -71,6 +74,18 @@ fn feed<K: Sink>(
     Ok(())
 }
 
+/// Reads at most `room` bytes into the front of the buffer.
+fn read_front<S: Source>(input: &mut S, buffer: &mut [u8], room: usize) -> Result<usize, Failed>
+    requires { room ≤ length buffer.old }
+    ensures taken { IfOk result (λ count. (count ≤ room) × (count ≤ length buffer.new) × Takes (S.left input.old) (S.left input.new) (take count buffer.new)) }
+    ensures ended { result ≡ Ok 0 → 0 < room → IsAtEnd (S.left input.new) }
+    ensures failed { OnErr result (S.left input.new ≡ S.left input.old) }
+    ensures cause { HasCause (S.faults input.old) (S.faults input.new) result }
+{
+    let count = input.read(&mut buffer[..room])?;
+    Ok(count)
+}
+
 /// The most bytes of an input that is answered to its end.
 const LIMIT: usize = 1_073_741_824;
 
@@ -81,6 +96,7 @@ pub fn run_lines<S: Source, K: Sink>(
     input: &mut S,
     output: &mut K,
 ) -> Result<(), Stop>
+    requires { IsTrue (is_office dry.now.office) }
     ensures ends { Ends dry.now (S.left input.old) (S.left input.new) (K.taken output.old) (K.taken output.new) result }
     ensures read { IsErrOf result Stop.Read → Rose (S.faults input.old) (S.faults input.new) }
     ensures write { IsErrOf result Stop.Write → Rose (K.faults output.old) (K.faults output.new) }
@@ -92,7 +108,7 @@ pub fn run_lines<S: Source, K: Sink>(
     let mut total = 0usize;
     for _turn in 0..LIMIT + 1 {
         let room = (LIMIT + 1 - total).min(buffer.len());
-        let count = match input.read(&mut buffer[..room]) {
+        let count = match read_front(input, &mut buffer, room) {
             Ok(count) => count,
             Err(Failed) => return Err(Stop::Read),
         };

@@ -1,9 +1,10 @@
 //! The words of the command line.
-ghost use Rattle.std.specs.Prelude.{◌≡◌, ◌||◌, Some, None, if◌then◌else◌};
+ghost use Rattle.std.specs.Prelude.{◌≡◌, ◌||◌, IsTrue, IfSome, Some, None, if◌then◌else◌};
 ghost use Rattle.std.specs.List.{list_all};
 ghost use Rattle.hazard_types.specs.Calendar.{is_digit};
-ghost use Rattle.hazard_types.specs.Zones.{is_capital};
-ghost use Rattle.warn_main.specs.Words.{dry_words, is_office};
+ghost use Rattle.hazard_types.specs.Places.{is_capital};
+ghost use Rattle.vtec_string.specs.Columns.{is_office};
+ghost use Rattle.warn_main.specs.Words.{dry_words};
 
 use hazard_types::{List, Minute, Text, read_stamp};
 
@@ -25,7 +26,8 @@ fn are_office_letters(word: &[u8]) -> bool
 /// The office that a word names.
 #[tactic(auto, using(crate::proofs::Shapes::four_is))]
 fn office_of(word: &[u8]) -> Option<[u8; 4]>
-    ensures { result ≡ (if is_office word.now then Some word.now else None) }
+    ensures value { result ≡ (if is_office word.now then Some word.now else None) }
+    ensures office { IfSome result (λ office. IsTrue (is_office office)) }
 {
     let [first, second, third, fourth] = word else {
         return None;
@@ -40,7 +42,8 @@ fn office_of(word: &[u8]) -> Option<[u8; 4]>
 /// The office and the minute of the words `dry OFFICE STAMP`.
 #[tactic(auto, unfolding(crate::specs::Words::dry_words))]
 pub fn dry_words(words: &List<Text>) -> Option<Dry>
-    ensures { result ≡ dry_words words.now }
+    ensures value { result ≡ dry_words words.now }
+    ensures office { IfSome result (λ dry. IsTrue (is_office dry.office)) }
 {
     let [command, office, stamp] = words.as_slice() else {
         return None;

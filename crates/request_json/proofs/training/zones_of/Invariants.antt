@@ -1,5 +1,5 @@
 use Rattle.std.proofs.Common.{◌≡◌, ◌++◌, List, drop, option_map}
-use Rattle.hazard_types.specs.Zones.{Place}
+use Rattle.hazard_types.specs.Places.{Place}
 use Rattle.serde_json.specs.View.{items_view}
 use Rattle.request_json.specs.Training.{zones_at}
 use Rattle.request_json.proofs.training.zones_of.Given as goal
