@@ -1,0 +1,11 @@
+pub mod Calendars
+pub mod Forms
+pub mod Parting
+pub mod Places
+pub mod RoundTrip
+pub mod RuleLemmas
+pub mod ShownTimes
+pub mod ShownDates
+pub mod StampTimes
+pub mod Tables
+pub mod WrittenWords
