@@ -1,5 +1,5 @@
 -- How a run ends.
-use Rattle.std.proofs.Common.{ℕ, ◌≡◌, ◌≤◌, ◌<◌, ◌+◌, ◌-◌, min, List, [], ◌∷◌, ◌++◌, length, take, drop, refl, ap, sym, ◌∙◌, append_assoc, Option, Result, Ok, Err, OnOk, IsErrOf, IsErrAnd, arith, length-append, append-nil}
+use Rattle.std.proofs.Common.{ℕ, ◌≡◌, ◌≤◌, ◌+◌, List, [], ◌++◌, length, take, drop, refl, ap, sym, ◌∙◌, append_assoc, Option, Result, Ok, Err, IsErrAnd, arith, length-append, append-nil}
 use Rattle.std.proofs.lemmas.List.{take-append-drop, take-append-le, length-take, take_all}
 use Rattle.std.proofs.Math.Seq.{take-append-add}
 use Rattle.hazard_types.specs.Places.{Place}

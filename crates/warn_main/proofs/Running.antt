@@ -1,13 +1,13 @@
 -- Chunks that are read one after another.
-use Rattle.std.proofs.Common.{ℕ, ◌≡◌, ◌≤◌, ◌+◌, ◌==◌, true, false, cond, List, [], ◌∷◌, ◌++◌, length, take, drop, refl, ap, sym, ◌∙◌, append_assoc, Option, arith, length-append, append-nil}
-use Rattle.std.proofs.lemmas.List.{take-append-drop, take-append-le, take_at}
+use Rattle.std.proofs.Common.{ℕ, ◌≡◌, ◌+◌, ◌==◌, true, false, cond, List, [], ◌∷◌, ◌++◌, length, take, drop, refl, ap, sym, ◌∙◌, append_assoc, Option, arith, length-append, append-nil}
+use Rattle.std.proofs.lemmas.List.{take-append-drop}
 use Rattle.hazard_types.specs.Places.{Place}
 use Rattle.desk_traits.specs.Streams.{Adds, Takes}
 use Rattle.desk_traits.proofs.Pieces.{adds_both, takes_both}
 use Rattle.warn_main.specs.declared.words.Dry.{Dry}
 use Rattle.warn_main.specs.Lines.{Pending, pending_of, lines_from, rest_from, without_return, fit}
 use Rattle.warn_main.specs.Answers.{answers, answers_to, answers_so_far, zones_after, line_reply}
-use Rattle.warn_main.specs.Runs.{Begins, AddsFront, Feeds, FeedsSome, limit}
+use Rattle.warn_main.specs.Runs.{Begins, AddsFront, Feeds, FeedsSome}
 
 lines_append : (line a b : List ℕ) → lines_from line (a ++ b) ≡ lines_from line a ++ lines_from (rest_from line a) b
 lines_append line [] b = refl

@@ -1,12 +1,11 @@
 -- What was read and written at each status.
-use Rattle.std.proofs.Common.{ℕ, ◌≡◌, ◌≢◌, ◌≤◌, ◌+◌, ◌⊎◌, inl, inr, List, [], ◌++◌, length, take, refl, ap, sym, ◌∙◌, append_assoc, Option, Result, Ok, Err, rules, arith}
-use Rattle.desk_traits.specs.Streams.{Adds, Takes, IsAtEnd}
+use Rattle.std.proofs.Common.{ℕ, ◌≡◌, ◌≢◌, ◌⊎◌, inl, inr, List, ◌++◌, refl, ap, sym, ◌∙◌, append_assoc, Option, Err, rules, arith}
+use Rattle.desk_traits.specs.Streams.{Adds}
 use Rattle.desk_traits.proofs.Pieces.{adds_both}
 use Rattle.warn_main.specs.declared.run.Stop.{Stop}
 use Rattle.warn_main.specs.declared.run.Stop.TheVariants as stop
 use Rattle.warn_main.specs.declared.words.Dry.{Dry}
-use Rattle.warn_main.specs.Answers.{answers_to, answers_so_far}
-use Rattle.warn_main.specs.Runs.{Begins, AddsFront, Ends, IsUsage, IsDryRun, IsFaultLine, IsCutShort, limit, usage_line, read_fault_line, write_fault_line, no_memory_line, too_long_line}
+use Rattle.warn_main.specs.Runs.{AddsFront, Ends, IsDryRun, IsFaultLine, read_fault_line, write_fault_line, no_memory_line, too_long_line}
 
 module _ (dry : Dry) (left left' taken mid taken' : Option (List ℕ)) (status : ℕ) where
   not_either : (a b : ℕ) → (status ≡ a → ⊥) → (status ≡ b → ⊥) → ((status ≡ a) ⊎ (status ≡ b)) → ⊥
@@ -16,27 +15,27 @@ module _ (dry : Dry) (left left' taken mid taken' : Option (List ℕ)) (status :
   -- the fault line was cut, or is that of a write fault
   cut_run : {T : Type 0} (why : Stop) → Ends {T = T} dry left left' taken mid (Err why) → (line : List ℕ) → IsFaultLine line → AddsFront mid taken' line → status ≡ 8 → IsDryRun dry left left' taken taken' status
   cut_run why ends line is some e = record {
-      read = ends.read;
-      written = ends.written ++ some.front;
-      takes = ends.takes;
-      adds = adds_both _ _ _ _ _ _ ends.adds some.adds refl;
-      within = ends.within;
-      fits = λ h. absurd (not_either 0 7 (λ q. omega arith) (λ q. omega arith) h);
-      ended = λ q. absurd (omega arith);
-      answered = λ q. absurd (omega arith);
-      read_fault = λ q. absurd (omega arith);
-      over = λ q. absurd (omega arith);
-      too_long = λ q. absurd (omega arith);
-      no_memory = λ q. absurd (omega arith);
-      write_fault = λ _. record {
-        front = ends.written;
-        line = line;
-        some = ends.some;
-        fault = is;
-        cut = (some.begins.0, ap (λ (t : List ℕ). ends.written ++ t) some.begins.1 ∙ sym (append_assoc ends.written some.front some.begins.0));
-      };
-      others = search rules;
-    }
+    read = ends.read;
+    written = ends.written ++ some.front;
+    takes = ends.takes;
+    adds = adds_both _ _ _ _ _ _ ends.adds some.adds refl;
+    within = ends.within;
+    fits = λ h. absurd (not_either 0 7 (λ q. omega arith) (λ q. omega arith) h);
+    ended = λ q. absurd (omega arith);
+    answered = λ q. absurd (omega arith);
+    read_fault = λ q. absurd (omega arith);
+    over = λ q. absurd (omega arith);
+    too_long = λ q. absurd (omega arith);
+    no_memory = λ q. absurd (omega arith);
+    write_fault = λ _. record {
+      front = ends.written;
+      line = line;
+      some = ends.some;
+      fault = is;
+      cut = (some.begins.0, ap (λ (t : List ℕ). ends.written ++ t) some.begins.1 ∙ sym (append_assoc ends.written some.front some.begins.0));
+    };
+    others = search rules;
+  }
 
   pub read_fault_run : {T R : Type 0} → Ends {T = T} dry left left' taken mid (Err stop.Read) → ((status ≡ 7) ⊎ ((status ≡ 8) × R)) → (status ≢ 8 → Adds mid taken' read_fault_line) → AddsFront mid taken' read_fault_line → IsDryRun dry left left' taken taken' status
   read_fault_run ends (inl e) whole some =
@@ -82,21 +81,21 @@ module _ (dry : Dry) (left left' taken mid taken' : Option (List ℕ)) (status :
 
   pub no_memory_run : {T R : Type 0} → Ends {T = T} dry left left' taken mid (Err stop.OutOfMemory) → ((status ≡ 12) ⊎ ((status ≡ 8) × R)) → (status ≢ 8 → Adds mid taken' no_memory_line) → AddsFront mid taken' no_memory_line → IsDryRun dry left left' taken taken' status
   no_memory_run ends (inl e) whole some = record {
-      read = ends.read;
-      written = ends.written ++ no_memory_line;
-      takes = ends.takes;
-      adds = adds_both _ _ _ _ _ _ ends.adds (whole (λ q. omega arith)) refl;
-      within = ends.within;
-      fits = λ h. absurd (not_either 0 7 (λ q. omega arith) (λ q. omega arith) h);
-      ended = λ q. absurd (omega arith);
-      answered = λ q. absurd (omega arith);
-      read_fault = λ q. absurd (omega arith);
-      over = λ q. absurd (omega arith);
-      too_long = λ q. absurd (omega arith);
-      no_memory = λ _. (ends.written, ends.some, refl);
-      write_fault = λ q. absurd (omega arith);
-      others = search rules;
-    }
+    read = ends.read;
+    written = ends.written ++ no_memory_line;
+    takes = ends.takes;
+    adds = adds_both _ _ _ _ _ _ ends.adds (whole (λ q. omega arith)) refl;
+    within = ends.within;
+    fits = λ h. absurd (not_either 0 7 (λ q. omega arith) (λ q. omega arith) h);
+    ended = λ q. absurd (omega arith);
+    answered = λ q. absurd (omega arith);
+    read_fault = λ q. absurd (omega arith);
+    over = λ q. absurd (omega arith);
+    too_long = λ q. absurd (omega arith);
+    no_memory = λ _. (ends.written, ends.some, refl);
+    write_fault = λ q. absurd (omega arith);
+    others = search rules;
+  }
   no_memory_run ends (inr (e, r)) whole some = cut_run stop.OutOfMemory ends no_memory_line (search rules) some e
 
   pub write_fault_run : {T R : Type 0} → Ends {T = T} dry left left' taken mid (Err stop.Write) → ((status ≡ 8) ⊎ ((status ≡ 8) × R)) → AddsFront mid taken' write_fault_line → IsDryRun dry left left' taken taken' status

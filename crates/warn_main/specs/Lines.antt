@@ -1,5 +1,5 @@
 -- The lines of an input.
-use Rattle.std.specs.Prelude.{ℕ, ◌-◌, ◌<◌, take, slice_index, ◌==◌, ◌&&◌, List, [], ◌∷◌, ◌++◌, Bool, length, nat_lt, if◌then◌else◌, Option, Some, None}
+use Rattle.std.specs.Prelude.{ℕ, ◌-◌, take, slice_index, ◌==◌, ◌&&◌, List, [], ◌∷◌, ◌++◌, Bool, length, nat_lt, if◌then◌else◌, Option, Some, None}
 
 -- a line without one CR at its end
 abbrev pub without_return : List ℕ → List ℕ

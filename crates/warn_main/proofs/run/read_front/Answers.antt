@@ -1,4 +1,4 @@
-use Rattle.std.proofs.Common.{◌≡◌, ◌≤◌, ◌<◌, ◌∙◌, ◌++◌, arith, length, take, drop, ℕ, length-append}
+use Rattle.std.proofs.Common.{◌≡◌, arith, drop, length-append}
 use Rattle.std.proofs.lemmas.List.{length-take, take-append-le}
 use Rattle.warn_main.proofs.run.read_front.Goals as goal
 
@@ -7,8 +7,7 @@ returns-clause-taken g c =
     let size = c.read.auto.into in
     let bytes = c.in_ok-count.ensures.bytes in
     let into = c.read.new.into in
-    let rest = drop c.args.room c.args.buffer.now in
-    (
+    let rest = drop c.args.room c.args.buffer.now in (
       omega (arith, bytes.0, size, length-take c.args.room c.args.buffer.now),
       omega (arith, bytes.0, length-append into rest),
       rw (take-append-le c.in_ok-count.count into rest bytes.0) bytes.1,

@@ -1,4 +1,4 @@
-use Rattle.std.proofs.Common.{◌≡◌, ◌∙◌, ap, List, ℕ}
+use Rattle.std.proofs.Common.{◌∙◌, ap}
 use Rattle.warn_main.specs.Lines.{without_return, fit}
 use Rattle.warn_main.proofs.Keeping.{kept_with, longer_unfit_ended, all_kept}
 use Rattle.warn_main.proofs.line.Line.ended.Goals as goal

@@ -1,5 +1,4 @@
-use Rattle.std.proofs.Common.{◌≡◌, ◌∙◌, ◌≤◌, ◌<◌, ap, arith, length, List, ℕ}
-use Rattle.warn_main.specs.Lines.{Pending, pending_of}
+use Rattle.std.proofs.Common.{◌∙◌, ap, arith, List, ℕ}
 use Rattle.warn_main.proofs.Keeping.{kept_with, push_short, push_full}
 use Rattle.warn_main.proofs.line.Line.push.Goals as goal
 

@@ -1,4 +1,4 @@
-use Rattle.std.proofs.Common.{◌≡◌, ◌∙◌, ap, List, ℕ}
+use Rattle.std.proofs.Common.{◌∙◌, ap}
 use Rattle.warn_main.specs.Lines.{fit}
 use Rattle.warn_main.proofs.Keeping.{kept_with, longer_unfit, all_kept}
 use Rattle.warn_main.proofs.line.Line.unended.Goals as goal
