@@ -50,7 +50,8 @@ pub enum Breach {
     Twice,
 }
 
-fn begin_of(line: &Line, t: Minute) -> Minute
+/// The printed begin, or the minute of the product where it is zero.
+pub(crate) fn begin_of(line: &Line, t: Minute) -> Minute
     ensures { result ≡ unwrap_or line.now.begin t }
 {
     match &line.begin {

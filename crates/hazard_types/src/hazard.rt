@@ -1,5 +1,5 @@
 //! Hazards and events: what a code names.
-ghost use Rattle.std.specs.Prelude.{◌≡◌, if◌then◌else◌};
+ghost use Rattle.std.specs.Prelude.{◌≡◌, if◌then◌else◌, IsTrue};
 ghost use Rattle.hazard_types.specs.Places.{are_letters};
 ghost use Rattle.hazard_types.specs.Orders.{sig_letter, by_letter, by_hazard, by_event};
 ghost use Rattle.std.proofs.Common.{rules};
@@ -39,6 +39,14 @@ impl Phen {
         } else {
             None
         }
+    }
+
+    /// The phenomenon of two capital letters.
+    pub(crate) fn of(letters: [u8; 2]) -> Self
+        requires { IsTrue (are_letters letters) }
+        ensures { result ≡ letters }
+    {
+        Phen { letters }
     }
 
     /// The two letters.

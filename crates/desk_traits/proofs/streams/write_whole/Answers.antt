@@ -1,0 +1,12 @@
+use Rattle.std.proofs.Common.{arith}
+use Rattle.desk_traits.proofs.Pieces.{adds_both, next_piece, piece_length}
+use Rattle.desk_traits.proofs.streams.write_whole.Goals as goal
+
+pub loop-at-preserved : goal.loop-at-preserved
+loop-at-preserved g c =
+    let bytes = c.in_ok-at.ensures.bytes in
+    record {
+      within = omega (arith, bytes.0, piece_length c.args.bytes.now c.loop-at.at);
+      added = adds_both _ _ _ _ _ _ c.loop-at.invariant.added bytes.1 (next_piece c.args.bytes.now c.loop-at.at c.in_ok-at.field-0);
+      later = omega (arith, c.loop-at.invariant.later, c.in_ok-at.ensures.cause.later);
+    }

@@ -1,0 +1,70 @@
+-- A disk in memory: what its calls have made of its file, and what a crash may leave.
+use Rattle.std.specs.Prelude.{◌≡◌, ◌⊎◌, ℕ, ◌+◌, ◌≤◌, Bool, true, false, List, [], ◌∷◌, ◌++◌, length, take, drop, cond, leb}
+use Rattle.desk_traits.specs.File.{Torn}
+use Rattle.desk_traits.specs.declared.disk_record.DiskCall.{DiskCall}
+use Rattle.desk_traits.specs.declared.disk_record.DiskCall.TheVariants.{Wrote, Synced, WriteFailed}
+
+-- the file with the bytes at this place, if that is in it
+abbrev pub written : ℕ → List ℕ → List ℕ → List ℕ
+written at bytes file = cond (leb at (length file)) (take at file ++ (bytes ++ drop (at + length bytes) file)) file
+
+-- what a read gives after a call
+abbrev pub next : DiskCall → List ℕ → List ℕ
+next (Wrote at bytes) file = written at bytes file
+next _ file = file
+
+-- what a read gives after the calls
+abbrev pub replay : List ℕ → List DiskCall → List ℕ
+replay file [] = file
+replay file (call ∷ calls) = replay (next call file) calls
+
+-- what a crash may leave after a call, if it might have left P before: a failed write counts as a write, a failed sync as nothing
+abbrev pub after_call : DiskCall → List ℕ → (List ℕ → Type 0) → List ℕ → Type 0
+after_call (Wrote at bytes) file P c = (d : List ℕ) × P d × Torn at (length bytes) d c
+after_call (WriteFailed at bytes) file P c = (d : List ℕ) × P d × Torn at (length bytes) d c
+after_call Synced file P c = c ≡ file
+after_call _ file P c = P c
+
+-- what a crash may leave after a call, from one that might have been left before
+abbrev pub StepOf : DiskCall → List ℕ → List ℕ → List ℕ → Type 0
+StepOf (Wrote at bytes) file d c = Torn at (length bytes) d c
+StepOf (WriteFailed at bytes) file d c = Torn at (length bytes) d c
+StepOf Synced file d c = c ≡ file
+StepOf _ file d c = c ≡ d
+
+-- what a crash may leave after the calls
+abbrev pub leaves : List ℕ → (List ℕ → Type 0) → List DiskCall → List ℕ → Type 0
+leaves file P [] c = P c
+leaves file P (call ∷ calls) c = leaves (next call file) (after_call call file P) calls c
+
+-- the same, of a file that was stable at first
+abbrev pub MayLeave : List ℕ → List DiskCall → List ℕ → Type 0
+MayLeave first calls c = leaves first (λ d. d ≡ first) calls c
+
+-- what a crash after some number of calls from t on might have left
+pub record LeftSince (first : List ℕ) (calls : List DiskCall) (t : ℕ) (c : List ℕ) : Type 0 where
+  pub k : ℕ
+  pub from : t ≤ k
+  pub upto : k ≤ length calls
+  pub left : MayLeave first (take k calls) c
+
+-- a write, failed or not
+abbrev pub is_write : DiskCall → Bool
+is_write (Wrote at bytes) = true
+is_write (WriteFailed at bytes) = true
+is_write _ = false
+
+-- a good sync
+abbrev pub is_synced : DiskCall → Bool
+is_synced Synced = true
+is_synced _ = false
+
+-- the moments after the good syncs among the calls, of which the first comes after this moment
+abbrev pub synced_at : ℕ → List DiskCall → List ℕ
+synced_at before [] = []
+synced_at before (call ∷ calls) = cond (is_synced call) ((before + 1) ∷ synced_at (before + 1) calls) (synced_at (before + 1) calls)
+
+-- a good call is noted; a failed one too, where there was memory for the note
+abbrev pub Noted : List DiskCall → List DiskCall → DiskCall → DiskCall → Bool → Type 0
+Noted old new good failed true = new ≡ old ++ good ∷ []
+Noted old new good failed false = (new ≡ old ++ failed ∷ []) ⊎ (new ≡ old)

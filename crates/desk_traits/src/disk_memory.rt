@@ -1,0 +1,331 @@
+//! A disk in memory, as a disk.
+ghost use Rattle.std.specs.Prelude.{◌≡◌, ◌⊎◌, ◌≤◌, ◌<◌, ◌+◌, ◌++◌, ◌∷◌, ◌↔◌, [], ℕ, Some, false, Contains, length, take, drop, OnOk, OnErr, IfOk, IsTrue, if◌then◌else◌};
+ghost use Rattle.desk_traits.specs.Crash.{Passes};
+ghost use Rattle.desk_traits.specs.Faults.{HasCause, Rose};
+ghost use Rattle.desk_traits.specs.File.{Torn, Same, IsWithin, Writes, Gives, IsLength, Only, Answers};
+ghost use Rattle.desk_traits.specs.DiskMemory.{next, StepOf, MayLeave, Noted, is_write};
+ghost use Rattle.desk_traits.specs.DiskTold.{told_of, calls_of, following, IsPast, IsToFail, Counts};
+ghost use Rattle.desk_traits.specs.declared.disk_record.DiskCall.TheVariants.{Looked, Read, Wrote, Synced, LookFailed, ReadFailed, WriteFailed, SyncFailed};
+
+use crate::disk::Disk;
+use crate::disk_record::{DiskCall, MemDisk};
+use crate::faults::Failed;
+use hazard_types::{List, Oom, Text};
+use std::alloc::Global;
+
+// The file with the bytes at a place of it.
+fn splice(alloc: Global, file: &Text, at: usize, bytes: &[u8]) -> Result<Text, Oom>
+    requires { at ≤ length file.now }
+    ensures { IfOk result (λ new. new ≡ take at file.now ++ (bytes.now ++ drop (at + length bytes.now) file.now)) }
+{
+    let file = file.as_slice();
+    let mut next = file[..at].to_vec(alloc)?;
+    next.extend_from_slice(bytes)?;
+    if bytes.len() < file.len() - at {
+        next.extend_from_slice(&file[at + bytes.len()..])?;
+    }
+    Ok(List::from_vec(next))
+}
+
+// Puts the bytes at a place of the file, and notes it.
+fn put(
+    alloc: Global,
+    file: &mut Text,
+    calls: &mut Vec<DiskCall>,
+    at: u64,
+    bytes: &[u8],
+) -> Result<(), Oom>
+    requires { at ≤ length file.old }
+    ensures file { OnOk result (file.new ≡ take at file.old ++ (bytes.now ++ drop (at + length bytes.now) file.old)) }
+    ensures calls { OnOk result (calls.new.items ≡ calls.old.items ++ Wrote at bytes.now ∷ []) }
+    ensures same { OnErr result (file.new ≡ file.old) }
+    ensures same_calls { OnErr result (calls.new.items ≡ calls.old.items) }
+{
+    let next = splice(alloc, file, at as usize, bytes)?;
+    let bytes = List::from_slice(alloc, bytes)?;
+    calls.push(DiskCall::Wrote { at, bytes })?;
+    *file = next;
+    Ok(())
+}
+
+// Leaves the file as it is, or puts the bytes there, or half of them, or as many bytes `G`.
+fn tear(alloc: Global, file: Text, at: u64, bytes: &Text, choice: u64) -> Result<Text, Oom>
+    ensures { IfOk result (λ new. Torn at (length bytes.now) file new) }
+{
+    if at > file.len() as u64 || choice == 0 {
+        return Ok(file);
+    }
+    let at = at as usize;
+    let bytes = bytes.as_slice();
+    if choice == 1 {
+        return splice(alloc, &file, at, bytes);
+    }
+    if choice == 2 {
+        return splice(alloc, &file, at, &bytes[..bytes.len() / 2]);
+    }
+    let other = vec![in alloc; b'G'; bytes.len()]?;
+    splice(alloc, &file, at, &other)
+}
+
+// What a read gives after one call.
+fn step_seen(alloc: Global, call: &DiskCall, seen: Text) -> Result<Text, Oom>
+    ensures { IfOk result (λ new. new ≡ next call.now seen) }
+{
+    match call {
+        DiskCall::Wrote { at, bytes } if *at <= seen.len() as u64 => {
+            splice(alloc, &seen, *at as usize, bytes.as_slice())
+        }
+        _ => Ok(seen),
+    }
+}
+
+// One of the files that a crash may leave after one call.
+fn step_left(
+    alloc: Global,
+    call: &DiskCall,
+    seen: &Text,
+    file: Text,
+    choice: u64,
+) -> Result<Text, Oom>
+    ensures { IfOk result (λ new. StepOf call.now seen.now file new) }
+{
+    match call {
+        DiskCall::Wrote { at, bytes } => tear(alloc, file, *at, bytes, choice),
+        DiskCall::WriteFailed { at, bytes } => tear(alloc, file, *at, bytes, choice),
+        DiskCall::Synced => Ok(seen.clone()?),
+        _ => Ok(file),
+    }
+}
+
+// One of the files that a crash after the calls may leave.
+fn replay_torn(alloc: Global, first: &Text, calls: &[DiskCall], pick: u64) -> Result<Text, Oom>
+    ensures { IfOk result (λ file. MayLeave first.now calls.now file) }
+{
+    let mut seen = first.clone()?;
+    let mut file = first.clone()?;
+    let mut pick = pick;
+    for call in calls {
+        file = step_left(alloc, call, &seen, file, pick % 4)?;
+        seen = step_seen(alloc, call, seen)?;
+        pick /= 4;
+    }
+    Ok(file)
+}
+
+// Notes a call, where there is memory for it.
+fn note(calls: &mut Vec<DiskCall>, call: DiskCall) -> bool
+    ensures { calls.new.items ≡ (if result then calls.old.items ++ call ∷ [] else calls.old.items) }
+{
+    calls.push(call).is_ok()
+}
+
+// Notes a failed write, where there is memory for it.
+fn note_failed(alloc: Global, calls: &mut Vec<DiskCall>, at: u64, bytes: &[u8]) -> bool
+    ensures { calls.new.items ≡ (if result then calls.old.items ++ WriteFailed at bytes.now ∷ [] else calls.old.items) }
+{
+    match List::from_slice(alloc, bytes) {
+        Ok(bytes) => note(calls, DiskCall::WriteFailed { at, bytes }),
+        Err(_) => false,
+    }
+}
+
+// Whether the call of a number is to fail.
+fn is_to_fail(failing: &List<u64>, stop: Option<u64>, number: u64) -> bool
+    ensures { IsTrue result ↔ (Contains failing.now number ⊎ IsPast stop number) }
+{
+    match stop {
+        Some(last) if last < number => true,
+        _ => failing.as_slice().contains(&number),
+    }
+}
+
+impl MemDisk {
+    /// A disk with this file, all of it stable. Calls count from 1. Those among the failing ones
+    /// fail, and each after the stop. The pick chooses what a crash leaves, in base 4 from the
+    /// first call on: of each write nothing (0), all (1), half (2), or other bytes (3).
+    pub fn new(
+        alloc: Global,
+        bytes: &[u8],
+        failing: &List<u64>,
+        stop: Option<u64>,
+        pick: u64,
+    ) -> Result<Self, Oom>
+        ensures file { IfOk result (λ disk. ⟦<MemDisk as Disk>⟧.seen disk ≡ Some bytes.now) }
+        ensures stable { IfOk result (λ disk. (c : _) → ⟦<MemDisk as Disk>⟧.may_leave disk c → c ≡ bytes.now) }
+        ensures faults { IfOk result (λ disk. ⟦<MemDisk as Disk>⟧.faults disk ≡ 0) }
+        ensures told { IfOk result (λ disk. told_of disk ≡ record { failing = failing.now; stop = stop; made = 0 }) }
+        ensures calls { IfOk result (λ disk. calls_of disk ≡ []) }
+    {
+        let first = List::from_slice(alloc, bytes)?;
+        Ok(MemDisk {
+            alloc,
+            file: first.clone()?,
+            first,
+            calls: Vec::new(alloc),
+            failing: failing.clone()?,
+            stop,
+            pick,
+            count: 0,
+            faults: 0,
+        })
+    }
+
+    /// What a read gives.
+    pub fn file(&self) -> &Text
+        ensures { ⟦<MemDisk as Disk>⟧.seen self.now ≡ Some result.now }
+    {
+        &self.file
+    }
+
+    /// The calls that were made, with what came of them.
+    pub fn calls(&self) -> &[DiskCall]
+        ensures { result.now ≡ calls_of self.now }
+    {
+        &self.calls
+    }
+
+    /// One of the files that a crash now may leave, by the pick.
+    pub fn crashed(self) -> Result<Text, Oom>
+        ensures { IfOk result (λ file. ⟦<MemDisk as Disk>⟧.may_leave self file) }
+    {
+        replay_torn(self.alloc, &self.first, &self.calls, self.pick)
+    }
+
+    // Counts a call, and a fault where it is to fail.
+    fn fails(&mut self) -> bool
+        ensures first { self.new.first ≡ self.old.first }
+        ensures file { self.new.file ≡ self.old.file }
+        ensures calls { self.new.calls ≡ self.old.calls }
+        ensures told { told_of self.new ≡ record { failing = self.old.failing; stop = self.old.stop; made = following self.old.count } }
+        ensures fails { IsTrue result ↔ IsToFail (told_of self.old) }
+        ensures later { self.old.faults ≤ self.new.faults }
+        ensures cause { IsTrue result → Rose self.old.faults self.new.faults }
+    {
+        self.count = self.count.saturating_add(1);
+        let fails = is_to_fail(&self.failing, self.stop, self.count);
+        if fails {
+            self.faults = self.faults.saturating_add(1);
+        }
+        fails
+    }
+
+    // Counts a call that is no good write, notes what came of it, and says whether it was good.
+    fn asked(&mut self, good: DiskCall, failed: DiskCall) -> bool
+        requires good { is_write good ≡ false }
+        requires failed { is_write failed ≡ false }
+        ensures first { self.new.first ≡ self.old.first }
+        ensures file { self.new.file ≡ self.old.file }
+        ensures calls { Noted self.old.calls.items self.new.calls.items good failed result }
+        ensures told { told_of self.new ≡ record { failing = self.old.failing; stop = self.old.stop; made = following self.old.count } }
+        ensures fails { IsToFail (told_of self.old) → result ≡ false }
+        ensures later { self.old.faults ≤ self.new.faults }
+        ensures cause { result ≡ false → Rose self.old.faults self.new.faults }
+    {
+        if self.fails() {
+            let _ = note(&mut self.calls, failed);
+            return false;
+        }
+        if note(&mut self.calls, good) {
+            return true;
+        }
+        self.faults = self.faults.saturating_add(1);
+        false
+    }
+}
+
+impl Disk for MemDisk {
+    ghost use Rattle.desk_traits.specs.DiskMemory.{LeftSince, synced_at};
+    ghost use Rattle.desk_traits.specs.DiskMemoryLaws.{counts, only, sooner, seen_may};
+
+    ghost seen = { λ m. Some m.file };
+
+    ghost may_leave = { λ m c. MayLeave m.first m.calls.items c };
+
+    ghost moment = { λ m. length m.calls.items };
+
+    ghost left_since = { λ m t c. LeftSince m.first m.calls.items t c };
+
+    ghost syncs = { λ m. Some (synced_at 0 m.calls.items) };
+
+    ghost faults = { λ m. m.faults };
+
+    ghost seen_is_left = { λ m f told. seen_may m.first m.file f m.calls.items m.kept told };
+
+    ghost counts_now = { λ m c left. counts m.first m.calls.items c left };
+
+    ghost only_now = { λ m c since. only m.first m.calls.items c since };
+
+    ghost earlier = { λ m t u c le upto since. sooner m.first m.calls.items t u c le since };
+
+    fn len(&mut self) -> Result<u64, Failed>
+        ensures told { IfOk result (λ n. IsLength n (⟦<MemDisk as Disk>⟧.seen self.old)) }
+        ensures seen { ⟦<MemDisk as Disk>⟧.seen self.new ≡ ⟦<MemDisk as Disk>⟧.seen self.old }
+        ensures crash { Passes Same (⟦<MemDisk as Disk>⟧.moment self.old) (⟦<MemDisk as Disk>⟧.moment self.new) (⟦<MemDisk as Disk>⟧.may_leave self.old) (⟦<MemDisk as Disk>⟧.left_since self.old) (⟦<MemDisk as Disk>⟧.left_since self.new) }
+        ensures syncs { ⟦<MemDisk as Disk>⟧.syncs self.new ≡ ⟦<MemDisk as Disk>⟧.syncs self.old }
+        ensures cause { HasCause (⟦<MemDisk as Disk>⟧.faults self.old) (⟦<MemDisk as Disk>⟧.faults self.new) result }
+        ensures counts { Counts self.old self.new Looked LookFailed result }
+    {
+        if self.asked(DiskCall::Looked, DiskCall::LookFailed) {
+            Ok(self.file.len() as u64)
+        } else {
+            Err(Failed)
+        }
+    }
+
+    fn read_at(&mut self, at: u64, into: &mut [u8]) -> Result<(), Failed>
+        requires { IsWithin (at + length into.old) (⟦<MemDisk as Disk>⟧.seen self.old) }
+        ensures told { OnOk result (Gives at into.new (⟦<MemDisk as Disk>⟧.seen self.old)) }
+        ensures seen { ⟦<MemDisk as Disk>⟧.seen self.new ≡ ⟦<MemDisk as Disk>⟧.seen self.old }
+        ensures crash { Passes Same (⟦<MemDisk as Disk>⟧.moment self.old) (⟦<MemDisk as Disk>⟧.moment self.new) (⟦<MemDisk as Disk>⟧.may_leave self.old) (⟦<MemDisk as Disk>⟧.left_since self.old) (⟦<MemDisk as Disk>⟧.left_since self.new) }
+        ensures syncs { ⟦<MemDisk as Disk>⟧.syncs self.new ≡ ⟦<MemDisk as Disk>⟧.syncs self.old }
+        ensures cause { HasCause (⟦<MemDisk as Disk>⟧.faults self.old) (⟦<MemDisk as Disk>⟧.faults self.new) result }
+        ensures counts { Counts self.old self.new (Read at (length into.old)) (ReadFailed at (length into.old)) result }
+    {
+        let count = into.len();
+        if !self.asked(
+            DiskCall::Read { at, count },
+            DiskCall::ReadFailed { at, count },
+        ) {
+            return Err(Failed);
+        }
+        let from = at as usize;
+        into.copy_from_slice(&self.file.as_slice()[from..from + count]);
+        Ok(())
+    }
+
+    fn write_at(&mut self, at: u64, bytes: &[u8]) -> Result<(), Failed>
+        requires { IsWithin at (⟦<MemDisk as Disk>⟧.seen self.old) }
+        ensures seen { Writes at bytes.now (⟦<MemDisk as Disk>⟧.seen self.old) (⟦<MemDisk as Disk>⟧.seen self.new) result }
+        ensures crash { Passes (Torn at (length bytes.now)) (⟦<MemDisk as Disk>⟧.moment self.old) (⟦<MemDisk as Disk>⟧.moment self.new) (⟦<MemDisk as Disk>⟧.may_leave self.old) (⟦<MemDisk as Disk>⟧.left_since self.old) (⟦<MemDisk as Disk>⟧.left_since self.new) }
+        ensures syncs { ⟦<MemDisk as Disk>⟧.syncs self.new ≡ ⟦<MemDisk as Disk>⟧.syncs self.old }
+        ensures cause { HasCause (⟦<MemDisk as Disk>⟧.faults self.old) (⟦<MemDisk as Disk>⟧.faults self.new) result }
+        ensures counts { Counts self.old self.new (Wrote at bytes.now) (WriteFailed at bytes.now) result }
+    {
+        if self.fails() {
+            let _ = note_failed(self.alloc, &mut self.calls, at, bytes);
+            return Err(Failed);
+        }
+        match put(self.alloc, &mut self.file, &mut self.calls, at, bytes) {
+            Ok(()) => Ok(()),
+            Err(_) => {
+                self.faults = self.faults.saturating_add(1);
+                Err(Failed)
+            }
+        }
+    }
+
+    fn sync(&mut self) -> Result<(), Failed>
+        ensures durable { OnOk result (Only (⟦<MemDisk as Disk>⟧.seen self.old) (⟦<MemDisk as Disk>⟧.may_leave self.new)) }
+        ensures seen { ⟦<MemDisk as Disk>⟧.seen self.new ≡ ⟦<MemDisk as Disk>⟧.seen self.old }
+        ensures crash { Passes Same (⟦<MemDisk as Disk>⟧.moment self.old) (⟦<MemDisk as Disk>⟧.moment self.new) (⟦<MemDisk as Disk>⟧.may_leave self.old) (⟦<MemDisk as Disk>⟧.left_since self.old) (⟦<MemDisk as Disk>⟧.left_since self.new) }
+        ensures syncs { Answers (⟦<MemDisk as Disk>⟧.moment self.new) (⟦<MemDisk as Disk>⟧.syncs self.old) (⟦<MemDisk as Disk>⟧.syncs self.new) result }
+        ensures cause { HasCause (⟦<MemDisk as Disk>⟧.faults self.old) (⟦<MemDisk as Disk>⟧.faults self.new) result }
+        ensures counts { Counts self.old self.new Synced SyncFailed result }
+    {
+        if self.asked(DiskCall::Synced, DiskCall::SyncFailed) {
+            Ok(())
+        } else {
+            Err(Failed)
+        }
+    }
+}

@@ -1,0 +1,70 @@
+//! A disk in memory whose count of faults can't rise.
+ghost use Rattle.std.specs.Prelude.{◌≤◌, None, length};
+
+use crate::disk::Disk;
+use crate::faults::Failed;
+use hazard_types::Oom;
+use std::alloc::Global;
+
+/// Keeps what fits the room that it was made with. It never fails, and tells nothing of its file.
+#[derive(Debug, Drop)]
+pub struct SureDisk {
+    room: Vec<u8>,
+    len: usize,
+    ghost within: { len ≤ length room.items },
+}
+
+impl SureDisk {
+    /// An empty disk with room for this many bytes.
+    pub fn new(alloc: Global, room: usize) -> Result<Self, Oom> {
+        Ok(SureDisk {
+            room: vec![in alloc; 0; room]?,
+            len: 0,
+        })
+    }
+}
+
+impl Disk for SureDisk {
+    ghost seen = { λ _. None };
+
+    ghost may_leave = { λ _ _. Unit {0} };
+
+    ghost moment = { λ _. 0 };
+
+    ghost left_since = { λ _ _ _. Unit {0} };
+
+    ghost syncs = { λ _. None };
+
+    ghost faults = { λ _. 0 };
+
+    ghost seen_is_left = { λ _ _ _. tt };
+
+    ghost counts_now = { λ _ _ _. tt };
+
+    ghost only_now = { λ _ _ _. tt };
+
+    ghost earlier = { λ _ _ _ _ _ _ _. tt };
+
+    fn len(&mut self) -> Result<u64, Failed> {
+        Ok(self.len as u64)
+    }
+
+    fn read_at(&mut self, at: u64, into: &mut [u8]) -> Result<(), Failed> {
+        let from = self.len.min(at as usize);
+        let count = into.len().min(self.len - from);
+        into[..count].copy_from_slice(&self.room[from..from + count]);
+        Ok(())
+    }
+
+    fn write_at(&mut self, at: u64, bytes: &[u8]) -> Result<(), Failed> {
+        let from = self.room.len().min(at as usize);
+        let count = bytes.len().min(self.room.len() - from);
+        self.room[from..from + count].copy_from_slice(&bytes[..count]);
+        self.len = self.len.max(from + count);
+        Ok(())
+    }
+
+    fn sync(&mut self) -> Result<(), Failed> {
+        Ok(())
+    }
+}

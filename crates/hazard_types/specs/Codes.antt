@@ -1,0 +1,48 @@
+-- Tables of codes: what stands beside a code, and which code stands beside a value.
+use Rattle.std.specs.Prelude.{◌≡◌, ◌≢◌, ◌==◌, ◌++◌, ◌-◌, ◌⊎◌, ℕ, Bool, true, List, [], ◌∷◌, length, Option, Some, None, if◌then◌else◌, replicate}
+use Rattle.std.specs.List.{before_first, AllByRecursion}
+use Rattle.std.specs.Str.{bytes_eq}
+use Rattle.hazard_types.specs.declared.codes.Coded.{Coded}
+
+-- a code without the blanks at its end
+abbrev pub unfilled : List ℕ → List ℕ
+unfilled code = before_first (λ c. c == 32) code
+
+-- a code filled up with blanks to four characters
+abbrev pub filled : List ℕ → List ℕ
+filled text = text ++ replicate (4 - length text) 32
+
+-- one to four characters that are no blank, filled up with blanks to four
+pub record IsCode (code : List ℕ) : Type 0 where
+  pub some : unfilled code ≢ []
+  pub whole : filled (unfilled code) ≡ code
+  pub four : length code ≡ 4
+
+-- an `==` that holds of identical values alone
+abbrev pub HoldsOfIdentical : {T : Type 0} → (T → T → Bool) → Type 0
+HoldsOfIdentical {T} same = (a b : T) → same a b ≡ true → a ≡ b
+
+module _ {T : Type 0} where
+  -- the value of the first row with this code
+  abbrev pub value_beside : List (Coded T) → List ℕ → Option T
+  value_beside [] code = None
+  value_beside (row ∷ rows) code = if bytes_eq (unfilled row.code) code then Some row.value else value_beside rows code
+
+  -- the code of the first row with this value
+  abbrev pub code_beside : (T → T → Bool) → List (Coded T) → T → Option (List ℕ)
+  code_beside same [] value = None
+  code_beside same (row ∷ rows) value = if same row.value value then Some row.code else code_beside same rows value
+
+  -- there is such a row
+  abbrev pub SomeRow : (Coded T → Type 0) → List (Coded T) → Type 0
+  SomeRow P [] = ⊥
+  SomeRow P (row ∷ rows) = P row ⊎ SomeRow P rows
+
+  -- neither the code nor the value of this row stands in one of these
+  abbrev pub StandsAlone : Coded T → List (Coded T) → Type 0
+  StandsAlone row rows = AllByRecursion (λ (other : Coded T). (row.code ≢ other.code) × (row.value ≢ other.value)) rows
+
+  -- each row has a code, and no code and no value stands twice
+  abbrev pub IsTable : List (Coded T) → Type 0
+  IsTable [] = Unit {0}
+  IsTable (row ∷ rows) = IsCode row.code × StandsAlone row rows × IsTable rows

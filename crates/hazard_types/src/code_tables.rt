@@ -1,0 +1,120 @@
+//! The tables of codes.
+ghost use Rattle.std.specs.Prelude.{◌≡◌};
+ghost use Rattle.hazard_types.specs.Codes.{IsTable};
+ghost use Rattle.hazard_types.specs.Tables.{class_rows, action_rows, sig_rows, severity_rows, cause_rows, status_rows, category_rows};
+
+use crate::codes::{Action, Category, Cause, Class, Coded, Severity, Status};
+use crate::hazard::Sig;
+
+/// Rows of codes, each filled up with blanks to four characters, and their values.
+macro_rules! rows {
+    ($($code:literal => $value:expr),+ $(,)?) => {
+        [$(Coded { code: *$code, value: $value }),+]
+    };
+}
+
+/// The classes of products.
+#[tactic(auto, using(crate::proofs::Tables::class_table), unfolding(crate::specs::Tables::class_rows))]
+pub fn classes() -> [Coded<Class>; 4]
+    ensures rows { result ≡ class_rows }
+    ensures table { IsTable result }
+{
+    rows![b"O   " => Class::O, b"T   " => Class::T, b"E   " => Class::E, b"X   " => Class::X]
+}
+
+/// What a line does to an event in a zone.
+#[tactic(auto, using(crate::proofs::Tables::action_table), unfolding(crate::specs::Tables::action_rows))]
+pub fn actions() -> [Coded<Action>; 10]
+    ensures rows { result ≡ action_rows }
+    ensures table { IsTable result }
+{
+    rows![
+        b"NEW " => Action::New,
+        b"CON " => Action::Con,
+        b"EXA " => Action::Exa,
+        b"EXT " => Action::Ext,
+        b"EXB " => Action::Exb,
+        b"UPG " => Action::Upg,
+        b"CAN " => Action::Can,
+        b"EXP " => Action::Exp,
+        b"COR " => Action::Cor,
+        b"ROU " => Action::Rou,
+    ]
+}
+
+/// The significances of hazards.
+#[tactic(auto, using(crate::proofs::Tables::sig_table), unfolding(crate::specs::Tables::sig_rows))]
+pub fn significances() -> [Coded<Sig>; 7]
+    ensures rows { result ≡ sig_rows }
+    ensures table { IsTable result }
+{
+    rows![
+        b"W   " => Sig::W,
+        b"A   " => Sig::A,
+        b"Y   " => Sig::Y,
+        b"S   " => Sig::S,
+        b"F   " => Sig::F,
+        b"O   " => Sig::O,
+        b"N   " => Sig::N,
+    ]
+}
+
+/// The severities of floods.
+#[tactic(auto, using(crate::proofs::Tables::severity_table), unfolding(crate::specs::Tables::severity_rows))]
+pub fn severities() -> [Coded<Severity>; 6]
+    ensures rows { result ≡ severity_rows }
+    ensures table { IsTable result }
+{
+    rows![
+        b"N   " => Severity::N,
+        b"0   " => Severity::Zero,
+        b"1   " => Severity::One,
+        b"2   " => Severity::Two,
+        b"3   " => Severity::Three,
+        b"U   " => Severity::U,
+    ]
+}
+
+/// The causes of floods that the desk writes.
+#[tactic(auto, using(crate::proofs::Tables::cause_table), unfolding(crate::specs::Tables::cause_rows))]
+pub fn written_causes() -> [Coded<Cause>; 7]
+    ensures rows { result ≡ cause_rows }
+    ensures table { IsTable result }
+{
+    rows![
+        b"ER  " => Cause::of(*b"ER"),
+        b"SM  " => Cause::of(*b"SM"),
+        b"RS  " => Cause::of(*b"RS"),
+        b"DM  " => Cause::of(*b"DM"),
+        b"IJ  " => Cause::of(*b"IJ"),
+        b"MC  " => Cause::of(*b"MC"),
+        b"UU  " => Cause::of(*b"UU"),
+    ]
+}
+
+/// How floods compare with the record.
+#[tactic(auto, using(crate::proofs::Tables::status_table), unfolding(crate::specs::Tables::status_rows))]
+pub fn statuses() -> [Coded<Status>; 4]
+    ensures rows { result ≡ status_rows }
+    ensures table { IsTable result }
+{
+    rows![b"NO  " => Status::No, b"NR  " => Status::Nr, b"UU  " => Status::Uu, b"OO  " => Status::Oo]
+}
+
+/// The categories of products.
+#[tactic(auto, using(crate::proofs::Tables::category_table), unfolding(crate::specs::Tables::category_rows))]
+pub fn categories() -> [Coded<Category>; 8]
+    ensures rows { result ≡ category_rows }
+    ensures table { IsTable result }
+{
+    rows![
+        b"WSW " => Category::Wsw,
+        b"NPW " => Category::Npw,
+        b"RFW " => Category::Rfw,
+        b"CFW " => Category::Cfw,
+        b"MWW " => Category::Mww,
+        b"FFA " => Category::Ffa,
+        b"FLW " => Category::Flw,
+        b"FLS " => Category::Fls,
+    ]
+}

@@ -1,0 +1,48 @@
+//! Laws of the types' equalities and orders, and of stamps, for the crates above. The functions do nothing; their contracts are the laws.
+ghost use Rattle.std.specs.Prelude.{◌≡◌, ◌<◌, ℕ, List, Some, true};
+ghost use Rattle.std.specs.Bool.{Decides};
+ghost use Rattle.std.specs.Cmp.{IsTotalOrder};
+ghost use Rattle.std.specs.declared.cmp.Ordering.TheVariants.{Equal};
+ghost use Rattle.hazard_types.specs.Calendar.{stamp_of, stamp_at};
+ghost use Rattle.hazard_types.specs.Orders.{by_hazard, by_event};
+ghost use Rattle.hazard_types.specs.Places.{Place, by_place};
+
+use crate::hazard::{Event, Hazard};
+use crate::line::{Flood, Line, Row, SegLine};
+use crate::period::End;
+use crate::request::Request;
+use crate::zone::Zone;
+
+/// `==` holds exactly of identical values.
+#[tactic(auto, using(crate::proofs::Equality::zone_decides, crate::proofs::Equality::hazard_decides, crate::proofs::Equality::event_decides, crate::proofs::Equality::flood_decides, crate::proofs::Equality::line_decides, crate::proofs::Equality::seg_line_decides, crate::proofs::Equality::row_decides, crate::proofs::Equality::request_decides))]
+pub fn equality_is_identity()
+    ensures zones { (a b : Place) → Decides (⟦<Zone as PartialEq>⟧.eq a b) (a ≡ b) }
+    ensures hazards { (a b : Hazard) → Decides (⟦<Hazard as PartialEq>⟧.eq a b) (a ≡ b) }
+    ensures events { (a b : Event) → Decides (⟦<Event as PartialEq>⟧.eq a b) (a ≡ b) }
+    ensures floods { (a b : Flood) → Decides (⟦<Flood as PartialEq>⟧.eq a b) (a ≡ b) }
+    ensures lines { (a b : Line) → Decides (⟦<Line as PartialEq>⟧.eq a b) (a ≡ b) }
+    ensures segment_lines { (a b : SegLine) → Decides (⟦<SegLine as PartialEq>⟧.eq a b) (a ≡ b) }
+    ensures rows { (a b : Row) → Decides (⟦<Row as PartialEq>⟧.eq a b) (a ≡ b) }
+    ensures requests { (a b : Request) → Decides (⟦<Request as PartialEq>⟧.eq a b) (a ≡ b) }
+{}
+
+/// Zones, hazards, events and ends are totally ordered, and what ties is identical.
+#[tactic(auto, using(crate::proofs::OrderLaws::by_place_total, crate::proofs::OrderLaws::by_place_ties, crate::proofs::OrderLaws::by_hazard_total, crate::proofs::OrderLaws::by_hazard_ties, crate::proofs::OrderLaws::by_event_total, crate::proofs::OrderLaws::by_event_ties, crate::proofs::OrderLaws::event_cmp_is, crate::proofs::OrderLaws::by_end_total, crate::proofs::OrderLaws::by_end_ties))]
+pub fn orders_are_total()
+    ensures zones { IsTotalOrder by_place }
+    ensures zone_ties { (a b : Place) → by_place a b ≡ Equal → a ≡ b }
+    ensures hazards { IsTotalOrder by_hazard }
+    ensures hazard_ties { (a b : Hazard) → by_hazard a b ≡ Equal → a ≡ b }
+    ensures events { IsTotalOrder by_event }
+    ensures event_order { (a b : Event) → ⟦<Event as Ord>⟧.cmp a b ≡ by_event a b }
+    ensures event_ties { (a b : Event) → by_event a b ≡ Equal → a ≡ b }
+    ensures ends { IsTotalOrder ⟦<End as Ord>⟧.cmp }
+    ensures end_ties { (a b : End) → ⟦<End as Ord>⟧.cmp a b ≡ Equal → a ≡ b }
+{}
+
+/// Stamps are read back: the stamp of a minute spells it, and what spells a minute is its stamp.
+#[tactic(auto, using(crate::proofs::Stamps::stamp_spells, crate::proofs::Stamps::spells_stamp))]
+pub fn stamps_are_inverse()
+    ensures reads { (m : ℕ) → m < 52596000 → stamp_at (stamp_of m) ≡ Some m }
+    ensures writes { (bytes : List ℕ) (m : ℕ) → stamp_at bytes ≡ Some m → bytes ≡ stamp_of m }
+{}

@@ -1,0 +1,151 @@
+//! How a journal is read from a disk, record by record.
+ghost use Rattle.std.specs.Prelude.{◌≡◌, ◌⊎◌, ◌↔◌, ◌+◌, ◌<◌, ◌≤◌, ℕ, List, Option, None, Some, [], ◌∷◌, ◌++◌, length, IfOk, OnOk, IsTrue, IsErrOf};
+ghost use Rattle.std.specs.Int.{w32, to_be_bytes, from_be_bytes};
+ghost use Rattle.desk_traits.specs.Crash.{Passes};
+ghost use Rattle.desk_traits.specs.Faults.{Rose};
+ghost use Rattle.desk_traits.specs.File.{Same, IsWithin, IsLength, Only};
+ghost use Rattle.journal_core.specs.declared.adopt.ReadFault.TheVariants.{Failing, Memory};
+
+use crate::create::{Start, look};
+use desk_traits::{Disk, Failed};
+use hazard_types::{List, Oom, Text};
+use std::alloc::{AllocError, Global};
+
+/// Why reading stopped.
+#[derive(Clone, Copy, Debug, PartialEq, Eq)]
+pub(crate) enum ReadFault {
+    Failing,
+    Memory,
+}
+
+impl From<Failed> for ReadFault {
+    ghost from_gives = { λ _ e. e ≡ Failing };
+
+    fn from(_: Failed) -> Self {
+        ReadFault::Failing
+    }
+}
+
+impl From<Oom> for ReadFault {
+    ghost from_gives = { λ _ e. e ≡ Memory };
+
+    fn from(_: Oom) -> Self {
+        ReadFault::Memory
+    }
+}
+
+impl From<AllocError> for ReadFault {
+    ghost from_gives = { λ _ e. e ≡ Memory };
+
+    fn from(_: AllocError) -> Self {
+        ReadFault::Memory
+    }
+}
+
+/// What stands at a place.
+#[derive(Debug, Drop)]
+pub(crate) enum Step {
+    Body(Text),
+    Shut,
+    Cut,
+}
+
+/// What the whole file is.
+#[derive(Debug, Drop)]
+pub(crate) enum Found {
+    Whole { gate: u64, bodies: List<Text> },
+    Damaged { at: u64 },
+    Unmade,
+}
+
+ghost use Rattle.journal_core.specs.Image.{Fresh};
+ghost use Rattle.journal_core.specs.Adopt.{Steps, Ends, IsFound, Settles};
+
+// The number that four bytes spell, most significant first.
+fn size_of(head: [u8; 4]) -> u32
+    ensures value { result ≡ from_be_bytes w32 head }
+    ensures back { to_be_bytes w32 result ≡ head }
+{
+    u32::from_be_bytes(head)
+}
+
+// What stands at a place of a file of n bytes.
+fn read_record<D: Disk>(alloc: Global, disk: &mut D, at: u64, n: u64) -> Result<Step, ReadFault>
+    requires place { at < n }
+    requires length { IsLength n (D.seen disk.old) }
+    ensures seen { D.seen disk.new ≡ D.seen disk.old }
+    ensures syncs { D.syncs disk.new ≡ D.syncs disk.old }
+    ensures step { IfOk result (λ step. Steps at step (D.seen disk.old)) }
+    ensures bound { IfOk result (λ step. Ends at n step) }
+    ensures crash { Passes Same (D.moment disk.old) (D.moment disk.new) (D.may_leave disk.old) (D.left_since disk.old) (D.left_since disk.new) }
+    ensures later { D.faults disk.old ≤ D.faults disk.new }
+    ensures cause { IsErrOf result ReadFault.Failing → Rose (D.faults disk.old) (D.faults disk.new) }
+{
+    let mut gate = [0; 1];
+    disk.read_at(at, &mut gate)?;
+    if gate[0] != b'G' {
+        return Ok(Step::Shut);
+    }
+    if n - at < 6 {
+        return Ok(Step::Cut);
+    }
+    let mut head = [0; 4];
+    disk.read_at(at + 1, &mut head)?;
+    let size = size_of(head);
+    if n - at - 6 < u64::from(size) {
+        return Ok(Step::Cut);
+    }
+    let mut body = vec![in alloc; 0; size as usize]?;
+    disk.read_at(at + 5, &mut body)?;
+    Ok(Step::Body(List::from_vec(body)))
+}
+
+// What the whole file of n bytes is, which is known not to be fresh.
+fn scan<D: Disk>(alloc: Global, disk: &mut D, n: u64) -> Result<Found, ReadFault>
+    requires { IsLength n (D.seen disk.old) }
+    ensures seen { D.seen disk.new ≡ D.seen disk.old }
+    ensures syncs { D.syncs disk.new ≡ D.syncs disk.old }
+    ensures found { (file : List ℕ) → D.seen disk.old ≡ Some file → (Fresh file → ⊥) → IfOk result (λ found. IsFound found file) }
+    ensures crash { Passes Same (D.moment disk.old) (D.moment disk.new) (D.may_leave disk.old) (D.left_since disk.old) (D.left_since disk.new) }
+    ensures later { D.faults disk.old ≤ D.faults disk.new }
+    ensures cause { IsErrOf result ReadFault.Failing → Rose (D.faults disk.old) (D.faults disk.new) }
+{
+    let mut bodies: List<Text> = List::new(alloc);
+    let mut at: u64 = 0;
+    while at < n {
+        match read_record(alloc, disk, at, n)? {
+            Step::Cut => return Ok(Found::Damaged { at }),
+            Step::Shut => {
+                if at == 0 {
+                    return Ok(Found::Damaged { at });
+                }
+                return Ok(Found::Whole { gate: at, bodies });
+            }
+            Step::Body(body) => {
+                at += 5 + body.len() as u64;
+                bodies.push(body)?;
+            }
+        }
+    }
+    Ok(Found::Damaged { at })
+}
+
+// Makes what is there stable, and reads it.
+pub(crate) fn find<D: Disk>(alloc: Global, disk: &mut D) -> Result<Found, ReadFault>
+    ensures seen { D.seen disk.new ≡ D.seen disk.old }
+    ensures found { (file : List ℕ) → D.seen disk.old ≡ Some file → IfOk result (λ found. IsFound found file) }
+    ensures durable { (file : List ℕ) → D.seen disk.old ≡ Some file → OnOk result ((c : List ℕ) → D.may_leave disk.new c → c ≡ file) }
+    ensures settled { (file before : List ℕ) → D.seen disk.old ≡ Some file → D.syncs disk.old ≡ Some before → OnOk result (Settles D.moment D.left_since D.syncs before file disk.new) }
+    ensures crash { Passes Same (D.moment disk.old) (D.moment disk.new) (D.may_leave disk.old) (D.left_since disk.old) (D.left_since disk.new) }
+    ensures later { D.faults disk.old ≤ D.faults disk.new }
+    ensures cause { IsErrOf result ReadFault.Failing → Rose (D.faults disk.old) (D.faults disk.new) }
+{
+    match look(disk)? {
+        Start::Short => Ok(Found::Unmade),
+        Start::Begun => Ok(Found::Unmade),
+        Start::Other => {
+            let n = disk.len()?;
+            scan(alloc, disk, n)
+        }
+    }
+}

@@ -1,0 +1,129 @@
+//! How a body is added to a journal.
+ghost use Rattle.std.specs.Prelude.{◌≡◌, ◌⊎◌, ◌+◌, ◌<◌, ◌≤◌, ◌↔◌, ℕ, List, Option, None, Some, option_map, [], ◌∷◌, ◌++◌, length, IfOk, IfErr, OnOk, OnErr, MatchResult, IsTrue, IsErrOf};
+ghost use Rattle.desk_traits.specs.Crash.{LeavesOnly};
+ghost use Rattle.desk_traits.specs.Faults.{HasCause, Rose};
+ghost use Rattle.desk_traits.specs.File.{IsWithin, Only};
+ghost use Rattle.journal_core.specs.Image.{Image, Half, IsOneOf, Fresh};
+ghost use Rattle.journal_core.specs.Journal.{StandsFor, IsStaged, MayPend, Rests, LeavesBodies};
+ghost use Rattle.journal_core.specs.Packet.{framed};
+ghost use Rattle.journal_core.specs.Written.{put, with_record};
+ghost use Rattle.journal_core.specs.Kept.{disk_of, gate_of, Keeps};
+ghost use Rattle.journal_core.specs.declared.faults.AppendFault.TheVariants.{DiskFault};
+
+use crate::faults::AppendFault;
+use crate::journal::Journal;
+use crate::packet::Packet;
+use desk_traits::{Disk, Failed, write_synced};
+
+// The greatest number of bytes of a file.
+const LIMIT: u64 = 268_435_456;
+
+impl From<Failed> for AppendFault {
+    ghost from_gives = { λ _ e. e ≡ DiskFault };
+
+    fn from(_: Failed) -> Self {
+        AppendFault::DiskFault
+    }
+}
+
+impl<D: Disk> Journal<D> {
+    /// Whether a body of so many bytes has room.
+    pub fn room(&self, n: usize) -> bool
+        ensures { IsTrue result ↔ (gate_of self.now + 6 + n ≤ 268435456) }
+    {
+        self.gate <= LIMIT - 6 && n as u64 <= LIMIT - 6 - self.gate
+    }
+
+    /// Adds a body. It takes no memory.
+    pub fn append(&mut self, body: &Packet) -> Result<(), AppendFault>
+
+        // The file would be too long, and nothing is done.
+        ensures full { IsErrOf result AppendFault.Full ↔ (268435456 < gate_of self.old + 6 + length body.now) }
+        ensures unchanged { IsErrOf result AppendFault.Full → self.new ≡ self.old }
+
+        // The disk failed in this call.
+        ensures later { D.faults (disk_of self.old) ≤ D.faults (disk_of self.new) }
+        ensures cause { IsErrOf result AppendFault.DiskFault → Rose (D.faults (disk_of self.old)) (D.faults (disk_of self.new)) }
+
+        // From now on each crash leaves the bodies with this one, and nothing is pending.
+        ensures ok { (bodies : List (List ℕ)) (pending : Option (List ℕ)) → Keeps D.seen D.may_leave self.old bodies pending
+            → OnOk result (Keeps D.seen D.may_leave self.new (bodies ++ body.now ∷ []) None × Only (D.seen (disk_of self.new)) (D.may_leave (disk_of self.new))) }
+
+        // The body's record stands at the last gate, with a closed gate behind it, and no other byte is changed.
+        ensures written { (file : List ℕ) → D.seen (disk_of self.old) ≡ Some file → OnOk result (D.seen (disk_of self.new) ≡ Some (with_record (gate_of self.old) body.now file)) }
+
+        // The bodies are as before, and at most one is pending, which was so before or is this one. A crash now
+        // leaves the bodies, or them with the pending one.
+        ensures failed { (bodies : List (List ℕ)) (pending : Option (List ℕ)) → Keeps D.seen D.may_leave self.old bodies pending
+            → IsErrOf result AppendFault.DiskFault → (next : Option (List ℕ)) × MayPend pending body.now next × Keeps D.seen D.may_leave self.new bodies next
+            × ((c : List ℕ) → D.may_leave (disk_of self.new) c → LeavesBodies bodies next c) }
+
+        // A crash at any moment of the call leaves the bodies, with the one that was pending, with this one, or with neither.
+        ensures any_moment { (bodies : List (List ℕ)) (pending : Option (List ℕ)) → Keeps D.seen D.may_leave self.old bodies pending
+            → LeavesOnly D.moment D.left_since (disk_of self.old) (disk_of self.new) (IsOneOf bodies pending body.now) }
+    {
+        if !self.room(body.len()) {
+            return Err(AppendFault::Full);
+        }
+        self.close()?;
+        self.stage(body)?;
+        self.open(body)?;
+        Ok(())
+    }
+
+    // Closes the gate that may stand open since a fault.
+    fn close(&mut self) -> Result<(), Failed>
+        ensures put { OnOk result ((D.seen self.new.disk ≡ D.seen self.old.disk) ⊎ (D.seen self.new.disk ≡ option_map (put self.old.gate (46 ∷ [])) (D.seen self.old.disk))) }
+        ensures gate { self.new.gate ≡ self.old.gate }
+        ensures ok { (bodies : List (List ℕ)) (pending : Option (List ℕ)) → Keeps D.seen D.may_leave self.old bodies pending
+            → OnOk result (Keeps D.seen D.may_leave self.new bodies None) }
+        ensures err { (bodies : List (List ℕ)) (pending : Option (List ℕ)) → Keeps D.seen D.may_leave self.old bodies pending
+            → OnErr result (Keeps D.seen D.may_leave self.new bodies pending) }
+        ensures any_moment { (bodies : List (List ℕ)) (pending : Option (List ℕ)) → Keeps D.seen D.may_leave self.old bodies pending
+            → LeavesOnly D.moment D.left_since (disk_of self.old) (disk_of self.new) (Rests bodies pending) }
+        ensures cause { HasCause (D.faults (disk_of self.old)) (D.faults (disk_of self.new)) result }
+    {
+        if self.unsure {
+            write_synced(&mut self.disk, self.gate, b".")?;
+            self.unsure = false;
+        }
+        Ok(())
+    }
+
+    // Writes the body behind the closed gate.
+    fn stage(&mut self, body: &Packet) -> Result<(), Failed>
+        requires { self.old.gate + 6 + length body.now ≤ 268435456 }
+        ensures put { OnOk result (D.seen self.new.disk ≡ option_map (put (self.old.gate + 1) (framed body.now)) (D.seen self.old.disk)) }
+        ensures behind { OnOk result (IsWithin (self.new.gate + 6 + length body.now) (D.seen (disk_of self.new))) }
+        ensures gate { self.new.gate ≡ self.old.gate }
+        ensures ok { (bodies : List (List ℕ)) → Keeps D.seen D.may_leave self.old bodies None
+            → OnOk result (IsStaged D.seen D.may_leave self.new.disk self.new.gate bodies body.now) }
+        ensures err { (bodies : List (List ℕ)) → Keeps D.seen D.may_leave self.old bodies None
+            → OnErr result (Keeps D.seen D.may_leave self.new bodies None) }
+        ensures any_moment { (bodies : List (List ℕ)) → Keeps D.seen D.may_leave self.old bodies None
+            → LeavesOnly D.moment D.left_since (disk_of self.old) (disk_of self.new) (λ c. Image c bodies) }
+        ensures cause { HasCause (D.faults (disk_of self.old)) (D.faults (disk_of self.new)) result }
+    {
+        write_synced(&mut self.disk, self.gate + 1, body.framed())
+    }
+
+    // Opens the gate before the body that stands behind it.
+    fn open(&mut self, body: &Packet) -> Result<(), Failed>
+        requires within { IsWithin (self.old.gate + 6 + length body.now) (D.seen (disk_of self.old)) }
+        requires room { self.old.gate + 6 + length body.now ≤ 268435456 }
+        ensures put { OnOk result (D.seen self.new.disk ≡ option_map (put self.old.gate (71 ∷ [])) (D.seen self.old.disk)) }
+        ensures ok { (bodies : List (List ℕ)) → IsStaged D.seen D.may_leave self.old.disk self.old.gate bodies body.now
+            → OnOk result (Keeps D.seen D.may_leave self.new (bodies ++ body.now ∷ []) None × Only (D.seen (disk_of self.new)) (D.may_leave (disk_of self.new))) }
+        ensures err { (bodies : List (List ℕ)) → IsStaged D.seen D.may_leave self.old.disk self.old.gate bodies body.now
+            → OnErr result (Keeps D.seen D.may_leave self.new bodies (Some body.now)) }
+        ensures any_moment { (bodies : List (List ℕ)) → IsStaged D.seen D.may_leave self.old.disk self.old.gate bodies body.now
+            → LeavesOnly D.moment D.left_since (disk_of self.old) (disk_of self.new) (λ c. Half c bodies body.now) }
+        ensures cause { HasCause (D.faults (disk_of self.old)) (D.faults (disk_of self.new)) result }
+    {
+        self.unsure = true;
+        write_synced(&mut self.disk, self.gate, b"G")?;
+        self.unsure = false;
+        self.gate += body.framed().len() as u64;
+        Ok(())
+    }
+}

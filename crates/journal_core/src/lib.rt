@@ -1,0 +1,18 @@
+//! A list of bodies in one file, which a crash at any moment leaves whole.
+#![tactic(auto)]
+
+mod adopt;
+mod append;
+mod create;
+mod faults;
+mod journal;
+mod laws;
+mod opening;
+mod packet;
+#[cfg(test)]
+mod tests;
+
+pub use faults::{AdoptFault, AppendFault, CreateFault};
+pub use journal::Journal;
+pub use laws::read_in_one_way;
+pub use packet::Packet;

@@ -1,0 +1,113 @@
+//! How a journal is made, opened, and closed again.
+ghost use Rattle.std.specs.Prelude.{◌≡◌, ◌⊎◌, ◌+◌, ◌<◌, ◌≤◌, ◌↔◌, ℕ, List, Option, None, Some, [], ◌∷◌, ◌++◌, length, IfOk, IfErr, OnOk, OnErr, MatchResult, IsTrue, IsErrOf};
+ghost use Rattle.desk_traits.specs.Crash.{LeavesOnly};
+ghost use Rattle.desk_traits.specs.Faults.{HasCause, Rose};
+ghost use Rattle.desk_traits.specs.File.{IsWithin, Only};
+ghost use Rattle.journal_core.specs.Image.{Image, Half, IsOneOf, Fresh};
+ghost use Rattle.journal_core.specs.Journal.{StandsFor, IsStaged, MayPend, Rests};
+ghost use Rattle.journal_core.specs.Written.{with_record};
+ghost use Rattle.journal_core.specs.Kept.{disk_of, gate_of, Keeps};
+ghost use Rattle.journal_core.specs.Create.{IsMaking};
+ghost use Rattle.journal_core.specs.Adopt.{DamagedAt, Settles};
+
+use crate::adopt::{Found, ReadFault, find};
+use crate::create::make;
+use crate::faults::{AdoptFault, CreateFault};
+use crate::journal::Journal;
+use crate::packet::Packet;
+use desk_traits::Disk;
+use hazard_types::{List, Text};
+use std::alloc::Global;
+
+impl<D: Disk> Journal<D> {
+    /// Makes a journal of one body on a fresh disk.
+    pub fn create(mut disk: D, body: &Packet) -> Result<Journal<D>, (D, CreateFault)>
+
+        // The file was fresh, and the journal has this body alone, on the disk.
+        ensures fresh { (file : List ℕ) → D.seen disk ≡ Some file → OnOk result (Fresh file) }
+        ensures ok { (file : List ℕ) → D.seen disk ≡ Some file
+            → IfOk result (λ journal. Keeps D.seen D.may_leave journal (body.now ∷ []) None × Only (D.seen (disk_of journal)) (D.may_leave (disk_of journal))) }
+
+        // Its record stands at the begin of the file, with a closed gate behind it, and no other byte is changed.
+        ensures written { (file : List ℕ) → D.seen disk ≡ Some file → IfOk result (λ journal. D.seen (disk_of journal) ≡ Some (with_record 0 body.now file)) }
+
+        // The file was not fresh, and is as before.
+        ensures not_fresh { (file : List ℕ) → D.seen disk ≡ Some file → IfErr result (λ e. e.1 ≡ CreateFault.NotFresh → (Fresh file → ⊥)) }
+        ensures same { IfErr result (λ e. e.1 ≡ CreateFault.NotFresh → D.seen e.0 ≡ D.seen disk) }
+
+        ensures untouched { IfErr result (λ e. e.1 ≡ CreateFault.NotFresh → LeavesOnly D.moment D.left_since disk e.0 (D.may_leave disk)) }
+
+        // The disk failed in this call.
+        ensures cause { IfErr result (λ e. e.1 ≡ CreateFault.DiskFault → Rose (D.faults disk) (D.faults e.0)) }
+        ensures later { MatchResult result (λ journal. D.faults disk ≤ D.faults (disk_of journal)) (λ e. D.faults disk ≤ D.faults e.0) }
+
+        // A crash at any moment of the call leaves what one at its start might have left, or a file that is being made.
+        ensures any_moment { (file : List ℕ) → D.seen disk ≡ Some file
+            → MatchResult result
+            (λ journal. LeavesOnly D.moment D.left_since disk (disk_of journal) (λ c. D.may_leave disk c ⊎ IsMaking body.now c))
+            (λ e. LeavesOnly D.moment D.left_since disk e.0 (λ c. D.may_leave disk c ⊎ IsMaking body.now c)) }
+    {
+        let length = body.len();
+        match make(&mut disk, body) {
+            Err(_) => Err((disk, CreateFault::DiskFault)),
+            Ok(false) => Err((disk, CreateFault::NotFresh)),
+            Ok(true) => Ok(Journal {
+                disk,
+                gate: length as u64 + 5,
+                unsure: false,
+            }),
+        }
+    }
+
+    /// Opens the journal that a file holds, and answers its bodies.
+    pub fn adopt(alloc: Global, mut disk: D) -> Result<(Journal<D>, List<Text>), (D, AdoptFault)>
+
+        // The file is an image of exactly these bodies, all of it is stable, and nothing is pending.
+        ensures ok { (file : List ℕ) → D.seen disk ≡ Some file
+            → IfOk result (λ r. Image file r.1 × Keeps D.seen D.may_leave r.0 r.1 None × Only (D.seen (disk_of r.0)) (D.may_leave (disk_of r.0))) }
+
+        ensures fresh { (file : List ℕ) → D.seen disk ≡ Some file → IfErr result (λ e. e.1 ≡ AdoptFault.Fresh → Fresh file) }
+        ensures damaged { (file : List ℕ) → D.seen disk ≡ Some file → IfErr result (λ e. (at : ℕ) → e.1 ≡ AdoptFault.Damaged at → DamagedAt file at) }
+
+        // A crash since its first sync answered might have left what a read gives, and nothing else.
+        ensures settled { (file before : List ℕ) → D.seen disk ≡ Some file → D.syncs disk ≡ Some before
+            → IfOk result (λ r. Settles D.moment D.left_since D.syncs before file (disk_of r.0)) }
+
+        // The disk failed in this call.
+        ensures cause { IfErr result (λ e. e.1 ≡ AdoptFault.DiskFault → Rose (D.faults disk) (D.faults e.0)) }
+        ensures later { MatchResult result (λ r. D.faults disk ≤ D.faults (disk_of r.0)) (λ e. D.faults disk ≤ D.faults e.0) }
+
+        // Whatever it answers, a read gives the same, and a crash since its start leaves what one at its start might have left.
+        ensures seen { MatchResult result (λ r. D.seen (disk_of r.0) ≡ D.seen disk) (λ e. D.seen e.0 ≡ D.seen disk) }
+        ensures any_moment { MatchResult result
+            (λ r. LeavesOnly D.moment D.left_since disk (disk_of r.0) (D.may_leave disk))
+            (λ e. LeavesOnly D.moment D.left_since disk e.0 (D.may_leave disk)) }
+    {
+        match find(alloc, &mut disk) {
+            Err(ReadFault::Failing) => Err((disk, AdoptFault::DiskFault)),
+            Err(ReadFault::Memory) => Err((disk, AdoptFault::OutOfMemory)),
+            Ok(Found::Unmade) => Err((disk, AdoptFault::Fresh)),
+            Ok(Found::Damaged { at }) => Err((disk, AdoptFault::Damaged { at })),
+            Ok(Found::Whole { gate, bodies }) => Ok((
+                Journal {
+                    disk,
+                    gate,
+                    unsure: false,
+                },
+                bodies,
+            )),
+        }
+    }
+
+    /// The disk.
+    pub fn into_disk(self) -> D
+        ensures { result ≡ disk_of self }
+    {
+        let Journal {
+            disk,
+            gate: _,
+            unsure: _,
+        } = self;
+        disk
+    }
+}

@@ -1,0 +1,3 @@
+pub mod Passes
+pub mod Story
+pub mod Turns

@@ -1,0 +1,5 @@
+pub mod Grammar
+pub mod Faults
+pub mod Written
+pub mod Codes
+pub mod Reading

@@ -1,0 +1,353 @@
+//! UGC texts are read.
+ghost use Rattle.std.specs.Prelude.{◌≡◌, ◌⊎◌, ◌+◌, ◌*◌, ◌-◌, ◌≤◌, ◌<◌, ◌++◌, [], Some, None, Ok, IfOk, IfSome, OnOk, length, IsTrue, List as Seq, ℕ};
+ghost use Rattle.std.specs.List.Sorted.{IsStrictlySortedBy};
+ghost use Rattle.hazard_types.specs.Calendar.{is_digit};
+ghost use Rattle.hazard_types.specs.Given.{Gives};
+ghost use Rattle.hazard_types.specs.Places.{Place, by_place};
+ghost use Rattle.hazard_types.specs.declared.calendar.DayStamp.{DayStamp as Expiry};
+ghost use Rattle.ugc_codes.specs.Grammar.{is_day_stamp, day_text, add_run, is_gap, IsUgc};
+ghost use Rattle.ugc_codes.specs.Faults.{FirstFault};
+ghost use Rattle.ugc_codes.specs.Codes.{EndsInRange, kind_at, three_of, full_code, short_code, code_of, expiry_of, run_to, run_of, single_of, day_of, group_of};
+ghost use Rattle.ugc_codes.specs.Reading.{ugc_of, fault_at, Closes};
+
+use hazard_types::{DayStamp, Kind, List, Oom, Or, Zone};
+use std::alloc::Global;
+use std::collections::BTreeSet;
+
+/// What a UGC text says, and how many bytes it has.
+#[derive(Clone, Debug, Drop, PartialEq, Eq)]
+pub struct UgcRead {
+    /// The zones named, in order, each once.
+    pub zones: List<Zone>,
+    /// The day, hour and minute (UTC) of the last group.
+    pub expiry: DayStamp,
+    /// The bytes up to the hyphen of the expiry, with it.
+    pub used: usize,
+}
+
+/// Why bytes begin with no UGC text: the first fault.
+#[derive(Clone, Copy, Debug, PartialEq, Eq)]
+pub enum UgcFault {
+    /// The group at a byte is no code, run or expiry.
+    NotACode { at: usize },
+    /// The end of the run at a byte is not greater.
+    BadRange { at: usize },
+    /// The bytes end before the expiry does.
+    CutShort,
+}
+
+/// What a group says: a zone, or a run of zones to a last number; or the expiry.
+#[derive(Clone, Copy, Debug)]
+pub enum Group {
+    Zones(Zone, u16),
+    Expiry(DayStamp),
+}
+
+#[derive(Clone, Copy, Debug)]
+pub enum Refused {
+    NoCode,
+    NoRange,
+}
+
+fn kind_of(code: u8) -> Option<Kind>
+    ensures { result ≡ kind_at code }
+{
+    match code {
+        b'C' => Some(Kind::C),
+        b'Z' => Some(Kind::Z),
+        _ => None,
+    }
+}
+
+#[tactic(auto, unfolding(crate::specs::Codes::three_of))]
+fn three_of(x: u8, y: u8, z: u8) -> Option<u16>
+    ensures value { result ≡ three_of x y z }
+    ensures range { IfSome result (λ n. n ≤ 999) }
+{
+    if x.is_ascii_digit() && y.is_ascii_digit() && z.is_ascii_digit() {
+        Some(100 * u16::from(x - b'0') + 10 * u16::from(y - b'0') + u16::from(z - b'0'))
+    } else {
+        None
+    }
+}
+
+#[tactic(auto, unfolding(crate::specs::Codes::full_code))]
+fn full_code(text: &[u8; 6]) -> Option<Zone>
+    ensures { result ≡ full_code text.now }
+{
+    let kind = kind_of(text[2])?;
+    let number = three_of(text[3], text[4], text[5])?;
+    Zone::new([text[0], text[1]], kind, number)
+}
+
+#[tactic(auto, unfolding(crate::specs::Codes::short_code))]
+fn short_code(before: &Option<Zone>, text: &[u8; 3]) -> Option<Zone>
+    ensures { result ≡ short_code before.now text.now }
+{
+    let before = (*before)?;
+    let number = three_of(text[0], text[1], text[2])?;
+    if 1 <= number && number <= 999 {
+        Some(before.with_number(number))
+    } else {
+        None
+    }
+}
+
+fn code_of(before: &Option<Zone>, text: &[u8]) -> Option<Zone>
+    ensures { result ≡ code_of before.now text.now }
+{
+    match text {
+        [a, b, c, x, y, z] => full_code(&[*a, *b, *c, *x, *y, *z]),
+        [x, y, z] => short_code(before, &[*x, *y, *z]),
+        _ => None,
+    }
+}
+
+/// Two digits, whose number is below a hundred.
+fn two_of(tens: u8, ones: u8) -> u8
+    requires tens { IsTrue (is_digit tens) }
+    requires ones { IsTrue (is_digit ones) }
+    ensures { result ≡ 10 * (tens - 48) + (ones - 48) }
+{
+    10 * (tens - b'0') + (ones - b'0')
+}
+
+fn is_day_stamp(d: DayStamp) -> bool
+    ensures { result ≡ is_day_stamp d }
+{
+    1 <= d.day && d.day <= 31 && d.hour <= 23 && d.minute <= 59
+}
+
+#[tactic(auto, unfolding(crate::specs::Codes::expiry_of))]
+fn day_stamp_of(text: &[u8]) -> Option<DayStamp>
+    ensures { result ≡ expiry_of text.now }
+{
+    let [a, b, c, d, e, f] = text else {
+        return None;
+    };
+    if !(a.is_ascii_digit()
+        && b.is_ascii_digit()
+        && c.is_ascii_digit()
+        && d.is_ascii_digit()
+        && e.is_ascii_digit()
+        && f.is_ascii_digit())
+    {
+        return None;
+    }
+    let stamp = DayStamp {
+        day: two_of(*a, *b),
+        hour: two_of(*c, *d),
+        minute: two_of(*e, *f),
+    };
+    if is_day_stamp(stamp) {
+        Some(stamp)
+    } else {
+        None
+    }
+}
+
+/// The day, hour and minute of six digits; None where they are none.
+#[tactic(auto, using(crate::proofs::Groups::expiry_back, crate::proofs::Groups::expiry_is_read))]
+pub fn expiry_of(text: &[u8]) -> Option<DayStamp>
+    ensures found { IfSome result (λ d. IsTrue (is_day_stamp d) × (text.now ≡ day_text d)) }
+    ensures only { (d : Expiry) → IsTrue (is_day_stamp d) → text.now ≡ day_text d → result ≡ Some d }
+    ensures value { result ≡ expiry_of text.now }
+{
+    day_stamp_of(text)
+}
+
+fn run_to(first: Zone, last: u16) -> Result<Group, Refused>
+    requires { last ≤ 999 }
+    ensures value { result ≡ run_to first last }
+    ensures range { IfOk result EndsInRange }
+{
+    if first.number() < last {
+        Ok(Group::Zones(first, last))
+    } else {
+        Err(Refused::NoRange)
+    }
+}
+
+#[tactic(auto, unfolding(crate::specs::Codes::run_of))]
+fn run_of(before: &Option<Zone>, text: &[u8]) -> Result<Group, Refused>
+    requires { 4 ≤ length text.now }
+    ensures value { result ≡ run_of before.now text.now }
+    ensures range { IfOk result EndsInRange }
+{
+    let from = text.len() - 3;
+    let Some(first) = code_of(before, &text[..from - 1]) else {
+        return Err(Refused::NoCode);
+    };
+    let Some(last) = three_of(text[from], text[from + 1], text[from + 2]) else {
+        return Err(Refused::NoCode);
+    };
+    run_to(first, last)
+}
+
+#[tactic(auto, unfolding(crate::specs::Codes::single_of))]
+fn single_of(before: &Option<Zone>, text: &[u8]) -> Result<Group, Refused>
+    ensures value { result ≡ single_of before.now text.now }
+    ensures range { IfOk result EndsInRange }
+{
+    match code_of(before, text) {
+        Some(zone) => Ok(Group::Zones(zone, zone.number())),
+        None => Err(Refused::NoCode),
+    }
+}
+
+#[tactic(auto, unfolding(crate::specs::Codes::day_of))]
+fn day_of(before: &Option<Zone>, text: &[u8]) -> Result<Group, Refused>
+    ensures value { result ≡ day_of before.now text.now }
+    ensures range { IfOk result EndsInRange }
+{
+    if before.is_none() {
+        return Err(Refused::NoCode);
+    }
+    match expiry_of(text) {
+        Some(expiry) => Ok(Group::Expiry(expiry)),
+        None => Err(Refused::NoCode),
+    }
+}
+
+#[tactic(auto, unfolding(crate::specs::Codes::group_of))]
+fn group_of(before: &Option<Zone>, text: &[u8]) -> Result<Group, Refused>
+    ensures value { result ≡ group_of before.now text.now }
+    ensures range { IfOk result EndsInRange }
+{
+    let code = code_of(before, text);
+    if text.len() >= 4 && text[text.len() - 4] == b'>' {
+        run_of(before, text)
+    } else if code.is_some() {
+        single_of(before, text)
+    } else {
+        day_of(before, text)
+    }
+}
+
+/// Adds the zones from one to a last number.
+fn add_run(zones: &mut BTreeSet<Zone>, first: Zone, last: u16) -> Result<(), Oom>
+    requires { last ≤ 999 }
+    ensures { OnOk result (zones.new.keys ≡ add_run zones.old.keys first (last + 1 - first.number)) }
+{
+    for number in first.number()..last + 1 {
+        zones.insert(first.with_number(number))?;
+    }
+    Ok(())
+}
+
+/// The zones in order.
+fn list_of(alloc: Global, zones: BTreeSet<Zone>) -> Result<List<Zone>, Oom>
+    ensures value { IfOk result (λ list. list ≡ zones.keys) }
+    ensures sorted { IfOk result (λ list. IsStrictlySortedBy by_place list) }
+{
+    let mut list = List::new(alloc);
+    for zone in zones {
+        list.push(zone)?;
+    }
+    Ok(list)
+}
+
+fn is_gap(c: u8) -> bool
+    ensures { result ≡ is_gap c }
+{
+    c == b' ' || c == b'\t' || c == b'\r' || c == b'\n'
+}
+
+/// The zones named so far, and the last code.
+#[derive(Drop)]
+struct Named {
+    zones: BTreeSet<Zone>,
+    before: Option<Zone>,
+}
+
+fn fault_at(at: usize, refused: Refused) -> UgcFault
+    ensures { result ≡ fault_at at refused }
+{
+    match refused {
+        Refused::NoCode => UgcFault::NotACode { at },
+        Refused::NoRange => UgcFault::BadRange { at },
+    }
+}
+
+/// A group ends: its zones are added, or it is the expiry.
+fn close(named: &mut Named, text: &[u8], start: usize) -> Result<Option<DayStamp>, Or<UgcFault>>
+    ensures { Closes result start named.old.before named.old.zones.keys named.new.before named.new.zones.keys (group_of named.old.before text.now) }
+{
+    let group = match group_of(&named.before, text) {
+        Ok(group) => group,
+        Err(refused) => return Err(Or::No(fault_at(start, refused))),
+    };
+    match group {
+        Group::Zones(first, last) => {
+            add_run(&mut named.zones, first, last)?;
+            named.before = Some(first);
+            Ok(None)
+        }
+        Group::Expiry(expiry) => Ok(Some(expiry)),
+    }
+}
+
+fn read(alloc: Global, bytes: &[u8]) -> Result<UgcRead, Or<UgcFault>>
+    ensures exact { Gives result (ugc_of bytes.now) }
+    ensures sorted { IfOk result (λ u. IsStrictlySortedBy by_place u.zones) }
+    ensures used { IfOk result (λ u. u.used ≤ length bytes.now) }
+{
+    let mut named = Named {
+        zones: BTreeSet::new(alloc),
+        before: None,
+    };
+    let mut start = 0;
+    for (at, c) in bytes.iter().enumerate() {
+        if *c == b'-' {
+            match close(&mut named, &bytes[start..at], start)? {
+                None => start = at + 1,
+                Some(expiry) => {
+                    let zones = list_of(alloc, named.zones)?;
+                    return Ok(UgcRead {
+                        zones,
+                        expiry,
+                        used: at + 1,
+                    });
+                }
+            }
+        } else if is_gap(*c) && start == at && named.before.is_some() {
+            start = at + 1;
+        }
+    }
+    Err(Or::No(UgcFault::CutShort))
+}
+
+/// The UGC text that bytes begin with, or the first fault.
+pub fn read_ugc(alloc: Global, bytes: &[u8]) -> Result<UgcRead, Or<UgcFault>>
+    // What is read is in the grammar, and each text of the grammar is read, unless memory runs out.
+    ensures found { IfOk result (λ u. IsUgc bytes.now u.zones u.expiry u.used) }
+    ensures only { (zones : Seq Place) (d : Expiry) (n : ℕ) → IsUgc bytes.now zones d n → Gives result (Ok (record { zones = zones; expiry = d; used = n })) }
+
+    // What is refused has this fault first, and each first fault is named, unless memory runs out.
+    ensures fault { (f : UgcFault) → result ≡ Err (Or.No f) → FirstFault bytes.now f }
+    ensures fault_only { (f : UgcFault) → FirstFault bytes.now f → Gives result (Err f) }
+
+    // What is read may be written: some zones in order, each once, and an expiry in its range.
+    ensures some { IfOk result (λ u. 0 < length u.zones) }
+    ensures sorted { IfOk result (λ u. IsStrictlySortedBy by_place u.zones) }
+    ensures expiry { IfOk result (λ u. IsTrue (is_day_stamp u.expiry)) }
+    ensures used { IfOk result (λ u. u.used ≤ length bytes.now) }
+
+    // The same as one function of the bytes.
+    ensures exact { Gives result (ugc_of bytes.now) }
+{
+    read(alloc, bytes)
+}
+
+/// Bytes begin with one UGC text at most, whatever follows it, and no UGC text is a proper prefix of another.
+pub fn one_text()
+    ensures same { (bytes more : Seq ℕ) (zones zones' : Seq Place) (d d' : Expiry) (n n' : ℕ) → IsUgc bytes zones d n → IsUgc (bytes ++ more) zones' d' n' → (zones ≡ zones') × (d ≡ d') × (n ≡ n') }
+    ensures no_prefix { (text more : Seq ℕ) (zones zones' : Seq Place) (d d' : Expiry) → IsUgc text zones d (length text) → IsUgc (text ++ more) zones' d' (length (text ++ more)) → more ≡ [] }
+{}
+
+/// Bytes begin with a UGC text or have a first fault, never both, and one fault at most.
+pub fn text_or_fault()
+    ensures either { (bytes : Seq ℕ) → ((zones : Seq Place) × (d : Expiry) × (n : ℕ) × IsUgc bytes zones d n) ⊎ ((f : UgcFault) × FirstFault bytes f) }
+    ensures not_both { (bytes : Seq ℕ) (zones : Seq Place) (d : Expiry) (n : ℕ) (f : UgcFault) → IsUgc bytes zones d n → FirstFault bytes f → ⊥ }
+    ensures one_fault { (bytes : Seq ℕ) (f g : UgcFault) → FirstFault bytes f → FirstFault bytes g → f ≡ g }
+{}

@@ -1,0 +1,233 @@
+//! UGC texts are written.
+ghost use Rattle.std.specs.Prelude.{◌≡◌, ◌+◌, ◌≤◌, ◌<◌, ◌++◌, ◌∷◌, [], List as Seq, ℕ, Some, IfOk, OnOk, IsTrue, length, if◌then◌else◌};
+ghost use Rattle.std.specs.List.{All};
+ghost use Rattle.std.specs.List.Sorted.{IsStrictlySortedBy};
+ghost use Rattle.hazard_types.specs.Places.{Place, by_place, IsPlace};
+ghost use Rattle.hazard_types.specs.declared.calendar.DayStamp.{DayStamp as Expiry};
+ghost use Rattle.ugc_codes.specs.Grammar.{is_day_stamp, kind_code, two_digits, three_digits, day_text, code_text, run_end, IsUgc};
+ghost use Rattle.ugc_codes.specs.Written.{EndsBelow, are_alike, goes_on, pieces, groups, code_part, own_text, put_text, put_column, ugc_text};
+
+use crate::span::Span;
+use hazard_types::{DayStamp, Kind, List, Oom, Text, Zone};
+use std::alloc::Global;
+
+fn kind_code(kind: Kind) -> u8
+    ensures { result ≡ kind_code kind }
+{
+    match kind {
+        Kind::C => b'C',
+        Kind::Z => b'Z',
+    }
+}
+
+fn three_digits(n: u16) -> [u8; 3]
+    requires { n ≤ 999 }
+    ensures { result ≡ three_digits n }
+{
+    [
+        b'0' + (n / 100) as u8,
+        b'0' + (n / 10 % 10) as u8,
+        b'0' + (n % 10) as u8,
+    ]
+}
+
+/// Whether two places have one state and kind.
+fn are_alike(a: &Zone, b: &Zone) -> bool
+    ensures { result ≡ are_alike a.now b.now }
+{
+    let x = a.state();
+    let y = b.state();
+    x[0] == y[0] && x[1] == y[1] && kind_code(a.kind()) == kind_code(b.kind())
+}
+
+/// Whether a place comes just behind a span.
+fn goes_on(span: &Span, zone: &Zone) -> bool
+    ensures value { result ≡ goes_on span.now zone.now }
+    ensures place { IsPlace zone.now }
+{
+    let number = zone.number();
+    are_alike(&span.first, zone) && u32::from(number) == u32::from(span.last) + 1
+}
+
+/// Adds a run, where it has three zones or more, or its zones.
+fn push_pieces(groups: &mut List<Span>, span: &Span) -> Result<(), Oom>
+    requires { span.now.last ≤ 999 }
+    ensures value { OnOk result (groups.new ≡ groups.old ++ pieces span.now) }
+    ensures range { OnOk result (All EndsBelow groups.old → All EndsBelow groups.new) }
+{
+    let first = span.first;
+    let number = first.number();
+    if span.last == number + 1 {
+        groups.push(Span {
+            first,
+            last: number,
+        })?;
+        let second = first.with_number(number + 1);
+        groups.push(Span {
+            first: second,
+            last: number + 1,
+        })
+    } else {
+        groups.push(Span {
+            first,
+            last: span.last,
+        })
+    }
+}
+
+/// The groups of zones in order.
+fn groups_of(alloc: Global, zones: &[Zone]) -> Result<List<Span>, Oom>
+    requires { 0 < length zones.now }
+    ensures value { IfOk result (λ list. list ≡ groups zones.now) }
+    ensures range { IfOk result (λ list. All EndsBelow list) }
+    ensures places { OnOk result (All IsPlace zones.now) }
+{
+    let mut list = List::new(alloc);
+    let first = zones[0];
+    let mut span = Span {
+        first,
+        last: first.number(),
+    };
+    for zone in &zones[1..] {
+        if goes_on(&span, zone) {
+            span.last = zone.number();
+        } else {
+            push_pieces(&mut list, &span)?;
+            span = Span {
+                first: *zone,
+                last: zone.number(),
+            };
+        }
+    }
+    push_pieces(&mut list, &span)?;
+    Ok(list)
+}
+
+fn code_of(zone: &Zone) -> [u8; 6]
+    ensures { result ≡ code_text zone.now }
+{
+    let state = zone.state();
+    let digits = three_digits(zone.number());
+    [
+        state[0],
+        state[1],
+        kind_code(zone.kind()),
+        digits[0],
+        digits[1],
+        digits[2],
+    ]
+}
+
+/// Adds a code, short behind another of its state and kind.
+fn push_code(own: &mut Text, before: &Option<Zone>, zone: &Zone) -> Result<(), Oom>
+    ensures value { OnOk result (own.new ≡ own.old ++ code_part before.now zone.now) }
+    ensures short { OnOk result (length own.new ≤ length own.old + 6) }
+{
+    match before {
+        Some(before) => {
+            if are_alike(before, zone) {
+                own.extend(&three_digits(zone.number()))
+            } else {
+                own.extend(&code_of(zone))
+            }
+        }
+        None => own.extend(&code_of(zone)),
+    }
+}
+
+/// Adds the end of a run.
+#[tactic(auto, unfolding(crate::specs::Grammar::run_end))]
+fn push_end(own: &mut Text, span: &Span) -> Result<(), Oom>
+    requires { span.now.last ≤ 999 }
+    ensures value { OnOk result (own.new ≡ own.old ++ run_end span.now) }
+    ensures short { OnOk result (length own.new ≤ length own.old + 4) }
+{
+    if span.first.number() == span.last {
+        return Ok(());
+    }
+    let digits = three_digits(span.last);
+    own.extend(&[b'>', digits[0], digits[1], digits[2]])
+}
+
+/// A group and its hyphen.
+fn own_of(alloc: Global, before: &Option<Zone>, span: &Span) -> Result<Text, Oom>
+    requires { span.now.last ≤ 999 }
+    ensures value { IfOk result (λ own. own ≡ own_text before.now span.now) }
+    ensures short { IfOk result (λ own. length own ≤ 11) }
+{
+    let mut own = List::new(alloc);
+    push_code(&mut own, before, &span.first)?;
+    push_end(&mut own, span)?;
+    own.push(b'-')?;
+    Ok(own)
+}
+
+/// Puts a group on the line, or on the next; the answer is the column behind it.
+fn put(out: &mut Text, column: usize, own: &[u8]) -> Result<usize, Oom>
+    requires column { column ≤ 66 }
+    requires short { length own.now ≤ 11 }
+    ensures text { OnOk result (out.new ≡ put_text out.old column own.now) }
+    ensures column { IfOk result (λ next. next ≡ put_column column own.now) }
+    ensures within { IfOk result (λ next. next ≤ 66) }
+{
+    let passes = column + own.len() > 66;
+    if passes {
+        out.push(b'\n')?;
+        out.extend(own)?;
+        Ok(own.len())
+    } else {
+        out.extend(own)?;
+        Ok(column + own.len())
+    }
+}
+
+fn two_digits(n: u8) -> [u8; 2]
+    requires { n < 100 }
+    ensures { result ≡ two_digits n }
+{
+    [b'0' + n / 10, b'0' + n % 10]
+}
+
+fn day_group(d: DayStamp) -> [u8; 7]
+    requires { IsTrue (is_day_stamp d) }
+    ensures { result ≡ day_text d ++ 45 ∷ [] }
+{
+    let day = two_digits(d.day);
+    let hour = two_digits(d.hour);
+    let minute = two_digits(d.minute);
+    [day[0], day[1], hour[0], hour[1], minute[0], minute[1], b'-']
+}
+
+#[tactic(auto, unfolding(crate::specs::Written::ugc_text))]
+fn write(alloc: Global, zones: &[Zone], expiry: DayStamp) -> Result<Text, Oom>
+    requires some { 0 < length zones.now }
+    requires expiry { IsTrue (is_day_stamp expiry) }
+    ensures value { IfOk result (λ text. text ≡ ugc_text zones.now expiry) }
+    ensures places { OnOk result (All IsPlace zones.now) }
+{
+    let groups = groups_of(alloc, zones)?;
+    let mut text = List::new(alloc);
+    let mut column = 0;
+    let mut before = None;
+    for span in groups.as_slice() {
+        let own = own_of(alloc, &before, span)?;
+        column = put(&mut text, column, own.as_slice())?;
+        before = Some(span.first);
+    }
+    put(&mut text, column, &day_group(expiry))?;
+    Ok(text)
+}
+
+/// The UGC text of zones in order, each once. Its lines have at most 66 characters, with LF between them and none at the end.
+pub fn write_ugc(alloc: Global, zones: &List<Zone>, expiry: DayStamp) -> Result<Text, Oom>
+    requires some { 0 < length zones.now }
+    requires sorted { IsStrictlySortedBy by_place zones.now }
+    requires expiry { IsTrue (is_day_stamp expiry) }
+    ensures value { IfOk result (λ text. text ≡ ugc_text zones.now expiry) }
+    // It reads back, whatever bytes follow.
+    ensures back { IfOk result (λ text. (rest : Seq ℕ) → IsUgc (text ++ rest) zones.now expiry (length text)) }
+    // No longer UGC text begins with it.
+    ensures alone { IfOk result (λ text. (more : Seq ℕ) (named : Seq Place) (d : Expiry) (n : ℕ) → IsUgc (text ++ more) named d n → (named ≡ zones.now) × (d ≡ expiry) × (n ≡ length text)) }
+{
+    write(alloc, zones.as_slice(), expiry)
+}
