@@ -50,14 +50,14 @@ abbrev accepted_with : Place → ℕ → Accepted
 accepted_with zone minute = record { zone = zone; end = minute }
 
 -- the values of what was accepted
-chain : (pa pb pc pd pe pf pg ph : Part) (flood texts hazard begin : Bool) (end : Option ℕ) (zone : Option Place) (fresh : Place → Bool) (count clock : Bool) (e : TrainingRefusal) (period : ℕ → Bool) (f : TrainingRefusal) (a : Accepted)
-    → need_that pa flood (need_that pb texts (need_that pc hazard (need_that pd begin (need pe end >>= λ m. need pf zone >>= λ z. need_that pg (fresh z) (need_that ph count (cond clock (Err e) (cond (period m) (Err f) (Ok (accepted_with z m))))))))) ≡ Ok a
-    → (m : ℕ) × (z : Place) × (end ≡ Some m) × (zone ≡ Some z) × (count ≡ true) × (clock ≡ false) × (accepted_with z m ≡ a)
-chain pa pb pc pd pe pf pg ph false texts hazard begin end zone fresh count clock e period f a h = absurd (cc)
-chain pa pb pc pd pe pf pg ph true false hazard begin end zone fresh count clock e period f a h = absurd (cc)
-chain pa pb pc pd pe pf pg ph true true false begin end zone fresh count clock e period f a h = absurd (cc)
-chain pa pb pc pd pe pf pg ph true true true false end zone fresh count clock e period f a h = absurd (cc)
-chain pa pb pc pd pe pf pg ph true true true true None zone fresh count clock e period f a h = absurd (cc)
+chain : (pa pb pc pd pe pf pg ph : Part) (flood texts hazard begin : Bool) (end : Option ℕ) (found : Option Place) (fresh : Place → Bool) (count clock : Bool) (e : TrainingRefusal) (period : ℕ → Bool) (f : TrainingRefusal) (a : Accepted)
+    → need_that pa flood (need_that pb texts (need_that pc hazard (need_that pd begin (need pe end >>= λ m. need pf found >>= λ z. need_that pg (fresh z) (need_that ph count (cond clock (Err e) (cond (period m) (Err f) (Ok (accepted_with z m))))))))) ≡ Ok a
+    → (m : ℕ) × (z : Place) × (end ≡ Some m) × (found ≡ Some z) × (count ≡ true) × (clock ≡ false) × (accepted_with z m ≡ a)
+chain pa pb pc pd pe pf pg ph false texts hazard begin end found fresh count clock e period f a h = absurd (cc)
+chain pa pb pc pd pe pf pg ph true false hazard begin end found fresh count clock e period f a h = absurd (cc)
+chain pa pb pc pd pe pf pg ph true true false begin end found fresh count clock e period f a h = absurd (cc)
+chain pa pb pc pd pe pf pg ph true true true false end found fresh count clock e period f a h = absurd (cc)
+chain pa pb pc pd pe pf pg ph true true true true None found fresh count clock e period f a h = absurd (cc)
 chain pa pb pc pd pe pf pg ph true true true true (Some m) None fresh count clock e period f a h = absurd (cc)
 chain pa pb pc pd pe pf pg ph true true true true (Some m) (Some z) fresh count clock e period f a h =
     let last = cond (period m) (Err f) (Ok (accepted_with z m)) in
