@@ -5,3 +5,5 @@ pub mod Running
 pub mod Ending
 pub mod Expiries
 pub mod Statuses
+pub mod Soundness
+pub mod Telling

@@ -1,10 +1,13 @@
 -- What was read and written at each status.
-use Rattle.std.proofs.Common.{ℕ, ◌≡◌, ◌≢◌, ◌⊎◌, inl, inr, List, ◌++◌, refl, ap, sym, ◌∙◌, append_assoc, Option, Err, rules, arith}
+use Rattle.std.proofs.Common.{ℕ, ◌≡◌, ◌≢◌, ◌⊎◌, inl, inr, List, ◌++◌, refl, ap, sym, ◌∙◌, append_assoc, Option, Ok, Err, IsTrue, [], rules, arith}
 use Rattle.desk_traits.specs.Streams.{Adds}
 use Rattle.desk_traits.proofs.Pieces.{adds_both}
 use Rattle.warn_main.specs.declared.run.Stop.{Stop}
 use Rattle.warn_main.specs.declared.run.Stop.TheVariants as stop
 use Rattle.warn_main.specs.declared.words.Dry.{Dry}
+use Rattle.vtec_string.specs.Columns.{is_office}
+use Rattle.warn_main.specs.Lines.{lines_of}
+use Rattle.warn_main.proofs.Telling.{answers_told}
 use Rattle.warn_main.specs.Runs.{AddsFront, Ends, IsDryRun, IsFaultLine, read_fault_line, write_fault_line, no_memory_line, too_long_line}
 
 module _ (dry : Dry) (left left' taken mid taken' : Option (List ℕ)) (status : ℕ) where
@@ -23,6 +26,7 @@ module _ (dry : Dry) (left left' taken mid taken' : Option (List ℕ)) (status :
     fits = λ h. absurd (not_either 0 7 (λ q. omega arith) (λ q. omega arith) h);
     ended = λ q. absurd (omega arith);
     answered = λ q. absurd (omega arith);
+    segments = λ q. absurd (omega arith);
     read_fault = λ q. absurd (omega arith);
     over = λ q. absurd (omega arith);
     too_long = λ q. absurd (omega arith);
@@ -49,6 +53,7 @@ module _ (dry : Dry) (left left' taken mid taken' : Option (List ℕ)) (status :
         fits = λ h. told.0;
         ended = λ q. absurd (omega arith);
         answered = λ q. absurd (omega arith);
+        segments = λ q. absurd (omega arith);
         read_fault = λ _. ap (λ (t : List ℕ). t ++ read_fault_line) told.1;
         over = λ q. absurd (omega arith);
         too_long = λ q. absurd (omega arith);
@@ -70,6 +75,7 @@ module _ (dry : Dry) (left left' taken mid taken' : Option (List ℕ)) (status :
         fits = λ h. absurd (not_either 0 7 (λ q. omega arith) (λ q. omega arith) h);
         ended = λ q. absurd (omega arith);
         answered = λ q. absurd (omega arith);
+        segments = λ q. absurd (omega arith);
         read_fault = λ q. absurd (omega arith);
         over = λ _. told.0;
         too_long = λ _. ap (λ (t : List ℕ). t ++ too_long_line) told.1;
@@ -89,6 +95,7 @@ module _ (dry : Dry) (left left' taken mid taken' : Option (List ℕ)) (status :
     fits = λ h. absurd (not_either 0 7 (λ q. omega arith) (λ q. omega arith) h);
     ended = λ q. absurd (omega arith);
     answered = λ q. absurd (omega arith);
+    segments = λ q. absurd (omega arith);
     read_fault = λ q. absurd (omega arith);
     over = λ q. absurd (omega arith);
     too_long = λ q. absurd (omega arith);
@@ -101,3 +108,23 @@ module _ (dry : Dry) (left left' taken mid taken' : Option (List ℕ)) (status :
   pub write_fault_run : {T R : Type 0} → Ends {T = T} dry left left' taken mid (Err stop.Write) → ((status ≡ 8) ⊎ ((status ≡ 8) × R)) → AddsFront mid taken' write_fault_line → IsDryRun dry left left' taken taken' status
   write_fault_run ends (inl e) some = cut_run stop.Write ends write_fault_line (search rules) some e
   write_fault_run ends (inr (e, r)) some = cut_run stop.Write ends write_fault_line (search rules) some e
+
+  -- the input was read to its end
+  pub answered_run : {T : Type 0} (x : T) → IsTrue (is_office dry.office) → Ends dry left left' taken mid (Ok x) → status ≡ 0 → IsDryRun dry left left' taken mid status
+  answered_run x office ends e = record {
+    read = ends.read;
+    written = ends.written;
+    takes = ends.takes;
+    adds = ends.adds;
+    within = ends.within;
+    fits = λ h. ends.ended.1;
+    ended = λ _. ends.ended.0;
+    answered = λ _. ends.ended.2;
+    segments = λ _. rw ends.ended.2 (answers_told dry office [] (lines_of ends.read));
+    read_fault = λ q. absurd (omega arith);
+    over = λ q. absurd (omega arith);
+    too_long = λ q. absurd (omega arith);
+    no_memory = λ q. absurd (omega arith);
+    write_fault = λ q. absurd (omega arith);
+    others = search rules;
+  }

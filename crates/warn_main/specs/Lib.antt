@@ -2,4 +2,5 @@ pub mod Words
 pub mod Lines
 pub mod Judging
 pub mod Answers
+pub mod Segments
 pub mod Runs

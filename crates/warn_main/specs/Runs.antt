@@ -1,11 +1,12 @@
 -- What a run reads and writes, for each status.
-use Rattle.std.specs.Prelude.{◌≡◌, ◌≤◌, ◌⊎◌, ℕ, ◌+◌, ◌++◌, List, length, take, Option, codes, Result, OnOk, IsErrOf}
+use Rattle.std.specs.Prelude.{◌≡◌, ◌≤◌, ◌⊎◌, ℕ, ◌+◌, ◌++◌, List, [], length, take, Option, codes, Result, OnOk, IsErrOf}
 use Rattle.desk_traits.specs.Streams.{Takes, Adds, IsAtEnd}
 use Rattle.warn_main.specs.declared.run.Stop.{Stop}
 use Rattle.warn_main.specs.declared.run.Stop.TheVariants as stop
 use Rattle.warn_main.specs.declared.words.Dry.{Dry}
 use Rattle.hazard_types.specs.Places.{Place}
-use Rattle.warn_main.specs.Lines.{Pending, pending_of, lines_from, rest_from}
+use Rattle.warn_main.specs.Lines.{Pending, pending_of, lines_from, rest_from, lines_of}
+use Rattle.warn_main.specs.Segments.{Segments, numbered_from, accepted_lines}
 use Rattle.warn_main.specs.Answers.{answers, zones_after, answers_to, answers_so_far}
 
 -- the most bytes of an input that is answered to its end
@@ -63,6 +64,8 @@ pub record IsDryRun (dry : Dry) (left left' taken taken' : Option (List ℕ)) (s
   pub fits : ((status ≡ 0) ⊎ (status ≡ 7)) → length read ≤ limit
   pub ended : status ≡ 0 → IsAtEnd left'
   pub answered : status ≡ 0 → written ≡ answers_to dry read
+  -- Its segments say the zones and periods of the accepted lines, numbered 1, 2 and so on.
+  pub segments : status ≡ 0 → Segments written (numbered_from dry 1 (accepted_lines dry [] (lines_of read)))
   pub read_fault : status ≡ 7 → written ≡ answers_so_far dry read ++ read_fault_line
   pub over : status ≡ 13 → length read ≡ limit + 1
   pub too_long : status ≡ 13 → written ≡ answers_so_far dry (take limit read) ++ too_long_line

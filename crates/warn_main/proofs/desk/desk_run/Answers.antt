@@ -1,5 +1,5 @@
-use Rattle.std.proofs.Common.{sym}
-use Rattle.warn_main.proofs.Statuses.{read_fault_run, too_long_run, no_memory_run, write_fault_run}
+use Rattle.std.proofs.Common.{sym, refl}
+use Rattle.warn_main.proofs.Statuses.{answered_run, read_fault_run, too_long_run, no_memory_run, write_fault_run}
 use Rattle.warn_main.proofs.desk.desk_run.Goals as goal
 
 pub returns-in-Err-Read-clause-run : goal.returns-in-Err-Read-clause-run
@@ -29,3 +29,9 @@ returns-in-Err-OutOfMemory-clause-run g c =
     rw (sym c.in-Some.ensures.value)
     (no_memory_run c.in-Some.dry (g.S.Source.left c.args.input.now) (g.S.Source.left c.run_lines.new.input) (g.K.Sink.taken c.args.output.now) (g.K.Sink.taken c.run_lines.new.output) (g.K.Sink.taken c.fault-in-Err-OutOfMemory.new.output) c.fault-in-Err-OutOfMemory.result
     ends c.fault-in-Err-OutOfMemory.ensures.status c.fault-in-Err-OutOfMemory.ensures.whole c.fault-in-Err-OutOfMemory.ensures.front)
+
+pub returns-in-Ok-clause-run : goal.returns-in-Ok-clause-run
+returns-in-Ok-clause-run g c =
+    rw (sym c.in-Some.ensures.value)
+    (answered_run c.in-Some.dry (g.S.Source.left c.args.input.now) (g.S.Source.left c.run_lines.new.input) (g.K.Sink.taken c.args.output.now) (g.K.Sink.taken c.run_lines.new.output) (g.K.Sink.taken c.run_lines.new.output) 0
+    tt c.in-Some.ensures.office c.in-Ok.ensures.ends refl)
