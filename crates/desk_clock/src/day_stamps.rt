@@ -1,0 +1,62 @@
+//! Day stamps: the day, hour and minute of a time, without month and year.
+ghost use Rattle.std.specs.Prelude.{◌≡◌, ◌≢◌, ◌<◌, ◌≤◌, ◌↔◌, ℕ, IsTrue, IfSome, IsNone};
+ghost use Rattle.hazard_types.specs.Days.{day_stamp_of};
+ghost use Rattle.desk_clock.specs.DayStamps.{IsFirst, IsNear};
+
+use hazard_types::{DayStamp, Minute, civil_of};
+
+/// The minutes of a day.
+const DAY: u32 = 1440;
+
+/// The days of the years 2000 to 2099.
+const DAYS: u32 = 36_525;
+
+/// How far a heading's day stamp may lie from the issue, in minutes.
+const REACH: u32 = 720;
+
+/// The day, hour and minute of a time.
+pub fn day_stamp(m: Minute) -> DayStamp
+    ensures { result ≡ day_stamp_of m }
+{
+    let c = civil_of(m);
+    DayStamp {
+        day: c.day,
+        hour: c.hour,
+        minute: c.minute,
+    }
+}
+
+/// The first minute at or after `issue` with that day, hour and minute. There is none where the
+/// years end first, or where the stamp is out of range.
+pub fn resolve_day_stamp(issue: Minute, d: DayStamp) -> Option<Minute>
+    ensures found { IfSome result (IsFirst issue d) }
+    ensures none { IsNone result → (m : ℕ) → issue ≤ m → m < 52596000 → day_stamp_of m ≢ d }
+{
+    if d.day > 31 || d.hour > 23 || d.minute > 59 {
+        return None;
+    }
+    let time = u32::from(d.hour) * 60 + u32::from(d.minute);
+    for day in issue.get() / DAY..DAYS {
+        let Some(m) = Minute::new(day * DAY + time) else {
+            return None;
+        };
+        if issue.get() <= m.get() && day_stamp(m).day == d.day {
+            return Some(m);
+        }
+    }
+    None
+}
+
+/// Whether some minute within 720 of `issue`, either side, has the day stamp.
+pub fn near(issue: Minute, d: DayStamp) -> bool
+    ensures { IsTrue result ↔ IsNear issue d }
+{
+    let from = match Minute::new(issue.get().saturating_sub(REACH)) {
+        Some(from) => from,
+        None => issue,
+    };
+    match resolve_day_stamp(from, d) {
+        Some(m) => m.get() <= issue.get() + REACH,
+        None => false,
+    }
+}
