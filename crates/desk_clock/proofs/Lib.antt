@@ -1,1 +1,13 @@
+pub mod Calendars
+pub mod Cutting
+pub mod Forms
+pub mod FormsFound
+pub mod Parting
+pub mod Places
+pub mod RoundTrip
+pub mod RuleLemmas
+pub mod ShownTimes
+pub mod ShownDates
 pub mod StampTimes
+pub mod Tables
+pub mod WrittenWords

@@ -5,11 +5,11 @@ use Rattle.hazard_types.specs.Calendar.{civil_of}
 use Rattle.hazard_types.specs.Days.{day_stamp_of}
 use Rattle.hazard_types.proofs.Years.{civil_ok, day_at_most}
 
-hour_of : (m : ℕ) → (civil_of m).hour ≡ m % 1440 / 60
+pub hour_of : (m : ℕ) → (civil_of m).hour ≡ m % 1440 / 60
 unfolding civil_of
 hour_of m = refl
 
-minute_of : (m : ℕ) → (civil_of m).minute ≡ m % 60
+pub minute_of : (m : ℕ) → (civil_of m).minute ≡ m % 60
 unfolding civil_of
 minute_of m = refl
 

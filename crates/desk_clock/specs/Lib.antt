@@ -1,1 +1,10 @@
+pub mod Abbreviations
 pub mod DayStamps
+pub mod LocalForm
+pub mod LocalText
+pub mod LocalTimes
+pub mod LocalWords
+pub mod Names
+pub mod Rules
+pub mod Words
+pub mod Zones

@@ -1,6 +1,21 @@
 //! Day stamps, and the local time of an office.
 #![tactic(auto)]
 
+mod abbreviations;
 mod day_stamps;
+mod local_lines;
+mod local_times;
+mod names;
+mod reading;
+mod words;
+mod zones;
 
+pub use abbreviations::Abbreviation;
 pub use day_stamps::{day_stamp, near, resolve_day_stamp};
+pub use local_lines::{local_line, local_short};
+pub use local_times::calendars_agree;
+pub use reading::{LocalFault, lines_read_back, read_local_line};
+pub use zones::rules_are_read;
+
+#[cfg(test)]
+mod tests;

@@ -1,0 +1,100 @@
+//! Local lines as they are written.
+ghost use Rattle.std.specs.Prelude.{◌≡◌, ◌<◌, ◌≤◌, ◌+◌, ◌-◌, ◌*◌, ◌++◌, IfOk, OnOk};
+ghost use Rattle.desk_clock.specs.Abbreviations.{hours_behind};
+ghost use Rattle.desk_clock.specs.LocalTimes.{shown_at};
+ghost use Rattle.desk_clock.specs.LocalText.{one_or_two, two, four, clock_hour, half_day, short_of, line_of, local_short_of, local_line_of};
+
+use crate::abbreviations::Abbreviation;
+use crate::local_times::{local_time, weekday};
+use crate::names::{month_name, weekday_name};
+use crate::zones::abbreviation_at;
+use hazard_types::{LocalZone, Minute, Oom, Text};
+use std::alloc::Global;
+
+/// Adds a number below 100 without leading zero.
+fn push_number(text: &mut Text, n: u8) -> Result<(), Oom>
+    requires { n < 100 }
+    ensures { OnOk result (text.new ≡ text.old ++ one_or_two n) }
+{
+    if n < 10 {
+        text.extend(&[b'0' + n])
+    } else {
+        text.extend(&[b'0' + n / 10, b'0' + n % 10])
+    }
+}
+
+/// The hour on a clock of twelve hours.
+fn clock_hour(hour: u8) -> u8
+    ensures value { result ≡ clock_hour hour }
+    ensures range { result ≤ 12 }
+{
+    match hour % 12 {
+        0 => 12,
+        hour => hour,
+    }
+}
+
+/// The half of the day.
+fn half_day(hour: u8) -> &'static [u8]
+    ensures { result.now ≡ half_day hour }
+{
+    if hour < 12 { b"AM" } else { b"PM" }
+}
+
+/// The minutes since the beginning of 1999-12-31 that a clock shows.
+fn shown_at(a: Abbreviation, m: Minute) -> u32
+    ensures value { result ≡ shown_at a m }
+    ensures range { result < 52597440 }
+{
+    m.get() + 1440 - 60 * u32::from(a.hours_behind())
+}
+
+/// The text without the year.
+#[tactic(auto, unfolding(crate::specs::LocalText::short_of))]
+fn short_of(alloc: Global, a: Abbreviation, shown: u32) -> Result<Text, Oom>
+    requires { shown < 52597440 }
+    ensures { IfOk result (λ text. text ≡ short_of a shown) }
+{
+    let t = local_time(shown);
+    let mut text = Text::new(alloc);
+    push_number(&mut text, clock_hour(t.hour))?;
+    text.extend(&[b'0' + t.minute / 10, b'0' + t.minute % 10, b' '])?;
+    text.extend(half_day(t.hour))?;
+    text.extend(b" ")?;
+    text.extend(a.letters())?;
+    text.extend(b" ")?;
+    text.extend(&weekday_name(weekday(shown)))?;
+    text.extend(b" ")?;
+    text.extend(&month_name(t.month))?;
+    text.extend(b" ")?;
+    push_number(&mut text, t.day)?;
+    Ok(text)
+}
+
+/// The local line of a minute, as `1030 AM EST Wed Jan 3 2018`.
+#[tactic(auto, unfolding(crate::specs::LocalText::local_line_of, crate::specs::LocalText::line_of))]
+pub fn local_line(alloc: Global, z: LocalZone, m: Minute) -> Result<Text, Oom>
+    ensures { IfOk result (λ text. text ≡ local_line_of z m) }
+{
+    let a = abbreviation_at(z, m);
+    let shown = shown_at(a, m);
+    let mut text = short_of(alloc, a, shown)?;
+    let year = local_time(shown).year;
+    text.extend(&[
+        b' ',
+        b'0' + (year / 1000) as u8,
+        b'0' + (year / 100 % 10) as u8,
+        b'0' + (year / 10 % 10) as u8,
+        b'0' + (year % 10) as u8,
+    ])?;
+    Ok(text)
+}
+
+/// The local line of a minute without its year, as `1030 AM EST Wed Jan 3`.
+#[tactic(auto, unfolding(crate::specs::LocalText::local_short_of))]
+pub fn local_short(alloc: Global, z: LocalZone, m: Minute) -> Result<Text, Oom>
+    ensures { IfOk result (λ text. text ≡ local_short_of z m) }
+{
+    let a = abbreviation_at(z, m);
+    short_of(alloc, a, shown_at(a, m))
+}

@@ -1,0 +1,111 @@
+//! The names of months, weekdays and abbreviations.
+ghost use Rattle.std.specs.Prelude.{◌≡◌, ◌≤◌, ◌<◌, [], length, slice_index_or, IfSome};
+ghost use Rattle.std.specs.Option.{is_some};
+ghost use Rattle.jiff_core.specs.Weekday.{monday_zero};
+ghost use Rattle.desk_clock.specs.Abbreviations.{letters_of};
+ghost use Rattle.desk_clock.specs.Names.{month_names, weekday_names, abbreviations, month_name, weekday_name, same_letters, place_of, abbreviation_named};
+
+use crate::abbreviations::Abbreviation;
+use jiff_core::civil::Weekday;
+
+#[tactic(auto, unfolding(crate::specs::Names::month_names))]
+fn month_names() -> [[u8; 3]; 12]
+    ensures { result ≡ month_names }
+{
+    [
+        *b"Jan", *b"Feb", *b"Mar", *b"Apr", *b"May", *b"Jun", *b"Jul", *b"Aug", *b"Sep", *b"Oct",
+        *b"Nov", *b"Dec",
+    ]
+}
+
+#[tactic(auto, unfolding(crate::specs::Names::weekday_names))]
+fn weekday_names() -> [[u8; 3]; 7]
+    ensures { result ≡ weekday_names }
+{
+    [
+        *b"Mon", *b"Tue", *b"Wed", *b"Thu", *b"Fri", *b"Sat", *b"Sun",
+    ]
+}
+
+#[tactic(auto, unfolding(crate::specs::Names::abbreviations))]
+fn abbreviations() -> [Abbreviation; 14]
+    ensures { result ≡ abbreviations }
+{
+    [
+        Abbreviation::Ast,
+        Abbreviation::Est,
+        Abbreviation::Edt,
+        Abbreviation::Cst,
+        Abbreviation::Cdt,
+        Abbreviation::Mst,
+        Abbreviation::Mdt,
+        Abbreviation::Pst,
+        Abbreviation::Pdt,
+        Abbreviation::Akst,
+        Abbreviation::Akdt,
+        Abbreviation::Hst,
+        Abbreviation::Utc,
+        Abbreviation::Gmt,
+    ]
+}
+
+/// The name of a month from 1 to 12.
+#[tactic(auto, using(crate::proofs::Tables::twelve_names))]
+pub fn month_name(month: u8) -> [u8; 3]
+    requires low { 1 ≤ month }
+    requires high { month ≤ 12 }
+    ensures { result ≡ month_name month }
+{
+    let names = month_names();
+    names[month as usize - 1]
+}
+
+/// The name of a weekday.
+#[tactic(auto, using(crate::proofs::Tables::seven_names))]
+pub fn weekday_name(weekday: Weekday) -> [u8; 3]
+    ensures { result ≡ slice_index_or weekday_names (monday_zero weekday) [] }
+{
+    let names = weekday_names();
+    names[weekday.index() as usize]
+}
+
+/// Whether two words differ in letter case at most.
+pub fn same_letters(word: &[u8], name: &[u8]) -> bool
+    ensures { result ≡ same_letters word.now name.now }
+{
+    word.eq_ignore_ascii_case(name)
+}
+
+/// The place of a name among these, whatever its letter case.
+fn place_of(names: &[[u8; 3]], word: &[u8]) -> Option<usize>
+    ensures value { result ≡ place_of names.now word.now }
+    ensures range { IfSome result (λ i. i < length names.now) }
+{
+    names.iter().position(|name| same_letters(word, name))
+}
+
+/// The number of a month, from 1, less 1.
+#[tactic(auto, using(crate::proofs::Tables::twelve_names))]
+pub fn month_place(word: &[u8]) -> Option<usize>
+    ensures value { result ≡ place_of month_names word.now }
+    ensures range { IfSome result (λ i. i < 12) }
+{
+    place_of(&month_names(), word)
+}
+
+/// Whether the word is the name of a weekday.
+pub fn is_weekday(word: &[u8]) -> bool
+    ensures { result ≡ is_some (place_of weekday_names word.now) }
+{
+    place_of(&weekday_names(), word).is_some()
+}
+
+/// The abbreviation with these letters, whatever their case.
+pub fn abbreviation_named(word: &[u8]) -> Option<Abbreviation>
+    ensures { result ≡ abbreviation_named word.now }
+{
+    abbreviations()
+        .iter()
+        .copied()
+        .find(|a| same_letters(word, a.letters()))
+}

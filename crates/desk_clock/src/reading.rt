@@ -1,0 +1,218 @@
+//! Local lines as they are read.
+ghost use Rattle.std.specs.Prelude.{◌≡◌, ◌≤◌, ◌<◌, ◌↔◌, ℕ, IfSome, IfOk};
+ghost use Rattle.hazard_types.specs.declared.codes.LocalZone.{LocalZone as Zone};
+ghost use Rattle.desk_clock.specs.LocalText.{local_line_of};
+ghost use Rattle.std.specs.List.{list_all};
+ghost use Rattle.std.specs.Char.{is_ascii_alphabetic};
+ghost use Rattle.desk_clock.specs.LocalWords.{digit, number_of, half_of, time_said, year_said, date_said, words_say, are_letters};
+ghost use Rattle.desk_clock.specs.LocalForm.{written_in, minute_of, read_of, ReadsAs, LacksAbbreviation};
+
+use crate::abbreviations::Abbreviation;
+use crate::local_times::{LocalTime, has_date, minute_shown};
+use crate::names::{abbreviation_named, is_weekday, month_place, same_letters};
+use crate::words::{after_aside, after_word, first_word};
+use hazard_types::Minute;
+
+/// Why a line gives no minute.
+#[derive(Clone, Copy, Debug, PartialEq, Eq)]
+pub enum LocalFault {
+    /// The form or the range fails.
+    NoLocalTime,
+    /// All but the abbreviation is right.
+    UnknownAbbreviation,
+}
+
+/// What a local line says. An abbreviation of None is none that the desk knows.
+#[derive(Clone, Copy, Debug, PartialEq, Eq)]
+pub struct Written {
+    pub abbreviation: Option<Abbreviation>,
+    pub time: LocalTime,
+}
+
+fn digit(c: u8) -> Option<u8>
+    ensures { result ≡ digit c }
+{
+    if c.is_ascii_digit() {
+        Some(c - b'0')
+    } else {
+        None
+    }
+}
+
+/// The number that one or two digits spell.
+#[tactic(auto, unfolding(crate::specs::LocalWords::number_of))]
+fn number_of(word: &[u8]) -> Option<u8>
+    ensures { result ≡ number_of word.now }
+{
+    match word {
+        [ones] => digit(*ones),
+        [tens, ones] => Some(10 * digit(*tens)? + digit(*ones)?),
+        _ => None,
+    }
+}
+
+/// The hour at which the half of a day begins.
+#[tactic(auto, unfolding(crate::specs::LocalWords::half_of))]
+fn half_of(word: &[u8]) -> Option<u8>
+    ensures value { result ≡ half_of word.now }
+    ensures range { IfSome result (λ h. h ≤ 12) }
+{
+    if same_letters(word, b"AM") {
+        Some(0)
+    } else if same_letters(word, b"PM") {
+        Some(12)
+    } else {
+        None
+    }
+}
+
+/// Hour and minute of a day.
+#[tactic(auto, unfolding(crate::specs::LocalWords::time_said))]
+fn time_said(clock: &[u8], half: &[u8]) -> Option<(u8, u8)>
+    ensures { result ≡ time_said clock.now half.now }
+{
+    let at = clock.len().saturating_sub(2);
+    let hour = number_of(&clock[..at])?;
+    let minute = number_of(&clock[at..])?;
+    let half = half_of(half)?;
+    if 1 <= hour && hour <= 12 && minute < 60 {
+        Some((hour % 12 + half, minute))
+    } else {
+        None
+    }
+}
+
+/// A year of four digits.
+#[tactic(auto, unfolding(crate::specs::LocalWords::year_said))]
+fn year_said(word: &[u8]) -> Option<u16>
+    ensures { result ≡ year_said word.now }
+{
+    if word.len() != 4 {
+        return None;
+    }
+    let century = number_of(&word[..2])?;
+    let year = number_of(&word[2..])?;
+    Some(100 * u16::from(century) + u16::from(year))
+}
+
+/// What the words of a date say, beside a time of day.
+#[tactic(auto, unfolding(crate::specs::LocalWords::date_said))]
+fn date_said(
+    letters: &[u8],
+    month: &[u8],
+    day: &[u8],
+    year: &[u8],
+    time: (u8, u8),
+) -> Option<Written>
+    ensures { result ≡ date_said letters.now month.now day.now year.now time }
+{
+    let place = month_place(month)?;
+    let day = number_of(day)?;
+    let year = year_said(year)?;
+    Some(Written {
+        abbreviation: abbreviation_named(letters),
+        time: LocalTime {
+            year,
+            month: place as u8 + 1,
+            day,
+            hour: time.0,
+            minute: time.1,
+        },
+    })
+}
+
+/// What seven words say.
+#[tactic(auto, unfolding(crate::specs::LocalWords::words_say))]
+fn words_say(
+    clock: &[u8],
+    half: &[u8],
+    letters: &[u8],
+    weekday: &[u8],
+    month: &[u8],
+    day: &[u8],
+    year: &[u8],
+) -> Option<Written>
+    ensures { result ≡ words_say clock.now half.now letters.now weekday.now month.now day.now year.now }
+{
+    if are_letters(letters) && is_weekday(weekday) {
+        let time = time_said(clock, half)?;
+        date_said(letters, month, day, year, time)
+    } else {
+        None
+    }
+}
+
+fn are_letters(word: &[u8]) -> bool
+    ensures { result ≡ are_letters word.now }
+{
+    !word.is_empty() && all_letters(word)
+}
+
+fn all_letters(word: &[u8]) -> bool
+    ensures { result ≡ list_all is_ascii_alphabetic word.now }
+{
+    word.iter().all(|c| c.is_ascii_alphabetic())
+}
+
+/// What a line says, by its words.
+#[tactic(auto, unfolding(crate::specs::LocalForm::written_in))]
+fn written_in(b: &[u8]) -> Option<Written>
+    ensures { result ≡ written_in b.now }
+{
+    let half = after_word(b);
+    let letters = after_word(half);
+    let weekday = after_aside(after_word(letters));
+    let month = after_word(weekday);
+    let day = after_word(month);
+    words_say(
+        first_word(b),
+        first_word(half),
+        first_word(letters),
+        first_word(weekday),
+        first_word(month),
+        first_word(day),
+        after_word(day),
+    )
+}
+
+/// The minute of what a line says.
+#[tactic(auto, unfolding(crate::specs::LocalForm::minute_of))]
+fn minute_of(w: Written) -> Result<Minute, LocalFault>
+    ensures { result ≡ minute_of w }
+{
+    match w.abbreviation {
+        Some(a) => minute_shown(a, w.time).ok_or(LocalFault::NoLocalTime),
+        None if has_date(w.time) => Err(LocalFault::UnknownAbbreviation),
+        None => Err(LocalFault::NoLocalTime),
+    }
+}
+
+#[tactic(auto, unfolding(crate::specs::LocalForm::read_of))]
+fn reading_of(b: &[u8]) -> Result<Minute, LocalFault>
+    ensures { result ≡ read_of b.now }
+{
+    match written_in(b) {
+        Some(w) => minute_of(w),
+        None => Err(LocalFault::NoLocalTime),
+    }
+}
+
+/// The minute that a local line reads as. Letter case is ignored, and blanks may be repeated.
+///
+/// # Errors
+///
+/// `UnknownAbbreviation` where all but the abbreviation is right, `NoLocalTime` where the form, the
+/// date or the range fails.
+pub fn read_local_line(b: &[u8]) -> Result<Minute, LocalFault>
+    ensures value { result ≡ read_of b.now }
+    ensures found { IfOk result (ReadsAs b.now) }
+    ensures only { (m : ℕ) → ReadsAs b.now m → result ≡ Ok m }
+    ensures unknown { (result ≡ Err LocalFault.UnknownAbbreviation) ↔ LacksAbbreviation b.now }
+{
+    reading_of(b)
+}
+
+/// A local line reads back to its minute.
+pub fn lines_read_back()
+    ensures { (z : Zone) (m : ℕ) → m < 52596000 → read_of (local_line_of z m) ≡ Ok m }
+{}

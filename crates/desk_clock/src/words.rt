@@ -1,0 +1,87 @@
+//! The words of a line, which blanks part.
+ghost use Rattle.std.specs.Prelude.{◌≡◌, ◌==◌, not};
+ghost use Rattle.std.specs.List.{position};
+ghost use Rattle.desk_clock.specs.Words.{is_blank, first_word, past_blanks, after_word, past_gap, after_slash, after_aside};
+
+fn is_blank(c: u8) -> bool
+    ensures { result ≡ is_blank c }
+{
+    c == b' ' || c == b'\t'
+}
+
+fn blank_at(b: &[u8]) -> Option<usize>
+    ensures { result ≡ position is_blank b.now }
+{
+    b.iter().position(|c| is_blank(*c))
+}
+
+fn letter_at(b: &[u8]) -> Option<usize>
+    ensures { result ≡ position (λ c. not (is_blank c)) b.now }
+{
+    b.iter().position(|c| !is_blank(*c))
+}
+
+fn slash_at(b: &[u8]) -> Option<usize>
+    ensures { result ≡ position (λ c. c == 47) b.now }
+{
+    b.iter().position(|c| *c == b'/')
+}
+
+/// What stands before the first blank.
+pub fn first_word(b: &[u8]) -> &[u8]
+    ensures { result.now ≡ first_word b.now }
+{
+    match blank_at(b) {
+        Some(end) => &b[..end],
+        None => b,
+    }
+}
+
+fn past_blanks(b: &[u8]) -> &[u8]
+    ensures { result.now ≡ past_blanks b.now }
+{
+    match letter_at(b) {
+        Some(from) => &b[from..],
+        None => &b[b.len()..],
+    }
+}
+
+/// What stands after the first word and the blanks behind it.
+pub fn after_word(b: &[u8]) -> &[u8]
+    ensures { result.now ≡ after_word b.now }
+{
+    match blank_at(b) {
+        Some(end) => past_blanks(&b[end..]),
+        None => &b[b.len()..],
+    }
+}
+
+fn after_slash(b: &[u8]) -> &[u8]
+    ensures { result.now ≡ after_slash b.now }
+{
+    match slash_at(b) {
+        Some(end) => past_gap(&b[end + 1..]),
+        None => &b[b.len()..],
+    }
+}
+
+/// What stands after the blanks that begin these bytes; nothing, where none does.
+fn past_gap(b: &[u8]) -> &[u8]
+    ensures { result.now ≡ past_gap b.now }
+{
+    match blank_at(b) {
+        Some(0) => past_blanks(b),
+        _ => &b[b.len()..],
+    }
+}
+
+/// What stands after an optional part between slashes; nothing, where such a part does not end,
+/// or no blank stands behind it.
+pub fn after_aside(b: &[u8]) -> &[u8]
+    ensures { result.now ≡ after_aside b.now }
+{
+    match b {
+        [b'/', inside @ ..] => after_slash(inside),
+        _ => b,
+    }
+}

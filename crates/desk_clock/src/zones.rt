@@ -1,0 +1,94 @@
+//! The zones of offices: their rules, and the abbreviation of a minute.
+ghost use Rattle.std.specs.Prelude.{◌≡◌, ◌<◌, ℕ, IsSome};
+ghost use Rattle.jiff_tz.specs.PosixReader.{read_whole};
+ghost use Rattle.desk_clock.specs.Rules.{text_offset};
+ghost use Rattle.desk_clock.specs.Zones.{rule_text, standard, daylight, offset_of, abbreviation_at};
+ghost use Rattle.hazard_types.specs.declared.codes.LocalZone.{LocalZone as Zone};
+
+use crate::abbreviations::Abbreviation;
+use hazard_types::{LocalZone, Minute};
+use jiff::Timestamp;
+use jiff::tz::TimeZone;
+
+/// The POSIX rule of a zone, used for all years.
+fn rule_text(zone: LocalZone) -> &'static str
+    ensures { result.now ≡ rule_text zone }
+{
+    match zone {
+        LocalZone::Atlantic => "AST4",
+        LocalZone::Eastern => "EST5EDT,M3.2.0,M11.1.0",
+        LocalZone::Central => "CST6CDT,M3.2.0,M11.1.0",
+        LocalZone::Mountain => "MST7MDT,M3.2.0,M11.1.0",
+        LocalZone::Arizona => "MST7",
+        LocalZone::Pacific => "PST8PDT,M3.2.0,M11.1.0",
+        LocalZone::Alaska => "AKST9AKDT,M3.2.0,M11.1.0",
+        LocalZone::Hawaii => "HST10",
+        LocalZone::Utc => "UTC0",
+    }
+}
+
+/// The abbreviation of a zone's standard time.
+fn standard(zone: LocalZone) -> Abbreviation
+    ensures { result ≡ standard zone }
+{
+    match zone {
+        LocalZone::Atlantic => Abbreviation::Ast,
+        LocalZone::Eastern => Abbreviation::Est,
+        LocalZone::Central => Abbreviation::Cst,
+        LocalZone::Mountain | LocalZone::Arizona => Abbreviation::Mst,
+        LocalZone::Pacific => Abbreviation::Pst,
+        LocalZone::Alaska => Abbreviation::Akst,
+        LocalZone::Hawaii => Abbreviation::Hst,
+        LocalZone::Utc => Abbreviation::Utc,
+    }
+}
+
+/// The abbreviation of a zone's daylight time, where it has one.
+fn daylight(zone: LocalZone) -> Option<Abbreviation>
+    ensures { result ≡ daylight zone }
+{
+    match zone {
+        LocalZone::Eastern => Some(Abbreviation::Edt),
+        LocalZone::Central => Some(Abbreviation::Cdt),
+        LocalZone::Mountain => Some(Abbreviation::Mdt),
+        LocalZone::Pacific => Some(Abbreviation::Pdt),
+        LocalZone::Alaska => Some(Abbreviation::Akdt),
+        LocalZone::Atlantic | LocalZone::Arizona | LocalZone::Hawaii | LocalZone::Utc => None,
+    }
+}
+
+/// The offset of a rule text at an instant, in seconds.
+fn offset_by(text: &str, instant: Timestamp) -> i32
+    ensures { result ≡ text_offset text.now instant.nanosecond }
+{
+    match TimeZone::posix(text) {
+        Ok(zone) => zone.to_offset(instant).seconds(),
+        Err(_) => 0,
+    }
+}
+
+/// How far the zone's clock is ahead of UTC in a minute, in seconds.
+#[tactic(auto, unfolding(crate::specs::Zones::offset_of))]
+fn offset_at(zone: LocalZone, m: Minute) -> i32
+    ensures { result ≡ offset_of zone m }
+{
+    match Timestamp::from_second(946_684_800 + i64::from(m.get()) * 60) {
+        Ok(instant) => offset_by(rule_text(zone), instant),
+        Err(_) => 0,
+    }
+}
+
+/// The daylight abbreviation where the rule gives its offset, else the standard one.
+pub fn abbreviation_at(zone: LocalZone, m: Minute) -> Abbreviation
+    ensures { result ≡ abbreviation_at zone m }
+{
+    match daylight(zone) {
+        Some(summer) if offset_at(zone, m) == -3600 * i32::from(summer.hours_behind()) => summer,
+        _ => standard(zone),
+    }
+}
+
+/// The text of each zone is a rule, so no offset is one of a text that can't be read.
+pub fn rules_are_read()
+    ensures { (z : Zone) → IsSome (read_whole (rule_text z)) }
+{}
