@@ -7,19 +7,17 @@ use Rattle.std.proofs.lemmas.Option.{cond_some}
 use Rattle.std.proofs.lemmas.Slice.Eq.{bytes_eq-Decides}
 use Rattle.hazard_types.specs.Calendar.{stamp_at, stamp_of, IsStamp, is_civil}
 use Rattle.hazard_types.specs.Places.{are_letters}
+use Rattle.hazard_types.specs.Codes.{value_beside}
+use Rattle.hazard_types.specs.Tables.{class_rows, action_rows, sig_rows}
 use Rattle.hazard_types.proofs.Stamps.{spells_exactly}
 use Rattle.hazard_types.specs.declared.codes.Class.{Class}
-use Rattle.hazard_types.specs.declared.codes.Class.TheVariants as class
 use Rattle.hazard_types.specs.declared.codes.Action.{Action}
-use Rattle.hazard_types.specs.declared.codes.Action.TheVariants as action
 use Rattle.hazard_types.specs.declared.hazard.Sig.{Sig}
-use Rattle.hazard_types.specs.declared.hazard.Sig.TheVariants as sig
 use Rattle.hazard_types.specs.declared.line.Vtec.{Vtec}
-use Rattle.vtec_string.specs.Letters.{class_code, action_code, sig_code}
 use Rattle.vtec_string.specs.Columns.{is_office, four_digits, IsTime, AreSeparated, IsVtec}
 use Rattle.vtec_string.proofs.Laying.{one_byte}
 use Rattle.product_frame.specs.Parts.{has_slash}
-use Rattle.product_frame.specs.Events.{IsPair, named, class_at, action_at, sig_at, number_in, number_at, time_at, separators, has_columns, values, vtec_of, alone, pair_of}
+use Rattle.product_frame.specs.Events.{IsPair, number_in, number_at, time_at, separators, has_columns, values, vtec_of, alone, pair_of}
 use Rattle.product_frame.specs.declared.frame.Pair.{Pair}
 
 eq_back : (xs ys : List ℕ) → bytes_eq xs ys ≡ true → xs ≡ ys
@@ -27,59 +25,6 @@ eq_back xs ys h = (bytes_eq-Decides xs ys).0 h
 
 eq_hit : (xs ys : List ℕ) → xs ≡ ys → bytes_eq xs ys ≡ true
 eq_hit xs ys h = (bytes_eq-Decides xs ys).1 h
-
-named_back : {A : Type 0} (xs : List A) (letters : A → List ℕ) (text : List ℕ) (x : A) → named xs letters text ≡ Some x → text ≡ letters x
-named_back [] letters text x h = absurd (cc)
-named_back {A} (y ∷ ys) letters text x h =
-    elim (cases_Bool (bytes_eq (letters y) text)) [
-      | inl e ↦ sym (eq_back _ _ e) ∙ ap letters (one y x (rw e at h))
-      | inr e ↦ named_back ys letters text x (rw e at h)
-    ]
-  where
-    one : (a b : A) → ◌≡◌ {A = Option A} (Some a) (Some b) → a ≡ b
-    one a b e = cc e
-
-class_back : (text : List ℕ) (c : Class) → class_at text ≡ Some c → text ≡ class_code c
-unfolding class_at
-class_back text c h = named_back (class.O ∷ class.T ∷ class.E ∷ class.X ∷ []) class_code text c h
-
-action_back : (text : List ℕ) (a : Action) → action_at text ≡ Some a → text ≡ action_code a
-unfolding action_at
-action_back text a h = named_back (action.New ∷ action.Con ∷ action.Exa ∷ action.Ext ∷ action.Exb ∷ action.Upg ∷ action.Can ∷ action.Exp ∷ action.Cor ∷ action.Rou ∷ []) action_code text a h
-
-sig_back : (text : List ℕ) (s : Sig) → sig_at text ≡ Some s → text ≡ sig_code s
-unfolding sig_at
-sig_back text s h = named_back (sig.W ∷ sig.A ∷ sig.Y ∷ sig.S ∷ sig.F ∷ sig.O ∷ sig.N ∷ []) sig_code text s h
-
-class_hit : (c : Class) → class_at (class_code c) ≡ Some c
-unfolding class_at
-class_hit class.O = refl
-class_hit class.T = refl
-class_hit class.E = refl
-class_hit class.X = refl
-
-action_hit : (a : Action) → action_at (action_code a) ≡ Some a
-unfolding action_at
-action_hit action.New = refl
-action_hit action.Con = refl
-action_hit action.Exa = refl
-action_hit action.Ext = refl
-action_hit action.Exb = refl
-action_hit action.Upg = refl
-action_hit action.Can = refl
-action_hit action.Exp = refl
-action_hit action.Cor = refl
-action_hit action.Rou = refl
-
-sig_hit : (s : Sig) → sig_at (sig_code s) ≡ Some s
-unfolding sig_at
-sig_hit sig.W = refl
-sig_hit sig.A = refl
-sig_hit sig.Y = refl
-sig_hit sig.S = refl
-sig_hit sig.F = refl
-sig_hit sig.O = refl
-sig_hit sig.N = refl
 
 spelled_back : (n : ℕ) → n ≤ 9999 → number_in (four_digits n) ≡ n
 spelled_back n le = omega arith
@@ -218,13 +163,13 @@ vtec_back b v h =
           record {
             size = size;
             separated = separated_back b size (eq_back _ _ q.0);
-            class = class_back _ v.class k.class;
-            action = action_back _ v.action k.action;
+            class = k.class;
+            action = k.action;
             office = k.office_is;
             is_office = subst (λ (x : List ℕ). is_office x ≡ true) k.office_is r.0;
             phenomenon = k.phen_is;
             are_letters = subst (λ (x : List ℕ). are_letters x ≡ true) k.phen_is r.1;
-            significance = sig_back _ v.hazard.sig k.sig;
+            significance = k.sig;
             number = number.1;
             is_number = number.0;
             begin = time_back _ v.begin k.begin;
@@ -241,9 +186,9 @@ vtec_hit b v h =
     let office : is_office (slice_range b 7 11) ≡ true = ap is_office h.office ∙ h.is_office in
     let phen : are_letters (slice_range b 12 14) ≡ true = ap are_letters h.phenomenon ∙ h.are_letters in
     let test : has_columns b ≡ true = and_from _ _ size (and_from _ _ separated (and_from _ _ office phen)) in
-    let class : class_at (slice_range b 1 2) ≡ Some v.class = ap class_at h.class ∙ class_hit v.class in
-    let action : action_at (slice_range b 3 6) ≡ Some v.action = ap action_at h.action ∙ action_hit v.action in
-    let sig : sig_at (slice_range b 15 16) ≡ Some v.hazard.sig = ap sig_at h.significance ∙ sig_hit v.hazard.sig in
+    let class : value_beside class_rows (slice_range b 1 2) ≡ Some v.class = h.class in
+    let action : value_beside action_rows (slice_range b 3 6) ≡ Some v.action = h.action in
+    let sig : value_beside sig_rows (slice_range b 15 16) ≡ Some v.hazard.sig = h.significance in
     let etn : number_at (slice_range b 17 21) ≡ Some v.etn = ap number_at h.number ∙ number_hit v.etn h.is_number in
     let begin : time_at (slice_range b 22 34) ≡ Some v.begin = time_hit _ v.begin h.begin in
     let end : time_at (slice_range b 35 47) ≡ Some v.end = time_hit _ v.end h.end in

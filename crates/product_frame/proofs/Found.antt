@@ -78,32 +78,30 @@ Sound bytes lines out gs zs d ps Pairs left = InPairs bytes lines out gs zs d ps
 Sound bytes lines out gs zs d ps Rest zero = InRest bytes lines out gs zs d ps
 Sound bytes lines out gs zs d ps Rest (suc k) = Unit {0}
 
+pub segment_more : (bytes lines : List ℕ) (s : ℕ) (g : FrameSegment) (later : List ℕ) → begins (line_at bytes s) ≡ false → IsSegment bytes lines g later → IsSegment bytes (s ∷ lines) g later
+segment_more bytes lines s g later b is = record {
+  outside = s ∷ is.outside;
+  start = is.start;
+  ugc = is.ugc;
+  events = is.events;
+  others = is.others;
+  end = is.end;
+  used = is.used;
+  whole = ap (λ (xs : List ℕ). s ∷ xs) is.whole;
+  passed = (b, is.passed);
+  begun = is.begun;
+  zones = is.zones;
+  fills = is.fills;
+  more = is.more;
+  pairs = is.pairs;
+  behind = is.behind;
+  rest = is.rest;
+  ended = is.ended;
+}
+
 one_more : (bytes lines : List ℕ) (s : ℕ) (segments : Out) → begins (line_at bytes s) ≡ false → AreSegments bytes lines segments → AreSegments bytes (s ∷ lines) segments
 one_more bytes lines s [] b h = (b, h)
-one_more bytes lines s (g ∷ segments) b h =
-    let is = h.1 in (
-      h.0,
-      record {
-        outside = s ∷ is.outside;
-        start = is.start;
-        ugc = is.ugc;
-        events = is.events;
-        others = is.others;
-        end = is.end;
-        used = is.used;
-        whole = ap (λ (xs : List ℕ). s ∷ xs) is.whole;
-        passed = (b, is.passed);
-        begun = is.begun;
-        zones = is.zones;
-        fills = is.fills;
-        more = is.more;
-        pairs = is.pairs;
-        behind = is.behind;
-        rest = is.rest;
-        ended = is.ended;
-      },
-      h.2,
-    )
+one_more bytes lines s (g ∷ segments) b h = (h.0, segment_more bytes lines s g h.0 b h.1, h.2)
 
 -- a segment that begins here
 begun_here : (bytes lines : List ℕ) (out gs : Out) (s : ℕ) (u : UgcRead) → begins (line_at bytes s) ≡ true → ugc_of (drop s bytes) ≡ Ok u → is_empty (line_of (drop u.used (drop s bytes))) ≡ true →
@@ -162,7 +160,7 @@ no_event bytes lines out gs zs d ps s no_slash r = record {
   is = r.is ∙ ap (λ (p : List Pair). gs ++ made zs d p ∷ r.segments) (sym (append-nil ps));
 }
 
-no_lines : (xs : List ℕ) → length xs ≡ 0 → xs ≡ []
+pub no_lines : (xs : List ℕ) → length xs ≡ 0 → xs ≡ []
 no_lines [] h = refl
 no_lines (x ∷ xs) h = absurd (omega arith)
 

@@ -4,3 +4,7 @@ pub mod Nearness
 pub mod Segments
 pub mod Found
 pub mod Whole
+pub mod FaultsRead
+pub mod FaultsFound
+pub mod Refused
+pub mod Splitting

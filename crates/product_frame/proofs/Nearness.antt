@@ -68,7 +68,7 @@ pub near_decides : (issue : ℕ) (d : DayStamp) → (is_near issue d ≡ true �
 near_decides issue d = (near_back issue d, near_hit issue d)
 
 pub near_is : (issue : ℕ) (d : DayStamp) (r : Bool) → (IsTrue r ↔ IsNear issue d) → r ≡ is_near issue d
-near_is issue d true h = sym (near_hit issue d (h.0 tt))
+near_is issue d true h = sym (near_hit issue d (h.0 refl))
 near_is issue d false h = elim (cases_Bool (is_near issue d)) [
   | inl e ↦ let t : false ≡ true = h.1 (near_back issue d e) in absurd (cc)
   | inr e ↦ sym e

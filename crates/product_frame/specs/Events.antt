@@ -2,15 +2,13 @@
 use Rattle.std.specs.Prelude.{◌≡◌, ℕ, ◌+◌, ◌*◌, ◌-◌, ◌==◌, ◌&&◌, Bool, true, nat_le, List, [], ◌∷◌, length, slice_index, Option, Some, None, option_map, codes, bytes_eq, if◌then◌else◌}
 use Rattle.std.specs.List.{slice_range}
 use Rattle.hazard_types.specs.Calendar.{stamp_at}
+use Rattle.hazard_types.specs.Codes.{value_beside}
+use Rattle.hazard_types.specs.Tables.{class_rows, action_rows, sig_rows}
 use Rattle.hazard_types.specs.Places.{are_letters}
 use Rattle.hazard_types.specs.declared.codes.Class.{Class}
-use Rattle.hazard_types.specs.declared.codes.Class.TheVariants as class
 use Rattle.hazard_types.specs.declared.codes.Action.{Action}
-use Rattle.hazard_types.specs.declared.codes.Action.TheVariants as action
 use Rattle.hazard_types.specs.declared.hazard.Sig.{Sig}
-use Rattle.hazard_types.specs.declared.hazard.Sig.TheVariants as sig
 use Rattle.hazard_types.specs.declared.line.Vtec.{Vtec}
-use Rattle.vtec_string.specs.Letters.{class_code, action_code, sig_code}
 use Rattle.vtec_string.specs.Columns.{is_office, four_digits, IsVtec}
 use Rattle.product_frame.specs.Parts.{has_slash}
 use Rattle.product_frame.specs.declared.frame.Pair.{Pair}
@@ -22,23 +20,6 @@ pub record IsPair (line : List ℕ) (p : Pair) : Type 0 where
   pub flood : p.flood ≡ None
 
 -- ---- the same as a function
-
--- the first of these whose letters these are
-abbrev pub named : {A : Type 0} → List A → (A → List ℕ) → List ℕ → Option A
-named [] letters text = None
-named (x ∷ xs) letters text = if bytes_eq (letters x) text then Some x else named xs letters text
-
--- the class with this letter
-unfoldable pub class_at : List ℕ → Option Class
-class_at = named (class.O ∷ class.T ∷ class.E ∷ class.X ∷ []) class_code
-
--- the action with these letters
-unfoldable pub action_at : List ℕ → Option Action
-action_at = named (action.New ∷ action.Con ∷ action.Exa ∷ action.Ext ∷ action.Exb ∷ action.Upg ∷ action.Can ∷ action.Exp ∷ action.Cor ∷ action.Rou ∷ []) action_code
-
--- the significance with this letter
-unfoldable pub sig_at : List ℕ → Option Sig
-sig_at = named (sig.W ∷ sig.A ∷ sig.Y ∷ sig.S ∷ sig.F ∷ sig.O ∷ sig.N ∷ []) sig_code
 
 -- the number that four digits spell
 abbrev pub number_in : List ℕ → ℕ
@@ -74,7 +55,7 @@ values office phen (Some c) (Some a) (Some s) (Some n) (Some b) (Some e) = Some 
 unfoldable pub vtec_of : List ℕ → Option Vtec
 vtec_of b =
     if has_columns b
-    then values (slice_range b 7 11) (slice_range b 12 14) (class_at (slice_range b 1 2)) (action_at (slice_range b 3 6)) (sig_at (slice_range b 15 16)) (number_at (slice_range b 17 21)) (time_at (slice_range b 22 34)) (time_at (slice_range b 35 47))
+    then values (slice_range b 7 11) (slice_range b 12 14) (value_beside class_rows (slice_range b 1 2)) (value_beside action_rows (slice_range b 3 6)) (value_beside sig_rows (slice_range b 15 16)) (number_at (slice_range b 17 21)) (time_at (slice_range b 22 34)) (time_at (slice_range b 35 47))
     else None
 
 -- without an H-VTEC line

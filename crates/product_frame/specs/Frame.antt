@@ -7,8 +7,8 @@ use Rattle.product_frame.specs.Frames.{line_at, heading_index, full_index, issue
 use Rattle.product_frame.specs.Grammar.{AreSegments}
 use Rattle.product_frame.specs.declared.frame.Frame.{Frame}
 
+-- what a product says behind its heading
 pub record IsFrameIn (p : List ℕ) (f : Frame) : Type 0 where
-  pub heading : heading_of (line_of p) ≡ Some f.heading
   pub index : ℕ
   pub full : full_index p 0 (starts_from 0 p) ≡ Some index
   pub identifier : f.identifier ≡ line_at p (slice_index (starts_from 0 p) index)
@@ -21,4 +21,5 @@ pub record IsFrameIn (p : List ℕ) (f : Frame) : Type 0 where
 pub record FrameOf (bytes : List ℕ) (f : Frame) : Type 0 where
   pub index : ℕ
   pub begins : heading_index bytes 0 (starts bytes) ≡ Some index
+  pub heading : heading_of (line_at bytes (slice_index (starts bytes) index)) ≡ Some f.heading
   pub frame : IsFrameIn (product_in (drop (slice_index (starts bytes) index) bytes)) f

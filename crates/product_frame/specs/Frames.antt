@@ -51,8 +51,13 @@ abbrev pub named : List ℕ → Heading → List ℕ → ℕ → Result Frame Fr
 named p h identifier k = if is_identifier identifier then behind p h identifier k else Err NoIdentifier
 
 -- one product, whose first line is its heading
-unfoldable pub frame_in : List ℕ → Result Frame FrameFault
-frame_in p = or_fault (heading_of (line_of p)) NoHeading (λ h. or_fault (full_index p 0 (starts_from 0 p)) NoIdentifier (λ k. named p h (line_at p (slice_index (starts_from 0 p) k)) k))
+unfoldable pub frame_in : List ℕ → Heading → Result Frame FrameFault
+frame_in p h = or_fault (full_index p 0 (starts_from 0 p)) NoIdentifier (λ k. named p h (line_at p (slice_index (starts_from 0 p) k)) k)
 
+-- from the line of a heading on
+unfoldable pub frame_from : List ℕ → Result Frame FrameFault
+frame_from rest = or_fault (heading_of (line_of rest)) NoHeading (λ h. frame_in (product_in rest) h)
+
+-- the first product of a text
 unfoldable pub frame_of : List ℕ → Result Frame FrameFault
-frame_of bytes = or_fault (heading_index bytes 0 (starts bytes)) NoHeading (λ k. frame_in (product_in (drop (slice_index (starts bytes) k) bytes)))
+frame_of bytes = or_fault (heading_index bytes 0 (starts bytes)) NoHeading (λ k. frame_from (drop (slice_index (starts bytes) k) bytes))

@@ -6,3 +6,6 @@ pub mod Walking
 pub mod Frames
 pub mod Grammar
 pub mod Frame
+pub mod Faults
+pub mod Splitting
+pub mod ZoneLinesOf

@@ -1,7 +1,9 @@
 -- What single lines say.
-use Rattle.std.specs.Prelude.{ℕ, ◌+◌, ◌*◌, ◌-◌, ◌==◌, ◌&&◌, ◌||◌, Bool, true, false, nat_le, List, [], ◌∷◌, length, slice_index, slice_range, take, drop, Option, Some, None, if◌then◌else◌, option_and_then, option_map, codes}
+use Rattle.std.specs.Prelude.{ℕ, ◌+◌, ◌*◌, ◌-◌, ◌==◌, ◌&&◌, ◌||◌, Bool, true, false, nat_le, List, [], ◌∷◌, length, slice_index, slice_range, take, drop, Option, Some, None, Result, Ok, Err, if◌then◌else◌, option_and_then, option_map, codes}
 use Rattle.std.specs.List.{list_all}
-use Rattle.hazard_types.specs.Calendar.{is_digit, stamp_at}
+use Rattle.desk_clock.specs.LocalForm.{read_of}
+use Rattle.desk_clock.specs.declared.reading.LocalFault.{LocalFault}
+use Rattle.hazard_types.specs.Calendar.{is_digit}
 use Rattle.hazard_types.specs.Places.{is_capital}
 use Rattle.hazard_types.specs.declared.calendar.DayStamp.{DayStamp}
 use Rattle.ugc_codes.specs.Codes.{expiry_of}
@@ -56,6 +58,11 @@ has_slash line = nat_le 1 (length line) && (slice_index line 0 == 47)
 abbrev pub is_end : List ℕ → Bool
 is_end line = (length line == 2) && (slice_index line 0 == 36) && (slice_index line 1 == 36)
 
--- STAND-IN: the minute that a local line reads as
-abbrev pub local_at : List ℕ → Option ℕ
-local_at = stamp_at
+-- the minute that was read, if one was
+abbrev pub minute_read : Result ℕ LocalFault → Option ℕ
+minute_read (Ok m) = Some m
+minute_read (Err f) = None
+
+-- the minute that a line reads as, if it is a local line
+unfoldable pub local_at : List ℕ → Option ℕ
+local_at line = minute_read (read_of line)

@@ -40,9 +40,12 @@ closed w = record { segments = w.segments ++ record { zones = w.zones; expiry = 
 abbrev pub at_rest : Walk → List ℕ → Result Walk FrameFault
 at_rest w line = if is_end line then Ok (closed w) else Ok (staged w Rest)
 
+abbrev pub with_pair : Walk → Pair → Walk
+with_pair w p = record { segments = w.segments; zones = w.zones; expiry = w.expiry; pairs = w.pairs ++ p ∷ []; first = w.first; left = w.left; stage = w.stage }
+
 abbrev pub paired : Walk → ℕ → Option Pair → Result Walk FrameFault
 paired w number None = Err (BadVtec number)
-paired w number (Some p) = Ok (record { segments = w.segments; zones = w.zones; expiry = w.expiry; pairs = w.pairs ++ p ∷ []; first = w.first; left = w.left; stage = w.stage })
+paired w number (Some p) = Ok (with_pair w p)
 
 abbrev pub at_pairs : Walk → ℕ → List ℕ → Result Walk FrameFault
 at_pairs w number line = if has_slash line then paired w number (pair_of line) else at_rest w line

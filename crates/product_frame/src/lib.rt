@@ -3,8 +3,12 @@
 
 mod frame;
 mod read;
+mod split;
+#[cfg(test)]
+mod tests;
 mod text;
 mod walk;
 
 pub use frame::{Frame, FrameFault, FrameSegment, Heading, Pair};
-pub use read::read_frame;
+pub use read::{frame_or_fault, read_frame};
+pub use split::split_products;

@@ -1,5 +1,5 @@
 //! Frames are read.
-ghost use Rattle.std.specs.Prelude.{◌≡◌, ◌≤◌, ◌<◌, ◌^◌, ◌+◌, length, [], ◌∷◌, drop, IfOk, IfSome, take};
+ghost use Rattle.std.specs.Prelude.{◌≡◌, ◌⊎◌, ℕ, List as Seq, ◌≤◌, ◌<◌, ◌^◌, ◌+◌, length, [], ◌∷◌, drop, IfOk, IfSome, take};
 ghost use Rattle.std.specs.List.{All, list_all};
 ghost use Rattle.hazard_types.specs.Given.{Gives};
 ghost use Rattle.product_frame.specs.Text.{starts, starts_from};
@@ -8,13 +8,15 @@ ghost use Rattle.product_frame.specs.Nearness.{is_near};
 ghost use Rattle.std.specs.Prelude.{Ok};
 ghost use Rattle.product_frame.specs.Frame.{FrameOf};
 ghost use Rattle.product_frame.specs.declared.frame.Frame.{Frame as FrameValue};
-ghost use Rattle.product_frame.specs.Frames.{heading_index, full_index, issue_in, end_by, product_in, behind, named, frame_in, frame_of};
+ghost use Rattle.product_frame.specs.declared.frame.FrameFault.{FrameFault as FaultValue};
+ghost use Rattle.product_frame.specs.Faults.{FrameFaultOf};
+ghost use Rattle.product_frame.specs.Frames.{heading_index, full_index, issue_in, end_by, product_in, behind, named, frame_in, frame_from, frame_of};
 
 use crate::frame::{Frame, FrameFault, Heading};
 use crate::text::{is_blank, line_of, starts};
 use crate::walk::walk_lines;
-use desk_clock::near;
-use hazard_types::{DayStamp, List, Minute, Oom, Or, Text, read_stamp};
+use desk_clock::{near, read_local_line};
+use hazard_types::{DayStamp, List, Minute, Oom, Or, Text};
 use std::alloc::Global;
 use ugc_codes::expiry_of;
 
@@ -70,8 +72,9 @@ fn heading_by(line: &[u8], bbb: Option<[u8; 3]>) -> Option<Heading>
     })
 }
 
+/// What a heading line says, if the line is one.
 #[tactic(auto, unfolding(crate::specs::Parts::heading_of))]
-fn heading_of(line: &[u8]) -> Option<Heading>
+pub fn heading_of(line: &[u8]) -> Option<Heading>
     ensures { result ≡ heading_of line.now }
 {
     if line.len() == 18 {
@@ -95,11 +98,15 @@ fn are_names(bytes: &[u8]) -> bool
     bytes.iter().all(|c| is_name(*c))
 }
 
-/// Stand-in: a local line is a stamp.
-fn read_local_line(line: &[u8]) -> Option<Minute>
+/// The minute that a line reads as, if it is a local line.
+#[tactic(auto, unfolding(crate::specs::Parts::local_at))]
+fn local_at(line: &[u8]) -> Option<Minute>
     ensures { result ≡ local_at line.now }
 {
-    read_stamp(line)
+    match read_local_line(line) {
+        Ok(minute) => Some(minute),
+        Err(_) => None,
+    }
 }
 
 /// Whether some minute within 720 of the issue, either side, has the day stamp.
@@ -144,7 +151,7 @@ fn issue_in(bytes: &[u8], places: &[usize]) -> Option<Minute>
     ensures value { result ≡ issue_in bytes.now places.now }
 {
     for start in places {
-        let issue = read_local_line(line_of(&bytes[*start..]));
+        let issue = local_at(line_of(&bytes[*start..]));
         if issue.is_some() {
             return issue;
         }
@@ -211,13 +218,11 @@ fn behind(
     })
 }
 
+/// The frame of one product, whose first line is its heading.
 #[tactic(auto, unfolding(crate::specs::Frames::frame_in))]
-fn frame_in(alloc: Global, product: &[u8]) -> Result<Frame, Or<FrameFault>>
-    ensures { Gives result (frame_in product.now) }
+fn frame_in(alloc: Global, product: &[u8], heading: Heading) -> Result<Frame, Or<FrameFault>>
+    ensures { Gives result (frame_in product.now heading) }
 {
-    let Some(heading) = heading_of(line_of(product)) else {
-        return Err(Or::No(FrameFault::NoHeading));
-    };
     let places = later_starts(alloc, product)?;
     let places = places.as_slice();
     let Some(k) = full_index(product, places) else {
@@ -231,7 +236,20 @@ fn frame_in(alloc: Global, product: &[u8]) -> Result<Frame, Or<FrameFault>>
     behind(alloc, product, heading, identifier, places, k)
 }
 
-#[tactic(auto, unfolding(crate::specs::Frames::frame_of, crate::specs::Frames::product_in))]
+/// The frame of the product that begins with the bytes' first line.
+#[tactic(auto, unfolding(crate::specs::Frames::frame_from, crate::specs::Frames::product_in))]
+fn frame_from(alloc: Global, rest: &[u8]) -> Result<Frame, Or<FrameFault>>
+    ensures { Gives result (frame_from rest.now) }
+{
+    let Some(heading) = heading_of(line_of(rest)) else {
+        return Err(Or::No(FrameFault::NoHeading));
+    };
+    let end = end_of(alloc, rest)?;
+    frame_in(alloc, &rest[..end], heading)
+}
+
+/// The frame of the first product.
+#[tactic(auto, unfolding(crate::specs::Frames::frame_of))]
 fn frame_of(alloc: Global, bytes: &[u8]) -> Result<Frame, Or<FrameFault>>
     ensures { Gives result (frame_of bytes.now) }
 {
@@ -240,19 +258,34 @@ fn frame_of(alloc: Global, bytes: &[u8]) -> Result<Frame, Or<FrameFault>>
     let Some(k) = heading_index(bytes, places) else {
         return Err(Or::No(FrameFault::NoHeading));
     };
-    let rest = &bytes[places[k]..];
-    let end = end_of(alloc, rest)?;
-    frame_in(alloc, &rest[..end])
+    frame_from(alloc, &bytes[places[k]..])
 }
 
-/// The frame of the first product of a text.
+/// The frame of the first product of a text: what stands before its heading line is skipped, and it
+/// ends before the next heading line.
+///
+/// # Errors
+///
+/// The first fault, with its line, which counts from the heading as line 1.
 pub fn read_frame(alloc: Global, bytes: &[u8]) -> Result<Frame, Or<FrameFault>>
     // What is read is the frame of the text.
     ensures found { IfOk result (FrameOf bytes.now) }
     // Where the text has a frame it is read, unless memory runs out.
     ensures only { (f : FrameValue) → FrameOf bytes.now f → Gives result (Ok f) }
-    // Which fault it is.
+    // What is refused has this fault first, and each first fault is named, unless memory runs out.
+    ensures fault { (x : FaultValue) → result ≡ Err (Or.No x) → FrameFaultOf bytes.now x }
+    ensures fault_only { (x : FaultValue) → FrameFaultOf bytes.now x → Gives result (Err x) }
+
+    // The same as one function of the bytes.
     ensures exact { Gives result (frame_of bytes.now) }
 {
     frame_of(alloc, bytes)
 }
+
+/// A text has a frame or a fault, never both, and one of each at most.
+pub fn frame_or_fault()
+    ensures either { (bytes : Seq ℕ) → ((f : FrameValue) × FrameOf bytes f) ⊎ ((x : FaultValue) × FrameFaultOf bytes x) }
+    ensures not_both { (bytes : Seq ℕ) (f : FrameValue) (x : FaultValue) → FrameOf bytes f → FrameFaultOf bytes x → ⊥ }
+    ensures one_frame { (bytes : Seq ℕ) (f g : FrameValue) → FrameOf bytes f → FrameOf bytes g → f ≡ g }
+    ensures one_fault { (bytes : Seq ℕ) (x y : FaultValue) → FrameFaultOf bytes x → FrameFaultOf bytes y → x ≡ y }
+{}

@@ -7,7 +7,9 @@ ghost use Rattle.product_frame.specs.declared.frame.FrameSegment.{FrameSegment a
 ghost use Rattle.product_frame.specs.Grammar.{AreSegments};
 ghost use Rattle.product_frame.specs.Parts.{begins, has_slash, is_end};
 ghost use Rattle.product_frame.specs.Events.{vtec_of, pair_of};
-ghost use Rattle.product_frame.specs.Walking.{IsBadUgc, at_outside, at_rest, at_pairs, step, ended, segments_of, Moves};
+ghost use Rattle.product_frame.specs.Frames.{or_fault};
+ghost use Rattle.product_frame.specs.declared.frame.FrameFault.TheVariants.{BadVtec};
+ghost use Rattle.product_frame.specs.Walking.{IsBadUgc, with_pair, at_outside, at_rest, at_pairs, step, ended, segments_of, Moves};
 
 use crate::frame::{FrameFault, FrameSegment, Pair};
 use crate::text::{ends_in, line_of};
@@ -148,6 +150,14 @@ fn at_rest(alloc: Global, walk: &mut Walk, line: &[u8]) -> Result<(), Or<FrameFa
     Ok(())
 }
 
+/// One pair more.
+fn add_pair(walk: &mut Walk, pair: &Pair) -> Result<(), Or<FrameFault>>
+    ensures { Moves result walk.new (Ok (with_pair walk.old pair.now)) }
+{
+    walk.pairs.extend(&[*pair])?;
+    Ok(())
+}
+
 /// A line behind a segment's UGC.
 fn at_pairs(
     alloc: Global,
@@ -160,9 +170,10 @@ fn at_pairs(
     if !has_slash(line) {
         return at_rest(alloc, walk, line);
     }
-    let pair = pair_or_fault(line, number)?;
-    walk.pairs.push(pair)?;
-    Ok(())
+    match pair_or_fault(line, number) {
+        Ok(pair) => add_pair(walk, &pair),
+        Err(fault) => Err(fault),
+    }
 }
 
 #[tactic(auto, unfolding(crate::specs::Walking::step))]
