@@ -67,11 +67,26 @@ form_found b w h =
     let some_letters : letters ≢ [] = some_before letters some_aside_part in
     let some_half : half ≢ [] = some_before half some_letters in
     record {
-      clock = first_word b; half = first_word half; letters = first_word letters; weekday = first_word weekday; month = first_word month; day = first_word day; year = year;
-      from_half = half; from_letters = letters; from_aside = aside; from_weekday = weekday; from_month = month; from_day = day;
-      first = is_word b some_half; second = is_word half some_letters; third = is_word letters some_aside_part;
+      clock = first_word b;
+      half = first_word half;
+      letters = first_word letters;
+      weekday = first_word weekday;
+      month = first_word month;
+      day = first_word day;
+      year = year;
+      from_half = half;
+      from_letters = letters;
+      from_aside = aside;
+      from_weekday = weekday;
+      from_month = month;
+      from_day = day;
+      first = is_word b some_half;
+      second = is_word half some_letters;
+      third = is_word letters some_aside_part;
       aside = is_aside aside some_weekday;
-      fourth = is_word weekday some_month; fifth = is_word month some_day; sixth = is_word day some_year;
+      fourth = is_word weekday some_month;
+      fifth = is_word month some_day;
+      sixth = is_word day some_year;
       says = h;
     }
 

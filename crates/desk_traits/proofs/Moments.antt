@@ -1,5 +1,5 @@
 -- Runs of device calls.
-use Rattle.std.proofs.Common.{◌≡◌, ◌⊎◌, inl, inr, ⊎_elim, ℕ, ◌≤◌, List, Option, None, Some, refl, ◌∙◌, subst, arith, length, Result, OnOk}
+use Rattle.std.proofs.Common.{◌≡◌, inl, inr, ⊎_elim, ℕ, ◌≤◌, List, Option, None, Some, refl, ◌∙◌, subst, arith, length, Result, OnOk}
 use Rattle.desk_traits.specs.Crash.{Passes, LeavesOnly}
 use Rattle.desk_traits.specs.File.{Torn, Holds, Writes, Same}
 

@@ -1,5 +1,5 @@
 -- The law of a clock, for a clock with set readings.
-use Rattle.std.proofs.Common.{◌≡◌, ℕ, ℤ, ◌<◌, List, length, drop, Option, None, Some, ap, sym, arith, length-drop}
+use Rattle.std.proofs.Common.{◌≡◌, ℕ, ℤ, ◌<◌, List, length, drop, None, Some, ap, arith, length-drop}
 
 pub some_ahead : (readings ahead : List ℤ) (at : ℕ) → at < length readings → Some (drop at readings) ≡ Some ahead → 0 < length ahead
 some_ahead readings ahead at within told =

@@ -2,7 +2,7 @@
 use Rattle.std.specs.Prelude.{◌≡◌, ◌⊎◌, ℕ, ◌+◌, ◌≤◌, Bool, true, false, List, [], ◌∷◌, ◌++◌, length, take, drop, cond, leb}
 use Rattle.desk_traits.specs.File.{Torn}
 use Rattle.desk_traits.specs.declared.disk_record.DiskCall.{DiskCall}
-use Rattle.desk_traits.specs.declared.disk_record.DiskCall.TheVariants.{Looked, Read, Wrote, Synced, LookFailed, ReadFailed, WriteFailed, SyncFailed}
+use Rattle.desk_traits.specs.declared.disk_record.DiskCall.TheVariants.{Wrote, Synced, WriteFailed}
 
 -- the file with the bytes at this place, if that is in it
 abbrev pub written : ℕ → List ℕ → List ℕ → List ℕ

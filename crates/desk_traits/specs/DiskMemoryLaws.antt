@@ -1,9 +1,8 @@
 -- The laws of a disk, for a disk in memory.
 use Rattle.std.proofs.Common.{◌≡◌, ℕ, ◌+◌, ◌≤◌, Bool, true, false, cond, leb, leb-true, List, [], ◌∷◌, ◌++◌, length, take, drop, Some, refl, sym, ◌∙◌, ap, subst, arith, append_assoc, length-append, length-drop, length-take}
 use Rattle.std.proofs.lemmas.List.{take_all, take_at, drop_at}
-use Rattle.std.proofs.lemmas.Bool.Decides.{nat_tests}
 use Rattle.desk_traits.specs.File.{Torn}
-use Rattle.desk_traits.specs.DiskMemory.{written, next, replay, after_call, leaves, MayLeave, LeftSince}
+use Rattle.desk_traits.specs.DiskMemory.{next, replay, after_call, leaves, MayLeave, LeftSince}
 use Rattle.desk_traits.specs.declared.disk_record.DiskCall.{DiskCall}
 use Rattle.desk_traits.specs.declared.disk_record.DiskCall.TheVariants.{Looked, Read, Wrote, Synced, LookFailed, ReadFailed, WriteFailed, SyncFailed}
 

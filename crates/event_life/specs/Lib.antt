@@ -1,7 +1,10 @@
+pub mod Bounds
+pub mod Firsts
 pub mod Higher
 pub mod Lives
 pub mod Openings
 pub mod Periods
+pub mod Printed
 pub mod Products
 pub mod Shown
 pub mod Table

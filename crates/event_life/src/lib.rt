@@ -1,13 +1,29 @@
 //! The life of one event in one zone: which lines are lawful, and what they leave.
 #![tactic(auto)]
 
+mod laws;
 mod life;
 mod periods;
 mod rows;
+#[cfg(test)]
+mod rows_tests;
+mod step_laws;
+#[cfg(test)]
+mod step_tests;
 
+pub use laws::{
+    first_line_decides, gapless_without_gaps, higher_rows_are_lawful_rows, lawful_lines_read_back,
+    lives_are_lifelong, rows_stay_in_order,
+};
 pub use life::{Around, Breach, Life, life_step};
 pub use periods::{ends_after, ends_within, is_live, keeps_open, overlaps, same_at, same_end};
 pub use rows::{
     around, event_of, going_in, has_period, has_rows, has_same, is_held, is_open, life_at,
     opened_period, row_at,
+};
+pub use step_laws::{
+    can_comes_before_the_last_half_hour, con_and_cor_keep_the_period, ended_lives_stay_ended,
+    exa_joins_a_period_of_the_event, exb_joins_at_another_period,
+    exp_comes_within_half_an_hour_of_the_end, ext_changes_the_period, lawful_lines_leave,
+    new_opens_an_event, steps_are_never_twice, upg_comes_before_the_end,
 };

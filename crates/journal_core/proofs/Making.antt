@@ -1,14 +1,14 @@
 -- The steps in which a journal is made on a fresh disk.
-use Rattle.std.proofs.Common.{◌≡◌, ◌⊎◌, inl, inr, ⊎_elim, ℕ, ◌+◌, ◌≤◌, List, [], ◌∷◌, ◌++◌, length, get_or, drop, Option, None, Some, refl, sym, ◌∙◌, ap, subst, arith, append_assoc, Result, Ok, Err, OnOk}
+use Rattle.std.proofs.Common.{◌≡◌, ◌⊎◌, inl, inr, ℕ, ◌+◌, ◌≤◌, List, [], ◌∷◌, ◌++◌, length, get_or, drop, Option, None, Some, refl, sym, ◌∙◌, ap, subst, arith, append_assoc, Result, Ok, Err, OnOk}
 use Rattle.std.proofs.lemmas.List.{append-nil}
 use Rattle.std.proofs.lemmas.Bool.{cases_eq}
 use Rattle.desk_traits.specs.Crash.{Passes, LeavesOnly}
-use Rattle.desk_traits.specs.File.{Torn, Holds, Writes, Only, Same}
-use Rattle.journal_core.specs.Image.{spelled, records, Fits, Image, Fresh}
+use Rattle.desk_traits.specs.File.{Torn, Writes, Only, Same}
+use Rattle.journal_core.specs.Image.{spelled, Fits, Image, Fresh}
 use Rattle.journal_core.specs.Packet.{framed}
 use Rattle.journal_core.specs.Create.{IsBlank, IsMade, IsMaking, IsStart, Starts}
 use Rattle.journal_core.specs.declared.create.Start.{Start}
-use Rattle.journal_core.specs.declared.create.Start.TheVariants.{Short, Begun}
+use Rattle.journal_core.specs.declared.create.Start.TheVariants.{Begun}
 use Rattle.journal_core.proofs.Bytes.{torn_behind, written_behind, torn_gate, written_gate}
 use Rattle.desk_traits.proofs.Moments.{After, told_after, one, both, weaker}
 use Rattle.journal_core.proofs.Steps.{only_told}

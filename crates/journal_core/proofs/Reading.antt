@@ -1,11 +1,11 @@
 -- What stands at a place of a file, from the pieces that were read.
-use Rattle.std.proofs.Common.{◌≡◌, ◌≢◌, ℕ, ◌+◌, ◌-◌, ◌<◌, ◌≤◌, List, [], ◌∷◌, ◌++◌, length, get_or, take, drop, Option, None, Some, refl, sym, ◌∙◌, ap, subst, arith, length-drop, length-append, take-append-drop, drop-drop, append_assoc}
+use Rattle.std.proofs.Common.{◌≡◌, ◌≢◌, ℕ, ◌+◌, ◌<◌, ◌≤◌, List, [], ◌∷◌, ◌++◌, length, get_or, take, drop, Option, None, Some, sym, ◌∙◌, ap, arith, length-drop, take-append-drop, drop-drop, append_assoc}
 use Rattle.std.proofs.lemmas.List.{drop_more}
 use Rattle.std.specs.Int.{w32, to_be_bytes, from_be_bytes}
 use Rattle.desk_traits.specs.File.{Gives, IsLength}
 use Rattle.journal_core.specs.Image.{spelled, Fits}
-use Rattle.journal_core.specs.Adopt.{NoGate, NotWhole, Record, Steps}
-use Rattle.journal_core.specs.declared.adopt.Step.TheVariants.{Body, Shut, Cut}
+use Rattle.journal_core.specs.Adopt.{NoGate, Steps}
+use Rattle.journal_core.specs.declared.adopt.Step.TheVariants.{Body, Cut}
 
 piece : (at k : ℕ) (f : List ℕ) → drop at f ≡ take k (drop at f) ++ drop (at + k) f
 piece at k f = sym (take-append-drop k (drop at f)) ∙ ap (λ (l : List ℕ). take k (drop at f) ++ l) (drop-drop k at f)

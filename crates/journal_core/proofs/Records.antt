@@ -1,5 +1,5 @@
 -- The bytes of a record that was written.
-use Rattle.std.proofs.Common.{◌≡◌, ◌⊎◌, ⊎_elim, ℕ, ◌+◌, ◌≤◌, List, [], ◌∷◌, ◌++◌, length, get_or, take, drop, Option, None, Some, option_map, refl, sym, ◌∙◌, ap, arith, append_assoc, length-append, length-take, length-drop, take-append-drop, drop-drop, Result, Ok, Err, OnOk}
+use Rattle.std.proofs.Common.{◌≡◌, ◌⊎◌, ⊎_elim, ℕ, ◌+◌, ◌≤◌, List, [], ◌∷◌, ◌++◌, length, get_or, take, drop, Option, None, Some, option_map, refl, sym, ◌∙◌, ap, arith, append_assoc, length-append, length-take, length-drop, take-append-drop, drop-drop, Ok}
 use Rattle.std.proofs.lemmas.List.{take_at, drop_at, drop_more, drop_all}
 use Rattle.desk_traits.specs.File.{Writes}
 use Rattle.journal_core.specs.Image.{spelled}
@@ -62,7 +62,7 @@ appended p body file first second third within close stage open_gate =
     open_gate ∙ ap (option_map (put p (71 ∷ []))) stage ∙ ⊎_elim
     (λ (is : first ≡ Some file). ap (λ (o : Option (List ℕ)). option_map (put p (71 ∷ [])) (option_map (put (p + 1) (framed body)) o)) is ∙ ap (λ (l : List ℕ). Some l) (record_put p body file within))
     (λ (is : first ≡ Some (put p (46 ∷ []) file)). ap (λ (o : Option (List ℕ)). option_map (put p (71 ∷ [])) (option_map (put (p + 1) (framed body)) o)) is
-      ∙ ap (λ (l : List ℕ). Some l) (record_put p body (put p (46 ∷ []) file) (put_keeps p file within) ∙ closed_before p body file within))
+    ∙ ap (λ (l : List ℕ). Some l) (record_put p body (put p (46 ∷ []) file) (put_keeps p file within) ∙ closed_before p body file within))
     close
 
 -- a first byte in a file that had at most one makes no difference

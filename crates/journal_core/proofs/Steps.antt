@@ -1,14 +1,14 @@
 -- The steps of an append, each a write and a sync.
-use Rattle.std.proofs.Common.{◌≡◌, ◌⊎◌, inl, inr, ℕ, ◌+◌, ◌≤◌, ◌^◌, List, [], ◌∷◌, ◌++◌, length, Bool, true, false, Option, None, Some, is_some, refl, sym, ◌∙◌, ap, subst, arith, length-append, Result, Ok, Err, OnOk, OnErr, IfSome}
+use Rattle.std.proofs.Common.{◌≡◌, ℕ, ◌+◌, ◌≤◌, List, [], ◌∷◌, ◌++◌, length, Bool, true, false, Option, None, Some, refl, sym, ◌∙◌, ap, subst, arith, length-append, Result, Ok, Err, OnOk, OnErr, IfSome}
 use Rattle.desk_traits.specs.Crash.{Passes, LeavesOnly}
-use Rattle.desk_traits.specs.File.{Torn, Holds, Writes, Only, IsWithin}
+use Rattle.desk_traits.specs.File.{Torn, Holds, Writes, Only}
 use Rattle.journal_core.specs.Image.{spelled, records, Fits, Image, Half}
 use Rattle.journal_core.specs.Packet.{framed}
 use Rattle.journal_core.specs.Create.{IsMade}
 use Rattle.journal_core.proofs.Frames.{length-spelled}
 use Rattle.journal_core.specs.Journal.{Rests, StandsFor, IsStaged}
 use Rattle.journal_core.proofs.Files.{torn_image, staged_half, torn_half, closed_half, opened_half, records-push}
-use Rattle.desk_traits.proofs.Moments.{After, told_after, nothing, one, both, ends}
+use Rattle.desk_traits.proofs.Moments.{After, told_after, one, ends}
 
 pub on_err : {T E P : Type 0} (r : Result T E) → P → OnErr r P
 on_err (Ok x) p = tt

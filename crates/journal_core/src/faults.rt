@@ -13,9 +13,7 @@ pub enum AppendFault {
 pub enum AdoptFault {
     Fresh,
     /// The place of the gate from which on the file is no journal.
-    Damaged {
-        at: u64,
-    },
+    Damaged { at: u64 },
     DiskFault,
     OutOfMemory,
 }

@@ -10,7 +10,8 @@ use std::alloc::Global;
 use std::fs::{self, OpenOptions};
 use std::test::Fail;
 
-const OPENED: &[u8] = b"180103T1000Z {\"category\":\"WSW\",\"desk\":\"A\",\"do\":\"open\",\"seq\":1}";
+const OPENED: &[u8] =
+    b"180103T1000Z {\"category\":\"WSW\",\"desk\":\"A\",\"do\":\"open\",\"seq\":1}";
 
 const NONE: &[u64] = &[];
 
@@ -116,12 +117,18 @@ fn a_failing_call_is_made_good(rt: HostRuntime) -> Result<(), Fail> {
     let wanted = run(alloc, NONE, None, 0, 1)?;
     for failing in [9, 10, 11, 12] {
         let failed = run(alloc, &[failing], None, 0, 1)?;
-        assert!(rt; failed.last == Some(AppendFault::DiskFault), "call {failing}");
+        assert!(rt;
+            failed.last == Some(AppendFault::DiskFault),
+            "call {failing}"
+        );
         let again = run(alloc, &[failing], None, 0, 2)?;
         assert!(rt; again.last.is_none(), "call {failing}");
         assert_eq!(rt; again.disk.file().as_slice(), wanted.disk.file().as_slice());
         let file = again.disk.crashed()?;
-        assert!(rt; bodies_in(alloc, file.as_slice())? == Ok(2), "call {failing}");
+        assert!(rt;
+            bodies_in(alloc, file.as_slice())? == Ok(2),
+            "call {failing}"
+        );
     }
     Ok(())
 }
@@ -164,9 +171,15 @@ fn files_are_told_apart(rt: HostRuntime) -> Result<(), Fail> {
         (b"G\0\0\0\x02ab", Err(AdoptFault::Damaged { at: 0 })),
         (b"G\0\0\0\x02ab.", Ok(1)),
         (b"G\0\0\0\x02abG", Err(AdoptFault::Damaged { at: 7 })),
-        (b"G\0\0\0\x02abG\0\0\0\x01q", Err(AdoptFault::Damaged { at: 7 })),
+        (
+            b"G\0\0\0\x02abG\0\0\0\x01q",
+            Err(AdoptFault::Damaged { at: 7 }),
+        ),
         (b"G\0\0\0\x02abG\0\0\0\x01q\0GGG", Ok(2)),
-        (b"G\0\0\0\x02abG\0\0\0\x01qG\0", Err(AdoptFault::Damaged { at: 13 })),
+        (
+            b"G\0\0\0\x02abG\0\0\0\x01qG\0",
+            Err(AdoptFault::Damaged { at: 13 }),
+        ),
     ] {
         let found = bodies_in(alloc, file)?;
         assert!(rt; found == wanted, "{file:?}");

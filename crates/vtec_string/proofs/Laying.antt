@@ -17,9 +17,11 @@ use Rattle.hazard_types.specs.declared.codes.Action.TheVariants as action
 use Rattle.hazard_types.specs.declared.hazard.Sig.{Sig}
 use Rattle.hazard_types.specs.declared.hazard.Sig.TheVariants as sig
 use Rattle.hazard_types.specs.declared.line.Vtec.{Vtec}
+use Rattle.hazard_types.specs.Codes.{value_beside}
+use Rattle.hazard_types.specs.Tables.{class_rows, action_rows, sig_rows}
 use Rattle.vtec_string.specs.Letters.{class_code, action_code, sig_code}
 use Rattle.vtec_string.specs.Columns.{is_office, four_digits, IsTime, IsVtec, time_text, vtec_text}
-use Rattle.vtec_string.proofs.Lettering.{one_class, one_action, one_sig, one_number}
+use Rattle.vtec_string.proofs.Lettering.{class_letters, action_letters, sig_letters, class_found, action_found, sig_found, one_value, one_number}
 use Rattle.vtec_string.proofs.Times.{time_is, one_time}
 
 pub one_byte : (bytes : List ℕ) (at : ℕ) → at < length bytes → slice_range bytes at (at + 1) ≡ get_or bytes at 0 ∷ []
@@ -50,15 +52,15 @@ columns_are bytes v h =
     let a12 = at 21 22 (lit≤ tt) ∙ (λ i. s.before_begin i ++ a13 i) in
     let a11 = at 17 21 (lit≤ tt) ∙ (λ i. h.number i ++ a12 i) in
     let a10 = at 16 17 (lit≤ tt) ∙ (λ i. s.before_number i ++ a11 i) in
-    let a9 = at 15 16 (lit≤ tt) ∙ (λ i. h.significance i ++ a10 i) in
+    let a9 = at 15 16 (lit≤ tt) ∙ (λ i. sig_letters _ v.hazard.sig h.significance i ++ a10 i) in
     let a8 = at 14 15 (lit≤ tt) ∙ (λ i. s.before_significance i ++ a9 i) in
     let a7 = at 12 14 (lit≤ tt) ∙ (λ i. h.phenomenon i ++ a8 i) in
     let a6 = at 11 12 (lit≤ tt) ∙ (λ i. s.before_phenomenon i ++ a7 i) in
     let a5 = at 7 11 (lit≤ tt) ∙ (λ i. h.office i ++ a6 i) in
     let a4 = at 6 7 (lit≤ tt) ∙ (λ i. s.before_office i ++ a5 i) in
-    let a3 = at 3 6 (lit≤ tt) ∙ (λ i. h.action i ++ a4 i) in
+    let a3 = at 3 6 (lit≤ tt) ∙ (λ i. action_letters _ v.action h.action i ++ a4 i) in
     let a2 = at 2 3 (lit≤ tt) ∙ (λ i. s.before_action i ++ a3 i) in
-    let a1 = at 1 2 (lit≤ tt) ∙ (λ i. h.class i ++ a2 i) in
+    let a1 = at 1 2 (lit≤ tt) ∙ (λ i. class_letters _ v.class h.class i ++ a2 i) in
     at 0 1 (lit≤ tt) ∙ (λ i. s.before_class i ++ a1 i)
 
 class_one : (c : Class) → length (class_code c) ≡ 1
@@ -129,13 +131,13 @@ columns_of v two office letters number begin end =
     record {
       size = size;
       separated = record { before_class = s0.0; before_action = s2.0; before_office = s4.0; before_phenomenon = s6.0; before_significance = s8.0; before_number = s10.0; before_begin = s12.0; before_end = s14.0; behind = s16.0 };
-      class = s1.0;
-      action = s3.0;
+      class = ap (value_beside class_rows) s1.0 ∙ class_found v.class;
+      action = ap (value_beside action_rows) s3.0 ∙ action_found v.action;
       office = s5.0;
       is_office = office;
       phenomenon = s7.0;
       are_letters = letters;
-      significance = s9.0;
+      significance = ap (value_beside sig_rows) s9.0 ∙ sig_found v.hazard.sig;
       number = s11.0;
       is_number = number;
       begin = subst (λ (text : List ℕ). IsTime text v.begin) (sym s13.0) begin;
@@ -145,11 +147,11 @@ columns_of v two office letters number begin end =
 -- one text has one list of values
 pub one_vtec : (bytes : List ℕ) (v w : Vtec) → IsVtec bytes v → IsVtec bytes w → v ≡ w
 one_vtec bytes v w g h =
-    let class = one_class v.class w.class (sym g.class ∙ h.class) in
-    let action = one_action v.action w.action (sym g.action ∙ h.action) in
+    let class = one_value class_rows _ v.class w.class g.class h.class in
+    let action = one_value action_rows _ v.action w.action g.action h.action in
     let office : v.office ≡ w.office = sym g.office ∙ h.office in
     let phen : v.hazard.phen ≡ w.hazard.phen = sym g.phenomenon ∙ h.phenomenon in
-    let sig = one_sig v.hazard.sig w.hazard.sig (sym g.significance ∙ h.significance) in
+    let sig = one_value sig_rows _ v.hazard.sig w.hazard.sig g.significance h.significance in
     let number = one_number v.etn w.etn g.is_number h.is_number (sym g.number ∙ h.number) in
     let begin = one_time _ v.begin w.begin g.begin h.begin in
     let end = one_time _ v.end w.end g.end h.end in

@@ -4,6 +4,8 @@ use Rattle.std.specs.List.{slice_range, list_all}
 use Rattle.hazard_types.specs.Calendar.{stamp_of, IsStamp, is_digit}
 use Rattle.hazard_types.specs.Places.{is_capital, are_letters}
 use Rattle.hazard_types.specs.declared.line.Vtec.{Vtec}
+use Rattle.hazard_types.specs.Codes.{value_beside}
+use Rattle.hazard_types.specs.Tables.{class_rows, action_rows, sig_rows}
 use Rattle.vtec_string.specs.Letters.{class_code, action_code, sig_code}
 
 -- an office is four characters of A to Z and 0 to 9
@@ -31,17 +33,17 @@ pub record AreSeparated (bytes : List ℕ) : Type 0 where
   pub before_end : slice_range bytes 34 35 ≡ codes "-"
   pub behind : slice_range bytes 47 48 ≡ codes "/"
 
--- each column of the 48 bytes has what the values say
+-- each column of the 48 bytes has what the values say; class, action and significance are those that stand beside its letters in their tables
 pub record IsVtec (bytes : List ℕ) (v : Vtec) : Type 0 where
   pub size : length bytes ≡ 48
   pub separated : AreSeparated bytes
-  pub class : slice_range bytes 1 2 ≡ class_code v.class
-  pub action : slice_range bytes 3 6 ≡ action_code v.action
+  pub class : value_beside class_rows (slice_range bytes 1 2) ≡ Some v.class
+  pub action : value_beside action_rows (slice_range bytes 3 6) ≡ Some v.action
   pub office : slice_range bytes 7 11 ≡ v.office
   pub is_office : IsTrue (is_office v.office)
   pub phenomenon : slice_range bytes 12 14 ≡ v.hazard.phen
   pub are_letters : IsTrue (are_letters v.hazard.phen)
-  pub significance : slice_range bytes 15 16 ≡ sig_code v.hazard.sig
+  pub significance : value_beside sig_rows (slice_range bytes 15 16) ≡ Some v.hazard.sig
   pub number : slice_range bytes 17 21 ≡ four_digits v.etn
   pub is_number : v.etn ≤ 9999
   pub begin : IsTime (slice_range bytes 22 34) v.begin

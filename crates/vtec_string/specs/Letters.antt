@@ -1,4 +1,4 @@
--- The letters of classes, actions and significances.
+-- The letters of classes, actions and significances, as they are written: those that stand beside them in their tables.
 use Rattle.std.specs.Prelude.{ℕ, List, codes}
 use Rattle.hazard_types.specs.declared.codes.Class.{Class}
 use Rattle.hazard_types.specs.declared.codes.Class.TheVariants as class

@@ -1,11 +1,10 @@
 //! The letters of classes, actions and significances, both ways.
-ghost use Rattle.std.specs.Prelude.{◌≡◌, ◌≢◌, ◌∷◌, [], ◌↔◌, IsTrue, MatchOption};
-ghost use Rattle.hazard_types.specs.declared.codes.Class.{Class as Classes};
-ghost use Rattle.hazard_types.specs.declared.codes.Action.{Action as Actions};
-ghost use Rattle.hazard_types.specs.declared.hazard.Sig.{Sig as Significances};
+ghost use Rattle.std.specs.Prelude.{◌≡◌, ◌∷◌, []};
+ghost use Rattle.hazard_types.specs.Codes.{value_beside};
+ghost use Rattle.hazard_types.specs.Tables.{class_rows, action_rows, sig_rows};
 ghost use Rattle.vtec_string.specs.Letters.{class_code, action_code, sig_code};
 
-use hazard_types::{Action, Class, Sig};
+use hazard_types::{Action, Class, Sig, actions, classes, find, significances};
 
 /// The letter of a class.
 pub fn class_code(class: Class) -> u8
@@ -20,17 +19,10 @@ pub fn class_code(class: Class) -> u8
 }
 
 /// The class of a letter; None where no class has it.
-#[tactic(auto, using(crate::proofs::Lettering::no_class))]
-pub fn class_of(code: u8) -> Option<Class>
-    ensures { MatchOption result ((c : Classes) → code ∷ [] ≢ class_code c) (λ c. code ∷ [] ≡ class_code c) }
+pub fn class_of(text: &[u8]) -> Option<Class>
+    ensures { result ≡ value_beside class_rows text.now }
 {
-    match code {
-        b'O' => Some(Class::O),
-        b'T' => Some(Class::T),
-        b'E' => Some(Class::E),
-        b'X' => Some(Class::X),
-        _ => None,
-    }
+    find(&classes(), text)
 }
 
 /// The three letters of an action.
@@ -51,35 +43,11 @@ pub fn action_code(action: Action) -> [u8; 3]
     }
 }
 
-/// Whether these are the letters of an action.
-fn is_code_of(action: Action, text: &[u8]) -> bool
-    ensures { IsTrue result ↔ (text.now ≡ action_code action) }
-{
-    text == action_code(action).as_slice()
-}
-
 /// The action of three letters; None where no action has them.
-
 pub fn action_of(text: &[u8]) -> Option<Action>
-    ensures { MatchOption result ((a : Actions) → text.now ≢ action_code a) (λ a. text.now ≡ action_code a) }
+    ensures { result ≡ value_beside action_rows text.now }
 {
-    for action in [
-        Action::New,
-        Action::Con,
-        Action::Exa,
-        Action::Ext,
-        Action::Exb,
-        Action::Upg,
-        Action::Can,
-        Action::Exp,
-        Action::Cor,
-        Action::Rou,
-    ] {
-        if is_code_of(action, text) {
-            return Some(action);
-        }
-    }
-    None
+    find(&actions(), text)
 }
 
 /// The letter of a significance.
@@ -98,18 +66,8 @@ pub fn sig_code(sig: Sig) -> u8
 }
 
 /// The significance of a letter; None where no significance has it.
-#[tactic(auto, using(crate::proofs::Lettering::no_sig))]
-pub fn sig_of(code: u8) -> Option<Sig>
-    ensures { MatchOption result ((s : Significances) → code ∷ [] ≢ sig_code s) (λ s. code ∷ [] ≡ sig_code s) }
+pub fn sig_of(text: &[u8]) -> Option<Sig>
+    ensures { result ≡ value_beside sig_rows text.now }
 {
-    match code {
-        b'W' => Some(Sig::W),
-        b'A' => Some(Sig::A),
-        b'Y' => Some(Sig::Y),
-        b'S' => Some(Sig::S),
-        b'F' => Some(Sig::F),
-        b'O' => Some(Sig::O),
-        b'N' => Some(Sig::N),
-        _ => None,
-    }
+    find(&significances(), text)
 }

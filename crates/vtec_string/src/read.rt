@@ -97,11 +97,11 @@ fn values_of(bytes: &[u8]) -> Option<Vtec>
     if bytes.len() != 48 || !are_separated(bytes) {
         return None;
     }
-    let class = class_of(bytes[1])?;
+    let class = class_of(&bytes[1..2])?;
     let action = action_of(&bytes[3..6])?;
     let office = office_of(&bytes[7..11])?;
     let phen = phenomenon_of(&bytes[12..14])?;
-    let sig = sig_of(bytes[15])?;
+    let sig = sig_of(&bytes[15..16])?;
     let etn = number_of(&bytes[17..21])?;
     let begin = time_of(&bytes[22..34])?;
     let end = time_of(&bytes[35..47])?;

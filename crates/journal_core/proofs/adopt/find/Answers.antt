@@ -1,4 +1,4 @@
-use Rattle.std.proofs.Common.{◌∙◌, sym}
+use Rattle.std.proofs.Common.{◌∙◌}
 use Rattle.desk_traits.proofs.Moments.{same_both}
 use Rattle.journal_core.proofs.Steps.{on_ok, only_told}
 use Rattle.journal_core.proofs.Scanning.{settles_on}

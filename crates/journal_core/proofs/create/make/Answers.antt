@@ -1,6 +1,6 @@
-use Rattle.std.proofs.Common.{◌≡◌, ◌∙◌, ◌∷◌, [], ◌+◌, ◌≤◌, ℕ, List, Some, Option, option_map, ap, subst, length, arith}
+use Rattle.std.proofs.Common.{◌∙◌, ◌∷◌, [], ◌+◌, ◌≤◌, ℕ, List, Some, Option, option_map, ap, subst, length, arith}
 use Rattle.desk_traits.specs.declared.faults.Failed.{Failed}
-use Rattle.journal_core.specs.Create.{IsBlank, IsStart, Starts}
+use Rattle.journal_core.specs.Create.{Starts}
 use Rattle.journal_core.specs.Packet.{framed}
 use Rattle.journal_core.specs.Written.{put}
 use Rattle.journal_core.specs.declared.create.Start.{Start}
@@ -20,8 +20,8 @@ returns-in_err-first-in-Short-clause-any_moment g c file told =
     let ready = blank d.seen d.moment d.left_since d.may_leave m.counts_now m.only_now m.earlier Failed tt c.look.new.disk c.write_synced.new.disk file told' short c.in_ok-write_synced-in-Short.ensures.seen c.in_ok-write_synced-in-Short.ensures.durable in
     goes_on d.seen d.moment d.left_since d.may_leave m.counts_now m.only_now m.earlier c.args.disk.now c.write_synced.new.disk c.first-in-Short.new.disk c.args.body.now
     (goes_on d.seen d.moment d.left_since d.may_leave m.counts_now m.only_now m.earlier c.args.disk.now c.look.new.disk c.write_synced.new.disk c.args.body.now
-      (looked d.seen d.moment d.left_since d.may_leave m.counts_now m.only_now m.earlier c.args.disk.now c.look.new.disk c.args.body.now c.look.ensures.crash)
-      (dotted d.seen d.moment d.left_since d.may_leave m.counts_now m.only_now m.earlier c.look.new.disk c.write_synced.new.disk file c.args.body.now only short c.write_synced.ensures.crash))
+    (looked d.seen d.moment d.left_since d.may_leave m.counts_now m.only_now m.earlier c.args.disk.now c.look.new.disk c.args.body.now c.look.ensures.crash)
+    (dotted d.seen d.moment d.left_since d.may_leave m.counts_now m.only_now m.earlier c.look.new.disk c.write_synced.new.disk file c.args.body.now only short c.write_synced.ensures.crash))
     (c.first-in-Short.ensures.any_moment ready)
 
 pub returns-in_ok-first-in-Short-clause-any_moment : goal.returns-in_ok-first-in-Short-clause-any_moment
@@ -34,8 +34,8 @@ returns-in_ok-first-in-Short-clause-any_moment g c file told =
     let ready = blank d.seen d.moment d.left_since d.may_leave m.counts_now m.only_now m.earlier Failed tt c.look.new.disk c.write_synced.new.disk file told' short c.in_ok-write_synced-in-Short.ensures.seen c.in_ok-write_synced-in-Short.ensures.durable in
     goes_on d.seen d.moment d.left_since d.may_leave m.counts_now m.only_now m.earlier c.args.disk.now c.write_synced.new.disk c.first-in-Short.new.disk c.args.body.now
     (goes_on d.seen d.moment d.left_since d.may_leave m.counts_now m.only_now m.earlier c.args.disk.now c.look.new.disk c.write_synced.new.disk c.args.body.now
-      (looked d.seen d.moment d.left_since d.may_leave m.counts_now m.only_now m.earlier c.args.disk.now c.look.new.disk c.args.body.now c.look.ensures.crash)
-      (dotted d.seen d.moment d.left_since d.may_leave m.counts_now m.only_now m.earlier c.look.new.disk c.write_synced.new.disk file c.args.body.now only short c.write_synced.ensures.crash))
+    (looked d.seen d.moment d.left_since d.may_leave m.counts_now m.only_now m.earlier c.args.disk.now c.look.new.disk c.args.body.now c.look.ensures.crash)
+    (dotted d.seen d.moment d.left_since d.may_leave m.counts_now m.only_now m.earlier c.look.new.disk c.write_synced.new.disk file c.args.body.now only short c.write_synced.ensures.crash))
     (c.first-in-Short.ensures.any_moment ready)
 
 pub returns-in_ok-first-in-Begun-clause-written : goal.returns-in_ok-first-in-Begun-clause-written

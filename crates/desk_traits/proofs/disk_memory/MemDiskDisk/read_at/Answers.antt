@@ -1,5 +1,4 @@
-use Rattle.std.proofs.Common.{length, refl}
-use Rattle.desk_traits.specs.declared.disk_record.DiskCall.TheVariants.{Read, ReadFailed}
+use Rattle.std.proofs.Common.{refl}
 use Rattle.desk_traits.proofs.Recorded.{goes_noted, synced_noted}
 use Rattle.desk_traits.proofs.disk_memory.MemDiskDisk.read_at.Goals as goal
 

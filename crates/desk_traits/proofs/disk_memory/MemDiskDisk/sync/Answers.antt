@@ -1,6 +1,6 @@
-use Rattle.std.proofs.Common.{true, false, refl, subst, ℕ, List}
+use Rattle.std.proofs.Common.{false, refl, subst, ℕ, List}
 use Rattle.desk_traits.specs.DiskMemory.{MayLeave}
-use Rattle.desk_traits.specs.declared.disk_record.DiskCall.TheVariants.{Looked, LookFailed, Synced, SyncFailed}
+use Rattle.desk_traits.specs.declared.disk_record.DiskCall.TheVariants.{Synced, SyncFailed}
 use Rattle.desk_traits.proofs.Recorded.{goes_noted, synced_noted, synced_good, only_synced}
 use Rattle.desk_traits.proofs.disk_memory.MemDiskDisk.sync.Goals as goal
 

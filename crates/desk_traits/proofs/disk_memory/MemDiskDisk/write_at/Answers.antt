@@ -1,4 +1,4 @@
-use Rattle.std.proofs.Common.{ℕ, Vec, List, refl, ap, ◌∙◌, sym, ◌≡◌, ◌≤◌, length, arith, subst}
+use Rattle.std.proofs.Common.{ℕ, Vec, List, refl, ap, sym, ◌≤◌, length, arith, subst}
 use Rattle.std.specs.declared.alloc.Global.{Global}
 use Rattle.desk_traits.specs.declared.disk_record.DiskCall.{DiskCall}
 use Rattle.desk_traits.specs.declared.disk_record.DiskCall.TheVariants.{Wrote}

@@ -1,5 +1,5 @@
 use Rattle.desk_traits.specs.declared.faults.Failed.{Failed}
-use Rattle.std.proofs.Common.{◌≡◌, ◌+◌, arith, ap, length}
+use Rattle.std.proofs.Common.{ap, length}
 use Rattle.journal_core.proofs.Steps.{on_err, open_moments, open_err, open_ok, length-push}
 use Rattle.journal_core.proofs.journal.Journal.open.Goals as goal
 

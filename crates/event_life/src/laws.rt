@@ -1,0 +1,52 @@
+//! Laws of lives over whole products.
+ghost use Rattle.std.specs.Prelude.{◌≡◌, ◌↔◌, not, true, false, ℕ, List, [], filter};
+ghost use Rattle.std.specs.List.Sorted.{IsStrictlySortedBy};
+ghost use Rattle.hazard_types.specs.Days.{year_of};
+ghost use Rattle.hazard_types.specs.Places.{Place};
+ghost use Rattle.hazard_types.specs.declared.codes.Class.{Class};
+ghost use Rattle.hazard_types.specs.declared.hazard.Event.{Event};
+ghost use Rattle.hazard_types.specs.declared.line.Line.{Line};
+ghost use Rattle.hazard_types.specs.declared.line.Row.{Row};
+ghost use Rattle.event_life.specs.Products.{Product, by_key, row_at, rows_after, is_routine, is_upgrade, is_new, line_of, put_all, judged, lawful_of, end_upgraded, rows_for_higher};
+ghost use Rattle.event_life.specs.Firsts.{row_by_first_line, is_lawful};
+ghost use Rattle.event_life.specs.Lives.{IsLifelong, actions_of, track_of};
+ghost use Rattle.event_life.specs.Openings.{IsGapless, opened_of, gaps_of};
+ghost use Rattle.event_life.specs.Printed.{HasOneOpen, zone_line_of};
+
+/// The row of an event in a zone after a product is the one that the first line of both leaves, where that line is lawful; else it is as before.
+pub fn first_line_decides()
+    ensures { (rows : List Row) (t : ℕ) (lines : List Line) (e : Event) (z : Place) →
+        row_at (rows_after rows t lines) e z ≡ row_by_first_line rows t lines e z }
+{}
+
+/// Rows in order by zone, then event, each pair once, are so after a product too.
+pub fn rows_stay_in_order()
+    ensures { (rows : List Row) (t : ℕ) (lines : List Line) →
+        IsStrictlySortedBy by_key rows → IsStrictlySortedBy by_key (rows_after rows t lines) }
+{}
+
+/// The lawful lines of an event in a zone, over any products: the first is NEW, EXA or EXB, CON, COR and EXT follow,
+/// and at most one CAN, EXP or UPG, with nothing after that.
+pub fn lives_are_lifelong()
+    ensures { (products : List Product) (e : Event) (z : Place) → IsLifelong (actions_of (track_of products e z)) }
+{}
+
+/// The numbers of each hazard and year are 1, 2, .., in the order of opening, exactly where no gap is found.
+pub fn gapless_without_gaps()
+    ensures { (products : List Product) → IsGapless (opened_of products) ↔ (gaps_of products ≡ []) }
+{}
+
+/// A lawful line is read off its text again, where no two open events share hazard and number just before its product,
+/// and a NEW line's event is of the year of issue. (ROU touches no life.)
+pub fn lawful_lines_read_back()
+    ensures { (rows : List Row) (t : ℕ) (lines : List Line) (class : Class) (office : List ℕ) (line : Line) →
+        is_routine line.action ≡ false → is_lawful rows t lines line ≡ true → HasOneOpen rows t →
+        (is_new line.action ≡ true → line.event.year ≡ year_of t) →
+        line_of rows t (zone_line_of class office line) ≡ line }
+{}
+
+/// The rows by which UPG's higher row is judged are those after the lawful lines other than UPG, with every row that has a UPG line as ended.
+pub fn higher_rows_are_lawful_rows()
+    ensures { (rows : List Row) (t : ℕ) (lines : List Line) →
+        rows_for_higher rows t lines ≡ end_upgraded lines (put_all rows t (filter (λ line. not (is_upgrade line.action)) (lawful_of (judged rows t lines))) rows) }
+{}

@@ -1,0 +1,140 @@
+//! The numbers (ETN) of events: for each hazard and year they count from 1.
+#![tactic(auto)]
+
+ghost use Rattle.std.specs.Prelude.{◌≡◌, ◌+◌, ◌<◌, ◌≤◌, [], OnOk, OnErr, position};
+ghost use Rattle.event_numbers.specs.Counts.{count_of, is_count_of, DrawsOne, AreNumbers};
+
+use hazard_types::{Hazard, Oom};
+use std::alloc::Global;
+use std::marker::Model;
+
+/// How many numbers of a hazard were drawn in a year.
+#[derive(Clone, Copy)]
+struct Count {
+    hazard: Hazard,
+    year: u16,
+    count: u16,
+}
+
+/// The numbers drawn so far, by hazard and year.
+#[derive(Drop)]
+pub struct Numbers {
+    counted: Vec<Count>,
+}
+
+impl Model for Numbers {
+    ghost use Rattle.std.specs.Prelude.{◌-◌};
+    ghost use Rattle.std.specs.Vec.{vec_len, vec_capacity};
+    ghost use Rattle.event_numbers.specs.Counts.{Drawn, AreNumbers};
+
+    ghost Value = { Drawn };
+
+    ghost view = { λ n. record { counts = n.counted.items; spare = vec_capacity n.counted - vec_len n.counted } };
+
+    ghost invariant = { λ n. AreNumbers n.counted.items };
+}
+
+/// The numbers drawn of a hazard in a year.
+fn count_of(counted: &[Count], h: &Hazard, year: u16) -> u16
+    ensures { result ≡ count_of counted.now h.now year }
+{
+    for count in counted {
+        if count.hazard == *h && count.year == year {
+            return count.count;
+        }
+    }
+    0
+}
+
+/// The place of the count of a hazard and year.
+fn place_of(counted: &[Count], h: &Hazard, year: u16) -> Option<usize>
+    ensures { result ≡ position (is_count_of h.now year) counted.now }
+{
+    counted
+        .iter()
+        .position(|count| count.hazard == *h && count.year == year)
+}
+
+impl Numbers {
+    /// No number is drawn, and there is no memory for any.
+    pub fn new(alloc: Global) -> Self
+        ensures { result.counts ≡ [] }
+    {
+        Numbers {
+            counted: Vec::new(alloc),
+        }
+    }
+
+    /// Takes memory for `n` draws.
+    pub fn reserve(&mut self, n: usize) -> Result<(), Oom>
+        ensures counts { self.new.counts ≡ self.old.counts }
+        ensures spare { self.old.spare ≤ self.new.spare }
+        ensures ok { OnOk result (n ≤ self.new.spare) }
+        ensures err { OnErr result (self.old.spare < n) }
+    {
+        self.counted.reserve(n)?;
+        Ok(())
+    }
+
+    /// The number that a new event of the hazard gets in the year: one more than the numbers drawn. Above 9,999 the numbers are spent.
+    pub fn next(&self, h: Hazard, year: u16) -> u16
+        ensures value { result ≡ count_of self.now.counts h year + 1 }
+        ensures range { result ≤ 10000 }
+    {
+        count_of(&self.counted, &h, year) + 1
+    }
+
+    /// Draws the next number of the hazard in the year.
+    pub fn commit(&mut self, h: Hazard, year: u16)
+        requires number { count_of self.old.counts h year + 1 ≤ 9999 }
+        requires spare { 0 < self.old.spare }
+        ensures drawn { DrawsOne self.old.counts self.new.counts h year }
+        ensures spare { self.old.spare ≤ self.new.spare + 1 }
+    {
+        match place_of(&self.counted, &h, year) {
+            Some(place) => {
+                let count = &mut self.counted[place];
+                count.count += 1;
+            }
+            None => self.counted.push_reserved(Count {
+                hazard: h,
+                year,
+                count: 1,
+            }),
+        }
+    }
+}
+
+#[cfg(test)]
+mod tests {
+    use super::*;
+    use hazard_types::{Phen, Sig};
+    use std::test::Fail;
+
+    fn hazard(letters: [u8; 2], sig: Sig) -> Option<Hazard> {
+        let phen = Phen::new(letters)?;
+        Some(Hazard { phen, sig })
+    }
+
+    #[test]
+    fn numbers_count_by_hazard_and_year(rt: HostRuntime) -> Result<(), Fail> {
+        let storm = &hazard(*b"WS", Sig::W).ok_or("a hazard")?;
+        let watch = &hazard(*b"WS", Sig::A).ok_or("a hazard")?;
+        let mut numbers = Numbers::new(rt.alloc());
+        let first = numbers.next(*storm, 2018);
+        assert_eq!(rt; first, 1);
+        numbers.reserve(3)?;
+        numbers.commit(*storm, 2018);
+        let second = numbers.next(*storm, 2018);
+        assert_eq!(rt; second, 2);
+        numbers.commit(*storm, 2018);
+        assert_eq!(rt; numbers.next(*storm, 2018), 3);
+        assert_eq!(rt; numbers.next(*storm, 2019), 1);
+        let fresh = numbers.next(*watch, 2018);
+        assert_eq!(rt; fresh, 1);
+        numbers.commit(*watch, 2018);
+        assert_eq!(rt; numbers.next(*watch, 2018), 2);
+        assert_eq!(rt; numbers.next(*storm, 2018), 3);
+        Ok(())
+    }
+}

@@ -1,0 +1,9 @@
+-- the lines that are left leave what all of them do
+use Rattle.std.proofs.Common.{◌≡◌, List, fold, drop}
+use Rattle.hazard_types.specs.declared.line.Line.{Line}
+use Rattle.hazard_types.specs.declared.line.Row.{Row}
+use Rattle.hazard_board.specs.Taken.{put_if, row_left, rows_taken}
+use Rattle.hazard_board.proofs.lines.rows_taken.Given as goal
+
+abbrev pub invariant-loop-line : goal.invariant-loop-line
+invariant-loop-line l = fold (λ (after : List Row) (line : Line). put_if (row_left l.rows l.t line) after) l.after.items (drop l.line-index l.lines) ≡ rows_taken l.rows l.t l.lines

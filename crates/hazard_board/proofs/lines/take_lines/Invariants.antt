@@ -1,0 +1,8 @@
+-- the lines that are left leave what all of them do, and memory is kept
+use Rattle.std.proofs.Common.{◌≡◌, ◌≤◌, drop}
+use Rattle.std.specs.Vec.{vec_capacity}
+use Rattle.hazard_board.specs.Taken.{taken_in_turn}
+use Rattle.hazard_board.proofs.lines.take_lines.Given as goal
+
+abbrev pub invariant-loop-line : goal.invariant-loop-line
+invariant-loop-line l = (taken_in_turn l.t l.rows.items (drop l.line-index l.lines) ≡ taken_in_turn l.t l.initial.rows.items l.lines) × (vec_capacity l.initial.rows ≤ vec_capacity l.rows)

@@ -1,0 +1,157 @@
+//! The board: the rows of the events that were opened, by zone, then event.
+#![tactic(auto)]
+
+ghost use Rattle.std.specs.Prelude.{◌≡◌, ◌+◌, ◌≤◌, ◌<◌, [], IfOk, OnOk, OnErr, IsTrue};
+ghost use Rattle.std.specs.List.Sorted.{IsStrictlySortedBy};
+ghost use Rattle.event_life.specs.Products.{by_key, row_at, has_rows, going_in, rows_after};
+ghost use Rattle.event_life.specs.Shown.{shown_at};
+ghost use Rattle.hazard_board.specs.Board.{has_period, live_in, are_lawful, openings};
+ghost use Rattle.hazard_board.specs.Clashes.{clashes, least_clash, by_clash};
+ghost use Rattle.hazard_board.specs.Taken.{rows_taken};
+
+mod conflicts;
+mod laws;
+mod lines;
+
+use conflicts::first_clash;
+use event_life::{going_in, has_period, has_rows, is_live, row_at};
+use hazard_types::{Clash, Event, Hazard, Line, List, Minute, Oom, Period, Row, Zone};
+pub use laws::{consistent_rows_stay_consistent, lawful_lines_are_taken};
+use lines::{rows_taken, take_lines};
+use std::alloc::{AllocError, Global};
+use std::marker::Model;
+
+/// The rows of all events that were opened, by zone, then event, each pair once.
+#[derive(Drop)]
+pub struct Board {
+    rows: Vec<Row>,
+}
+
+impl Model for Board {
+    ghost use Rattle.std.specs.Prelude.{◌-◌};
+    ghost use Rattle.std.specs.List.Sorted.{IsStrictlySortedBy};
+    ghost use Rattle.std.specs.Vec.{vec_len, vec_capacity};
+    ghost use Rattle.event_life.specs.Products.{by_key};
+    ghost use Rattle.hazard_board.specs.Board.{Posted};
+
+    ghost Value = { Posted };
+
+    ghost view = { λ b. record { rows = b.rows.items; spare = vec_capacity b.rows - vec_len b.rows } };
+
+    ghost invariant = { λ b. IsStrictlySortedBy by_key b.rows.items };
+}
+
+/// The live rows of a zone.
+fn live_in(alloc: Global, rows: &[Row], z: &Zone, t: Minute) -> Result<Vec<Row>, AllocError>
+    ensures { IfOk result (λ live. live.items ≡ live_in z.now t rows.now) }
+{
+    rows.iter()
+        .filter(|row| row.zone == *z && is_live(row, t))
+        .copied()
+        .collect(alloc)
+}
+
+/// The live rows.
+fn live(alloc: Global, rows: &[Row], t: Minute) -> Result<Vec<Row>, AllocError>
+    ensures { IfOk result (λ live. live.items ≡ shown_at t rows.now) }
+{
+    rows.iter()
+        .filter(|row| is_live(row, t))
+        .copied()
+        .collect(alloc)
+}
+
+impl Board {
+    /// No row stands, and there is no memory for any.
+    pub fn new(alloc: Global) -> Self
+        ensures { result.rows ≡ [] }
+    {
+        Board {
+            rows: Vec::new(alloc),
+        }
+    }
+
+    /// Takes memory for `n` more rows.
+    pub fn reserve(&mut self, n: usize) -> Result<(), Oom>
+        ensures rows { self.new.rows ≡ self.old.rows }
+        ensures spare { self.old.spare ≤ self.new.spare }
+        ensures ok { OnOk result (n ≤ self.new.spare) }
+        ensures err { OnErr result (self.old.spare < n) }
+    {
+        self.rows.reserve(n)?;
+        Ok(())
+    }
+
+    /// The row of an event in a zone.
+    pub fn row(&self, e: Event, z: Zone) -> Option<Row>
+        ensures value { result ≡ row_at self.now.rows e z }
+        ensures order { IsStrictlySortedBy by_key self.now.rows }
+    {
+        row_at(&self.rows, &e, &z)
+    }
+
+    /// Whether the event has a row, ended or not.
+    pub fn has(&self, e: Event) -> bool
+        ensures { result ≡ has_rows self.now.rows e }
+    {
+        has_rows(&self.rows, &e)
+    }
+
+    /// The open event of a hazard and number, of the greatest year where there are several.
+    pub fn going(&self, h: Hazard, etn: u16, t: Minute) -> Option<Event>
+        ensures { result ≡ going_in self.now.rows h etn t }
+    {
+        going_in(&self.rows, &h, etn, t)
+    }
+
+    /// Whether a live row of the event has the same period.
+    pub fn same_period(&self, e: Event, p: Period, t: Minute) -> bool
+        ensures { result ≡ has_period self.now.rows e p t }
+    {
+        has_period(&self.rows, t, &e, &p)
+    }
+
+    /// The live rows of a zone, by event.
+    pub fn rows_of(&self, alloc: Global, z: Zone, t: Minute) -> Result<List<Row>, Oom>
+        ensures { IfOk result (λ live. live ≡ live_in z t self.now.rows) }
+    {
+        Ok(List::from_vec(live_in(alloc, &self.rows, &z, t)?))
+    }
+
+    /// The live rows, by zone, then event.
+    pub fn shown(&self, alloc: Global, t: Minute) -> Result<List<Row>, Oom>
+        ensures { IfOk result (λ live. live ≡ shown_at t self.now.rows) }
+    {
+        Ok(List::from_vec(live(alloc, &self.rows, t)?))
+    }
+
+    /// Applies the lawful lines of a product. ROU leaves the rows as they are.
+    pub fn apply(&mut self, lines: &List<Line>, t: Minute)
+        requires lawful { IsTrue (are_lawful self.old.rows t lines.now) }
+        requires spare { openings lines.now ≤ self.old.spare }
+        ensures rows { self.new.rows ≡ rows_after self.old.rows t lines.now }
+        ensures spare { self.old.spare ≤ self.new.spare + openings lines.now }
+    {
+        match take_lines(&mut self.rows, lines.as_slice(), t) {
+            Ok(()) => {}
+            Err(_) => unreachable!(),
+        }
+    }
+
+    /// The least clash after the lines, with NumberHeld left aside: two live rows of one zone whose events are of one family and whose periods overlap.
+    pub fn conflict(
+        &self,
+        alloc: Global,
+        lines: &List<Line>,
+        t: Minute,
+    ) -> Result<Option<Clash>, Oom>
+        ensures value { IfOk result (λ found. found ≡ least_clash t (rows_taken self.now.rows t lines.now)) }
+        ensures order { IsStrictlySortedBy by_clash (clashes t (rows_taken self.now.rows t lines.now)) }
+    {
+        let after = rows_taken(alloc, &self.rows, lines.as_slice(), t)?;
+        Ok(first_clash(&after, t))
+    }
+}
+
+#[cfg(test)]
+mod tests;

@@ -1,0 +1,5 @@
+pub mod Words
+pub mod Lines
+pub mod Judging
+pub mod Answers
+pub mod Runs

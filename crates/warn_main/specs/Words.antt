@@ -1,0 +1,14 @@
+-- The words of a command line.
+use Rattle.std.specs.Prelude.{ℕ, ◌&&◌, List, [], ◌∷◌, if◌then◌else◌, Option, None, option_map, codes}
+use Rattle.std.specs.Str.{bytes_eq}
+use Rattle.hazard_types.specs.Calendar.{stamp_at}
+use Rattle.vtec_string.specs.Columns.{is_office}
+use Rattle.warn_main.specs.declared.words.Dry.{Dry}
+
+-- the office and the minute of `dry OFFICE STAMP`, which are all the words
+unfoldable pub dry_words : List (List ℕ) → Option Dry
+dry_words [] = None
+dry_words (a ∷ []) = None
+dry_words (a ∷ b ∷ []) = None
+dry_words (a ∷ b ∷ c ∷ []) = if bytes_eq a (codes "dry") && is_office b then option_map (λ m. record { office = b; minute = m }) (stamp_at c) else None
+dry_words (a ∷ b ∷ c ∷ d ∷ more) = None
