@@ -56,6 +56,7 @@ time_back text t h =
   where
     one : (a b : Option ℕ) → ◌≡◌ {A = Option (Option ℕ)} (Some a) (Some b) → a ≡ b
     one a b e = cc e
+
     stamped : (r : Option ℕ) → stamp_at text ≡ r → option_map (λ (m : ℕ). Some m) r ≡ Some t → IsTime text t
     stamped None is e = absurd (cc)
     stamped (Some m) is e = subst (IsTime text) (one (Some m) t e) ((spells_exactly text (stamp_at text) refl m).0 is)
@@ -204,6 +205,7 @@ pair_back line p slash h = back (vtec_of line) refl h
   where
     one : (a b : Pair) → ◌≡◌ {A = Option Pair} (Some a) (Some b) → a ≡ b
     one a b e = cc e
+
     back : (r : Option Vtec) → vtec_of line ≡ r → option_map alone r ≡ Some p → IsPair line p
     back None is e = absurd (cc)
     back (Some v) is e = subst (IsPair line) (one (alone v) p e) (record { slash = slash; vtec = vtec_back line v is; flood = refl })

@@ -132,6 +132,7 @@ one_skipped bytes lines s k first total x (inl h) = inl (h.0, more h.1)
     size : (ugc events others : List ℕ) → (length ugc ≡ k) ⊎ ((length ugc < k) × (events ++ others ≡ [])) → (length (s ∷ ugc) ≡ suc k) ⊎ ((length (s ∷ ugc) < suc k) × (events ++ others ≡ []))
     size ugc events others (inl e) = inl (ap suc e)
     size ugc events others (inr short) = let few : length ugc < k = short.0 in inr (omega (arith, few), short.1)
+
     more : HasNoEnd bytes lines k → HasNoEnd bytes (s ∷ lines) (suc k)
     more n = record { ugc = s ∷ n.ugc; events = n.events; pairs = n.pairs; others = n.others; whole = ap (λ (l : List ℕ). s ∷ l) n.whole; size = size n.ugc n.events n.others n.size; spelled = n.spelled; behind = n.behind; rest = n.rest }
 one_skipped bytes lines s k first total x (inr (inl t)) =
@@ -156,6 +157,7 @@ begun_here bytes lines s number total x u b read fills sum f = by f
   where
     opens : Opens (drop s bytes) (ends_in (take u.used (drop s bytes)))
     opens = record { zones = u.zones; expiry = u.expiry; used = u.used; ugc = read_is_ugc (drop s bytes) u read; fills = fills; ends_are = refl }
+
     by : PairsFault bytes lines (ends_in (take u.used (drop s bytes))) number total x → IsFirstFault bytes (s ∷ lines) total x
     by (inl h) = subst (IsFirstFault bytes (s ∷ lines) total) (sym h.0) (here bytes lines s total (NoSegmentEnd number) b (sum, ends_in (take u.used (drop s bytes)), opens, h.1))
     by (inr (inl t)) = subst (IsFirstFault bytes (s ∷ lines) total) (sym t.is) (here bytes lines s total (BadVtec t.number) b (ends_in (take u.used (drop s bytes)), opens, t.from, t.stops, t.sum))
@@ -229,6 +231,7 @@ ugc_line bytes lines total x gs zs d ps first number s later sum b (Err f) is h 
   where
     read_as : List Place → DayStamp → ℕ → UgcRead
     read_as zones day n = record { zones = zones; expiry = day; used = n }
+
     clash : (u : UgcRead) (f : UgcFault) → ◌≡◌ {A = Result UgcRead UgcFault} (Ok u) (Err f) → ⊥
     clash u f e = cc e
 ugc_line bytes lines total x gs zs d ps first number s later sum b (Ok u) is h =

@@ -101,7 +101,7 @@ faulty_walked bytes lines start total (BadVtec n) gs zs d ps first number sum b 
     let c = ugc_passed bytes s.ugc (s.events ++ h.2) gs h.1.zones h.1.expiry [] number h.0 a.0 Pairs s.size in
     let e = events_passed bytes s.events h.2 s.pairs gs h.1.zones h.1.expiry [] number c.0 s.spelled in
     let f : walk bytes (state gs h.1.zones h.1.expiry s.pairs number 0 Pairs) e.0 h.2 ≡ Err (BadVtec e.0) =
-        ap (walk bytes (state gs h.1.zones h.1.expiry s.pairs number 0 Pairs) e.0) s.left_are ∙ stops bytes s.more s.at gs h.1.zones h.1.expiry s.pairs number e.0 s.slash s.none in
+    ap (walk bytes (state gs h.1.zones h.1.expiry s.pairs number 0 Pairs) e.0) s.left_are ∙ stops bytes s.more s.at gs h.1.zones h.1.expiry s.pairs number e.0 s.slash s.none in
     let at : n + length h.2 ≡ total = h.4 in
     let a2 : a.0 + length lines ≡ number + length (start ∷ lines) = a.2 in
     let c2 : c.0 + length (s.events ++ h.2) ≡ a.0 + length (s.ugc ++ (s.events ++ h.2)) = c.2 in
@@ -123,6 +123,7 @@ faulty_walked bytes lines start total (NoSegmentEnd n) gs zs d ps first number s
         c.1 ∙ e.1 ∙ pairs_run_out bytes others gs zs d pairs first e.0 behind rest
     by_size bytes ugc events others pairs ends (inr short) spelled behind rest gs zs d first number =
         ap (λ (l : List ℕ). walk bytes (state gs zs d [] first ends Pairs) number (ugc ++ l)) short.1 ∙ ap (walk bytes (state gs zs d [] first ends Pairs) number) (append-nil ugc) ∙ ugc_runs_out bytes ugc gs zs d [] first ends number short.0
+
     no_end : (bytes lines : List ℕ) (ends : ℕ) → HasNoEnd bytes lines ends → (gs : List FrameSegment) (zs : List Place) (d : DayStamp) (first number : ℕ) → walk bytes (state gs zs d [] first ends Pairs) number lines ≡ Err (NoSegmentEnd first)
     no_end bytes lines ends n gs zs d first number =
         ap (walk bytes (state gs zs d [] first ends Pairs) number) n.whole ∙ by_size bytes n.ugc n.events n.others n.pairs ends n.size n.spelled n.behind n.rest gs zs d first number

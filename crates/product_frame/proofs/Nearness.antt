@@ -45,6 +45,7 @@ among_hit m (suc k) n d low high e =
   where
     differ : (a b : ℕ) → (a == b) ≡ false → a ≡ b → ⊥
     differ a b f x = let t : (a == b) ≡ true = eq-eqb a b x in cc
+
     below : (a b : ℕ) → a ≤ b → (a ≡ b → ⊥) → a + 1 ≤ b
     below a b le ne = omega (arith, ne)
 

@@ -113,11 +113,11 @@ behind_faulty p h t k x i e =
     elim (or_fault_err (issue_in p later) NoIssueTime (λ issue. cond (is_near issue h.day) (segments_of p (k + 3) later >>= λ segments. Ok (frame_by h t issue segments)) (Err IssueDisagrees)) x e) [
       | inl a ↦ subst (IsFaultIn p h) a.1 (k, i, a.0)
       | inr a ↦ elim (cases_Bool (is_near a.0 h.day)) [
-          | inl n ↦
-              let walked = bind_err (segments_of p (k + 3) later) (λ segments. frame_by h t a.0 segments) x (rw n at a.2) in
-              of_segment p h x (k, a.0, record { identified = i; minute = a.1 }, (near_decides a.0 h.day).0 n, walked_fault p later (k + 3 + length later) x [] begun.expiry [] 0 (k + 3) refl walked)
-          | inr n ↦ subst (IsFaultIn p h) (same_refusal IssueDisagrees x (rw n at a.2)) (k, a.0, record { identified = i; minute = a.1 }, not_near a.0 h n)
-        ]
+        | inl n ↦
+            let walked = bind_err (segments_of p (k + 3) later) (λ segments. frame_by h t a.0 segments) x (rw n at a.2) in
+            of_segment p h x (k, a.0, record { identified = i; minute = a.1 }, (near_decides a.0 h.day).0 n, walked_fault p later (k + 3 + length later) x [] begun.expiry [] 0 (k + 3) refl walked)
+        | inr n ↦ subst (IsFaultIn p h) (same_refusal IssueDisagrees x (rw n at a.2)) (k, a.0, record { identified = i; minute = a.1 }, not_near a.0 h n)
+      ]
     ]
 
 product_faulty : (p : List ℕ) (h : Heading) (x : FrameFault) → frame_in p h ≡ Err x → IsFaultIn p h x
@@ -126,9 +126,9 @@ product_faulty p h x e =
     elim (or_fault_err (full_index p 0 (starts_from 0 p)) NoIdentifier (λ k. named p h (line_at p (slice_index (starts_from 0 p) k)) k) x e) [
       | inl a ↦ subst (IsFaultIn p h) a.1 (inl a.0)
       | inr a ↦ elim (cases_Bool (is_identifier (line_at p (slice_index (starts_from 0 p) a.0)))) [
-          | inl n ↦ behind_faulty p h (line_at p (slice_index (starts_from 0 p) a.0)) a.0 x (record { full = a.1; named = n }) (rw n at a.2)
-          | inr n ↦ subst (IsFaultIn p h) (same_refusal NoIdentifier x (rw n at a.2)) (inr (a.0, a.1, n))
-        ]
+        | inl n ↦ behind_faulty p h (line_at p (slice_index (starts_from 0 p) a.0)) a.0 x (record { full = a.1; named = n }) (rw n at a.2)
+        | inr n ↦ subst (IsFaultIn p h) (same_refusal NoIdentifier x (rw n at a.2)) (inr (a.0, a.1, n))
+      ]
     ]
 
 of_product : (bytes : List ℕ) (x : FrameFault) → HasFaultyProduct bytes x → FrameFaultOf bytes x
@@ -153,6 +153,7 @@ is_heading bytes i (s ∷ places) k e =
   where
     one : (a b : ℕ) → ◌≡◌ {A = Option ℕ} (Some a) (Some b) → a ≡ b
     one a b e = cc e
+
     next : (places : List ℕ) (s j : ℕ) → is_some (heading_of (line_at bytes (slice_index places j))) ≡ true → is_some (heading_of (line_at bytes (slice_index (s ∷ places) (j + 1)))) ≡ true
     next places s j t = let e : j + 1 ≡ suc j = omega arith in rw e t
 

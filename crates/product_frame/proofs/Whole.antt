@@ -66,16 +66,18 @@ frame_in_is p h f e =
     let t = line_at p (slice_index (starts_from 0 p) b.0) in
     elim (cases_Bool (is_identifier t)) [
       | inl n ↦
-          let c = behind_is p h t b.0 f (rw n at b.2) in
-          (subst (IsFrameIn p) c.5 (record {
-            index = b.0;
-            full = b.1;
-            identifier = refl;
-            named = n;
-            issue = c.2;
-            agrees = (near_decides _ _).0 c.3;
-            segments = walked_segments p (drop (b.0 + 1) (starts_from 0 p)) c.1 [] begun.expiry [] 0 (b.0 + 3) c.4;
-          }), ap (λ (g : Frame). g.heading) c.5)
+          let c = behind_is p h t b.0 f (rw n at b.2) in (
+            subst (IsFrameIn p) c.5 (record {
+              index = b.0;
+              full = b.1;
+              identifier = refl;
+              named = n;
+              issue = c.2;
+              agrees = (near_decides _ _).0 c.3;
+              segments = walked_segments p (drop (b.0 + 1) (starts_from 0 p)) c.1 [] begun.expiry [] 0 (b.0 + 3) c.4;
+            }),
+            ap (λ (g : Frame). g.heading) c.5,
+          )
       | inr n ↦ absurd (never NoIdentifier f (rw n at b.2))
     ]
 

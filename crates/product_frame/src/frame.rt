@@ -43,15 +43,9 @@ pub enum FrameFault {
     NoIssueTime,
     IssueDisagrees,
     /// The product ends within the segment whose zones begin on this line.
-    NoSegmentEnd {
-        line: usize,
-    },
+    NoSegmentEnd { line: usize },
     /// The zones that begin on this line are no UGC text, or do not fill their last line.
-    BadUgc {
-        line: usize,
-    },
+    BadUgc { line: usize },
     /// This line begins with `/` and is no P-VTEC text.
-    BadVtec {
-        line: usize,
-    },
+    BadVtec { line: usize },
 }
