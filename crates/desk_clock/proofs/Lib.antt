@@ -1,5 +1,7 @@
 pub mod Calendars
+pub mod Cutting
 pub mod Forms
+pub mod FormsFound
 pub mod Parting
 pub mod Places
 pub mod RoundTrip

@@ -141,7 +141,7 @@ shown_back shown below =
           rw (le-ltb shown 1440 le, not_last (from_2000 c) (omega arith), le-leb 2000 (2000 + c.year) (omega arith), same, civil_tested c is, minute) (ap (λ (n : ℕ). Some n) (omega arith))
     ]
 
-most_behind : (a : Abbreviation) → hours_behind a ≤ 10
+pub most_behind : (a : Abbreviation) → hours_behind a ≤ 10
 most_behind Ast = omega arith
 most_behind Est = omega arith
 most_behind Edt = omega arith

@@ -18,7 +18,7 @@ pub civil_tested : (c : Civil) → IsCivil c → is_civil c ≡ true
 unfolding is_civil
 civil_tested c h = grind (arith, nat_tests)
 
-civil_from_test : (c : Civil) → is_civil c ≡ true → IsCivil c
+pub civil_from_test : (c : Civil) → is_civil c ≡ true → IsCivil c
 unfolding is_civil
 civil_from_test c h = record { year = grind (arith, nat_tests); first_month = grind (arith, nat_tests); last_month = grind (arith, nat_tests); first_day = grind (arith, nat_tests); last_day = grind (arith, nat_tests); hour = grind (arith, nat_tests); minute = grind (arith, nat_tests) }
 
@@ -90,7 +90,7 @@ from_date t d days parts low high hour minute e =
 all6 : {a b c d e f : Bool} → a ≡ true → b ≡ true → c ≡ true → d ≡ true → e ≡ true → f ≡ true → (a && b && c && d && e && f) ≡ true
 all6 p q r s t u = rw (p, q, r, s, t, u) refl
 
-has_date_if : (t : LocalTime) → 1999 ≤ t.year → t.year ≤ 2099 → 1 ≤ t.month → t.month ≤ 12 → 1 ≤ t.day → t.day ≤ days_in_month (pos t.year) t.month → has_date t ≡ true
+pub has_date_if : (t : LocalTime) → 1999 ≤ t.year → t.year ≤ 2099 → 1 ≤ t.month → t.month ≤ 12 → 1 ≤ t.day → t.day ≤ days_in_month (pos t.year) t.month → has_date t ≡ true
 unfolding has_date
 has_date_if t a b c d e f = all6 (le-leb _ _ a) (le-leb _ _ b) (le-leb _ _ c) (le-leb _ _ d) (le-leb _ _ e) (le-leb _ _ f)
 

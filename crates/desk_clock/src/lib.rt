@@ -14,7 +14,7 @@ pub use abbreviations::Abbreviation;
 pub use day_stamps::{day_stamp, near, resolve_day_stamp};
 pub use local_lines::{local_line, local_short};
 pub use local_times::calendars_agree;
-pub use reading::{LocalFault, forms_are_read, lines_read_back, read_local_line};
+pub use reading::{LocalFault, lines_read_back, read_local_line};
 pub use zones::rules_are_read;
 
 #[cfg(test)]

@@ -1,12 +1,11 @@
 //! Local lines as they are read.
-ghost use Rattle.std.specs.Prelude.{◌≡◌, ◌≤◌, ◌<◌, ℕ, List, IfSome};
+ghost use Rattle.std.specs.Prelude.{◌≡◌, ◌≤◌, ◌<◌, ◌↔◌, ℕ, IfSome, IfOk};
 ghost use Rattle.hazard_types.specs.declared.codes.LocalZone.{LocalZone as Zone};
 ghost use Rattle.desk_clock.specs.LocalText.{local_line_of};
-ghost use Rattle.desk_clock.specs.declared.reading.Written.{Written as Said};
 ghost use Rattle.std.specs.List.{list_all};
 ghost use Rattle.std.specs.Char.{is_ascii_alphabetic};
 ghost use Rattle.desk_clock.specs.LocalWords.{digit, number_of, half_of, time_said, year_said, date_said, words_say, are_letters};
-ghost use Rattle.desk_clock.specs.LocalForm.{written_in, minute_of, read_of, IsForm};
+ghost use Rattle.desk_clock.specs.LocalForm.{written_in, minute_of, read_of, ReadsAs, LacksAbbreviation};
 
 use crate::abbreviations::Abbreviation;
 use crate::local_times::{LocalTime, has_date, minute_shown};
@@ -188,14 +187,8 @@ fn minute_of(w: Written) -> Result<Minute, LocalFault>
     }
 }
 
-/// The minute that a local line reads as. Letter case is ignored, and blanks may be repeated.
-///
-/// # Errors
-///
-/// `UnknownAbbreviation` where all but the abbreviation is right, `NoLocalTime` where the form, the
-/// date or the range fails.
 #[tactic(auto, unfolding(crate::specs::LocalForm::read_of))]
-pub fn read_local_line(b: &[u8]) -> Result<Minute, LocalFault>
+fn reading_of(b: &[u8]) -> Result<Minute, LocalFault>
     ensures { result ≡ read_of b.now }
 {
     match written_in(b) {
@@ -204,10 +197,20 @@ pub fn read_local_line(b: &[u8]) -> Result<Minute, LocalFault>
     }
 }
 
-/// A line of the form says what its words say.
-pub fn forms_are_read()
-    ensures { (b : List ℕ) (w : Said) → IsForm b w → written_in b ≡ Some w }
-{}
+/// The minute that a local line reads as. Letter case is ignored, and blanks may be repeated.
+///
+/// # Errors
+///
+/// `UnknownAbbreviation` where all but the abbreviation is right, `NoLocalTime` where the form, the
+/// date or the range fails.
+pub fn read_local_line(b: &[u8]) -> Result<Minute, LocalFault>
+    ensures value { result ≡ read_of b.now }
+    ensures found { IfOk result (ReadsAs b.now) }
+    ensures only { (m : ℕ) → ReadsAs b.now m → result ≡ Ok m }
+    ensures unknown { (result ≡ Err LocalFault.UnknownAbbreviation) ↔ LacksAbbreviation b.now }
+{
+    reading_of(b)
+}
 
 /// A local line reads back to its minute.
 pub fn lines_read_back()

@@ -5,6 +5,8 @@ mod laws;
 mod life;
 mod periods;
 mod rows;
+#[cfg(test)]
+mod rows_tests;
 mod step_laws;
 #[cfg(test)]
 mod step_tests;

@@ -227,3 +227,15 @@ grown_at t start now lines i line row within is left e =
     let first : taken_in_turn t now (line ∷ drop (suc i) lines) ≡ taken_in_turn t (put row now) (drop (suc i) lines) = ap (λ (o : Option Row). taken_in_turn t (put_if o now) (drop (suc i) lines)) left in
     let whole : taken_in_turn t start lines ≡ taken_in_turn t (put row now) (drop (suc i) lines) = sym e ∙ ap (taken_in_turn t now) cut ∙ first in
     rw whole (turns_longer t (put row now) (drop (suc i) lines))
+
+-- rows stay in order where lines are taken
+put_if-sorted : (o : Option Row) (rows : List Row) → IsStrictlySortedBy by_key rows → IsStrictlySortedBy by_key (put_if o rows)
+put_if-sorted None rows up = up
+put_if-sorted (Some row) rows up = put-sorted row rows up
+
+taken_on-sorted : (rows : List Row) (t : ℕ) (lines : List Line) (after : List Row) → IsStrictlySortedBy by_key after → IsStrictlySortedBy by_key (fold (λ (a : List Row) (l : Line). put_if (row_left rows t l) a) after lines)
+taken_on-sorted rows t [] after up = up
+taken_on-sorted rows t (line ∷ lines) after up = taken_on-sorted rows t lines (put_if (row_left rows t line) after) (put_if-sorted (row_left rows t line) after up)
+
+pub rows_taken-sorted : (rows : List Row) (t : ℕ) (lines : List Line) → IsStrictlySortedBy by_key rows → IsStrictlySortedBy by_key (rows_taken rows t lines)
+rows_taken-sorted rows t lines up = taken_on-sorted rows t lines rows up

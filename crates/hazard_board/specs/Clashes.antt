@@ -1,6 +1,10 @@
 -- Clashes: events of one family that are live in one zone at overlapping periods.
-use Rattle.std.specs.Prelude.{◌&&◌, not, ℕ, Bool, List, [], ◌∷◌, find, Option, Some, None, option_map}
+use Rattle.std.specs.Prelude.{◌&&◌, not, ℕ, Bool, List, [], ◌∷◌, ◌++◌, map, filter, find, Option, Some, None, option_map}
+use Rattle.std.specs.declared.cmp.Ordering.{Ordering}
 use Rattle.std.specs.Option.{option_or}
+use Rattle.std.specs.Ordering.{on, then_cmp}
+use Rattle.hazard_types.specs.Orders.{by_event}
+use Rattle.hazard_types.specs.Places.{by_place}
 use Rattle.hazard_types.specs.Same.{same_zone, same_event}
 use Rattle.hazard_types.specs.declared.line.Clash.{Clash}
 use Rattle.hazard_types.specs.declared.line.Row.{Row}
@@ -14,7 +18,24 @@ clash t a b = same_zone a.zone b.zone && not (same_event a.event b.event) && is_
 abbrev pub clash_of : Row → Row → Clash
 clash_of a b = record { zone = a.zone; first = a.event; second = b.event }
 
--- the first row that clashes with a later one, and the first that it clashes with: of rows by zone, then event, the least zone, and in it the least pair
+-- each row with each later one that it clashes with
+abbrev pub clashes : ℕ → List Row → List Clash
+clashes t [] = []
+clashes t (row ∷ rows) = map (clash_of row) (filter (clash t row) rows) ++ clashes t rows
+
+abbrev pub first_in : List Clash → Option Clash
+first_in [] = None
+first_in (c ∷ more) = Some c
+
+-- the first of these: of rows by zone, then event, the least
+abbrev pub least_clash : ℕ → List Row → Option Clash
+least_clash t rows = first_in (clashes t rows)
+
+-- by zone, then the first event, then the second
+abbrev pub by_clash : Clash → Clash → Ordering
+by_clash = then_cmp (on (λ (c : Clash). c.zone) by_place) (then_cmp (on (λ (c : Clash). c.first) by_event) (on (λ (c : Clash). c.second) by_event))
+
+-- the first row that clashes with a later one, with the first that it clashes with
 abbrev pub first_clash : ℕ → List Row → Option Clash
 first_clash t [] = None
 first_clash t (row ∷ rows) = option_or (option_map (clash_of row) (find (clash t row) rows)) (first_clash t rows)

@@ -1,4 +1,6 @@
 pub mod Board
 pub mod Clashes
+pub mod Consistent
+pub mod FogDay
 pub mod Seats
 pub mod Taken

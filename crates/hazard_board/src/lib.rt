@@ -6,15 +6,17 @@ ghost use Rattle.std.specs.List.Sorted.{IsStrictlySortedBy};
 ghost use Rattle.event_life.specs.Products.{by_key, row_at, has_rows, going_in, rows_after};
 ghost use Rattle.event_life.specs.Shown.{shown_at};
 ghost use Rattle.hazard_board.specs.Board.{has_period, live_in, are_lawful, openings};
-ghost use Rattle.hazard_board.specs.Clashes.{first_clash};
+ghost use Rattle.hazard_board.specs.Clashes.{clashes, least_clash, by_clash};
 ghost use Rattle.hazard_board.specs.Taken.{rows_taken};
 
 mod conflicts;
+mod laws;
 mod lines;
 
 use conflicts::first_clash;
 use event_life::{going_in, has_period, has_rows, is_live, row_at};
 use hazard_types::{Clash, Event, Hazard, Line, List, Minute, Oom, Period, Row, Zone};
+pub use laws::{consistent_rows_stay_consistent, lawful_lines_are_taken};
 use lines::{rows_taken, take_lines};
 use std::alloc::{AllocError, Global};
 use std::marker::Model;
@@ -143,7 +145,8 @@ impl Board {
         lines: &List<Line>,
         t: Minute,
     ) -> Result<Option<Clash>, Oom>
-        ensures { IfOk result (λ found. found ≡ first_clash t (rows_taken self.now.rows t lines.now)) }
+        ensures value { IfOk result (λ found. found ≡ least_clash t (rows_taken self.now.rows t lines.now)) }
+        ensures order { IsStrictlySortedBy by_clash (clashes t (rows_taken self.now.rows t lines.now)) }
     {
         let after = rows_taken(alloc, &self.rows, lines.as_slice(), t)?;
         Ok(first_clash(&after, t))
@@ -151,15 +154,4 @@ impl Board {
 }
 
 #[cfg(test)]
-mod tests {
-    use super::*;
-    use std::test::Fail;
-
-    #[test]
-    fn nothing_stands(rt: HostRuntime) -> Result<(), Fail> {
-        let board = Board::new(rt.alloc());
-        let t = Minute::new(0).ok_or("a minute")?;
-        assert_eq!(rt; board.shown(rt.alloc(), t)?.len(), 0);
-        Ok(())
-    }
-}
+mod tests;

@@ -1,0 +1,26 @@
+-- What holds of the rows of an office.
+use Rattle.std.specs.Prelude.{◌≡◌, ◌==◌, ◌&&◌, not, ℕ, Bool, true, List, [], ◌∷◌}
+use Rattle.std.specs.List.{AllByRecursion}
+use Rattle.hazard_types.specs.Same.{same_zone, same_hazard}
+use Rattle.hazard_types.specs.declared.line.Row.{Row}
+use Rattle.event_life.specs.Higher.{are_kin}
+use Rattle.event_life.specs.Periods.{ends_after, keeps_open, overlaps}
+
+-- two rows of one zone and family that no line has ended overlap
+abbrev pub collide : Row → Row → Bool
+collide a b = same_zone a.zone b.zone && not a.ended && not b.ended && are_kin a.event.hazard b.event.hazard && overlaps a.period b.period
+
+-- the events of two rows are open, with one hazard and number
+abbrev pub share_number : ℕ → Row → Row → Bool
+share_number t a b = keeps_open t a && keeps_open t b && same_hazard a.event.hazard b.event.hazard && (a.event.etn == b.event.etn)
+
+-- each row stands so to each later one
+abbrev pub EachToLater : (Row → Row → Type 0) → List Row → Type 0
+EachToLater P [] = Unit {0}
+EachToLater P (row ∷ rows) = AllByRecursion (P row) rows × EachToLater P rows
+
+-- At a minute: in a zone no two rows of one family that no line has ended overlap; no two open events share hazard and number; each row ends after its begin.
+pub record IsConsistent (rows : List Row) (t : ℕ) : Type 0 where
+  pub apart : EachToLater (λ a b. collide a b ≡ true → ⊥) rows
+  pub numbered : EachToLater (λ a b. share_number t a b ≡ true → a.event ≡ b.event) rows
+  pub ends : AllByRecursion (λ (row : Row). ends_after row.period.end row.period.begin ≡ true) rows

@@ -1,0 +1,216 @@
+//! The board over a day's lines.
+ghost use Rattle.std.specs.Prelude.{◌≡◌, [], IfOk};
+ghost use Rattle.event_life.specs.Products.{rows_after};
+ghost use Rattle.hazard_board.specs.FogDay.{maryland, fog, wind, said, morning, noon, midday};
+
+use super::*;
+use hazard_types::{Action, End, Kind, Phen, Sig};
+use std::test::Fail;
+
+/// A public zone of Maryland.
+fn maryland(number: u16) -> Result<Zone, Fail>
+    ensures { IfOk result (λ z. z ≡ maryland number) }
+{
+    let zone = Zone::new(*b"MD", Kind::Z, number).ok_or("a zone")?;
+    Ok(zone)
+}
+
+fn minute(count: u32) -> Result<Minute, Fail>
+    ensures { IfOk result (λ m. m ≡ count) }
+{
+    let minute = Minute::new(count).ok_or("a minute")?;
+    Ok(minute)
+}
+
+/// The first fog advisory of 2018.
+fn fog() -> Result<Event, Fail>
+    ensures { IfOk result (λ e. e ≡ fog) }
+{
+    let phen = Phen::new(*b"FG").ok_or("a phenomenon")?;
+    Ok(Event {
+        hazard: Hazard { phen, sig: Sig::Y },
+        etn: 1,
+        year: 2018,
+    })
+}
+
+/// The first wind advisory of 2018.
+fn wind() -> Result<Event, Fail>
+    ensures { IfOk result (λ e. e ≡ wind) }
+{
+    let phen = Phen::new(*b"WI").ok_or("a phenomenon")?;
+    Ok(Event {
+        hazard: Hazard { phen, sig: Sig::Y },
+        etn: 1,
+        year: 2018,
+    })
+}
+
+fn said(
+    action: Action,
+    event: &Event,
+    zone: u16,
+    begin: Option<Minute>,
+    end: u32,
+) -> Result<Line, Fail>
+    ensures { IfOk result (λ line. line ≡ said action event.now zone begin end) }
+{
+    Ok(Line {
+        action,
+        event: *event,
+        zone: maryland(zone)?,
+        begin,
+        end: End::At(minute(end)?),
+        flood: None,
+    })
+}
+
+#[tactic(auto, unfolding(crate::specs::FogDay::morning))]
+fn morning(alloc: Global) -> Result<List<Line>, Fail>
+    ensures { IfOk result (λ lines. lines ≡ morning) }
+{
+    let event = &fog()?;
+    let begin = minute(9_471_480)?;
+    let first = said(Action::New, event, 3, Some(begin), 9_471_780)?;
+    let second = said(Action::New, event, 4, Some(begin), 9_471_780)?;
+    let lines = List::from_slice(alloc, &[first, second])?;
+    Ok(lines)
+}
+
+#[tactic(auto, unfolding(crate::specs::FogDay::noon))]
+fn noon(alloc: Global) -> Result<List<Line>, Fail>
+    ensures { IfOk result (λ lines. lines ≡ noon) }
+{
+    let fog = &fog()?;
+    let wind = &wind()?;
+    let begin = minute(9_471_960)?;
+    let first = said(Action::New, wind, 4, Some(begin), 9_472_260)?;
+    let second = said(Action::Con, fog, 4, None, 9_471_780)?;
+    let third = said(Action::New, wind, 5, Some(begin), 9_472_260)?;
+    let lines = List::from_slice(alloc, &[first, second, third])?;
+    Ok(lines)
+}
+
+#[tactic(auto, unfolding(crate::specs::FogDay::midday))]
+fn midday(alloc: Global) -> Result<List<Line>, Fail>
+    ensures { IfOk result (λ lines. lines ≡ midday) }
+{
+    let fog = &fog()?;
+    let wind = &wind()?;
+    let begin = minute(9_471_960)?;
+    let first = said(Action::Ext, fog, 3, None, 9_471_900)?;
+    let second = said(Action::Ext, fog, 4, None, 9_471_900)?;
+    let third = said(Action::Con, wind, 4, Some(begin), 9_472_260)?;
+    let fourth = said(Action::Con, wind, 5, Some(begin), 9_472_260)?;
+    let lines = List::from_slice(alloc, &[first, second, third, fourth])?;
+    Ok(lines)
+}
+
+fn after_morning(alloc: Global) -> Result<Board, Fail>
+    ensures { IfOk result (λ board. board.rows ≡ rows_after [] 9471480 morning) }
+{
+    let lines = morning(alloc)?;
+    let t = minute(9_471_480)?;
+    let mut board = Board::new(alloc);
+    board.reserve(2)?;
+    board.apply(&lines, t);
+    Ok(board)
+}
+
+fn after_noon(alloc: Global) -> Result<Board, Fail>
+    ensures { IfOk result (λ board. board.rows ≡ rows_after (rows_after [] 9471480 morning) 9471540 noon) }
+{
+    let lines = noon(alloc)?;
+    let t = minute(9_471_540)?;
+    let mut board = after_morning(alloc)?;
+    board.reserve(2)?;
+    board.apply(&lines, t);
+    Ok(board)
+}
+
+fn after_midday(alloc: Global) -> Result<Board, Fail> {
+    let lines = midday(alloc)?;
+    let t = minute(9_471_600)?;
+    let mut board = after_noon(alloc)?;
+    board.apply(&lines, t);
+    Ok(board)
+}
+
+/// How many rows are shown at a minute.
+fn shown(board: &Board, alloc: Global, t: u32) -> Result<usize, Fail> {
+    let rows = board.shown(alloc, minute(t)?)?;
+    Ok(rows.len())
+}
+
+#[test]
+fn a_row_stands_until_its_end(rt: HostRuntime) -> Result<(), Fail> {
+    let alloc = rt.alloc();
+    let board = after_morning(alloc)?;
+    let event = &fog()?;
+    assert!(rt; board.has(*event));
+    assert!(rt; board.row(*event, maryland(3)?).is_some());
+    assert!(rt; board.row(*event, maryland(5)?).is_none());
+    assert_eq!(rt; shown(&board, alloc, 9_471_779)?, 2);
+    assert_eq!(rt; shown(&board, alloc, 9_471_780)?, 0);
+    assert!(rt; board.going(event.hazard, 1, minute(9_471_810)?).is_some());
+    assert!(rt; board.going(event.hazard, 1, minute(9_471_811)?).is_none());
+    Ok(())
+}
+
+#[test]
+fn a_day_is_applied(rt: HostRuntime) -> Result<(), Fail> {
+    let alloc = rt.alloc();
+    let board = after_midday(alloc)?;
+    let (fog, wind) = (&fog()?, &wind()?);
+    assert_eq!(rt;
+        board
+            .rows_of(alloc, maryland(4)?, minute(9_471_600)?)?
+            .len(),
+        2
+    );
+    assert_eq!(rt;
+        board
+            .rows_of(alloc, maryland(5)?, minute(9_471_600)?)?
+            .len(),
+        1
+    );
+    assert_eq!(rt; shown(&board, alloc, 9_471_899)?, 4);
+    assert_eq!(rt; shown(&board, alloc, 9_471_900)?, 2);
+    let moved = Period {
+        begin: minute(9_471_480)?,
+        end: End::At(minute(9_471_900)?),
+    };
+    assert!(rt; board.same_period(*fog, moved, minute(9_471_600)?));
+    let moved = Period {
+        begin: minute(9_471_480)?,
+        end: End::At(minute(9_471_900)?),
+    };
+    assert!(rt; !board.same_period(*wind, moved, minute(9_471_600)?));
+    Ok(())
+}
+
+/// A high wind warning in a zone where a wind advisory stands, from 1900Z on.
+#[test]
+fn two_of_a_family_clash(rt: HostRuntime) -> Result<(), Fail> {
+    let alloc = rt.alloc();
+    let board = after_noon(alloc)?;
+    let phen = Phen::new(*b"HW").ok_or("a phenomenon")?;
+    let hazard = Hazard { phen, sig: Sig::W };
+    let event = &Event {
+        hazard,
+        etn: 10_000,
+        year: 2018,
+    };
+    let begin = minute(9_472_020)?;
+    let over = said(Action::New, event, 5, Some(begin), 9_472_080)?;
+    let beside = said(Action::New, event, 3, Some(begin), 9_472_080)?;
+    let t = minute(9_471_600)?;
+    let lines = List::from_slice(alloc, &[beside])?;
+    assert_eq!(rt; board.conflict(alloc, &lines, t)?, None);
+    let lines = List::from_slice(alloc, &[over])?;
+    let found = board.conflict(alloc, &lines, t)?.ok_or("a clash")?;
+    assert_eq!(rt; found.zone, maryland(5)?);
+    assert_eq!(rt; found.first.etn, 10_000);
+    assert_eq!(rt; found.second, wind()?);
+    Ok(())
+}

@@ -1,0 +1,271 @@
+-- What was walked over has its segments in the grammar.
+use Rattle.std.proofs.Common.{◌≡◌, ℕ, zero, suc, ◌+◌, ◌-◌, ◌==◌, Bool, true, false, List, [], ◌∷◌, ◌++◌, length, take, drop, refl, ap, sym, ◌∙◌, arith, append_assoc, append-nil, subst, Option, Some, None, Result, Ok, Err, inl, inr, cond}
+use Rattle.std.proofs.lemmas.Bool.{cases_Bool, ne_eqb}
+use Rattle.hazard_types.specs.Given.{◌>>=◌}
+use Rattle.hazard_types.specs.Places.{Place}
+use Rattle.hazard_types.specs.declared.calendar.DayStamp.{DayStamp}
+use Rattle.ugc_codes.specs.Reading.{ugc_of}
+use Rattle.ugc_codes.specs.declared.read.UgcRead.{UgcRead}
+use Rattle.ugc_codes.specs.declared.read.UgcFault.{UgcFault}
+use Rattle.ugc_codes.specs.Grammar.{IsUgc}
+use Rattle.ugc_codes.proofs.Lines.{read_is_ugc}
+use Rattle.product_frame.specs.Text.{line_of, is_empty, ends_in}
+use Rattle.product_frame.specs.Parts.{begins, has_slash, is_end}
+use Rattle.product_frame.specs.Events.{IsPair, pair_of}
+use Rattle.product_frame.proofs.Events.{pair_hit, pair_back}
+use Rattle.product_frame.specs.declared.frame.Pair.{Pair}
+use Rattle.product_frame.specs.Frames.{line_at}
+use Rattle.product_frame.specs.Walking.{at_outside, open_by, opened, at_pairs, at_rest, paired, staged, closed, skipped, step, by_stage, ended, walk}
+use Rattle.product_frame.specs.Grammar.{AreOutside, AreEvents, AreRest, HasNoSlash, IsSegment, AreSegments}
+use Rattle.product_frame.specs.declared.frame.FrameSegment.{FrameSegment}
+use Rattle.product_frame.specs.declared.frame.FrameFault.{FrameFault}
+use Rattle.product_frame.specs.declared.frame.FrameFault.TheVariants.{BadUgc, BadVtec, NoSegmentEnd}
+use Rattle.product_frame.specs.declared.walk.Walk.{Walk}
+use Rattle.product_frame.specs.declared.walk.Stage.{Stage}
+use Rattle.product_frame.specs.declared.walk.Stage.TheVariants.{Outside, Pairs, Rest}
+use Rattle.product_frame.proofs.Segments.{state}
+
+abbrev pub Out : Type 0
+Out = List FrameSegment
+
+never : (f : FrameFault) (out : Out) → ◌≡◌ {A = Result Out FrameFault} (Err f) (Ok out) → ⊥
+never f out e = cc e
+
+same_out : (a b : Out) → ◌≡◌ {A = Result Out FrameFault} (Ok a) (Ok b) → a ≡ b
+same_out a b e = cc e
+
+abbrev pub made : List Place → DayStamp → List Pair → FrameSegment
+made zs d ps = record { zones = zs; expiry = d; pairs = ps }
+
+pub record InRest (bytes lines : List ℕ) (out gs : Out) (zs : List Place) (d : DayStamp) (ps : List Pair) : Type 0 where
+  pub others : List ℕ
+  pub end : ℕ
+  pub later : List ℕ
+  pub segments : Out
+  pub whole : lines ≡ others ++ end ∷ later
+  pub rest : AreRest bytes others
+  pub ended : is_end (line_at bytes end) ≡ true
+  pub then : AreSegments bytes later segments
+  pub is : out ≡ gs ++ made zs d ps ∷ segments
+
+pub record InPairs (bytes lines : List ℕ) (out gs : Out) (zs : List Place) (d : DayStamp) (ps : List Pair) (left : ℕ) : Type 0 where
+  pub ugc : List ℕ
+  pub events : List ℕ
+  pub pairs : List Pair
+  pub others : List ℕ
+  pub end : ℕ
+  pub later : List ℕ
+  pub segments : Out
+  pub whole : lines ≡ ugc ++ (events ++ (others ++ end ∷ later))
+  pub more : length ugc ≡ left
+  pub spelled : AreEvents bytes events pairs
+  pub behind : HasNoSlash bytes (others ++ end ∷ later)
+  pub rest : AreRest bytes others
+  pub ended : is_end (line_at bytes end) ≡ true
+  pub then : AreSegments bytes later segments
+  pub is : out ≡ gs ++ made zs d (ps ++ pairs) ∷ segments
+
+pub record InNone (bytes lines : List ℕ) (out gs : Out) : Type 0 where
+  pub segments : Out
+  pub then : AreSegments bytes lines segments
+  pub is : out ≡ gs ++ segments
+
+-- what is left of a walk that ends well; no lines of a UGC are left in other stages
+abbrev pub Sound : List ℕ → List ℕ → Out → Out → List Place → DayStamp → List Pair → Stage → ℕ → Type 0
+Sound bytes lines out gs zs d ps Outside zero = InNone bytes lines out gs
+Sound bytes lines out gs zs d ps Outside (suc k) = Unit {0}
+Sound bytes lines out gs zs d ps Pairs left = InPairs bytes lines out gs zs d ps left
+Sound bytes lines out gs zs d ps Rest zero = InRest bytes lines out gs zs d ps
+Sound bytes lines out gs zs d ps Rest (suc k) = Unit {0}
+
+pub segment_more : (bytes lines : List ℕ) (s : ℕ) (g : FrameSegment) (later : List ℕ) → begins (line_at bytes s) ≡ false → IsSegment bytes lines g later → IsSegment bytes (s ∷ lines) g later
+segment_more bytes lines s g later b is = record {
+  outside = s ∷ is.outside;
+  start = is.start;
+  ugc = is.ugc;
+  events = is.events;
+  others = is.others;
+  end = is.end;
+  used = is.used;
+  whole = ap (λ (xs : List ℕ). s ∷ xs) is.whole;
+  passed = (b, is.passed);
+  begun = is.begun;
+  zones = is.zones;
+  fills = is.fills;
+  more = is.more;
+  pairs = is.pairs;
+  behind = is.behind;
+  rest = is.rest;
+  ended = is.ended;
+}
+
+one_more : (bytes lines : List ℕ) (s : ℕ) (segments : Out) → begins (line_at bytes s) ≡ false → AreSegments bytes lines segments → AreSegments bytes (s ∷ lines) segments
+one_more bytes lines s [] b h = (b, h)
+one_more bytes lines s (g ∷ segments) b h = (h.0, segment_more bytes lines s g h.0 b h.1, h.2)
+
+-- a segment that begins here
+begun_here : (bytes lines : List ℕ) (out gs : Out) (s : ℕ) (u : UgcRead) → begins (line_at bytes s) ≡ true → ugc_of (drop s bytes) ≡ Ok u → is_empty (line_of (drop u.used (drop s bytes))) ≡ true →
+    InPairs bytes lines out gs u.zones u.expiry [] (ends_in (take u.used (drop s bytes))) → InNone bytes (s ∷ lines) out gs
+begun_here bytes lines out gs s u b read fills p = record {
+  segments = made u.zones u.expiry p.pairs ∷ p.segments;
+  then = (
+    p.later,
+    record {
+      outside = [];
+      start = s;
+      ugc = p.ugc;
+      events = p.events;
+      others = p.others;
+      end = p.end;
+      used = u.used;
+      whole = ap (λ (xs : List ℕ). s ∷ xs) p.whole;
+      passed = tt;
+      begun = b;
+      zones = read_is_ugc (drop s bytes) u read;
+      fills = fills;
+      more = p.more;
+      pairs = p.spelled;
+      behind = p.behind;
+      rest = p.rest;
+      ended = p.ended;
+    },
+    p.then,
+  );
+  is = p.is;
+}
+
+at_end : (bytes lines : List ℕ) (out gs : Out) (zs : List Place) (d : DayStamp) (ps : List Pair) (s : ℕ) → is_end (line_at bytes s) ≡ true → InNone bytes lines out (gs ++ made zs d ps ∷ []) → InRest bytes (s ∷ lines) out gs zs d ps
+at_end bytes lines out gs zs d ps s e n = record { others = []; end = s; later = lines; segments = n.segments; whole = refl; rest = tt; ended = e; then = n.then; is = n.is ∙ append_assoc gs (made zs d ps ∷ []) n.segments }
+
+not_end : (bytes lines : List ℕ) (out gs : Out) (zs : List Place) (d : DayStamp) (ps : List Pair) (s : ℕ) → is_end (line_at bytes s) ≡ false → InRest bytes lines out gs zs d ps → InRest bytes (s ∷ lines) out gs zs d ps
+not_end bytes lines out gs zs d ps s e r = record { others = s ∷ r.others; end = r.end; later = r.later; segments = r.segments; whole = ap (λ (xs : List ℕ). s ∷ xs) r.whole; rest = (e, r.rest); ended = r.ended; then = r.then; is = r.is }
+
+-- the events end here
+no_event : (bytes lines : List ℕ) (out gs : Out) (zs : List Place) (d : DayStamp) (ps : List Pair) (s : ℕ) → has_slash (line_at bytes s) ≡ false → InRest bytes (s ∷ lines) out gs zs d ps → InPairs bytes (s ∷ lines) out gs zs d ps 0
+no_event bytes lines out gs zs d ps s no_slash r = record {
+  ugc = [];
+  events = [];
+  pairs = [];
+  others = r.others;
+  end = r.end;
+  later = r.later;
+  segments = r.segments;
+  whole = r.whole;
+  more = refl;
+  spelled = tt;
+  behind = subst (HasNoSlash bytes) r.whole no_slash;
+  rest = r.rest;
+  ended = r.ended;
+  then = r.then;
+  is = r.is ∙ ap (λ (p : List Pair). gs ++ made zs d p ∷ r.segments) (sym (append-nil ps));
+}
+
+pub no_lines : (xs : List ℕ) → length xs ≡ 0 → xs ≡ []
+no_lines [] h = refl
+no_lines (x ∷ xs) h = absurd (omega arith)
+
+one_event : (bytes lines : List ℕ) (out gs : Out) (zs : List Place) (d : DayStamp) (ps : List Pair) (s : ℕ) (v : Pair) → has_slash (line_at bytes s) ≡ true → pair_of (line_at bytes s) ≡ Some v →
+    InPairs bytes lines out gs zs d (ps ++ v ∷ []) 0 → InPairs bytes (s ∷ lines) out gs zs d ps 0
+one_event bytes lines out gs zs d ps s v slash is p =
+    let none : p.ugc ≡ [] = no_lines p.ugc p.more in
+    record {
+      ugc = [];
+      events = s ∷ p.events;
+      pairs = v ∷ p.pairs;
+      others = p.others;
+      end = p.end;
+      later = p.later;
+      segments = p.segments;
+      whole = ap (λ (xs : List ℕ). s ∷ xs) (p.whole ∙ ap (λ (u : List ℕ). u ++ (p.events ++ (p.others ++ p.end ∷ p.later))) none);
+      more = refl;
+      spelled = (pair_back (line_at bytes s) v slash is, p.spelled);
+      behind = p.behind;
+      rest = p.rest;
+      ended = p.ended;
+      then = p.then;
+      is = p.is ∙ ap (λ (q : List Pair). gs ++ made zs d q ∷ p.segments) (append_assoc ps (v ∷ []) p.pairs);
+    }
+
+one_skipped : (bytes lines : List ℕ) (out gs : Out) (zs : List Place) (d : DayStamp) (ps : List Pair) (s k : ℕ) → InPairs bytes lines out gs zs d ps k → InPairs bytes (s ∷ lines) out gs zs d ps (suc k)
+one_skipped bytes lines out gs zs d ps s k p = record {
+  ugc = s ∷ p.ugc;
+  events = p.events;
+  pairs = p.pairs;
+  others = p.others;
+  end = p.end;
+  later = p.later;
+  segments = p.segments;
+  whole = ap (λ (xs : List ℕ). s ∷ xs) p.whole;
+  more = ap suc p.more;
+  spelled = p.spelled;
+  behind = p.behind;
+  rest = p.rest;
+  ended = p.ended;
+  then = p.then;
+  is = p.is;
+}
+
+abbrev pub Later : List ℕ → List ℕ → Out → Type 0
+Later bytes lines out = (gs : Out) (zs : List Place) (d : DayStamp) (ps : List Pair) (first left number : ℕ) (stage : Stage) → walk bytes (state gs zs d ps first left stage) number lines ≡ Ok out → Sound bytes lines out gs zs d ps stage left
+
+rest_line : (bytes lines : List ℕ) (out gs : Out) (zs : List Place) (d : DayStamp) (ps : List Pair) (first number s : ℕ) (stage : Stage) → Later bytes lines out →
+    (at_rest (state gs zs d ps first 0 stage) (line_at bytes s) >>= λ v. walk bytes v (number + 1) lines) ≡ Ok out → InRest bytes (s ∷ lines) out gs zs d ps
+rest_line bytes lines out gs zs d ps first number s stage later h =
+    elim (cases_Bool (is_end (line_at bytes s))) [
+      | inl e ↦ at_end bytes lines out gs zs d ps s e (later (gs ++ made zs d ps ∷ []) [] d [] first 0 (number + 1) Outside (rw e at h))
+      | inr e ↦ not_end bytes lines out gs zs d ps s e (later gs zs d ps first 0 (number + 1) Rest (rw e at h))
+    ]
+
+event_line : (bytes lines : List ℕ) (out gs : Out) (zs : List Place) (d : DayStamp) (ps : List Pair) (first number s : ℕ) → Later bytes lines out → has_slash (line_at bytes s) ≡ true → (r : Option Pair) → pair_of (line_at bytes s) ≡ r →
+    (paired (state gs zs d ps first 0 Pairs) number r >>= λ v. walk bytes v (number + 1) lines) ≡ Ok out → InPairs bytes (s ∷ lines) out gs zs d ps 0
+event_line bytes lines out gs zs d ps first number s later slash None is h = absurd (never (BadVtec number) out h)
+event_line bytes lines out gs zs d ps first number s later slash (Some v) is h = one_event bytes lines out gs zs d ps s v slash is (later gs zs d (ps ++ v ∷ []) first 0 (number + 1) Pairs h)
+
+pair_line : (bytes lines : List ℕ) (out gs : Out) (zs : List Place) (d : DayStamp) (ps : List Pair) (first number s : ℕ) → Later bytes lines out →
+    (at_pairs (state gs zs d ps first 0 Pairs) number (line_at bytes s) >>= λ v. walk bytes v (number + 1) lines) ≡ Ok out → InPairs bytes (s ∷ lines) out gs zs d ps 0
+pair_line bytes lines out gs zs d ps first number s later h =
+    elim (cases_Bool (has_slash (line_at bytes s))) [
+      | inl e ↦ event_line bytes lines out gs zs d ps first number s later e (pair_of (line_at bytes s)) refl (rw e at h)
+      | inr e ↦ no_event bytes lines out gs zs d ps s e (rest_line bytes lines out gs zs d ps first number s Pairs later (rw e at h))
+    ]
+
+ugc_line : (bytes lines : List ℕ) (out gs : Out) (zs : List Place) (d : DayStamp) (ps : List Pair) (first number s : ℕ) → Later bytes lines out → begins (line_at bytes s) ≡ true → (r : Result UgcRead UgcFault) → ugc_of (drop s bytes) ≡ r →
+    (open_by (state gs zs d ps first 0 Outside) number (drop s bytes) r >>= λ v. walk bytes v (number + 1) lines) ≡ Ok out → InNone bytes (s ∷ lines) out gs
+ugc_line bytes lines out gs zs d ps first number s later b (Err f) is h = absurd (never (BadUgc number) out h)
+ugc_line bytes lines out gs zs d ps first number s later b (Ok u) is h =
+    elim (cases_Bool (is_empty (line_of (drop u.used (drop s bytes))))) [
+      | inl e ↦ begun_here bytes lines out gs s u b is e (later gs u.zones u.expiry [] number (ends_in (take u.used (drop s bytes))) (number + 1) Pairs (rw e at h))
+      | inr e ↦ absurd (never (BadUgc number) out (rw e at h))
+    ]
+
+outside_line : (bytes lines : List ℕ) (out gs : Out) (zs : List Place) (d : DayStamp) (ps : List Pair) (first number s : ℕ) → Later bytes lines out →
+    (at_outside (state gs zs d ps first 0 Outside) number (drop s bytes) >>= λ v. walk bytes v (number + 1) lines) ≡ Ok out → InNone bytes (s ∷ lines) out gs
+unfolding at_outside
+outside_line bytes lines out gs zs d ps first number s later h =
+    elim (cases_Bool (begins (line_at bytes s))) [
+      | inl e ↦ ugc_line bytes lines out gs zs d ps first number s later e (ugc_of (drop s bytes)) refl (rw e at h)
+      | inr e ↦ let n : InNone bytes lines out gs = later gs zs d ps first 0 (number + 1) Outside (rw e at h) in
+          record { segments = n.segments; then = one_more bytes lines s n.segments e n.then; is = n.is }
+    ]
+
+sound : (bytes lines : List ℕ) (out : Out) → Later bytes lines out
+unfolding step
+sound bytes [] out gs zs d ps first zero number Outside h = record { segments = []; then = tt; is = sym (same_out gs out h) ∙ sym (append-nil gs) }
+sound bytes [] out gs zs d ps first (suc k) number Outside h = tt
+sound bytes [] out gs zs d ps first left number Pairs h = absurd (never (NoSegmentEnd first) out h)
+sound bytes [] out gs zs d ps first zero number Rest h = absurd (never (NoSegmentEnd first) out h)
+sound bytes [] out gs zs d ps first (suc k) number Rest h = tt
+sound bytes (s ∷ lines) out gs zs d ps first zero number Outside h = outside_line bytes lines out gs zs d ps first number s (sound bytes lines out) h
+sound bytes (s ∷ lines) out gs zs d ps first (suc k) number Outside h = tt
+sound bytes (s ∷ lines) out gs zs d ps first zero number Pairs h = pair_line bytes lines out gs zs d ps first number s (sound bytes lines out) h
+sound bytes (s ∷ lines) out gs zs d ps first (suc k) number Pairs h =
+    let back : suc k - 1 ≡ k = omega arith in
+    let some : (suc k == 0) ≡ false = ne_eqb (suc k) 0 (λ e. absurd (omega arith)) in
+    one_skipped bytes lines out gs zs d ps s k (subst (λ (n : ℕ). InPairs bytes lines out gs zs d ps n) back (sound bytes lines out gs zs d ps first (suc k - 1) (number + 1) Pairs (rw some at h)))
+sound bytes (s ∷ lines) out gs zs d ps first zero number Rest h = rest_line bytes lines out gs zs d ps first number s Rest (sound bytes lines out) h
+sound bytes (s ∷ lines) out gs zs d ps first (suc k) number Rest h = tt
+
+pub walked_segments : (bytes lines : List ℕ) (out : Out) (zs : List Place) (d : DayStamp) (ps : List Pair) (first number : ℕ) → walk bytes (state [] zs d ps first 0 Outside) number lines ≡ Ok out → AreSegments bytes lines out
+walked_segments bytes lines out zs d ps first number h =
+    let n : InNone bytes lines out [] = sound bytes lines out [] zs d ps first 0 number Outside h in
+    subst (AreSegments bytes lines) (sym n.is) n.then

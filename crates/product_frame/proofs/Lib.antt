@@ -1,0 +1,10 @@
+pub mod Ends
+pub mod Events
+pub mod Nearness
+pub mod Segments
+pub mod Found
+pub mod Whole
+pub mod FaultsRead
+pub mod FaultsFound
+pub mod Refused
+pub mod Splitting

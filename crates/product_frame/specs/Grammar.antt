@@ -1,0 +1,54 @@
+-- The segments of lines, by their parts.
+use Rattle.std.specs.Prelude.{◌≡◌, ℕ, Bool, true, false, List, [], ◌∷◌, ◌++◌, length, take, drop, Option, Some, None}
+use Rattle.std.specs.List.{AllByRecursion}
+use Rattle.ugc_codes.specs.Grammar.{IsUgc}
+use Rattle.product_frame.specs.Text.{line_of, is_empty, ends_in}
+use Rattle.product_frame.specs.Parts.{begins, has_slash, is_end}
+use Rattle.product_frame.specs.Events.{IsPair}
+use Rattle.product_frame.specs.declared.frame.Pair.{Pair}
+use Rattle.product_frame.specs.Frames.{line_at}
+use Rattle.product_frame.specs.declared.frame.FrameSegment.{FrameSegment}
+
+-- none of these lines begins a segment
+abbrev pub AreOutside : List ℕ → List ℕ → Type 0
+AreOutside bytes = AllByRecursion (λ s. begins (line_at bytes s) ≡ false)
+
+-- each of these lines is a P-VTEC line, and these are their values
+abbrev pub AreEvents : List ℕ → List ℕ → List Pair → Type 0
+AreEvents bytes [] [] = Unit {0}
+AreEvents bytes [] (p ∷ pairs) = ⊥
+AreEvents bytes (s ∷ lines) [] = ⊥
+AreEvents bytes (s ∷ lines) (p ∷ pairs) = IsPair (line_at bytes s) p × AreEvents bytes lines pairs
+
+-- none of these lines is $$
+abbrev pub AreRest : List ℕ → List ℕ → Type 0
+AreRest bytes = AllByRecursion (λ s. is_end (line_at bytes s) ≡ false)
+
+-- the first of these lines does not begin with a slash
+abbrev pub HasNoSlash : List ℕ → List ℕ → Type 0
+HasNoSlash bytes [] = Unit {0}
+HasNoSlash bytes (s ∷ lines) = has_slash (line_at bytes s) ≡ false
+
+-- a segment and what stands before it: where its lines begin
+pub record IsSegment (bytes lines : List ℕ) (g : FrameSegment) (later : List ℕ) : Type 0 where
+  pub outside : List ℕ
+  pub start : ℕ
+  pub ugc : List ℕ
+  pub events : List ℕ
+  pub others : List ℕ
+  pub end : ℕ
+  pub used : ℕ
+  pub whole : lines ≡ outside ++ start ∷ (ugc ++ (events ++ (others ++ end ∷ later)))
+  pub passed : AreOutside bytes outside
+  pub begun : begins (line_at bytes start) ≡ true
+  pub zones : IsUgc (drop start bytes) g.zones g.expiry used
+  pub fills : is_empty (line_of (drop used (drop start bytes))) ≡ true
+  pub more : length ugc ≡ ends_in (take used (drop start bytes))
+  pub pairs : AreEvents bytes events g.pairs
+  pub behind : HasNoSlash bytes (others ++ end ∷ later)
+  pub rest : AreRest bytes others
+  pub ended : is_end (line_at bytes end) ≡ true
+
+abbrev pub AreSegments : List ℕ → List ℕ → List FrameSegment → Type 0
+AreSegments bytes lines [] = AreOutside bytes lines
+AreSegments bytes lines (g ∷ segments) = (later : List ℕ) × IsSegment bytes lines g later × AreSegments bytes later segments

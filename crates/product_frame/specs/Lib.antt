@@ -1,0 +1,11 @@
+pub mod Text
+pub mod Parts
+pub mod Events
+pub mod Nearness
+pub mod Walking
+pub mod Frames
+pub mod Grammar
+pub mod Frame
+pub mod Faults
+pub mod Splitting
+pub mod ZoneLinesOf

@@ -1,0 +1,14 @@
+//! Frames of products: what a reader takes from the lines of a transmitted text.
+#![tactic(auto)]
+
+mod frame;
+mod read;
+mod split;
+#[cfg(test)]
+mod tests;
+mod text;
+mod walk;
+
+pub use frame::{Frame, FrameFault, FrameSegment, Heading, Pair};
+pub use read::{frame_or_fault, read_frame};
+pub use split::split_products;

@@ -1,0 +1,291 @@
+//! Frames are read.
+ghost use Rattle.std.specs.Prelude.{◌≡◌, ◌⊎◌, ℕ, List as Seq, ◌≤◌, ◌<◌, ◌^◌, ◌+◌, length, [], ◌∷◌, drop, IfOk, IfSome, take};
+ghost use Rattle.std.specs.List.{All, list_all};
+ghost use Rattle.hazard_types.specs.Given.{Gives};
+ghost use Rattle.product_frame.specs.Text.{starts, starts_from};
+ghost use Rattle.product_frame.specs.Parts.{is_name, is_front, is_bbb, heading_by, heading_of, is_identifier, local_at};
+ghost use Rattle.product_frame.specs.Nearness.{is_near};
+ghost use Rattle.std.specs.Prelude.{Ok};
+ghost use Rattle.product_frame.specs.Frame.{FrameOf};
+ghost use Rattle.product_frame.specs.declared.frame.Frame.{Frame as FrameValue};
+ghost use Rattle.product_frame.specs.declared.frame.FrameFault.{FrameFault as FaultValue};
+ghost use Rattle.product_frame.specs.Faults.{FrameFaultOf};
+ghost use Rattle.product_frame.specs.Frames.{heading_index, full_index, issue_in, end_by, product_in, behind, named, frame_in, frame_from, frame_of};
+
+use crate::frame::{Frame, FrameFault, Heading};
+use crate::text::{is_blank, line_of, starts};
+use crate::walk::walk_lines;
+use desk_clock::{near, read_local_line};
+use hazard_types::{DayStamp, List, Minute, Oom, Or, Text};
+use std::alloc::Global;
+use ugc_codes::expiry_of;
+
+fn is_name(c: u8) -> bool
+    ensures { result ≡ is_name c }
+{
+    c.is_ascii_uppercase() || c.is_ascii_digit()
+}
+
+fn is_front(line: &[u8]) -> bool
+    requires { 12 ≤ length line.now }
+    ensures { result ≡ is_front line.now }
+{
+    line[0].is_ascii_uppercase()
+        && line[1].is_ascii_uppercase()
+        && line[2].is_ascii_uppercase()
+        && line[3].is_ascii_uppercase()
+        && line[4].is_ascii_digit()
+        && line[5].is_ascii_digit()
+        && is_blank(line[6])
+        && is_name(line[7])
+        && is_name(line[8])
+        && is_name(line[9])
+        && is_name(line[10])
+        && is_blank(line[11])
+}
+
+fn is_bbb(line: &[u8], i: usize) -> bool
+    requires { i + 3 ≤ length line.now }
+    ensures { result ≡ is_bbb line.now i }
+{
+    line[i].is_ascii_uppercase()
+        && line[i + 1].is_ascii_uppercase()
+        && line[i + 2].is_ascii_uppercase()
+}
+
+#[tactic(auto, unfolding(crate::specs::Parts::heading_by))]
+fn heading_by(line: &[u8], bbb: Option<[u8; 3]>) -> Option<Heading>
+    requires { 18 ≤ length line.now }
+    ensures { result ≡ heading_by line.now bbb }
+{
+    if !is_front(line) {
+        return None;
+    }
+    let day = expiry_of(&line[12..18])?;
+    let ttaaii = [line[0], line[1], line[2], line[3], line[4], line[5]];
+    let office = [line[7], line[8], line[9], line[10]];
+    Some(Heading {
+        ttaaii,
+        office,
+        day,
+        bbb,
+    })
+}
+
+/// What a heading line says, if the line is one.
+#[tactic(auto, unfolding(crate::specs::Parts::heading_of))]
+pub fn heading_of(line: &[u8]) -> Option<Heading>
+    ensures { result ≡ heading_of line.now }
+{
+    if line.len() == 18 {
+        return heading_by(line, None);
+    }
+    if line.len() == 22 && is_blank(line[18]) && is_bbb(line, 19) {
+        return heading_by(line, Some([line[19], line[20], line[21]]));
+    }
+    None
+}
+
+fn is_identifier(line: &[u8]) -> bool
+    ensures { result ≡ is_identifier line.now }
+{
+    line.len() >= 4 && line.len() <= 6 && is_bbb(line, 0) && are_names(&line[3..])
+}
+
+fn are_names(bytes: &[u8]) -> bool
+    ensures { result ≡ list_all is_name bytes.now }
+{
+    bytes.iter().all(|c| is_name(*c))
+}
+
+/// The minute that a line reads as, if it is a local line.
+#[tactic(auto, unfolding(crate::specs::Parts::local_at))]
+fn local_at(line: &[u8]) -> Option<Minute>
+    ensures { result ≡ local_at line.now }
+{
+    match read_local_line(line) {
+        Ok(minute) => Some(minute),
+        Err(_) => None,
+    }
+}
+
+/// Whether some minute within 720 of the issue, either side, has the day stamp.
+fn is_near(issue: Minute, day: DayStamp) -> bool
+    ensures { result ≡ is_near issue day }
+{
+    near(issue, day)
+}
+
+/// Which is the first heading line.
+fn heading_index(bytes: &[u8], places: &[usize]) -> Option<usize>
+    requires { All (λ start. start ≤ length bytes.now) places.now }
+    ensures value { result ≡ heading_index bytes.now 0 places.now }
+    ensures within { IfSome result (λ k. k < length places.now) }
+{
+    for (k, start) in places.iter().enumerate() {
+        let heading = heading_of(line_of(&bytes[*start..]));
+        if heading.is_some() {
+            return Some(k);
+        }
+    }
+    None
+}
+
+/// Which is the first line that is not empty.
+fn full_index(bytes: &[u8], places: &[usize]) -> Option<usize>
+    requires { All (λ start. start ≤ length bytes.now) places.now }
+    ensures value { result ≡ full_index bytes.now 0 places.now }
+    ensures within { IfSome result (λ k. k < length places.now) }
+{
+    for (k, start) in places.iter().enumerate() {
+        if !line_of(&bytes[*start..]).is_empty() {
+            return Some(k);
+        }
+    }
+    None
+}
+
+/// The minute of the first local line.
+fn issue_in(bytes: &[u8], places: &[usize]) -> Option<Minute>
+    requires { All (λ start. start ≤ length bytes.now) places.now }
+    ensures value { result ≡ issue_in bytes.now places.now }
+{
+    for start in places {
+        let issue = local_at(line_of(&bytes[*start..]));
+        if issue.is_some() {
+            return issue;
+        }
+    }
+    None
+}
+
+/// Where the lines behind the first begin.
+fn later_starts(alloc: Global, bytes: &[u8]) -> Result<List<usize>, Oom>
+    ensures value { IfOk result (λ list. list ≡ starts_from 0 bytes.now) }
+    ensures within { IfOk result (λ list. All (λ start. start ≤ length bytes.now) list) }
+{
+    let mut list = List::new(alloc);
+    for (at, c) in bytes.iter().enumerate() {
+        if *c == b'\n' {
+            list.push(at + 1)?;
+        }
+    }
+    Ok(list)
+}
+
+/// Where the product ends whose heading the bytes begin with.
+fn end_of(alloc: Global, rest: &[u8]) -> Result<usize, Oom>
+    ensures value { IfOk result (λ end. end ≡ end_by rest.now (heading_index rest.now 0 (starts_from 0 rest.now))) }
+    ensures within { IfOk result (λ end. end ≤ length rest.now) }
+{
+    let places = later_starts(alloc, rest)?;
+    let places = places.as_slice();
+    match heading_index(rest, places) {
+        Some(k) => Ok(places[k]),
+        None => Ok(rest.len()),
+    }
+}
+
+/// What stands behind the identifier.
+#[tactic(auto, unfolding(crate::specs::Frames::behind))]
+fn behind(
+    alloc: Global,
+    product: &[u8],
+    heading: Heading,
+    identifier: Text,
+    places: &[usize],
+    k: usize,
+) -> Result<Frame, Or<FrameFault>>
+    requires within { All (λ start. start ≤ length product.now) places.now }
+    requires index { k < length places.now }
+    requires places { places.now ≡ starts_from 0 product.now }
+    requires few { length places.now < 2 ^ 60 }
+    ensures { Gives result (behind product.now heading identifier k) }
+{
+    let later = &places[k + 1..];
+    let Some(issue) = issue_in(product, later) else {
+        return Err(Or::No(FrameFault::NoIssueTime));
+    };
+    if !is_near(issue, heading.day) {
+        return Err(Or::No(FrameFault::IssueDisagrees));
+    }
+    let segments = walk_lines(alloc, product, k + 3, later)?;
+    Ok(Frame {
+        heading,
+        identifier,
+        issue,
+        segments,
+    })
+}
+
+/// The frame of one product, whose first line is its heading.
+#[tactic(auto, unfolding(crate::specs::Frames::frame_in))]
+fn frame_in(alloc: Global, product: &[u8], heading: Heading) -> Result<Frame, Or<FrameFault>>
+    ensures { Gives result (frame_in product.now heading) }
+{
+    let places = later_starts(alloc, product)?;
+    let places = places.as_slice();
+    let Some(k) = full_index(product, places) else {
+        return Err(Or::No(FrameFault::NoIdentifier));
+    };
+    let line = line_of(&product[places[k]..]);
+    if !is_identifier(line) {
+        return Err(Or::No(FrameFault::NoIdentifier));
+    }
+    let identifier = List::from_slice(alloc, line)?;
+    behind(alloc, product, heading, identifier, places, k)
+}
+
+/// The frame of the product that begins with the bytes' first line.
+#[tactic(auto, unfolding(crate::specs::Frames::frame_from, crate::specs::Frames::product_in))]
+fn frame_from(alloc: Global, rest: &[u8]) -> Result<Frame, Or<FrameFault>>
+    ensures { Gives result (frame_from rest.now) }
+{
+    let Some(heading) = heading_of(line_of(rest)) else {
+        return Err(Or::No(FrameFault::NoHeading));
+    };
+    let end = end_of(alloc, rest)?;
+    frame_in(alloc, &rest[..end], heading)
+}
+
+/// The frame of the first product.
+#[tactic(auto, unfolding(crate::specs::Frames::frame_of))]
+fn frame_of(alloc: Global, bytes: &[u8]) -> Result<Frame, Or<FrameFault>>
+    ensures { Gives result (frame_of bytes.now) }
+{
+    let places = starts(alloc, bytes)?;
+    let places = places.as_slice();
+    let Some(k) = heading_index(bytes, places) else {
+        return Err(Or::No(FrameFault::NoHeading));
+    };
+    frame_from(alloc, &bytes[places[k]..])
+}
+
+/// The frame of the first product of a text: what stands before its heading line is skipped, and it
+/// ends before the next heading line.
+///
+/// # Errors
+///
+/// The first fault, with its line, which counts from the heading as line 1.
+pub fn read_frame(alloc: Global, bytes: &[u8]) -> Result<Frame, Or<FrameFault>>
+    // What is read is the frame of the text.
+    ensures found { IfOk result (FrameOf bytes.now) }
+    // Where the text has a frame it is read, unless memory runs out.
+    ensures only { (f : FrameValue) → FrameOf bytes.now f → Gives result (Ok f) }
+    // What is refused has this fault first, and each first fault is named, unless memory runs out.
+    ensures fault { (x : FaultValue) → result ≡ Err (Or.No x) → FrameFaultOf bytes.now x }
+    ensures fault_only { (x : FaultValue) → FrameFaultOf bytes.now x → Gives result (Err x) }
+
+    // The same as one function of the bytes.
+    ensures exact { Gives result (frame_of bytes.now) }
+{
+    frame_of(alloc, bytes)
+}
+
+/// A text has a frame or a fault, never both, and one of each at most.
+pub fn frame_or_fault()
+    ensures either { (bytes : Seq ℕ) → ((f : FrameValue) × FrameOf bytes f) ⊎ ((x : FaultValue) × FrameFaultOf bytes x) }
+    ensures not_both { (bytes : Seq ℕ) (f : FrameValue) (x : FaultValue) → FrameOf bytes f → FrameFaultOf bytes x → ⊥ }
+    ensures one_frame { (bytes : Seq ℕ) (f g : FrameValue) → FrameOf bytes f → FrameOf bytes g → f ≡ g }
+    ensures one_fault { (bytes : Seq ℕ) (x y : FaultValue) → FrameFaultOf bytes x → FrameFaultOf bytes y → x ≡ y }
+{}

@@ -1,0 +1,59 @@
+//! Texts are split into products.
+ghost use Rattle.std.specs.Prelude.{◌≡◌, ◌≤◌, length, IfOk};
+ghost use Rattle.std.specs.List.{All};
+ghost use Rattle.product_frame.specs.Text.{starts};
+ghost use Rattle.product_frame.specs.Splitting.{headings_in, first_or, spans_to, spans_of, laid, from_first};
+
+use crate::read::heading_of;
+use crate::text::{line_of, starts};
+use hazard_types::{List, Oom, Span};
+use std::alloc::Global;
+
+/// Those of these places where a heading line begins.
+fn headings_in(alloc: Global, bytes: &[u8], places: &[usize]) -> Result<List<usize>, Oom>
+    requires { All (λ start. start ≤ length bytes.now) places.now }
+    ensures { IfOk result (λ list. list ≡ headings_in bytes.now places.now) }
+{
+    let mut list = List::new(alloc);
+    for start in places {
+        let heading = heading_of(line_of(&bytes[*start..]));
+        if heading.is_some() {
+            list.push(*start)?;
+        }
+    }
+    Ok(list)
+}
+
+fn first_or(end: usize, places: &[usize]) -> usize
+    ensures { result ≡ first_or end places.now }
+{
+    match places {
+        [first, ..] => *first,
+        [] => end,
+    }
+}
+
+/// From each place up to the next, from the last up to the end.
+fn spans_to(alloc: Global, end: usize, places: &[usize]) -> Result<List<Span>, Oom>
+    ensures { IfOk result (λ list. list ≡ spans_to end places.now) }
+{
+    let mut list = List::new(alloc);
+    for (k, start) in places.iter().enumerate() {
+        let to = first_or(end, &places[k + 1..]);
+        list.push(Span { from: *start, to })?;
+    }
+    Ok(list)
+}
+
+/// The products of a text: one span for each heading line, up to the next heading line or the end.
+/// Bytes before the first heading line belong to none.
+#[tactic(auto, unfolding(crate::specs::Splitting::spans_of), using(crate::proofs::Splitting::laid_end_to_end))]
+pub fn split_products(alloc: Global, bytes: &[u8]) -> Result<List<Span>, Oom>
+    ensures value { IfOk result (λ spans. spans ≡ spans_of bytes.now) }
+    // Laid end to end they are the text from the first heading line on.
+    ensures whole { IfOk result (λ spans. laid bytes.now spans ≡ from_first bytes.now (headings_in bytes.now (starts bytes.now))) }
+{
+    let places = starts(alloc, bytes)?;
+    let headings = headings_in(alloc, bytes, places.as_slice())?;
+    spans_to(alloc, bytes.len(), headings.as_slice())
+}

@@ -1,0 +1,251 @@
+//! The walk over the lines behind the identifier.
+ghost use Rattle.std.specs.Prelude.{◌≡◌, ◌≤◌, ◌<◌, ◌^◌, ◌+◌, length, [], drop, IfOk};
+ghost use Rattle.std.specs.List.{All};
+ghost use Rattle.hazard_types.specs.Given.{Gives};
+ghost use Rattle.std.specs.Prelude.{List as Seq, Ok};
+ghost use Rattle.product_frame.specs.declared.frame.FrameSegment.{FrameSegment as FrameSegmentValue};
+ghost use Rattle.product_frame.specs.Grammar.{AreSegments};
+ghost use Rattle.product_frame.specs.Parts.{begins, has_slash, is_end};
+ghost use Rattle.product_frame.specs.Events.{vtec_of, pair_of};
+ghost use Rattle.product_frame.specs.Frames.{or_fault};
+ghost use Rattle.product_frame.specs.declared.frame.FrameFault.TheVariants.{BadVtec};
+ghost use Rattle.product_frame.specs.Walking.{IsBadUgc, with_pair, at_outside, at_rest, at_pairs, step, ended, segments_of, Moves};
+
+use crate::frame::{FrameFault, FrameSegment, Pair};
+use crate::text::{ends_in, line_of};
+use hazard_types::{DayStamp, List, Or, Vtec, Zone};
+use std::alloc::Global;
+use std::mem;
+use ugc_codes::{UgcFault, read_ugc};
+use vtec_string::read_vtec;
+
+/// Where the walk is.
+#[derive(Clone, Copy, Debug)]
+pub enum Stage {
+    Outside,
+    Pairs,
+    Rest,
+}
+
+/// What was walked over.
+#[derive(Debug, Drop)]
+pub struct Walk {
+    pub segments: List<FrameSegment>,
+    pub zones: List<Zone>,
+    pub expiry: DayStamp,
+    pub pairs: List<Pair>,
+    /// The line of the segment's UGC.
+    pub first: usize,
+    /// How many lines of the UGC are left.
+    pub left: usize,
+    pub stage: Stage,
+}
+
+/// The values of a P-VTEC line.
+fn vtec_of(line: &[u8]) -> Option<Vtec>
+    ensures { result ≡ vtec_of line.now }
+{
+    read_vtec(line)
+}
+
+/// The pair of a P-VTEC line.
+#[tactic(auto, unfolding(crate::specs::Events::pair_of))]
+fn pair_of(line: &[u8]) -> Option<Pair>
+    ensures { result ≡ pair_of line.now }
+{
+    let vtec = vtec_of(line)?;
+    Some(Pair { vtec, flood: None })
+}
+
+/// The pair of a line that begins with `/`, or that it is none.
+fn pair_or_fault(line: &[u8], number: usize) -> Result<Pair, Or<FrameFault>>
+    ensures { Gives result (or_fault (pair_of line.now) (BadVtec number) (λ p. Ok p)) }
+{
+    match pair_of(line) {
+        Some(pair) => Ok(pair),
+        None => Err(Or::No(FrameFault::BadVtec { line: number })),
+    }
+}
+
+fn begins(line: &[u8]) -> bool
+    ensures { result ≡ begins line.now }
+{
+    line.len() >= 7
+        && line[0].is_ascii_uppercase()
+        && line[1].is_ascii_uppercase()
+        && (line[2] == b'C' || line[2] == b'Z')
+        && line[3].is_ascii_digit()
+        && line[4].is_ascii_digit()
+        && line[5].is_ascii_digit()
+        && (line[6] == b'-' || line[6] == b'>')
+}
+
+fn has_slash(line: &[u8]) -> bool
+    ensures { result ≡ has_slash line.now }
+{
+    line.len() >= 1 && line[0] == b'/'
+}
+
+fn is_end(line: &[u8]) -> bool
+    ensures { result ≡ is_end line.now }
+{
+    line.len() == 2 && line[0] == b'$' && line[1] == b'$'
+}
+
+fn bad_ugc(fault: Or<UgcFault>, line: usize) -> Or<FrameFault>
+    ensures { IsBadUgc fault line result }
+{
+    match fault {
+        Or::No(_) => Or::No(FrameFault::BadUgc { line }),
+        Or::OutOfMemory => Or::OutOfMemory,
+    }
+}
+
+/// A line outside a segment, which may begin one.
+#[tactic(auto, unfolding(crate::specs::Walking::at_outside))]
+fn at_outside(
+    alloc: Global,
+    walk: &mut Walk,
+    number: usize,
+    rest: &[u8],
+) -> Result<(), Or<FrameFault>>
+    ensures { Moves result walk.new (at_outside walk.old number rest.now) }
+{
+    if !begins(line_of(rest)) {
+        return Ok(());
+    }
+    let read = match read_ugc(alloc, rest) {
+        Ok(read) => read,
+        Err(fault) => return Err(bad_ugc(fault, number)),
+    };
+    let behind = line_of(&rest[read.used..]);
+    if !behind.is_empty() {
+        return Err(Or::No(FrameFault::BadUgc { line: number }));
+    }
+    walk.left = ends_in(&rest[..read.used]);
+    walk.zones = read.zones;
+    walk.expiry = read.expiry;
+    walk.pairs = List::new(alloc);
+    walk.first = number;
+    walk.stage = Stage::Pairs;
+    Ok(())
+}
+
+/// A line behind the events of a segment.
+fn at_rest(alloc: Global, walk: &mut Walk, line: &[u8]) -> Result<(), Or<FrameFault>>
+    ensures { Moves result walk.new (at_rest walk.old line.now) }
+{
+    if !is_end(line) {
+        walk.stage = Stage::Rest;
+        return Ok(());
+    }
+    let zones = mem::replace(&mut walk.zones, List::new(alloc));
+    let pairs = mem::replace(&mut walk.pairs, List::new(alloc));
+    walk.segments.push(FrameSegment {
+        zones,
+        expiry: walk.expiry,
+        pairs,
+    })?;
+    walk.stage = Stage::Outside;
+    Ok(())
+}
+
+/// One pair more.
+fn add_pair(walk: &mut Walk, pair: &Pair) -> Result<(), Or<FrameFault>>
+    ensures { Moves result walk.new (Ok (with_pair walk.old pair.now)) }
+{
+    walk.pairs.extend(&[*pair])?;
+    Ok(())
+}
+
+/// A line behind a segment's UGC.
+fn at_pairs(
+    alloc: Global,
+    walk: &mut Walk,
+    number: usize,
+    line: &[u8],
+) -> Result<(), Or<FrameFault>>
+    ensures { Moves result walk.new (at_pairs walk.old number line.now) }
+{
+    if !has_slash(line) {
+        return at_rest(alloc, walk, line);
+    }
+    match pair_or_fault(line, number) {
+        Ok(pair) => add_pair(walk, &pair),
+        Err(fault) => Err(fault),
+    }
+}
+
+#[tactic(auto, unfolding(crate::specs::Walking::step))]
+fn step(alloc: Global, walk: &mut Walk, number: usize, rest: &[u8]) -> Result<(), Or<FrameFault>>
+    ensures { Moves result walk.new (step walk.old number rest.now) }
+{
+    if walk.left > 0 {
+        walk.left -= 1;
+        return Ok(());
+    }
+    match walk.stage {
+        Stage::Outside => at_outside(alloc, walk, number, rest),
+        Stage::Pairs => at_pairs(alloc, walk, number, line_of(rest)),
+        Stage::Rest => at_rest(alloc, walk, line_of(rest)),
+    }
+}
+
+fn ended(walk: Walk) -> Result<List<FrameSegment>, Or<FrameFault>>
+    ensures { Gives result (ended walk walk.stage) }
+{
+    match walk.stage {
+        Stage::Outside => Ok(walk.segments),
+        Stage::Pairs => Err(Or::No(FrameFault::NoSegmentEnd { line: walk.first })),
+        Stage::Rest => Err(Or::No(FrameFault::NoSegmentEnd { line: walk.first })),
+    }
+}
+
+/// The segments of the lines that begin at these places, the first of which has this number.
+fn walk_over(
+    alloc: Global,
+    bytes: &[u8],
+    number: usize,
+    starts: &[usize],
+) -> Result<List<FrameSegment>, Or<FrameFault>>
+    requires within { All (λ start. start ≤ length bytes.now) starts.now }
+    requires numbers { number + length starts.now < 2 ^ 64 }
+    ensures { Gives result (segments_of bytes.now number starts.now) }
+{
+    let mut walk = Walk {
+        segments: List::new(alloc),
+        zones: List::new(alloc),
+        expiry: DayStamp {
+            day: 1,
+            hour: 0,
+            minute: 0,
+        },
+        pairs: List::new(alloc),
+        first: 0,
+        left: 0,
+        stage: Stage::Outside,
+    };
+    for (i, start) in starts.iter().enumerate() {
+        step(alloc, &mut walk, number + i, &bytes[*start..])?;
+    }
+    ended(walk)
+}
+
+/// The segments of the lines that begin at these places, the first of which has this number.
+pub fn walk_lines(
+    alloc: Global,
+    bytes: &[u8],
+    number: usize,
+    starts: &[usize],
+) -> Result<List<FrameSegment>, Or<FrameFault>>
+    requires within { All (λ start. start ≤ length bytes.now) starts.now }
+    requires numbers { number + length starts.now < 2 ^ 64 }
+    // What is walked over is in the grammar.
+    ensures found { IfOk result (λ segments. AreSegments bytes.now starts.now segments) }
+    // What is in the grammar is walked over, unless memory runs out.
+    ensures only { (segments : Seq FrameSegmentValue) → AreSegments bytes.now starts.now segments → Gives result (Ok segments) }
+    // Which fault it is.
+    ensures exact { Gives result (segments_of bytes.now number starts.now) }
+{
+    walk_over(alloc, bytes, number, starts)
+}
