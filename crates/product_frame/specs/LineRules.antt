@@ -1,12 +1,13 @@
 -- What may be written, so that it reads as the frame that it is written for.
-use Rattle.std.specs.Prelude.{◌≡◌, ℕ, ◌<◌, ◌≤◌, ◌==◌, Bool, true, false, IsTrue, List, [], ◌∷◌, length, Option, Some, None, if◌then◌else◌}
+use Rattle.std.specs.Prelude.{◌≡◌, ℕ, ◌<◌, ◌≤◌, ◌==◌, ◌&&◌, Bool, true, false, IsTrue, List, [], ◌∷◌, ◌++◌, length, Option, Some, None, if◌then◌else◌}
 use Rattle.std.specs.List.{All, AllByRecursion, list_all}
 use Rattle.std.specs.List.Sorted.{IsStrictlySortedBy}
 use Rattle.hazard_types.specs.Calendar.{is_digit}
 use Rattle.hazard_types.specs.Places.{Place, is_capital, by_place}
 use Rattle.hazard_types.specs.declared.codes.LocalZone.{LocalZone}
-use Rattle.ugc_codes.specs.Grammar.{is_day_stamp}
-use Rattle.vtec_string.specs.Columns.{is_office}
+use Rattle.ugc_codes.specs.Grammar.{is_day_stamp, IsUgc}
+use Rattle.ugc_codes.specs.Written.{ugc_text}
+use Rattle.vtec_string.specs.Columns.{is_office, IsVtec, vtec_text}
 use Rattle.desk_clock.specs.DayStamps.{IsNear}
 use Rattle.desk_clock.specs.LocalText.{local_line_of}
 use Rattle.product_frame.specs.Text.{line_of}
@@ -49,10 +50,11 @@ are_ended = ends_behind 10
 -- three capital letters, where they stand
 abbrev pub are_three : Option (List ℕ) → Bool
 are_three None = true
-are_three (Some letters) = list_all is_capital letters
+are_three (Some letters) = (length letters == 3) && list_all is_capital letters
 
 -- the form that is read: four letters and two digits, an office, a day stamp, three letters
 pub record IsHeading (h : Heading) : Type 0 where
+  pub six : length h.ttaaii ≡ 6
   pub ttaaii : is_ttaaii h.ttaaii ≡ true
   pub office : is_office h.office ≡ true
   pub day : is_day_stamp h.day ≡ true
@@ -85,6 +87,7 @@ pub record IsBody (body : Body) : Type 0 where
 -- the line rules
 pub record IsWritable (f : Frame) (block : Block) (bodies : List Body) : Type 0 where
   pub heading : IsHeading f.heading
+  pub minute : f.issue < 52596000
   pub near : IsNear f.issue f.heading.day
   pub identifier : is_identifier f.identifier ≡ true
   pub segments : All IsSegmentWritten f.segments
@@ -94,3 +97,11 @@ pub record IsWritable (f : Frame) (block : Block) (bodies : List Body) : Type 0 
   pub office_line : IsOneLine block.office_line × HasNoDigit block.office_line
   pub zone : LocalZone
   pub local : block.local ≡ local_line_of zone f.issue
+
+-- the text of the values has their columns
+abbrev pub HasColumns : Pair → Type 0
+HasColumns p = IsVtec (vtec_text p.vtec) p.vtec
+
+-- the written texts read back, whatever bytes follow
+abbrev pub ReadsBack : FrameSegment → Type 0
+ReadsBack g = ((rest : List ℕ) → IsUgc (ugc_text g.zones g.expiry ++ rest) g.zones g.expiry (length (ugc_text g.zones g.expiry))) × All HasColumns g.pairs

@@ -3,7 +3,8 @@ ghost use Rattle.std.specs.Prelude.{◌≡◌, ◌≤◌, ◌<◌, ◌++◌, ◌
 ghost use Rattle.std.specs.List.{All};
 ghost use Rattle.ugc_codes.specs.Grammar.{is_day_stamp, two_digits, day_text};
 ghost use Rattle.product_frame.specs.Layout.{ended, letters_text, heading_text, pairs_text, names_text, body_text, segment_text, segments_text, block_text, layout_of};
-ghost use Rattle.product_frame.specs.LineRules.{IsPairWritten, IsSegmentWritten, IsHeading, IsWritable};
+ghost use Rattle.product_frame.specs.Frame.{FrameOf};
+ghost use Rattle.product_frame.specs.LineRules.{IsPairWritten, IsSegmentWritten, HasColumns, ReadsBack, IsWritable};
 
 use crate::frame::{Frame, FrameSegment, Heading, Pair};
 use hazard_types::{DayStamp, List, Oom, Text};
@@ -75,7 +76,8 @@ fn heading_of(alloc: Global, h: &Heading) -> Result<Text, Oom>
 
 fn put_pairs(out: &mut Text, pairs: &List<Pair>) -> Result<(), Oom>
     requires { All IsPairWritten pairs.now }
-    ensures { OnOk result (out.new ≡ out.old ++ pairs_text pairs.now) }
+    ensures value { OnOk result (out.new ≡ out.old ++ pairs_text pairs.now) }
+    ensures columns { OnOk result (All HasColumns pairs.now) }
 {
     for pair in pairs.as_slice() {
         put_line(out, &vtec_text(&pair.vtec))?;
@@ -109,7 +111,8 @@ fn put_segment(
     body: &Body,
 ) -> Result<(), Oom>
     requires { IsSegmentWritten segment.now }
-    ensures { OnOk result (out.new ≡ out.old ++ segment_text local.now segment.now body.now) }
+    ensures value { OnOk result (out.new ≡ out.old ++ segment_text local.now segment.now body.now) }
+    ensures back { OnOk result (ReadsBack segment.now) }
 {
     let ugc = write_ugc(alloc, &segment.zones, segment.expiry)?;
     put_line(out, ugc.as_slice())?;
@@ -127,7 +130,8 @@ fn put_segments(
 ) -> Result<(), Oom>
     requires forms { All IsSegmentWritten segments.now }
     requires as_many { length bodies.now ≡ length segments.now }
-    ensures { OnOk result (out.new ≡ out.old ++ segments_text local.now segments.now bodies.now) }
+    ensures value { OnOk result (out.new ≡ out.old ++ segments_text local.now segments.now bodies.now) }
+    ensures back { OnOk result (All ReadsBack segments.now) }
 {
     let bodies = bodies.as_slice();
     for (i, segment) in segments.as_slice().iter().enumerate() {
@@ -155,7 +159,10 @@ pub fn frame_text(
     bodies: &List<Body>,
 ) -> Result<Text, Oom>
     requires { IsWritable f.now block.now bodies.now }
+    // The text is laid out from the frame, the block and the bodies.
     ensures layout { IfOk result (λ text. text ≡ layout_of f.now block.now bodies.now) }
+    // The frame of the text is this one.
+    ensures frame { IfOk result (λ text. FrameOf text f.now) }
 {
     let heading = heading_of(alloc, &f.heading)?;
     let mut text = List::new(alloc);
