@@ -8,3 +8,11 @@ pub mod FaultsRead
 pub mod FaultsFound
 pub mod Refused
 pub mod Splitting
+pub mod Runs
+pub mod LineKinds
+pub mod LocalLines
+pub mod UgcLines
+pub mod VtecLines
+pub mod HeadingLines
+pub mod SegmentLines
+pub mod ProductLines

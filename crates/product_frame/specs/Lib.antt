@@ -9,3 +9,5 @@ pub mod Frame
 pub mod Faults
 pub mod Splitting
 pub mod ZoneLinesOf
+pub mod Layout
+pub mod LineRules

@@ -8,7 +8,9 @@ mod split;
 mod tests;
 mod text;
 mod walk;
+mod write;
 
 pub use frame::{Frame, FrameFault, FrameSegment, Heading, Pair};
 pub use read::{frame_or_fault, read_frame};
 pub use split::split_products;
+pub use write::{Block, Body, frame_text};

@@ -1,0 +1,180 @@
+//! Texts are written for frames.
+ghost use Rattle.std.specs.Prelude.{◌≡◌, ◌≤◌, ◌<◌, ◌++◌, ◌∷◌, [], length, IsTrue, IfOk, OnOk};
+ghost use Rattle.std.specs.List.{All};
+ghost use Rattle.ugc_codes.specs.Grammar.{is_day_stamp, two_digits, day_text};
+ghost use Rattle.product_frame.specs.Layout.{ended, letters_text, heading_text, pairs_text, names_text, body_text, segment_text, segments_text, block_text, layout_of};
+ghost use Rattle.product_frame.specs.Frame.{FrameOf};
+ghost use Rattle.product_frame.specs.LineRules.{IsPairWritten, IsSegmentWritten, HasColumns, ReadsBack, IsWritable};
+
+use crate::frame::{Frame, FrameSegment, Heading, Pair};
+use hazard_types::{DayStamp, List, Oom, Text};
+use std::alloc::Global;
+use ugc_codes::write_ugc;
+use vtec_string::vtec_text;
+
+/// What stands between identifier and segments: the product's name, the office's line, the local line.
+#[derive(Clone, Debug, Drop, PartialEq, Eq)]
+pub struct Block {
+    pub name: Text,
+    pub office_line: Text,
+    pub local: Text,
+}
+
+/// What stands behind the pairs of a segment: the names of its zones, without the last line's end, and
+/// its text, each line of which has its end.
+#[derive(Clone, Debug, Drop, PartialEq, Eq)]
+pub struct Body {
+    pub names: Text,
+    pub text: Text,
+}
+
+fn put_line(out: &mut Text, line: &[u8]) -> Result<(), Oom>
+    ensures { OnOk result (out.new ≡ out.old ++ ended line.now) }
+{
+    out.extend(line)?;
+    out.push(b'\n')
+}
+
+fn two_digits(n: u8) -> [u8; 2]
+    requires { n < 100 }
+    ensures { result ≡ two_digits n }
+{
+    [b'0' + n / 10, b'0' + n % 10]
+}
+
+fn day_text(d: DayStamp) -> [u8; 6]
+    requires { IsTrue (is_day_stamp d) }
+    ensures { result ≡ day_text d }
+{
+    let day = two_digits(d.day);
+    let hour = two_digits(d.hour);
+    let minute = two_digits(d.minute);
+    [day[0], day[1], hour[0], hour[1], minute[0], minute[1]]
+}
+
+fn put_letters(out: &mut Text, letters: &Option<[u8; 3]>) -> Result<(), Oom>
+    ensures { OnOk result (out.new ≡ out.old ++ letters_text letters.now) }
+{
+    match letters {
+        Some(letters) => out.extend(&[b' ', letters[0], letters[1], letters[2]]),
+        None => Ok(()),
+    }
+}
+
+fn heading_of(alloc: Global, h: &Heading) -> Result<Text, Oom>
+    requires { IsTrue (is_day_stamp h.now.day) }
+    ensures { IfOk result (λ text. text ≡ heading_text h.now) }
+{
+    let mut text = List::from_slice(alloc, &h.ttaaii)?;
+    text.push(b' ')?;
+    text.extend(&h.office)?;
+    text.push(b' ')?;
+    text.extend(&day_text(h.day))?;
+    put_letters(&mut text, &h.bbb)?;
+    Ok(text)
+}
+
+fn put_pairs(out: &mut Text, pairs: &List<Pair>) -> Result<(), Oom>
+    requires { All IsPairWritten pairs.now }
+    ensures value { OnOk result (out.new ≡ out.old ++ pairs_text pairs.now) }
+    ensures columns { OnOk result (All HasColumns pairs.now) }
+{
+    for pair in pairs.as_slice() {
+        put_line(out, &vtec_text(&pair.vtec))?;
+    }
+    Ok(())
+}
+
+fn put_names(out: &mut Text, names: &[u8]) -> Result<(), Oom>
+    ensures { OnOk result (out.new ≡ out.old ++ names_text names.now) }
+{
+    if names.is_empty() {
+        return Ok(());
+    }
+    put_line(out, names)
+}
+
+fn put_body(out: &mut Text, local: &[u8], body: &Body) -> Result<(), Oom>
+    ensures { OnOk result (out.new ≡ out.old ++ body_text local.now body.now) }
+{
+    put_names(out, body.names.as_slice())?;
+    put_line(out, local)?;
+    put_line(out, b"")?;
+    out.extend(body.text.as_slice())
+}
+
+fn put_segment(
+    alloc: Global,
+    out: &mut Text,
+    local: &[u8],
+    segment: &FrameSegment,
+    body: &Body,
+) -> Result<(), Oom>
+    requires { IsSegmentWritten segment.now }
+    ensures value { OnOk result (out.new ≡ out.old ++ segment_text local.now segment.now body.now) }
+    ensures back { OnOk result (ReadsBack segment.now) }
+{
+    let ugc = write_ugc(alloc, &segment.zones, segment.expiry)?;
+    put_line(out, ugc.as_slice())?;
+    put_pairs(out, &segment.pairs)?;
+    put_body(out, local, body)?;
+    put_line(out, b"$$")
+}
+
+fn put_segments(
+    alloc: Global,
+    out: &mut Text,
+    local: &[u8],
+    segments: &List<FrameSegment>,
+    bodies: &List<Body>,
+) -> Result<(), Oom>
+    requires forms { All IsSegmentWritten segments.now }
+    requires as_many { length bodies.now ≡ length segments.now }
+    ensures value { OnOk result (out.new ≡ out.old ++ segments_text local.now segments.now bodies.now) }
+    ensures back { OnOk result (All ReadsBack segments.now) }
+{
+    let bodies = bodies.as_slice();
+    for (i, segment) in segments.as_slice().iter().enumerate() {
+        put_segment(alloc, out, local, segment, &bodies[i])?;
+        put_line(out, b"")?;
+    }
+    Ok(())
+}
+
+fn put_block(out: &mut Text, block: &Block) -> Result<(), Oom>
+    ensures { OnOk result (out.new ≡ out.old ++ block_text block.now) }
+{
+    put_line(out, b"")?;
+    put_line(out, block.name.as_slice())?;
+    put_line(out, block.office_line.as_slice())?;
+    put_line(out, block.local.as_slice())?;
+    put_line(out, b"")
+}
+
+/// The text of a frame, its block, and its bodies, one for each segment.
+pub fn frame_text(
+    alloc: Global,
+    f: &Frame,
+    block: &Block,
+    bodies: &List<Body>,
+) -> Result<Text, Oom>
+    requires { IsWritable f.now block.now bodies.now }
+    // The text is laid out from the frame, the block and the bodies.
+    ensures layout { IfOk result (λ text. text ≡ layout_of f.now block.now bodies.now) }
+    // The frame of the text is this one.
+    ensures frame { IfOk result (λ text. FrameOf text f.now) }
+{
+    let heading = heading_of(alloc, &f.heading)?;
+    let mut text = List::new(alloc);
+    put_line(&mut text, heading.as_slice())?;
+    put_line(&mut text, f.identifier.as_slice())?;
+    put_block(&mut text, block)?;
+    put_segments(
+        alloc,
+        &mut text,
+        block.local.as_slice(),
+        &f.segments,
+        bodies,
+    )?;
+    Ok(text)
+}
