@@ -84,9 +84,28 @@ front_holds end a b c d e f p q r s day h o =
 
 front_line : (end : List ℕ) (a b c d e f p q r s : ℕ) (day : DayStamp) → is_ttaaii (a ∷ b ∷ c ∷ d ∷ e ∷ f ∷ []) ≡ true → IsOffice p q r s → IsOneLine end → IsOneLine (heading_bytes end a b c d e f p q r s day)
 front_line end a b c d e f p q r s day h o one =
-    let t = six_parts (is_capital a) (is_capital b) (is_capital c) (is_capital d) (is_digit e) (is_digit f) h in
-    (capital_no_end a t.0, (capital_no_end b t.1, (capital_no_end c t.2, (capital_no_end d t.3, (number_no_end e t.4, (number_no_end f t.5, (refl,
-    (name_no_end p o.one, (name_no_end q o.two, (name_no_end r o.three, (name_no_end s o.four, (refl, (digit_no_end (day.day / 10), (digit_no_end (day.day % 10), (digit_no_end (day.hour / 10), (digit_no_end (day.hour % 10), (digit_no_end (day.minute / 10), (digit_no_end (day.minute % 10), one))))))))))))))))))
+    let t = six_parts (is_capital a) (is_capital b) (is_capital c) (is_capital d) (is_digit e) (is_digit f) h in (
+      capital_no_end a t.0,
+      (
+        capital_no_end b t.1,
+        (
+          capital_no_end c t.2,
+          (
+            capital_no_end d t.3,
+            (
+              number_no_end e t.4,
+              (
+                number_no_end f t.5,
+                (
+                  refl,
+                  (name_no_end p o.one, (name_no_end q o.two, (name_no_end r o.three, (name_no_end s o.four, (refl, (digit_no_end (day.day / 10), (digit_no_end (day.day % 10), (digit_no_end (day.hour / 10), (digit_no_end (day.hour % 10), (digit_no_end (day.minute / 10), (digit_no_end (day.minute % 10), one))))))))))),
+                ),
+              ),
+            ),
+          ),
+        ),
+      ),
+    )
 
 -- what is written for a heading is one line, kept whole, that reads as the heading
 abbrev pub IsLaid : Heading → Type 0

@@ -209,13 +209,13 @@ laid_frame p f block bodies is whole =
     (run_both HeadsNone (block_text block) segments (block_heads_none block is.well) (segments_heads_none block.local is.well.local f.segments bodies is.sound)) in
     let alone : heading_index p 0 (starts_from 0 p) ≡ None = ap (heading_index p 0) next ∙ one_product p t1 at1 clear h1 in
     let frame : IsFrameIn p f = record {
-        index = 0;
-        full = ap (full_index p 0) places ∙ full_here p (starting at2 t2) at1 (ap is_empty line ∙ id.some);
-        identifier = sym (ap (λ (xs : List ℕ). line_at p (slice_index xs 0)) places ∙ line);
-        named = w.identifier;
-        issue = ap (λ (xs : List ℕ). issue_in p (drop 1 xs)) places ∙ issue_found p segments block at2 f.issue is.well is.reads h2;
-        agrees = w.near;
-        segments = subst (λ (xs : List ℕ). AreSegments p (drop 1 xs) f.segments) (sym places) (segments_stand block.local is.well.local f.segments bodies is.sound p (block_text block) at2 (block_begins_none block is.well) h2);
+      index = 0;
+      full = ap (full_index p 0) places ∙ full_here p (starting at2 t2) at1 (ap is_empty line ∙ id.some);
+      identifier = sym (ap (λ (xs : List ℕ). line_at p (slice_index xs 0)) places ∙ line);
+      named = w.identifier;
+      issue = ap (λ (xs : List ℕ). issue_in p (drop 1 xs)) places ∙ issue_found p segments block at2 f.issue is.well is.reads h2;
+      agrees = w.near;
+      segments = subst (λ (xs : List ℕ). AreSegments p (drop 1 xs) f.segments) (sym places) (segments_stand block.local is.well.local f.segments bodies is.sound p (block_text block) at2 (block_begins_none block is.well) h2);
     } in
     record {
       index = 0;
@@ -228,8 +228,8 @@ pub written_frame : (p : List ℕ) (f : Frame) (block : Block) (bodies : List Bo
 written_frame p f block bodies w typed whole =
     let local : IsLocal block.local = subst IsLocal (sym w.local) (record { line = local_line w.zone f.issue; whole = local_whole w.zone f.issue; first = local_begins w.zone f.issue }) in
     laid_frame p f block bodies (record {
-        rules = w;
-        sound = sound_from f.segments bodies w.as_many (all_from IsSegmentWritten f.segments w.segments) (all_from ReadsBack f.segments typed) (all_from IsBody bodies w.each_body);
-        well = record { name = w.name; office_line = w.office_line; local = local };
-        reads = ap local_at w.local ∙ local_reads w.zone f.issue w.minute;
+      rules = w;
+      sound = sound_from f.segments bodies w.as_many (all_from IsSegmentWritten f.segments w.segments) (all_from ReadsBack f.segments typed) (all_from IsBody bodies w.each_body);
+      well = record { name = w.name; office_line = w.office_line; local = local };
+      reads = ap local_at w.local ∙ local_reads w.zone f.issue w.minute;
     }) whole

@@ -104,9 +104,11 @@ run_both Q a b f g p at rest h =
     let hb : drop (at + length a) p ≡ b ++ rest = behind p a (b ++ rest) at ha in
     let x = f p at (b ++ rest) ha in
     let y = g p (at + length a) rest hb in
-    let e : at + length a + length b ≡ at + length (a ++ b) = omega (arith, length-append a b) in
-    (x.0 ++ y.0, ap (starting at) (append_assoc a b rest) ∙ x.1 ∙ ap (λ (xs : List ℕ). x.0 ++ xs) y.1 ∙ sym (append_assoc x.0 y.0 (starting (at + length a + length b) rest)) ∙ ap (λ (xs : List ℕ). (x.0 ++ y.0) ++ xs) (start_moved _ _ rest e),
-        all_both (λ s. Q (line_at p s)) x.0 y.0 x.2 y.2)
+    let e : at + length a + length b ≡ at + length (a ++ b) = omega (arith, length-append a b) in (
+      x.0 ++ y.0,
+      ap (starting at) (append_assoc a b rest) ∙ x.1 ∙ ap (λ (xs : List ℕ). x.0 ++ xs) y.1 ∙ sym (append_assoc x.0 y.0 (starting (at + length a + length b) rest)) ∙ ap (λ (xs : List ℕ). (x.0 ++ y.0) ++ xs) (start_moved _ _ rest e),
+      all_both (λ s. Q (line_at p s)) x.0 y.0 x.2 y.2,
+    )
 
 pub ended_behind : (line rest : List ℕ) → ended line ++ rest ≡ line ++ 10 ∷ rest
 ended_behind line rest = append_assoc line (10 ∷ []) rest

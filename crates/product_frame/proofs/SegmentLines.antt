@@ -113,9 +113,11 @@ pairs_stand (q ∷ pairs) v w p at rest h =
     let y = pairs_stand pairs v.1 w.1 p (at + length (ended t)) rest (behind p (ended t) (more ++ rest) at ha) in
     let e : at + length (ended t) + length more ≡ at + length (ended t ++ more) = omega (arith, length-append (ended t) more) in
     let line : line_at p at ≡ t = n.1 ∙ vtec_whole q.vtec v.0 in
-    let pair : IsPair t q = record { slash = vtec_slash q.vtec; vtec = v.0; flood = w.0.flood } in
-    (at ∷ y.0, ap (starting at) (append_assoc (ended t) more rest) ∙ ap (λ (xs : List ℕ). at ∷ xs) n.0 ∙ ap (λ (xs : List ℕ). at ∷ xs) y.1 ∙ ap (λ (xs : List ℕ). at ∷ (y.0 ++ xs)) (start_moved _ _ rest e),
-        (subst (λ (l : List ℕ). IsPair l q) (sym line) pair, y.2))
+    let pair : IsPair t q = record { slash = vtec_slash q.vtec; vtec = v.0; flood = w.0.flood } in (
+      at ∷ y.0,
+      ap (starting at) (append_assoc (ended t) more rest) ∙ ap (λ (xs : List ℕ). at ∷ xs) n.0 ∙ ap (λ (xs : List ℕ). at ∷ xs) y.1 ∙ ap (λ (xs : List ℕ). at ∷ (y.0 ++ xs)) (start_moved _ _ rest e),
+      (subst (λ (l : List ℕ). IsPair l q) (sym line) pair, y.2),
+    )
 
 pairs_heads_none : (pairs : List Pair) → AllByRecursion HasColumns pairs → Runs HeadsNone (pairs_text pairs)
 unfolding vtec_text
@@ -193,8 +195,10 @@ stands p front local g body at later run l s h =
     let end = at4 + length d in
     let tail : starting at3 r2 ≡ o.0 ++ at4 ∷ starting end later = o.1 ∙ ap (λ (xs : List ℕ). o.0 ++ at4 ∷ xs) n.0 in
     let back = s.typed.0 in
-    let slash : has_slash (line_at p at3) ≡ false = ap (λ (x : List ℕ). has_slash (line_of x)) h3 ∙ no_slash_behind local body r3 l s.well in
-    (end, behind p d later at4 h4, record {
+    let slash : has_slash (line_at p at3) ≡ false = ap (λ (x : List ℕ). has_slash (line_of x)) h3 ∙ no_slash_behind local body r3 l s.well in (
+      end,
+      behind p d later at4 h4,
+      record {
         outside = a.0;
         start = at1;
         ugc = more;
@@ -212,7 +216,8 @@ stands p front local g body at later run l s h =
         behind = subst (HasNoSlash p) tail slash;
         rest = o.2;
         ended = ap is_end n.1;
-    })
+      },
+    )
 
 regroup : (u e b d later : List ℕ) → (u ++ (e ++ (b ++ d))) ++ later ≡ u ++ (e ++ (b ++ (d ++ later)))
 regroup u e b d later = append_assoc u (e ++ (b ++ d)) later ∙ ap (λ (x : List ℕ). u ++ x) (append_assoc e (b ++ d) later ∙ ap (λ (x : List ℕ). e ++ x) (append_assoc b d later))

@@ -55,9 +55,28 @@ time_line : (t : Option ℕ) → IsOneLine (time_text t)
 unfolding stamp_of
 time_line None = (refl, (refl, (refl, (refl, (refl, (refl, (refl, (refl, (refl, (refl, (refl, (refl, tt))))))))))))
 time_line (Some m) =
-    let c = civil_of m in
-    (digit_no_end (c.year / 10), (digit_no_end (c.year % 10), (digit_no_end (c.month / 10), (digit_no_end (c.month % 10), (digit_no_end (c.day / 10), (digit_no_end (c.day % 10), (refl,
-    (digit_no_end (c.hour / 10), (digit_no_end (c.hour % 10), (digit_no_end (c.minute / 10), (digit_no_end (c.minute % 10), (refl, tt))))))))))))
+    let c = civil_of m in (
+      digit_no_end (c.year / 10),
+      (
+        digit_no_end (c.year % 10),
+        (
+          digit_no_end (c.month / 10),
+          (
+            digit_no_end (c.month % 10),
+            (
+              digit_no_end (c.day / 10),
+              (
+                digit_no_end (c.day % 10),
+                (
+                  refl,
+                  (digit_no_end (c.hour / 10), (digit_no_end (c.hour % 10), (digit_no_end (c.minute / 10), (digit_no_end (c.minute % 10), (refl, tt))))),
+                ),
+              ),
+            ),
+          ),
+        ),
+      ),
+    )
 
 pub number_no_end : (c : ℕ) → is_digit c ≡ true → NoEnd c
 number_no_end c h = let le : 48 ≤ c = leb-true 48 c (and_parts _ _ h).0 in ne_eqb _ _ (λ (e : c ≡ 10). omega arith)

@@ -152,12 +152,7 @@ fn put_block(out: &mut Text, block: &Block) -> Result<(), Oom>
 }
 
 /// The text of a frame, its block, and its bodies, one for each segment.
-pub fn frame_text(
-    alloc: Global,
-    f: &Frame,
-    block: &Block,
-    bodies: &List<Body>,
-) -> Result<Text, Oom>
+pub fn frame_text(alloc: Global, f: &Frame, block: &Block, bodies: &List<Body>) -> Result<Text, Oom>
     requires { IsWritable f.now block.now bodies.now }
     // The text is laid out from the frame, the block and the bodies.
     ensures layout { IfOk result (λ text. text ≡ layout_of f.now block.now bodies.now) }
