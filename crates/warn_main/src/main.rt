@@ -37,3 +37,6 @@ fn main(rt: HostRuntime) -> ExitCode {
     let status = desk::desk_run(rt.alloc(), &words, &mut input, &mut output);
     ExitCode::from(status)
 }
+
+#[cfg(test)]
+mod tests;

@@ -1,0 +1,89 @@
+//! Runs over sources and sinks that give a byte at a time and fail in turn.
+use crate::desk::desk_run;
+use desk_traits::{MemSink, MemSource};
+use hazard_types::{List, Oom, Text};
+use std::alloc::Global;
+use std::test::Fail;
+
+const ISSUE: &[u8] =
+    b"{\"do\":\"issue\",\"hazard\":\"WS.W\",\"zones\":[\"MDZ003\"],\"begin\":\"now\",\"end\":\"180104T0000Z\"}";
+
+const TEXT: &[u8] = b"MDZ003-032330-\n/T.NEW.KLWX.WS.W.0001.180103T1530Z-180104T0000Z/\n$$\n\n";
+
+/// What a run ends with.
+#[derive(Drop)]
+struct Outcome {
+    status: u8,
+    text: Text,
+}
+
+/// A run over a source that gives a byte at a time, with one read and one write that fail; 0 is no call's number.
+fn run_over(
+    alloc: Global,
+    stamp: &[u8],
+    input: &[u8],
+    bad_read: u64,
+    bad_write: u64,
+) -> Result<Outcome, Oom> {
+    let mut words = List::new(alloc);
+    words.push(List::from_slice(alloc, b"dry")?)?;
+    words.push(List::from_slice(alloc, b"KLWX")?)?;
+    words.push(List::from_slice(alloc, stamp)?)?;
+    let mut source = MemSource::new(alloc, input, 1, &List::from_slice(alloc, &[bad_read])?)?;
+    let mut sink = MemSink::new(alloc, &List::from_slice(alloc, &[bad_write])?)?;
+    let status = desk_run(alloc, &words, &mut source, &mut sink);
+    let text = sink.taken().clone()?;
+    Ok(Outcome { status, text })
+}
+
+#[test]
+fn lines_are_answered_a_byte_at_a_time(rt: HostRuntime) -> Result<(), Fail> {
+    let alloc = rt.alloc();
+    let rows: [(&[u8], &[u8], &[u8]); 6] = [
+        (b"180103T1530Z", ISSUE, TEXT),
+        (b"180103T1530Z", b"\n\r\n\n", b""),
+        (
+            b"180103T1530Z",
+            b"{\n\r",
+            b"{\"no\":\"J1\",\"rule\":\"NotJson\"}\n{\"no\":\"J1\",\"rule\":\"NotJson\"}\n",
+        ),
+        (
+            b"180103T1530Z",
+            b"{\"do\":\"send\"}",
+            b"{\"field\":\"do\",\"no\":\"J2\",\"rule\":\"WrongShape\"}\n",
+        ),
+        (
+            b"180104T0000Z",
+            ISSUE,
+            b"{\"no\":\"L6\",\"place\":0,\"rule\":\"BadPeriod\"}\n",
+        ),
+        (
+            b"991231T2359Z",
+            ISSUE,
+            b"{\"minute\":52595999,\"no\":\"C1\",\"rule\":\"ClockOut\"}\n",
+        ),
+    ];
+    for (stamp, input, wanted) in rows {
+        let end = run_over(alloc, stamp, input, 0, 0)?;
+        assert_eq!(rt; end.status, 0);
+        assert_eq!(rt; end.text.as_slice(), wanted);
+    }
+    Ok(())
+}
+
+#[test]
+fn faults_are_told(rt: HostRuntime) -> Result<(), Fail> {
+    let rows: [(&[u8], u64, u64, u8, &[u8]); 5] = [
+        (b"180103T1530Z", 1, 0, 7, b"fault ReadFault\n"),
+        (b"180103T1530Z", 84, 0, 7, b"fault ReadFault\n"),
+        (b"180103T1530Z", 0, 1, 8, b"fault WriteFault\n"),
+        (b"180103", 0, 0, 2, b"fault Usage\n"),
+        (b"180103", 0, 1, 8, b""),
+    ];
+    for (stamp, bad_read, bad_write, status, wanted) in rows {
+        let end = run_over(rt.alloc(), stamp, ISSUE, bad_read, bad_write)?;
+        assert_eq!(rt; end.status, status);
+        assert_eq!(rt; end.text.as_slice(), wanted);
+    }
+    Ok(())
+}
