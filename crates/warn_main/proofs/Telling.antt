@@ -1,14 +1,13 @@
 -- What the segments of the answers say.
-use Rattle.std.proofs.Common.{ℕ, zero, suc, ◌≡◌, ◌≤◌, ◌<◌, ◌+◌, min, Bool, true, false, cond, IsTrue, List, [], ◌∷◌, ◌++◌, length, get_or, Option, Some, None, Result, Ok, Err, refl, ap, sym, subst, ◌∙◌, append_assoc, length-append, arith, codes}
-use Rattle.std.proofs.lemmas.Bool.Decides.{nat_tests}
+use Rattle.std.proofs.Common.{ℕ, zero, suc, ◌≡◌, ◌≤◌, ◌<◌, ◌+◌, Bool, true, false, cond, IsTrue, List, [], ◌∷◌, ◌++◌, length, get_or, Result, Ok, Err, refl, sym, subst, append_assoc, length-append, arith, codes}
 use Rattle.hazard_types.specs.Calendar.{IsStamp, stamp_of, civil_of}
 use Rattle.hazard_types.specs.Days.{day_stamp_of}
 use Rattle.hazard_types.specs.Places.{Place, IsPlace}
 use Rattle.hazard_types.proofs.Years.{civil_ok, minute_ok}
-use Rattle.ugc_codes.specs.Grammar.{IsUgc, is_day_stamp}
+use Rattle.ugc_codes.specs.Grammar.{IsUgc}
 use Rattle.ugc_codes.specs.Written.{ugc_text}
 use Rattle.ugc_codes.proofs.Written.{written_back}
-use Rattle.vtec_string.specs.Columns.{is_office, vtec_text, IsVtec}
+use Rattle.vtec_string.specs.Columns.{is_office, vtec_text}
 use Rattle.vtec_string.proofs.Laying.{columns_of}
 use Rattle.request_json.specs.declared.training.TrainingRefusal.{TrainingRefusal}
 use Rattle.warn_main.specs.declared.judge.Accepted.{Accepted}
@@ -16,7 +15,7 @@ use Rattle.warn_main.specs.declared.words.Dry.{Dry}
 use Rattle.warn_main.specs.Lines.{fit}
 use Rattle.warn_main.specs.Judging.{verdict}
 use Rattle.warn_main.specs.Answers.{accepted_text, training_vtec, expiry_of, answered, is_empty, line_reply, answers}
-use Rattle.warn_main.specs.Segments.{Told, IsSegment, Segments, none, refused, issued, accepted_in, accepted_of, accepted_lines, told_of, numbered_from}
+use Rattle.warn_main.specs.Segments.{IsSegment, Segments, none, refused, issued, accepted_in, accepted_lines, told_of, numbered_from}
 use Rattle.warn_main.proofs.Expiries.{is_day}
 use Rattle.warn_main.proofs.Shapes.{one_sorted}
 use Rattle.warn_main.proofs.Soundness.{Sound, verdict_sound}
