@@ -1,6 +1,11 @@
 //! Texts as they are transmitted, and texts with a fault.
-use crate::{FrameFault, read_frame};
-use hazard_types::{Or, read_stamp};
+ghost use Rattle.std.specs.Prelude.{◌≡◌};
+
+use crate::{Block, Frame, FrameFault, Heading, frame_text, read_frame, split_products};
+use desk_clock::local_line;
+use hazard_types::{DayStamp, List, LocalZone, Minute, Or, Text, read_stamp};
+use std::alloc::Global;
+use std::test::Fail;
 
 /// A text with five zones and one P-VTEC line.
 const WINTER: &[u8] =
@@ -127,4 +132,51 @@ fn names_faults_of_segments(rt: HostRuntime) {
             _ => assert!(rt; false, "{text:?}"),
         }
     }
+}
+
+/// The text of a product without segments, at 2018-01-03 15:30.
+fn bare_text(alloc: Global, issue: Minute) -> Result<Text, Fail>
+    requires { issue ≡ 9471810 }
+{
+    let day = DayStamp {
+        day: 3,
+        hour: 15,
+        minute: 30,
+    };
+    let heading = Heading {
+        ttaaii: *b"XXXX00",
+        office: *b"KLWX",
+        day,
+        bbb: None,
+    };
+    let identifier = List::from_slice(alloc, b"WSWLWX")?;
+    let frame = Frame {
+        heading,
+        identifier,
+        issue,
+        segments: List::new(alloc),
+    };
+    let name = List::from_slice(alloc, b"URGENT")?;
+    let office_line = List::from_slice(alloc, b"Training office")?;
+    let block = Block {
+        name,
+        office_line,
+        local: local_line(alloc, LocalZone::Utc, issue)?,
+    };
+    Ok(frame_text(alloc, &frame, &block, &List::new(alloc))?)
+}
+
+/// A frame is written, and is the one product of its text.
+#[test]
+fn writes_a_frame(rt: HostRuntime) -> Result<(), Fail> {
+    let alloc = rt.alloc();
+    let Some(issue) = Minute::new(9_471_810) else {
+        return Ok(());
+    };
+    let text = bare_text(alloc, issue)?;
+    let wanted =
+        b"XXXX00 KLWX 031530\nWSWLWX\n\nURGENT\nTraining office\n330 PM UTC Wed Jan 3 2018\n\n";
+    assert_eq!(rt; text.as_slice(), wanted.as_slice());
+    assert_eq!(rt; split_products(alloc, text.as_slice())?.len(), 1);
+    Ok(())
 }
