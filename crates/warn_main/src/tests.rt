@@ -1,14 +1,31 @@
 //! Runs over sources and sinks that give a byte at a time and fail in turn.
 use crate::desk::desk_run;
-use desk_traits::{MemSink, MemSource};
+use desk_traits::{Failed, MemSink, MemSource, Sink};
 use hazard_types::{List, Oom, Text};
 use std::alloc::Global;
+use std::process::Abort;
 use std::test::Fail;
 
 const ISSUE: &[u8] =
     b"{\"do\":\"issue\",\"hazard\":\"WS.W\",\"zones\":[\"MDZ003\"],\"begin\":\"now\",\"end\":\"180104T0000Z\"}";
 
 const TEXT: &[u8] = b"MDZ003-032330-\n/T.NEW.KLWX.WS.W.0001.180103T1530Z-180104T0000Z/\n$$\n\n";
+
+/// A sink that takes one byte at a time.
+#[derive(Drop)]
+struct Drip {
+    basin: MemSink,
+}
+
+impl Sink for Drip {
+    ghost taken = { λ s. Some s.basin.taken };
+
+    ghost faults = { λ s. s.basin.faults };
+
+    fn write(&mut self, bytes: &[u8]) -> Result<usize, Failed> {
+        self.basin.write(&bytes[..bytes.len().min(1)])
+    }
+}
 
 /// What a run ends with.
 #[derive(Drop)]
@@ -17,7 +34,7 @@ struct Outcome {
     text: Text,
 }
 
-/// A run over a source that gives a byte at a time, with one read and one write that fail; 0 is no call's number.
+/// A run over a source and a sink of a byte at a time, with one read and one write that fail; 0 is no call's number.
 fn run_over(
     alloc: Global,
     stamp: &[u8],
@@ -30,9 +47,10 @@ fn run_over(
     words.push(List::from_slice(alloc, b"KLWX")?)?;
     words.push(List::from_slice(alloc, stamp)?)?;
     let mut source = MemSource::new(alloc, input, 1, &List::from_slice(alloc, &[bad_read])?)?;
-    let mut sink = MemSink::new(alloc, &List::from_slice(alloc, &[bad_write])?)?;
+    let basin = MemSink::new(alloc, &List::from_slice(alloc, &[bad_write])?)?;
+    let mut sink = Drip { basin };
     let status = desk_run(alloc, &words, &mut source, &mut sink);
-    let text = sink.taken().clone()?;
+    let text = sink.basin.taken().clone()?;
     Ok(Outcome { status, text })
 }
 
@@ -71,17 +89,36 @@ fn lines_are_answered_a_byte_at_a_time(rt: HostRuntime) -> Result<(), Fail> {
     Ok(())
 }
 
+/// A run over one line ends so where this read, or this write, fails.
+fn ends_so(
+    rt: &impl Abort,
+    alloc: Global,
+    bad_read: u64,
+    bad_write: u64,
+    status: u8,
+    answered: usize,
+    line: &[u8],
+) -> Result<(), Fail> {
+    let end = run_over(alloc, b"180103T1530Z", ISSUE, bad_read, bad_write)?;
+    assert_eq!(rt; end.status, status);
+    let (answer, rest) = end.text.as_slice().split_at(answered.min(end.text.len()));
+    assert_eq!(rt; answer, &TEXT[..answered.min(TEXT.len())]);
+    assert_eq!(rt; rest, line);
+    Ok(())
+}
+
+/// Each read fails in turn, the one that finds the end among them, and each write of a byte.
 #[test]
 fn faults_are_told(rt: HostRuntime) -> Result<(), Fail> {
-    let rows: [(&[u8], u64, u64, u8, &[u8]); 5] = [
-        (b"180103T1530Z", 1, 0, 7, b"fault ReadFault\n"),
-        (b"180103T1530Z", 84, 0, 7, b"fault ReadFault\n"),
-        (b"180103T1530Z", 0, 1, 8, b"fault WriteFault\n"),
-        (b"180103", 0, 0, 2, b"fault Usage\n"),
-        (b"180103", 0, 1, 8, b""),
-    ];
-    for (stamp, bad_read, bad_write, status, wanted) in rows {
-        let end = run_over(rt.alloc(), stamp, ISSUE, bad_read, bad_write)?;
+    for bad_read in 1..86 {
+        ends_so(&rt, rt.alloc(), bad_read, 0, 7, 0, b"fault ReadFault\n")?;
+    }
+    for answered in 0..TEXT.len() {
+        ends_so(&rt, rt.alloc(), 0, answered as u64 + 1, 8, answered, b"fault WriteFault\n")?;
+    }
+    let rows: [(u64, u8, &[u8]); 2] = [(0, 2, b"fault Usage\n"), (1, 8, b"")];
+    for (bad_write, status, wanted) in rows {
+        let end = run_over(rt.alloc(), b"180103", ISSUE, 0, bad_write)?;
         assert_eq!(rt; end.status, status);
         assert_eq!(rt; end.text.as_slice(), wanted);
     }
