@@ -6,6 +6,7 @@ pub mod ConsistentLemmas
 pub mod DayLemmas
 pub mod NumberLemmas
 pub mod Origins
+pub mod OtherDayLemmas
 pub mod OverProducts
 pub mod SeatLemmas
 pub mod Turns

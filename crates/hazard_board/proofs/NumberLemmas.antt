@@ -1,5 +1,7 @@
 -- After a product no two open events share hazard and number, and no row's event is of a later year.
 use Rattle.std.proofs.Common.{◌≡◌, ◌⊎◌, inl, inr, ◌∙◌, ◌==◌, ◌&&◌, not, ℕ, ◌+◌, ◌≤◌, List, Bool, true, false, None, Ordering, Less, Equal, Greater, refl, sym, ap, subst, nat_lt, arith}
+use Rattle.std.specs.List.{All}
+use Rattle.std.proofs.lemmas.List.Elements.{All-from_recursion}
 use Rattle.std.specs.List.Sorted.{IsStrictlySortedBy}
 use Rattle.std.proofs.lemmas.Bool.{and_parts, not-true, ltb-false, le-leb, eqb-true, eq-eqb, both_ways}
 use Rattle.hazard_types.specs.Calendar.{civil_of}
@@ -13,6 +15,7 @@ use Rattle.hazard_types.specs.declared.period.End.TheVariants.{At, Ufn}
 use Rattle.hazard_types.proofs.Equality.{event_one, hazard_one, hazard_itself}
 use Rattle.event_life.specs.Bounds.{IsBefore}
 use Rattle.event_life.specs.Periods.{ends_within, keeps_open}
+use Rattle.event_life.specs.Printed.{IsOneEvent, HasOneOpen}
 use Rattle.event_life.specs.Products.{by_key, is_open, is_held, rows_after}
 use Rattle.event_life.proofs.Keys.{key_exact}
 use Rattle.event_life.proofs.Puts.{rows_after-sorted}
@@ -165,3 +168,10 @@ after_consistent rows t lines up before ahead years none = record {
   numbered = numbered_hold rows t up before ahead lines years;
   ends = ends_hold rows t lines up years before;
 }
+
+-- so a hazard and number finds the one open event that has them
+pub have_one_open : (rows : List Row) (t : ℕ) → IsStrictlySortedBy by_key rows → IsConsistent rows t → HasOneOpen rows t
+have_one_open rows t up before =
+    All-from_recursion (λ r. All (λ s. IsOneEvent t r s) rows) rows (all_of (λ r. All (λ s. IsOneEvent t r s) rows) rows (λ r h.
+    All-from_recursion (λ s. IsOneEvent t r s) rows (all_of (λ s. IsOneEvent t r s) rows (λ s g p q hazard etn.
+    by_order rows t (by_key r s) r s refl up before.numbered h g p q (record { hazard = hazard; etn = etn })))))

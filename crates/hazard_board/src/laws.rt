@@ -3,6 +3,7 @@ ghost use Rattle.std.specs.Prelude.{◌≡◌, ◌≤◌, ℕ, List, [], None, I
 ghost use Rattle.std.specs.List.Sorted.{IsStrictlySortedBy};
 ghost use Rattle.hazard_types.specs.declared.line.Line.{Line};
 ghost use Rattle.hazard_types.specs.declared.line.Row.{Row};
+ghost use Rattle.event_life.specs.Printed.{HasOneOpen};
 ghost use Rattle.event_life.specs.Products.{Product, by_key, rows_after, rows_of};
 ghost use Rattle.hazard_board.specs.Board.{are_lawful};
 ghost use Rattle.hazard_board.specs.Clashes.{least_clash};
@@ -42,4 +43,9 @@ pub fn no_rows_are_consistent()
 /// Rows that a reader has from products are consistent, where no product is issued before the one in front of it, and none leaves a clash.
 pub fn read_rows_are_consistent()
     ensures { (products : List Product) (t u : ℕ) → LeaveNoClash [] t u products → IsConsistent (rows_of products) u }
+{}
+
+/// Of consistent rows in order no two open ones of one hazard and number are of two events, so that lawful lines are read off their texts again.
+pub fn consistent_rows_have_one_open_event()
+    ensures { (rows : List Row) (t : ℕ) → IsStrictlySortedBy by_key rows → IsConsistent rows t → HasOneOpen rows t }
 {}
