@@ -1,8 +1,8 @@
 -- A lawful line leaves its row whatever is said to stand around it.
-use Rattle.std.proofs.Common.{◌≡◌, ◌∙◌, ◌&&◌, ◌||◌, not, ℕ, List, [], ◌∷◌, Bool, true, false, Option, Some, None, Result, Ok, Err, refl, sym, ap, nat_lt, unwrap_or}
+use Rattle.std.proofs.Common.{◌≡◌, ◌||◌, not, ℕ, List, [], ◌∷◌, Bool, true, false, Option, Some, None, refl, nat_lt, unwrap_or}
 use Rattle.std.specs.Option.{is_none}
 use Rattle.hazard_types.specs.declared.codes.Action.{Action}
-use Rattle.hazard_types.specs.declared.codes.Action.TheVariants.{New, Con, Exa, Ext, Exb, Upg, Can, Exp, Cor, Rou}
+use Rattle.hazard_types.specs.declared.codes.Action.TheVariants.{New, Exa, Exb, Upg, Rou}
 use Rattle.hazard_types.specs.declared.line.Line.{Line}
 use Rattle.hazard_types.specs.declared.line.Row.{Row}
 use Rattle.event_life.specs.declared.life.Around.{Around}
@@ -11,9 +11,9 @@ use Rattle.event_life.specs.declared.life.Breach.TheVariants.{Reopened, NotOpeni
 use Rattle.event_life.specs.declared.life.Life.{Life}
 use Rattle.event_life.specs.Lives.{opens}
 use Rattle.event_life.specs.Periods.{ends_after, same_end}
-use Rattle.event_life.specs.Products.{is_routine, life_at, row_of, row_after}
-use Rattle.event_life.specs.Table.{first_of, ◌named◌, on_new, on_joining, on_life, on_nothing, prints_begin, moves_begin, breach_of_line, life_after, unless_breach, step}
-use Rattle.hazard_board.specs.Taken.{wanted, row_if, row_left}
+use Rattle.event_life.specs.Products.{is_routine, life_at, row_after}
+use Rattle.event_life.specs.Table.{first_of, on_life, on_nothing, prints_begin, moves_begin, breach_of_line}
+use Rattle.hazard_board.specs.Taken.{wanted, row_left}
 
 -- the tests of a list without a breach
 none_first : (b : Bool) (x : Breach) (more : List (Bool × Breach)) → first_of ((b, x) ∷ more) ≡ None → (b ≡ false) × (first_of more ≡ None)

@@ -1,5 +1,5 @@
 -- Clashes of rows in order stand in order, and the first of them is the least.
-use Rattle.std.proofs.Common.{◌≡◌, ◌∙◌, ◌&&◌, ◌||◌, not, ℕ, List, [], ◌∷◌, ◌++◌, Bool, true, false, Option, Some, None, Ordering, Less, Equal, Greater, refl, sym, ap, subst, map, filter, find, option_map}
+use Rattle.std.proofs.Common.{◌≡◌, ◌∙◌, ◌&&◌, not, ℕ, List, [], ◌∷◌, ◌++◌, Bool, true, false, Option, Ordering, Less, Equal, Greater, refl, sym, ap, map, filter, find, option_map}
 use Rattle.std.specs.List.{AllByRecursion}
 use Rattle.std.specs.List.Sorted.{IsStrictlySortedBy}
 use Rattle.std.specs.Option.{option_or}
@@ -9,7 +9,6 @@ use Rattle.std.proofs.lemmas.Cmp.{tied_itself}
 use Rattle.hazard_types.specs.Orders.{by_event}
 use Rattle.hazard_types.specs.Places.{Place, by_place}
 use Rattle.hazard_types.specs.Same.{same_zone, same_event}
-use Rattle.hazard_types.specs.declared.hazard.Event.{Event}
 use Rattle.hazard_types.specs.declared.line.Clash.{Clash}
 use Rattle.hazard_types.specs.declared.line.Row.{Row}
 use Rattle.event_life.specs.Higher.{are_kin}

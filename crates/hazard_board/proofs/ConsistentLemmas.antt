@@ -1,5 +1,5 @@
 -- Consistent rows stay consistent at later minutes.
-use Rattle.std.proofs.Common.{◌≡◌, ◌==◌, ◌&&◌, not, ℕ, ◌+◌, ◌≤◌, List, [], ◌∷◌, Bool, true, false, nat_le, arith}
+use Rattle.std.proofs.Common.{◌≡◌, ◌&&◌, not, ℕ, ◌≤◌, List, [], ◌∷◌, Bool, true, arith}
 use Rattle.std.specs.List.{AllByRecursion}
 use Rattle.std.proofs.lemmas.Bool.{and_parts}
 use Rattle.std.proofs.lemmas.Bool.Decides.{nat_tests}
@@ -8,7 +8,7 @@ use Rattle.hazard_types.specs.declared.line.Row.{Row}
 use Rattle.hazard_types.specs.declared.period.End.{End}
 use Rattle.hazard_types.specs.declared.period.End.TheVariants.{At, Ufn}
 use Rattle.event_life.specs.Periods.{ends_within, keeps_open}
-use Rattle.hazard_board.specs.Consistent.{collide, share_number, EachToLater, IsConsistent}
+use Rattle.hazard_board.specs.Consistent.{share_number, EachToLater, IsConsistent}
 
 both_hold : (a b : Bool) → a ≡ true → b ≡ true → (a && b) ≡ true
 both_hold a b p q = cc

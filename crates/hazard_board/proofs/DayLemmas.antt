@@ -1,6 +1,5 @@
 -- The lines of the day are lawful, one product after another.
-use Rattle.std.proofs.Common.{◌≡◌, true, refl, List, []}
-use Rattle.hazard_types.specs.declared.line.Row.{Row}
+use Rattle.std.proofs.Common.{◌≡◌, true, refl, []}
 use Rattle.event_life.specs.Table.{breach_of_line, life_after}
 use Rattle.event_life.specs.Products.{breach_in, rows_after}
 use Rattle.hazard_board.specs.Board.{are_lawful, openings}

@@ -1,6 +1,12 @@
+pub mod AfterLemmas
 pub mod Alone
+pub mod Among
 pub mod ClashLemmas
 pub mod ConsistentLemmas
 pub mod DayLemmas
+pub mod NumberLemmas
+pub mod Origins
+pub mod OtherDayLemmas
+pub mod OverProducts
 pub mod SeatLemmas
 pub mod Turns

@@ -1,11 +1,9 @@
 -- A row at its seat is a row that was put.
-use Rattle.std.proofs.Common.{◌≡◌, ℕ, zero, suc, ◌+◌, ◌<◌, ◌≤◌, List, [], ◌∷◌, ◌++◌, Ordering, Less, Equal, Greater, length, get_or, slice_set, refl, ap, arith, subst, below_more}
+use Rattle.std.proofs.Common.{◌≡◌, ℕ, zero, suc, ◌+◌, ◌<◌, List, [], ◌∷◌, Less, Equal, Greater, length, get_or, slice_set, refl, ap, arith, subst, below_more}
 use Rattle.std.specs.List.{insert}
 use Rattle.std.proofs.lemmas.List.{get_or_read}
 use Rattle.hazard_types.specs.declared.line.Row.{Row}
-use Rattle.hazard_board.specs.declared.lines.Seat.{Seat}
-use Rattle.hazard_board.specs.declared.lines.Seat.TheVariants.{At, Before}
-use Rattle.event_life.specs.Products.{by_key, placed, put}
+use Rattle.event_life.specs.Products.{by_key, put}
 
 -- the rows before this place come before the row
 abbrev pub ArePassed : Row → List Row → ℕ → Type 0

@@ -1,5 +1,5 @@
 -- Lawful lines taken in turn leave the rows after their product, and need memory for the openings alone.
-use Rattle.std.proofs.Common.{◌≡◌, ◌≢◌, ◌∙◌, ◌&&◌, ◌||◌, not, ℕ, suc, ◌+◌, ◌<◌, ◌≤◌, List, [], ◌∷◌, ◌++◌, Bool, true, false, Option, Some, None, Ordering, Less, Equal, Greater, refl, sym, ap, cond, fold, length, arith, option_map, get_or, drop, drop-cons}
+use Rattle.std.proofs.Common.{◌≡◌, ◌≢◌, ◌∙◌, ◌||◌, ℕ, suc, ◌+◌, ◌<◌, ◌≤◌, List, [], ◌∷◌, ◌++◌, Bool, true, false, Option, Some, None, Ordering, Less, Equal, Greater, refl, sym, ap, cond, fold, length, arith, option_map, get_or, drop, drop-cons}
 use Rattle.std.specs.Option.{is_none}
 use Rattle.std.specs.List.{list_any, list_all, AllByRecursion}
 use Rattle.std.specs.List.Sorted.{IsStrictlySortedBy}
@@ -7,7 +7,6 @@ use Rattle.std.proofs.lemmas.Bool.{and_parts, false_from_ne_true}
 use Rattle.std.proofs.lemmas.List.Folds.{list_any-append}
 use Rattle.std.proofs.lemmas.List.Sums.{sum_by-cons}
 use Rattle.hazard_types.specs.Places.{Place}
-use Rattle.hazard_types.specs.Same.{same_zone, same_event}
 use Rattle.hazard_types.specs.declared.hazard.Event.{Event}
 use Rattle.hazard_types.specs.declared.line.Line.{Line}
 use Rattle.hazard_types.specs.declared.line.Row.{Row}
@@ -15,7 +14,7 @@ use Rattle.event_life.specs.declared.life.Breach.{Breach}
 use Rattle.event_life.specs.declared.life.Breach.TheVariants.{Twice}
 use Rattle.event_life.specs.Lives.{opens}
 use Rattle.event_life.specs.Table.{breach_of_line}
-use Rattle.event_life.specs.Products.{by_key, placed, put, row_at, life_at, life_of, row_after, is_routine, speaks_of, is_second, around_of, breach_in, judged_from, judged, lawful_of, put_all, rows_after}
+use Rattle.event_life.specs.Products.{by_key, placed, put, row_at, life_at, life_of, row_after, is_routine, speaks_of, is_second, around_of, breach_in, judged_from, lawful_of, put_all, rows_after}
 use Rattle.event_life.proofs.Puts.{at_key, at_key-parts, row_at-put, put-sorted}
 use Rattle.event_life.proofs.Keys.{key_ties, by_key-total}
 use Rattle.hazard_board.specs.Board.{are_lawful, openings}

@@ -1,5 +1,5 @@
 -- The board: its rows by zone, then event, each pair once, beside a spare.
-use Rattle.std.specs.Prelude.{◌&&◌, ℕ, Bool, List, [], ◌∷◌, filter, count_by, Option, is_none}
+use Rattle.std.specs.Prelude.{◌&&◌, ℕ, Bool, List, filter, count_by, Option, is_none}
 use Rattle.std.specs.List.{list_any, list_all}
 use Rattle.hazard_types.specs.Places.{Place}
 use Rattle.hazard_types.specs.Same.{same_zone, same_event}

@@ -1,5 +1,5 @@
 -- Where a row belongs among rows by zone, then event.
-use Rattle.std.specs.Prelude.{ℕ, ◌<◌, ◌≤◌, List, length, slice_set}
+use Rattle.std.specs.Prelude.{◌<◌, ◌≤◌, List, length, slice_set}
 use Rattle.std.specs.List.{insert}
 use Rattle.hazard_types.specs.declared.line.Row.{Row}
 use Rattle.hazard_board.specs.declared.lines.Seat.{Seat}

@@ -16,7 +16,11 @@ mod lines;
 use conflicts::first_clash;
 use event_life::{going_in, has_period, has_rows, is_live, row_at};
 use hazard_types::{Clash, Event, Hazard, Line, List, Minute, Oom, Period, Row, Zone};
-pub use laws::{consistent_rows_stay_consistent, lawful_lines_are_taken};
+pub use laws::{
+    consistent_rows_have_one_open_event, consistent_rows_stay_consistent, lawful_lines_are_taken,
+    no_event_comes_ahead_of_its_year, no_rows_are_consistent, products_keep_rows_consistent,
+    read_rows_are_consistent,
+};
 use lines::{rows_taken, take_lines};
 use std::alloc::{AllocError, Global};
 use std::marker::Model;

@@ -1,10 +1,12 @@
 //! The board over a day's lines.
-ghost use Rattle.std.specs.Prelude.{◌≡◌, [], IfOk};
+ghost use Rattle.std.specs.Prelude.{◌≡◌, ◌≤◌, [], IfOk, IsTrue};
 ghost use Rattle.event_life.specs.Products.{rows_after};
+ghost use Rattle.hazard_board.specs.Board.{are_lawful, openings};
 ghost use Rattle.hazard_board.specs.FogDay.{maryland, fog, wind, said, morning, noon, midday};
+ghost use Rattle.hazard_board.specs.OtherDays.{first, storm_opens, storm_grows, storm_spreads, flooding, flood_opens, flood_ends, flood_returns, watch_opens, watch_ends, advisory_opens};
 
 use super::*;
-use hazard_types::{Action, End, Kind, Phen, Sig};
+use hazard_types::{Action, Cause, End, Flood, Kind, Phen, Severity, Sig, Status};
 use std::test::Fail;
 
 /// A public zone of Maryland.
@@ -213,4 +215,50 @@ fn two_of_a_family_clash(rt: HostRuntime) -> Result<(), Fail> {
     assert_eq!(rt; found.first.etn, 10_000);
     assert_eq!(rt; found.second, wind()?);
     Ok(())
+}
+
+/// The first event of a hazard in a year.
+fn first(letters: [u8; 2], sig: Sig, year: u16) -> Result<Event, Fail>
+    ensures { IfOk result (λ e. e ≡ first letters sig year) }
+{
+    let phen = Phen::new(letters).ok_or("a phenomenon")?;
+    Ok(Event {
+        hazard: Hazard { phen, sig },
+        etn: 1,
+        year,
+    })
+}
+
+/// A board on which these lines alone were applied.
+fn opened(alloc: Global, lines: &List<Line>, t: Minute) -> Result<Board, Fail>
+    requires lawful { IsTrue (are_lawful [] t lines.now) }
+    requires few { openings lines.now ≤ 2 }
+    ensures { IfOk result (λ board. board.rows ≡ rows_after [] t lines.now) }
+{
+    let mut board = Board::new(alloc);
+    board.reserve(2)?;
+    board.apply(lines, t);
+    Ok(board)
+}
+
+/// Whether the event has this period in a zone of Maryland, and no line has ended it there.
+fn stands(board: &Board, event: &Event, zone: u16, begin: u32, end: u32) -> Result<bool, Fail> {
+    let Some(row) = board.row(*event, maryland(zone)?) else {
+        return Ok(false);
+    };
+    let period = Period {
+        begin: minute(begin)?,
+        end: End::At(minute(end)?),
+    };
+    Ok(!row.ended && row.period == period)
+}
+
+#[tactic(auto, unfolding(crate::specs::OtherDays::storm_opens))]
+fn storm_opens(alloc: Global) -> Result<List<Line>, Fail>
+    ensures { IfOk result (λ lines. lines ≡ storm_opens) }
+{
+    let storm = &first(*b"WS", Sig::W, 2018)?;
+    let line = said(Action::New, storm, 3, Some(minute(9_471_480)?), 9_471_780)?;
+    let lines = List::from_slice(alloc, &[line])?;
+    Ok(lines)
 }

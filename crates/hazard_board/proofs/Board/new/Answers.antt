@@ -1,6 +1,5 @@
 -- No rows are in order.
 use Rattle.std.specs.List.Sorted.{IsStrictlySortedBy}
-use Rattle.event_life.specs.Products.{by_key}
 use Rattle.hazard_board.proofs.Board.new.Goals as goal
 
 pub invariant_of-result : goal.invariant_of-result

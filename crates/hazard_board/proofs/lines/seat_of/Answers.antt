@@ -1,5 +1,5 @@
 -- The row's seat is the first place whose row does not come before it.
-use Rattle.std.proofs.Common.{◌≡◌, ◌∙◌, sym, arith}
+use Rattle.std.proofs.Common.{◌∙◌, sym, arith}
 use Rattle.hazard_board.proofs.SeatLemmas.{at_other, before_other, behind_all, passed_more}
 use Rattle.hazard_board.proofs.lines.seat_of.Goals as goal
 

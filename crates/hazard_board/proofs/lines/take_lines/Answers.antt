@@ -1,6 +1,5 @@
 -- The rows grow with each line, so that want of memory at one line is want of memory for all.
-use Rattle.std.proofs.Common.{◌≡◌, ◌∙◌, ◌<◌, Option, Some, Result, Ok, Err, OnErr, List, sym, arith, ap}
-use Rattle.hazard_types.specs.declared.line.Row.{Row}
+use Rattle.std.proofs.Common.{◌≡◌, ◌∙◌, Some, Result, Ok, Err, OnErr, sym, arith}
 use Rattle.hazard_board.specs.Taken.{row_left}
 use Rattle.hazard_board.proofs.Turns.{grown_at}
 use Rattle.hazard_board.proofs.lines.take_lines.Goals as goal
