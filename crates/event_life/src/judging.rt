@@ -48,7 +48,7 @@ fn may_yield(hazard: &Hazard) -> bool
     }
 }
 
-/// Whether the first hazard is of a higher rank of the second's family. The first rank is the highest.
+/// Whether the first hazard is of a higher rank of the second's family, which has the greater number.
 fn outranks(high: &Hazard, low: &Hazard) -> bool
     ensures { result ≡ outranks high.now low.now }
 {
