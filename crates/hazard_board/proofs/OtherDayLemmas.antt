@@ -1,5 +1,5 @@
 -- The lines of the other days are lawful, one product after another.
-use Rattle.std.proofs.Common.{◌≡◌, ◌≤◌, true, refl, List, []}
+use Rattle.std.proofs.Common.{◌≡◌, true, refl, []}
 use Rattle.hazard_types.specs.Hazards.{facts_of, fact_rows, desk_hazards}
 use Rattle.event_life.specs.Table.{breach_of_line, life_after}
 use Rattle.event_life.specs.Products.{breach_in, rows_after}

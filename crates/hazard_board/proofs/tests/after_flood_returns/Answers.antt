@@ -1,5 +1,5 @@
 -- NEW is lawful once the flood of the year before has ended.
-use Rattle.std.proofs.Common.{◌≤◌, arith}
+use Rattle.std.proofs.Common.{◌≤◌}
 use Rattle.hazard_board.proofs.OtherDayLemmas.{flood_returns-lawful, flood_returns-opens}
 use Rattle.hazard_board.proofs.tests.after_flood_returns.Goals as goal
 

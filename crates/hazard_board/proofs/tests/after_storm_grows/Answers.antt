@@ -1,5 +1,5 @@
 -- EXT and EXB are lawful on the storm's row.
-use Rattle.std.proofs.Common.{◌≤◌, arith}
+use Rattle.std.proofs.Common.{◌≤◌}
 use Rattle.hazard_board.proofs.OtherDayLemmas.{storm_grows-lawful, storm_grows-opens}
 use Rattle.hazard_board.proofs.tests.after_storm_grows.Goals as goal
 

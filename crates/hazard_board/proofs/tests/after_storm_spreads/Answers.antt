@@ -1,5 +1,5 @@
 -- CON and EXA are lawful on the storm's row.
-use Rattle.std.proofs.Common.{◌≤◌, arith}
+use Rattle.std.proofs.Common.{◌≤◌}
 use Rattle.hazard_board.proofs.OtherDayLemmas.{storm_spreads-lawful, storm_spreads-opens}
 use Rattle.hazard_board.proofs.tests.after_storm_spreads.Goals as goal
 

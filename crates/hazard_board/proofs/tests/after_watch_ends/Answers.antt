@@ -1,5 +1,5 @@
 -- UPG, NEW and CAN are lawful on the watch's rows.
-use Rattle.std.proofs.Common.{◌≤◌, arith}
+use Rattle.std.proofs.Common.{◌≤◌}
 use Rattle.hazard_board.proofs.OtherDayLemmas.{watch_ends-lawful, watch_ends-opens}
 use Rattle.hazard_board.proofs.tests.after_watch_ends.Goals as goal
 
