@@ -1,5 +1,5 @@
 -- The lines of the other days are lawful, one product after another.
-use Rattle.std.proofs.Common.{◌≡◌, ◌≤◌, true, refl, List, []}
+use Rattle.std.proofs.Common.{◌≡◌, true, refl, []}
 use Rattle.hazard_types.specs.Hazards.{facts_of, fact_rows, desk_hazards}
 use Rattle.event_life.specs.Table.{breach_of_line, life_after}
 use Rattle.event_life.specs.Products.{breach_in, rows_after}
@@ -41,3 +41,39 @@ watch_ends-lawful = refl
 pub advisory_opens-lawful : are_lawful [] 9471480 advisory_opens ≡ true
 unfolding breach_of_line life_after breach_in rows_after advisory_opens
 advisory_opens-lawful = refl
+
+pub storm_opens-opens : openings storm_opens ≡ 1
+unfolding storm_opens
+storm_opens-opens = refl
+
+pub storm_grows-opens : openings storm_grows ≡ 1
+unfolding storm_grows
+storm_grows-opens = refl
+
+pub storm_spreads-opens : openings storm_spreads ≡ 1
+unfolding storm_spreads
+storm_spreads-opens = refl
+
+pub flood_opens-opens : openings flood_opens ≡ 1
+unfolding flood_opens
+flood_opens-opens = refl
+
+pub flood_ends-opens : openings flood_ends ≡ 0
+unfolding flood_ends
+flood_ends-opens = refl
+
+pub flood_returns-opens : openings flood_returns ≡ 1
+unfolding flood_returns
+flood_returns-opens = refl
+
+pub watch_opens-opens : openings watch_opens ≡ 2
+unfolding watch_opens
+watch_opens-opens = refl
+
+pub watch_ends-opens : openings watch_ends ≡ 1
+unfolding watch_ends
+watch_ends-opens = refl
+
+pub advisory_opens-opens : openings advisory_opens ≡ 1
+unfolding advisory_opens
+advisory_opens-opens = refl

@@ -1,6 +1,5 @@
 -- Lines of other days, for tests: a storm that a second zone joins, a flood that keeps its number into the next year, a watch that gives way to a warning, an advisory that is in the way.
 use Rattle.std.specs.Prelude.{ℕ, List, [], ◌∷◌, Option, Some, None}
-use Rattle.hazard_types.specs.Places.{Place}
 use Rattle.hazard_types.specs.declared.codes.Action.{Action}
 use Rattle.hazard_types.specs.declared.codes.Action.TheVariants.{New, Con, Exa, Ext, Exb, Upg, Can}
 use Rattle.hazard_types.specs.declared.codes.Severity.TheVariants as severity
@@ -10,7 +9,7 @@ use Rattle.hazard_types.specs.declared.hazard.Sig.{Sig}
 use Rattle.hazard_types.specs.declared.hazard.Sig.TheVariants.{W, A, Y}
 use Rattle.hazard_types.specs.declared.line.Flood.{Flood}
 use Rattle.hazard_types.specs.declared.line.Line.{Line}
-use Rattle.hazard_types.specs.declared.period.End.TheVariants.{At, Ufn}
+use Rattle.hazard_types.specs.declared.period.End.TheVariants.{Ufn}
 use Rattle.hazard_types.specs.declared.zone.Kind.TheVariants.{C}
 use Rattle.hazard_board.specs.FogDay.{said}
 

@@ -262,3 +262,275 @@ fn storm_opens(alloc: Global) -> Result<List<Line>, Fail>
     let lines = List::from_slice(alloc, &[line])?;
     Ok(lines)
 }
+
+#[tactic(auto, unfolding(crate::specs::OtherDays::storm_grows))]
+fn storm_grows(alloc: Global) -> Result<List<Line>, Fail>
+    ensures { IfOk result (λ lines. lines ≡ storm_grows) }
+{
+    let storm = &first(*b"WS", Sig::W, 2018)?;
+    let here = said(Action::Ext, storm, 3, None, 9_471_960)?;
+    let beside = said(Action::Exb, storm, 4, Some(minute(9_471_600)?), 9_471_960)?;
+    let lines = List::from_slice(alloc, &[here, beside])?;
+    Ok(lines)
+}
+
+#[tactic(auto, unfolding(crate::specs::OtherDays::storm_spreads))]
+fn storm_spreads(alloc: Global) -> Result<List<Line>, Fail>
+    ensures { IfOk result (λ lines. lines ≡ storm_spreads) }
+{
+    let storm = &first(*b"WS", Sig::W, 2018)?;
+    let here = said(Action::Con, storm, 3, None, 9_471_780)?;
+    let beside = said(Action::Exa, storm, 4, Some(minute(9_471_600)?), 9_471_780)?;
+    let lines = List::from_slice(alloc, &[here, beside])?;
+    Ok(lines)
+}
+
+fn after_storm_opens(alloc: Global) -> Result<Board, Fail>
+    ensures { IfOk result (λ board. board.rows ≡ rows_after [] 9471480 storm_opens) }
+{
+    let lines = storm_opens(alloc)?;
+    let t = minute(9_471_480)?;
+    opened(alloc, &lines, t)
+}
+
+fn after_storm_grows(alloc: Global) -> Result<Board, Fail> {
+    let lines = storm_grows(alloc)?;
+    let t = minute(9_471_600)?;
+    let mut board = after_storm_opens(alloc)?;
+    board.reserve(1)?;
+    board.apply(&lines, t);
+    Ok(board)
+}
+
+fn after_storm_spreads(alloc: Global) -> Result<Board, Fail> {
+    let lines = storm_spreads(alloc)?;
+    let t = minute(9_471_600)?;
+    let mut board = after_storm_opens(alloc)?;
+    board.reserve(1)?;
+    board.apply(&lines, t);
+    Ok(board)
+}
+
+/// Whether a row of the storm has a period from 1200Z to this minute.
+fn storm_spans(board: &Board, end: u32) -> Result<bool, Fail> {
+    let storm = &first(*b"WS", Sig::W, 2018)?;
+    let period = Period {
+        begin: minute(9_471_600)?,
+        end: End::At(minute(end)?),
+    };
+    Ok(board.same_period(*storm, period, minute(9_471_600)?))
+}
+
+/// A storm of 1000Z to 1500Z that a second zone joins at 1200Z: EXB where it is to last to 1800Z, EXA where it is to end as before.
+#[test]
+fn a_second_zone_joins(rt: HostRuntime) -> Result<(), Fail> {
+    let alloc = rt.alloc();
+    let storm = &first(*b"WS", Sig::W, 2018)?;
+    let board = after_storm_opens(alloc)?;
+    assert!(rt; !storm_spans(&board, 9_471_960)?);
+    assert!(rt; storm_spans(&board, 9_471_780)?);
+    let board = after_storm_grows(alloc)?;
+    assert!(rt; stands(&board, storm, 3, 9_471_480, 9_471_960)?);
+    assert!(rt; stands(&board, storm, 4, 9_471_600, 9_471_960)?);
+    let board = after_storm_spreads(alloc)?;
+    assert!(rt; stands(&board, storm, 3, 9_471_480, 9_471_780)?);
+    assert!(rt; stands(&board, storm, 4, 9_471_600, 9_471_780)?);
+    Ok(())
+}
+
+#[tactic(auto, unfolding(crate::specs::OtherDays::watch_opens))]
+fn watch_opens(alloc: Global) -> Result<List<Line>, Fail>
+    ensures { IfOk result (λ lines. lines ≡ watch_opens) }
+{
+    let watch = &first(*b"WS", Sig::A, 2018)?;
+    let begin = minute(9_472_320)?;
+    let here = said(Action::New, watch, 3, Some(begin), 9_473_040)?;
+    let beside = said(Action::New, watch, 4, Some(begin), 9_473_040)?;
+    let lines = List::from_slice(alloc, &[here, beside])?;
+    Ok(lines)
+}
+
+#[tactic(auto, unfolding(crate::specs::OtherDays::watch_ends))]
+fn watch_ends(alloc: Global) -> Result<List<Line>, Fail>
+    ensures { IfOk result (λ lines. lines ≡ watch_ends) }
+{
+    let watch = &first(*b"WS", Sig::A, 2018)?;
+    let storm = &first(*b"WS", Sig::W, 2018)?;
+    let begin = minute(9_472_320)?;
+    let here = said(Action::Upg, watch, 3, Some(begin), 9_473_040)?;
+    let warning = said(Action::New, storm, 3, Some(begin), 9_473_040)?;
+    let beside = said(Action::Can, watch, 4, Some(begin), 9_473_040)?;
+    let lines = List::from_slice(alloc, &[here, warning, beside])?;
+    Ok(lines)
+}
+
+fn after_watch_opens(alloc: Global) -> Result<Board, Fail>
+    ensures { IfOk result (λ board. board.rows ≡ rows_after [] 9471480 watch_opens) }
+{
+    let lines = watch_opens(alloc)?;
+    let t = minute(9_471_480)?;
+    opened(alloc, &lines, t)
+}
+
+fn after_watch_ends(alloc: Global) -> Result<Board, Fail> {
+    let lines = watch_ends(alloc)?;
+    let t = minute(9_471_810)?;
+    let mut board = after_watch_opens(alloc)?;
+    board.reserve(1)?;
+    board.apply(&lines, t);
+    Ok(board)
+}
+
+/// A watch of two zones that a warning replaces in one of them, and that is cancelled in the other.
+#[test]
+fn a_watch_gives_way(rt: HostRuntime) -> Result<(), Fail> {
+    let alloc = rt.alloc();
+    let watch = &first(*b"WS", Sig::A, 2018)?;
+    let storm = &first(*b"WS", Sig::W, 2018)?;
+    let board = after_watch_opens(alloc)?;
+    assert!(rt; stands(&board, watch, 3, 9_472_320, 9_473_040)?);
+    assert!(rt; stands(&board, watch, 4, 9_472_320, 9_473_040)?);
+    let lines = watch_ends(alloc)?;
+    assert_eq!(rt; board.conflict(alloc, &lines, minute(9_471_810)?)?, None);
+    let board = after_watch_ends(alloc)?;
+    assert!(rt; !stands(&board, watch, 3, 9_472_320, 9_473_040)?);
+    assert!(rt; stands(&board, storm, 3, 9_472_320, 9_473_040)?);
+    assert!(rt; !stands(&board, watch, 4, 9_472_320, 9_473_040)?);
+    assert_eq!(rt; shown(&board, alloc, 9_471_810)?, 1);
+    Ok(())
+}
+
+#[tactic(auto, unfolding(crate::specs::OtherDays::advisory_opens))]
+fn advisory_opens(alloc: Global) -> Result<List<Line>, Fail>
+    ensures { IfOk result (λ lines. lines ≡ advisory_opens) }
+{
+    let advisory = &first(*b"WW", Sig::Y, 2018)?;
+    let line = said(
+        Action::New,
+        advisory,
+        3,
+        Some(minute(9_471_480)?),
+        9_471_780,
+    )?;
+    let lines = List::from_slice(alloc, &[line])?;
+    Ok(lines)
+}
+
+fn after_advisory_opens(alloc: Global) -> Result<Board, Fail> {
+    let lines = advisory_opens(alloc)?;
+    let t = minute(9_471_480)?;
+    opened(alloc, &lines, t)
+}
+
+/// A storm warning over an advisory that lasts.
+#[test]
+fn an_advisory_is_in_the_way(rt: HostRuntime) -> Result<(), Fail> {
+    let alloc = rt.alloc();
+    let board = after_advisory_opens(alloc)?;
+    let lines = storm_opens(alloc)?;
+    let found = board
+        .conflict(alloc, &lines, minute(9_471_480)?)?
+        .ok_or("a clash")?;
+    assert_eq!(rt; found.zone, maryland(3)?);
+    assert_eq!(rt; found.first, first(*b"WS", Sig::W, 2018)?);
+    assert_eq!(rt; found.second, first(*b"WW", Sig::Y, 2018)?);
+    Ok(())
+}
+
+/// A line of a flood in a county of Maryland, until further notice.
+fn flooding(action: Action, event: &Event, county: u16, begin: Option<Minute>) -> Result<Line, Fail>
+    ensures { IfOk result (λ line. line ≡ flooding action event.now county begin) }
+{
+    let cause = Cause::new(*b"ER").ok_or("a cause")?;
+    let flood = Flood {
+        site: *b"00000",
+        severity: Severity::Zero,
+        cause,
+        begin: None,
+        crest: None,
+        end: None,
+        status: Status::Oo,
+    };
+    Ok(Line {
+        action,
+        event: *event,
+        zone: Zone::new(*b"MD", Kind::C, county).ok_or("a zone")?,
+        begin,
+        end: End::Ufn,
+        flood: Some(flood),
+    })
+}
+
+#[tactic(auto, unfolding(crate::specs::OtherDays::flood_opens))]
+fn flood_opens(alloc: Global) -> Result<List<Line>, Fail>
+    ensures { IfOk result (λ lines. lines ≡ flood_opens) }
+{
+    let flood = &first(*b"FL", Sig::W, 2017)?;
+    let line = flooding(Action::New, flood, 21, Some(minute(9_467_280)?))?;
+    let lines = List::from_slice(alloc, &[line])?;
+    Ok(lines)
+}
+
+#[tactic(auto, unfolding(crate::specs::OtherDays::flood_ends))]
+fn flood_ends(alloc: Global) -> Result<List<Line>, Fail>
+    ensures { IfOk result (λ lines. lines ≡ flood_ends) }
+{
+    let flood = &first(*b"FL", Sig::W, 2017)?;
+    let line = flooding(Action::Can, flood, 21, None)?;
+    let lines = List::from_slice(alloc, &[line])?;
+    Ok(lines)
+}
+
+#[tactic(auto, unfolding(crate::specs::OtherDays::flood_returns))]
+fn flood_returns(alloc: Global) -> Result<List<Line>, Fail>
+    ensures { IfOk result (λ lines. lines ≡ flood_returns) }
+{
+    let flood = &first(*b"FL", Sig::W, 2018)?;
+    let line = flooding(Action::New, flood, 5, Some(minute(9_470_160)?))?;
+    let lines = List::from_slice(alloc, &[line])?;
+    Ok(lines)
+}
+
+fn after_flood_opens(alloc: Global) -> Result<Board, Fail>
+    ensures { IfOk result (λ board. board.rows ≡ rows_after [] 9467280 flood_opens) }
+{
+    let lines = flood_opens(alloc)?;
+    let t = minute(9_467_280)?;
+    opened(alloc, &lines, t)
+}
+
+fn after_flood_ends(alloc: Global) -> Result<Board, Fail>
+    ensures { IfOk result (λ board. board.rows ≡ rows_after (rows_after [] 9467280 flood_opens) 9470160 flood_ends) }
+{
+    let lines = flood_ends(alloc)?;
+    let t = minute(9_470_160)?;
+    let mut board = after_flood_opens(alloc)?;
+    board.apply(&lines, t);
+    Ok(board)
+}
+
+fn after_flood_returns(alloc: Global) -> Result<Board, Fail> {
+    let lines = flood_returns(alloc)?;
+    let t = minute(9_470_160)?;
+    let mut board = after_flood_ends(alloc)?;
+    board.reserve(1)?;
+    board.apply(&lines, t);
+    Ok(board)
+}
+
+/// The year of the open flood whose number is 1, on the second of January 2018.
+fn flood_year(board: &Board) -> Result<Option<u16>, Fail> {
+    let hazard = first(*b"FL", Sig::W, 2018)?.hazard;
+    let going = board.going(hazard, 1, minute(9_470_160)?);
+    Ok(going.map(|event| event.year))
+}
+
+/// A flood of 2017 that stands until further notice holds its number in 2018, until it is cancelled.
+#[test]
+fn a_number_is_held(rt: HostRuntime) -> Result<(), Fail> {
+    let alloc = rt.alloc();
+    assert_eq!(rt; flood_year(&after_flood_opens(alloc)?)?, Some(2017));
+    assert_eq!(rt; flood_year(&after_flood_ends(alloc)?)?, None);
+    assert_eq!(rt; flood_year(&after_flood_returns(alloc)?)?, Some(2018));
+    Ok(())
+}

@@ -1,0 +1,10 @@
+-- The flood's line is lawful on no rows.
+use Rattle.std.proofs.Common.{◌≤◌, arith}
+use Rattle.hazard_board.proofs.OtherDayLemmas.{flood_opens-lawful, flood_opens-opens}
+use Rattle.hazard_board.proofs.tests.after_flood_opens.Goals as goal
+
+pub opened-requires-clause-lawful : goal.opened-requires-clause-lawful
+opened-requires-clause-lawful c = rw (c.in_ok-t.ensures, c.in_ok-lines.ensures) flood_opens-lawful
+
+pub opened-requires-clause-few : goal.opened-requires-clause-few
+opened-requires-clause-few c = rw (c.in_ok-lines.ensures, flood_opens-opens) (omega arith)

@@ -1,0 +1,10 @@
+-- The watch's lines are lawful on no rows.
+use Rattle.std.proofs.Common.{◌≤◌, arith}
+use Rattle.hazard_board.proofs.OtherDayLemmas.{watch_opens-lawful, watch_opens-opens}
+use Rattle.hazard_board.proofs.tests.after_watch_opens.Goals as goal
+
+pub opened-requires-clause-lawful : goal.opened-requires-clause-lawful
+opened-requires-clause-lawful c = rw (c.in_ok-t.ensures, c.in_ok-lines.ensures) watch_opens-lawful
+
+pub opened-requires-clause-few : goal.opened-requires-clause-few
+opened-requires-clause-few c = rw (c.in_ok-lines.ensures, watch_opens-opens) (omega arith)
