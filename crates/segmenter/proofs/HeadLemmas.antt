@@ -3,8 +3,7 @@ use Rattle.std.proofs.Common.{◌≡◌, ◌∙◌, List, [], ◌∷◌, Orderin
 use Rattle.std.specs.BTreeMap.{insert_entry}
 use Rattle.std.specs.Ordering.{match_ordering}
 use Rattle.hazard_types.specs.declared.line.SegLine.{SegLine}
-use Rattle.segmenter.specs.Segments.{by_head}
-use Rattle.segmenter.specs.Steps.{Heads, add_head, heads_view}
+use Rattle.segmenter.specs.Steps.{by_head, Heads, add_head, heads_view}
 use Rattle.segmenter.specs.declared.groups.Group.{Group}
 use Rattle.segmenter.specs.declared.groups.Head.{Head}
 
