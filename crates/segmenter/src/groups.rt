@@ -99,10 +99,8 @@ fn place_of(lines: &[SegLine], line: &SegLine) -> usize
     ensures placed { insert lines.now result line.now ≡ placed line.now lines.now }
 {
     for (place, other) in lines.iter().enumerate() {
-        match by_line(line, other) {
-            Ordering::Less => return place,
-            Ordering::Equal => {}
-            Ordering::Greater => {}
+        if by_line(line, other).is_lt() {
+            return place;
         }
     }
     lines.len()
