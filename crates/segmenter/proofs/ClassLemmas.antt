@@ -1,7 +1,6 @@
 -- The zones of each list, and the segments that they make.
 use Rattle.std.proofs.Common.{◌≡◌, ◌∙◌, ◌⊎◌, inl, inr, List, [], ◌∷◌, ◌++◌, Ordering, Less, Equal, Greater, Bool, true, false, cond, map, fold, Option, Some, None, refl, ap, sym, subst, append_assoc, append-nil}
 use Rattle.std.specs.Prelude.{◌≢◌, ◌↔◌, AllPairs}
-use Rattle.std.specs.Bool.{Decides}
 use Rattle.std.specs.List.{filter, AllByRecursion, IsDistinct}
 use Rattle.std.specs.List.Sorted.{IsStrictlySortedBy}
 use Rattle.std.specs.Ordering.{ordering_then}
@@ -22,7 +21,7 @@ use Rattle.segmenter.specs.Segments.{Has, by_segment, AreSegments}
 use Rattle.segmenter.specs.Steps.{by_head, put, same_lines, pushed, Heads, Classes, groups_of, heads_of, classes_of, segments_of}
 use Rattle.segmenter.proofs.AtLemmas.{at, keys, IsFull, at-put_all, distinct-put_all, full-put, full-put_all, none_distinct, has_at, at_has}
 use Rattle.segmenter.proofs.HasLemmas.{has_kept, keeps, all_at, all_from, has_some, not_empty, has_mapped, mapped_from}
-use Rattle.segmenter.proofs.RisingLemmas.{first_event, Leads, Stands, heads_rise, head_from, head_has}
+use Rattle.segmenter.proofs.RisingLemmas.{first_event, Leads, heads_rise, head_from, head_has}
 
 -- ---- the zones at each list
 

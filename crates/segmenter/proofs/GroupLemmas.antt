@@ -1,5 +1,5 @@
 -- The groups of lines are the zones and events that have lines.
-use Rattle.std.proofs.Common.{◌≡◌, ◌∙◌, ◌⊎◌, inl, inr, List, [], ◌∷◌, Bool, true, false, cond, map, fold, Option, Some, None, refl, ap, sym, subst}
+use Rattle.std.proofs.Common.{◌≡◌, ◌∙◌, ◌⊎◌, inl, inr, List, [], ◌∷◌, Bool, true, false, cond, fold, Option, Some, None, refl, ap, sym, subst}
 use Rattle.std.specs.Prelude.{◌≢◌}
 use Rattle.std.specs.Bool.{Decides}
 use Rattle.std.specs.List.{filter, AllByRecursion, IsDistinct}

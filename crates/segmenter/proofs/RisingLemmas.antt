@@ -1,23 +1,21 @@
 -- The groups' lists by zone and first event: none is lost, and they are in order.
-use Rattle.std.proofs.Common.{◌≡◌, ◌∙◌, ◌⊎◌, inl, inr, List, [], ◌∷◌, Ordering, Less, Equal, Greater, Bool, false, map, fold, Option, Some, None, refl, ap, sym, subst, true≢false}
+use Rattle.std.proofs.Common.{◌≡◌, ◌∙◌, ◌⊎◌, inl, inr, List, [], ◌∷◌, Ordering, Less, Equal, Greater, false, map, fold, Option, Some, None, refl, ap, sym, subst, true≢false}
 use Rattle.std.specs.Prelude.{◌≢◌}
 use Rattle.std.specs.Cmp.{IsTotalOrder}
-use Rattle.std.specs.List.{AllByRecursion, IsDistinct}
+use Rattle.std.specs.List.{IsDistinct}
 use Rattle.std.specs.List.Sorted.{IsStrictlySortedBy}
 use Rattle.std.specs.Ordering.{ordering_then}
 use Rattle.std.proofs.lemmas.Cmp.{then_total, on_total}
 use Rattle.hazard_types.specs.declared.hazard.Event.{Event}
 use Rattle.hazard_types.specs.declared.line.Line.{Line}
 use Rattle.hazard_types.specs.declared.line.SegLine.{SegLine}
-use Rattle.hazard_types.specs.Orders.{by_event}
 use Rattle.hazard_types.specs.Places.{by_place}
 use Rattle.hazard_types.proofs.OrderLaws.{by_place_total, by_event_total, by_place_ties, by_event_ties}
 use Rattle.segmenter.specs.declared.groups.Group.{Group}
 use Rattle.segmenter.specs.declared.groups.Head.{Head}
-use Rattle.segmenter.specs.Groups.{flood_event, group_of, same_group, placed, lines_of}
+use Rattle.segmenter.specs.Groups.{flood_event, group_of, same_group, lines_of}
 use Rattle.segmenter.specs.Segments.{Has}
 use Rattle.segmenter.specs.Steps.{by_head, Groups, Heads, groups_of, add_head, heads_of}
-use Rattle.segmenter.proofs.AtLemmas.{keys}
 use Rattle.segmenter.proofs.GroupLemmas.{group_decides, line_from, groups_distinct, group_from, group_has}
 use Rattle.segmenter.proofs.HasLemmas.{all_at, all_from, has_mapped}
 use Rattle.segmenter.proofs.InsertLemmas.{inserted_from, inserted, inserted_rises}

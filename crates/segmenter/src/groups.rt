@@ -1,9 +1,7 @@
 //! The lines of each group, in order.
 ghost use Rattle.std.specs.Prelude.{◌≡◌, ◌≤◌, length, insert, IfOk, OnOk};
-ghost use Rattle.hazard_types.specs.Orders.{by_event};
-ghost use Rattle.segmenter.specs.Groups.{is_flood, flood_event, group_of, without_zone, action_rank, by_line, placed};
+ghost use Rattle.segmenter.specs.Groups.{is_flood, flood_event, group_of, without_zone, same_group, action_rank, by_line, placed};
 ghost use Rattle.segmenter.specs.Steps.{put, groups_of, groups_view};
-ghost use Rattle.segmenter.specs.Groups.{same_group};
 
 use hazard_types::{Action, Event, Hazard, Line, Oom, SegLine, Zone};
 use indexmap::IndexMap;

@@ -1,5 +1,5 @@
 -- The place is before the first line that comes after this one.
-use Rattle.std.proofs.Common.{◌≡◌, ◌∙◌, sym, ap, arith}
+use Rattle.std.proofs.Common.{◌∙◌, sym, ap, arith}
 use Rattle.std.specs.Ordering.{is_lt}
 use Rattle.segmenter.proofs.PlaceLemmas.{before_other, behind_all, passed_more}
 use Rattle.segmenter.proofs.groups.place_of.Goals as goal
