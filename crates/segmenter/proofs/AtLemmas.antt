@@ -1,5 +1,5 @@
 -- What stands at each key after items were put at their keys.
-use Rattle.std.proofs.Common.{◌≡◌, ◌∙◌, ◌⊎◌, inl, inr, List, [], ◌∷◌, ◌++◌, Bool, true, false, cond, map, fold, refl, ap, sym, subst, true≢false}
+use Rattle.std.proofs.Common.{◌≡◌, ◌∙◌, inl, inr, List, [], ◌∷◌, Bool, true, false, cond, map, fold, refl, ap, sym, true≢false}
 use Rattle.std.specs.Prelude.{◌≢◌}
 use Rattle.std.specs.Bool.{Decides}
 use Rattle.std.specs.List.{filter, AllByRecursion, IsDistinct}

@@ -1,7 +1,6 @@
 -- The zones of each list, and the segments that they make.
 use Rattle.std.proofs.Common.{◌≡◌, ◌∙◌, ◌⊎◌, inl, inr, List, [], ◌∷◌, ◌++◌, Ordering, Less, Equal, Greater, Bool, true, false, cond, map, fold, Option, Some, None, refl, ap, sym, subst, append_assoc, append-nil}
 use Rattle.std.specs.Prelude.{◌≢◌, ◌↔◌, AllPairs}
-use Rattle.std.specs.Bool.{Decides}
 use Rattle.std.specs.List.{filter, AllByRecursion, IsDistinct}
 use Rattle.std.specs.List.Sorted.{IsStrictlySortedBy}
 use Rattle.std.specs.Ordering.{ordering_then}
@@ -18,11 +17,11 @@ use Rattle.hazard_types.proofs.OrderLaws.{by_event_total}
 use Rattle.segmenter.specs.declared.groups.Group.{Group}
 use Rattle.segmenter.specs.declared.groups.Head.{Head}
 use Rattle.segmenter.specs.Groups.{lines_of}
-use Rattle.segmenter.specs.Segments.{Has, by_head, head_of, AreSegments}
-use Rattle.segmenter.specs.Steps.{put, same_lines, pushed, Heads, Classes, groups_of, heads_of, classes_of, segments_of}
+use Rattle.segmenter.specs.Segments.{Has, by_segment, AreSegments}
+use Rattle.segmenter.specs.Steps.{by_head, put, same_lines, pushed, Heads, Classes, groups_of, heads_of, classes_of, segments_of}
 use Rattle.segmenter.proofs.AtLemmas.{at, keys, IsFull, at-put_all, distinct-put_all, full-put, full-put_all, none_distinct, has_at, at_has}
 use Rattle.segmenter.proofs.HasLemmas.{has_kept, keeps, all_at, all_from, has_some, not_empty, has_mapped, mapped_from}
-use Rattle.segmenter.proofs.RisingLemmas.{first_event, Leads, Stands, heads_rise, head_from, head_has}
+use Rattle.segmenter.proofs.RisingLemmas.{first_event, Leads, heads_rise, head_from, head_has}
 
 -- ---- the zones at each list
 
@@ -89,13 +88,15 @@ one_event a b ls p q = cc
 zones_by : (b : Bool) (ls : List SegLine) (e : Head × List SegLine) (es : Heads) → same_lines ls e.1 ≡ b → AreHeaded (e ∷ es) → AllByRecursion (λ k. by_head e.0 k ≡ Less) (map (λ d. d.0) es) → IsStrictlySortedBy by_place (zones_of ls es)
     → IsStrictlySortedBy by_place (map zone_of (cond b (e ∷ filter (λ (d : Head × List SegLine). same_lines ls d.1) es) (filter (λ (d : Head × List SegLine). same_lines ls d.1) es)))
 unfolding IsStrictlySortedBy
-zones_by true ls e es is headed above later =
-    (all_from (λ (z : Place). by_place e.0.zone z ≡ Less) (zones_of ls es) (λ z has.
-       let r = zone_from es ls z has in
-       let less : by_head e.0 r.0 ≡ Less = all_at (λ (k : Head). by_head e.0 k ≡ Less) (map (λ d. d.0) es) r.0 above (has_mapped (λ (d : Head × List SegLine). d.0) es (r.0, ls) r.1) in
-       let same : ls ≡ e.1 = (seg_lines_decide ls e.1).0 is in
-       let first = one_event e.0 r.0 ls (ap first_event same ∙ headed e.0 e.1 (inl refl)) (headed r.0 ls (inr r.1)) in
-       subst (λ (y : Place). by_place e.0.zone y ≡ Less) (sym r.2) (zone_less e.0 r.0 first less)), later)
+zones_by true ls e es is headed above later = (
+  all_from (λ (z : Place). by_place e.0.zone z ≡ Less) (zones_of ls es) (λ z has.
+      let r = zone_from es ls z has in
+      let less : by_head e.0 r.0 ≡ Less = all_at (λ (k : Head). by_head e.0 k ≡ Less) (map (λ d. d.0) es) r.0 above (has_mapped (λ (d : Head × List SegLine). d.0) es (r.0, ls) r.1) in
+      let same : ls ≡ e.1 = (seg_lines_decide ls e.1).0 is in
+      let first = one_event e.0 r.0 ls (ap first_event same ∙ headed e.0 e.1 (inl refl)) (headed r.0 ls (inr r.1)) in
+      subst (λ (y : Place). by_place e.0.zone y ≡ Less) (sym r.2) (zone_less e.0 r.0 first less)),
+  later,
+)
 zones_by false ls e es is headed above later = later
 
 zones_rise : (ls : List SegLine) (hs : Heads) → AreHeaded hs → IsStrictlySortedBy by_head (map (λ e. e.0) hs) → IsStrictlySortedBy by_place (zones_of ls hs)
@@ -104,6 +105,12 @@ zones_rise ls [] headed sorted = tt
 zones_rise ls (e ∷ es) headed sorted = zones_by (same_lines ls e.1) ls e es refl headed sorted.0 (zones_rise ls es (λ h ms has. headed h ms (inr has)) sorted.1)
 
 -- ---- the lists are in order by their heads
+
+-- the first zone and the event of the first line
+abbrev head_of : List Place → List SegLine → Option Head
+head_of (zone ∷ zones) (line ∷ lines) = Some (record { zone = zone; first = line.event })
+head_of [] lines = None
+head_of (zone ∷ zones) [] = None
 
 abbrev class_head : List SegLine × List Place → Option Head
 class_head c = head_of c.1 c.0
@@ -118,6 +125,9 @@ head_new h [] led = cc
 head_new h (l ∷ ls) led =
     let event_is : l.event ≡ h.first = cc in
     ap Some (λ i. record { zone = h.zone; first = event_is i })
+
+head_tail : (o p : Option Head) (os ps : List (Option Head)) → o ∷ os ≡ p ∷ ps → (o ≡ p) × (os ≡ ps)
+head_tail o p os ps e = (cc, cc)
 
 abbrev Heading : Classes → Classes → Head → Type 0
 Heading old new h = (map class_head new ≡ map class_head old) ⊎ (map class_head new ≡ map class_head old ++ Some h ∷ [])
@@ -170,9 +180,34 @@ segment_lines : (cs : Classes) → map (λ (s : Segment). s.lines) (segments_of 
 segment_lines [] = refl
 segment_lines (c ∷ cs) = ap (λ (ls : List (List SegLine)). c.0 ∷ ls) (segment_lines cs)
 
-segment_heads : (cs : Classes) → map (λ (s : Segment). head_of s.zones s.lines) (segments_of cs) ≡ map class_head cs
-segment_heads [] = refl
-segment_heads (c ∷ cs) = ap (λ (os : List (Option Head)). class_head c ∷ os) (segment_heads cs)
+some_one : (a b : Head) → Some a ≡ Some b → a ≡ b
+some_one a b e = cc
+
+before_one : (zs ys : List Place) (ls ms : List SegLine) (k j : Head) → head_of zs ls ≡ Some k → head_of ys ms ≡ Some j → by_head k j ≡ Less → by_segment (segment (ls, zs)) (segment (ms, ys)) ≡ Less
+before_one [] ys ls ms k j p q less = cc
+before_one (z ∷ zs) ys [] ms k j p q less = cc
+before_one (z ∷ zs) [] (l ∷ ls) ms k j p q less = cc
+before_one (z ∷ zs) (y ∷ ys) (l ∷ ls) [] k j p q less = cc
+before_one (z ∷ zs) (y ∷ ys) (l ∷ ls) (m ∷ ms) k j p q less =
+    let mine = some_one (record { zone = z; first = l.event }) k p in
+    let other = some_one (record { zone = y; first = m.event }) j q in
+    subst (λ (h : Head). by_head h (record { zone = y; first = m.event }) ≡ Less) (sym mine) (subst (λ (h : Head). by_head k h ≡ Less) (sym other) less)
+
+before_all : (c : List SegLine × List Place) (k : Head) (cs : Classes) (ks : List Head) → class_head c ≡ Some k → map class_head cs ≡ map Some ks → AllByRecursion (λ j. by_head k j ≡ Less) ks
+    → AllByRecursion (λ (s : Segment). by_segment (segment c) s ≡ Less) (segments_of cs)
+before_all c k [] ks head heads above = tt
+before_all c k (d ∷ cs) [] head heads above = cc
+before_all c k (d ∷ cs) (j ∷ ks) head heads above =
+    let parts = head_tail (class_head d) (Some j) (map class_head cs) (map Some ks) heads in
+    (before_one c.1 d.1 c.0 d.0 k j head parts.0 above.0, before_all c k cs ks head parts.1 above.1)
+
+segments_ordered : (cs : Classes) (ks : List Head) → map class_head cs ≡ map Some ks → IsStrictlySortedBy by_head ks → IsStrictlySortedBy by_segment (segments_of cs)
+unfolding IsStrictlySortedBy
+segments_ordered [] ks heads sorted = tt
+segments_ordered (c ∷ cs) [] heads sorted = cc
+segments_ordered (c ∷ cs) (k ∷ ks) heads sorted =
+    let parts = head_tail (class_head c) (Some k) (map class_head cs) (map Some ks) heads in
+    (before_all c k cs ks parts.0 parts.1 sorted.0, segments_ordered cs ks parts.1 sorted.1)
 
 module _ (lines : List Line) where
   abbrev hs : Heads
@@ -227,14 +262,15 @@ module _ (lines : List Line) where
       let order = in_order [] [] hs tt refl headed (heads_rise lines) in
       record {
         zones = λ s has.
-          let r = mapped_from segment cs s has in
-          subst (λ (t : Segment). (z : Place) → Has t.zones z ↔ ((g : Group) × (g.zone ≡ z) × (lines_of lines g ≡ t.lines))) (sym r.2) (λ z. (class_zone_from r.0 r.1 z, class_zone_has r.0 r.1 z));
+            let r = mapped_from segment cs s has in
+            subst (λ (t : Segment). (z : Place) → Has t.zones z ↔ ((g : Group) × (g.zone ≡ z) × (lines_of lines g ≡ t.lines))) (sym r.2) (λ z. (class_zone_from r.0 r.1 z, class_zone_has r.0 r.1 z));
         whole = class_whole;
+        some = all_from (λ (s : Segment). (s.zones ≢ []) × (s.lines ≢ [])) (segments_of cs) (λ s has.
+            let r = mapped_from segment cs s has in
+            subst (λ (t : Segment). (t.zones ≢ []) × (t.lines ≢ [])) (sym r.2) (all_at (IsFull same_lines seg_lines_decide pushed) cs r.0 (classes_full hs) r.1, class_some r.0 r.1));
         apart = subst (AllPairs (λ k l. k ≢ l)) (sym (segment_lines cs)) (AllPairs-from_IsDistinct seg_lines_decide _ (classes_distinct hs));
         sorted = all_from (λ (s : Segment). IsStrictlySortedBy by_place s.zones) (segments_of cs) (λ s has.
-          let r = mapped_from segment cs s has in
-          subst (λ (t : Segment). IsStrictlySortedBy by_place t.zones) (sym r.2) (subst (IsStrictlySortedBy by_place) (sym (class_zones hs r.0 r.1)) (zones_rise r.0.0 hs headed (heads_rise lines))));
-        heads = order.0;
-        headed = segment_heads cs ∙ order.1;
-        ordered = order.2;
+            let r = mapped_from segment cs s has in
+            subst (λ (t : Segment). IsStrictlySortedBy by_place t.zones) (sym r.2) (subst (IsStrictlySortedBy by_place) (sym (class_zones hs r.0 r.1)) (zones_rise r.0.0 hs headed (heads_rise lines))));
+        ordered = segments_ordered cs order.0 order.1 order.2;
       }

@@ -1,5 +1,5 @@
 -- The groups of lines are the zones and events that have lines.
-use Rattle.std.proofs.Common.{◌≡◌, ◌∙◌, ◌⊎◌, inl, inr, List, [], ◌∷◌, Bool, true, false, cond, map, fold, Option, Some, None, refl, ap, sym, subst}
+use Rattle.std.proofs.Common.{◌≡◌, ◌∙◌, ◌⊎◌, inl, inr, List, [], ◌∷◌, Bool, true, false, cond, fold, Option, Some, None, refl, ap, sym, subst}
 use Rattle.std.specs.Prelude.{◌≢◌}
 use Rattle.std.specs.Bool.{Decides}
 use Rattle.std.specs.List.{filter, AllByRecursion, IsDistinct}
@@ -122,9 +122,10 @@ group_at : (lines : List Line) (g : Group) → at same_group group_decides place
 group_at lines g = at-put_all same_group group_decides placed group_of without_zone g [] lines
 
 pub group_from : (lines : List Line) (g : Group) (ls : List SegLine) → Has (groups_of lines) (g, ls) → (lines_of lines g ≡ ls) × (ls ≢ [])
-group_from lines g ls h =
-    (sym (group_at lines g) ∙ has_at same_group group_decides placed (groups_of lines) g ls (groups_distinct lines) h,
-     all_at (IsFull same_group group_decides placed) (groups_of lines) (g, ls) (groups_full lines) h)
+group_from lines g ls h = (
+  sym (group_at lines g) ∙ has_at same_group group_decides placed (groups_of lines) g ls (groups_distinct lines) h,
+  all_at (IsFull same_group group_decides placed) (groups_of lines) (g, ls) (groups_full lines) h,
+)
 
 pub group_has : (lines : List Line) (g : Group) (ls : List SegLine) → lines_of lines g ≡ ls → ls ≢ [] → Has (groups_of lines) (g, ls)
 group_has lines g ls is some = at_has same_group group_decides placed (groups_of lines) g ls (group_at lines g ∙ is) some

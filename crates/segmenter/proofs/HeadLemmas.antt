@@ -1,10 +1,9 @@
 -- The list of a group at its place, in a map and in what the map holds.
-use Rattle.std.proofs.Common.{◌≡◌, ◌∙◌, List, [], ◌∷◌, Ordering, Less, Equal, Greater, Option, Some, None, Vec, Global, refl, ap, sym, slice_get}
+use Rattle.std.proofs.Common.{◌≡◌, ◌∙◌, List, [], ◌∷◌, Ordering, Less, Equal, Greater, Some, Vec, Global, refl, ap, sym, slice_get}
 use Rattle.std.specs.BTreeMap.{insert_entry}
 use Rattle.std.specs.Ordering.{match_ordering}
 use Rattle.hazard_types.specs.declared.line.SegLine.{SegLine}
-use Rattle.segmenter.specs.Segments.{by_head}
-use Rattle.segmenter.specs.Steps.{Heads, add_head, heads_view}
+use Rattle.segmenter.specs.Steps.{by_head, Heads, add_head, heads_view}
 use Rattle.segmenter.specs.declared.groups.Group.{Group}
 use Rattle.segmenter.specs.declared.groups.Head.{Head}
 

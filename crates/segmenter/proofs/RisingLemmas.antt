@@ -1,23 +1,21 @@
 -- The groups' lists by zone and first event: none is lost, and they are in order.
-use Rattle.std.proofs.Common.{◌≡◌, ◌∙◌, ◌⊎◌, inl, inr, List, [], ◌∷◌, Ordering, Less, Equal, Greater, Bool, false, map, fold, Option, Some, None, refl, ap, sym, subst, true≢false}
+use Rattle.std.proofs.Common.{◌≡◌, ◌∙◌, ◌⊎◌, inl, inr, List, [], ◌∷◌, Ordering, Less, Equal, Greater, false, map, fold, Option, Some, None, refl, ap, sym, subst, true≢false}
 use Rattle.std.specs.Prelude.{◌≢◌}
 use Rattle.std.specs.Cmp.{IsTotalOrder}
-use Rattle.std.specs.List.{AllByRecursion, IsDistinct}
+use Rattle.std.specs.List.{IsDistinct}
 use Rattle.std.specs.List.Sorted.{IsStrictlySortedBy}
 use Rattle.std.specs.Ordering.{ordering_then}
 use Rattle.std.proofs.lemmas.Cmp.{then_total, on_total}
 use Rattle.hazard_types.specs.declared.hazard.Event.{Event}
 use Rattle.hazard_types.specs.declared.line.Line.{Line}
 use Rattle.hazard_types.specs.declared.line.SegLine.{SegLine}
-use Rattle.hazard_types.specs.Orders.{by_event}
 use Rattle.hazard_types.specs.Places.{by_place}
 use Rattle.hazard_types.proofs.OrderLaws.{by_place_total, by_event_total, by_place_ties, by_event_ties}
 use Rattle.segmenter.specs.declared.groups.Group.{Group}
 use Rattle.segmenter.specs.declared.groups.Head.{Head}
-use Rattle.segmenter.specs.Groups.{flood_event, group_of, same_group, placed, lines_of}
-use Rattle.segmenter.specs.Segments.{Has, by_head}
-use Rattle.segmenter.specs.Steps.{Groups, Heads, groups_of, add_head, heads_of}
-use Rattle.segmenter.proofs.AtLemmas.{keys}
+use Rattle.segmenter.specs.Groups.{flood_event, group_of, same_group, lines_of}
+use Rattle.segmenter.specs.Segments.{Has}
+use Rattle.segmenter.specs.Steps.{by_head, Groups, Heads, groups_of, add_head, heads_of}
 use Rattle.segmenter.proofs.GroupLemmas.{group_decides, line_from, groups_distinct, group_from, group_has}
 use Rattle.segmenter.proofs.HasLemmas.{all_at, all_from, has_mapped}
 use Rattle.segmenter.proofs.InsertLemmas.{inserted_from, inserted, inserted_rises}
@@ -61,8 +59,8 @@ fits lines g (x ∷ xs) from = let r = from x (inl refl) in ap (λ (k : Group). 
 group_fits : (lines : List Line) (g : Group) (ls : List SegLine) → lines_of lines g ≡ ls → Fits g ls
 group_fits lines g ls is =
     fits lines g ls (λ x h.
-      let r = line_from lines g x (subst (λ (l : List SegLine). Has l x) (sym is) h) in
-      (r.0, r.1, r.2, ap (λ (l : SegLine). l.event) r.3))
+    let r = line_from lines g x (subst (λ (l : List SegLine). Has l x) (sym is) h) in
+    (r.0, r.1, r.2, ap (λ (l : SegLine). l.event) r.3))
 
 led_flood : (h : Head) (g : Group) (ls : List SegLine) → Fits g ls → first_event ls ≡ Some h.first → g.flood ≡ flood_event h.first
 led_flood h g [] f led = cc
@@ -121,9 +119,9 @@ all_from_groups hs [] h ls has = inl has
 all_from_groups hs (e ∷ gs) h ls has =
     elim (all_from_groups (add_head hs e.0 e.1) gs h ls has) as (λ _. Has hs (h, ls) ⊎ ((g : Group) × Has (e ∷ gs) (g, ls) × Leads h g ls)) [
       | inl l ↦ elim (added_from hs e.0 e.1 h ls l) as (λ _. Has hs (h, ls) ⊎ ((g : Group) × Has (e ∷ gs) (g, ls) × Leads h g ls)) [
-          | inl o ↦ inl o
-          | inr r ↦ let list_is = r.0 in inr (e.0, inl (λ i. (e.0, list_is i)), r.1)
-        ]
+        | inl o ↦ inl o
+        | inr r ↦ let list_is = r.0 in inr (e.0, inl (λ i. (e.0, list_is i)), r.1)
+      ]
       | inr r ↦ inr (r.0, inr r.1, r.2)
     ]
 

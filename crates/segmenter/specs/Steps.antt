@@ -1,16 +1,18 @@
 -- What the maps on the way to the segments hold.
-use Rattle.std.specs.Prelude.{ℕ, Bool, List, [], ◌∷◌, ◌++◌, map, fold, Vec, if◌then◌else◌}
+use Rattle.std.specs.Prelude.{Bool, List, [], ◌∷◌, ◌++◌, map, fold, Vec, if◌then◌else◌}
 use Rattle.std.specs.BTreeMap.{insert_entry}
 use Rattle.std.specs.Borrow.{Bor}
 use Rattle.std.specs.Cmp.Lexicographic.{pointwise}
 use Rattle.std.specs.declared.alloc.Global.{Global}
-use Rattle.hazard_types.specs.Places.{Place}
+use Rattle.std.specs.declared.cmp.Ordering.{Ordering}
+use Rattle.std.specs.Ordering.{on, then_cmp}
+use Rattle.hazard_types.specs.Orders.{by_event}
+use Rattle.hazard_types.specs.Places.{Place, by_place}
 use Rattle.hazard_types.specs.declared.line.Line.{Line}
 use Rattle.hazard_types.specs.declared.line.SegLine.{SegLine}
 use Rattle.hazard_types.specs.declared.line.Segment.{Segment}
 use Rattle.hazard_types.specs.contracts.line.SegLinePartialEq.TheImpl as seg_line
 use Rattle.segmenter.specs.Groups.{group_of, without_zone, same_group, placed}
-use Rattle.segmenter.specs.Segments.{by_head}
 use Rattle.segmenter.specs.declared.groups.Group.{Group}
 use Rattle.segmenter.specs.declared.groups.Head.{Head}
 
@@ -33,6 +35,10 @@ Groups = List (Group × List SegLine)
 
 abbrev pub groups_of : List Line → Groups
 groups_of lines = fold (λ (groups : Groups) (line : Line). put same_group placed groups (group_of line) (without_zone line)) [] lines
+
+-- by zone, then by first event
+abbrev pub by_head : Head → Head → Ordering
+by_head = then_cmp (on (λ (h : Head). h.zone) by_place) (on (λ (h : Head). h.first) by_event)
 
 -- the groups' lists, by zone and first event
 abbrev pub Heads : Type 0

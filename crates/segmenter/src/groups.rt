@@ -1,9 +1,7 @@
 //! The lines of each group, in order.
 ghost use Rattle.std.specs.Prelude.{◌≡◌, ◌≤◌, length, insert, IfOk, OnOk};
-ghost use Rattle.hazard_types.specs.Orders.{by_event};
-ghost use Rattle.segmenter.specs.Groups.{is_flood, flood_event, group_of, without_zone, action_rank, by_line, placed};
+ghost use Rattle.segmenter.specs.Groups.{is_flood, flood_event, group_of, without_zone, same_group, action_rank, by_line, placed};
 ghost use Rattle.segmenter.specs.Steps.{put, groups_of, groups_view};
-ghost use Rattle.segmenter.specs.Groups.{same_group};
 
 use hazard_types::{Action, Event, Hazard, Line, Oom, SegLine, Zone};
 use indexmap::IndexMap;
@@ -99,10 +97,8 @@ fn place_of(lines: &[SegLine], line: &SegLine) -> usize
     ensures placed { insert lines.now result line.now ≡ placed line.now lines.now }
 {
     for (place, other) in lines.iter().enumerate() {
-        match by_line(line, other) {
-            Ordering::Less => return place,
-            Ordering::Equal => {}
-            Ordering::Greater => {}
+        if by_line(line, other).is_lt() {
+            return place;
         }
     }
     lines.len()

@@ -1,5 +1,5 @@
 //! The lists of the groups, by zone and first event, and the zones of each.
-ghost use Rattle.std.specs.Prelude.{◌≡◌, IfOk, OnOk, map};
+ghost use Rattle.std.specs.Prelude.{◌≡◌, IfOk, OnOk};
 ghost use Rattle.segmenter.specs.Steps.{put, same_lines, pushed, add_head, heads_of, classes_of, segments_of, groups_view, heads_view, classes_view};
 
 use crate::groups::{Group, Groups, Head};

@@ -11,8 +11,8 @@ of_steps : (P : List Segment → Type 0) (r : Result (List Segment) Oom) (made :
 of_steps P (Ok segments) made holds is = subst P (sym is) holds
 of_steps P (Err e) made holds is = tt
 
-pub returns-clause-classes : goal.returns-clause-classes
-returns-clause-classes c =
+pub returns : goal.returns
+returns c =
     let made = segments_of (classes_of (heads_of (groups_of c.args.lines.now))) in
     let steps : IfOk c.segments_of.result (λ segments. segments ≡ made) = search rules in
     of_steps (AreSegments c.args.lines.now) c.segments_of.result made (segments_made c.args.lines.now) steps

@@ -1,8 +1,8 @@
 -- The map puts the line into its group.
-use Rattle.std.proofs.Common.{◌≡◌, ◌∙◌, List, Vec, Global, ap, rules}
+use Rattle.std.proofs.Common.{◌∙◌, List, Vec, Global, ap, rules}
 use Rattle.std.specs.Map.{lookup}
 use Rattle.hazard_types.specs.declared.line.SegLine.{SegLine}
-use Rattle.segmenter.specs.Groups.{same_group, placed, group_of, without_zone}
+use Rattle.segmenter.specs.Groups.{same_group, placed}
 use Rattle.segmenter.specs.declared.groups.Group.{Group}
 use Rattle.segmenter.proofs.PutLemmas.{put_in, items_at-value}
 use Rattle.segmenter.proofs.groups.add_line.Goals as goal

@@ -1,5 +1,5 @@
 -- The lines come to the place of their zone and first event.
-use Rattle.std.proofs.Common.{◌≡◌, Some, slice_get, rules}
+use Rattle.std.proofs.Common.{rules}
 use Rattle.segmenter.proofs.HeadLemmas.{head_added}
 use Rattle.segmenter.proofs.zones.add_head.Goals as goal
 

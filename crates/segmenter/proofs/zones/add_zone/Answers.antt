@@ -1,5 +1,5 @@
 -- The map puts the zone behind those of its list.
-use Rattle.std.proofs.Common.{◌≡◌, ◌∙◌, ◌++◌, ◌∷◌, [], List, Vec, Global, Bor, ap, rules}
+use Rattle.std.proofs.Common.{◌∙◌, ◌++◌, ◌∷◌, [], List, Vec, Global, Bor, ap, rules}
 use Rattle.std.specs.Map.{lookup}
 use Rattle.hazard_types.specs.Places.{Place}
 use Rattle.hazard_types.specs.declared.line.SegLine.{SegLine}
