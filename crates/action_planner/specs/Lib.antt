@@ -1,0 +1,4 @@
+pub mod Placed
+pub mod Conditions
+pub mod Lines
+pub mod Offences
