@@ -12,10 +12,9 @@ ghost use Rattle.action_planner.specs.Offences.{broken};
 ghost use Rattle.action_planner.specs.Conditions.{CanPlan};
 
 mod placed;
-pub use placed::{any_touched, is_touched, speaks, zones_of, Placed};
+mod zone_rules;
 
-
-
+pub use placed::{Placed, any_touched, is_touched, speaks, zones_of};
 
 pub fn try_it()
     ensures { (c : Category) (rows : List Row) (counts : List Count) (t : ℕ) (intents : List Intent) → CanPlan rows counts c intents t → broken c rows t (placed counts t intents) ≡ broken c rows t (placed counts t intents) }
