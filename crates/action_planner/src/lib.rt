@@ -11,6 +11,7 @@ ghost use Rattle.action_planner.specs.Lines.{planned_lines};
 ghost use Rattle.action_planner.specs.Offences.{broken};
 ghost use Rattle.action_planner.specs.Conditions.{CanPlan};
 
+mod intent_rules;
 mod placed;
 mod zone_rules;
 
