@@ -48,10 +48,11 @@ module _ (t : ℕ) where
 
   all_one : (rows : List Row) → EachToLater AreOne rows → AllByRecursion (λ a. AllByRecursion (IsOneEvent t a) rows) rows
   all_one [] each = tt
-  all_one (r ∷ rows) each =
-      ((one_itself r, all_still (AreOne r) (IsOneEvent t r) (one_of r) rows each.0),
-      all_both (AreOne r) (λ a. AllByRecursion (IsOneEvent t a) rows) (λ a. AllByRecursion (IsOneEvent t a) (r ∷ rows))
-        (λ a one more. (one_back a r one, more)) rows each.0 (all_one rows each.1))
+  all_one (r ∷ rows) each = (
+    (one_itself r, all_still (AreOne r) (IsOneEvent t r) (one_of r) rows each.0),
+    all_both (AreOne r) (λ a. AllByRecursion (IsOneEvent t a) rows) (λ a. AllByRecursion (IsOneEvent t a) (r ∷ rows))
+        (λ a one more. (one_back a r one, more)) rows each.0 (all_one rows each.1),
+  )
 
 pub one_open : (rows : List Row) (t : ℕ) → IsConsistent rows t → HasOneOpen rows t
 one_open rows t h =
@@ -206,8 +207,8 @@ going_is_the_holder rows t e h =
         | None ↦ λ found g. refl
         | Some d ↦ λ found g.
             let early : nat_lt d.year e.year ≡ false = false_from_ne_true (nat_lt d.year e.year) (λ k.
-              let any = any_still (is_of t e.hazard e.etn d) (holds t e) (holds_from t e d k) rows (going_of_row t e.hazard e.etn rows d g) in
-              let no : true ≡ false = sym any ∙ none_found (holds t e) rows found in cc) in
+            let any = any_still (is_of t e.hazard e.etn d) (holds t e) (holds_from t e d k) rows (going_of_row t e.hazard e.etn rows d g) in
+            let no : true ≡ false = sym any ∙ none_found (holds t e) rows found in cc) in
             rw early
       ]
     ] in

@@ -13,6 +13,7 @@ ghost use Rattle.action_planner.specs.Conditions.{CanPlan};
 
 mod intent_rules;
 mod placed;
+mod rules;
 mod zone_rules;
 
 pub use placed::{Placed, any_touched, is_touched, speaks, zones_of};

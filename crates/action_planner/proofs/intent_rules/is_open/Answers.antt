@@ -1,5 +1,5 @@
 -- An event is open where it is the going one of its hazard and number.
-use Rattle.std.proofs.Common.{◌≡◌, ◌∙◌, ap}
+use Rattle.std.proofs.Common.{◌∙◌, ap}
 use Rattle.action_planner.proofs.GoingLemmas.{is_it, going_decides_open}
 use Rattle.action_planner.proofs.intent_rules.is_open.Goals as goal
 
