@@ -42,8 +42,9 @@ module _ (c : Category) (rows : List Row) (t : ℕ) where
       let lines = planned_lines c rows t ps in
       two_groups (no_intent ps) (each before_conflict) (option_map refused_clash (least_clash t (rows_taken rows t lines))) (each on_numbers) (too_many (length lines))
 
-  pub broken_by_lines : (ps : List Placed) (lines : List Line) → lines ≡ planned_lines c rows t ps → broken_by rows t ps lines ≡ broken c rows t ps
-  broken_by_lines ps lines same = ap (broken_by rows t ps) same ∙ in_groups ps
+-- what the groups give is the first rule that the draft breaks, where the lines are its own
+pub from_groups : (rows : List Row) (t : ℕ) (ps : List Placed) (lines : List Line) (found : Option Refusal) → found ≡ broken_by rows t ps lines → (c : Category) → lines ≡ planned_lines c rows t ps → found ≡ broken c rows t ps
+from_groups rows t ps lines found by c same = by ∙ ap (broken_by rows t ps) same ∙ in_groups c rows t ps
 
 -- each place is below a bound that the places do not pass
 

@@ -1,10 +1,14 @@
 //! The first rule that a draft breaks.
-ghost use Rattle.std.specs.Prelude.{◌≡◌, ◌<◌, IfOk};
+ghost use Rattle.std.specs.Prelude.{◌≡◌, ◌<◌, IfOk, option_map};
 ghost use Rattle.std.specs.List.{All};
+ghost use Rattle.hazard_board.specs.Clashes.{least_clash};
+ghost use Rattle.hazard_board.specs.Taken.{rows_taken};
 ghost use Rattle.hazard_board.specs.Consistent.{IsConsistent};
 ghost use Rattle.action_planner.specs.Placed.{Placed as PlacedIntent};
-ghost use Rattle.action_planner.specs.Offences.{first_by, too_many};
-ghost use Rattle.action_planner.specs.Rules.{offence, first_against, broken_by};
+ghost use Rattle.hazard_types.specs.declared.codes.Category.{Category};
+ghost use Rattle.action_planner.specs.Lines.{planned_lines};
+ghost use Rattle.action_planner.specs.Offences.{first_by, refused_clash, too_many, broken};
+ghost use Rattle.action_planner.specs.Rules.{offence, first_against};
 
 use crate::intent_rules::{bad_period, barred_flood, held, not_open, open_end, spent};
 use crate::placed::Placed;
@@ -93,6 +97,23 @@ fn first_against(board: &Board, t: Minute, ps: &[Placed], rules: &[Rule]) -> Opt
     None
 }
 
+/// Conflict: after the lines two live rows of one family overlap in a zone.
+fn conflict(
+    alloc: Global,
+    board: &Board,
+    t: Minute,
+    lines: &List<Line>,
+) -> Result<Option<Refusal>, Oom>
+    ensures { IfOk result (λ found. found ≡ option_map refused_clash (least_clash t (rows_taken board.now.rows t lines.now))) }
+{
+    let clash = board.conflict(alloc, lines, t)?;
+    Ok(clash.map(|clash| Refusal::Conflict {
+        zone: clash.zone,
+        first: clash.first,
+        second: clash.second,
+    }))
+}
+
 /// TooManyLines: more than 2,000 lines.
 fn too_many(lines: usize) -> Option<Refusal>
     ensures { result ≡ too_many lines }
@@ -114,7 +135,7 @@ pub fn first_broken(
 ) -> Result<Option<Refusal>, Oom>
     requires consistent { IsConsistent board.now.rows t }
     requires places { All (λ (p : PlacedIntent). p.place < 64) ps.now }
-    ensures { IfOk result (λ found. found ≡ broken_by board.now.rows t ps.now lines.now) }
+    ensures { (c : Category) → lines.now ≡ planned_lines c board.now.rows t ps.now → IfOk result (λ found. found ≡ broken c board.now.rows t ps.now) }
 {
     if ps.is_empty() {
         return Ok(Some(Refusal::EmptyDraft));
@@ -123,12 +144,9 @@ pub fn first_broken(
     if early.is_some() {
         return Ok(early);
     }
-    if let Some(clash) = board.conflict(alloc, lines, t)? {
-        return Ok(Some(Refusal::Conflict {
-            zone: clash.zone,
-            first: clash.first,
-            second: clash.second,
-        }));
+    let overlap = conflict(alloc, board, t, lines)?;
+    if overlap.is_some() {
+        return Ok(overlap);
     }
     let late = first_against(board, t, ps, &ON_NUMBERS);
     if late.is_some() {
