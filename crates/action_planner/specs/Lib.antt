@@ -1,0 +1,5 @@
+pub mod Placed
+pub mod Conditions
+pub mod Lines
+pub mod Offences
+pub mod Rules

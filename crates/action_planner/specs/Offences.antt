@@ -1,0 +1,201 @@
+-- The rules on a draft, each with the first offender against it: the first intent, then its first zone as it was written.
+use Rattle.std.specs.Prelude.{◌==◌, ◌&&◌, ◌||◌, not, ℕ, Bool, true, false, List, [], ◌∷◌, length, find, nat_lt, nat_le, if◌then◌else◌, Option, Some, None, is_some, option_map}
+use Rattle.std.specs.List.{list_any}
+use Rattle.std.specs.Option.{option_or}
+use Rattle.hazard_types.specs.Hazards.{facts_of}
+use Rattle.hazard_types.specs.Places.{Place}
+use Rattle.hazard_types.specs.Same.{same_hazard}
+use Rattle.hazard_types.specs.declared.codes.Category.{Category}
+use Rattle.hazard_types.specs.declared.facts.Facts.{Facts}
+use Rattle.hazard_types.specs.declared.hazard.Event.{Event}
+use Rattle.hazard_types.specs.declared.line.Clash.{Clash}
+use Rattle.hazard_types.specs.declared.line.Row.{Row}
+use Rattle.hazard_types.specs.declared.period.End.{End}
+use Rattle.hazard_types.specs.declared.period.End.TheVariants.{At, Ufn}
+use Rattle.hazard_types.specs.declared.refusal.Refusal.{Refusal}
+use Rattle.hazard_types.specs.declared.refusal.Refusal.TheVariants as refusal
+use Rattle.hazard_types.specs.declared.request.Intent.{Intent}
+use Rattle.hazard_types.specs.declared.request.Intent.TheVariants.{Put, Finish, Restate, Routine}
+use Rattle.hazard_types.specs.declared.request.PutPart.{PutPart}
+use Rattle.hazard_types.specs.declared.request.Target.{Target}
+use Rattle.hazard_types.specs.declared.request.Target.TheVariants.{Fresh, Join}
+use Rattle.event_life.specs.Periods.{ends_after, is_live, keeps_open}
+use Rattle.event_life.specs.Products.{is_open, row_at}
+use Rattle.hazard_board.specs.Clashes.{least_clash}
+use Rattle.hazard_board.specs.Taken.{rows_taken}
+use Rattle.action_planner.specs.Placed.{Placed, zones_of, speaks, is_opening}
+use Rattle.action_planner.specs.Lines.{minute_of, planned_lines}
+
+-- the first intent that offends
+abbrev pub first_by : (Placed → Option Refusal) → List Placed → Option Refusal
+first_by rule [] = None
+first_by rule (p ∷ ps) = option_or (rule p) (first_by rule ps)
+
+-- of an intent the first zone that offends
+abbrev pub zone_named : (Event → Place → Refusal) → Event → Option Place → Option Refusal
+zone_named names e found = option_map (names e) found
+
+abbrev pub not_live : Event → Place → Refusal
+not_live e z = refusal.NotLive e z
+
+abbrev pub left_before : Event → Place → Refusal
+left_before e z = refusal.LeftBefore e z
+
+abbrev pub twice : Event → Place → Refusal
+twice e z = refusal.Twice e z
+
+abbrev pub begun_moved : Event → Place → Refusal
+begun_moved e z = refusal.BegunMoved e z
+
+-- EmptyDraft: the draft has no intent
+abbrev pub no_intent : List Placed → Option Refusal
+no_intent [] = Some refusal.EmptyDraft
+no_intent (p ∷ ps) = None
+
+-- NoEvent: the event that is joined, finished or restated is not open
+abbrev pub not_open : List Row → ℕ → Placed → Option Refusal
+not_open rows t p = if not (is_opening p.intent) && not (is_open rows t p.event) then Some (refusal.NoEvent p.event) else None
+
+-- NotLive: a finish without a row, on an ended one, or more than half an hour after its end; a restate without a live row
+abbrev pub has_row_by : (Row → Bool) → Option Row → Bool
+has_row_by test None = false
+has_row_by test (Some row) = test row
+
+abbrev pub is_gone : List Row → ℕ → Event → Intent → Place → Bool
+is_gone rows t e (Put part) z = false
+is_gone rows t e (Finish part) z = not (has_row_by (keeps_open t) (row_at rows e z))
+is_gone rows t e (Restate part) z = not (has_row_by (is_live t) (row_at rows e z))
+is_gone rows t e (Routine part) z = false
+
+abbrev pub gone : List Row → ℕ → Placed → Option Refusal
+gone rows t p = zone_named not_live p.event (find (is_gone rows t p.event p.intent) (zones_of p.intent))
+
+-- LeftBefore: a joining put where the zone has a row that is not live
+abbrev pub joins_by : Target → Bool
+joins_by (Fresh h) = false
+joins_by (Join e) = true
+
+abbrev pub joins : Intent → Bool
+joins (Put part) = joins_by part.target
+joins (Finish part) = false
+joins (Restate part) = false
+joins (Routine part) = false
+
+abbrev pub was_left : List Row → ℕ → Event → Intent → Place → Bool
+was_left rows t e i z = joins i && has_row_by (λ (row : Row). not (is_live t row)) (row_at rows e z)
+
+abbrev pub left : List Row → ℕ → Placed → Option Refusal
+left rows t p = zone_named left_before p.event (find (was_left rows t p.event p.intent) (zones_of p.intent))
+
+-- Twice: another intent is on the event in the zone
+abbrev pub is_shared : List Placed → Placed → Place → Bool
+is_shared all p z = list_any (λ (q : Placed). not (q.place == p.place) && speaks p.event z q) all
+
+abbrev pub shared : List Placed → Placed → Option Refusal
+shared all p = zone_named twice p.event (find (is_shared all p) (zones_of p.intent))
+
+-- BadPeriod: the begin of a put is a minute before this one, or its end is not after both
+abbrev pub is_bad_period : PutPart → ℕ → Bool
+is_bad_period part t = nat_lt (minute_of part.begin t) t || not (ends_after part.end (minute_of part.begin t) && ends_after part.end t)
+
+abbrev pub bad_period_of : ℕ → ℕ → Intent → Option Refusal
+bad_period_of t place (Put part) = if is_bad_period part t then Some (refusal.BadPeriod place) else None
+bad_period_of t place (Finish part) = None
+bad_period_of t place (Restate part) = None
+bad_period_of t place (Routine part) = None
+
+abbrev pub bad_period : ℕ → Placed → Option Refusal
+bad_period t p = bad_period_of t p.place p.intent
+
+-- BegunMoved: the row has begun, and the begin of a joining put is after this minute
+abbrev pub moves : List Row → ℕ → Event → PutPart → Place → Target → Bool
+moves rows t e part z (Fresh h) = false
+moves rows t e part z (Join d) = nat_lt t (minute_of part.begin t) && has_row_by (λ (row : Row). nat_le row.period.begin t) (row_at rows e z)
+
+abbrev pub is_moved : List Row → ℕ → Event → Intent → Place → Bool
+is_moved rows t e (Put part) z = moves rows t e part z part.target
+is_moved rows t e (Finish part) z = false
+is_moved rows t e (Restate part) z = false
+is_moved rows t e (Routine part) z = false
+
+abbrev pub moved : List Row → ℕ → Placed → Option Refusal
+moved rows t p = zone_named begun_moved p.event (find (is_moved rows t p.event p.intent) (zones_of p.intent))
+
+-- NoOpenEnd: until further notice, for a hazard that may not stand so; FloodBarred: flood values for a hazard without
+abbrev pub may_stand_open : Option Facts → Bool
+may_stand_open None = false
+may_stand_open (Some facts) = facts.ufn
+
+abbrev pub takes_flood : Option Facts → Bool
+takes_flood None = false
+takes_flood (Some facts) = facts.flood
+
+abbrev pub is_open_end : End → Bool
+is_open_end (At m) = false
+is_open_end Ufn = true
+
+abbrev pub open_end_of : ℕ → Event → Intent → Option Refusal
+open_end_of place e (Put part) = if is_open_end part.end && not (may_stand_open (facts_of e.hazard)) then Some (refusal.NoOpenEnd place) else None
+open_end_of place e (Finish part) = None
+open_end_of place e (Restate part) = None
+open_end_of place e (Routine part) = None
+
+abbrev pub open_end : Placed → Option Refusal
+open_end p = open_end_of p.place p.event p.intent
+
+abbrev pub barred_flood_of : ℕ → Event → Intent → Option Refusal
+barred_flood_of place e (Put part) = if is_some part.flood && not (takes_flood (facts_of e.hazard)) then Some (refusal.FloodBarred place) else None
+barred_flood_of place e (Finish part) = None
+barred_flood_of place e (Restate part) = None
+barred_flood_of place e (Routine part) = None
+
+abbrev pub barred_flood : Placed → Option Refusal
+barred_flood p = barred_flood_of p.place p.event p.intent
+
+-- Conflict: after the lines two live rows of one family overlap; of the least zone the least pair
+abbrev pub refused_clash : Clash → Refusal
+refused_clash c = refusal.Conflict c.zone c.first c.second
+
+-- NumberHeld: an open event of an earlier year has the number that is to be opened
+abbrev pub holds : ℕ → Event → Row → Bool
+holds t e row = same_hazard row.event.hazard e.hazard && (row.event.etn == e.etn) && nat_lt row.event.year e.year && keeps_open t row
+
+abbrev pub held_by : Row → Refusal
+held_by row = refusal.NumberHeld row.event
+
+abbrev pub held : List Row → ℕ → Placed → Option Refusal
+held rows t p = if is_opening p.intent then option_map held_by (find (holds t p.event) rows) else None
+
+-- NumbersSpent: the number that is to be opened is above 9,999
+abbrev pub spent : Placed → Option Refusal
+spent p = if is_opening p.intent && nat_lt 9999 p.event.etn then Some (refusal.NumbersSpent p.event.hazard) else None
+
+-- TooManyLines: more than 2,000 of them
+abbrev pub too_many : ℕ → Option Refusal
+too_many n = if nat_lt 2000 n then Some (refusal.TooManyLines n) else None
+
+-- The rules, in the order in which they are asked.
+abbrev pub rules : Category → List Row → ℕ → List Placed → List (Option Refusal)
+rules c rows t ps =
+    no_intent ps
+    ∷ first_by (not_open rows t) ps
+    ∷ first_by (gone rows t) ps
+    ∷ first_by (left rows t) ps
+    ∷ first_by (shared ps) ps
+    ∷ first_by (bad_period t) ps
+    ∷ first_by (moved rows t) ps
+    ∷ first_by open_end ps
+    ∷ first_by barred_flood ps
+    ∷ option_map refused_clash (least_clash t (rows_taken rows t (planned_lines c rows t ps)))
+    ∷ first_by (held rows t) ps
+    ∷ first_by spent ps
+    ∷ too_many (length (planned_lines c rows t ps))
+    ∷ []
+
+abbrev pub first_given : {X : Type 0} → List (Option X) → Option X
+first_given [] = None
+first_given (x ∷ xs) = option_or x (first_given xs)
+
+-- the first rule that is broken, with what it names
+unfoldable pub broken : Category → List Row → ℕ → List Placed → Option Refusal
+broken c rows t ps = first_given (rules c rows t ps)
