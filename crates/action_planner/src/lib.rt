@@ -11,6 +11,7 @@ ghost use Rattle.action_planner.specs.Lines.{planned_lines};
 ghost use Rattle.action_planner.specs.Offences.{broken};
 ghost use Rattle.action_planner.specs.Conditions.{CanPlan};
 
+mod laws;
 mod placed;
 pub use placed::{any_touched, is_touched, speaks, zones_of, Placed};
 

@@ -1,0 +1,2 @@
+pub mod LawfulLists
+pub mod LawfulSteps
