@@ -1,2 +1,3 @@
 pub mod LawfulLists
 pub mod LawfulSteps
+pub mod LawfulPlaced
