@@ -1,7 +1,7 @@
 -- Lists: what holds of each element, of each pair, and of what is found.
-use Rattle.std.proofs.Common.{◌≡◌, ◌⊎◌, inl, inr, ⊎_elim, ◌&&◌, ◌||◌, not, List, [], ◌∷◌, ◌++◌, Bool, true, false, Option, Some, None, refl, sym, ap, ◌∙◌, cond, map}
+use Rattle.std.proofs.Common.{◌≡◌, ◌⊎◌, inl, inr, ⊎_elim, ◌&&◌, ◌||◌, not, ℕ, zero, suc, ◌+◌, ◌≤◌, ◌<◌, length, get_or, arith, List, [], ◌∷◌, ◌++◌, Bool, true, false, Option, Some, None, refl, sym, ap, ◌∙◌, cond, map}
 use Rattle.std.proofs.lemmas.Bool.{or_parts, or_from, or_left, or_right, cases_Bool}
-use Rattle.std.specs.List.{AllByRecursion, filter, find, list_any}
+use Rattle.std.specs.List.{AllByRecursion, AllPairs, filter, find, list_any}
 
 module _ {X : Type 0} where
   pub all_append : (P : X → Type 0) (xs ys : List X) → AllByRecursion P xs → AllByRecursion P ys → AllByRecursion P (xs ++ ys)
@@ -121,3 +121,59 @@ module _ {X : Type 0} where
 
   either_step : (f : X → Bool) (xs ys : List X) → (list_any f xs || list_any f ys) ≡ true → (list_any f xs ≡ true) ⊎ (list_any f ys ≡ true)
   either_step f xs ys h = ⊎_elim (λ e. inl e) (λ e. inr (let g : (false || list_any f ys) ≡ true = rw e at h in g)) (cases_Bool (list_any f xs))
+
+  pub has_all : (xs : List X) → AllByRecursion (Has xs) xs
+  has_all [] = tt
+  has_all (x ∷ xs) = (inl refl, all_weaker (Has xs) (Has (x ∷ xs)) (λ y h. inr h) xs (has_all xs))
+
+  pub pair_weaker : (R S : X → X → Type 0) → ((x y : X) → R x y → S x y) → (xs : List X) → EachPair R xs → EachPair S xs
+  pair_weaker R S f [] all = tt
+  pair_weaker R S f (x ∷ xs) all = (all_weaker (R x) (S x) (f x) xs all.0, pair_weaker R S f xs all.1)
+
+  all_kept_step : (P : X → Type 0) (f : X → Bool) (x : X) (xs : List X) (b : Bool) → P x → AllByRecursion P (filter f xs) → AllByRecursion P (cond b (x ∷ filter f xs) (filter f xs))
+  all_kept_step P f x xs true own more = (own, more)
+  all_kept_step P f x xs false own more = more
+
+  pub all_kept : (P : X → Type 0) (f : X → Bool) (xs : List X) → AllByRecursion P xs → AllByRecursion P (filter f xs)
+  all_kept P f [] all = tt
+  all_kept P f (x ∷ xs) all = all_kept_step P f x xs (f x) all.0 (all_kept P f xs all.1)
+
+  pair_filter_step : (R : X → X → Type 0) (f : X → Bool) (x : X) (xs : List X) (b : Bool) → AllByRecursion (R x) (filter f xs) → EachPair R (filter f xs) → EachPair R (cond b (x ∷ filter f xs) (filter f xs))
+  pair_filter_step R f x xs true own more = (own, more)
+  pair_filter_step R f x xs false own more = more
+
+  pub pair_filter : (R : X → X → Type 0) (f : X → Bool) (xs : List X) → EachPair R xs → EachPair R (filter f xs)
+  pair_filter R f [] all = tt
+  pair_filter R f (x ∷ xs) all = pair_filter_step R f x xs (f x) (all_kept (R x) f xs all.0) (pair_filter R f xs all.1)
+
+  -- the same by places
+  all_at : (P : X → Type 0) (xs : List X) (j : ℕ) (d : X) → j < length xs → AllByRecursion P xs → P (get_or xs j d)
+  all_at P [] j d lt all = absurd (omega (arith, lt))
+  all_at P (x ∷ xs) zero d lt all = all.0
+  all_at P (x ∷ xs) (suc j) d lt all = all_at P xs j d (omega (arith, lt)) all.1
+
+  pub pairs_from : (R : X → X → Type 0) (xs : List X) → EachPair R xs → AllPairs R xs
+  pairs_from R [] all i j d le lt = absurd (omega (arith, lt))
+  pairs_from R (x ∷ xs) all zero zero d le lt = absurd (omega (arith, le))
+  pairs_from R (x ∷ xs) all zero (suc j) d le lt = all_at (R x) xs j d (omega (arith, lt)) all.0
+  pairs_from R (x ∷ xs) all (suc i) zero d le lt = absurd (omega (arith, le))
+  pairs_from R (x ∷ xs) all (suc i) (suc j) d le lt = pairs_from R xs all.1 i j d (omega (arith, le)) (omega (arith, lt))
+
+module _ {X Y : Type 0} where
+  pub all_map : (P : Y → Type 0) (f : X → Y) (xs : List X) → AllByRecursion (λ x. P (f x)) xs → AllByRecursion P (map f xs)
+  all_map P f [] all = tt
+  all_map P f (x ∷ xs) all = (all.0, all_map P f xs all.1)
+
+  pub pair_map : (R : Y → Y → Type 0) (f : X → Y) (xs : List X) → EachPair (λ x y. R (f x) (f y)) xs → EachPair R (map f xs)
+  pair_map R f [] all = tt
+  pair_map R f (x ∷ xs) all = (all_map (R (f x)) f xs all.0, pair_map R f xs all.1)
+
+  pub has_map : (f : X → Y) (xs : List X) (y : Y) → Has (map f xs) y → (x : X) × Has xs x × (f x ≡ y)
+  has_map f [] y h = absurd h
+  has_map f (x ∷ xs) y (inl e) = (x, inl refl, e)
+  has_map f (x ∷ xs) y (inr h) = let m = has_map f xs y h in (m.0, inr m.1, m.2)
+
+  pub map_has : (f : X → Y) (xs : List X) (x : X) → Has xs x → Has (map f xs) (f x)
+  map_has f [] x h = absurd h
+  map_has f (y ∷ xs) x (inl e) = inl (ap f e)
+  map_has f (y ∷ xs) x (inr h) = inr (map_has f xs x h)

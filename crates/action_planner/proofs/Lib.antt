@@ -1,3 +1,4 @@
 pub mod LawfulLists
 pub mod LawfulSteps
 pub mod LawfulPlaced
+pub mod LawfulKeys
