@@ -18,14 +18,14 @@ use Rattle.hazard_types.specs.declared.request.Target.{Target}
 use Rattle.hazard_types.specs.declared.request.Target.TheVariants.{Fresh, Join}
 use Rattle.hazard_types.proofs.Equality.{event_itself, zone_itself, zone_one}
 use Rattle.event_life.specs.Periods.{ends_after, same_at}
-use Rattle.event_life.specs.Products.{by_key, is_routine, row_at, speaks_of}
+use Rattle.event_life.specs.Products.{by_key, is_routine, is_upgrade, row_at, speaks_of}
 use Rattle.event_life.proofs.Keys.{key_ties}
-use Rattle.event_life.proofs.Puts.{speaks_of-parts}
+use Rattle.event_life.proofs.Puts.{at_key, at_key-parts, speaks_of-parts}
 use Rattle.hazard_board.specs.Board.{has_period}
 use Rattle.action_planner.specs.Placed.{Placed, zones_of, touches, speaks}
-use Rattle.action_planner.specs.Lines.{put_period, put_period_on, opening_action, joined_row, put_line_on, line_on, finishing_action, finish_lines, restate_lines, is_near_end, is_overlaid, lines_in, lines_in_zones, lines_from, goes_on_beside, added_lines, planned_lines}
+use Rattle.action_planner.specs.Lines.{put_period, put_period_on, opening_action, joined_row, put_line_on, put_line, line_on, finishing_action, finish_lines, restate_lines, is_near_end, is_overlaid, lines_in, lines_in_zones, lines_from, goes_on_beside, added_lines, planned_lines}
 use Rattle.action_planner.specs.Offences.{is_shared}
-use Rattle.action_planner.proofs.LawfulLists.{EachPair, Has, all_append, all_each, all_weaker, all_filter, all_map, any_has, has_all, none_of, pair_append, pair_filter, pair_map, pair_weaker}
+use Rattle.action_planner.proofs.LawfulLists.{EachPair, Has, all_append, all_both, all_each, all_weaker, all_filter, all_map, any_has, has_all, none_of, pair_append, pair_filter, pair_map, pair_weaker}
 use Rattle.action_planner.proofs.LawfulPlaced.{IsFit}
 use Rattle.action_planner.proofs.LawfulSteps.{row_at-parts}
 
@@ -37,28 +37,36 @@ AreApart l m = speaks_of l.event l.zone m ≡ false
 abbrev pub IsOn : Event → Place → Line → Type 0
 IsOn e z line = (line.event ≡ e) × (line.zone ≡ z) × (is_routine line.action ≡ false)
 
-either_action : (b : Bool) (x y : Action) → is_routine x ≡ false → is_routine y ≡ false → is_routine (cond b x y) ≡ false
-either_action true x y p q = p
-either_action false x y p q = q
+either_action : (f : Action → Bool) (b : Bool) (x y : Action) → f x ≡ false → f y ≡ false → f (cond b x y) ≡ false
+either_action f true x y p q = p
+either_action f false x y p q = q
 
-opening_action-plain : (rows : List Row) (t : ℕ) (e : Event) (part : PutPart) (target : Target) → is_routine (opening_action rows t e part target) ≡ false
-opening_action-plain rows t e part (Fresh h) = refl
-opening_action-plain rows t e part (Join d) = either_action (has_period rows e (put_period part t) t) Exa Exb refl refl
+opening_action-none : (f : Action → Bool) → f New ≡ false → f Exa ≡ false → f Exb ≡ false → (rows : List Row) (t : ℕ) (e : Event) (part : PutPart) (target : Target) → f (opening_action rows t e part target) ≡ false
+opening_action-none f n a b rows t e part (Fresh h) = n
+opening_action-none f n a b rows t e part (Join d) = either_action f (has_period rows e (put_period part t) t) Exa Exb a b
+
+-- a put's line has one of five actions
+put_action-none : (f : Action → Bool) → f New ≡ false → f Exa ≡ false → f Exb ≡ false → f Con ≡ false → f Ext ≡ false → (rows : List Row) (t : ℕ) (e : Event) (part : PutPart) (z : Place) (o : Option Row) → f (put_line_on rows t e part z o).action ≡ false
+put_action-none f n a b c x rows t e part z None = opening_action-none f n a b rows t e part part.target
+put_action-none f n a b c x rows t e part z (Some row) = either_action f (same_at t row.period (put_period_on part t row)) Con Ext c x
+
+pub put-no_upgrade : (rows : List Row) (t : ℕ) (e : Event) (part : PutPart) (z : Place) → is_upgrade (put_line rows t e part z).action ≡ false
+put-no_upgrade rows t e part z = put_action-none is_upgrade refl refl refl refl refl rows t e part z (joined_row rows e z part.target)
 
 joined_zone : (rows : List Row) (e : Event) (z : Place) (target : Target) (row : Row) → joined_row rows e z target ≡ Some row → row.zone ≡ z
 joined_zone rows e z (Fresh h) row g = cc
 joined_zone rows e z (Join d) row g = (row_at-parts rows e z row g).1
 
 put_on : (rows : List Row) (t : ℕ) (e : Event) (part : PutPart) (z : Place) (o : Option Row) → joined_row rows e z part.target ≡ o → IsOn e z (put_line_on rows t e part z o)
-put_on rows t e part z None h = (refl, refl, opening_action-plain rows t e part part.target)
-put_on rows t e part z (Some row) h = (refl, joined_zone rows e z part.target row h, either_action (same_at t row.period (put_period_on part t row)) Con Ext refl refl)
+put_on rows t e part z None h = (refl, refl, put_action-none is_routine refl refl refl refl refl rows t e part z None)
+put_on rows t e part z (Some row) h = (refl, joined_zone rows e z part.target row h, put_action-none is_routine refl refl refl refl refl rows t e part z (Some row))
 
 module _ (rows : List Row) (t : ℕ) (all : List Placed) where
   finish_on : (e : Event) (z : Place) (o : Option Row) → row_at rows e z ≡ o → AllByRecursion (IsOn e z) (finish_lines rows t all o)
   finish_on e z None h = tt
   finish_on e z (Some row) h =
       let p = row_at-parts rows e z row h in
-      let plain = either_action (ends_after row.period.end t && is_overlaid rows t all row) Upg (cond (is_near_end row.period.end t) Exp Can) refl (either_action (is_near_end row.period.end t) Exp Can refl refl) in
+      let plain = either_action is_routine (ends_after row.period.end t && is_overlaid rows t all row) Upg (cond (is_near_end row.period.end t) Exp Can) refl (either_action is_routine (is_near_end row.period.end t) Exp Can refl refl) in
       ((p.0, p.1, plain), tt)
 
   restate_on : (e : Event) (z : Place) (o : Option Row) → row_at rows e z ≡ o → AllByRecursion (IsOn e z) (restate_lines t o)
@@ -167,6 +175,20 @@ module _ (rows : List Row) (t : ℕ) (all : List Placed) where
   sorted_pairs [] up = tt
   sorted_pairs (r ∷ own) up = (up.0, sorted_pairs own up.1)
 
+  -- rows in order are each found at their event and zone
+  pub rows_own : (own : List Row) → IsStrictlySortedBy by_key own → AllByRecursion (λ r. row_at own r.event r.zone ≡ Some r) own
+  unfolding IsStrictlySortedBy
+  rows_own [] up = tt
+  rows_own (r ∷ own) up =
+      let here : row_at (r ∷ own) r.event r.zone ≡ Some r = rw (event_itself r.event, zone_itself r.zone) refl in
+      let behind : (s : Row) → (by_key r s ≡ Less) × (row_at own s.event s.zone ≡ Some s) → row_at (r ∷ own) s.event s.zone ≡ Some s = λ s h.
+      let apart : at_key s.event s.zone r ≡ false = false_from_ne_true _ (λ g.
+      let k = at_key-parts s.event s.zone r g in
+      let tied : by_key r s ≡ Equal = key_ties r s k.1 k.0 in
+      let less : by_key r s ≡ Less = h.0 in cc) in
+      ap (λ (b : Bool). cond b (Some r) (row_at own s.event s.zone)) apart ∙ h.1 in
+      (here, all_weaker (λ s. (by_key r s ≡ Less) × (row_at own s.event s.zone ≡ Some s)) (λ s. row_at (r ∷ own) s.event s.zone ≡ Some s) behind own (all_both (λ s. by_key r s ≡ Less) (λ s. row_at own s.event s.zone ≡ Some s) own up.0 (rows_own own up.1)))
+
   apart_rows : (r s : Row) → by_key r s ≡ Less → AreApart (line_on Con t r) (line_on Con t s)
   apart_rows r s less = false_from_ne_true _ (λ h.
       let p = speaks_of-parts r.event r.zone (line_on Con t s) h in
@@ -202,3 +224,10 @@ module _ (rows : List Row) (t : ℕ) (all : List Placed) where
       (intents_apart all (λ f h. h) fit places) (added_apart c up)
       (all_weaker (λ l. list_any (speaks l.event l.zone) all ≡ true) (λ l. AllByRecursion (AreApart l) (added_lines c rows t all))
       (λ l h. all_weaker (λ m. list_any (speaks m.event m.zone) all ≡ false) (AreApart l) (λ m g. apart_added l m h g) (added_lines c rows t all) (added_unspoken c)) (lines_from rows t all all) (from_spoken all))
+
+  -- no planned line is a routine line
+  pub planned_touching : (c : Category) → AllByRecursion (λ l. is_routine l.action ≡ false) (planned_lines c rows t all)
+  planned_touching c = all_append (λ l. is_routine l.action ≡ false) (lines_from rows t all all) (added_lines c rows t all)
+      (each_intent (λ l. is_routine l.action ≡ false) (λ p. Unit {0}) (λ p u. each_zone (λ l. is_routine l.action ≡ false) (λ z. Unit {0}) p.event p.intent
+      (λ z v. all_weaker (IsOn p.event z) (λ l. is_routine l.action ≡ false) (λ l on. on.2) (lines_in rows t all p.event p.intent z) (lines_on p.event p.intent z)) (zones_of p.intent) (all_each (λ z. Unit {0}) (λ z. tt) (zones_of p.intent))) all (all_each (λ p. Unit {0}) (λ p. tt) all))
+      (all_map (λ l. is_routine l.action ≡ false) (line_on Con t) (filter (goes_on_beside c t all) rows) (all_each (λ r. is_routine (line_on Con t r).action ≡ false) (λ r. refl) (filter (goes_on_beside c t all) rows)))

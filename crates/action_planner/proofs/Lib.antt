@@ -2,3 +2,4 @@ pub mod LawfulLists
 pub mod LawfulSteps
 pub mod LawfulPlaced
 pub mod LawfulKeys
+pub mod LawfulLines
