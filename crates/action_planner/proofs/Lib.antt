@@ -3,3 +3,4 @@ pub mod LawfulSteps
 pub mod LawfulPlaced
 pub mod LawfulKeys
 pub mod LawfulLines
+pub mod LawfulHigher
