@@ -33,7 +33,7 @@ pub found_has : (f : Row → Bool) (xs : List Row) (y : Row) → find f xs ≡ S
 found_has f [] y h = cc
 found_has f (x ∷ xs) y h = found_has_step f (f x) x y xs h (found_has f xs y)
 
-not_bad : (bad : Bool) (r : Refusal) → cond bad (Some r) None ≡ None → bad ≡ false
+pub not_bad : (bad : Bool) (r : Refusal) → cond bad (Some r) None ≡ None → bad ≡ false
 not_bad true r h = cc
 not_bad false r h = refl
 

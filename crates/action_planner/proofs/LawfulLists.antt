@@ -119,8 +119,10 @@ module _ {X : Type 0} where
   kept f [] y h t = absurd h
   kept f (x ∷ xs) y h t = kept_step f (f x) x y xs refl h t (λ g. kept f xs y g t)
 
-  either_step : (f : X → Bool) (xs ys : List X) → (list_any f xs || list_any f ys) ≡ true → (list_any f xs ≡ true) ⊎ (list_any f ys ≡ true)
-  either_step f xs ys h = ⊎_elim (λ e. inl e) (λ e. inr (let g : (false || list_any f ys) ≡ true = rw e at h in g)) (cases_Bool (list_any f xs))
+  pub has_split : (xs ys : List X) (y : X) → Has (xs ++ ys) y → Has xs y ⊎ Has ys y
+  has_split [] ys y h = inr h
+  has_split (x ∷ xs) ys y (inl e) = inl (inl e)
+  has_split (x ∷ xs) ys y (inr h) = ⊎_elim (λ (g : Has xs y). inl (inr g)) (λ (g : Has ys y). inr g) (has_split xs ys y h)
 
   pub has_all : (xs : List X) → AllByRecursion (Has xs) xs
   has_all [] = tt

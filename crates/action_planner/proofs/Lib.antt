@@ -4,3 +4,4 @@ pub mod LawfulPlaced
 pub mod LawfulKeys
 pub mod LawfulLines
 pub mod LawfulHigher
+pub mod LawfulUpgrades
