@@ -1,41 +1,22 @@
 -- A row of a higher rank that a draft leaves live stands among the rows by which its UPG lines are judged.
-use Rattle.std.proofs.Common.{◌≡◌, ◌⊎◌, inl, inr, ⊎_elim, ◌&&◌, ◌||◌, not, ℕ, List, [], ◌∷◌, ◌++◌, Bool, true, false, Option, Some, None, refl, sym, ap, ◌∙◌, cond, map, filter, unwrap_or, option_map}
-use Rattle.std.proofs.lemmas.Bool.{and_parts, and_from, or_parts, or_left, or_right, not-true, false_from_ne_true, both_ways, cases_Bool}
-use Rattle.std.proofs.lemmas.List.Folds.{list_any-append}
+use Rattle.std.proofs.Common.{◌≡◌, ◌⊎◌, inl, inr, ◌&&◌, ◌||◌, ℕ, List, [], ◌∷◌, ◌++◌, Bool, true, false, Option, Some, None, refl, ap, ◌∙◌, cond}
+use Rattle.std.proofs.lemmas.Bool.{and_parts, or_left, or_right, false_from_ne_true, both_ways}
 use Rattle.std.specs.List.{AllByRecursion, list_any}
-use Rattle.std.specs.List.Sorted.{IsStrictlySortedBy}
 use Rattle.std.specs.Option.{is_none}
 use Rattle.hazard_types.specs.Places.{Place}
-use Rattle.hazard_types.specs.Same.{same_zone, same_event}
-use Rattle.hazard_types.specs.declared.codes.Action.{Action}
-use Rattle.hazard_types.specs.declared.codes.Action.TheVariants.{New, Con, Exa, Ext, Exb, Upg, Can, Exp}
-use Rattle.hazard_types.specs.declared.codes.Category.{Category}
 use Rattle.hazard_types.specs.declared.hazard.Event.{Event}
 use Rattle.hazard_types.specs.declared.line.Line.{Line}
 use Rattle.hazard_types.specs.declared.line.Row.{Row}
-use Rattle.hazard_types.specs.declared.period.Period.{Period}
-use Rattle.hazard_types.specs.declared.request.Intent.{Intent}
-use Rattle.hazard_types.specs.declared.request.Intent.TheVariants.{Put, Finish, Restate, Routine}
-use Rattle.hazard_types.specs.declared.request.PutPart.{PutPart}
-use Rattle.hazard_types.specs.declared.request.Target.{Target}
-use Rattle.hazard_types.specs.declared.request.Target.TheVariants.{Fresh, Join}
-use Rattle.hazard_types.proofs.Equality.{event_itself, zone_itself}
 use Rattle.event_life.specs.declared.life.Breach.{Breach}
-use Rattle.event_life.specs.declared.life.Life.{Life}
-use Rattle.event_life.specs.Table.{breach_of_line, life_after}
-use Rattle.event_life.specs.Products.{around_but_higher, by_key, end_upgraded, is_routine, is_second, is_upgrade, life_at, life_of, put, put_but_upgrades, row_after, row_at, row_of, rows_for_higher, speaks_of}
-use Rattle.event_life.proofs.Puts.{at_key, at_key-parts, row_at-put, speaks_of-parts}
-use Rattle.action_planner.proofs.LawfulLists.{EachPair, Has, all_weaker}
+use Rattle.event_life.specs.Products.{end_upgraded, is_routine, is_upgrade, put, put_but_upgrades, row_after, row_at, rows_for_higher, speaks_of}
+use Rattle.event_life.proofs.Puts.{at_key, at_key-parts, row_at-put}
+use Rattle.action_planner.proofs.LawfulLists.{EachPair}
 use Rattle.action_planner.proofs.LawfulSteps.{IsSound}
-use Rattle.action_planner.proofs.LawfulKeys.{AreApart}
+use Rattle.action_planner.proofs.LawfulKeys.{AreFirst, all_first, first_more}
 
 -- the test looks at nothing of a row but its event, zone and period, and passes none that is ended
 abbrev pub IsOfLives : (Row → Bool) → Type 0
 IsOfLives Q = (r s : Row) → r.zone ≡ s.zone → r.event ≡ s.event → r.period ≡ s.period → s.ended ≡ false → Q r ≡ true → Q s ≡ true
-
--- a line that may be judged alone: it touches a life, no earlier one speaks as it does, and it has no breach
-abbrev pub IsFirst : List Line → Line → Type 0
-IsFirst earlier line = list_any (speaks_of line.event line.zone) earlier ≡ false
 
 module _ (rows : List Row) (t : ℕ) (Q : Row → Bool) (e : Event) (z : Place) where
   -- the row of the event in the zone passes the test
@@ -69,16 +50,6 @@ module _ (rows : List Row) (t : ℕ) (Q : Row → Bool) (e : Event) (z : Place) 
       ((s || list_any (speaks_of e z) lines) ≡ true) ⊎ IsThere after → (list_any (speaks_of e z) lines ≡ true) ⊎ IsThere after
   skip_there line lines after true h up leaves some = absurd (both_ways _ (leaves h).0 up)
   skip_there line lines after false h up leaves some = some
-
-  abbrev AreFirst : List Line → List Line → Type 0
-  AreFirst earlier lines = AllByRecursion (IsFirst earlier) lines × EachPair (λ l m. speaks_of m.event m.zone l ≡ false) lines
-
-  firsts : (earlier : List Line) (line : Line) (lines : List Line) → AllByRecursion (IsFirst earlier) lines → AllByRecursion (λ m. speaks_of m.event m.zone line ≡ false) lines → AllByRecursion (IsFirst (earlier ++ line ∷ [])) lines
-  firsts earlier line [] h g = tt
-  firsts earlier line (m ∷ lines) h g = (list_any-append (speaks_of m.event m.zone) earlier (line ∷ []) ∙ rw (h.0, g.0) refl, firsts earlier line lines h.1 g.1)
-
-  first_more : (earlier : List Line) (line : Line) (lines : List Line) → AreFirst earlier (line ∷ lines) → AreFirst (earlier ++ line ∷ []) lines
-  first_more earlier line lines first = (firsts earlier line lines first.0.1 first.1.0, first.1.1)
 
   there_step : (earlier : List Line) (line : Line) (lines : List Line) (after : List Row) (u : Bool) → is_upgrade line.action ≡ u → AllByRecursion (λ l. is_routine l.action ≡ false) (line ∷ lines) → AreFirst earlier (line ∷ lines) → AllByRecursion (IsSound rows t) (line ∷ lines) → AllByRecursion Leaves (line ∷ lines) →
       (list_any (speaks_of e z) (line ∷ lines) ≡ true) ⊎ IsThere after →
@@ -118,14 +89,9 @@ module _ (rows : List Row) (t : ℕ) (Q : Row → Bool) (e : Event) (z : Place) 
       let own : (is_upgrade line.action && speaks_of e z line) ≡ false = false_from_ne_true _ (λ h. let p = and_parts (is_upgrade line.action) _ h in both_ways _ (leaves.0 p.1).0 p.0) in
       rw own (no_upgrade lines leaves.1)
 
-  all_first : (lines : List Line) → AllByRecursion (IsFirst []) lines
-  all_first [] = tt
-  all_first (line ∷ lines) = (refl, all_first lines)
-
   -- a row that passes the test, or a line that leaves one, is among the rows by which UPG lines are judged
   pub stands_after : (lines : List Line) → AllByRecursion (λ l. is_routine l.action ≡ false) lines → EachPair (λ l m. speaks_of m.event m.zone l ≡ false) lines → AllByRecursion (IsSound rows t) lines → AllByRecursion Leaves lines →
       (list_any (speaks_of e z) lines ≡ true) ⊎ IsThere rows → list_any Q (rows_for_higher rows t lines) ≡ true
   stands_after lines own apart sound leaves some =
       let there = there_after [] lines rows own (all_first lines, apart) sound leaves some in
       there_any lines (put_but_upgrades rows t [] lines rows) leaves (no_upgrade lines leaves) there.0 there.1 there.2
-

@@ -1,12 +1,13 @@
 -- No two lines of a draft speak of one event in one zone.
-use Rattle.std.proofs.Common.{◌≡◌, ◌==◌, ◌&&◌, ◌||◌, not, ℕ, List, [], ◌∷◌, ◌++◌, Bool, true, false, Option, Some, None, Ordering, Less, Equal, Greater, refl, sym, ap, ◌∙◌, cond, map, filter}
-use Rattle.std.proofs.lemmas.Bool.{and_parts, and_from, or_parts, or_left, or_right, not-true, false_from_ne_true, both_ways}
-use Rattle.std.specs.List.{AllByRecursion, AllPairs, IsDistinct, list_any}
+use Rattle.std.proofs.Common.{◌≡◌, ◌==◌, ◌&&◌, not, ℕ, List, [], ◌∷◌, ◌++◌, Bool, true, false, Option, Some, None, Less, Equal, refl, sym, ap, ◌∙◌, inl, inr, cond, filter}
+use Rattle.std.proofs.lemmas.Bool.{and_parts, and_from, or_parts, or_left, or_right, not-true, not_from_false, false_from_ne_true, both_ways}
+use Rattle.std.proofs.lemmas.List.Folds.{list_any-append}
+use Rattle.std.specs.List.{AllByRecursion, IsDistinct, list_any}
 use Rattle.std.specs.List.Sorted.{IsStrictlySortedBy}
 use Rattle.hazard_types.specs.Places.{Place}
 use Rattle.hazard_types.specs.Same.{same_zone, same_event}
 use Rattle.hazard_types.specs.declared.codes.Action.{Action}
-use Rattle.hazard_types.specs.declared.codes.Action.TheVariants.{New, Con, Exa, Ext, Exb, Upg, Can, Exp, Cor, Rou}
+use Rattle.hazard_types.specs.declared.codes.Action.TheVariants.{New, Con, Exa, Ext, Exb, Upg, Can, Exp}
 use Rattle.hazard_types.specs.declared.codes.Category.{Category}
 use Rattle.hazard_types.specs.declared.hazard.Event.{Event}
 use Rattle.hazard_types.specs.declared.line.Line.{Line}
@@ -16,16 +17,16 @@ use Rattle.hazard_types.specs.declared.request.Intent.TheVariants.{Put, Finish, 
 use Rattle.hazard_types.specs.declared.request.PutPart.{PutPart}
 use Rattle.hazard_types.specs.declared.request.Target.{Target}
 use Rattle.hazard_types.specs.declared.request.Target.TheVariants.{Fresh, Join}
-use Rattle.hazard_types.proofs.Equality.{event_itself, zone_itself, zone_one}
+use Rattle.hazard_types.proofs.Equality.{event_itself, zone_itself}
 use Rattle.event_life.specs.Periods.{ends_after, same_at}
 use Rattle.event_life.specs.Products.{by_key, is_routine, is_upgrade, row_at, speaks_of}
 use Rattle.event_life.proofs.Keys.{key_ties}
 use Rattle.event_life.proofs.Puts.{at_key, at_key-parts, speaks_of-parts}
 use Rattle.hazard_board.specs.Board.{has_period}
 use Rattle.action_planner.specs.Placed.{Placed, zones_of, touches, speaks}
-use Rattle.action_planner.specs.Lines.{put_period, put_period_on, opening_action, joined_row, put_line_on, put_line, line_on, finishing_action, finish_lines, restate_lines, is_near_end, is_overlaid, lines_in, lines_in_zones, lines_from, goes_on_beside, added_lines, planned_lines}
+use Rattle.action_planner.specs.Lines.{put_period, put_period_on, opening_action, joined_row, put_line_on, put_line, line_on, finish_lines, restate_lines, is_near_end, is_overlaid, lines_in, lines_in_zones, lines_from, goes_on_beside, added_lines, planned_lines}
 use Rattle.action_planner.specs.Offences.{is_shared}
-use Rattle.action_planner.proofs.LawfulLists.{EachPair, Has, all_append, all_both, all_each, all_weaker, all_filter, all_map, any_has, has_all, none_of, pair_append, pair_filter, pair_map, pair_weaker}
+use Rattle.action_planner.proofs.LawfulLists.{EachPair, Has, all_append, all_both, all_each, all_weaker, all_filter, all_has, all_map, any_has, has_all, pair_append, pair_filter, pair_map, pair_weaker}
 use Rattle.action_planner.proofs.LawfulPlaced.{IsFit}
 use Rattle.action_planner.proofs.LawfulSteps.{row_at-parts}
 
@@ -231,3 +232,58 @@ module _ (rows : List Row) (t : ℕ) (all : List Placed) where
       (each_intent (λ l. is_routine l.action ≡ false) (λ p. Unit {0}) (λ p u. each_zone (λ l. is_routine l.action ≡ false) (λ z. Unit {0}) p.event p.intent
       (λ z v. all_weaker (IsOn p.event z) (λ l. is_routine l.action ≡ false) (λ l on. on.2) (lines_in rows t all p.event p.intent z) (lines_on p.event p.intent z)) (zones_of p.intent) (all_each (λ z. Unit {0}) (λ z. tt) (zones_of p.intent))) all (all_each (λ p. Unit {0}) (λ p. tt) all))
       (all_map (λ l. is_routine l.action ≡ false) (line_on Con t) (filter (goes_on_beside c t all) rows) (all_each (λ r. is_routine (line_on Con t r).action ≡ false) (λ r. refl) (filter (goes_on_beside c t all) rows)))
+
+-- lines that are apart, either way
+
+-- a line's event and zone are no other line's
+pub one_line : (lines : List Line) (l : Line) → AllByRecursion (λ m. is_routine m.action ≡ false) lines → EachPair AreApart lines → Has lines l → AllByRecursion (λ m. speaks_of l.event l.zone m ≡ true → m ≡ l) lines
+one_line [] l own apart h = tt
+one_line (x ∷ lines) l own apart (inl same) = (
+  λ s. same,
+  all_weaker (AreApart x) (λ m. speaks_of l.event l.zone m ≡ true → m ≡ l) (λ m a s.
+      let other : speaks_of l.event l.zone m ≡ false = ap (λ (y : Line). speaks_of y.event y.zone m) (sym same) ∙ a in
+      absurd (both_ways _ other s)) lines apart.0,
+)
+one_line (x ∷ lines) l own apart (inr h) =
+    let apart_here : AreApart x l = all_has (AreApart x) lines l apart.0 h in
+    let plain : is_routine l.action ≡ false = all_has (λ m. is_routine m.action ≡ false) lines l own.1 h in (
+      λ s. let p = speaks_of-parts l.event l.zone x s in
+          let back : speaks_of x.event x.zone l ≡ true = and_from _ _ (and_from _ _ (not_from_false _ plain) (ap (same_event l.event) p.1 ∙ event_itself l.event)) (ap (same_zone l.zone) p.2 ∙ zone_itself l.zone) in
+          absurd (both_ways _ apart_here back),
+      one_line lines l own.1 apart.1 h,
+    )
+
+pub spoken_itself : (l : Line) → is_routine l.action ≡ false → speaks_of l.event l.zone l ≡ true
+spoken_itself l plain = and_from _ _ (and_from _ _ (not_from_false _ plain) (event_itself l.event)) (zone_itself l.zone)
+
+turned : (l m : Line) → is_routine m.action ≡ false → AreApart l m → speaks_of m.event m.zone l ≡ false
+turned l m plain apart = false_from_ne_true _ (λ s.
+    let p = speaks_of-parts m.event m.zone l s in
+    let back : speaks_of l.event l.zone m ≡ true = ap (λ (x : Event). speaks_of x l.zone m) p.1 ∙ ap (λ (y : Place). speaks_of m.event y m) p.2 ∙ spoken_itself m plain in
+    both_ways _ apart back)
+
+turned_all : (l : Line) (lines : List Line) → AllByRecursion (λ m. is_routine m.action ≡ false) lines → AllByRecursion (AreApart l) lines → AllByRecursion (λ m. speaks_of m.event m.zone l ≡ false) lines
+turned_all l [] own apart = tt
+turned_all l (m ∷ lines) own apart = (turned l m own.0 apart.0, turned_all l lines own.1 apart.1)
+
+pub turned_pairs : (lines : List Line) → AllByRecursion (λ m. is_routine m.action ≡ false) lines → EachPair AreApart lines → EachPair (λ l m. speaks_of m.event m.zone l ≡ false) lines
+turned_pairs [] own apart = tt
+turned_pairs (l ∷ lines) own apart = (turned_all l lines own.1 apart.0, turned_pairs lines own.1 apart.1)
+
+-- none of the earlier lines speaks as this one does
+abbrev pub IsFirst : List Line → Line → Type 0
+IsFirst earlier line = list_any (speaks_of line.event line.zone) earlier ≡ false
+
+abbrev pub AreFirst : List Line → List Line → Type 0
+AreFirst earlier lines = AllByRecursion (IsFirst earlier) lines × EachPair (λ l m. speaks_of m.event m.zone l ≡ false) lines
+
+firsts : (earlier : List Line) (line : Line) (lines : List Line) → AllByRecursion (IsFirst earlier) lines → AllByRecursion (λ m. speaks_of m.event m.zone line ≡ false) lines → AllByRecursion (IsFirst (earlier ++ line ∷ [])) lines
+firsts earlier line [] h g = tt
+firsts earlier line (m ∷ lines) h g = (list_any-append (speaks_of m.event m.zone) earlier (line ∷ []) ∙ rw (h.0, g.0) refl, firsts earlier line lines h.1 g.1)
+
+pub first_more : (earlier : List Line) (line : Line) (lines : List Line) → AreFirst earlier (line ∷ lines) → AreFirst (earlier ++ line ∷ []) lines
+first_more earlier line lines first = (firsts earlier line lines first.0.1 first.1.0, first.1.1)
+
+pub all_first : (lines : List Line) → AllByRecursion (IsFirst []) lines
+all_first [] = tt
+all_first (line ∷ lines) = (refl, all_first lines)

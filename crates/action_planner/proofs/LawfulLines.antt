@@ -1,14 +1,12 @@
 -- Each line of a draft of which no rule is broken has no breach, where each UPG line has its higher row.
-use Rattle.std.proofs.Common.{◌≡◌, inl, inr, ◌&&◌, not, ℕ, List, [], ◌∷◌, ◌++◌, Bool, true, false, Option, Some, None, refl, sym, ap, ◌∙◌, cond, filter, find}
+use Rattle.std.proofs.Common.{◌≡◌, inl, inr, not, ℕ, List, [], ◌∷◌, Bool, true, false, Option, Some, None, refl, cond, filter, find}
 use Rattle.std.proofs.lemmas.Bool.{and_parts, not-false}
 use Rattle.std.specs.List.{AllByRecursion}
 use Rattle.std.specs.List.Sorted.{IsStrictlySortedBy}
 use Rattle.hazard_types.specs.Places.{Place}
-use Rattle.hazard_types.specs.declared.codes.Action.{Action}
 use Rattle.hazard_types.specs.declared.codes.Action.TheVariants.{Con}
 use Rattle.hazard_types.specs.declared.codes.Category.{Category}
 use Rattle.hazard_types.specs.declared.hazard.Event.{Event}
-use Rattle.hazard_types.specs.declared.line.Line.{Line}
 use Rattle.hazard_types.specs.declared.line.Row.{Row}
 use Rattle.hazard_types.specs.declared.refusal.Refusal.{Refusal}
 use Rattle.hazard_types.specs.declared.request.Intent.{Intent}
@@ -16,13 +14,12 @@ use Rattle.hazard_types.specs.declared.request.Intent.TheVariants.{Put, Finish, 
 use Rattle.event_life.specs.Periods.{ends_after, is_live, keeps_open}
 use Rattle.event_life.specs.Products.{by_key, has_rows, is_held, is_open, row_at}
 use Rattle.event_life.proofs.Puts.{at_key}
-use Rattle.hazard_board.specs.Consistent.{IsConsistent}
-use Rattle.action_planner.specs.Placed.{Placed, zones_of, is_opening, touches, speaks}
-use Rattle.action_planner.specs.Lines.{line_on, finish_lines, restate_lines, follows, is_flood_event, lines_in, lines_in_zones, lines_from, goes_on_beside, added_lines, planned_lines}
+use Rattle.action_planner.specs.Placed.{Placed, zones_of, is_opening}
+use Rattle.action_planner.specs.Lines.{line_on, finish_lines, restate_lines, lines_in, lines_in_zones, lines_from, goes_on_beside, added_lines, planned_lines}
 use Rattle.action_planner.specs.Offences.{is_bad_period, bad_period_of, has_row_by, is_gone, was_left}
 use Rattle.action_planner.proofs.LawfulLists.{Has, all_append, all_both, all_filter, all_has, all_map, all_weaker}
 use Rattle.action_planner.proofs.LawfulPlaced.{IsFit}
-use Rattle.action_planner.proofs.LawfulSteps.{IsSound, row_at-parts, row_at-own, put_sound, con_sound, finish_sound}
+use Rattle.action_planner.proofs.LawfulSteps.{IsSound, row_at-own, put_sound, con_sound, finish_sound}
 use Rattle.action_planner.proofs.LawfulKeys.{each_zone, each_intent, rows_own}
 
 found_has_step : (f : Row → Bool) (b : Bool) (x y : Row) (xs : List Row) → cond b (Some x) (find f xs) ≡ Some y → (find f xs ≡ Some y → Has xs y) → Has (x ∷ xs) y

@@ -1,30 +1,28 @@
 -- What the rules tell of each intent of a draft at its place.
-use Rattle.std.proofs.Common.{◌≡◌, ◌==◌, ◌&&◌, not, ℕ, ◌+◌, ◌≤◌, ◌<◌, List, [], ◌∷◌, ◌++◌, Bool, true, false, Option, Some, None, refl, sym, ap, ◌∙◌, cond, length, arith, option_map, nat_le, find}
-use Rattle.std.proofs.lemmas.Bool.{and_parts, and_right, not-false, lt-leb, ne_eqb}
+use Rattle.std.proofs.Common.{◌≡◌, ◌==◌, ◌&&◌, not, ℕ, ◌<◌, List, [], ◌∷◌, ◌++◌, Bool, true, false, Option, Some, None, refl, ◌∙◌, cond, length, arith, option_map, nat_le, find}
+use Rattle.std.proofs.lemmas.Bool.{and_right, lt-leb, ne_eqb}
 use Rattle.std.proofs.lemmas.List.{length_push}
 use Rattle.std.proofs.lemmas.List.Elements.{recursion_from_All}
-use Rattle.std.specs.List.{AllByRecursion, IsDistinct, count_by, list_any}
+use Rattle.std.specs.List.{AllByRecursion, IsDistinct}
 use Rattle.std.specs.Option.{option_or}
 use Rattle.hazard_types.specs.Days.{year_of}
 use Rattle.hazard_types.specs.Places.{Place}
 use Rattle.hazard_types.specs.Same.{same_zone}
 use Rattle.hazard_types.specs.declared.codes.Category.{Category}
 use Rattle.hazard_types.specs.declared.hazard.Event.{Event}
-use Rattle.hazard_types.specs.declared.hazard.Hazard.{Hazard}
 use Rattle.hazard_types.specs.declared.line.Row.{Row}
 use Rattle.hazard_types.specs.declared.refusal.Refusal.{Refusal}
 use Rattle.hazard_types.specs.declared.request.Intent.{Intent}
 use Rattle.hazard_types.specs.declared.request.Intent.TheVariants.{Put, Finish, Restate, Routine}
-use Rattle.hazard_types.specs.declared.request.PutPart.{PutPart}
 use Rattle.hazard_types.specs.declared.request.Target.{Target}
 use Rattle.hazard_types.specs.declared.request.Target.TheVariants.{Fresh, Join}
 use Rattle.event_life.specs.Products.{has_rows, is_held, is_open}
 use Rattle.event_numbers.specs.declared.Count.{Count}
 use Rattle.event_numbers.specs.Counts.{count_of}
-use Rattle.action_planner.specs.Placed.{Placed, placed, placed_from, event_of_intent, event_of_target, new_event, opens_hazard, is_opening, is_opening_target, zones_of}
+use Rattle.action_planner.specs.Placed.{Placed, placed, placed_from, event_of_intent, event_of_target, new_event, is_opening, is_opening_target, zones_of}
 use Rattle.action_planner.specs.Conditions.{AreNumbered, CanPlan, MayHold}
-use Rattle.action_planner.specs.Offences.{broken, rules, first_by, first_given, zone_named, not_live, left_before, twice, no_intent, not_open, gone, is_gone, left, was_left, shared, is_shared, is_bad_period, bad_period, held, holds, held_by}
-use Rattle.action_planner.proofs.LawfulLists.{EachPair, all_both, find_none, none_from}
+use Rattle.action_planner.specs.Offences.{broken, rules, first_by, first_given, zone_named, not_live, left_before, twice, not_open, gone, is_gone, left, was_left, shared, is_shared, bad_period, held, holds, held_by}
+use Rattle.action_planner.proofs.LawfulLists.{EachPair, find_none, none_from}
 
 -- an intent of which no rule is broken
 pub record IsFit (rows : List Row) (t : ℕ) (all : List Placed) (p : Placed) : Type 0 where

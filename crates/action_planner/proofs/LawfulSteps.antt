@@ -1,12 +1,11 @@
 -- A line of each kind, on the row that it meets, has no breach.
-use Rattle.std.proofs.Common.{◌≡◌, ◌==◌, ◌&&◌, ◌||◌, not, ℕ, ◌+◌, ◌≤◌, ◌<◌, List, [], ◌∷◌, Bool, true, false, Option, Some, None, refl, sym, ap, ◌∙◌, cond, min, unwrap_or, option_map, arith, nat_lt, nat_le}
-use Rattle.std.proofs.lemmas.Bool.{and_parts, and_from, and_right, and_cases, or_parts, or_from, not-false, not-true, not_from_true, ltb-true, ltb-false, leb-true, leb-false, lt-ltb, le-ltb, le-leb, lt-leb, eq-eqb}
-use Rattle.std.specs.List.{AllByRecursion, list_any, find}
-use Rattle.std.specs.Option.{is_none}
+use Rattle.std.proofs.Common.{◌≡◌, ◌&&◌, ◌||◌, not, ℕ, ◌+◌, ◌≤◌, List, [], ◌∷◌, Bool, true, false, Option, Some, None, refl, sym, ap, ◌∙◌, cond, min, unwrap_or, arith, nat_lt, nat_le}
+use Rattle.std.proofs.lemmas.Bool.{and_parts, and_from, and_right, or_parts, or_from, not-false, not-true, not_from_true, ltb-true, ltb-false, leb-true, leb-false, lt-ltb, le-ltb, eq-eqb}
+use Rattle.std.specs.List.{AllByRecursion}
 use Rattle.hazard_types.specs.Places.{Place}
-use Rattle.hazard_types.specs.Same.{same_zone, same_event}
+use Rattle.hazard_types.specs.Same.{same_event}
 use Rattle.hazard_types.specs.declared.codes.Action.{Action}
-use Rattle.hazard_types.specs.declared.codes.Action.TheVariants.{New, Con, Exa, Ext, Exb, Upg, Can, Exp, Cor, Rou}
+use Rattle.hazard_types.specs.declared.codes.Action.TheVariants.{Con, Exa, Exb, Upg, Can, Exp}
 use Rattle.hazard_types.specs.declared.hazard.Event.{Event}
 use Rattle.hazard_types.specs.declared.line.Line.{Line}
 use Rattle.hazard_types.specs.declared.line.Row.{Row}
@@ -19,13 +18,13 @@ use Rattle.hazard_types.specs.declared.request.Target.TheVariants.{Fresh, Join}
 use Rattle.event_life.specs.declared.life.Breach.{Breach}
 use Rattle.event_life.specs.declared.life.Breach.TheVariants.{TooEarly, PeriodMoved, PeriodSame, TooLate, NoHigher}
 use Rattle.event_life.specs.Periods.{ends_after, ends_within, is_live, keeps_open, same_at, same_end}
-use Rattle.event_life.specs.Table.{first_of, ◌named◌, on_new, on_joining, on_continuing, on_ending, prints_begin, moves_begin, prints_past, prints_later, expires_early, expires_late, cancels_late, continued_period, stays, breach_of_line}
+use Rattle.event_life.specs.Table.{first_of, on_continuing, on_ending, prints_begin, moves_begin, prints_past, prints_later, expires_early, expires_late, cancels_late, continued_period, stays, breach_of_line}
 use Rattle.event_life.specs.Products.{around_but_higher, has_rows, is_held, is_open, is_upgrade, life_at, life_of, row_at}
 use Rattle.event_life.proofs.Puts.{at_key, at_key-parts}
 use Rattle.hazard_board.specs.Board.{has_period}
-use Rattle.hazard_types.specs.declared.request.Intent.TheVariants.{Put, Finish, Restate, Routine}
+use Rattle.hazard_types.specs.declared.request.Intent.TheVariants.{Put}
 use Rattle.action_planner.specs.Placed.{Placed, is_opening_target}
-use Rattle.action_planner.specs.Lines.{minute_of, put_period, put_period_on, printed_begin, opening_action, opening_line, continuing_line, joined_row, put_line_on, put_line, line_on, is_near_end, is_overlaid, finishing_action}
+use Rattle.action_planner.specs.Lines.{minute_of, put_period, put_period_on, printed_begin, opening_action, continuing_line, joined_row, put_line_on, put_line, line_on, is_near_end, is_overlaid, finishing_action}
 use Rattle.action_planner.specs.Offences.{is_bad_period, has_row_by, joins_by, was_left}
 use Rattle.action_planner.proofs.LawfulLists.{found, none_of, no_find, all_weaker}
 

@@ -1,40 +1,37 @@
 -- Each UPG line of a draft has its higher row.
-use Rattle.std.proofs.Common.{◌≡◌, ◌⊎◌, inl, inr, ⊎_elim, ◌&&◌, ◌||◌, not, ℕ, List, [], ◌∷◌, ◌++◌, Bool, true, false, Option, Some, None, refl, sym, ap, ◌∙◌, cond, map, filter, unwrap_or, option_map}
-use Rattle.std.proofs.lemmas.Bool.{and_parts, and_from, or_right, not-true, not_from_false, false_from_ne_true, both_ways}
+use Rattle.std.proofs.Common.{◌≡◌, inl, inr, ⊎_elim, ◌&&◌, not, ℕ, List, [], ◌∷◌, Bool, true, false, Option, Some, None, refl, sym, ap, ◌∙◌, cond, filter, option_map}
+use Rattle.std.proofs.lemmas.Bool.{and_parts, and_from, or_right, not-true, not_from_false, both_ways}
 use Rattle.std.specs.List.{AllByRecursion, list_any}
 use Rattle.std.specs.List.Sorted.{IsStrictlySortedBy}
 use Rattle.hazard_types.specs.Places.{Place}
 use Rattle.hazard_types.specs.Same.{same_zone, same_event}
-use Rattle.hazard_types.specs.declared.codes.Action.{Action}
-use Rattle.hazard_types.specs.declared.codes.Action.TheVariants.{New, Con, Exa, Ext, Exb, Upg, Can, Exp}
+use Rattle.hazard_types.specs.declared.codes.Action.TheVariants.{Con, Upg, Can, Exp}
 use Rattle.hazard_types.specs.declared.codes.Category.{Category}
 use Rattle.hazard_types.specs.declared.hazard.Event.{Event}
 use Rattle.hazard_types.specs.declared.line.Line.{Line}
 use Rattle.hazard_types.specs.declared.line.Row.{Row}
 use Rattle.hazard_types.specs.declared.period.Period.{Period}
-use Rattle.hazard_types.specs.declared.refusal.Refusal.{Refusal}
 use Rattle.hazard_types.specs.declared.request.Intent.{Intent}
 use Rattle.hazard_types.specs.declared.request.Intent.TheVariants.{Put, Finish, Restate, Routine}
 use Rattle.hazard_types.specs.declared.request.PutPart.{PutPart}
 use Rattle.hazard_types.specs.declared.request.Target.{Target}
 use Rattle.hazard_types.specs.declared.request.Target.TheVariants.{Fresh, Join}
-use Rattle.hazard_types.proofs.Equality.{event_itself, zone_itself}
+use Rattle.hazard_types.proofs.Equality.{event_itself}
 use Rattle.event_life.specs.declared.life.Life.{Life}
 use Rattle.event_life.specs.Higher.{may_yield, outranks}
 use Rattle.event_life.specs.Periods.{ends_after, is_live, overlaps, same_at}
 use Rattle.event_life.specs.Table.{continued_period, flood_after, life_after, left_of_life}
-use Rattle.event_life.specs.Products.{by_key, has_higher, has_rows, is_overlapped, is_routine, is_upgrade, life_at, life_of, row_after, row_at, row_of, rows_for_higher, speaks_of}
+use Rattle.event_life.specs.Products.{by_key, has_higher, has_rows, is_overlapped, is_routine, is_upgrade, life_of, row_after, row_at, row_of, rows_for_higher, speaks_of}
 use Rattle.event_life.proofs.Puts.{speaks_of-parts}
-use Rattle.hazard_board.specs.Board.{has_period}
 use Rattle.action_planner.specs.Placed.{Placed, zones_of, is_opening, is_opening_target, touches, speaks}
 use Rattle.action_planner.specs.Lines.{put_period, put_period_on, continuing_line, opening_line, joined_row, put_line_on, put_line, line_on, puts_or_finishes, is_left, period_by_put, row_by_put, rows_by_intent, rows_by_puts, rows_left, is_overlaid, is_near_end, finishing_action, finish_lines, restate_lines, lines_in, lines_in_zones, lines_from, goes_on_beside, added_lines, planned_lines}
 use Rattle.action_planner.specs.Offences.{is_bad_period, bad_period_of}
-use Rattle.action_planner.proofs.LawfulLists.{EachPair, Has, all_append, all_both, all_each, all_filter, all_has, all_map, all_weaker, any_has, has_any, has_filter, has_left, has_map, has_right, has_split, none_of}
+use Rattle.action_planner.proofs.LawfulLists.{EachPair, Has, all_append, all_each, all_filter, all_has, all_map, all_weaker, any_has, has_any, has_filter, has_left, has_map, has_right, has_split, none_of}
 use Rattle.action_planner.proofs.LawfulPlaced.{IsFit}
 use Rattle.action_planner.proofs.LawfulSteps.{IsSound, continued_by_put, continued_as_is, no_row, row_at-own, row_at-parts}
-use Rattle.action_planner.proofs.LawfulKeys.{AreApart, IsOn, each_zone, each_intent, lines_on, put-no_upgrade, rows_own, touched_zones}
+use Rattle.action_planner.proofs.LawfulKeys.{AreApart, IsOn, each_zone, each_intent, lines_on, one_line, put-no_upgrade, rows_own, spoken_itself, touched_zones, turned_pairs}
 use Rattle.action_planner.proofs.LawfulLines.{not_bad}
-use Rattle.action_planner.proofs.LawfulHigher.{IsOfLives, IsThere, Leaves, stands_after}
+use Rattle.action_planner.proofs.LawfulHigher.{IsOfLives, Leaves, stands_after}
 
 -- what lines leave
 
@@ -168,40 +165,9 @@ module _ (rows : List Row) (t : ℕ) (all : List Placed) (Q : Row → Bool) (liv
       (m.0, has_right (lines_in_zones rows t all p.event p.intent (zones_of p.intent)) (lines_from rows t all qs) m.0 m.1, m.2, m.3))
       (has_split (rows_by_intent rows t p p.intent) (rows_by_puts rows t qs) row h)
 
-  -- a line's event and zone are no other line's
-  one_line : (lines : List Line) (l : Line) → AllByRecursion (λ m. is_routine m.action ≡ false) lines → EachPair AreApart lines → Has lines l → AllByRecursion (λ m. speaks_of l.event l.zone m ≡ true → m ≡ l) lines
-  one_line [] l own apart h = tt
-  one_line (x ∷ lines) l own apart (inl same) =
-      (λ s. same, all_weaker (AreApart x) (λ m. speaks_of l.event l.zone m ≡ true → m ≡ l) (λ m a s.
-      let other : speaks_of l.event l.zone m ≡ false = ap (λ (y : Line). speaks_of y.event y.zone m) (sym same) ∙ a in
-      absurd (both_ways _ other s)) lines apart.0)
-  one_line (x ∷ lines) l own apart (inr h) =
-      let apart_here : AreApart x l = all_has (AreApart x) lines l apart.0 h in
-      let plain : is_routine l.action ≡ false = all_has (λ m. is_routine m.action ≡ false) lines l own.1 h in
-      (λ s. let p = speaks_of-parts l.event l.zone x s in
-      let back : speaks_of x.event x.zone l ≡ true = and_from _ _ (and_from _ _ (not_from_false _ plain) (ap (same_event l.event) p.1 ∙ event_itself l.event)) (ap (same_zone l.zone) p.2 ∙ zone_itself l.zone) in
-      absurd (both_ways _ apart_here back), one_line lines l own.1 apart.1 h)
-
-  spoken_itself : (l : Line) → is_routine l.action ≡ false → speaks_of l.event l.zone l ≡ true
-  spoken_itself l plain = and_from _ _ (and_from _ _ (not_from_false _ plain) (event_itself l.event)) (zone_itself l.zone)
-
-  turned : (l m : Line) → is_routine m.action ≡ false → AreApart l m → speaks_of m.event m.zone l ≡ false
-  turned l m plain apart = false_from_ne_true _ (λ s.
-      let p = speaks_of-parts m.event m.zone l s in
-      let back : speaks_of l.event l.zone m ≡ true = ap (λ (x : Event). speaks_of x l.zone m) p.1 ∙ ap (λ (y : Place). speaks_of m.event y m) p.2 ∙ spoken_itself m plain in
-      both_ways _ apart back)
-
-  turned_all : (l : Line) (lines : List Line) → AllByRecursion (λ m. is_routine m.action ≡ false) lines → AllByRecursion (AreApart l) lines → AllByRecursion (λ m. speaks_of m.event m.zone l ≡ false) lines
-  turned_all l [] own apart = tt
-  turned_all l (m ∷ lines) own apart = (turned l m own.0 apart.0, turned_all l lines own.1 apart.1)
-
-  pub turned_pairs : (lines : List Line) → AllByRecursion (λ m. is_routine m.action ≡ false) lines → EachPair AreApart lines → EachPair (λ l m. speaks_of m.event m.zone l ≡ false) lines
-  turned_pairs [] own apart = tt
-  turned_pairs (l ∷ lines) own apart = (turned_all l lines own.1 apart.0, turned_pairs lines own.1 apart.1)
-
   -- such a row among those that the draft leaves is among those by which UPG lines are judged
   module _ (c : Category) (up : IsStrictlySortedBy by_key rows) (fit : AllByRecursion (IsFit rows t all) all) (own : AllByRecursion (λ m. is_routine m.action ≡ false) (planned_lines c rows t all))
-    (apart : EachPair AreApart (planned_lines c rows t all)) (sound : AllByRecursion (IsSound rows t) (planned_lines c rows t all)) where
+      (apart : EachPair AreApart (planned_lines c rows t all)) (sound : AllByRecursion (IsSound rows t) (planned_lines c rows t all)) where
     left_stands : (r : Row) → Has rows r → is_left all r ≡ true → Q r ≡ true → list_any Q (rows_for_higher rows t (planned_lines c rows t all)) ≡ true
     left_stands r h left q =
         let lines = planned_lines c rows t all in
@@ -248,7 +214,7 @@ upgrade_only false true h = cc
 upgrade_only false false h = cc
 
 module _ (rows : List Row) (t : ℕ) (all : List Placed) (c : Category) (up : IsStrictlySortedBy by_key rows) (fit : AllByRecursion (IsFit rows t all) all) (own : AllByRecursion (λ m. is_routine m.action ≡ false) (planned_lines c rows t all))
-  (apart : EachPair AreApart (planned_lines c rows t all)) (sound : AllByRecursion (IsSound rows t) (planned_lines c rows t all)) where
+    (apart : EachPair AreApart (planned_lines c rows t all)) (sound : AllByRecursion (IsSound rows t) (planned_lines c rows t all)) where
   -- a UPG line has its higher row
   abbrev pub HasHigher : Line → Type 0
   HasHigher line = is_upgrade line.action ≡ true → has_higher rows t (planned_lines c rows t all) line ≡ true

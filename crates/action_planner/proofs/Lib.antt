@@ -5,3 +5,4 @@ pub mod LawfulKeys
 pub mod LawfulLines
 pub mod LawfulHigher
 pub mod LawfulUpgrades
+pub mod Lawful
