@@ -1,17 +1,21 @@
 -- A draft of which no rule is broken has lawful lines.
 use Rattle.std.proofs.Common.{◌≡◌, ℕ, List, [], ◌∷◌, ◌++◌, true, false, Option, None, refl, ap, ◌∙◌}
-use Rattle.std.proofs.lemmas.Bool.{and_from}
+use Rattle.std.proofs.lemmas.Bool.{and_from, both_ways}
 use Rattle.std.specs.Bool.{IsTrue}
-use Rattle.std.specs.List.{AllByRecursion, list_all}
+use Rattle.std.specs.List.{All, AllByRecursion, AllPairs, list_all}
+use Rattle.std.proofs.lemmas.List.Elements.{All-from_recursion}
 use Rattle.std.specs.List.Sorted.{IsStrictlySortedBy}
 use Rattle.std.specs.Option.{is_none}
 use Rattle.hazard_types.specs.declared.codes.Category.{Category}
+use Rattle.hazard_types.specs.Places.{Place}
+use Rattle.hazard_types.specs.declared.hazard.Event.{Event}
 use Rattle.hazard_types.specs.declared.line.Line.{Line}
 use Rattle.hazard_types.specs.declared.line.Row.{Row}
 use Rattle.hazard_types.specs.declared.request.Intent.{Intent}
 use Rattle.event_life.specs.declared.life.Breach.{Breach}
 use Rattle.event_life.specs.Table.{breach_of_line}
-use Rattle.event_life.specs.Products.{around_of, by_key, has_higher, is_routine, is_upgrade, judged_from, life_at}
+use Rattle.event_life.specs.Lives.{opens}
+use Rattle.event_life.specs.Products.{around_of, breach_in, by_key, has_higher, is_routine, is_upgrade, judged_from, life_at, row_at, speaks_of}
 use Rattle.event_life.proofs.LawfulLemmas.{HaveNoBreach}
 use Rattle.event_life.proofs.Spoken.{breach_in-first}
 use Rattle.event_numbers.specs.declared.Count.{Count}
@@ -20,10 +24,11 @@ use Rattle.action_planner.specs.Placed.{placed}
 use Rattle.action_planner.specs.Lines.{planned_lines}
 use Rattle.action_planner.specs.Conditions.{CanPlan}
 use Rattle.action_planner.specs.Offences.{broken}
-use Rattle.action_planner.proofs.LawfulLists.{EachPair, all_both, all_weaker}
+use Rattle.action_planner.proofs.LawfulLists.{EachPair, all_both, all_weaker, pair_both, pair_weaker, pairs_from}
 use Rattle.action_planner.proofs.LawfulPlaced.{IsFit, fits, places_apart}
 use Rattle.action_planner.proofs.LawfulSteps.{IsSound}
-use Rattle.action_planner.proofs.LawfulKeys.{AreApart, AreFirst, all_first, first_more, planned_apart, planned_touching, turned_pairs}
+use Rattle.action_planner.proofs.LawfulKeys.{AreApart, AreFirst, all_first, first_more, planned_apart, planned_touching, spoken_itself, turned_pairs}
+use Rattle.action_planner.proofs.LawfulOpenings.{opens_exactly}
 use Rattle.action_planner.proofs.LawfulLines.{planned_sound}
 use Rattle.action_planner.proofs.LawfulUpgrades.{planned_higher}
 
@@ -70,3 +75,15 @@ module _ (c : Category) (rows : List Row) (counts : List Count) (intents : List 
   planned_lawful =
       let turned = turned_pairs these plain apart in
       none_judged rows t these [] these (no_breaches rows t these [] these (all_first these, turned) alone)
+
+  pub planned_distinct : AllPairs (λ (l m : Line). (l.event ≡ m.event) × (l.zone ≡ m.zone) → ⊥) these
+  planned_distinct =
+      let plain_pairs : EachPair (λ l m. (is_routine m.action ≡ false) × AreApart l m) these = pair_both (λ (m : Line). is_routine m.action ≡ false) AreApart these plain apart in
+      pairs_from (λ (l m : Line). (l.event ≡ m.event) × (l.zone ≡ m.zone) → ⊥) these
+      (pair_weaker (λ l m. (is_routine m.action ≡ false) × AreApart l m) (λ l m. (l.event ≡ m.event) × (l.zone ≡ m.zone) → ⊥) (λ l m k same.
+      let spoken : speaks_of l.event l.zone m ≡ true = ap (λ (x : Event). speaks_of x l.zone m) same.0 ∙ ap (λ (y : Place). speaks_of m.event y m) same.1 ∙ spoken_itself m k.0 in
+      both_ways _ k.1 spoken) these plain_pairs)
+
+  pub planned_opens : All (λ (l : Line). opens l.action ≡ is_none (row_at rows l.event l.zone)) these
+  planned_opens = All-from_recursion (λ (l : Line). opens l.action ≡ is_none (row_at rows l.event l.zone)) these
+      (all_weaker (IsAlone rows t these) (λ l. opens l.action ≡ is_none (row_at rows l.event l.zone)) (λ l k. opens_exactly rows l t (around_of rows t these l) k.0 k.1) these alone)

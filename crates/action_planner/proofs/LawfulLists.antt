@@ -132,6 +132,11 @@ module _ {X : Type 0} where
   pair_weaker R S f [] all = tt
   pair_weaker R S f (x ∷ xs) all = (all_weaker (R x) (S x) (f x) xs all.0, pair_weaker R S f xs all.1)
 
+  -- what holds of each, and of each pair
+  pub pair_both : (P : X → Type 0) (R : X → X → Type 0) (xs : List X) → AllByRecursion P xs → EachPair R xs → EachPair (λ x y. P y × R x y) xs
+  pair_both P R [] all pairs = tt
+  pair_both P R (x ∷ xs) all pairs = (all_both P (R x) xs all.1 pairs.0, pair_both P R xs all.1 pairs.1)
+
   all_kept_step : (P : X → Type 0) (f : X → Bool) (x : X) (xs : List X) (b : Bool) → P x → AllByRecursion P (filter f xs) → AllByRecursion P (cond b (x ∷ filter f xs) (filter f xs))
   all_kept_step P f x xs true own more = (own, more)
   all_kept_step P f x xs false own more = more

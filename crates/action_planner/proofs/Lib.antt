@@ -5,4 +5,5 @@ pub mod LawfulKeys
 pub mod LawfulLines
 pub mod LawfulHigher
 pub mod LawfulUpgrades
+pub mod LawfulOpenings
 pub mod Lawful
