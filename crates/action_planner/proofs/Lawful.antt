@@ -15,7 +15,7 @@ use Rattle.hazard_types.specs.declared.request.Intent.{Intent}
 use Rattle.event_life.specs.declared.life.Breach.{Breach}
 use Rattle.event_life.specs.Table.{breach_of_line}
 use Rattle.event_life.specs.Lives.{opens}
-use Rattle.event_life.specs.Products.{around_of, breach_in, by_key, has_higher, is_routine, is_upgrade, judged_from, life_at, row_at, speaks_of}
+use Rattle.event_life.specs.Products.{around_of, by_key, has_higher, is_routine, is_upgrade, judged_from, life_at, row_at, speaks_of}
 use Rattle.event_life.proofs.LawfulLemmas.{HaveNoBreach}
 use Rattle.event_life.proofs.Spoken.{breach_in-first}
 use Rattle.event_numbers.specs.declared.Count.{Count}

@@ -38,7 +38,7 @@ AreApart l m = speaks_of l.event l.zone m ≡ false
 abbrev pub IsOn : Event → Place → Line → Type 0
 IsOn e z line = (line.event ≡ e) × (line.zone ≡ z) × (is_routine line.action ≡ false)
 
-either_action : (f : Action → Bool) (b : Bool) (x y : Action) → f x ≡ false → f y ≡ false → f (cond b x y) ≡ false
+pub either_action : (f : Action → Bool) (b : Bool) (x y : Action) → f x ≡ false → f y ≡ false → f (cond b x y) ≡ false
 either_action f true x y p q = p
 either_action f false x y p q = q
 

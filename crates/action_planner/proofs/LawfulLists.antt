@@ -1,7 +1,7 @@
 -- Lists: what holds of each element, of each pair, and of what is found.
 use Rattle.std.proofs.Common.{◌≡◌, ◌⊎◌, inl, inr, ⊎_elim, ◌||◌, ℕ, zero, suc, ◌<◌, length, get_or, arith, List, [], ◌∷◌, ◌++◌, Bool, true, false, Option, Some, None, refl, ap, cond, map}
 use Rattle.std.proofs.lemmas.Bool.{or_parts, or_from, or_left, or_right}
-use Rattle.std.specs.List.{AllByRecursion, AllPairs, filter, find, list_any}
+use Rattle.std.specs.List.{AllByRecursion, AllPairs, Any, Contains, filter, find, list_any}
 
 module _ {X : Type 0} where
   pub all_append : (P : X → Type 0) (xs ys : List X) → AllByRecursion P xs → AllByRecursion P ys → AllByRecursion P (xs ++ ys)
@@ -131,6 +131,15 @@ module _ {X : Type 0} where
   pub pair_weaker : (R S : X → X → Type 0) → ((x y : X) → R x y → S x y) → (xs : List X) → EachPair R xs → EachPair S xs
   pair_weaker R S f [] all = tt
   pair_weaker R S f (x ∷ xs) all = (all_weaker (R x) (S x) (f x) xs all.0, pair_weaker R S f xs all.1)
+
+  -- the same in the words of clauses
+  pub contains_from : (xs : List X) (y : X) → Has xs y → Contains xs y
+  contains_from [] y h = absurd h
+  contains_from (x ∷ xs) y (inl e) = (0, omega arith, e)
+  contains_from (x ∷ xs) y (inr h) = let m = contains_from xs y h in (suc m.0, omega (arith, m.1), m.2)
+
+  pub any_from : (P : X → Type 0) (xs : List X) (y : X) → Has xs y → P y → Any P xs
+  any_from P xs y h p = let m = contains_from xs y h in (m.0, y, m.1, m.2, p)
 
   -- what holds of each, and of each pair
   pub pair_both : (P : X → Type 0) (R : X → X → Type 0) (xs : List X) → AllByRecursion P xs → EachPair R xs → EachPair (λ x y. P y × R x y) xs

@@ -4,5 +4,8 @@
 mod laws;
 mod placed;
 
-pub use laws::planned_lines_are_lawful;
+pub use laws::{
+    new_lines_are_of_opened_events, opened_events_are_numbered_on, planned_lines_are_distinct,
+    planned_lines_are_lawful, planned_lines_open_where_no_row_stands,
+};
 pub use placed::{Placed, any_touched, is_touched, speaks, zones_of};
