@@ -1,2 +1,11 @@
 pub mod GoingLemmas
 pub mod RulesLemmas
+pub mod LawfulLists
+pub mod LawfulSteps
+pub mod LawfulPlaced
+pub mod LawfulKeys
+pub mod LawfulLines
+pub mod LawfulHigher
+pub mod LawfulUpgrades
+pub mod LawfulOpenings
+pub mod Lawful

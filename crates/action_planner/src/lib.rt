@@ -21,3 +21,7 @@ pub use placed::{Placed, any_touched, is_touched, speaks, zones_of};
 pub fn try_it()
     ensures { (c : Category) (rows : List Row) (counts : List Count) (t : ℕ) (intents : List Intent) → CanPlan rows counts c intents t → broken c rows t (placed counts t intents) ≡ broken c rows t (placed counts t intents) }
 {}
+mod laws;
+pub use laws::{
+    new_lines_are_of_opened_events, opened_events_are_numbered_on, planned_lines_are_distinct,
+    planned_lines_are_lawful, planned_lines_open_where_no_row_stands,

@@ -1,0 +1,59 @@
+//! Laws of planned lines.
+ghost use Rattle.std.specs.Prelude.{◌≡◌, ◌+◌, ℕ, true, List, None, IsTrue, count_by, is_none};
+ghost use Rattle.std.specs.List.{All, AllPairs, Any, Contains};
+ghost use Rattle.std.specs.List.Sorted.{IsStrictlySortedBy};
+ghost use Rattle.hazard_types.specs.Days.{year_of};
+ghost use Rattle.hazard_types.specs.declared.codes.Category.{Category};
+ghost use Rattle.hazard_types.specs.declared.hazard.Event.{Event};
+ghost use Rattle.hazard_types.specs.declared.hazard.Hazard.{Hazard};
+ghost use Rattle.hazard_types.specs.declared.line.Line.{Line};
+ghost use Rattle.hazard_types.specs.declared.line.Row.{Row};
+ghost use Rattle.hazard_types.specs.declared.request.Intent.{Intent};
+ghost use Rattle.event_life.specs.Lives.{opens};
+ghost use Rattle.event_life.specs.Openings.{numbers_of, counted_from};
+ghost use Rattle.event_life.specs.Products.{by_key, is_new, row_at};
+ghost use Rattle.event_numbers.specs.declared.Count.{Count};
+ghost use Rattle.event_numbers.specs.Counts.{count_of};
+ghost use Rattle.hazard_board.specs.Board.{are_lawful};
+ghost use Rattle.action_planner.specs.Placed.{placed, opened, opens_hazard};
+ghost use Rattle.action_planner.specs.Lines.{planned_lines};
+ghost use Rattle.action_planner.specs.Offences.{broken};
+ghost use Rattle.action_planner.specs.Conditions.{CanPlan};
+
+/// Where a draft breaks no rule, none of its lines has a breach.
+pub fn planned_lines_are_lawful()
+    ensures { (c : Category) (rows : List Row) (counts : List Count) (intents : List Intent) (t : ℕ) →
+        CanPlan rows counts c intents t → IsStrictlySortedBy by_key rows → broken c rows t (placed counts t intents) ≡ None →
+        IsTrue (are_lawful rows t (planned_lines c rows t (placed counts t intents))) }
+{}
+
+/// Where a draft breaks no rule, no two of its lines are of one event in one zone.
+pub fn planned_lines_are_distinct()
+    ensures { (c : Category) (rows : List Row) (counts : List Count) (intents : List Intent) (t : ℕ) →
+        CanPlan rows counts c intents t → IsStrictlySortedBy by_key rows → broken c rows t (placed counts t intents) ≡ None →
+        AllPairs (λ (l m : Line). ¬ ((l.event ≡ m.event) × (l.zone ≡ m.zone))) (planned_lines c rows t (placed counts t intents)) }
+{}
+
+/// Where a draft breaks no rule, its NEW, EXA and EXB lines are those whose event has no row in the zone; the others each speak of a row.
+pub fn planned_lines_open_where_no_row_stands()
+    ensures { (c : Category) (rows : List Row) (counts : List Count) (intents : List Intent) (t : ℕ) →
+        CanPlan rows counts c intents t → IsStrictlySortedBy by_key rows → broken c rows t (placed counts t intents) ≡ None →
+        All (λ (line : Line). opens line.action ≡ is_none (row_at rows line.event line.zone)) (planned_lines c rows t (placed counts t intents)) }
+{}
+
+/// The events that a draft opens are of the year of issue, and those of each hazard are numbered on from the counts, in order of places.
+pub fn opened_events_are_numbered_on()
+    ensures year { (counts : List Count) (intents : List Intent) (t : ℕ) →
+        All (λ (e : Event). e.year ≡ year_of t) (opened (placed counts t intents)) }
+    ensures numbers { (counts : List Count) (intents : List Intent) (t : ℕ) (h : Hazard) →
+        numbers_of h (year_of t) (opened (placed counts t intents)) ≡ counted_from (count_of counts h (year_of t) + 1) (count_by (opens_hazard h) intents) }
+{}
+
+/// The NEW lines of a draft are of the events that it opens, and each of these has one.
+pub fn new_lines_are_of_opened_events()
+    ensures lines { (c : Category) (rows : List Row) (counts : List Count) (intents : List Intent) (t : ℕ) →
+        All (λ (line : Line). is_new line.action ≡ true → Contains (opened (placed counts t intents)) line.event) (planned_lines c rows t (placed counts t intents)) }
+    ensures events { (c : Category) (rows : List Row) (counts : List Count) (intents : List Intent) (t : ℕ) →
+        CanPlan rows counts c intents t →
+        All (λ (e : Event). Any (λ (line : Line). (is_new line.action ≡ true) × (line.event ≡ e)) (planned_lines c rows t (placed counts t intents))) (opened (placed counts t intents)) }
+{}
