@@ -9,3 +9,7 @@ pub mod LawfulHigher
 pub mod LawfulUpgrades
 pub mod LawfulOpenings
 pub mod Lawful
+pub mod CasesWords
+pub mod CasesRows
+pub mod CasesLines
+pub mod Cases

@@ -1,5 +1,5 @@
 //! Laws of planned lines.
-ghost use Rattle.std.specs.Prelude.{◌≡◌, ◌+◌, ℕ, true, List, None, IsTrue, count_by, is_none};
+ghost use Rattle.std.specs.Prelude.{◌≡◌, ◌↔◌, ◌+◌, ℕ, true, List, None, IsTrue, count_by, is_none};
 ghost use Rattle.std.specs.List.{All, AllPairs, Any, Contains};
 ghost use Rattle.std.specs.List.Sorted.{IsStrictlySortedBy};
 ghost use Rattle.hazard_types.specs.Days.{year_of};
@@ -19,6 +19,7 @@ ghost use Rattle.action_planner.specs.Placed.{placed, opened, opens_hazard};
 ghost use Rattle.action_planner.specs.Lines.{planned_lines};
 ghost use Rattle.action_planner.specs.Offences.{broken};
 ghost use Rattle.action_planner.specs.Conditions.{CanPlan};
+ghost use Rattle.action_planner.specs.Cases.{IsPlanned};
 
 /// Where a draft breaks no rule, none of its lines has a breach.
 pub fn planned_lines_are_lawful()
@@ -56,4 +57,11 @@ pub fn new_lines_are_of_opened_events()
     ensures events { (c : Category) (rows : List Row) (counts : List Count) (intents : List Intent) (t : ℕ) →
         CanPlan rows counts c intents t →
         All (λ (e : Event). Any (λ (line : Line). (is_new line.action ≡ true) × (line.event ≡ e)) (planned_lines c rows t (placed counts t intents))) (opened (placed counts t intents)) }
+{}
+
+/// Where a draft breaks no rule, its lines are those that are planned case by case: by the intent that speaks of an event in a zone, or by none, and by what the event's row there is.
+pub fn planned_lines_are_those_planned()
+    ensures { (c : Category) (rows : List Row) (counts : List Count) (intents : List Intent) (t : ℕ) →
+        CanPlan rows counts c intents t → IsStrictlySortedBy by_key rows → broken c rows t (placed counts t intents) ≡ None →
+        (line : Line) → Contains (planned_lines c rows t (placed counts t intents)) line ↔ IsPlanned c rows t (placed counts t intents) line }
 {}
