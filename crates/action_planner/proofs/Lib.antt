@@ -9,6 +9,7 @@ pub mod LawfulHigher
 pub mod LawfulUpgrades
 pub mod LawfulOpenings
 pub mod Lawful
+pub mod CasesOpened
 pub mod CasesWords
 pub mod CasesRows
 pub mod CasesLines

@@ -5,6 +5,7 @@ use Rattle.hazard_types.specs.Places.{Place}
 use Rattle.hazard_types.specs.declared.codes.Action.TheVariants.{New, Con, Exa, Ext, Exb, Upg, Can, Exp}
 use Rattle.hazard_types.specs.declared.codes.Category.{Category}
 use Rattle.hazard_types.specs.declared.hazard.Event.{Event}
+use Rattle.hazard_types.specs.declared.hazard.Hazard.{Hazard}
 use Rattle.hazard_types.specs.declared.line.Line.{Line}
 use Rattle.hazard_types.specs.declared.line.Row.{Row}
 use Rattle.hazard_types.specs.declared.period.End.{End}
@@ -151,7 +152,7 @@ pub record GoesOnBeside (c : Category) (rows : List Row) (t : ℕ) (ps : List Pl
   pub no_flood : ¬ (line.event.hazard.phen ≡ codes "FL")
   pub restated : Restates rows t line
 
--- what an intent says in one of its zones
+-- what an intent says in one of its zones; a draft that is planned has no routine intent
 abbrev pub Says : List Row → ℕ → List Placed → Intent → Line → Type 0
 Says rows t ps (Put part) line = PutSays rows t part part.target line
 Says rows t ps (Finish part) line = Finishes rows t ps line
@@ -161,3 +162,16 @@ Says rows t ps (Routine part) line = ⊥
 -- the line of an event in a zone
 abbrev pub IsPlanned : Category → List Row → ℕ → List Placed → Line → Type 0
 IsPlanned c rows t ps line = Any (λ (p : Placed). SpeaksOf p line.event line.zone × Says rows t ps p.intent line) ps ⊎ GoesOnBeside c rows t ps line
+
+-- New events.
+
+abbrev pub hazard_of_new : Target → Option Hazard
+hazard_of_new (Fresh h) = Some h
+hazard_of_new (Join e) = None
+
+-- the hazard of a put of a new event
+abbrev pub hazard_opened : Intent → Option Hazard
+hazard_opened (Put part) = hazard_of_new part.target
+hazard_opened (Finish part) = None
+hazard_opened (Restate part) = None
+hazard_opened (Routine part) = None

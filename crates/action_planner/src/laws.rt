@@ -1,5 +1,5 @@
 //! Laws of planned lines.
-ghost use Rattle.std.specs.Prelude.{◌≡◌, ◌↔◌, ◌+◌, ℕ, true, List, None, IsTrue, count_by, is_none};
+ghost use Rattle.std.specs.Prelude.{◌≡◌, ◌↔◌, ◌+◌, ℕ, true, List, None, IsTrue, count_by, filter_map, is_none, map};
 ghost use Rattle.std.specs.List.{All, AllPairs, Any, Contains};
 ghost use Rattle.std.specs.List.Sorted.{IsStrictlySortedBy};
 ghost use Rattle.hazard_types.specs.Days.{year_of};
@@ -19,7 +19,7 @@ ghost use Rattle.action_planner.specs.Placed.{placed, opened, opens_hazard};
 ghost use Rattle.action_planner.specs.Lines.{planned_lines};
 ghost use Rattle.action_planner.specs.Offences.{broken};
 ghost use Rattle.action_planner.specs.Conditions.{CanPlan};
-ghost use Rattle.action_planner.specs.Cases.{IsPlanned};
+ghost use Rattle.action_planner.specs.Cases.{IsPlanned, hazard_opened};
 
 /// Where a draft breaks no rule, none of its lines has a breach.
 pub fn planned_lines_are_lawful()
@@ -64,4 +64,10 @@ pub fn planned_lines_are_those_planned()
     ensures { (c : Category) (rows : List Row) (counts : List Count) (intents : List Intent) (t : ℕ) →
         CanPlan rows counts c intents t → IsStrictlySortedBy by_key rows → broken c rows t (placed counts t intents) ≡ None →
         (line : Line) → Contains (planned_lines c rows t (placed counts t intents)) line ↔ IsPlanned c rows t (placed counts t intents) line }
+{}
+
+/// The events that a draft opens are those of its puts of new events, in order of places: each is of its put's hazard.
+pub fn opened_events_stand_in_order()
+    ensures { (counts : List Count) (intents : List Intent) (t : ℕ) →
+        map (λ (e : Event). e.hazard) (opened (placed counts t intents)) ≡ filter_map hazard_opened intents }
 {}

@@ -8,8 +8,8 @@ mod rules;
 mod zone_rules;
 
 pub use laws::{
-    new_lines_are_of_opened_events, opened_events_are_numbered_on, planned_lines_are_distinct,
-    planned_lines_are_lawful, planned_lines_are_those_planned,
+    new_lines_are_of_opened_events, opened_events_are_numbered_on, opened_events_stand_in_order,
+    planned_lines_are_distinct, planned_lines_are_lawful, planned_lines_are_those_planned,
     planned_lines_open_where_no_row_stands,
 };
 pub use placed::{Placed, any_touched, is_touched, speaks, zones_of};
