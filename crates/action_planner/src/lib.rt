@@ -12,7 +12,7 @@ ghost use Rattle.action_planner.specs.Offences.{broken};
 ghost use Rattle.action_planner.specs.Conditions.{CanPlan};
 
 mod placed;
-pub use placed::{any_touched, is_touched, speaks, zones_of, Placed};
+pub use placed::{any_touched, is_opening, is_touched, opened, place_all, speaks, zones_of, Placed};
 
 
 
