@@ -107,9 +107,13 @@ rows_by_puts rows t (p ∷ ps) = rows_by_intent rows t p p.intent ++ rows_by_put
 abbrev pub rows_left : List Row → ℕ → List Placed → List Row
 rows_left rows t ps = filter (is_left ps) rows ++ rows_by_puts rows t ps
 
+-- the second row is live in the zone of the first, of a higher rank of its family, and overlaps it
+abbrev pub overlays : ℕ → Row → Row → Bool
+overlays t row r = same_zone r.zone row.zone && is_live t r && outranks r.event.hazard row.event.hazard && overlaps r.period row.period
+
 -- a row of a higher rank of the family is live after the product, and overlaps this one in its zone
 abbrev pub is_overlaid : List Row → ℕ → List Placed → Row → Bool
-is_overlaid rows t ps row = list_any (λ (r : Row). same_zone r.zone row.zone && is_live t r && outranks r.event.hazard row.event.hazard && overlaps r.period row.period) (rows_left rows t ps)
+is_overlaid rows t ps row = list_any (overlays t row) (rows_left rows t ps)
 
 -- the end is a minute within half an hour of this one either way
 abbrev pub is_near_end : End → ℕ → Bool

@@ -11,7 +11,9 @@ ghost use Rattle.action_planner.specs.Lines.{planned_lines};
 ghost use Rattle.action_planner.specs.Offences.{broken};
 ghost use Rattle.action_planner.specs.Conditions.{CanPlan};
 
+mod overlay;
 mod placed;
+mod puts;
 pub use placed::{any_touched, is_opening, is_touched, opened, place_all, speaks, zones_of, Placed};
 
 
