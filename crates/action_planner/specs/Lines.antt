@@ -157,8 +157,12 @@ follows c (Some facts) = category.eq-value.it facts.follows c
 abbrev pub is_flood_event : Hazard → Bool
 is_flood_event h = bytes_eq h.phen (codes "FL")
 
+-- a row of the draft's category in a zone that it touches, and no intent is on it
+abbrev pub goes_on : Category → List Placed → Row → Bool
+goes_on c ps row = follows c (facts_of row.event.hazard) && not (is_flood_event row.event.hazard) && list_any (touches row.zone) ps && not (list_any (speaks row.event row.zone) ps)
+
 abbrev pub goes_on_beside : Category → ℕ → List Placed → Row → Bool
-goes_on_beside c t ps row = is_live t row && follows c (facts_of row.event.hazard) && not (is_flood_event row.event.hazard) && list_any (touches row.zone) ps && not (list_any (speaks row.event row.zone) ps)
+goes_on_beside c t ps row = is_live t row && goes_on c ps row
 
 abbrev pub added_lines : Category → List Row → ℕ → List Placed → List Line
 added_lines c rows t ps = map (line_on Con t) (filter (goes_on_beside c t ps) rows)

@@ -11,9 +11,11 @@ ghost use Rattle.action_planner.specs.Lines.{planned_lines};
 ghost use Rattle.action_planner.specs.Offences.{broken};
 ghost use Rattle.action_planner.specs.Conditions.{CanPlan};
 
+mod lines;
 mod overlay;
 mod placed;
 mod puts;
+pub use lines::planned_lines;
 pub use placed::{any_touched, is_opening, is_touched, opened, place_all, speaks, zones_of, Placed};
 
 
