@@ -2,3 +2,4 @@ pub mod Placed
 pub mod Conditions
 pub mod Lines
 pub mod Offences
+pub mod Texts

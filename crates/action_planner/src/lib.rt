@@ -15,11 +15,10 @@ mod lines;
 mod overlay;
 mod placed;
 mod puts;
+mod texts;
 pub use lines::planned_lines;
 pub use placed::{any_touched, is_opening, is_touched, opened, place_all, speaks, zones_of, Placed};
-
-
-
+pub use texts::event_texts;
 
 pub fn try_it()
     ensures { (c : Category) (rows : List Row) (counts : List Count) (t : ℕ) (intents : List Intent) → CanPlan rows counts c intents t → broken c rows t (placed counts t intents) ≡ broken c rows t (placed counts t intents) }
