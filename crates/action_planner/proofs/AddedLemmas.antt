@@ -2,12 +2,11 @@
 use Rattle.std.proofs.Common.{◌≡◌, ◌∙◌, ◌&&◌, ℕ, Bool, true, false, List, [], ◌∷◌, filter, map, refl, ap, if◌then◌else◌}
 use Rattle.hazard_types.specs.declared.codes.Action.TheVariants.{Con}
 use Rattle.hazard_types.specs.declared.codes.Category.{Category}
-use Rattle.hazard_types.specs.declared.line.Line.{Line}
 use Rattle.hazard_types.specs.declared.line.Row.{Row}
 use Rattle.event_life.specs.Periods.{is_live}
 use Rattle.event_life.specs.Shown.{shown_at}
 use Rattle.action_planner.specs.Placed.{Placed}
-use Rattle.action_planner.specs.Lines.{line_on, goes_on, goes_on_beside, added_lines}
+use Rattle.action_planner.specs.Lines.{line_on, goes_on, added_lines}
 
 filtered_kept : {X : Type 0} (kept : Bool) (q : X → Bool) (x : X) (xs : List X) →
     filter q (if kept then x ∷ xs else xs) ≡ (if kept && q x then x ∷ filter q xs else filter q xs)

@@ -1,3 +1,5 @@
 pub mod AddedLemmas
+pub mod GoingLemmas
 pub mod OverlayLemmas
+pub mod RulesLemmas
 pub mod TextLemmas

@@ -1,5 +1,5 @@
 -- The rows that a draft leaves, by the rows of the board and those by puts.
-use Rattle.std.proofs.Common.{◌≡◌, ◌∙◌, ◌&&◌, ◌||◌, ℕ, Bool, true, false, List, [], ◌∷◌, ◌++◌, filter, map, refl, sym, ap, if◌then◌else◌}
+use Rattle.std.proofs.Common.{◌≡◌, ◌∙◌, ◌&&◌, ◌||◌, ℕ, Bool, true, false, List, [], ◌∷◌, filter, map, refl, sym, ap, if◌then◌else◌}
 use Rattle.std.specs.List.{list_any}
 use Rattle.std.proofs.lemmas.List.Folds.{list_any-append}
 use Rattle.hazard_types.specs.Places.{Place}
@@ -13,7 +13,7 @@ use Rattle.event_life.specs.Higher.{outranks}
 use Rattle.event_life.specs.Periods.{is_live, overlaps}
 use Rattle.hazard_board.specs.Board.{live_in}
 use Rattle.action_planner.specs.Placed.{Placed}
-use Rattle.action_planner.specs.Lines.{is_left, rows_by_intent, rows_by_puts, rows_left, row_by_put, overlays, is_overlaid}
+use Rattle.action_planner.specs.Lines.{is_left, rows_by_intent, rows_by_puts, row_by_put, overlays, is_overlaid}
 
 found_by_map : {X Y : Type 0} (p : Y → Bool) (f : X → Y) (xs : List X) → list_any (λ (x : X). p (f x)) xs ≡ list_any p (map f xs)
 found_by_map p f [] = refl

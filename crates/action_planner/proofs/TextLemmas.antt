@@ -1,5 +1,5 @@
 -- Events in order, each once.
-use Rattle.std.proofs.Common.{◌≡◌, ◌∙◌, List, [], ◌∷◌, Ordering, Less, Equal, Greater, refl, sym, ap}
+use Rattle.std.proofs.Common.{◌≡◌, List, [], ◌∷◌, Ordering, Less, Equal, Greater, refl, ap}
 use Rattle.std.specs.BTreeSet.{insert_key}
 use Rattle.std.specs.Ordering.{match_ordering}
 use Rattle.hazard_types.specs.Orders.{by_event}

@@ -8,7 +8,7 @@ ghost use Rattle.action_planner.specs.Placed.{zones_of, touches, speaks};
 ghost use Rattle.action_planner.specs.Lines.{line_on, is_near_end, finishing_action, finish_lines, restate_lines, lines_in, lines_in_zones, lines_from, follows, is_flood_event, goes_on, goes_on_beside, added_lines, planned_lines};
 
 use crate::overlay::is_overlaid;
-use crate::placed::{any_touched, Placed, speaks, zones_of};
+use crate::placed::{Placed, any_touched, speaks, zones_of};
 use crate::puts::{printed_begin, put_line};
 use event_life::ends_after;
 use hazard_board::Board;

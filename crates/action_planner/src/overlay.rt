@@ -70,11 +70,13 @@ fn is_overlaid_by_rows(
     ensures { IfOk result (λ found. found ≡ list_any (λ r. is_left ps.now r && outranks r.event.hazard row.now.event.hazard && overlaps r.period row.now.period) (live_in row.now.zone t board.now.rows)) }
 {
     let live = board.rows_of(alloc, row.zone, t)?;
-    Ok(live.as_slice().iter().any(|other| {
-        is_left(ps, other)
-            && outranks(&other.event.hazard, &row.event.hazard)
-            && overlaps(&other.period, &row.period)
-    }))
+    Ok(
+        live.as_slice().iter().any(|other| {
+            is_left(ps, other)
+                && outranks(&other.event.hazard, &row.event.hazard)
+                && overlaps(&other.period, &row.period)
+        }),
+    )
 }
 
 /// Whether the row that a put leaves in a zone overlays this one.
@@ -101,10 +103,7 @@ fn is_overlaid_in_zone(
 fn is_overlaid_by_put(board: &Board, t: Minute, event: &Event, part: &PutPart, row: &Row) -> bool
     ensures { result ≡ list_any (λ zone. overlays t row.now (row_by_put board.now.rows t event.now part.now zone)) part.now.zones }
 {
-    part.zones
-        .as_slice()
-        .iter()
-        .any(|zone| is_overlaid_in_zone(board, t, event, part, zone, row))
+    part.zones.as_slice().iter().any(|zone| is_overlaid_in_zone(board, t, event, part, zone, row))
 }
 
 /// Whether a row that an intent leaves by a put overlays this one.
@@ -121,8 +120,7 @@ fn is_overlaid_by_intent(board: &Board, t: Minute, p: &Placed, row: &Row) -> boo
 fn is_overlaid_by_puts(board: &Board, t: Minute, ps: &[Placed], row: &Row) -> bool
     ensures { result ≡ list_any (λ p. list_any (overlays t row.now) (rows_by_intent board.now.rows t p p.intent)) ps.now }
 {
-    ps.iter()
-        .any(|p| is_overlaid_by_intent(board, t, p, row))
+    ps.iter().any(|p| is_overlaid_by_intent(board, t, p, row))
 }
 
 /// Whether a row of a higher rank of the family is live after the draft, and overlaps this one in its zone.

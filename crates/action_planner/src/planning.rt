@@ -19,12 +19,7 @@ use segmenter::segments;
 use std::alloc::Global;
 
 /// The plan of these lines.
-fn plan_of(
-    alloc: Global,
-    category: Category,
-    lines: List<Line>,
-    ps: &[Placed],
-) -> Result<Plan, Oom>
+fn plan_of(alloc: Global, category: Category, lines: List<Line>, ps: &[Placed]) -> Result<Plan, Oom>
     ensures { IfOk result (λ plan. HasLines category lines ps.now plan) }
 {
     let segments = segments(alloc, &lines)?;
@@ -40,7 +35,8 @@ fn plan_of(
     })
 }
 
-/// The product of a draft sent at t: its lines with the rows that go on beside them, their segments, the events that it opens, and the texts. Or the first rule that it breaks, with what it names.
+/// The product of a draft that is sent at t: its lines with the rows that go on beside them, their segments, the events that it opens, and the texts. Or the first rule that it breaks, with what it names.
+#[tactic(auto, using(crate::proofs::RulesLemmas::places_below))]
 pub fn plan(
     alloc: Global,
     board: &Board,

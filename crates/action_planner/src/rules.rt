@@ -1,0 +1,156 @@
+//! The first rule that a draft breaks.
+ghost use Rattle.std.specs.Prelude.{◌≡◌, ◌<◌, IfOk, option_map};
+ghost use Rattle.std.specs.List.{All};
+ghost use Rattle.hazard_board.specs.Clashes.{least_clash};
+ghost use Rattle.hazard_board.specs.Taken.{rows_taken};
+ghost use Rattle.hazard_board.specs.Consistent.{IsConsistent};
+ghost use Rattle.action_planner.specs.Placed.{Placed as PlacedIntent};
+ghost use Rattle.hazard_types.specs.declared.codes.Category.{Category};
+ghost use Rattle.action_planner.specs.Lines.{planned_lines};
+ghost use Rattle.action_planner.specs.Offences.{first_by, refused_clash, too_many, broken};
+ghost use Rattle.action_planner.specs.Rules.{offence, first_against};
+
+use crate::intent_rules::{bad_period, barred_flood, held, not_open, open_end, spent};
+use crate::placed::Placed;
+use crate::zone_rules::{gone, left, moved, shared};
+use hazard_board::Board;
+use hazard_types::{Line, List, Minute, Oom, Refusal};
+use std::alloc::Global;
+
+/// A rule on single intents, by the refusal that it leads to.
+#[derive(Clone, Copy)]
+pub enum Rule {
+    NoEvent,
+    NotLive,
+    LeftBefore,
+    Twice,
+    BadPeriod,
+    BegunMoved,
+    NoOpenEnd,
+    FloodBarred,
+    NumberHeld,
+    NumbersSpent,
+}
+
+/// The rules that are asked before that on clashes, in order.
+const BEFORE_CONFLICT: [Rule; 8] = [
+    Rule::NoEvent,
+    Rule::NotLive,
+    Rule::LeftBefore,
+    Rule::Twice,
+    Rule::BadPeriod,
+    Rule::BegunMoved,
+    Rule::NoOpenEnd,
+    Rule::FloodBarred,
+];
+
+/// The rules that are asked after it, in order.
+const ON_NUMBERS: [Rule; 2] = [Rule::NumberHeld, Rule::NumbersSpent];
+
+/// What an intent of a draft is refused with under a rule.
+fn offence(board: &Board, t: Minute, all: &[Placed], rule: Rule, p: &Placed) -> Option<Refusal>
+    requires consistent { IsConsistent board.now.rows t }
+    requires place { p.now.place < 64 }
+    ensures { result ≡ offence board.now.rows t all.now rule p.now }
+{
+    match rule {
+        Rule::NoEvent => not_open(board, t, p),
+        Rule::NotLive => gone(board, t, p),
+        Rule::LeftBefore => left(board, t, p),
+        Rule::Twice => shared(all, p),
+        Rule::BadPeriod => bad_period(t, p),
+        Rule::BegunMoved => moved(board, t, p),
+        Rule::NoOpenEnd => open_end(p),
+        Rule::FloodBarred => barred_flood(p),
+        Rule::NumberHeld => held(board, t, p),
+        Rule::NumbersSpent => spent(p),
+    }
+}
+
+/// The first intent that offends against a rule.
+fn first_offence(board: &Board, t: Minute, ps: &[Placed], rule: Rule) -> Option<Refusal>
+    requires consistent { IsConsistent board.now.rows t }
+    requires places { All (λ (p : PlacedIntent). p.place < 64) ps.now }
+    ensures { result ≡ first_by (offence board.now.rows t ps.now rule) ps.now }
+{
+    for p in ps {
+        let found = offence(board, t, ps, rule, p);
+        if found.is_some() {
+            return found;
+        }
+    }
+    None
+}
+
+/// The first intent that offends against the first of some rules against which one does.
+fn first_against(board: &Board, t: Minute, ps: &[Placed], rules: &[Rule]) -> Option<Refusal>
+    requires consistent { IsConsistent board.now.rows t }
+    requires places { All (λ (p : PlacedIntent). p.place < 64) ps.now }
+    ensures { result ≡ first_against board.now.rows t ps.now rules.now }
+{
+    for rule in rules {
+        let found = first_offence(board, t, ps, *rule);
+        if found.is_some() {
+            return found;
+        }
+    }
+    None
+}
+
+/// Conflict: after the lines two live rows of one family overlap in a zone.
+fn conflict(
+    alloc: Global,
+    board: &Board,
+    t: Minute,
+    lines: &List<Line>,
+) -> Result<Option<Refusal>, Oom>
+    ensures { IfOk result (λ found. found ≡ option_map refused_clash (least_clash t (rows_taken board.now.rows t lines.now))) }
+{
+    let clash = board.conflict(alloc, lines, t)?;
+    Ok(clash.map(|clash| Refusal::Conflict {
+        zone: clash.zone,
+        first: clash.first,
+        second: clash.second,
+    }))
+}
+
+/// TooManyLines: more than 2,000 lines.
+fn too_many(lines: usize) -> Option<Refusal>
+    ensures { result ≡ too_many lines }
+{
+    if lines > 2000 {
+        Some(Refusal::TooManyLines { lines })
+    } else {
+        None
+    }
+}
+
+/// The first rule that a draft of these lines breaks, with what it names.
+pub fn first_broken(
+    alloc: Global,
+    board: &Board,
+    t: Minute,
+    ps: &[Placed],
+    lines: &List<Line>,
+) -> Result<Option<Refusal>, Oom>
+    requires consistent { IsConsistent board.now.rows t }
+    requires places { All (λ (p : PlacedIntent). p.place < 64) ps.now }
+    ensures { (c : Category) → lines.now ≡ planned_lines c board.now.rows t ps.now → IfOk result (λ found. found ≡ broken c board.now.rows t ps.now) }
+{
+    if ps.is_empty() {
+        return Ok(Some(Refusal::EmptyDraft));
+    }
+    let early = first_against(board, t, ps, &BEFORE_CONFLICT);
+    if early.is_some() {
+        return Ok(early);
+    }
+    let overlap = conflict(alloc, board, t, lines)?;
+    if overlap.is_some() {
+        return Ok(overlap);
+    }
+    let late = first_against(board, t, ps, &ON_NUMBERS);
+    if late.is_some() {
+        return Ok(late);
+    }
+    Ok(too_many(lines.len()))
+}

@@ -1,0 +1,168 @@
+//! The rules on an intent in its zones, each by the first zone that offends.
+ghost use Rattle.std.specs.Prelude.{◌≡◌, not, nat_le};
+ghost use Rattle.std.specs.List.{list_any};
+ghost use Rattle.event_life.specs.Periods.{is_live, keeps_open};
+ghost use Rattle.event_life.specs.Products.{row_at};
+ghost use Rattle.action_planner.specs.Lines.{minute_of};
+ghost use Rattle.action_planner.specs.Offences.{has_row_by, is_gone, gone, joins, was_left, left, is_shared, shared, is_moved, moved};
+
+use crate::placed::{Placed, speaks, zones_of};
+use event_life::{is_live, keeps_open};
+use hazard_board::Board;
+use hazard_types::{Begin, Event, Intent, Minute, Refusal, Target, Zone};
+
+/// The minute at which a put begins.
+pub fn minute_of(begin: &Begin, t: Minute) -> Minute
+    ensures { result ≡ minute_of begin.now t }
+{
+    match begin {
+        Begin::Now => t,
+        Begin::At(minute) => *minute,
+    }
+}
+
+/// Whether the event has an open row in the zone.
+fn has_open_row(board: &Board, t: Minute, event: &Event, zone: &Zone) -> bool
+    ensures { result ≡ has_row_by (keeps_open t) (row_at board.now.rows event.now zone.now) }
+{
+    match board.row(*event, *zone) {
+        Some(row) => keeps_open(&row, t),
+        None => false,
+    }
+}
+
+/// Whether the event has a live row in the zone.
+fn has_live_row(board: &Board, t: Minute, event: &Event, zone: &Zone) -> bool
+    ensures { result ≡ has_row_by (is_live t) (row_at board.now.rows event.now zone.now) }
+{
+    match board.row(*event, *zone) {
+        Some(row) => is_live(&row, t),
+        None => false,
+    }
+}
+
+/// Whether the event has a row in the zone that is not live.
+fn has_past_row(board: &Board, t: Minute, event: &Event, zone: &Zone) -> bool
+    ensures { result ≡ has_row_by (λ row. not (is_live t row)) (row_at board.now.rows event.now zone.now) }
+{
+    match board.row(*event, *zone) {
+        Some(row) => !is_live(&row, t),
+        None => false,
+    }
+}
+
+/// Whether the event has a row in the zone that has begun.
+fn has_begun_row(board: &Board, t: Minute, event: &Event, zone: &Zone) -> bool
+    ensures { result ≡ has_row_by (λ row. nat_le row.period.begin t) (row_at board.now.rows event.now zone.now) }
+{
+    match board.row(*event, *zone) {
+        Some(row) => row.period.begin.get() <= t.get(),
+        None => false,
+    }
+}
+
+/// Whether a finish finds no open row in the zone, or a restate no live one.
+fn is_gone(board: &Board, t: Minute, event: &Event, intent: &Intent, zone: &Zone) -> bool
+    ensures { result ≡ is_gone board.now.rows t event.now intent.now zone.now }
+{
+    match intent {
+        Intent::Put(_) | Intent::Routine(_) => false,
+        Intent::Finish(_) => !has_open_row(board, t, event, zone),
+        Intent::Restate(_) => !has_live_row(board, t, event, zone),
+    }
+}
+
+/// Whether the intent is a put that joins an event.
+fn joins(intent: &Intent) -> bool
+    ensures { result ≡ joins intent.now }
+{
+    match intent {
+        Intent::Put(part) => match part.target {
+            Target::Fresh(_) => false,
+            Target::Join(_) => true,
+        },
+        Intent::Finish(_) | Intent::Restate(_) | Intent::Routine(_) => false,
+    }
+}
+
+/// Whether a joining put finds a row in the zone that is not live.
+fn was_left(board: &Board, t: Minute, event: &Event, intent: &Intent, zone: &Zone) -> bool
+    ensures { result ≡ was_left board.now.rows t event.now intent.now zone.now }
+{
+    joins(intent) && has_past_row(board, t, event, zone)
+}
+
+/// Whether another intent is on the event in the zone.
+fn is_shared(all: &[Placed], p: &Placed, zone: &Zone) -> bool
+    ensures { result ≡ is_shared all.now p.now zone.now }
+{
+    all.iter()
+        .any(|q| q.place != p.place && speaks(&p.event, zone, q))
+}
+
+/// Whether a joining put would have a row in the zone begin after this minute that has begun.
+fn is_moved(board: &Board, t: Minute, event: &Event, intent: &Intent, zone: &Zone) -> bool
+    ensures { result ≡ is_moved board.now.rows t event.now intent.now zone.now }
+{
+    match intent {
+        Intent::Put(part) => match part.target {
+            Target::Fresh(_) => false,
+            Target::Join(_) => {
+                t.get() < minute_of(&part.begin, t).get() && has_begun_row(board, t, event, zone)
+            }
+        },
+        Intent::Finish(_) | Intent::Restate(_) | Intent::Routine(_) => false,
+    }
+}
+
+/// NotLive: a finish where no row is open, or a restate where none is live.
+pub fn gone(board: &Board, t: Minute, p: &Placed) -> Option<Refusal>
+    ensures { result ≡ gone board.now.rows t p.now }
+{
+    let zone = zones_of(p.intent)
+        .iter()
+        .find(|zone| is_gone(board, t, &p.event, p.intent, zone))?;
+    Some(Refusal::NotLive {
+        event: p.event,
+        zone: *zone,
+    })
+}
+
+/// LeftBefore: a joining put where the zone has a row that is not live.
+pub fn left(board: &Board, t: Minute, p: &Placed) -> Option<Refusal>
+    ensures { result ≡ left board.now.rows t p.now }
+{
+    let zone = zones_of(p.intent)
+        .iter()
+        .find(|zone| was_left(board, t, &p.event, p.intent, zone))?;
+    Some(Refusal::LeftBefore {
+        event: p.event,
+        zone: *zone,
+    })
+}
+
+/// Twice: another intent is on the event in the zone.
+pub fn shared(all: &[Placed], p: &Placed) -> Option<Refusal>
+    ensures { result ≡ shared all.now p.now }
+{
+    let zone = zones_of(p.intent)
+        .iter()
+        .find(|zone| is_shared(all, p, zone))?;
+    Some(Refusal::Twice {
+        event: p.event,
+        zone: *zone,
+    })
+}
+
+/// BegunMoved: a joining put that begins after this minute, where the row has begun.
+pub fn moved(board: &Board, t: Minute, p: &Placed) -> Option<Refusal>
+    ensures { result ≡ moved board.now.rows t p.now }
+{
+    let zone = zones_of(p.intent)
+        .iter()
+        .find(|zone| is_moved(board, t, &p.event, p.intent, zone))?;
+    Some(Refusal::BegunMoved {
+        event: p.event,
+        zone: *zone,
+    })
+}
