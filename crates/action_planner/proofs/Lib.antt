@@ -1,4 +1,6 @@
+pub mod AddedLemmas
 pub mod GoingLemmas
+pub mod OverlayLemmas
 pub mod RulesLemmas
 pub mod LawfulLists
 pub mod LawfulSteps
@@ -9,3 +11,4 @@ pub mod LawfulHigher
 pub mod LawfulUpgrades
 pub mod LawfulOpenings
 pub mod Lawful
+pub mod TextLemmas

@@ -3,3 +3,5 @@ pub mod Conditions
 pub mod Lines
 pub mod Offences
 pub mod Rules
+pub mod Texts
+pub mod Plans

@@ -3,12 +3,17 @@
 
 mod intent_rules;
 mod laws;
+mod lines;
+mod overlay;
 mod placed;
+mod planning;
+mod puts;
 mod rules;
+mod texts;
 mod zone_rules;
 
 pub use laws::{
     new_lines_are_of_opened_events, opened_events_are_numbered_on, planned_lines_are_distinct,
     planned_lines_are_lawful, planned_lines_open_where_no_row_stands,
 };
-pub use placed::{Placed, any_touched, is_touched, speaks, zones_of};
+pub use planning::plan;
