@@ -82,13 +82,13 @@ module _ (rows : List Row) (t : ℕ) (all : List Placed) (fit : AllByRecursion (
 
   beside_Decides : (row : Row) → Decides (goes_on_beside c t all row) (IsLive t row × Beside row.event row.zone)
   beside_Decides row =
-      Decides-like _ (λ h. (h.0.0.0.0, (h.0.0.0.1, h.0.0.1, h.0.1, h.1))) (λ h. ((((h.0, h.1.0), h.1.1), h.1.2), h.1.3))
-      (Decides-and _ _ (Decides-and _ _ (Decides-and _ _ (Decides-and _ _
-      (live_Decides t row)
-      (follows_Decides c row.event.hazard))
+      Decides-like _ (λ h. (h.0, (h.1.0.0.0, h.1.0.0.1, h.1.0.1, h.1.1))) (λ h. (h.0, (((h.1.0, h.1.1), h.1.2), h.1.3)))
+      (Decides-and _ _ (live_Decides t row)
+      (Decides-and _ _ (Decides-and _ _ (Decides-and _ _
+      (follows_Decides c row.event.hazard)
       (Decides-not (is_flood_event row.event.hazard) (flood_Decides row.event.hazard)))
       (any_Decides (touches row.zone) (λ (p : Placed). Contains (zones_of p.intent) row.zone) (touches_Decides row.zone) all))
-      (none_Decides (speaks row.event row.zone) (λ (p : Placed). SpeaksOf p row.event row.zone) (speaks_Decides row.event row.zone) all))
+      (none_Decides (speaks row.event row.zone) (λ (p : Placed). SpeaksOf p row.event row.zone) (speaks_Decides row.event row.zone) all)))
 
   beside_from : (row : Row) → row_at rows row.event row.zone ≡ Some row → goes_on_beside c t all row ≡ true → GoesOnBeside c rows t all (line_on Con t row)
   beside_from row h test =

@@ -6,7 +6,6 @@ use Rattle.std.proofs.lemmas.List.Elements.{All-from_recursion, recursion_from_A
 use Rattle.std.specs.Bool.{Decides}
 use Rattle.std.specs.List.{All, AllByRecursion, Contains}
 use Rattle.hazard_types.specs.Places.{Place}
-use Rattle.hazard_types.specs.Same.{same_zone}
 use Rattle.hazard_types.specs.declared.hazard.Event.{Event}
 use Rattle.hazard_types.specs.declared.line.Row.{Row}
 use Rattle.hazard_types.specs.declared.period.Period.{Period}
@@ -18,10 +17,10 @@ use Rattle.hazard_types.specs.declared.request.Target.TheVariants.{Fresh, Join}
 use Rattle.hazard_types.proofs.Equality.{zone_decides}
 use Rattle.event_life.specs.Bounds.{IsBefore}
 use Rattle.event_life.specs.Higher.{outranks}
-use Rattle.event_life.specs.Periods.{ends_after, is_live, overlaps}
+use Rattle.event_life.specs.Periods.{ends_after}
 use Rattle.event_life.specs.Products.{has_rows, row_at}
 use Rattle.action_planner.specs.Placed.{Placed, zones_of, is_opening, is_opening_target, speaks}
-use Rattle.action_planner.specs.Lines.{minute_of, is_left, is_overlaid, joined_row, period_by_put, puts_or_finishes, row_by_put, rows_by_intent, rows_by_puts, rows_left}
+use Rattle.action_planner.specs.Lines.{minute_of, overlays, is_left, is_overlaid, joined_row, period_by_put, puts_or_finishes, row_by_put, rows_by_intent, rows_by_puts, rows_left}
 use Rattle.action_planner.specs.Cases.{BeginsIn, IsLeftBy, IsLive, IsUnderHigher, Overlap, SpeaksOf, StandsAfter, Remains}
 use Rattle.action_planner.proofs.LawfulLists.{Has, all_has, all_weaker, any_from, any_has, contains_from, has_any, has_filter, has_left, has_map, has_right, has_split, kept, map_has, none_from, none_of}
 use Rattle.action_planner.proofs.LawfulPlaced.{IsFit}
@@ -142,19 +141,16 @@ module _ (rows : List Row) (t : ℕ) (all : List Placed) where
 
     -- the test of a higher row, and what it says
 
-    abbrev above : Row → Row → Bool
-    above row r = same_zone r.zone row.zone && is_live t r && outranks r.event.hazard row.event.hazard && overlaps r.period row.period
-
-    above_Decides : (row r : Row) → Decides (above row r) ((((r.zone ≡ row.zone) × IsLive t r) × (outranks r.event.hazard row.event.hazard ≡ true)) × Overlap r.period row.period)
-    above_Decides row r = Decides-and _ _ (Decides-and _ _ (Decides-and _ _ (zone_decides r.zone row.zone) (live_Decides t r)) (λ h. h, λ h. h)) (overlap_Decides r.period row.period)
+    overlays_Decides : (row r : Row) → Decides (overlays t row r) ((((r.zone ≡ row.zone) × IsLive t r) × (outranks r.event.hazard row.event.hazard ≡ true)) × Overlap r.period row.period)
+    overlays_Decides row r = Decides-and _ _ (Decides-and _ _ (Decides-and _ _ (zone_decides r.zone row.zone) (live_Decides t r)) (λ h. h, λ h. h)) (overlap_Decides r.period row.period)
 
     like_live : (r s : Row) → IsLike r s → IsLive t s → IsLive t r
     like_live r s like live = (like.3, subst (λ (p : Period). IsBefore t p.end) (sym like.2) live.1)
 
     pub under_from : (row : Row) → is_overlaid rows t all row ≡ true → IsUnderHigher rows t all row
     under_from row h =
-        let m = has_any (above row) (rows_left rows t all) h in
-        let a = (above_Decides row m.0).0 m.2 in
+        let m = has_any (overlays t row) (rows_left rows t all) h in
+        let a = (overlays_Decides row m.0).0 m.2 in
         record { high = m.0; after = after_from m.0 (has_split (filter (is_left all) rows) (rows_by_puts rows t all) m.0 m.1); zone = a.0.0.0; live = a.0.0.1; rank = a.0.1; overlap = a.1 }
 
     pub under_to : (row : Row) → IsUnderHigher rows t all row → is_overlaid rows t all row ≡ true
@@ -163,7 +159,7 @@ module _ (rows : List Row) (t : ℕ) (all : List Placed) where
         let like : IsLike m.0 u.high = m.2 in
         let rank : outranks m.0.event.hazard row.event.hazard ≡ true = ap (λ (e : Event). outranks e.hazard row.event.hazard) like.0 ∙ u.rank in
         let overlap : Overlap m.0.period row.period = subst (λ (p : Period). Overlap p row.period) (sym like.2) u.overlap in
-        any_has (above row) (rows_left rows t all) m.0 m.1 ((above_Decides row m.0).1 (((like.1 ∙ u.zone, like_live m.0 u.high like u.live), rank), overlap))
+        any_has (overlays t row) (rows_left rows t all) m.0 m.1 ((overlays_Decides row m.0).1 (((like.1 ∙ u.zone, like_live m.0 u.high like u.live), rank), overlap))
 
     pub upgraded_Decides : (row : Row) → Decides (ends_after row.period.end t && is_overlaid rows t all row) (IsBefore t row.period.end × IsUnderHigher rows t all row)
     upgraded_Decides row = Decides-and _ _ (before_Decides row.period.end t) (under_from row, under_to row)

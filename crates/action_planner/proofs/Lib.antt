@@ -1,4 +1,6 @@
+pub mod AddedLemmas
 pub mod GoingLemmas
+pub mod OverlayLemmas
 pub mod RulesLemmas
 pub mod LawfulLists
 pub mod LawfulSteps
@@ -14,3 +16,4 @@ pub mod CasesWords
 pub mod CasesRows
 pub mod CasesLines
 pub mod Cases
+pub mod TextLemmas

@@ -3,8 +3,13 @@
 
 mod intent_rules;
 mod laws;
+mod lines;
+mod overlay;
 mod placed;
+mod planning;
+mod puts;
 mod rules;
+mod texts;
 mod zone_rules;
 
 pub use laws::{
@@ -12,4 +17,4 @@ pub use laws::{
     planned_lines_are_distinct, planned_lines_are_lawful, planned_lines_are_those_planned,
     planned_lines_open_where_no_row_stands,
 };
-pub use placed::{Placed, any_touched, is_touched, speaks, zones_of};
+pub use planning::plan;
