@@ -18,13 +18,13 @@ use Rattle.hazard_types.specs.declared.request.PutPart.{PutPart}
 use Rattle.hazard_types.specs.declared.request.Target.{Target}
 use Rattle.hazard_types.specs.declared.request.Target.TheVariants.{Fresh, Join}
 use Rattle.hazard_types.proofs.Equality.{event_itself, zone_itself}
-use Rattle.event_life.specs.Periods.{ends_after, same_at}
+use Rattle.event_life.specs.Periods.{ends_after, is_live, same_at}
 use Rattle.event_life.specs.Products.{by_key, is_routine, is_upgrade, row_at, speaks_of}
 use Rattle.event_life.proofs.Keys.{key_ties}
 use Rattle.event_life.proofs.Puts.{at_key, at_key-parts, speaks_of-parts}
 use Rattle.hazard_board.specs.Board.{has_period}
 use Rattle.action_planner.specs.Placed.{Placed, zones_of, touches, speaks}
-use Rattle.action_planner.specs.Lines.{put_period, put_period_on, opening_action, joined_row, put_line_on, put_line, line_on, finish_lines, restate_lines, is_near_end, is_overlaid, lines_in, lines_in_zones, lines_from, goes_on_beside, added_lines, planned_lines}
+use Rattle.action_planner.specs.Lines.{put_period, put_period_on, opening_action, joined_row, put_line_on, put_line, line_on, finish_lines, restate_lines, is_near_end, is_overlaid, lines_in, lines_in_zones, lines_from, goes_on, goes_on_beside, added_lines, planned_lines}
 use Rattle.action_planner.specs.Offences.{is_shared}
 use Rattle.action_planner.proofs.LawfulLists.{EachPair, Has, all_append, all_both, all_each, all_weaker, all_filter, all_has, all_map, any_has, has_all, pair_append, pair_filter, pair_map, pair_weaker}
 use Rattle.action_planner.proofs.LawfulPlaced.{IsFit}
@@ -204,7 +204,7 @@ module _ (rows : List Row) (t : ℕ) (all : List Placed) where
   added_unspoken : (c : Category) → AllByRecursion (λ m. list_any (speaks m.event m.zone) all ≡ false) (added_lines c rows t all)
   added_unspoken c =
       all_map (λ m. list_any (speaks m.event m.zone) all ≡ false) (line_on Con t) (filter (goes_on_beside c t all) rows)
-      (all_weaker (λ r. Unit {0} × (goes_on_beside c t all r ≡ true)) (λ r. list_any (speaks r.event r.zone) all ≡ false) (λ r h. not-true _ (and_parts _ (not (list_any (speaks r.event r.zone) all)) h.1).1) (filter (goes_on_beside c t all) rows)
+      (all_weaker (λ r. Unit {0} × (goes_on_beside c t all r ≡ true)) (λ r. list_any (speaks r.event r.zone) all ≡ false) (λ r h. not-true _ (and_parts _ (not (list_any (speaks r.event r.zone) all)) (and_parts (is_live t r) (goes_on c all r) h.1).1).1) (filter (goes_on_beside c t all) rows)
       (all_filter (λ r. Unit {0}) (goes_on_beside c t all) rows (all_each (λ r. Unit {0}) (λ r. tt) rows)))
 
   -- of each line of an intent one speaks

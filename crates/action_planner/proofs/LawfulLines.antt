@@ -15,7 +15,7 @@ use Rattle.event_life.specs.Periods.{ends_after, is_live, keeps_open}
 use Rattle.event_life.specs.Products.{by_key, has_rows, is_held, is_open, row_at}
 use Rattle.event_life.proofs.Puts.{at_key}
 use Rattle.action_planner.specs.Placed.{Placed, zones_of, is_opening}
-use Rattle.action_planner.specs.Lines.{line_on, finish_lines, restate_lines, lines_in, lines_in_zones, lines_from, goes_on_beside, added_lines, planned_lines}
+use Rattle.action_planner.specs.Lines.{line_on, finish_lines, restate_lines, lines_in, lines_in_zones, lines_from, goes_on, goes_on_beside, added_lines, planned_lines}
 use Rattle.action_planner.specs.Offences.{is_bad_period, bad_period_of, has_row_by, is_gone, was_left}
 use Rattle.action_planner.proofs.LawfulLists.{Has, all_append, all_both, all_filter, all_has, all_map, all_weaker}
 use Rattle.action_planner.proofs.LawfulPlaced.{IsFit}
@@ -62,8 +62,7 @@ module _ (rows : List Row) (t : ℕ) (all : List Placed) (long : AllByRecursion 
       (all_both (λ z. is_gone rows t p.event p.intent z ≡ false) (λ z. was_left rows t p.event p.intent z ≡ false) (zones_of p.intent) fit.there fit.live)
 
   goes_on_live : (c : Category) (r : Row) → goes_on_beside c t all r ≡ true → is_live t r ≡ true
-  goes_on_live c r h =
-      let p = and_parts _ _ (and_parts _ _ (and_parts _ _ (and_parts _ _ h).0).0).0 in p.0
+  goes_on_live c r h = (and_parts (is_live t r) (goes_on c all r) h).0
 
   added_sound : (c : Category) → IsStrictlySortedBy by_key rows → AllByRecursion (IsSound rows t) (added_lines c rows t all)
   added_sound c up =

@@ -12,3 +12,4 @@ pub mod LawfulUpgrades
 pub mod LawfulOpenings
 pub mod Lawful
 pub mod TextLemmas
+pub mod PlanLemmas
