@@ -17,3 +17,4 @@ pub mod CasesRows
 pub mod CasesLines
 pub mod Cases
 pub mod TextLemmas
+pub mod PlanLemmas

@@ -1,8 +1,10 @@
 //! The lines of a draft: what each intent says of each of its zones, and the rows that go on beside them.
 ghost use Rattle.std.specs.Prelude.{◌≡◌, ◌∷◌, [], ◌++◌, map, filter, IfOk, OnOk};
 ghost use Rattle.std.specs.List.{list_any};
+ghost use Rattle.std.specs.List.Sorted.{IsStrictlySortedBy};
 ghost use Rattle.hazard_types.specs.Hazards.{facts_of};
 ghost use Rattle.hazard_types.specs.declared.codes.Action.TheVariants.{Con};
+ghost use Rattle.event_life.specs.Products.{by_key};
 ghost use Rattle.event_life.specs.Shown.{shown_at};
 ghost use Rattle.action_planner.specs.Placed.{zones_of, touches, speaks};
 ghost use Rattle.action_planner.specs.Lines.{line_on, is_near_end, finishing_action, finish_lines, restate_lines, lines_in, lines_in_zones, lines_from, follows, is_flood_event, goes_on, goes_on_beside, added_lines, planned_lines};
@@ -213,7 +215,8 @@ fn add_beside(
     t: Minute,
     ps: &[Placed],
 ) -> Result<(), Oom>
-    ensures { OnOk result (lines.new ≡ lines.old ++ added_lines category board.now.rows t ps.now) }
+    ensures lines { OnOk result (lines.new ≡ lines.old ++ added_lines category board.now.rows t ps.now) }
+    ensures order { IsStrictlySortedBy by_key board.now.rows }
 {
     let shown = board.shown(alloc, t)?;
     add_going_on(lines, category, t, ps, shown.as_slice())
@@ -227,7 +230,8 @@ pub fn planned_lines(
     t: Minute,
     ps: &[Placed],
 ) -> Result<List<Line>, Oom>
-    ensures { IfOk result (λ lines. lines ≡ planned_lines category board.now.rows t ps.now) }
+    ensures lines { IfOk result (λ lines. lines ≡ planned_lines category board.now.rows t ps.now) }
+    ensures order { OnOk result (IsStrictlySortedBy by_key board.now.rows) }
 {
     let mut lines = List::new(alloc);
     add_spoken(alloc, &mut lines, board, t, ps)?;

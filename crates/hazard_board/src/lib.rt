@@ -124,7 +124,8 @@ impl Board {
 
     /// The live rows, by zone, then event.
     pub fn shown(&self, alloc: Global, t: Minute) -> Result<List<Row>, Oom>
-        ensures { IfOk result (λ live. live ≡ shown_at t self.now.rows) }
+        ensures rows { IfOk result (λ live. live ≡ shown_at t self.now.rows) }
+        ensures order { IsStrictlySortedBy by_key self.now.rows }
     {
         Ok(List::from_vec(live(alloc, &self.rows, t)?))
     }
