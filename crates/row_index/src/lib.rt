@@ -5,3 +5,6 @@ mod index;
 mod shelves;
 
 pub use index::RowIndex;
+
+#[cfg(test)]
+mod tests;
