@@ -34,7 +34,7 @@ on_nothing-higher Exa line rows t b c = refl
 on_nothing-higher Exb line rows t b c = refl
 on_nothing-higher _ line rows t b c = refl
 
-breach-higher : (before : Option Life) (line : Line) (rows : List Row) (t : ℕ) (b c : Bool) → is_upgrade line.action ≡ false →
+pub breach-higher : (before : Option Life) (line : Line) (rows : List Row) (t : ℕ) (b c : Bool) → is_upgrade line.action ≡ false →
     breach_of_line before line t (around_but_higher rows t line b) ≡ breach_of_line before line t (around_but_higher rows t line c)
 unfolding breach_of_line
 breach-higher None line rows t b c u = on_nothing-higher line.action line rows t b c

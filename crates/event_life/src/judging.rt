@@ -73,7 +73,8 @@ fn is_overlapped(rows: &[Row], t: Minute, own: &Row) -> bool
 }
 
 /// Whether the line's row is overlapped among the rows after the product, or its hazard yields to none.
-fn has_higher(rows: &[Row], t: Minute, after: &[Row], line: &Line) -> bool
+/// `rows` are the rows just before the product.
+pub fn has_higher(rows: &[Row], t: Minute, after: &[Row], line: &Line) -> bool
     ensures { result ≡ (not (may_yield line.now.event.hazard) || is_overlapped after.now t (row_at rows.now line.now.event line.now.zone)) }
 {
     if !may_yield(&line.event.hazard) {
@@ -85,8 +86,9 @@ fn has_higher(rows: &[Row], t: Minute, after: &[Row], line: &Line) -> bool
     }
 }
 
-/// The first breach of a line that stands behind these earlier lines of its product.
-fn breach_in(rows: &[Row], t: Minute, earlier: &[Line], line: &Line, higher: bool) -> Option<Breach>
+/// The first breach of a line that stands behind these earlier lines of its product. `rows` are the rows just before the product,
+/// `t` is its issue minute, and `higher` is whether a UPG line's row is overlapped after the product.
+pub fn breach_in(rows: &[Row], t: Minute, earlier: &[Line], line: &Line, higher: bool) -> Option<Breach>
     ensures { result ≡ (if is_routine line.now.action then None else (if is_second earlier.now line.now then Some Twice else breach_of_line (life_at rows.now line.now) line.now t (around_but_higher rows.now t line.now higher))) }
 {
     if is_routine(&line.action) {

@@ -17,7 +17,7 @@ mod step_laws;
 mod step_tests;
 mod tracks;
 
-pub use judging::{judge, line_of};
+pub use judging::{breach_in, has_higher, judge, line_of};
 pub use laws::{
     first_line_decides, gapless_without_gaps, higher_rows_are_lawful_rows,
     judged_lines_leave_the_rows_after, lawful_lines_read_back, lives_are_lifelong,
@@ -26,7 +26,9 @@ pub use laws::{
 pub use life::{Around, Breach, Life, life_step};
 pub use openings::{Gap, gaps, opened_by};
 pub use periods::{ends_after, ends_within, is_live, keeps_open, overlaps, same_at, same_end};
-pub use putting::{rows_after, shown};
+pub use putting::{
+    end_upgraded, is_lawful, is_upgrade, may_count, put, row_after, rows_after, shown,
+};
 pub use rows::{
     around, event_of, going_in, has_period, has_rows, has_same, is_held, is_open, life_at,
     opened_period, row_at,

@@ -34,7 +34,7 @@ fn seat_of(rows: &[Row], row: &Row) -> Result<usize, usize>
 }
 
 /// Puts a row in the place of the one of its zone and event, or in its own place.
-fn put(rows: &mut Vec<Row>, row: &Row) -> Result<(), Oom>
+pub fn put(rows: &mut Vec<Row>, row: &Row) -> Result<(), Oom>
     ensures { OnOk result (rows.new.items ≡ put row.now rows.old.items) }
 {
     match seat_of(rows, row) {
@@ -52,7 +52,7 @@ pub(crate) fn is_routine(action: &Action) -> bool
 }
 
 /// Whether a line says that a higher row takes the zone over.
-fn is_upgrade(action: &Action) -> bool
+pub fn is_upgrade(action: &Action) -> bool
     ensures { result ≡ is_upgrade action.now }
 {
     matches!(action, Action::Upg)
@@ -75,7 +75,7 @@ pub(crate) fn is_second(earlier: &[Line], line: &Line) -> bool
 }
 
 /// Whether a judged line is lawful and touches a life.
-pub(crate) fn is_lawful(judged: &(Line, Option<Breach>)) -> bool
+pub fn is_lawful(judged: &(Line, Option<Breach>)) -> bool
     ensures { result ≡ (not (is_routine judged.now.0.action) && is_none judged.now.1) }
 {
     let (line, breach) = judged;
@@ -95,15 +95,16 @@ fn row_of(line: &Line, life: &Life) -> Row
     }
 }
 
-/// The row that a lawful line leaves.
-fn row_after(rows: &[Row], t: Minute, line: &Line) -> Row
+/// The row that a lawful line leaves. `rows` are the rows just before its product, `t` is its issue minute.
+pub fn row_after(rows: &[Row], t: Minute, line: &Line) -> Row
     ensures { result ≡ row_after rows.now t line.now }
 {
     row_of(line, &life_after(&life_at(rows, line), line, t))
 }
 
 /// Whether a line is lawful and no UPG, so that its row counts where a higher row is looked for.
-fn may_count(rows: &[Row], t: Minute, earlier: &[Line], line: &Line) -> bool
+/// `rows` are the rows just before its product, `t` is its issue minute.
+pub fn may_count(rows: &[Row], t: Minute, earlier: &[Line], line: &Line) -> bool
     ensures { result ≡ may_count rows.now t earlier.now line.now }
 {
     let breach = breach_of_line(&life_at(rows, line), line, t, around(rows, t, line, true));
@@ -147,7 +148,7 @@ fn end_if_upgraded(lines: &[Line], row: &Row) -> Row
 }
 
 /// The rows, where each that has a UPG line has ended.
-fn end_upgraded(alloc: Global, lines: &[Line], rows: &[Row]) -> Result<Vec<Row>, AllocError>
+pub fn end_upgraded(alloc: Global, lines: &[Line], rows: &[Row]) -> Result<Vec<Row>, AllocError>
     ensures { IfOk result (λ after. after.items ≡ map (end_if_upgraded lines.now) rows.now) }
 {
     rows.iter()

@@ -1,0 +1,7 @@
+-- the rows that are left come into their places as all of them do
+use Rattle.std.proofs.Common.{◌≡◌, drop}
+use Rattle.row_index.specs.Steps.{put_each}
+use Rattle.row_index.proofs.index.RowIndex.put_each.Given as goal
+
+abbrev pub invariant-loop-row : goal.invariant-loop-row
+invariant-loop-row l = put_each (drop l.row-index l.rows) l.index ≡ put_each l.rows l.initial.index
