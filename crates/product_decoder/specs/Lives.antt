@@ -7,6 +7,7 @@ use Rattle.hazard_types.specs.Orders.{by_event}
 use Rattle.hazard_types.specs.Places.{by_place}
 use Rattle.hazard_types.specs.declared.line.Row.{Row}
 use Rattle.product_decoder.specs.declared.tracks.Living.{Living}
+use Rattle.product_decoder.specs.declared.types.Track.{Track}
 
 -- by event, then zone
 abbrev pub by_living : Living → Living → Ordering
@@ -19,3 +20,7 @@ add_living living row = insert_key by_living living (record { event = row.event;
 -- those of all rows
 abbrev pub living_in : List Row → List Living
 living_in rows = fold add_living [] rows
+
+-- lives, by event, then zone
+abbrev pub by_life : Track → Track → Ordering
+by_life = then_cmp (on (λ (t : Track). t.event) by_event) (on (λ (t : Track). t.zone) by_place)

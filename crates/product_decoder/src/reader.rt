@@ -1,7 +1,13 @@
 //! The reader of an office's products of a class.
-ghost use Rattle.std.specs.Prelude.{◌≡◌, ◌<◌, ◌++◌, ◌∷◌, [], length, IfOk, OnOk, OnErr};
+ghost use Rattle.std.specs.Prelude.{◌≡◌, ◌↔◌, ◌<◌, ◌++◌, ◌∷◌, [], length, IfOk, OnOk, OnErr};
+ghost use Rattle.std.specs.List.Sorted.{IsStrictlySortedBy};
+ghost use Rattle.hazard_types.specs.Places.{Place};
+ghost use Rattle.hazard_types.specs.declared.hazard.Event.{Event as EventValue};
+ghost use Rattle.event_life.specs.Lives.{IsLawfulLife};
+ghost use Rattle.event_life.specs.Openings.{IsGapless, opened_of};
 ghost use Rattle.event_life.specs.Products.{rows_of};
 ghost use Rattle.event_life.specs.Shown.{shown_at};
+ghost use Rattle.product_decoder.specs.Lives.{by_life};
 ghost use Rattle.product_decoder.specs.ReaderModel.{product_of, lives_of, found_of, gaps_found};
 
 use crate::findings::{breaches_in, gaps_in};
@@ -82,21 +88,26 @@ impl Reader {
 
     /// One life for each row, by event, then zone: the action and issue minute of each lawful line, in the order of the products.
     pub fn lives(&self, alloc: Global) -> Result<List<Track>, Oom>
-        ensures { IfOk result (λ tracks. tracks ≡ lives_of self.now.products) }
+        ensures value { IfOk result (λ tracks. tracks ≡ lives_of self.now.products) }
+        ensures sorted { IfOk result (λ tracks. IsStrictlySortedBy by_life tracks) }
     {
         tracks_in(alloc, self.rows.as_slice(), self.taken.as_slice())
     }
 
     /// The lines in breach, product by product, and within one in the order of the text.
     pub fn breaches(&self, alloc: Global) -> Result<List<Found>, Oom>
-        ensures { IfOk result (λ found. found ≡ found_of self.now.products) }
+        ensures value { IfOk result (λ found. found ≡ found_of self.now.products) }
+        // None is found exactly where each life is lawful.
+        ensures lawful { (found_of self.now.products ≡ []) ↔ ((e : EventValue) (z : Place) → IsLawfulLife self.now.products e z) }
     {
         breaches_in(alloc, self.taken.as_slice())
     }
 
     /// The gaps in the numbers of each hazard and year, in the order in which the events were opened.
     pub fn gaps(&self, alloc: Global) -> Result<List<GapFound>, Oom>
-        ensures { IfOk result (λ gaps. gaps ≡ gaps_found self.now.products) }
+        ensures value { IfOk result (λ gaps. gaps ≡ gaps_found self.now.products) }
+        // None is found exactly where the numbers of each hazard and year are 1, 2, .., k in the order of opening.
+        ensures gapless { (gaps_found self.now.products ≡ []) ↔ IsGapless (opened_of self.now.products) }
     {
         gaps_in(alloc, self.taken.as_slice())
     }

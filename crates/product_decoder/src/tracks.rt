@@ -1,6 +1,7 @@
 //! Lives, by event, then zone.
 ghost use Rattle.std.specs.Prelude.{◌≡◌, map, IfOk};
-ghost use Rattle.product_decoder.specs.Lives.{living_in};
+ghost use Rattle.std.specs.List.Sorted.{IsStrictlySortedBy};
+ghost use Rattle.product_decoder.specs.Lives.{living_in, by_life};
 ghost use Rattle.product_decoder.specs.Takings.{steps_in, track_in};
 
 use crate::taken::Taken;
@@ -53,18 +54,28 @@ fn steps_in(
     Ok(steps)
 }
 
-/// The life of each row. `taken` are the products that left the rows.
-pub fn tracks_in(alloc: Global, rows: &[Row], taken: &[Taken]) -> Result<List<Track>, Oom>
-    ensures { IfOk result (λ tracks. tracks ≡ map (track_in taken.now) (living_in rows.now)) }
+/// The life of each event in a zone.
+fn tracks_of(alloc: Global, living: BTreeSet<Living>, taken: &[Taken]) -> Result<List<Track>, Oom>
+    ensures value { IfOk result (λ tracks. tracks ≡ map (track_in taken.now) living.keys) }
+    ensures sorted { IfOk result (λ tracks. IsStrictlySortedBy by_life tracks) }
 {
     let mut tracks = List::new(alloc);
-    for living in living_in(alloc, rows)? {
-        let steps = steps_in(alloc, taken, &living.event, &living.zone)?;
+    for life in living {
+        let steps = steps_in(alloc, taken, &life.event, &life.zone)?;
         tracks.push(Track {
-            event: living.event,
-            zone: living.zone,
+            event: life.event,
+            zone: life.zone,
             steps,
         })?;
     }
     Ok(tracks)
+}
+
+/// The life of each row. `taken` are the products that left the rows.
+pub fn tracks_in(alloc: Global, rows: &[Row], taken: &[Taken]) -> Result<List<Track>, Oom>
+    ensures value { IfOk result (λ tracks. tracks ≡ map (track_in taken.now) (living_in rows.now)) }
+    ensures sorted { IfOk result (λ tracks. IsStrictlySortedBy by_life tracks) }
+{
+    let living = living_in(alloc, rows)?;
+    tracks_of(alloc, living, taken)
 }

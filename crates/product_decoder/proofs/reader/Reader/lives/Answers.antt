@@ -10,10 +10,10 @@ use Rattle.product_decoder.specs.Takings.{track_in}
 use Rattle.product_decoder.proofs.TakingLemmas.{lives_read}
 use Rattle.product_decoder.proofs.reader.Reader.lives.Goals as goal
 
-pub returns : goal.returns
-returns c =
+pub returns-clause-value : goal.returns-clause-value
+returns-clause-value c =
     let told = ap (λ (rows : List Row). map (track_in c.as_slice-2.result.now) (living_in rows)) c.as_slice.ensures
     ∙ ap (λ (taken : List Taken). map (track_in taken) (living_in c.self.inside.rows)) c.as_slice-2.ensures
     ∙ lives_read c.self.inside.rows c.self.inside.taken c.self.invariant
     ∙ ap (λ (r : Reading). lives_of r.products) c.self.view_is in
-    subst (λ (all : List Track). IfOk c.tracks_in.result (λ tracks. tracks ≡ all)) told c.tracks_in.ensures
+    subst (λ (all : List Track). IfOk c.tracks_in.result (λ tracks. tracks ≡ all)) told c.tracks_in.ensures.value
