@@ -1,8 +1,7 @@
 //! The lines of a product, each judged by the rows just before it.
 ghost use Rattle.std.specs.Prelude.{◌≡◌, ◌||◌, not, Some, None, if◌then◌else◌, IfOk};
-ghost use Rattle.hazard_types.specs.Hazards.{facts_of};
 ghost use Rattle.event_life.specs.declared.life.Breach.TheVariants.{Twice};
-ghost use Rattle.event_life.specs.Higher.{family_of, may_yield, outranks};
+ghost use Rattle.event_life.specs.Higher.{may_yield, outranks};
 ghost use Rattle.event_life.specs.Products.{end_of, line_of, is_routine, is_second, is_overlapped, life_at, row_at, around_but_higher, judged};
 ghost use Rattle.event_life.specs.Table.{breach_of_line};
 
@@ -48,7 +47,7 @@ fn may_yield(hazard: &Hazard) -> bool
     }
 }
 
-/// Whether the first hazard is of a higher rank of the second's family. The first rank is the highest.
+/// Whether the first hazard is of a higher rank of the second's family, which has the greater number.
 fn outranks(high: &Hazard, low: &Hazard) -> bool
     ensures { result ≡ outranks high.now low.now }
 {

@@ -50,3 +50,9 @@ pub fn higher_rows_are_lawful_rows()
     ensures { (rows : List Row) (t : ℕ) (lines : List Line) →
         rows_for_higher rows t lines ≡ end_upgraded lines (put_all rows t (filter (λ line. not (is_upgrade line.action)) (lawful_of (judged rows t lines))) rows) }
 {}
+
+/// The rows that the judged lines of a product leave are those after the product.
+#[tactic(auto, unfolding(crate::specs::Products::rows_after))]
+pub fn judged_lines_leave_the_rows_after()
+    ensures { (rows : List Row) (t : ℕ) (lines : List Line) → put_all rows t (lawful_of (judged rows t lines)) rows ≡ rows_after rows t lines }
+{}

@@ -2,6 +2,8 @@
 #![tactic(auto)]
 
 mod judging;
+#[cfg(test)]
+mod judging_tests;
 mod laws;
 mod life;
 mod openings;
@@ -17,8 +19,9 @@ mod tracks;
 
 pub use judging::{judge, line_of};
 pub use laws::{
-    first_line_decides, gapless_without_gaps, higher_rows_are_lawful_rows, lawful_lines_read_back,
-    lives_are_lifelong, rows_stay_in_order,
+    first_line_decides, gapless_without_gaps, higher_rows_are_lawful_rows,
+    judged_lines_leave_the_rows_after, lawful_lines_read_back, lives_are_lifelong,
+    rows_stay_in_order,
 };
 pub use life::{Around, Breach, Life, life_step};
 pub use openings::{Gap, gaps, opened_by};

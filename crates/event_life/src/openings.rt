@@ -69,7 +69,7 @@ pub fn opened_by(alloc: Global, judged: &[(Line, Option<Breach>)]) -> Result<Lis
 fn wanted_after(earlier: &[Event], event: &Event) -> u32
     ensures { result ≡ wanted_after earlier.now event.now }
 {
-    let mut last = 0;
+    let mut last: u16 = 0;
     for other in earlier {
         if other.hazard == event.hazard && other.year == event.year {
             last = other.etn;
