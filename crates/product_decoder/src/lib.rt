@@ -1,0 +1,16 @@
+//! What the products of an office say: read, taken in order, and judged.
+#![tactic(auto)]
+
+mod findings;
+mod read;
+mod reader;
+mod taken;
+#[cfg(test)]
+mod tests;
+mod tracks;
+mod types;
+
+pub use product_frame::split_products;
+pub use read::decode;
+pub use reader::Reader;
+pub use types::{Decoded, Found, GapFound, Track, ZonePair};
