@@ -6,5 +6,6 @@ pub mod Openings
 pub mod Periods
 pub mod Printed
 pub mod Products
+pub mod Seats
 pub mod Shown
 pub mod Table

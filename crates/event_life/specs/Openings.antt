@@ -8,6 +8,7 @@ use Rattle.hazard_types.specs.declared.hazard.Event.{Event}
 use Rattle.hazard_types.specs.declared.hazard.Hazard.{Hazard}
 use Rattle.hazard_types.specs.declared.line.Line.{Line}
 use Rattle.hazard_types.specs.declared.line.Row.{Row}
+pub use Rattle.event_life.specs.declared.openings.Gap.{Gap}
 use Rattle.event_life.specs.Lives.{judged_product}
 use Rattle.event_life.specs.Products.{Product, is_new, lawful_of, rows_with}
 
@@ -49,11 +50,6 @@ counted_from n (suc k) = n ∷ counted_from (n + 1) k
 -- for each hazard and year the numbers are 1, 2, .., k
 abbrev pub IsGapless : List Event → Type 0
 IsGapless events = (h : Hazard) (year : ℕ) → (k : ℕ) × (numbers_of h year events ≡ counted_from 1 k)
-
--- a number was opened where another was wanted
-pub record Gap : Type 0 where
-  pub event : Event
-  pub wanted : ℕ
 
 -- one more than the last number of the hazard and year, from 1
 abbrev pub wanted_after : List Event → Event → ℕ

@@ -1,22 +1,29 @@
 //! The life of one event in one zone: which lines are lawful, and what they leave.
 #![tactic(auto)]
 
+mod judging;
 mod laws;
 mod life;
+mod openings;
 mod periods;
+mod putting;
 mod rows;
 #[cfg(test)]
 mod rows_tests;
 mod step_laws;
 #[cfg(test)]
 mod step_tests;
+mod tracks;
 
+pub use judging::{judge, line_of};
 pub use laws::{
     first_line_decides, gapless_without_gaps, higher_rows_are_lawful_rows, lawful_lines_read_back,
     lives_are_lifelong, rows_stay_in_order,
 };
 pub use life::{Around, Breach, Life, life_step};
+pub use openings::{Gap, gaps, opened_by};
 pub use periods::{ends_after, ends_within, is_live, keeps_open, overlaps, same_at, same_end};
+pub use putting::{rows_after, shown};
 pub use rows::{
     around, event_of, going_in, has_period, has_rows, has_same, is_held, is_open, life_at,
     opened_period, row_at,
@@ -27,3 +34,4 @@ pub use step_laws::{
     exp_comes_within_half_an_hour_of_the_end, ext_changes_the_period, lawful_lines_leave,
     new_opens_an_event, steps_are_never_twice, upg_comes_before_the_end,
 };
+pub use tracks::add_steps;

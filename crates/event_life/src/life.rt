@@ -289,7 +289,12 @@ fn breach_on_nothing(line: &Line, t: Minute, around: Around) -> Option<Breach>
 
 /// The first breach of a line, or None where it is lawful.
 #[tactic(auto, unfolding(crate::specs::Table::breach_of_line))]
-fn breach_of_line(life: &Option<Life>, line: &Line, t: Minute, around: Around) -> Option<Breach>
+pub(crate) fn breach_of_line(
+    life: &Option<Life>,
+    line: &Line,
+    t: Minute,
+    around: Around,
+) -> Option<Breach>
     ensures { result ≡ breach_of_line life.now line.now t around }
 {
     match life {
@@ -343,7 +348,7 @@ fn left_of_life(life: &Life, line: &Line, t: Minute) -> Life
 
 /// The life that a lawful line leaves.
 #[tactic(auto, unfolding(crate::specs::Table::life_after))]
-fn life_after(life: &Option<Life>, line: &Line, t: Minute) -> Life
+pub(crate) fn life_after(life: &Option<Life>, line: &Line, t: Minute) -> Life
     ensures { result ≡ life_after life.now line.now t }
 {
     match life {

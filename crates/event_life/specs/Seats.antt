@@ -1,0 +1,38 @@
+-- Words of the code that judges products: where a row belongs, and which lines count where a higher row is looked for.
+use Rattle.std.specs.Prelude.{◌&&◌, ◌||◌, not, ℕ, ◌<◌, ◌≤◌, Bool, true, List, length, slice_set, Option, Some, None, Result, Ok, Err, is_none}
+use Rattle.std.specs.List.{insert, list_any}
+use Rattle.hazard_types.specs.declared.hazard.Event.{Event}
+use Rattle.hazard_types.specs.declared.line.Line.{Line}
+use Rattle.hazard_types.specs.declared.line.Row.{Row}
+use Rattle.event_life.specs.Products.{is_routine, is_upgrade, speaks_of, is_second, life_at, around_but_higher}
+use Rattle.event_life.specs.Table.{breach_of_line}
+
+-- the rows with the row in the place of another, or before what stands at a place
+abbrev pub seated : Result ℕ ℕ → Row → List Row → List Row
+seated (Ok i) row rows = slice_set rows i row
+seated (Err i) row rows = insert rows i row
+
+abbrev pub IsSeat : Result ℕ ℕ → List Row → Type 0
+IsSeat (Ok i) rows = i < length rows
+IsSeat (Err i) rows = i ≤ length rows
+
+-- the line is lawful and no UPG
+abbrev pub may_count : List Row → ℕ → List Line → Line → Bool
+may_count rows t earlier line = not (is_routine line.action) && not (is_upgrade line.action) && not (is_second earlier line) && is_none (breach_of_line (life_at rows line) line t (around_but_higher rows t line true))
+
+-- a UPG line speaks of the row
+abbrev pub is_upgraded : List Line → Row → Bool
+is_upgraded lines r = list_any (λ (line : Line). is_upgrade line.action && speaks_of r.event r.zone line) lines
+
+-- the row, ended where it is so
+abbrev pub end_if_upgraded : List Line → Row → Row
+end_if_upgraded lines r = record { event = r.event; zone = r.zone; period = r.period; flood = r.flood; ended = is_upgraded lines r || r.ended }
+
+-- the events with the event before what stands at a place, or as they are where it stands among them
+abbrev pub event_seated : Option ℕ → Event → List Event → List Event
+event_seated None e events = events
+event_seated (Some i) e events = insert events i e
+
+abbrev pub IsEventSeat : Option ℕ → List Event → Type 0
+IsEventSeat None events = Unit {0}
+IsEventSeat (Some i) events = i ≤ length events

@@ -1,0 +1,121 @@
+//! The lines of a product, each judged by the rows just before it.
+ghost use Rattle.std.specs.Prelude.{◌≡◌, ◌||◌, not, Some, None, if◌then◌else◌, IfOk};
+ghost use Rattle.hazard_types.specs.Hazards.{facts_of};
+ghost use Rattle.event_life.specs.declared.life.Breach.TheVariants.{Twice};
+ghost use Rattle.event_life.specs.Higher.{family_of, may_yield, outranks};
+ghost use Rattle.event_life.specs.Products.{end_of, line_of, is_routine, is_second, is_overlapped, life_at, row_at, around_but_higher, judged};
+ghost use Rattle.event_life.specs.Table.{breach_of_line};
+
+use crate::life::{Breach, breach_of_line};
+use crate::periods::{is_live, overlaps};
+use crate::putting::{is_routine, is_second, rows_for_higher};
+use crate::rows::{around, event_of, life_at, row_at};
+use hazard_types::desk_hazards::facts;
+use hazard_types::{End, Flood, Hazard, Line, List, Minute, Oom, Row, Vtec, Zone};
+use std::alloc::Global;
+
+/// The end that a text prints: none is until further notice.
+fn end_of(end: &Option<Minute>) -> End
+    ensures { result ≡ end_of end.now }
+{
+    match end {
+        Some(minute) => End::At(*minute),
+        None => End::Ufn,
+    }
+}
+
+/// What a line of a text says of its event in a zone. `rows` are the rows just before its product, `t` is the product's issue minute.
+pub fn line_of(rows: &[Row], t: Minute, zone: &Zone, vtec: &Vtec, flood: &Option<Flood>) -> Line
+    ensures { result ≡ line_of rows.now t (record { zone = zone.now; vtec = vtec.now; flood = flood.now }) }
+{
+    Line {
+        action: vtec.action,
+        event: event_of(rows, t, vtec),
+        zone: *zone,
+        begin: vtec.begin,
+        end: end_of(&vtec.end),
+        flood: *flood,
+    }
+}
+
+/// Whether the desk issues the hazard, and it has a family.
+fn may_yield(hazard: &Hazard) -> bool
+    ensures { result ≡ may_yield hazard.now }
+{
+    match facts(*hazard) {
+        Some(facts) => facts.family.is_some(),
+        None => false,
+    }
+}
+
+/// Whether the first hazard is of a higher rank of the second's family. The first rank is the highest.
+fn outranks(high: &Hazard, low: &Hazard) -> bool
+    ensures { result ≡ outranks high.now low.now }
+{
+    let (Some(first), Some(second)) = (facts(*high), facts(*low)) else {
+        return false;
+    };
+    let (Some((family, rank)), Some((other, under))) = (&first.family, &second.family) else {
+        return false;
+    };
+    *family == *other && *under < *rank
+}
+
+/// Whether one of the rows is live, of a higher rank of the row's family, and overlaps it in its zone.
+fn is_overlapped(rows: &[Row], t: Minute, own: &Row) -> bool
+    ensures { result ≡ is_overlapped rows.now t (Some own.now) }
+{
+    rows.iter().any(|row| {
+        row.zone == own.zone
+            && is_live(row, t)
+            && outranks(&row.event.hazard, &own.event.hazard)
+            && overlaps(&row.period, &own.period)
+    })
+}
+
+/// Whether the line's row is overlapped among the rows after the product, or its hazard yields to none.
+fn has_higher(rows: &[Row], t: Minute, after: &[Row], line: &Line) -> bool
+    ensures { result ≡ (not (may_yield line.now.event.hazard) || is_overlapped after.now t (row_at rows.now line.now.event line.now.zone)) }
+{
+    if !may_yield(&line.event.hazard) {
+        return true;
+    }
+    match row_at(rows, &line.event, &line.zone) {
+        Some(own) => is_overlapped(after, t, &own),
+        None => false,
+    }
+}
+
+/// The first breach of a line that stands behind these earlier lines of its product.
+fn breach_in(rows: &[Row], t: Minute, earlier: &[Line], line: &Line, higher: bool) -> Option<Breach>
+    ensures { result ≡ (if is_routine line.now.action then None else (if is_second earlier.now line.now then Some Twice else breach_of_line (life_at rows.now line.now) line.now t (around_but_higher rows.now t line.now higher))) }
+{
+    if is_routine(&line.action) {
+        None
+    } else if is_second(earlier, line) {
+        Some(Breach::Twice)
+    } else {
+        breach_of_line(&life_at(rows, line), line, t, around(rows, t, line, higher))
+    }
+}
+
+/// The lines of a product, each with its first breach, or None where it is lawful. `rows` are the rows just before the product,
+/// `t` is its issue minute. A routine line has no breach.
+#[tactic(auto, unfolding(crate::specs::Products::breach_in))]
+pub fn judge(
+    alloc: Global,
+    rows: &[Row],
+    t: Minute,
+    lines: &[Line],
+) -> Result<List<(Line, Option<Breach>)>, Oom>
+    ensures { IfOk result (λ found. found ≡ judged rows.now t lines.now) }
+{
+    let after = rows_for_higher(alloc, rows, t, lines)?;
+    let mut found = Vec::with_capacity(alloc, lines.len())?;
+    for (place, line) in lines.iter().enumerate() {
+        let higher = has_higher(rows, t, &after, line);
+        let breach = breach_in(rows, t, &lines[..place], line, higher);
+        found.push((*line, breach))?;
+    }
+    Ok(List::from_vec(found))
+}

@@ -1,0 +1,12 @@
+//! What the products of an office say: read, taken in order, and judged.
+#![tactic(auto)]
+
+mod read;
+#[cfg(test)]
+mod tests;
+mod tracks;
+mod types;
+
+pub use product_frame::split_products;
+pub use read::decode;
+pub use types::{Decoded, Found, GapFound, Track, ZonePair};

@@ -1,0 +1,76 @@
+//! Products are read.
+ghost use Rattle.std.specs.Prelude.{◌≡◌, ◌++◌, map, Ok, Err, IfOk, OnOk};
+ghost use Rattle.hazard_types.specs.Given.{Gives};
+ghost use Rattle.product_frame.specs.Frame.{FrameOf};
+ghost use Rattle.product_frame.specs.Faults.{FrameFaultOf};
+ghost use Rattle.product_frame.specs.ZoneLinesOf.{lines_of_zone, lines_of_zones, lines_of_segments};
+ghost use Rattle.product_frame.specs.declared.frame.Frame.{Frame as FrameValue};
+ghost use Rattle.product_frame.specs.declared.frame.FrameFault.{FrameFault as FaultValue};
+ghost use Rattle.product_decoder.specs.Decoded.{pair_of, decoded_of, IsDecoded, decode};
+
+use crate::types::{Decoded, ZonePair};
+use hazard_types::{List, Oom, Or, Zone};
+use product_frame::{FrameFault, FrameSegment, Pair, read_frame};
+use std::alloc::Global;
+
+/// Adds what the pairs say of a zone.
+fn put_zone(out: &mut List<ZonePair>, zone: &Zone, pairs: &[Pair]) -> Result<(), Oom>
+    ensures { OnOk result (out.new ≡ out.old ++ map pair_of (lines_of_zone zone.now pairs.now)) }
+{
+    for pair in pairs {
+        out.push(ZonePair {
+            zone: *zone,
+            vtec: pair.vtec,
+            flood: pair.flood,
+        })?;
+    }
+    Ok(())
+}
+
+/// Adds what the pairs say of each zone.
+fn put_zones(out: &mut List<ZonePair>, zones: &[Zone], pairs: &[Pair]) -> Result<(), Oom>
+    ensures { OnOk result (out.new ≡ out.old ++ map pair_of (lines_of_zones zones.now pairs.now)) }
+{
+    for zone in zones {
+        put_zone(out, zone, pairs)?;
+    }
+    Ok(())
+}
+
+/// What segments say of their zones.
+fn pairs_of(alloc: Global, segments: &List<FrameSegment>) -> Result<List<ZonePair>, Oom>
+    ensures { IfOk result (λ pairs. pairs ≡ map pair_of (lines_of_segments segments.now)) }
+{
+    let mut out = List::new(alloc);
+    for segment in segments.as_slice() {
+        put_zones(&mut out, segment.zones.as_slice(), segment.pairs.as_slice())?;
+    }
+    Ok(out)
+}
+
+/// What the first product of a text says.
+///
+/// # Errors
+///
+/// The first fault of its frame, with its line, which counts from the heading as line 1.
+#[tactic(auto, unfolding(product_frame::specs::ZoneLinesOf::zone_lines_of))]
+pub fn decode(alloc: Global, bytes: &[u8]) -> Result<Decoded, Or<FrameFault>>
+    // What is read is what the frame of the text says.
+    ensures found { IfOk result (IsDecoded bytes.now) }
+    // Where the text has a frame it is read, unless memory runs out.
+    ensures only { (f : FrameValue) → FrameOf bytes.now f → Gives result (Ok (decoded_of f)) }
+    // What is refused has this fault first, and each first fault is named, unless memory runs out.
+    ensures fault { (x : FaultValue) → result ≡ Err (Or.No x) → FrameFaultOf bytes.now x }
+    ensures fault_only { (x : FaultValue) → FrameFaultOf bytes.now x → Gives result (Err x) }
+
+    // The same as one function of the bytes.
+    ensures exact { Gives result (decode bytes.now) }
+{
+    let frame = read_frame(alloc, bytes)?;
+    let pairs = pairs_of(alloc, &frame.segments)?;
+    Ok(Decoded {
+        identifier: frame.identifier,
+        issue: frame.issue,
+        pairs,
+    })
+}
