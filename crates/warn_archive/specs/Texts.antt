@@ -5,6 +5,7 @@ use Rattle.hazard_types.specs.Hazards.{hazard_code}
 use Rattle.hazard_types.specs.declared.codes.Action.{Action}
 use Rattle.hazard_types.specs.declared.hazard.Event.{Event}
 use Rattle.hazard_types.specs.declared.line.Row.{Row}
+use Rattle.hazard_types.specs.declared.period.Period.{Period}
 use Rattle.hazard_types.specs.declared.period.End.{End}
 use Rattle.hazard_types.specs.declared.period.End.TheVariants.{At, Ufn}
 use Rattle.vtec_string.specs.Columns.{four_digits}
@@ -33,9 +34,12 @@ abbrev pub steps_text : List (Action × ℕ) → List ℕ
 steps_text [] = []
 steps_text (s ∷ steps) = codes " " ++ (action_code s.0 ++ (codes "@" ++ (stamp_of s.1 ++ steps_text steps)))
 
+abbrev pub period_text : Period → List ℕ
+period_text p = stamp_of p.begin ++ (codes "-" ++ end_text p.end)
+
 -- MDZ003 WS.W.0001.2018 180103T1530Z-180104T0000Z
 abbrev pub row_line : Row → List ℕ
-row_line r = code_text r.zone ++ (codes " " ++ (event_text r.event ++ (codes " " ++ (stamp_of r.period.begin ++ (codes "-" ++ (end_text r.period.end ++ codes "\n"))))))
+row_line r = code_text r.zone ++ (codes " " ++ (event_text r.event ++ (codes " " ++ (period_text r.period ++ codes "\n"))))
 
 abbrev pub breach_name : Breach → List ℕ
 breach_name breach.Reopened = codes "Reopened"

@@ -2,8 +2,11 @@
 #![tactic(auto)]
 
 mod archive;
+mod lines;
 mod reading;
+mod readings;
 mod report;
+mod texts;
 mod words;
 
 use desk_traits::{StdSink, StdSource};

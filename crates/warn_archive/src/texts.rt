@@ -5,10 +5,10 @@ ghost use Rattle.hazard_types.specs.Hazards.{hazard_code};
 ghost use Rattle.vtec_string.specs.Columns.{four_digits};
 ghost use Rattle.vtec_string.specs.Letters.{action_code};
 ghost use Rattle.ugc_codes.specs.Grammar.{kind_code, three_digits, code_text};
-ghost use Rattle.warn_archive.specs.Texts.{wide, event_text, end_text, steps_text, row_line, breach_name, fault_text};
+ghost use Rattle.warn_archive.specs.Texts.{wide, event_text, end_text, period_text, steps_text, row_line, breach_name, fault_text};
 
 use event_life::Breach;
-use hazard_types::{Action, End, Event, Hazard, Kind, List, Minute, Oom, Row, Text, Zone, stamp};
+use hazard_types::{Action, End, Event, Hazard, Kind, List, Minute, Oom, Period, Row, Text, Zone, stamp};
 use product_frame::FrameFault;
 use std::alloc::{AllocError, Global};
 
@@ -109,6 +109,14 @@ fn put_end(out: &mut Text, end: &End) -> Result<(), Oom>
     }
 }
 
+fn put_period(out: &mut Text, period: &Period) -> Result<(), Oom>
+    ensures { OnOk result (out.new ≡ out.old ++ period_text period.now) }
+{
+    put_stamp(out, period.begin)?;
+    out.push(b'-')?;
+    put_end(out, &period.end)
+}
+
 fn action_code(action: Action) -> [u8; 3]
     ensures { result ≡ action_code action }
 {
@@ -147,9 +155,7 @@ pub fn put_row(alloc: Global, out: &mut Text, row: &Row) -> Result<(), Oom>
     out.push(b' ')?;
     put_event(alloc, out, &row.event)?;
     out.push(b' ')?;
-    put_stamp(out, row.period.begin)?;
-    out.push(b'-')?;
-    put_end(out, &row.period.end)?;
+    put_period(out, &row.period)?;
     out.push(b'\n')
 }
 
