@@ -1,3 +1,4 @@
 pub mod Decoded
 pub mod Lives
 pub mod ReaderModel
+pub mod Takings

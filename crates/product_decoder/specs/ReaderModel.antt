@@ -8,7 +8,8 @@ use Rattle.hazard_types.specs.declared.line.Line.{Line}
 use Rattle.hazard_types.specs.declared.line.Row.{Row}
 use Rattle.event_life.specs.declared.life.Breach.{Breach}
 use Rattle.event_life.specs.Lives.{judged_product, track_of}
-use Rattle.event_life.specs.Openings.{Gap, gaps_of}
+use Rattle.event_life.specs.Openings.{gaps_of}
+use Rattle.event_life.specs.declared.openings.Gap.{Gap}
 use Rattle.event_life.specs.Products.{Product, rows_with, rows_of}
 use Rattle.product_decoder.specs.declared.types.Decoded.{Decoded}
 use Rattle.product_decoder.specs.declared.types.Found.{Found}

@@ -1,7 +1,10 @@
 //! What the products of an office say: read, taken in order, and judged.
 #![tactic(auto)]
 
+mod findings;
 mod read;
+mod reader;
+mod taken;
 #[cfg(test)]
 mod tests;
 mod tracks;
@@ -9,4 +12,5 @@ mod types;
 
 pub use product_frame::split_products;
 pub use read::decode;
+pub use reader::Reader;
 pub use types::{Decoded, Found, GapFound, Track, ZonePair};

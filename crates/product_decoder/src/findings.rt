@@ -1,0 +1,82 @@
+//! Lines in breach, and gaps.
+ghost use Rattle.std.specs.Prelude.{◌≡◌, ◌<◌, ◌++◌, [], length, map, IfOk, OnOk};
+ghost use Rattle.event_life.specs.Openings.{gaps_from};
+ghost use Rattle.product_decoder.specs.ReaderModel.{found_in, gap_found};
+ghost use Rattle.product_decoder.specs.Takings.{breaches_in, opened_in};
+
+use crate::taken::Taken;
+use crate::types::{Found, GapFound};
+use event_life::{Breach, Gap, gaps, opened_by};
+use hazard_types::{Event, Line, List, Oom};
+use std::alloc::{AllocError, Global};
+
+/// Adds the lines of a product that are in breach.
+fn put_found(
+    out: &mut List<Found>,
+    product: u32,
+    judged: &[(Line, Option<Breach>)],
+) -> Result<(), Oom>
+    ensures { OnOk result (out.new ≡ out.old ++ found_in product judged.now) }
+{
+    for (line, breach) in judged {
+        if let Some(breach) = breach {
+            out.push(Found {
+                product,
+                event: line.event,
+                zone: line.zone,
+                breach: *breach,
+            })?;
+        }
+    }
+    Ok(())
+}
+
+/// The lines of products that are in breach. Products count from 1.
+pub fn breaches_in(alloc: Global, taken: &[Taken]) -> Result<List<Found>, Oom>
+    requires { length taken.now < 4294967296 }
+    ensures { IfOk result (λ found. found ≡ breaches_in 1 taken.now) }
+{
+    let mut out = List::new(alloc);
+    for (place, product) in taken.iter().enumerate() {
+        put_found(&mut out, place as u32 + 1, product.judged.as_slice())?;
+    }
+    Ok(out)
+}
+
+/// The events that products opened, product by product.
+fn opened_in(alloc: Global, taken: &[Taken]) -> Result<List<Event>, Oom>
+    ensures { IfOk result (λ events. events ≡ opened_in taken.now) }
+{
+    let mut events = List::new(alloc);
+    for product in taken {
+        let opened = opened_by(alloc, product.judged.as_slice())?;
+        events.extend(opened.as_slice())?;
+    }
+    Ok(events)
+}
+
+fn gap_found(gap: &Gap) -> GapFound
+    ensures { result ≡ gap_found gap.now }
+{
+    GapFound {
+        hazard: gap.event.hazard,
+        year: gap.event.year,
+        wanted: gap.wanted.min(65_535) as u16,
+        found: gap.event.etn,
+    }
+}
+
+fn all_found(alloc: Global, gaps: &[Gap]) -> Result<Vec<GapFound>, AllocError>
+    ensures { IfOk result (λ found. found.items ≡ map gap_found gaps.now) }
+{
+    gaps.iter().map(|gap| gap_found(gap)).collect(alloc)
+}
+
+/// The gaps in the numbers of the events that products opened.
+pub fn gaps_in(alloc: Global, taken: &[Taken]) -> Result<List<GapFound>, Oom>
+    ensures { IfOk result (λ found. found ≡ map gap_found (gaps_from [] (opened_in taken.now))) }
+{
+    let opened = opened_in(alloc, taken)?;
+    let gaps = gaps(alloc, opened.as_slice())?;
+    Ok(List::from_vec(all_found(alloc, gaps.as_slice())?))
+}

@@ -1,0 +1,74 @@
+//! What is taken of a product: its lines of an office and class, judged by the rows before it.
+ghost use Rattle.std.specs.Prelude.{◌≡◌, map, filter, IfOk};
+ghost use Rattle.event_life.specs.Lives.{judged_product};
+ghost use Rattle.event_life.specs.Products.{lines_of};
+ghost use Rattle.product_decoder.specs.ReaderModel.{is_by, line_said, product_of};
+ghost use Rattle.product_decoder.specs.Takings.{product_taken};
+
+use crate::types::{Decoded, ZonePair};
+use event_life::{Breach, judge, line_of};
+use hazard_types::{Class, Line, List, Minute, Oom, Row};
+use std::alloc::{AllocError, Global};
+
+/// What was taken of a product: its issue minute, its lines of the office and class, and what these say of their events, each with its breach.
+#[derive(Drop)]
+pub struct Taken {
+    pub issue: Minute,
+    pub said: List<ZonePair>,
+    pub judged: List<(Line, Option<Breach>)>,
+}
+
+/// Whether a line is of an office and class.
+fn is_by(office: &[u8; 4], class: &Class, pair: &ZonePair) -> bool
+    ensures { result ≡ is_by office.now class.now pair.now }
+{
+    pair.vtec.office == *office && pair.vtec.class == *class
+}
+
+/// Those of the lines that are of an office and class.
+fn said_by(
+    alloc: Global,
+    office: &[u8; 4],
+    class: &Class,
+    pairs: &[ZonePair],
+) -> Result<Vec<ZonePair>, AllocError>
+    ensures { IfOk result (λ said. said.items ≡ filter (is_by office.now class.now) pairs.now) }
+{
+    pairs
+        .iter()
+        .filter(|pair| is_by(office, class, pair))
+        .copied()
+        .collect(alloc)
+}
+
+/// What lines say of their events.
+fn lines_of(alloc: Global, rows: &[Row], t: Minute, said: &[ZonePair]) -> Result<Vec<Line>, Oom>
+    ensures { IfOk result (λ lines. lines.items ≡ lines_of rows.now t (map line_said said.now)) }
+{
+    let mut lines = Vec::with_capacity(alloc, said.len())?;
+    for pair in said {
+        lines.push(line_of(rows, t, &pair.zone, &pair.vtec, &pair.flood))?;
+    }
+    Ok(lines)
+}
+
+/// What is taken of a product. `rows` are the rows just before it.
+pub fn taken_of(
+    alloc: Global,
+    office: &[u8; 4],
+    class: &Class,
+    rows: &[Row],
+    d: &Decoded,
+) -> Result<Taken, Oom>
+    ensures product { IfOk result (λ taken. product_taken taken ≡ product_of office.now class.now d.now) }
+    ensures judged { IfOk result (λ taken. taken.judged ≡ judged_product rows.now (product_of office.now class.now d.now)) }
+{
+    let said = said_by(alloc, office, class, d.pairs.as_slice())?;
+    let lines = lines_of(alloc, rows, d.issue, &said)?;
+    let judged = judge(alloc, rows, d.issue, &lines)?;
+    Ok(Taken {
+        issue: d.issue,
+        said: List::from_vec(said),
+        judged,
+    })
+}
