@@ -50,8 +50,10 @@ pub spans_are_within : (bytes : List ℕ) → All (IsWithin (length bytes)) (spa
 unfolding spans_of
 spans_are_within bytes =
     let places = headings_in bytes (starts bytes) in
+    let e : 0 + length bytes ≡ length bytes = omega arith in
+    let climb : Climbs 0 (length bytes) (starts_from 0 bytes) = rw e at (starts_climb 0 bytes) in
     All-from_recursion (IsWithin (length bytes)) (spans_to (length bytes) places)
-    (within_from 0 (length bytes) places (headings_climb bytes 0 (length bytes) (starts bytes) (omega arith, starts_climb 0 bytes)))
+    (within_from 0 (length bytes) places (headings_climb bytes 0 (length bytes) (starts bytes) (omega arith, climb)))
 
 -- how many there are
 

@@ -4,7 +4,6 @@ use Rattle.hazard_types.specs.Calendar.{stamp_of}
 use Rattle.hazard_types.specs.Hazards.{hazard_code}
 use Rattle.hazard_types.specs.declared.line.Row.{Row}
 use Rattle.hazard_types.specs.declared.line.Span.{Span}
-use Rattle.ugc_codes.specs.Grammar.{code_text}
 use Rattle.product_frame.specs.Splitting.{spans_of}
 use Rattle.product_frame.specs.declared.frame.FrameFault.{FrameFault}
 use Rattle.event_life.specs.Products.{Product, rows_of}
@@ -16,7 +15,7 @@ use Rattle.product_decoder.specs.declared.types.Found.{Found}
 use Rattle.product_decoder.specs.declared.types.GapFound.{GapFound}
 use Rattle.product_decoder.specs.declared.types.Track.{Track}
 use Rattle.warn_archive.specs.declared.words.Asked.{Asked}
-use Rattle.warn_archive.specs.Texts.{wide, event_text, steps_text, row_line, breach_name, fault_text}
+use Rattle.warn_archive.specs.Texts.{wide, where_text, steps_text, row_line, breach_name, fault_text}
 
 -- What is read of each product: what it says, or its first fault.
 
@@ -67,13 +66,13 @@ abbrev pub product_lines : Asked → ℕ → List (Result Decoded FrameFault) �
 product_lines asked k [] = []
 product_lines asked k (r ∷ readings) = product_line asked k r ++ product_lines asked (k + 1) readings
 
--- the lawful lines of an event in a zone
+-- an event in a zone and its lawful lines
 abbrev pub life_line : Track → List ℕ
-life_line t = codes "life " ++ (event_text t.event ++ (codes " " ++ (code_text t.zone ++ (steps_text t.steps ++ codes "\n"))))
+life_line t = codes "life " ++ (where_text t.event t.zone ++ (steps_text t.steps ++ codes "\n"))
 
 -- a line in breach, where the products that were taken have these numbers
 abbrev pub breach_line : List ℕ → Found → List ℕ
-breach_line numbers f = codes "breach " ++ (decimal (slice_index numbers (f.product - 1)) ++ (codes " " ++ (event_text f.event ++ (codes " " ++ (code_text f.zone ++ (codes " " ++ (breach_name f.breach ++ codes "\n")))))))
+breach_line numbers f = codes "breach " ++ (decimal (slice_index numbers (f.product - 1)) ++ (codes " " ++ (where_text f.event f.zone ++ (codes " " ++ (breach_name f.breach ++ codes "\n")))))
 
 -- a number that was opened where another was wanted
 abbrev pub gap_line : GapFound → List ℕ

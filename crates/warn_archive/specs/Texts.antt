@@ -2,6 +2,7 @@
 use Rattle.std.specs.Prelude.{ℕ, List, [], ◌∷◌, ◌++◌, nat_lt, if◌then◌else◌, codes, decimal}
 use Rattle.hazard_types.specs.Calendar.{stamp_of}
 use Rattle.hazard_types.specs.Hazards.{hazard_code}
+use Rattle.hazard_types.specs.Places.{Place}
 use Rattle.hazard_types.specs.declared.codes.Action.{Action}
 use Rattle.hazard_types.specs.declared.hazard.Event.{Event}
 use Rattle.hazard_types.specs.declared.line.Row.{Row}
@@ -23,6 +24,10 @@ wide n = if nat_lt n 10000 then four_digits n else decimal n
 -- WS.W.0001.2018
 abbrev pub event_text : Event → List ℕ
 event_text e = hazard_code e.hazard ++ (codes "." ++ (wide e.etn ++ (codes "." ++ wide e.year)))
+
+-- an event in a zone: WS.W.0001.2018 MDZ003
+abbrev pub where_text : Event → Place → List ℕ
+where_text e z = event_text e ++ (codes " " ++ code_text z)
 
 -- the stamp of an end; zeros are until further notice
 abbrev pub end_text : End → List ℕ

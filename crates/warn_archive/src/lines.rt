@@ -9,8 +9,8 @@ ghost use Rattle.warn_archive.specs.declared.words.Asked.{Asked as AskedValue};
 
 use crate::readings::Reading;
 use crate::texts::{
-    breach_name, put_event, put_fault, put_hazard, put_number, put_row, put_stamp, put_steps,
-    put_wide, put_zone,
+    breach_name, put_fault, put_hazard, put_number, put_row, put_stamp, put_steps, put_where,
+    put_wide,
 };
 use crate::words::Asked;
 use hazard_types::{List, Minute, Oom, Row, Text};
@@ -102,9 +102,7 @@ fn put_life(alloc: Global, out: &mut Text, life: &Track) -> Result<(), Oom>
     ensures { OnOk result (out.new ≡ out.old ++ life_line life.now) }
 {
     out.extend(b"life ")?;
-    put_event(alloc, out, &life.event)?;
-    out.push(b' ')?;
-    put_zone(out, &life.zone)?;
+    put_where(alloc, out, &life.event, &life.zone)?;
     put_steps(out, life.steps.as_slice())?;
     out.push(b'\n')
 }
@@ -126,9 +124,7 @@ fn put_breach(alloc: Global, out: &mut Text, numbers: &[usize], found: &Found) -
     out.extend(b"breach ")?;
     put_number(alloc, out, numbers[found.product as usize - 1])?;
     out.push(b' ')?;
-    put_event(alloc, out, &found.event)?;
-    out.push(b' ')?;
-    put_zone(out, &found.zone)?;
+    put_where(alloc, out, &found.event, &found.zone)?;
     out.push(b' ')?;
     out.extend(breach_name(found.breach))?;
     out.push(b'\n')

@@ -5,8 +5,9 @@ ghost use Rattle.product_decoder.specs.Decoded.{decode};
 ghost use Rattle.warn_archive.specs.Readings.{IsWithin};
 ghost use Rattle.warn_archive.specs.Report.{read_at, readings_of, products_of, numbers_from, faults_in};
 
+use crate::words::Asked;
 use hazard_types::{List, Oom, Or, Span};
-use product_decoder::{Decoded, decode, split_products};
+use product_decoder::{Decoded, Reader, decode, split_products};
 use product_frame::FrameFault;
 use std::alloc::Global;
 
@@ -43,6 +44,20 @@ pub fn readings_of(alloc: Global, bytes: &[u8]) -> Result<List<Reading>, Oom>
 {
     let spans = split_products(alloc, bytes)?;
     read_spans(alloc, bytes, spans.as_slice())
+}
+
+/// The reader of the office and class, which has taken the products without a fault.
+pub fn reader_of(alloc: Global, asked: &Asked, readings: &[Reading]) -> Result<Reader, Oom>
+    requires { length readings.now < 4294967295 }
+    ensures { IfOk result (λ reader. reader.products ≡ products_of asked.now readings.now) }
+{
+    let mut reader = Reader::new(alloc, asked.office, asked.class);
+    for reading in readings {
+        if let Ok(d) = reading {
+            reader.take(alloc, d)?;
+        }
+    }
+    Ok(reader)
 }
 
 /// The numbers of the products without a fault, among all.

@@ -5,7 +5,7 @@ ghost use Rattle.hazard_types.specs.Hazards.{hazard_code};
 ghost use Rattle.vtec_string.specs.Columns.{four_digits};
 ghost use Rattle.vtec_string.specs.Letters.{action_code};
 ghost use Rattle.ugc_codes.specs.Grammar.{kind_code, three_digits, code_text};
-ghost use Rattle.warn_archive.specs.Texts.{wide, event_text, end_text, period_text, steps_text, row_line, breach_name, fault_text};
+ghost use Rattle.warn_archive.specs.Texts.{wide, event_text, where_text, end_text, period_text, steps_text, row_line, breach_name, fault_text};
 
 use event_life::Breach;
 use hazard_types::{Action, End, Event, Hazard, Kind, List, Minute, Oom, Period, Row, Text, Zone, stamp};
@@ -53,7 +53,7 @@ pub fn put_hazard(out: &mut Text, hazard: &Hazard) -> Result<(), Oom>
 }
 
 /// An event: its hazard, its number and its year.
-pub fn put_event(alloc: Global, out: &mut Text, event: &Event) -> Result<(), Oom>
+fn put_event(alloc: Global, out: &mut Text, event: &Event) -> Result<(), Oom>
     ensures { OnOk result (out.new ≡ out.old ++ event_text event.now) }
 {
     put_hazard(out, &event.hazard)?;
@@ -84,12 +84,21 @@ fn three_digits(n: u16) -> [u8; 3]
 }
 
 /// A zone's code.
-pub fn put_zone(out: &mut Text, zone: &Zone) -> Result<(), Oom>
+fn put_zone(out: &mut Text, zone: &Zone) -> Result<(), Oom>
     ensures { OnOk result (out.new ≡ out.old ++ code_text zone.now) }
 {
     out.extend(&zone.state())?;
     out.push(kind_code(zone.kind()))?;
     out.extend(&three_digits(zone.number()))
+}
+
+/// An event in a zone.
+pub fn put_where(alloc: Global, out: &mut Text, event: &Event, zone: &Zone) -> Result<(), Oom>
+    ensures { OnOk result (out.new ≡ out.old ++ where_text event.now zone.now) }
+{
+    put_event(alloc, out, event)?;
+    out.push(b' ')?;
+    put_zone(out, zone)
 }
 
 /// The stamp of a minute.
