@@ -3,6 +3,7 @@ use Rattle.std.proofs.Common.{◌≡◌, ℕ, zero, suc, ◌+◌, ◌<◌, ◌�
 use Rattle.std.specs.Prelude.{is_some}
 use Rattle.std.specs.List.{All, AllByRecursion}
 use Rattle.std.proofs.lemmas.Bool.{cases_Bool}
+use Rattle.std.proofs.lemmas.List.{length-map}
 use Rattle.std.proofs.lemmas.List.Elements.{All-from_recursion}
 use Rattle.hazard_types.specs.declared.line.Span.{Span}
 use Rattle.product_frame.specs.Text.{starts, starts_from}
@@ -10,6 +11,7 @@ use Rattle.product_frame.specs.Parts.{heading_of}
 use Rattle.product_frame.specs.Frames.{line_at}
 use Rattle.product_frame.specs.Splitting.{headings_in, first_or, spans_to, spans_of}
 use Rattle.warn_archive.specs.Readings.{IsWithin}
+use Rattle.warn_archive.specs.Report.{read_at, readings_of}
 
 -- each place is at least the one before it, and at most the end
 abbrev Climbs : ℕ → ℕ → List ℕ → Type 0
@@ -77,8 +79,11 @@ as_many : (end : ℕ) (places : List ℕ) → length (spans_to end places) ≡ l
 as_many end [] = refl
 as_many end (s ∷ places) = let ih = as_many end places in omega (arith, ih)
 
-pub few_spans : (bytes : List ℕ) → length (spans_of bytes) ≤ length bytes + 1
+few_spans : (bytes : List ℕ) → length (spans_of bytes) ≤ length bytes + 1
 unfolding spans_of
 few_spans bytes =
     let places = headings_in bytes (starts bytes) in
     omega (arith, as_many (length bytes) places, few_headings bytes (starts bytes), few_starts 0 bytes)
+
+pub few_readings : (bytes : List ℕ) → length (readings_of bytes) ≤ length bytes + 1
+few_readings bytes = omega (arith, length-map (spans_of bytes) (read_at bytes), few_spans bytes)

@@ -57,10 +57,23 @@ faults_in (r ∷ readings) = fault_in r + faults_in readings
 
 -- The lines. Products are numbered from 1, those with a fault too.
 
--- a product's identifier, its issue minute, and how many lines of the office and class it has, counted for each zone; or its fault
+abbrev pub title : ℕ → List ℕ
+title k = codes "product " ++ (decimal k ++ codes " ")
+
+-- a minute and a count, which end a line
+abbrev pub counted_text : ℕ → ℕ → List ℕ
+counted_text minute n = stamp_of minute ++ (codes " " ++ (decimal n ++ codes "\n"))
+
+-- a product's identifier, its issue minute, and how many lines of the office and class it has, counted for each zone
+abbrev pub taken_line : Asked → ℕ → Decoded → List ℕ
+taken_line asked k d = title k ++ (d.identifier ++ (codes " " ++ counted_text d.issue (length (said_by asked.office asked.class d.pairs))))
+
+abbrev pub faulty_line : ℕ → FrameFault → List ℕ
+faulty_line k f = title k ++ (codes "fault " ++ (fault_text f ++ codes "\n"))
+
 abbrev pub product_line : Asked → ℕ → Result Decoded FrameFault → List ℕ
-product_line asked k (Ok d) = codes "product " ++ (decimal k ++ (codes " " ++ (d.identifier ++ (codes " " ++ (stamp_of d.issue ++ (codes " " ++ (decimal (length (said_by asked.office asked.class d.pairs)) ++ codes "\n")))))))
-product_line asked k (Err f) = codes "product " ++ (decimal k ++ (codes " fault " ++ (fault_text f ++ codes "\n")))
+product_line asked k (Ok d) = taken_line asked k d
+product_line asked k (Err f) = faulty_line k f
 
 abbrev pub product_lines : Asked → ℕ → List (Result Decoded FrameFault) → List ℕ
 product_lines asked k [] = []
@@ -74,13 +87,21 @@ life_line t = codes "life " ++ (where_text t.event t.zone ++ (steps_text t.steps
 abbrev pub breach_line : List ℕ → Found → List ℕ
 breach_line numbers f = codes "breach " ++ (decimal (slice_index numbers (f.product - 1)) ++ (codes " " ++ (where_text f.event f.zone ++ (codes " " ++ (breach_name f.breach ++ codes "\n")))))
 
+-- a number behind a blank
+abbrev pub spaced : ℕ → List ℕ
+spaced n = codes " " ++ wide n
+
 -- a number that was opened where another was wanted
 abbrev pub gap_line : GapFound → List ℕ
-gap_line g = codes "gap " ++ (hazard_code g.hazard ++ (codes " " ++ (wide g.year ++ (codes " " ++ (wide g.wanted ++ (codes " " ++ (wide g.found ++ codes "\n")))))))
+gap_line g = codes "gap " ++ (hazard_code g.hazard ++ (spaced g.year ++ (spaced g.wanted ++ (spaced g.found ++ codes "\n"))))
 
 -- the rows that are shown at a minute
 abbrev pub shown_text : ℕ → List Row → List ℕ
-shown_text minute rows = codes "shown " ++ (stamp_of minute ++ (codes " " ++ (decimal (length rows) ++ (codes "\n" ++ flat_map row_line rows))))
+shown_text minute rows = codes "shown " ++ (counted_text minute (length rows) ++ flat_map row_line rows)
+
+-- lives, breaches and gaps, where the products that were taken have these numbers
+abbrev pub findings_text : List ℕ → List Product → List ℕ
+findings_text numbers products = flat_map life_line (lives_of products) ++ (flat_map (breach_line numbers) (found_of products) ++ flat_map gap_line (gaps_found products))
 
 -- how many faults, breaches and gaps are listed
 unfoldable pub listed : Asked → List ℕ → ℕ
@@ -97,8 +118,6 @@ report asked bytes =
     let readings = readings_of bytes in
     let products = products_of asked readings in
     product_lines asked 1 readings
-    ++ (flat_map life_line (lives_of products)
-    ++ (flat_map (breach_line (numbers_from 1 readings)) (found_of products)
-    ++ (flat_map gap_line (gaps_found products)
+    ++ (findings_text (numbers_from 1 readings) products
     ++ (shown_text asked.minute (shown_at asked.minute (rows_of products))
-    ++ last_line (listed asked bytes)))))
+    ++ last_line (listed asked bytes)))

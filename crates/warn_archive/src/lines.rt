@@ -1,11 +1,10 @@
 //! The lines of a report. Each is added to a text.
-ghost use Rattle.std.specs.Prelude.{◌≡◌, ◌<◌, ◌≤◌, ◌++◌, ◌+◌, length, flat_map, Ok, Err, OnOk};
+ghost use Rattle.std.specs.Prelude.{◌≡◌, ◌<◌, ◌≤◌, ◌++◌, ◌+◌, length, flat_map, OnOk};
 ghost use Rattle.std.specs.List.{All};
 ghost use Rattle.product_decoder.specs.ReaderModel.{is_by, said_by};
-ghost use Rattle.warn_archive.specs.Report.{product_line, product_lines, life_line, breach_line, gap_line, shown_text, last_line};
+ghost use Rattle.warn_archive.specs.Report.{title, counted_text, taken_line, faulty_line, product_line, product_lines, life_line, breach_line, spaced, gap_line, shown_text, last_line};
 ghost use Rattle.warn_archive.specs.Texts.{row_line};
 ghost use Rattle.warn_archive.specs.Readings.{IsNumbered};
-ghost use Rattle.warn_archive.specs.declared.words.Asked.{Asked as AskedValue};
 
 use crate::readings::Reading;
 use crate::texts::{
@@ -37,6 +36,24 @@ fn count_by(asked: &Asked, pairs: &[ZonePair]) -> usize
     count
 }
 
+fn put_title(alloc: Global, out: &mut Text, number: usize) -> Result<(), Oom>
+    ensures { OnOk result (out.new ≡ out.old ++ title number) }
+{
+    out.extend(b"product ")?;
+    put_number(alloc, out, number)?;
+    out.push(b' ')
+}
+
+/// A minute and a count, which end a line.
+fn put_counted(alloc: Global, out: &mut Text, minute: Minute, count: usize) -> Result<(), Oom>
+    ensures { OnOk result (out.new ≡ out.old ++ counted_text minute count) }
+{
+    put_stamp(out, minute)?;
+    out.push(b' ')?;
+    put_number(alloc, out, count)?;
+    out.push(b'\n')
+}
+
 fn put_taken(
     alloc: Global,
     out: &mut Text,
@@ -44,25 +61,19 @@ fn put_taken(
     number: usize,
     d: &Decoded,
 ) -> Result<(), Oom>
-    ensures { OnOk result (out.new ≡ out.old ++ product_line asked.now number (Ok d.now)) }
+    ensures { OnOk result (out.new ≡ out.old ++ taken_line asked.now number d.now) }
 {
-    out.extend(b"product ")?;
-    put_number(alloc, out, number)?;
-    out.push(b' ')?;
+    put_title(alloc, out, number)?;
     out.extend(d.identifier.as_slice())?;
     out.push(b' ')?;
-    put_stamp(out, d.issue)?;
-    out.push(b' ')?;
-    put_number(alloc, out, count_by(asked, d.pairs.as_slice()))?;
-    out.push(b'\n')
+    put_counted(alloc, out, d.issue, count_by(asked, d.pairs.as_slice()))
 }
 
 fn put_faulty(alloc: Global, out: &mut Text, number: usize, fault: FrameFault) -> Result<(), Oom>
-    ensures { (asked : AskedValue) → OnOk result (out.new ≡ out.old ++ product_line asked number (Err fault)) }
+    ensures { OnOk result (out.new ≡ out.old ++ faulty_line number fault) }
 {
-    out.extend(b"product ")?;
-    put_number(alloc, out, number)?;
-    out.extend(b" fault ")?;
+    put_title(alloc, out, number)?;
+    out.extend(b"fault ")?;
     put_fault(alloc, out, fault)?;
     out.push(b'\n')
 }
@@ -146,17 +157,22 @@ pub fn put_breaches(
     Ok(())
 }
 
+/// A number behind a blank.
+fn put_spaced(alloc: Global, out: &mut Text, n: u16) -> Result<(), Oom>
+    ensures { OnOk result (out.new ≡ out.old ++ spaced n) }
+{
+    out.push(b' ')?;
+    put_wide(alloc, out, n)
+}
+
 fn put_gap(alloc: Global, out: &mut Text, gap: &GapFound) -> Result<(), Oom>
     ensures { OnOk result (out.new ≡ out.old ++ gap_line gap.now) }
 {
     out.extend(b"gap ")?;
     put_hazard(out, &gap.hazard)?;
-    out.push(b' ')?;
-    put_wide(alloc, out, gap.year)?;
-    out.push(b' ')?;
-    put_wide(alloc, out, gap.wanted)?;
-    out.push(b' ')?;
-    put_wide(alloc, out, gap.found)?;
+    put_spaced(alloc, out, gap.year)?;
+    put_spaced(alloc, out, gap.wanted)?;
+    put_spaced(alloc, out, gap.found)?;
     out.push(b'\n')
 }
 
@@ -184,10 +200,7 @@ pub fn put_shown(alloc: Global, out: &mut Text, minute: Minute, rows: &[Row]) ->
     ensures { OnOk result (out.new ≡ out.old ++ shown_text minute rows.now) }
 {
     out.extend(b"shown ")?;
-    put_stamp(out, minute)?;
-    out.push(b' ')?;
-    put_number(alloc, out, rows.len())?;
-    out.push(b'\n')?;
+    put_counted(alloc, out, minute, rows.len())?;
     put_rows(alloc, out, rows)
 }
 

@@ -38,3 +38,6 @@ fn main(rt: HostRuntime) -> ExitCode {
     let status = archive::archive_run(rt.alloc(), &words, &mut input, &mut output);
     ExitCode::from(status)
 }
+
+#[cfg(test)]
+mod tests;

@@ -37,7 +37,7 @@ fn read_spans(alloc: Global, bytes: &[u8], spans: &[Span]) -> Result<List<Readin
 }
 
 /// What is read of each product of an input.
-#[tactic(auto, using(crate::proofs::Spans::spans_are_within, crate::proofs::Spans::few_spans))]
+#[tactic(auto, using(crate::proofs::Spans::spans_are_within))]
 pub fn readings_of(alloc: Global, bytes: &[u8]) -> Result<List<Reading>, Oom>
     ensures value { IfOk result (λ readings. readings ≡ readings_of bytes.now) }
     ensures few { IfOk result (λ readings. length readings ≤ length bytes.now + 1) }

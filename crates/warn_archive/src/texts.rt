@@ -8,7 +8,9 @@ ghost use Rattle.ugc_codes.specs.Grammar.{kind_code, three_digits, code_text};
 ghost use Rattle.warn_archive.specs.Texts.{wide, event_text, where_text, end_text, period_text, steps_text, row_line, breach_name, fault_text};
 
 use event_life::Breach;
-use hazard_types::{Action, End, Event, Hazard, Kind, List, Minute, Oom, Period, Row, Text, Zone, stamp};
+use hazard_types::{
+    Action, End, Event, Hazard, Kind, List, Minute, Oom, Period, Row, Text, Zone, stamp,
+};
 use product_frame::FrameFault;
 use std::alloc::{AllocError, Global};
 
