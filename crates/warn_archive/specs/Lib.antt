@@ -1,0 +1,5 @@
+pub mod Words
+pub mod Texts
+pub mod Readings
+pub mod Report
+pub mod Runs

@@ -1,0 +1,214 @@
+//! The lines of a report. Each is added to a text.
+ghost use Rattle.std.specs.Prelude.{◌≡◌, ◌<◌, ◌≤◌, ◌++◌, ◌+◌, length, flat_map, OnOk};
+ghost use Rattle.std.specs.List.{All};
+ghost use Rattle.product_decoder.specs.ReaderModel.{is_by, said_by};
+ghost use Rattle.warn_archive.specs.Report.{title, counted_text, taken_line, faulty_line, product_line, product_lines, life_line, breach_line, spaced, gap_line, shown_text, last_line};
+ghost use Rattle.warn_archive.specs.Texts.{row_line};
+ghost use Rattle.warn_archive.specs.Readings.{IsNumbered};
+
+use crate::readings::Reading;
+use crate::texts::{
+    breach_name, put_fault, put_hazard, put_number, put_row, put_stamp, put_steps, put_where,
+    put_wide,
+};
+use crate::words::Asked;
+use hazard_types::{List, Minute, Oom, Row, Text};
+use product_decoder::{Decoded, Found, GapFound, Track, ZonePair};
+use product_frame::FrameFault;
+use std::alloc::Global;
+
+fn is_by(asked: &Asked, pair: &ZonePair) -> bool
+    ensures { result ≡ is_by asked.now.office asked.now.class pair.now }
+{
+    pair.vtec.office == asked.office && pair.vtec.class == asked.class
+}
+
+/// How many lines are of the office and class.
+fn count_by(asked: &Asked, pairs: &[ZonePair]) -> usize
+    ensures { result ≡ length (said_by asked.now.office asked.now.class pairs.now) }
+{
+    let mut count = 0;
+    for pair in pairs {
+        if is_by(asked, pair) {
+            count += 1;
+        }
+    }
+    count
+}
+
+fn put_title(alloc: Global, out: &mut Text, number: usize) -> Result<(), Oom>
+    ensures { OnOk result (out.new ≡ out.old ++ title number) }
+{
+    out.extend(b"product ")?;
+    put_number(alloc, out, number)?;
+    out.push(b' ')
+}
+
+/// A minute and a count, which end a line.
+fn put_counted(alloc: Global, out: &mut Text, minute: Minute, count: usize) -> Result<(), Oom>
+    ensures { OnOk result (out.new ≡ out.old ++ counted_text minute count) }
+{
+    put_stamp(out, minute)?;
+    out.push(b' ')?;
+    put_number(alloc, out, count)?;
+    out.push(b'\n')
+}
+
+fn put_taken(
+    alloc: Global,
+    out: &mut Text,
+    asked: &Asked,
+    number: usize,
+    d: &Decoded,
+) -> Result<(), Oom>
+    ensures { OnOk result (out.new ≡ out.old ++ taken_line asked.now number d.now) }
+{
+    put_title(alloc, out, number)?;
+    out.extend(d.identifier.as_slice())?;
+    out.push(b' ')?;
+    put_counted(alloc, out, d.issue, count_by(asked, d.pairs.as_slice()))
+}
+
+fn put_faulty(alloc: Global, out: &mut Text, number: usize, fault: FrameFault) -> Result<(), Oom>
+    ensures { OnOk result (out.new ≡ out.old ++ faulty_line number fault) }
+{
+    put_title(alloc, out, number)?;
+    out.extend(b"fault ")?;
+    put_fault(alloc, out, fault)?;
+    out.push(b'\n')
+}
+
+/// The line of a product.
+fn put_product(
+    alloc: Global,
+    out: &mut Text,
+    asked: &Asked,
+    number: usize,
+    reading: &Reading,
+) -> Result<(), Oom>
+    ensures { OnOk result (out.new ≡ out.old ++ product_line asked.now number reading.now) }
+{
+    match reading {
+        Ok(d) => put_taken(alloc, out, asked, number, d),
+        Err(fault) => put_faulty(alloc, out, number, *fault),
+    }
+}
+
+/// A line for each product.
+pub fn put_products(
+    alloc: Global,
+    out: &mut Text,
+    asked: &Asked,
+    readings: &[Reading],
+) -> Result<(), Oom>
+    ensures { OnOk result (out.new ≡ out.old ++ product_lines asked.now 1 readings.now) }
+{
+    for (place, reading) in readings.iter().enumerate() {
+        put_product(alloc, out, asked, place + 1, reading)?;
+    }
+    Ok(())
+}
+
+fn put_life(alloc: Global, out: &mut Text, life: &Track) -> Result<(), Oom>
+    ensures { OnOk result (out.new ≡ out.old ++ life_line life.now) }
+{
+    out.extend(b"life ")?;
+    put_where(alloc, out, &life.event, &life.zone)?;
+    put_steps(out, life.steps.as_slice())?;
+    out.push(b'\n')
+}
+
+/// A line for each life.
+pub fn put_lives(alloc: Global, out: &mut Text, lives: &[Track]) -> Result<(), Oom>
+    ensures { OnOk result (out.new ≡ out.old ++ flat_map life_line lives.now) }
+{
+    for life in lives {
+        put_life(alloc, out, life)?;
+    }
+    Ok(())
+}
+
+fn put_breach(alloc: Global, out: &mut Text, numbers: &[usize], found: &Found) -> Result<(), Oom>
+    requires { IsNumbered (length numbers.now) found.now }
+    ensures { OnOk result (out.new ≡ out.old ++ breach_line numbers.now found.now) }
+{
+    out.extend(b"breach ")?;
+    put_number(alloc, out, numbers[found.product as usize - 1])?;
+    out.push(b' ')?;
+    put_where(alloc, out, &found.event, &found.zone)?;
+    out.push(b' ')?;
+    out.extend(breach_name(found.breach))?;
+    out.push(b'\n')
+}
+
+/// A line for each breach. `numbers` are those of the products that were taken, among all.
+pub fn put_breaches(
+    alloc: Global,
+    out: &mut Text,
+    numbers: &[usize],
+    breaches: &[Found],
+) -> Result<(), Oom>
+    requires { All (IsNumbered (length numbers.now)) breaches.now }
+    ensures { OnOk result (out.new ≡ out.old ++ flat_map (breach_line numbers.now) breaches.now) }
+{
+    for found in breaches {
+        put_breach(alloc, out, numbers, found)?;
+    }
+    Ok(())
+}
+
+/// A number behind a blank.
+fn put_spaced(alloc: Global, out: &mut Text, n: u16) -> Result<(), Oom>
+    ensures { OnOk result (out.new ≡ out.old ++ spaced n) }
+{
+    out.push(b' ')?;
+    put_wide(alloc, out, n)
+}
+
+fn put_gap(alloc: Global, out: &mut Text, gap: &GapFound) -> Result<(), Oom>
+    ensures { OnOk result (out.new ≡ out.old ++ gap_line gap.now) }
+{
+    out.extend(b"gap ")?;
+    put_hazard(out, &gap.hazard)?;
+    put_spaced(alloc, out, gap.year)?;
+    put_spaced(alloc, out, gap.wanted)?;
+    put_spaced(alloc, out, gap.found)?;
+    out.push(b'\n')
+}
+
+/// A line for each gap.
+pub fn put_gaps(alloc: Global, out: &mut Text, gaps: &[GapFound]) -> Result<(), Oom>
+    ensures { OnOk result (out.new ≡ out.old ++ flat_map gap_line gaps.now) }
+{
+    for gap in gaps {
+        put_gap(alloc, out, gap)?;
+    }
+    Ok(())
+}
+
+fn put_rows(alloc: Global, out: &mut Text, rows: &[Row]) -> Result<(), Oom>
+    ensures { OnOk result (out.new ≡ out.old ++ flat_map row_line rows.now) }
+{
+    for row in rows {
+        put_row(alloc, out, row)?;
+    }
+    Ok(())
+}
+
+/// The rows that are shown, behind their minute and count.
+pub fn put_shown(alloc: Global, out: &mut Text, minute: Minute, rows: &[Row]) -> Result<(), Oom>
+    ensures { OnOk result (out.new ≡ out.old ++ shown_text minute rows.now) }
+{
+    out.extend(b"shown ")?;
+    put_counted(alloc, out, minute, rows.len())?;
+    put_rows(alloc, out, rows)
+}
+
+/// The last line.
+pub fn put_last(alloc: Global, out: &mut Text, listed: usize) -> Result<(), Oom>
+    ensures { OnOk result (out.new ≡ out.old ++ last_line listed) }
+{
+    out.extend(b"breaches ")?;
+    put_number(alloc, out, listed)?;
+    out.push(b'\n')
+}
