@@ -88,7 +88,13 @@ pub fn has_higher(rows: &[Row], t: Minute, after: &[Row], line: &Line) -> bool
 
 /// The first breach of a line that stands behind these earlier lines of its product. `rows` are the rows just before the product,
 /// `t` is its issue minute, and `higher` is whether a UPG line's row is overlapped after the product.
-pub fn breach_in(rows: &[Row], t: Minute, earlier: &[Line], line: &Line, higher: bool) -> Option<Breach>
+pub fn breach_in(
+    rows: &[Row],
+    t: Minute,
+    earlier: &[Line],
+    line: &Line,
+    higher: bool,
+) -> Option<Breach>
     ensures { result ≡ (if is_routine line.now.action then None else (if is_second earlier.now line.now then Some Twice else breach_of_line (life_at rows.now line.now) line.now t (around_but_higher rows.now t line.now higher))) }
 {
     if is_routine(&line.action) {

@@ -114,7 +114,15 @@ fn faults_are_told(rt: HostRuntime) -> Result<(), Fail> {
         ends_so(&rt, rt.alloc(), bad_read, 0, 7, 0, b"fault ReadFault\n")?;
     }
     for answered in 0..TEXT.len() {
-        ends_so(&rt, rt.alloc(), 0, answered as u64 + 1, 8, answered, b"fault WriteFault\n")?;
+        ends_so(
+            &rt,
+            rt.alloc(),
+            0,
+            answered as u64 + 1,
+            8,
+            answered,
+            b"fault WriteFault\n",
+        )?;
     }
     let rows: [(u64, u8, &[u8]); 2] = [(0, 2, b"fault Usage\n"), (1, 8, b"")];
     for (bad_write, status, wanted) in rows {
