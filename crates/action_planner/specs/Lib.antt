@@ -3,3 +3,4 @@ pub mod Conditions
 pub mod Lines
 pub mod Offences
 pub mod Rules
+pub mod Spoken

@@ -14,6 +14,7 @@ ghost use Rattle.action_planner.specs.Conditions.{CanPlan};
 mod intent_rules;
 mod placed;
 mod rules;
+mod spoken;
 mod zone_rules;
 
 pub use placed::{Placed, any_touched, is_touched, speaks, zones_of};
