@@ -4,3 +4,5 @@ pub mod Lines
 pub mod Offences
 pub mod Rules
 pub mod Spoken
+pub mod Texts
+pub mod Plans

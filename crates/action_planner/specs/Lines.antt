@@ -107,9 +107,13 @@ rows_by_puts rows t (p ∷ ps) = rows_by_intent rows t p p.intent ++ rows_by_put
 abbrev pub rows_left : List Row → ℕ → List Placed → List Row
 rows_left rows t ps = filter (is_left ps) rows ++ rows_by_puts rows t ps
 
+-- the second row is live in the zone of the first, of a higher rank of its family, and overlaps it
+abbrev pub overlays : ℕ → Row → Row → Bool
+overlays t row r = same_zone r.zone row.zone && is_live t r && outranks r.event.hazard row.event.hazard && overlaps r.period row.period
+
 -- a row of a higher rank of the family is live after the product, and overlaps this one in its zone
 abbrev pub is_overlaid : List Row → ℕ → List Placed → Row → Bool
-is_overlaid rows t ps row = list_any (λ (r : Row). same_zone r.zone row.zone && is_live t r && outranks r.event.hazard row.event.hazard && overlaps r.period row.period) (rows_left rows t ps)
+is_overlaid rows t ps row = list_any (overlays t row) (rows_left rows t ps)
 
 -- the end is a minute within half an hour of this one either way
 abbrev pub is_near_end : End → ℕ → Bool
@@ -153,8 +157,12 @@ follows c (Some facts) = category.eq-value.it facts.follows c
 abbrev pub is_flood_event : Hazard → Bool
 is_flood_event h = bytes_eq h.phen (codes "FL")
 
+-- a row of the draft's category in a zone that it touches, and no intent is on it
+abbrev pub goes_on : Category → List Placed → Row → Bool
+goes_on c ps row = follows c (facts_of row.event.hazard) && not (is_flood_event row.event.hazard) && list_any (touches row.zone) ps && not (list_any (speaks row.event row.zone) ps)
+
 abbrev pub goes_on_beside : Category → ℕ → List Placed → Row → Bool
-goes_on_beside c t ps row = is_live t row && follows c (facts_of row.event.hazard) && not (is_flood_event row.event.hazard) && list_any (touches row.zone) ps && not (list_any (speaks row.event row.zone) ps)
+goes_on_beside c t ps row = is_live t row && goes_on c ps row
 
 abbrev pub added_lines : Category → List Row → ℕ → List Placed → List Line
 added_lines c rows t ps = map (line_on Con t) (filter (goes_on_beside c t ps) rows)

@@ -1,12 +1,15 @@
 //! The intents of a draft at their places, each with the event that it speaks of.
-ghost use Rattle.std.specs.Prelude.{◌≡◌, IfOk};
+ghost use Rattle.std.specs.Prelude.{◌≡◌, ◌<◌, ◌≤◌, count_by, length, IfOk};
 ghost use Rattle.std.specs.List.{list_any};
-ghost use Rattle.action_planner.specs.Placed.{zones_of, touches, speaks, placed};
+ghost use Rattle.action_planner.specs.Placed.{zones_of, touches, speaks, placed, opens_hazard, new_event, event_of_intent, is_opening, opened};
 
-use hazard_types::{Event, Intent, Zone};
+use event_numbers::Numbers;
+use hazard_types::{Event, Hazard, Intent, List, Minute, Oom, Target, Zone, year_of};
+use std::alloc::Global;
 use std::marker::Model;
 
 /// An intent at its place, with the event that it speaks of.
+#[derive(Drop)]
 pub struct Placed<'a> {
     pub place: usize,
     pub event: Event,
@@ -33,20 +36,130 @@ pub fn zones_of(intent: &Intent) -> &[Zone]
     }
 }
 
+/// Whether the intent is in the zone.
 pub fn is_touched(zone: &Zone, p: &Placed) -> bool
     ensures { result ≡ touches zone.now p.now }
 {
     zones_of(p.intent).iter().any(|y| *y == *zone)
 }
 
+/// Whether the intent is on the event in the zone.
 pub fn speaks(event: &Event, zone: &Zone, p: &Placed) -> bool
     ensures { result ≡ speaks event.now zone.now p.now }
 {
     p.event == *event && is_touched(zone, p)
 }
 
+/// Whether one of the intents is in the zone.
 pub fn any_touched(zone: &Zone, ps: &[Placed]) -> bool
     ensures { result ≡ list_any (touches zone.now) ps.now }
 {
     ps.iter().any(|p| is_touched(zone, p))
+}
+
+/// Whether the intent puts a new event of this hazard.
+fn opens_hazard(hazard: &Hazard, intent: &Intent) -> bool
+    ensures { result ≡ opens_hazard hazard.now intent.now }
+{
+    match intent {
+        Intent::Put(part) => match &part.target {
+            Target::Fresh(fresh) => *fresh == *hazard,
+            Target::Join(_) => false,
+        },
+        Intent::Finish(_) | Intent::Restate(_) | Intent::Routine(_) => false,
+    }
+}
+
+/// How many of the intents put a new event of this hazard.
+fn openings(hazard: &Hazard, intents: &[Intent]) -> usize
+    ensures value { result ≡ count_by (opens_hazard hazard.now) intents.now }
+    ensures few { result ≤ length intents.now }
+{
+    intents
+        .iter()
+        .filter(|intent| opens_hazard(hazard, intent))
+        .count()
+}
+
+/// The new event of a hazard behind those that were drawn in the year and those of the earlier intents.
+fn new_event(numbers: &Numbers, t: Minute, earlier: &[Intent], hazard: &Hazard) -> Event
+    requires { length earlier.now ≤ 64 }
+    ensures { result ≡ new_event numbers.now.counts t earlier.now hazard.now }
+{
+    let year = year_of(t);
+    let next = numbers.next(*hazard, year);
+    let count = openings(hazard, earlier) as u16;
+    Event {
+        hazard: *hazard,
+        etn: next + count,
+        year,
+    }
+}
+
+/// The event of an intent behind these earlier ones.
+fn event_of_intent(numbers: &Numbers, t: Minute, earlier: &[Intent], intent: &Intent) -> Event
+    requires { length earlier.now ≤ 64 }
+    ensures { result ≡ event_of_intent numbers.now.counts t earlier.now intent.now }
+{
+    match intent {
+        Intent::Put(part) => match &part.target {
+            Target::Fresh(hazard) => new_event(numbers, t, earlier, hazard),
+            Target::Join(event) => *event,
+        },
+        Intent::Finish(part) => part.event,
+        Intent::Restate(part) => part.event,
+        Intent::Routine(part) => Event {
+            hazard: part.hazard,
+            etn: 0,
+            year: year_of(t),
+        },
+    }
+}
+
+/// The intents at their places. A new event gets the number behind those that were drawn in the year and those of the earlier places.
+pub fn place_all<'a>(
+    alloc: Global,
+    numbers: &Numbers,
+    intents: &'a [Intent],
+    t: Minute,
+) -> Result<Vec<Placed<'a>>, Oom>
+    requires { length intents.now ≤ 64 }
+    ensures { IfOk result (λ ps. ps.items ≡ placed numbers.now.counts t intents.now) }
+{
+    let mut ps = Vec::new(alloc);
+    for (place, intent) in intents.iter().enumerate() {
+        let event = event_of_intent(numbers, t, &intents[..place], intent);
+        ps.push(Placed {
+            place,
+            event,
+            intent,
+        })?;
+    }
+    Ok(ps)
+}
+
+/// Whether the intent puts a new event.
+pub fn is_opening(intent: &Intent) -> bool
+    ensures { result ≡ is_opening intent.now }
+{
+    match intent {
+        Intent::Put(part) => match &part.target {
+            Target::Fresh(_) => true,
+            Target::Join(_) => false,
+        },
+        Intent::Finish(_) | Intent::Restate(_) | Intent::Routine(_) => false,
+    }
+}
+
+/// The events that the intents open, in order of places.
+pub fn opened(alloc: Global, ps: &[Placed]) -> Result<List<Event>, Oom>
+    ensures { IfOk result (λ events. events ≡ opened ps.now) }
+{
+    let mut events = Vec::new(alloc);
+    for p in ps {
+        if is_opening(p.intent) {
+            events.push(p.event)?;
+        }
+    }
+    Ok(List::from_vec(events))
 }

@@ -1,0 +1,7 @@
+-- the lines so far, and those of the zones that are left, are those of all
+use Rattle.std.proofs.Common.{◌≡◌, ◌++◌, drop}
+use Rattle.action_planner.specs.Lines.{lines_in_zones}
+use Rattle.action_planner.proofs.lines.add_lines_of.Given as goal
+
+abbrev pub invariant-loop-zone : goal.invariant-loop-zone
+invariant-loop-zone l = l.lines ++ lines_in_zones l.board.rows l.t l.ps l.p.event l.p.intent (drop l.zone-index l.zone-items) ≡ l.initial.lines ++ lines_in_zones l.board.rows l.t l.ps l.p.event l.p.intent l.zone-items

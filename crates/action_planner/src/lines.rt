@@ -1,0 +1,236 @@
+//! The lines of a draft: what each intent says of each of its zones, and the rows that go on beside them.
+ghost use Rattle.std.specs.Prelude.{◌≡◌, ◌∷◌, [], ◌++◌, map, filter, IfOk, OnOk};
+ghost use Rattle.std.specs.List.{list_any};
+ghost use Rattle.hazard_types.specs.Hazards.{facts_of};
+ghost use Rattle.hazard_types.specs.declared.codes.Action.TheVariants.{Con};
+ghost use Rattle.event_life.specs.Shown.{shown_at};
+ghost use Rattle.action_planner.specs.Placed.{zones_of, touches, speaks};
+ghost use Rattle.action_planner.specs.Lines.{line_on, is_near_end, finishing_action, finish_lines, restate_lines, lines_in, lines_in_zones, lines_from, follows, is_flood_event, goes_on, goes_on_beside, added_lines, planned_lines};
+
+use crate::overlay::is_overlaid;
+use crate::placed::{Placed, any_touched, speaks, zones_of};
+use crate::puts::{printed_begin, put_line};
+use event_life::ends_after;
+use hazard_board::Board;
+use hazard_types::desk_hazards::facts;
+use hazard_types::{
+    Action, Category, End, Event, Hazard, Intent, Line, List, Minute, Oom, Row, Zone,
+};
+use std::alloc::Global;
+
+/// The line that says of a row what it is, by this action.
+fn line_on(action: Action, t: Minute, row: &Row) -> Line
+    ensures { result ≡ line_on action t row.now }
+{
+    Line {
+        action,
+        event: row.event,
+        zone: row.zone,
+        begin: printed_begin(row.period.begin, t),
+        end: row.period.end,
+        flood: row.flood,
+    }
+}
+
+/// Whether the end is a minute within half an hour of this one either way.
+fn is_near_end(end: &End, t: Minute) -> bool
+    ensures { result ≡ is_near_end end.now t }
+{
+    match end {
+        End::At(minute) => minute.get() <= t.get() + 30 && t.get() <= minute.get() + 30,
+        End::Ufn => false,
+    }
+}
+
+/// How a row ends where its event is finished: UPG before its end under a row of a higher rank, else EXP near its end, else CAN.
+fn finishing_action(
+    alloc: Global,
+    board: &Board,
+    t: Minute,
+    ps: &[Placed],
+    row: &Row,
+) -> Result<Action, Oom>
+    ensures { IfOk result (λ action. action ≡ finishing_action board.now.rows t ps.now row.now) }
+{
+    if ends_after(&row.period.end, t) && is_overlaid(alloc, board, t, ps, row)? {
+        Ok(Action::Upg)
+    } else if is_near_end(&row.period.end, t) {
+        Ok(Action::Exp)
+    } else {
+        Ok(Action::Can)
+    }
+}
+
+/// Adds a line.
+fn add_line(lines: &mut List<Line>, line: &Line) -> Result<(), Oom>
+    ensures { OnOk result (lines.new ≡ lines.old ++ line.now ∷ []) }
+{
+    lines.extend(&[*line])
+}
+
+/// Adds what a finish says of a row: nothing where there is none.
+fn add_finish(
+    alloc: Global,
+    lines: &mut List<Line>,
+    board: &Board,
+    t: Minute,
+    ps: &[Placed],
+    row: &Option<Row>,
+) -> Result<(), Oom>
+    ensures { OnOk result (lines.new ≡ lines.old ++ finish_lines board.now.rows t ps.now row.now) }
+{
+    match row {
+        None => Ok(()),
+        Some(row) => {
+            let action = finishing_action(alloc, board, t, ps, row)?;
+            add_line(lines, &line_on(action, t, row))
+        }
+    }
+}
+
+/// Adds what a restate says of a row: nothing where there is none.
+fn add_restate(lines: &mut List<Line>, t: Minute, row: &Option<Row>) -> Result<(), Oom>
+    ensures { OnOk result (lines.new ≡ lines.old ++ restate_lines t row.now) }
+{
+    match row {
+        None => Ok(()),
+        Some(row) => add_line(lines, &line_on(Action::Con, t, row)),
+    }
+}
+
+/// Adds what an intent says of one of its zones.
+fn add_lines_in(
+    alloc: Global,
+    lines: &mut List<Line>,
+    board: &Board,
+    t: Minute,
+    ps: &[Placed],
+    p: &Placed,
+    zone: &Zone,
+) -> Result<(), Oom>
+    ensures { OnOk result (lines.new ≡ lines.old ++ lines_in board.now.rows t ps.now p.now.event p.now.intent zone.now) }
+{
+    match p.intent {
+        Intent::Put(part) => add_line(lines, &put_line(board, t, &p.event, part, zone)),
+        Intent::Finish(_) => add_finish(alloc, lines, board, t, ps, &board.row(p.event, *zone)),
+        Intent::Restate(_) => add_restate(lines, t, &board.row(p.event, *zone)),
+        Intent::Routine(_) => Ok(()),
+    }
+}
+
+/// Adds what an intent says of its zones, as they were written.
+fn add_lines_of(
+    alloc: Global,
+    lines: &mut List<Line>,
+    board: &Board,
+    t: Minute,
+    ps: &[Placed],
+    p: &Placed,
+) -> Result<(), Oom>
+    ensures { OnOk result (lines.new ≡ lines.old ++ lines_in_zones board.now.rows t ps.now p.now.event p.now.intent (zones_of p.now.intent)) }
+{
+    for zone in zones_of(p.intent) {
+        add_lines_in(alloc, lines, board, t, ps, p, zone)?;
+    }
+    Ok(())
+}
+
+/// Adds what the intents say, in order of places.
+fn add_spoken(
+    alloc: Global,
+    lines: &mut List<Line>,
+    board: &Board,
+    t: Minute,
+    ps: &[Placed],
+) -> Result<(), Oom>
+    ensures { OnOk result (lines.new ≡ lines.old ++ lines_from board.now.rows t ps.now ps.now) }
+{
+    for p in ps {
+        add_lines_of(alloc, lines, board, t, ps, p)?;
+    }
+    Ok(())
+}
+
+/// Whether products of this category follow the hazard.
+fn follows(category: Category, hazard: &Hazard) -> bool
+    ensures { result ≡ follows category (facts_of hazard.now) }
+{
+    match facts(*hazard) {
+        Some(facts) => facts.follows == category,
+        None => false,
+    }
+}
+
+/// Whether the hazard is of floods by a river's forecast, whose events have segments of their own.
+fn is_flood_event(hazard: &Hazard) -> bool
+    ensures { result ≡ is_flood_event hazard.now }
+{
+    hazard.phen.letters() == *b"FL"
+}
+
+/// Whether one of the intents is on the event in the zone.
+fn any_speaks(event: &Event, zone: &Zone, ps: &[Placed]) -> bool
+    ensures { result ≡ list_any (speaks event.now zone.now) ps.now }
+{
+    ps.iter().any(|p| speaks(event, zone, p))
+}
+
+/// Whether a live row goes on beside the intents: it is of the draft's category, one of them is in its zone, and none is on it.
+fn goes_on(category: Category, ps: &[Placed], row: &Row) -> bool
+    ensures { result ≡ goes_on category ps.now row.now }
+{
+    follows(category, &row.event.hazard)
+        && !is_flood_event(&row.event.hazard)
+        && any_touched(&row.zone, ps)
+        && !any_speaks(&row.event, &row.zone, ps)
+}
+
+/// Adds CON for each of these rows that goes on beside the intents.
+fn add_going_on(
+    lines: &mut List<Line>,
+    category: Category,
+    t: Minute,
+    ps: &[Placed],
+    rows: &[Row],
+) -> Result<(), Oom>
+    ensures { OnOk result (lines.new ≡ lines.old ++ map (line_on Con t) (filter (goes_on category ps.now) rows.now)) }
+{
+    for row in rows {
+        if goes_on(category, ps, row) {
+            add_line(lines, &line_on(Action::Con, t, row))?;
+        }
+    }
+    Ok(())
+}
+
+/// Adds CON for each row that goes on beside the intents.
+#[tactic(auto, using(crate::proofs::AddedLemmas::added_of_shown))]
+fn add_beside(
+    alloc: Global,
+    lines: &mut List<Line>,
+    board: &Board,
+    category: Category,
+    t: Minute,
+    ps: &[Placed],
+) -> Result<(), Oom>
+    ensures { OnOk result (lines.new ≡ lines.old ++ added_lines category board.now.rows t ps.now) }
+{
+    let shown = board.shown(alloc, t)?;
+    add_going_on(lines, category, t, ps, shown.as_slice())
+}
+
+/// The lines of a draft: what its intents say by place, then by zone as it was written, and the rows that go on beside them.
+pub fn planned_lines(
+    alloc: Global,
+    board: &Board,
+    category: Category,
+    t: Minute,
+    ps: &[Placed],
+) -> Result<List<Line>, Oom>
+    ensures { IfOk result (λ lines. lines ≡ planned_lines category board.now.rows t ps.now) }
+{
+    let mut lines = List::new(alloc);
+    add_spoken(alloc, &mut lines, board, t, ps)?;
+    add_beside(alloc, &mut lines, board, category, t, ps)?;
+    Ok(lines)
+}

@@ -1,0 +1,58 @@
+//! The plan of a draft, or the first rule that it breaks.
+ghost use Rattle.std.specs.Prelude.{◌≡◌, Some, None, Err, IfOk, OnOk};
+ghost use Rattle.hazard_types.specs.declared.or.Or.TheVariants.{No};
+ghost use Rattle.hazard_types.specs.declared.refusal.Refusal.{Refusal as Refused};
+ghost use Rattle.action_planner.specs.Conditions.{CanPlan};
+ghost use Rattle.action_planner.specs.Lines.{planned_lines};
+ghost use Rattle.action_planner.specs.Offences.{broken};
+ghost use Rattle.action_planner.specs.Placed.{placed};
+ghost use Rattle.action_planner.specs.Plans.{HasLines, IsPlan};
+
+use crate::lines::planned_lines;
+use crate::placed::{Placed, opened, place_all};
+use crate::rules::first_broken;
+use crate::texts::event_texts;
+use event_numbers::Numbers;
+use hazard_board::Board;
+use hazard_types::{Category, Draft, Line, List, Minute, Oom, Or, Plan, Refusal};
+use segmenter::segments;
+use std::alloc::Global;
+
+/// The plan of these lines.
+fn plan_of(alloc: Global, category: Category, lines: List<Line>, ps: &[Placed]) -> Result<Plan, Oom>
+    ensures { IfOk result (λ plan. HasLines category lines ps.now plan) }
+{
+    let segments = segments(alloc, &lines)?;
+    let opened = opened(alloc, ps)?;
+    let texts = event_texts(alloc, ps, lines.as_slice())?;
+    Ok(Plan {
+        category,
+        bbb: None,
+        lines,
+        segments,
+        opened,
+        texts,
+    })
+}
+
+/// The product of a draft that is sent at t: its lines with the rows that go on beside them, their segments, the events that it opens, and the texts. Or the first rule that it breaks, with what it names.
+#[tactic(auto, using(crate::proofs::RulesLemmas::places_below))]
+pub fn plan(
+    alloc: Global,
+    board: &Board,
+    numbers: &Numbers,
+    draft: &Draft,
+    t: Minute,
+) -> Result<Plan, Or<Refusal>>
+    requires { CanPlan board.now.rows numbers.now.counts draft.now.category draft.now.intents t }
+    ensures plan { IfOk result (λ plan. IsPlan draft.now.category board.now.rows t (placed numbers.now.counts t draft.now.intents) plan) }
+    ensures kept { OnOk result (broken draft.now.category board.now.rows t (placed numbers.now.counts t draft.now.intents) ≡ None) }
+    ensures refused { (r : Refused) → result ≡ Err (No r) → broken draft.now.category board.now.rows t (placed numbers.now.counts t draft.now.intents) ≡ Some r }
+{
+    let ps = place_all(alloc, numbers, draft.intents.as_slice(), t)?;
+    let lines = planned_lines(alloc, board, draft.category, t, &ps)?;
+    if let Some(refusal) = first_broken(alloc, board, t, &ps, &lines)? {
+        return Err(Or::No(refusal));
+    }
+    Ok(plan_of(alloc, draft.category, lines, &ps)?)
+}

@@ -1,0 +1,11 @@
+pub mod AtLemmas
+pub mod ClassLemmas
+pub mod GroupLemmas
+pub mod HasLemmas
+pub mod HeadLemmas
+pub mod InsertLemmas
+pub mod LawLemmas
+pub mod OrderLemmas
+pub mod PlaceLemmas
+pub mod PutLemmas
+pub mod RisingLemmas

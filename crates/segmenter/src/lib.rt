@@ -1,0 +1,34 @@
+//! The segments of a product: the zones that share their lines.
+//!
+//! A group is a zone with all its lines but those of phenomenon FL, or a zone with its lines of one event of phenomenon FL, where there is such a line. The groups whose lists of lines are equal, H-VTEC included, make one segment. So a zone stands in one segment for its river floods of each event, and in one for all else.
+#![tactic(auto)]
+
+ghost use Rattle.std.specs.Prelude.{IfOk};
+ghost use Rattle.segmenter.specs.Segments.{AreSegments};
+
+mod groups;
+mod laws;
+mod zones;
+
+use groups::groups_of;
+use hazard_types::{Line, List, Oom, Segment};
+pub use laws::{lines_are_in_order, segments_are_determined, segments_say_the_lines};
+use std::alloc::Global;
+use zones::{classes_of, heads_of, segments_of};
+
+/// The segments of a product's lines, by the least zone, then by the event of the first line.
+///
+/// The zones of a segment are in order, each once. Its lines are in order by action (UPG, CAN, EXP, NEW, EXB, EXA, EXT, CON, COR, ROU), then by event; lines that tie in both stand as they were given. No two segments tie: where two have the same least zone, their first events differ, since the groups of a zone have no event in common.
+///
+/// Any lines may be given. A line that is repeated stands in its segment as often, and no lines give no segments. The work grows as the lines do, times the lines of a zone and a logarithm. The error is want of memory.
+pub fn segments(alloc: Global, lines: &List<Line>) -> Result<List<Segment>, Oom>
+    ensures { IfOk result (λ segments. AreSegments lines.now segments) }
+{
+    let groups = groups_of(alloc, lines.as_slice())?;
+    let heads = heads_of(alloc, groups)?;
+    let classes = classes_of(alloc, &heads)?;
+    segments_of(alloc, &classes)
+}
+
+#[cfg(test)]
+mod tests;
