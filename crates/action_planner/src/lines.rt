@@ -8,8 +8,9 @@ ghost use Rattle.action_planner.specs.Placed.{zones_of, touches, speaks};
 ghost use Rattle.action_planner.specs.Lines.{line_on, is_near_end, finishing_action, finish_lines, restate_lines, lines_in, lines_in_zones, lines_from, follows, is_flood_event, goes_on, goes_on_beside, added_lines, planned_lines};
 
 use crate::overlay::is_overlaid;
-use crate::placed::{Placed, any_touched, speaks, zones_of};
+use crate::placed::{Placed, zones_of};
 use crate::puts::{printed_begin, put_line};
+use crate::spoken::Spoken;
 use event_life::ends_after;
 use hazard_board::Board;
 use hazard_types::desk_hazards::facts;
@@ -168,21 +169,14 @@ fn is_flood_event(hazard: &Hazard) -> bool
     hazard.phen.letters() == *b"FL"
 }
 
-/// Whether one of the intents is on the event in the zone.
-fn any_speaks(event: &Event, zone: &Zone, ps: &[Placed]) -> bool
-    ensures { result ≡ list_any (speaks event.now zone.now) ps.now }
-{
-    ps.iter().any(|p| speaks(event, zone, p))
-}
-
 /// Whether a live row goes on beside the intents: it is of the draft's category, one of them is in its zone, and none is on it.
-fn goes_on(category: Category, ps: &[Placed], row: &Row) -> bool
-    ensures { result ≡ goes_on category ps.now row.now }
+fn goes_on(category: Category, spoken: &Spoken, row: &Row) -> bool
+    ensures { result ≡ goes_on category spoken.now row.now }
 {
     follows(category, &row.event.hazard)
         && !is_flood_event(&row.event.hazard)
-        && any_touched(&row.zone, ps)
-        && !any_speaks(&row.event, &row.zone, ps)
+        && spoken.touches(&row.zone)
+        && !spoken.speaks(&row.event, &row.zone)
 }
 
 /// Adds CON for each of these rows that goes on beside the intents.
@@ -190,13 +184,13 @@ fn add_going_on(
     lines: &mut List<Line>,
     category: Category,
     t: Minute,
-    ps: &[Placed],
+    spoken: &Spoken,
     rows: &[Row],
 ) -> Result<(), Oom>
-    ensures { OnOk result (lines.new ≡ lines.old ++ map (line_on Con t) (filter (goes_on category ps.now) rows.now)) }
+    ensures { OnOk result (lines.new ≡ lines.old ++ map (line_on Con t) (filter (goes_on category spoken.now) rows.now)) }
 {
     for row in rows {
-        if goes_on(category, ps, row) {
+        if goes_on(category, spoken, row) {
             add_line(lines, &line_on(Action::Con, t, row))?;
         }
     }
@@ -211,12 +205,12 @@ fn add_beside(
     board: &Board,
     category: Category,
     t: Minute,
-    ps: &[Placed],
+    spoken: &Spoken,
 ) -> Result<(), Oom>
-    ensures { OnOk result (lines.new ≡ lines.old ++ added_lines category board.now.rows t ps.now) }
+    ensures { OnOk result (lines.new ≡ lines.old ++ added_lines category board.now.rows t spoken.now) }
 {
     let shown = board.shown(alloc, t)?;
-    add_going_on(lines, category, t, ps, shown.as_slice())
+    add_going_on(lines, category, t, spoken, shown.as_slice())
 }
 
 /// The lines of a draft: what its intents say by place, then by zone as it was written, and the rows that go on beside them.
@@ -225,12 +219,12 @@ pub fn planned_lines(
     board: &Board,
     category: Category,
     t: Minute,
-    ps: &[Placed],
+    spoken: &Spoken,
 ) -> Result<List<Line>, Oom>
-    ensures { IfOk result (λ lines. lines ≡ planned_lines category board.now.rows t ps.now) }
+    ensures { IfOk result (λ lines. lines ≡ planned_lines category board.now.rows t spoken.now) }
 {
     let mut lines = List::new(alloc);
-    add_spoken(alloc, &mut lines, board, t, ps)?;
-    add_beside(alloc, &mut lines, board, category, t, ps)?;
+    add_spoken(alloc, &mut lines, board, t, spoken.intents())?;
+    add_beside(alloc, &mut lines, board, category, t, spoken)?;
     Ok(lines)
 }

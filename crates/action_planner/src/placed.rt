@@ -1,6 +1,5 @@
 //! The intents of a draft at their places, each with the event that it speaks of.
 ghost use Rattle.std.specs.Prelude.{◌≡◌, ◌<◌, ◌≤◌, count_by, length, IfOk};
-ghost use Rattle.std.specs.List.{list_any};
 ghost use Rattle.action_planner.specs.Placed.{zones_of, touches, speaks, placed, opens_hazard, new_event, event_of_intent, is_opening, opened};
 
 use event_numbers::Numbers;
@@ -48,13 +47,6 @@ pub fn speaks(event: &Event, zone: &Zone, p: &Placed) -> bool
     ensures { result ≡ speaks event.now zone.now p.now }
 {
     p.event == *event && is_touched(zone, p)
-}
-
-/// Whether one of the intents is in the zone.
-pub fn any_touched(zone: &Zone, ps: &[Placed]) -> bool
-    ensures { result ≡ list_any (touches zone.now) ps.now }
-{
-    ps.iter().any(|p| is_touched(zone, p))
 }
 
 /// Whether the intent puts a new event of this hazard.
