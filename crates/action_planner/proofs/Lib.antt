@@ -1,6 +1,6 @@
 pub mod AddedLemmas
 pub mod GoingLemmas
-pub mod OverlayLemmas
 pub mod RulesLemmas
+pub mod SendingLemmas
 pub mod SpokenLemmas
 pub mod TextLemmas

@@ -91,7 +91,7 @@ same_tests true b to from = sym (to refl)
 same_tests false true to from = from refl
 same_tests false false to from = refl
 
-zone_at : (q k : Place) → is_at (by_place q) k ≡ same_zone k q
+pub zone_at : (q k : Place) → is_at (by_place q) k ≡ same_zone k q
 zone_at q k = same_tests (is_at (by_place q) k) (same_zone k q)
     (λ h. rw (at_one by_place by_place_total by_place_ties q k h) (zone_itself k))
     (λ h. rw (zone_one k q h) (at_itself by_place by_place_total by_place_ties q))

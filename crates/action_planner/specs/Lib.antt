@@ -4,5 +4,6 @@ pub mod Lines
 pub mod Offences
 pub mod Rules
 pub mod Spoken
+pub mod Sending
 pub mod Texts
 pub mod Plans

@@ -3,13 +3,16 @@
 
 mod intent_rules;
 mod lines;
-mod overlay;
 mod placed;
 mod planning;
 mod puts;
 mod rules;
+mod sending;
 mod spoken;
 mod texts;
 mod zone_rules;
 
 pub use planning::plan;
+
+#[cfg(test)]
+mod spoken_tests;

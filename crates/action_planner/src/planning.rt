@@ -11,6 +11,7 @@ ghost use Rattle.action_planner.specs.Plans.{HasLines, IsPlan};
 use crate::lines::planned_lines;
 use crate::placed::{Placed, opened, place_all};
 use crate::rules::first_broken;
+use crate::sending::Sending;
 use crate::spoken::Spoken;
 use crate::texts::event_texts;
 use event_numbers::Numbers;
@@ -52,7 +53,8 @@ pub fn plan(
 {
     let ps = place_all(alloc, numbers, draft.intents.as_slice(), t)?;
     let spoken = Spoken::new(alloc, &ps)?;
-    let lines = planned_lines(alloc, board, draft.category, t, &spoken)?;
+    let sending = Sending::new(alloc, board, t, &spoken)?;
+    let lines = planned_lines(alloc, &sending, draft.category)?;
     if let Some(refusal) = first_broken(alloc, board, t, &spoken, &lines)? {
         return Err(Or::No(refusal));
     }
