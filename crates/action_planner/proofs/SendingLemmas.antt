@@ -1,5 +1,5 @@
 -- The rows that a draft leaves live, found by their zones.
-use Rattle.std.proofs.Common.{◌≡◌, ◌∙◌, ◌&&◌, ◌||◌, ℕ, Bool, true, false, List, [], ◌∷◌, ◌++◌, filter, Option, Some, None, cond, unwrap_or, refl, sym, ap, if◌then◌else◌}
+use Rattle.std.proofs.Common.{◌≡◌, ◌∙◌, ◌&&◌, ◌||◌, ℕ, Bool, true, false, List, [], ◌∷◌, ◌++◌, filter, Option, Some, cond, unwrap_or, refl, sym, ap, if◌then◌else◌}
 use Rattle.std.specs.BTreeMap.{is_at}
 use Rattle.std.specs.List.{list_any}
 use Rattle.std.specs.Map.{lookup}
@@ -12,7 +12,7 @@ use Rattle.event_life.specs.Higher.{outranks}
 use Rattle.event_life.specs.Periods.{is_live, overlaps}
 use Rattle.event_life.specs.Shown.{shown_at}
 use Rattle.action_planner.specs.Placed.{Placed}
-use Rattle.action_planner.specs.Lines.{is_left, rows_by_intent, rows_by_puts, rows_left, overlays, is_overlaid}
+use Rattle.action_planner.specs.Lines.{is_left, rows_by_intent, rows_by_puts, overlays, is_overlaid}
 use Rattle.action_planner.specs.Sending.{Sending, Zones, rows_in, add_row, add_rows, add_by_puts, live_left}
 use Rattle.action_planner.proofs.SpokenLemmas.{at_one, found_after, zone_at}
 

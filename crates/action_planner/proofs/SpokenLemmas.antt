@@ -17,7 +17,6 @@ use Rattle.hazard_types.proofs.OrderLaws.{by_event_total, by_event_ties, by_plac
 use Rattle.action_planner.specs.declared.spoken.Speakers.{Speakers}
 use Rattle.action_planner.specs.declared.spoken.Spot.{Spot}
 use Rattle.action_planner.specs.Lines.{puts_or_finishes}
-use Rattle.action_planner.specs.Offences.{is_shared}
 use Rattle.action_planner.specs.Placed.{Placed, zones_of, touches, speaks}
 use Rattle.action_planner.specs.Spoken.{by_spot, spot_of, Spots, speakers_at, speakers_with, add_spot, add_spots, spots_from, add_zones, zones_from, is_taken, has_other}
 

@@ -1,6 +1,5 @@
 -- those that are held at the spot answer for the intents
-use Rattle.std.proofs.Common.{◌≡◌, ◌∙◌, ap, rules, List}
-use Rattle.action_planner.specs.Placed.{Placed}
+use Rattle.std.proofs.Common.{◌≡◌, ◌∙◌, ap, rules}
 use Rattle.action_planner.specs.Spoken.{speakers_at, spots_from}
 use Rattle.action_planner.proofs.SpokenLemmas.{any_speaks, any_takes, any_other}
 use Rattle.action_planner.proofs.spoken.Spoken.speakers.Goals as goal
