@@ -1,6 +1,5 @@
 pub mod AddedLemmas
 pub mod GoingLemmas
-pub mod OverlayLemmas
 pub mod RulesLemmas
 pub mod LawfulLists
 pub mod LawfulSteps
@@ -16,5 +15,7 @@ pub mod CasesWords
 pub mod CasesRows
 pub mod CasesLines
 pub mod Cases
+pub mod SendingLemmas
+pub mod SpokenLemmas
 pub mod TextLemmas
 pub mod PlanLemmas

@@ -4,5 +4,7 @@ pub mod Lines
 pub mod Offences
 pub mod Rules
 pub mod Cases
+pub mod Spoken
+pub mod Sending
 pub mod Texts
 pub mod Plans

@@ -4,11 +4,12 @@
 mod intent_rules;
 mod laws;
 mod lines;
-mod overlay;
 mod placed;
 mod planning;
 mod puts;
 mod rules;
+mod sending;
+mod spoken;
 mod texts;
 mod zone_rules;
 
@@ -18,3 +19,6 @@ pub use laws::{
     planned_lines_open_where_no_row_stands,
 };
 pub use planning::plan;
+
+#[cfg(test)]
+mod spoken_tests;

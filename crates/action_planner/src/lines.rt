@@ -9,11 +9,11 @@ ghost use Rattle.event_life.specs.Shown.{shown_at};
 ghost use Rattle.action_planner.specs.Placed.{zones_of, touches, speaks};
 ghost use Rattle.action_planner.specs.Lines.{line_on, is_near_end, finishing_action, finish_lines, restate_lines, lines_in, lines_in_zones, lines_from, follows, is_flood_event, goes_on, goes_on_beside, added_lines, planned_lines};
 
-use crate::overlay::is_overlaid;
-use crate::placed::{Placed, any_touched, speaks, zones_of};
+use crate::placed::{Placed, zones_of};
 use crate::puts::{printed_begin, put_line};
+use crate::sending::Sending;
+use crate::spoken::Spoken;
 use event_life::ends_after;
-use hazard_board::Board;
 use hazard_types::desk_hazards::facts;
 use hazard_types::{
     Action, Category, End, Event, Hazard, Intent, Line, List, Minute, Oom, Row, Zone,
@@ -45,21 +45,16 @@ fn is_near_end(end: &End, t: Minute) -> bool
 }
 
 /// How a row ends where its event is finished: UPG before its end under a row of a higher rank, else EXP near its end, else CAN.
-fn finishing_action(
-    alloc: Global,
-    board: &Board,
-    t: Minute,
-    ps: &[Placed],
-    row: &Row,
-) -> Result<Action, Oom>
-    ensures { IfOk result (λ action. action ≡ finishing_action board.now.rows t ps.now row.now) }
+fn finishing_action(sending: &Sending, row: &Row) -> Action
+    ensures { result ≡ finishing_action sending.now.rows sending.now.minute sending.now.intents row.now }
 {
-    if ends_after(&row.period.end, t) && is_overlaid(alloc, board, t, ps, row)? {
-        Ok(Action::Upg)
+    let t = sending.minute();
+    if ends_after(&row.period.end, t) && sending.is_overlaid(row) {
+        Action::Upg
     } else if is_near_end(&row.period.end, t) {
-        Ok(Action::Exp)
+        Action::Exp
     } else {
-        Ok(Action::Can)
+        Action::Can
     }
 }
 
@@ -71,21 +66,14 @@ fn add_line(lines: &mut List<Line>, line: &Line) -> Result<(), Oom>
 }
 
 /// Adds what a finish says of a row: nothing where there is none.
-fn add_finish(
-    alloc: Global,
-    lines: &mut List<Line>,
-    board: &Board,
-    t: Minute,
-    ps: &[Placed],
-    row: &Option<Row>,
-) -> Result<(), Oom>
-    ensures { OnOk result (lines.new ≡ lines.old ++ finish_lines board.now.rows t ps.now row.now) }
+fn add_finish(lines: &mut List<Line>, sending: &Sending, row: &Option<Row>) -> Result<(), Oom>
+    ensures { OnOk result (lines.new ≡ lines.old ++ finish_lines sending.now.rows sending.now.minute sending.now.intents row.now) }
 {
     match row {
         None => Ok(()),
         Some(row) => {
-            let action = finishing_action(alloc, board, t, ps, row)?;
-            add_line(lines, &line_on(action, t, row))
+            let action = finishing_action(sending, row);
+            add_line(lines, &line_on(action, sending.minute(), row))
         }
     }
 }
@@ -102,53 +90,39 @@ fn add_restate(lines: &mut List<Line>, t: Minute, row: &Option<Row>) -> Result<(
 
 /// Adds what an intent says of one of its zones.
 fn add_lines_in(
-    alloc: Global,
     lines: &mut List<Line>,
-    board: &Board,
-    t: Minute,
-    ps: &[Placed],
+    sending: &Sending,
     p: &Placed,
     zone: &Zone,
 ) -> Result<(), Oom>
-    ensures { OnOk result (lines.new ≡ lines.old ++ lines_in board.now.rows t ps.now p.now.event p.now.intent zone.now) }
+    ensures { OnOk result (lines.new ≡ lines.old ++ lines_in sending.now.rows sending.now.minute sending.now.intents p.now.event p.now.intent zone.now) }
 {
+    let board = sending.board();
+    let t = sending.minute();
     match p.intent {
         Intent::Put(part) => add_line(lines, &put_line(board, t, &p.event, part, zone)),
-        Intent::Finish(_) => add_finish(alloc, lines, board, t, ps, &board.row(p.event, *zone)),
+        Intent::Finish(_) => add_finish(lines, sending, &board.row(p.event, *zone)),
         Intent::Restate(_) => add_restate(lines, t, &board.row(p.event, *zone)),
         Intent::Routine(_) => Ok(()),
     }
 }
 
 /// Adds what an intent says of its zones, as they were written.
-fn add_lines_of(
-    alloc: Global,
-    lines: &mut List<Line>,
-    board: &Board,
-    t: Minute,
-    ps: &[Placed],
-    p: &Placed,
-) -> Result<(), Oom>
-    ensures { OnOk result (lines.new ≡ lines.old ++ lines_in_zones board.now.rows t ps.now p.now.event p.now.intent (zones_of p.now.intent)) }
+fn add_lines_of(lines: &mut List<Line>, sending: &Sending, p: &Placed) -> Result<(), Oom>
+    ensures { OnOk result (lines.new ≡ lines.old ++ lines_in_zones sending.now.rows sending.now.minute sending.now.intents p.now.event p.now.intent (zones_of p.now.intent)) }
 {
     for zone in zones_of(p.intent) {
-        add_lines_in(alloc, lines, board, t, ps, p, zone)?;
+        add_lines_in(lines, sending, p, zone)?;
     }
     Ok(())
 }
 
 /// Adds what the intents say, in order of places.
-fn add_spoken(
-    alloc: Global,
-    lines: &mut List<Line>,
-    board: &Board,
-    t: Minute,
-    ps: &[Placed],
-) -> Result<(), Oom>
-    ensures { OnOk result (lines.new ≡ lines.old ++ lines_from board.now.rows t ps.now ps.now) }
+fn add_spoken(lines: &mut List<Line>, sending: &Sending) -> Result<(), Oom>
+    ensures { OnOk result (lines.new ≡ lines.old ++ lines_from sending.now.rows sending.now.minute sending.now.intents sending.now.intents) }
 {
-    for p in ps {
-        add_lines_of(alloc, lines, board, t, ps, p)?;
+    for p in sending.spoken().intents() {
+        add_lines_of(lines, sending, p)?;
     }
     Ok(())
 }
@@ -170,21 +144,14 @@ fn is_flood_event(hazard: &Hazard) -> bool
     hazard.phen.letters() == *b"FL"
 }
 
-/// Whether one of the intents is on the event in the zone.
-fn any_speaks(event: &Event, zone: &Zone, ps: &[Placed]) -> bool
-    ensures { result ≡ list_any (speaks event.now zone.now) ps.now }
-{
-    ps.iter().any(|p| speaks(event, zone, p))
-}
-
 /// Whether a live row goes on beside the intents: it is of the draft's category, one of them is in its zone, and none is on it.
-fn goes_on(category: Category, ps: &[Placed], row: &Row) -> bool
-    ensures { result ≡ goes_on category ps.now row.now }
+fn goes_on(category: Category, spoken: &Spoken, row: &Row) -> bool
+    ensures { result ≡ goes_on category spoken.now row.now }
 {
     follows(category, &row.event.hazard)
         && !is_flood_event(&row.event.hazard)
-        && any_touched(&row.zone, ps)
-        && !any_speaks(&row.event, &row.zone, ps)
+        && spoken.touches(&row.zone)
+        && !spoken.speaks(&row.event, &row.zone)
 }
 
 /// Adds CON for each of these rows that goes on beside the intents.
@@ -192,13 +159,13 @@ fn add_going_on(
     lines: &mut List<Line>,
     category: Category,
     t: Minute,
-    ps: &[Placed],
+    spoken: &Spoken,
     rows: &[Row],
 ) -> Result<(), Oom>
-    ensures { OnOk result (lines.new ≡ lines.old ++ map (line_on Con t) (filter (goes_on category ps.now) rows.now)) }
+    ensures { OnOk result (lines.new ≡ lines.old ++ map (line_on Con t) (filter (goes_on category spoken.now) rows.now)) }
 {
     for row in rows {
-        if goes_on(category, ps, row) {
+        if goes_on(category, spoken, row) {
             add_line(lines, &line_on(Action::Con, t, row))?;
         }
     }
@@ -210,31 +177,28 @@ fn add_going_on(
 fn add_beside(
     alloc: Global,
     lines: &mut List<Line>,
-    board: &Board,
+    sending: &Sending,
     category: Category,
-    t: Minute,
-    ps: &[Placed],
 ) -> Result<(), Oom>
-    ensures lines { OnOk result (lines.new ≡ lines.old ++ added_lines category board.now.rows t ps.now) }
-    ensures order { IsStrictlySortedBy by_key board.now.rows }
+    ensures lines { OnOk result (lines.new ≡ lines.old ++ added_lines category sending.now.rows sending.now.minute sending.now.intents) }
+    ensures order { IsStrictlySortedBy by_key sending.now.rows }
 {
-    let shown = board.shown(alloc, t)?;
-    add_going_on(lines, category, t, ps, shown.as_slice())
+    let t = sending.minute();
+    let shown = sending.board().shown(alloc, t)?;
+    add_going_on(lines, category, t, sending.spoken(), shown.as_slice())
 }
 
 /// The lines of a draft: what its intents say by place, then by zone as it was written, and the rows that go on beside them.
 pub fn planned_lines(
     alloc: Global,
-    board: &Board,
+    sending: &Sending,
     category: Category,
-    t: Minute,
-    ps: &[Placed],
 ) -> Result<List<Line>, Oom>
-    ensures lines { IfOk result (λ lines. lines ≡ planned_lines category board.now.rows t ps.now) }
-    ensures order { OnOk result (IsStrictlySortedBy by_key board.now.rows) }
+    ensures lines { IfOk result (λ lines. lines ≡ planned_lines category sending.now.rows sending.now.minute sending.now.intents) }
+    ensures order { OnOk result (IsStrictlySortedBy by_key sending.now.rows) }
 {
     let mut lines = List::new(alloc);
-    add_spoken(alloc, &mut lines, board, t, ps)?;
-    add_beside(alloc, &mut lines, board, category, t, ps)?;
+    add_spoken(&mut lines, sending)?;
+    add_beside(alloc, &mut lines, sending, category)?;
     Ok(lines)
 }

@@ -1,7 +1,6 @@
 //! The intents of a draft at their places, each with the event that it speaks of.
 ghost use Rattle.std.specs.Prelude.{◌≡◌, ◌<◌, ◌≤◌, count_by, length, IfOk};
-ghost use Rattle.std.specs.List.{list_any};
-ghost use Rattle.action_planner.specs.Placed.{zones_of, touches, speaks, placed, opens_hazard, new_event, event_of_intent, is_opening, opened};
+ghost use Rattle.action_planner.specs.Placed.{zones_of, placed, opens_hazard, new_event, event_of_intent, is_opening, opened};
 
 use event_numbers::Numbers;
 use hazard_types::{Event, Hazard, Intent, List, Minute, Oom, Target, Zone, year_of};
@@ -34,27 +33,6 @@ pub fn zones_of(intent: &Intent) -> &[Zone]
         Intent::Restate(part) => part.zones.as_slice(),
         Intent::Routine(part) => part.zones.as_slice(),
     }
-}
-
-/// Whether the intent is in the zone.
-pub fn is_touched(zone: &Zone, p: &Placed) -> bool
-    ensures { result ≡ touches zone.now p.now }
-{
-    zones_of(p.intent).iter().any(|y| *y == *zone)
-}
-
-/// Whether the intent is on the event in the zone.
-pub fn speaks(event: &Event, zone: &Zone, p: &Placed) -> bool
-    ensures { result ≡ speaks event.now zone.now p.now }
-{
-    p.event == *event && is_touched(zone, p)
-}
-
-/// Whether one of the intents is in the zone.
-pub fn any_touched(zone: &Zone, ps: &[Placed]) -> bool
-    ensures { result ≡ list_any (touches zone.now) ps.now }
-{
-    ps.iter().any(|p| is_touched(zone, p))
 }
 
 /// Whether the intent puts a new event of this hazard.

@@ -12,6 +12,8 @@ ghost use Rattle.action_planner.specs.Plans.{HasLines, IsPlan};
 use crate::lines::planned_lines;
 use crate::placed::{Placed, opened, place_all};
 use crate::rules::first_broken;
+use crate::sending::Sending;
+use crate::spoken::Spoken;
 use crate::texts::event_texts;
 use event_numbers::Numbers;
 use hazard_board::Board;
@@ -52,8 +54,10 @@ pub fn plan(
     ensures refused { (r : Refused) → result ≡ Err (No r) → broken draft.now.category board.now.rows t (placed numbers.now.counts t draft.now.intents) ≡ Some r }
 {
     let ps = place_all(alloc, numbers, draft.intents.as_slice(), t)?;
-    let lines = planned_lines(alloc, board, draft.category, t, &ps)?;
-    if let Some(refusal) = first_broken(alloc, board, t, &ps, &lines)? {
+    let spoken = Spoken::new(alloc, &ps)?;
+    let sending = Sending::new(alloc, board, t, &spoken)?;
+    let lines = planned_lines(alloc, &sending, draft.category)?;
+    if let Some(refusal) = first_broken(alloc, board, t, &spoken, &lines)? {
         return Err(Or::No(refusal));
     }
     Ok(plan_of(alloc, draft.category, lines, &ps)?)

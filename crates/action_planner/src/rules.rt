@@ -12,6 +12,7 @@ ghost use Rattle.action_planner.specs.Rules.{offence, first_against};
 
 use crate::intent_rules::{bad_period, barred_flood, held, not_open, open_end, spent};
 use crate::placed::Placed;
+use crate::spoken::Spoken;
 use crate::zone_rules::{gone, left, moved, shared};
 use hazard_board::Board;
 use hazard_types::{Line, List, Minute, Oom, Refusal};
@@ -48,16 +49,16 @@ const BEFORE_CONFLICT: [Rule; 8] = [
 const ON_NUMBERS: [Rule; 2] = [Rule::NumberHeld, Rule::NumbersSpent];
 
 /// What an intent of a draft is refused with under a rule.
-fn offence(board: &Board, t: Minute, all: &[Placed], rule: Rule, p: &Placed) -> Option<Refusal>
+fn offence(board: &Board, t: Minute, spoken: &Spoken, rule: Rule, p: &Placed) -> Option<Refusal>
     requires consistent { IsConsistent board.now.rows t }
     requires place { p.now.place < 64 }
-    ensures { result ≡ offence board.now.rows t all.now rule p.now }
+    ensures { result ≡ offence board.now.rows t spoken.now rule p.now }
 {
     match rule {
         Rule::NoEvent => not_open(board, t, p),
         Rule::NotLive => gone(board, t, p),
         Rule::LeftBefore => left(board, t, p),
-        Rule::Twice => shared(all, p),
+        Rule::Twice => shared(spoken, p),
         Rule::BadPeriod => bad_period(t, p),
         Rule::BegunMoved => moved(board, t, p),
         Rule::NoOpenEnd => open_end(p),
@@ -68,13 +69,13 @@ fn offence(board: &Board, t: Minute, all: &[Placed], rule: Rule, p: &Placed) -> 
 }
 
 /// The first intent that offends against a rule.
-fn first_offence(board: &Board, t: Minute, ps: &[Placed], rule: Rule) -> Option<Refusal>
+fn first_offence(board: &Board, t: Minute, spoken: &Spoken, rule: Rule) -> Option<Refusal>
     requires consistent { IsConsistent board.now.rows t }
-    requires places { All (λ (p : PlacedIntent). p.place < 64) ps.now }
-    ensures { result ≡ first_by (offence board.now.rows t ps.now rule) ps.now }
+    requires places { All (λ (p : PlacedIntent). p.place < 64) spoken.now }
+    ensures { result ≡ first_by (offence board.now.rows t spoken.now rule) spoken.now }
 {
-    for p in ps {
-        let found = offence(board, t, ps, rule, p);
+    for p in spoken.intents() {
+        let found = offence(board, t, spoken, rule, p);
         if found.is_some() {
             return found;
         }
@@ -83,13 +84,13 @@ fn first_offence(board: &Board, t: Minute, ps: &[Placed], rule: Rule) -> Option<
 }
 
 /// The first intent that offends against the first of some rules against which one does.
-fn first_against(board: &Board, t: Minute, ps: &[Placed], rules: &[Rule]) -> Option<Refusal>
+fn first_against(board: &Board, t: Minute, spoken: &Spoken, rules: &[Rule]) -> Option<Refusal>
     requires consistent { IsConsistent board.now.rows t }
-    requires places { All (λ (p : PlacedIntent). p.place < 64) ps.now }
-    ensures { result ≡ first_against board.now.rows t ps.now rules.now }
+    requires places { All (λ (p : PlacedIntent). p.place < 64) spoken.now }
+    ensures { result ≡ first_against board.now.rows t spoken.now rules.now }
 {
     for rule in rules {
-        let found = first_offence(board, t, ps, *rule);
+        let found = first_offence(board, t, spoken, *rule);
         if found.is_some() {
             return found;
         }
@@ -130,17 +131,17 @@ pub fn first_broken(
     alloc: Global,
     board: &Board,
     t: Minute,
-    ps: &[Placed],
+    spoken: &Spoken,
     lines: &List<Line>,
 ) -> Result<Option<Refusal>, Oom>
     requires consistent { IsConsistent board.now.rows t }
-    requires places { All (λ (p : PlacedIntent). p.place < 64) ps.now }
-    ensures { (c : Category) → lines.now ≡ planned_lines c board.now.rows t ps.now → IfOk result (λ found. found ≡ broken c board.now.rows t ps.now) }
+    requires places { All (λ (p : PlacedIntent). p.place < 64) spoken.now }
+    ensures { (c : Category) → lines.now ≡ planned_lines c board.now.rows t spoken.now → IfOk result (λ found. found ≡ broken c board.now.rows t spoken.now) }
 {
-    if ps.is_empty() {
+    if spoken.intents().is_empty() {
         return Ok(Some(Refusal::EmptyDraft));
     }
-    let early = first_against(board, t, ps, &BEFORE_CONFLICT);
+    let early = first_against(board, t, spoken, &BEFORE_CONFLICT);
     if early.is_some() {
         return Ok(early);
     }
@@ -148,7 +149,7 @@ pub fn first_broken(
     if overlap.is_some() {
         return Ok(overlap);
     }
-    let late = first_against(board, t, ps, &ON_NUMBERS);
+    let late = first_against(board, t, spoken, &ON_NUMBERS);
     if late.is_some() {
         return Ok(late);
     }

@@ -1,12 +1,12 @@
 //! The rules on an intent in its zones, each by the first zone that offends.
 ghost use Rattle.std.specs.Prelude.{◌≡◌, not, nat_le};
-ghost use Rattle.std.specs.List.{list_any};
 ghost use Rattle.event_life.specs.Periods.{is_live, keeps_open};
 ghost use Rattle.event_life.specs.Products.{row_at};
 ghost use Rattle.action_planner.specs.Lines.{minute_of};
 ghost use Rattle.action_planner.specs.Offences.{has_row_by, is_gone, gone, joins, was_left, left, is_shared, shared, is_moved, moved};
 
-use crate::placed::{Placed, speaks, zones_of};
+use crate::placed::{Placed, zones_of};
+use crate::spoken::Spoken;
 use event_life::{is_live, keeps_open};
 use hazard_board::Board;
 use hazard_types::{Begin, Event, Intent, Minute, Refusal, Target, Zone};
@@ -92,14 +92,6 @@ fn was_left(board: &Board, t: Minute, event: &Event, intent: &Intent, zone: &Zon
     joins(intent) && has_past_row(board, t, event, zone)
 }
 
-/// Whether another intent is on the event in the zone.
-fn is_shared(all: &[Placed], p: &Placed, zone: &Zone) -> bool
-    ensures { result ≡ is_shared all.now p.now zone.now }
-{
-    all.iter()
-        .any(|q| q.place != p.place && speaks(&p.event, zone, q))
-}
-
 /// Whether a joining put would have a row in the zone begin after this minute that has begun.
 fn is_moved(board: &Board, t: Minute, event: &Event, intent: &Intent, zone: &Zone) -> bool
     ensures { result ≡ is_moved board.now.rows t event.now intent.now zone.now }
@@ -142,12 +134,12 @@ pub fn left(board: &Board, t: Minute, p: &Placed) -> Option<Refusal>
 }
 
 /// Twice: another intent is on the event in the zone.
-pub fn shared(all: &[Placed], p: &Placed) -> Option<Refusal>
-    ensures { result ≡ shared all.now p.now }
+pub fn shared(spoken: &Spoken, p: &Placed) -> Option<Refusal>
+    ensures { result ≡ shared spoken.now p.now }
 {
     let zone = zones_of(p.intent)
         .iter()
-        .find(|zone| is_shared(all, p, zone))?;
+        .find(|zone| spoken.is_shared(p, zone))?;
     Some(Refusal::Twice {
         event: p.event,
         zone: *zone,

@@ -5,4 +5,4 @@ use Rattle.action_planner.specs.Lines.{line_on, goes_on}
 use Rattle.action_planner.proofs.lines.add_going_on.Given as goal
 
 abbrev pub invariant-loop-row : goal.invariant-loop-row
-invariant-loop-row l = l.lines ++ map (line_on Con l.t) (filter (goes_on l.category l.ps) (drop l.row-index l.rows)) ≡ l.initial.lines ++ map (line_on Con l.t) (filter (goes_on l.category l.ps) l.rows)
+invariant-loop-row l = l.lines ++ map (line_on Con l.t) (filter (goes_on l.category l.spoken) (drop l.row-index l.rows)) ≡ l.initial.lines ++ map (line_on Con l.t) (filter (goes_on l.category l.spoken) l.rows)

@@ -4,4 +4,4 @@ use Rattle.action_planner.specs.Lines.{lines_from}
 use Rattle.action_planner.proofs.lines.add_spoken.Given as goal
 
 abbrev pub invariant-loop-p : goal.invariant-loop-p
-invariant-loop-p l = l.lines ++ lines_from l.board.rows l.t l.ps (drop l.p-index l.ps) ≡ l.initial.lines ++ lines_from l.board.rows l.t l.ps l.ps
+invariant-loop-p l = l.lines ++ lines_from l.sending.rows l.sending.minute l.sending.intents (drop l.p-index l.p-items) ≡ l.initial.lines ++ lines_from l.sending.rows l.sending.minute l.sending.intents l.sending.intents

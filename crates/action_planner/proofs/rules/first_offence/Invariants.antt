@@ -5,4 +5,4 @@ use Rattle.action_planner.specs.Rules.{offence}
 use Rattle.action_planner.proofs.rules.first_offence.Given as goal
 
 abbrev pub invariant-loop-p : goal.invariant-loop-p
-invariant-loop-p l = first_by (offence l.board.rows l.t l.ps l.rule) (drop l.p-index l.ps) ≡ first_by (offence l.board.rows l.t l.ps l.rule) l.ps
+invariant-loop-p l = first_by (offence l.board.rows l.t l.spoken l.rule) (drop l.p-index l.p-items) ≡ first_by (offence l.board.rows l.t l.spoken l.rule) l.spoken

@@ -1,0 +1,107 @@
+-- The rows that a draft leaves live, found by their zones.
+use Rattle.std.proofs.Common.{◌≡◌, ◌∙◌, ◌&&◌, ◌||◌, ℕ, Bool, true, false, List, [], ◌∷◌, ◌++◌, filter, Option, Some, cond, unwrap_or, refl, sym, ap, if◌then◌else◌}
+use Rattle.std.specs.BTreeMap.{is_at}
+use Rattle.std.specs.List.{list_any}
+use Rattle.std.specs.Map.{lookup}
+use Rattle.std.proofs.lemmas.List.Folds.{list_any-append}
+use Rattle.hazard_types.specs.Places.{Place, by_place}
+use Rattle.hazard_types.specs.Same.{same_zone}
+use Rattle.hazard_types.specs.declared.line.Row.{Row}
+use Rattle.hazard_types.proofs.OrderLaws.{by_place_total, by_place_ties}
+use Rattle.event_life.specs.Higher.{outranks}
+use Rattle.event_life.specs.Periods.{is_live, overlaps}
+use Rattle.event_life.specs.Shown.{shown_at}
+use Rattle.action_planner.specs.Placed.{Placed}
+use Rattle.action_planner.specs.Lines.{is_left, rows_by_intent, rows_by_puts, overlays, is_overlaid}
+use Rattle.action_planner.specs.Sending.{Sending, Zones, rows_in, add_row, add_rows, add_by_puts, live_left}
+use Rattle.action_planner.proofs.SpokenLemmas.{at_one, found_after, zone_at}
+
+added_in_turn : (zones : Zones) (xs ys : List Row) → add_rows (add_rows zones xs) ys ≡ add_rows zones (xs ++ ys)
+added_in_turn zones [] ys = refl
+added_in_turn zones (x ∷ xs) ys = added_in_turn (add_row zones x) xs ys
+
+put_in_turn : (zones : Zones) (rows : List Row) (t : ℕ) (ps : List Placed) → add_by_puts zones rows t ps ≡ add_rows zones (rows_by_puts rows t ps)
+put_in_turn zones rows t [] = refl
+put_in_turn zones rows t (p ∷ ps) =
+    put_in_turn (add_rows zones (rows_by_intent rows t p p.intent)) rows t ps
+    ∙ added_in_turn zones (rows_by_intent rows t p p.intent) (rows_by_puts rows t ps)
+
+pub all_added : (rows : List Row) (t : ℕ) (ps : List Placed) → add_by_puts (add_rows [] (filter (is_left ps) (shown_at t rows))) rows t ps ≡ add_rows [] (live_left (record { rows = rows; minute = t; intents = ps }))
+all_added rows t ps =
+    let left = filter (is_left ps) (shown_at t rows) in
+    put_in_turn (add_rows [] left) rows t ps ∙ added_in_turn [] left (rows_by_puts rows t ps)
+
+-- a zone's rows are those of all rows that are in it
+
+appended : (xs ys zs : List Row) → (xs ++ ys) ++ zs ≡ xs ++ (ys ++ zs)
+appended [] ys zs = refl
+appended (x ∷ xs) ys zs = ap (λ (rest : List Row). x ∷ rest) (appended xs ys zs)
+
+nothing_more : (xs : List Row) → xs ≡ xs ++ []
+nothing_more [] = refl
+nothing_more (x ∷ xs) = ap (λ (rest : List Row). x ∷ rest) (nothing_more xs)
+
+added_by : (b : Bool) (held : Option (List Row)) (here : List Row) (row : Row) (later : List Row) → (b ≡ true → here ≡ unwrap_or held []) →
+    unwrap_or (cond b (Some (here ++ row ∷ [])) held) [] ++ later ≡ unwrap_or held [] ++ (if b then row ∷ later else later)
+added_by true held here row later same = ap (λ (rows : List Row). (rows ++ row ∷ []) ++ later) (same refl) ∙ appended (unwrap_or held []) (row ∷ []) later
+added_by false held here row later same = refl
+
+row_added : (zones : Zones) (row : Row) (z : Place) (later : List Row) → rows_in (add_row zones row) z ++ later ≡ rows_in zones z ++ (if same_zone row.zone z then row ∷ later else later)
+row_added zones row z later =
+    ap (λ (held : Option (List Row)). unwrap_or held [] ++ later) (found_after by_place by_place_total by_place_ties z row.zone (rows_in zones row.zone ++ row ∷ []) zones)
+    ∙ added_by (is_at (by_place z) row.zone) (lookup (is_at (by_place z)) zones) (rows_in zones row.zone) row later (λ h. ap (rows_in zones) (sym (at_one by_place by_place_total by_place_ties z row.zone h)))
+    ∙ ap (λ b. rows_in zones z ++ (if b then row ∷ later else later)) (zone_at z row.zone)
+
+rows_added : (zones : Zones) (rows : List Row) (z : Place) → rows_in (add_rows zones rows) z ≡ rows_in zones z ++ filter (λ (r : Row). same_zone r.zone z) rows
+rows_added zones [] z = nothing_more (rows_in zones z)
+rows_added zones (row ∷ rows) z = rows_added (add_row zones row) rows z ∙ row_added zones row z (filter (λ (r : Row). same_zone r.zone z) rows)
+
+-- what is asked of the rows of a zone, and of live rows
+
+any_kept : {X : Type 0} (kept : Bool) (q : X → Bool) (x : X) (xs : List X) → list_any q (if kept then x ∷ xs else xs) ≡ (kept && q x || list_any q xs)
+any_kept true q x xs = refl
+any_kept false q x xs = refl
+
+any_of_filter : {X : Type 0} (p q : X → Bool) (xs : List X) → list_any q (filter p xs) ≡ list_any (λ (x : X). p x && q x) xs
+any_of_filter p q [] = refl
+any_of_filter p q (x ∷ xs) = any_kept (p x) q x (filter p xs) ∙ ap (λ (b : Bool). p x && q x || b) (any_of_filter p q xs)
+
+any_same : {X : Type 0} (p q : X → Bool) → ((x : X) → p x ≡ q x) → (xs : List X) → list_any p xs ≡ list_any q xs
+any_same p q same [] = refl
+any_same p q same (x ∷ xs) = ap (λ (b : Bool). b || list_any p xs) (same x) ∙ ap (λ (b : Bool). q x || b) (any_same p q same xs)
+
+asked_twice : (here live rank over : Bool) → (here && (((here && live) && rank) && over)) ≡ (((here && live) && rank) && over)
+asked_twice true live rank over = refl
+asked_twice false live rank over = refl
+
+in_its_zone : (t : ℕ) (row : Row) (rows : List Row) → list_any (overlays t row) (filter (λ (r : Row). same_zone r.zone row.zone) rows) ≡ list_any (overlays t row) rows
+in_its_zone t row rows =
+    any_of_filter (λ (r : Row). same_zone r.zone row.zone) (overlays t row) rows
+    ∙ any_same (λ (r : Row). same_zone r.zone row.zone && overlays t row r) (overlays t row)
+    (λ r. asked_twice (same_zone r.zone row.zone) (is_live t r) (outranks r.event.hazard row.event.hazard) (overlaps r.period row.period)) rows
+
+live_twice : (left live here rank over : Bool) → (live && (left && (((here && live) && rank) && over))) ≡ (left && (((here && live) && rank) && over))
+live_twice left true here rank over = refl
+live_twice true false true rank over = refl
+live_twice true false false rank over = refl
+live_twice false false here rank over = refl
+
+among_live : (t : ℕ) (ps : List Placed) (row : Row) (rows : List Row) → list_any (overlays t row) (filter (is_left ps) (shown_at t rows)) ≡ list_any (overlays t row) (filter (is_left ps) rows)
+among_live t ps row rows =
+    any_of_filter (is_left ps) (overlays t row) (shown_at t rows)
+    ∙ any_of_filter (is_live t) (λ (r : Row). is_left ps r && overlays t row r) rows
+    ∙ any_same (λ (r : Row). is_live t r && (is_left ps r && overlays t row r)) (λ (r : Row). is_left ps r && overlays t row r)
+    (λ r. live_twice (is_left ps r) (is_live t r) (same_zone r.zone row.zone) (outranks r.event.hazard row.event.hazard) (overlaps r.period row.period)) rows
+    ∙ sym (any_of_filter (is_left ps) (overlays t row) rows)
+
+-- a row is overlaid where one that is left in its zone overlays it
+pub overlaid_in_zone : (s : Sending) (row : Row) (zones : Zones) → zones ≡ add_rows [] (live_left s) → list_any (overlays s.minute row) (rows_in zones row.zone) ≡ is_overlaid s.rows s.minute s.intents row
+overlaid_in_zone s row zones is =
+    let left = filter (is_left s.intents) (shown_at s.minute s.rows) in
+    let puts = rows_by_puts s.rows s.minute s.intents in
+    ap (λ (zs : Zones). list_any (overlays s.minute row) (rows_in zs row.zone)) is
+    ∙ ap (list_any (overlays s.minute row)) (rows_added [] (live_left s) row.zone)
+    ∙ in_its_zone s.minute row (live_left s)
+    ∙ list_any-append (overlays s.minute row) left puts
+    ∙ ap (λ b. b || list_any (overlays s.minute row) puts) (among_live s.minute s.intents row s.rows)
+    ∙ sym (list_any-append (overlays s.minute row) (filter (is_left s.intents) s.rows) puts)

@@ -1,0 +1,217 @@
+//! A draft that is sent at a minute, and which rows are overlaid after it: another row that it leaves live is of a higher rank of the family and overlaps them.
+ghost use Rattle.std.specs.Prelude.{◌≡◌, [], map, filter, IfOk, OnOk};
+ghost use Rattle.std.specs.List.{list_any};
+ghost use Rattle.event_life.specs.Higher.{outranks};
+ghost use Rattle.event_life.specs.Shown.{shown_at};
+ghost use Rattle.action_planner.specs.Lines.{is_left, row_by_put, rows_by_intent, overlays, is_overlaid};
+ghost use Rattle.action_planner.specs.Sending.{Sending as Sent, rows_in, add_row, add_rows, add_by_puts, live_left};
+
+use crate::placed::Placed;
+use crate::puts::row_by_put;
+use crate::spoken::Spoken;
+use event_life::{is_live, overlaps};
+use hazard_board::Board;
+use hazard_types::desk_hazards::facts;
+use hazard_types::{Event, Hazard, Intent, List, Minute, Oom, PutPart, Row, Zone};
+use std::alloc::Global;
+use std::collections::BTreeMap;
+use std::marker::Model;
+
+/// The rows of each zone.
+type Zones = BTreeMap<Zone, List<Row>>;
+
+/// A draft that is sent at a minute, over a board. A clause sees the rows of the board, the minute and the intents.
+#[derive(Drop)]
+pub struct Sending<'a> {
+    board: &'a Board,
+    minute: Minute,
+    spoken: &'a Spoken<'a>,
+    live: Zones,
+}
+
+impl<'a> Model for Sending<'a> {
+    ghost use Rattle.std.specs.Prelude.{◌≡◌, []};
+    ghost use Rattle.action_planner.specs.Sending.{Sending as Sent, add_rows, live_left};
+
+    ghost Value = { Sent };
+
+    ghost view = { λ s. record { rows = s.board.now.rows; minute = s.minute; intents = s.spoken.now } };
+
+    ghost invariant = { λ s. s.live.entries ≡ add_rows [] (live_left (record { rows = s.board.now.rows; minute = s.minute; intents = s.spoken.now })) };
+}
+
+/// Whether the first hazard is of a higher rank of the second's family.
+fn outranks(high: &Hazard, low: &Hazard) -> bool
+    ensures { result ≡ outranks high.now low.now }
+{
+    let (Some(above), Some(below)) = (facts(*high), facts(*low)) else {
+        return false;
+    };
+    let (Some((family, rank)), Some((other, least))) = (&above.family, &below.family) else {
+        return false;
+    };
+    *family == *other && *least < *rank
+}
+
+/// Whether another row is live in the zone of a row, of a higher rank of its family, and overlaps it.
+fn overlays(t: Minute, row: &Row, other: &Row) -> bool
+    ensures { result ≡ overlays t row.now other.now }
+{
+    other.zone == row.zone
+        && is_live(other, t)
+        && outranks(&other.event.hazard, &row.event.hazard)
+        && overlaps(&other.period, &row.period)
+}
+
+/// Whether one of the other rows overlays a row.
+fn any_overlays(t: Minute, row: &Row, others: &[Row]) -> bool
+    ensures { result ≡ list_any (overlays t row.now) others.now }
+{
+    others.iter().any(|other| overlays(t, row, other))
+}
+
+/// The rows of a zone.
+fn rows_in<'a>(zones: &'a Zones, zone: &Zone) -> &'a [Row]
+    ensures { result.now ≡ rows_in zones.now.entries zone.now }
+{
+    match zones.get(zone) {
+        Some(rows) => rows.as_slice(),
+        None => &[],
+    }
+}
+
+/// Adds a row behind those of its zone.
+fn add_row(alloc: Global, zones: &mut Zones, row: &Row) -> Result<(), Oom>
+    ensures { OnOk result (zones.new.entries ≡ add_row zones.old.entries row.now) }
+{
+    let rows = zones.entry(row.zone)?.or_insert(List::new(alloc));
+    rows.extend(&[*row])
+}
+
+/// Whether no put and no finish is on the row.
+fn is_left(spoken: &Spoken, row: &Row) -> bool
+    ensures { result ≡ is_left spoken.now row.now }
+{
+    !spoken.is_taken(&row.event, &row.zone)
+}
+
+/// Adds those of some rows on which no put and no finish is.
+fn add_left(alloc: Global, zones: &mut Zones, spoken: &Spoken, rows: &[Row]) -> Result<(), Oom>
+    ensures { OnOk result (zones.new.entries ≡ add_rows zones.old.entries (filter (is_left spoken.now) rows.now)) }
+{
+    for row in rows {
+        if is_left(spoken, row) {
+            add_row(alloc, zones, row)?;
+        }
+    }
+    Ok(())
+}
+
+/// Adds the rows that a put leaves.
+fn add_put(
+    alloc: Global,
+    zones: &mut Zones,
+    board: &Board,
+    t: Minute,
+    event: &Event,
+    part: &PutPart,
+) -> Result<(), Oom>
+    ensures { OnOk result (zones.new.entries ≡ add_rows zones.old.entries (map (row_by_put board.now.rows t event.now part.now) part.now.zones)) }
+{
+    for zone in part.zones.as_slice() {
+        add_row(alloc, zones, &row_by_put(board, t, event, part, zone))?;
+    }
+    Ok(())
+}
+
+/// Adds the rows that an intent leaves by a put.
+fn add_rows_by(
+    alloc: Global,
+    zones: &mut Zones,
+    board: &Board,
+    t: Minute,
+    p: &Placed,
+) -> Result<(), Oom>
+    ensures { OnOk result (zones.new.entries ≡ add_rows zones.old.entries (rows_by_intent board.now.rows t p.now p.now.intent)) }
+{
+    match p.intent {
+        Intent::Put(part) => add_put(alloc, zones, board, t, &p.event, part),
+        Intent::Finish(_) | Intent::Restate(_) | Intent::Routine(_) => Ok(()),
+    }
+}
+
+/// Adds the rows that the intents leave by puts.
+fn add_by_puts(
+    alloc: Global,
+    zones: &mut Zones,
+    board: &Board,
+    t: Minute,
+    ps: &[Placed],
+) -> Result<(), Oom>
+    ensures { OnOk result (zones.new.entries ≡ add_by_puts zones.old.entries board.now.rows t ps.now) }
+{
+    for p in ps {
+        add_rows_by(alloc, zones, board, t, p)?;
+    }
+    Ok(())
+}
+
+/// The live rows that the draft leaves, by their zones.
+#[tactic(auto, using(crate::proofs::SendingLemmas::all_added))]
+fn live_left(alloc: Global, board: &Board, t: Minute, spoken: &Spoken) -> Result<Zones, Oom>
+    ensures { IfOk result (λ zones. zones.entries ≡ add_rows [] (live_left (record { rows = board.now.rows; minute = t; intents = spoken.now }))) }
+{
+    let mut zones = BTreeMap::new(alloc);
+    let shown = board.shown(alloc, t)?;
+    add_left(alloc, &mut zones, spoken, shown.as_slice())?;
+    add_by_puts(alloc, &mut zones, board, t, spoken.intents())?;
+    Ok(zones)
+}
+
+impl<'a> Sending<'a> {
+    /// A draft of these intents, sent at a minute over a board. The error is want of memory.
+    pub fn new(
+        alloc: Global,
+        board: &'a Board,
+        minute: Minute,
+        spoken: &'a Spoken<'a>,
+    ) -> Result<Self, Oom>
+        ensures { IfOk result (λ sending. sending ≡ record { rows = board.now.rows; minute = minute; intents = spoken.now }) }
+    {
+        let live = live_left(alloc, board, minute, spoken)?;
+        Ok(Sending {
+            board,
+            minute,
+            spoken,
+            live,
+        })
+    }
+
+    /// The board before the product.
+    pub fn board(&self) -> &'a Board
+        ensures { result.now.rows ≡ self.now.rows }
+    {
+        self.board
+    }
+
+    /// The minute of issue.
+    pub fn minute(&self) -> Minute
+        ensures { result ≡ self.now.minute }
+    {
+        self.minute
+    }
+
+    /// The intents, with look-ups over them.
+    pub fn spoken(&self) -> &'a Spoken<'a>
+        ensures { result.now ≡ self.now.intents }
+    {
+        self.spoken
+    }
+
+    /// Whether a row of a higher rank of the family is live after the draft, and overlaps this one in its zone.
+    pub fn is_overlaid(&self, row: &Row) -> bool
+        ensures { result ≡ is_overlaid self.now.rows self.now.minute self.now.intents row.now }
+    {
+        any_overlays(self.minute, row, rows_in(&self.live, &row.zone))
+    }
+}

@@ -1,0 +1,207 @@
+//! Look-ups over the intents of a draft: which of them are on an event in a zone, and which zones they touch. They are made once, and asked often.
+ghost use Rattle.std.specs.Prelude.{◌≡◌, ◌&&◌, ◌==◌, not, ℕ, [], is_some, IfOk, OnOk};
+ghost use Rattle.std.specs.List.{list_any};
+ghost use Rattle.action_planner.specs.Lines.{puts_or_finishes};
+ghost use Rattle.action_planner.specs.Offences.{is_shared};
+ghost use Rattle.action_planner.specs.Placed.{zones_of, touches, speaks};
+ghost use Rattle.action_planner.specs.Spoken.{speakers_with, add_spot, add_spots, spots_from, add_zones, zones_from, is_taken, has_other};
+
+use crate::placed::{Placed, zones_of};
+use hazard_types::{Event, Intent, Oom, Zone};
+use std::alloc::Global;
+use std::collections::{BTreeMap, BTreeSet};
+use std::marker::Model;
+
+/// An event in a zone.
+#[derive(Clone, Copy, PartialEq, Eq, PartialOrd, Ord)]
+pub struct Spot {
+    pub event: Event,
+    pub zone: Zone,
+}
+
+/// The intents that are on an event in a zone.
+#[derive(Clone, Copy)]
+pub struct Speakers {
+    /// The place of the first of them.
+    pub first: usize,
+    /// Whether one of them is at another place.
+    pub others: bool,
+    /// Whether one of them is a put or a finish.
+    pub taken: bool,
+}
+
+/// The intents of a draft, with look-ups over them. A clause sees the list of the intents.
+#[derive(Drop)]
+pub struct Spoken<'a> {
+    ps: &'a [Placed<'a>],
+    spots: BTreeMap<Spot, Speakers>,
+    zones: BTreeSet<Zone>,
+}
+
+impl<'a> Model for Spoken<'a> {
+    ghost use Rattle.std.specs.Prelude.{List};
+    ghost use Rattle.action_planner.specs.Placed.{Placed as PlacedIntent};
+    ghost use Rattle.action_planner.specs.Spoken.{IsIndex};
+
+    ghost Value = { List PlacedIntent };
+
+    ghost view = { λ s. s.ps.now };
+
+    ghost invariant = { λ s. IsIndex s.ps.now s.spots.entries s.zones.keys };
+}
+
+/// Whether the intent is a put or a finish.
+fn puts_or_finishes(intent: &Intent) -> bool
+    ensures { result ≡ puts_or_finishes intent.now }
+{
+    match intent {
+        Intent::Put(_) | Intent::Finish(_) => true,
+        Intent::Restate(_) | Intent::Routine(_) => false,
+    }
+}
+
+/// Those that are on a spot, and one more.
+fn speakers_with(held: Option<Speakers>, p: &Placed) -> Speakers
+    ensures { result ≡ speakers_with held p.now }
+{
+    let taken = puts_or_finishes(p.intent);
+    match held {
+        None => Speakers {
+            first: p.place,
+            others: false,
+            taken,
+        },
+        Some(held) => Speakers {
+            first: held.first,
+            others: held.others || held.first != p.place,
+            taken: held.taken || taken,
+        },
+    }
+}
+
+/// Whether one of those on a spot is at another place than this.
+fn has_other(held: Option<Speakers>, place: usize) -> bool
+    ensures { result ≡ has_other place held }
+{
+    match held {
+        Some(held) => held.first != place || held.others,
+        None => false,
+    }
+}
+
+/// Adds an intent to those on its event in a zone.
+fn add_spot(spots: &mut BTreeMap<Spot, Speakers>, p: &Placed, zone: &Zone) -> Result<(), Oom>
+    ensures { OnOk result (spots.new.entries ≡ add_spot spots.old.entries p.now zone.now) }
+{
+    let spot = Spot {
+        event: p.event,
+        zone: *zone,
+    };
+    let speakers = speakers_with(spots.get(&spot).copied(), p);
+    spots.insert(spot, speakers)?;
+    Ok(())
+}
+
+/// Adds an intent to those on its event in each of its zones.
+fn add_spots(spots: &mut BTreeMap<Spot, Speakers>, p: &Placed) -> Result<(), Oom>
+    ensures { OnOk result (spots.new.entries ≡ add_spots spots.old.entries p.now (zones_of p.now.intent)) }
+{
+    for zone in zones_of(p.intent) {
+        add_spot(spots, p, zone)?;
+    }
+    Ok(())
+}
+
+/// Each event in a zone that is spoken of, with the intents on it.
+fn spots_of(alloc: Global, ps: &[Placed]) -> Result<BTreeMap<Spot, Speakers>, Oom>
+    ensures { IfOk result (λ spots. spots.entries ≡ spots_from [] ps.now) }
+{
+    let mut spots = BTreeMap::new(alloc);
+    for p in ps {
+        add_spots(&mut spots, p)?;
+    }
+    Ok(spots)
+}
+
+/// Adds zones.
+fn add_zones(held: &mut BTreeSet<Zone>, zones: &[Zone]) -> Result<(), Oom>
+    ensures { OnOk result (held.new.keys ≡ add_zones held.old.keys zones.now) }
+{
+    for zone in zones {
+        held.insert(*zone)?;
+    }
+    Ok(())
+}
+
+/// The zones that are touched.
+fn zones_touched(alloc: Global, ps: &[Placed]) -> Result<BTreeSet<Zone>, Oom>
+    ensures { IfOk result (λ zones. zones.keys ≡ zones_from [] ps.now) }
+{
+    let mut zones = BTreeSet::new(alloc);
+    for p in ps {
+        add_zones(&mut zones, zones_of(p.intent))?;
+    }
+    Ok(zones)
+}
+
+impl<'a> Spoken<'a> {
+    /// The look-ups over these intents. The error is want of memory.
+    pub fn new(alloc: Global, ps: &'a [Placed<'a>]) -> Result<Self, Oom>
+        ensures { IfOk result (λ spoken. spoken ≡ ps.now) }
+    {
+        let spots = spots_of(alloc, ps)?;
+        let zones = zones_touched(alloc, ps)?;
+        Ok(Spoken { ps, spots, zones })
+    }
+
+    /// The intents.
+    pub fn intents(&self) -> &'a [Placed<'a>]
+        ensures { result.now ≡ self.now }
+    {
+        self.ps
+    }
+
+    /// Those that are on the event in the zone.
+    fn speakers(&self, event: &Event, zone: &Zone) -> Option<Speakers>
+        ensures spoken { is_some result ≡ list_any (speaks event.now zone.now) self.now }
+        ensures taken { is_taken result ≡ list_any (λ p. puts_or_finishes p.intent && speaks event.now zone.now p) self.now }
+        ensures others { (n : ℕ) → has_other n result ≡ list_any (λ p. not (p.place == n) && speaks event.now zone.now p) self.now }
+    {
+        let spot = Spot {
+            event: *event,
+            zone: *zone,
+        };
+        self.spots.get(&spot).copied()
+    }
+
+    /// Whether one of the intents is on the event in the zone.
+    pub fn speaks(&self, event: &Event, zone: &Zone) -> bool
+        ensures { result ≡ list_any (speaks event.now zone.now) self.now }
+    {
+        self.speakers(event, zone).is_some()
+    }
+
+    /// Whether a put or a finish is on the event in the zone.
+    pub fn is_taken(&self, event: &Event, zone: &Zone) -> bool
+        ensures { result ≡ list_any (λ p. puts_or_finishes p.intent && speaks event.now zone.now p) self.now }
+    {
+        match self.speakers(event, zone) {
+            Some(speakers) => speakers.taken,
+            None => false,
+        }
+    }
+
+    /// Whether another intent is on the event of this one in the zone.
+    pub fn is_shared(&self, p: &Placed, zone: &Zone) -> bool
+        ensures { result ≡ is_shared self.now p.now zone.now }
+    {
+        has_other(self.speakers(&p.event, zone), p.place)
+    }
+
+    /// Whether one of the intents is in the zone.
+    pub fn touches(&self, zone: &Zone) -> bool
+        ensures { result ≡ list_any (touches zone.now) self.now }
+    {
+        self.zones.contains(zone)
+    }
+}
