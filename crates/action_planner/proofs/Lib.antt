@@ -3,3 +3,4 @@ pub mod GoingLemmas
 pub mod OverlayLemmas
 pub mod RulesLemmas
 pub mod TextLemmas
+pub mod WorkedLemmas

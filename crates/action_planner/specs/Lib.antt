@@ -5,3 +5,4 @@ pub mod Offences
 pub mod Rules
 pub mod Texts
 pub mod Plans
+pub mod WorkedDays

@@ -12,3 +12,6 @@ mod texts;
 mod zone_rules;
 
 pub use planning::plan;
+
+#[cfg(test)]
+mod tests;
