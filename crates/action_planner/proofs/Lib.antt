@@ -19,3 +19,4 @@ pub mod SendingLemmas
 pub mod SpokenLemmas
 pub mod TextLemmas
 pub mod PlanLemmas
+pub mod WorkedLemmas

@@ -22,3 +22,5 @@ pub use planning::plan;
 
 #[cfg(test)]
 mod spoken_tests;
+#[cfg(test)]
+mod tests;

@@ -1,7 +1,10 @@
 //! Look-ups over two intents that share a zone.
-use crate::placed::Placed;
+ghost use Rattle.std.specs.Prelude.{◌≤◌, length, IfOk};
+
+use crate::placed::place_all;
 use crate::spoken::Spoken;
-use hazard_types::{Event, EventPart, Hazard, Intent, Kind, List, Phen, Sig, Texts, Zone};
+use event_numbers::Numbers;
+use hazard_types::{Event, EventPart, Hazard, Intent, Kind, List, Minute, Phen, Sig, Texts, Zone};
 use std::alloc::Global;
 use std::test::Fail;
 
@@ -36,39 +39,43 @@ fn part_in(alloc: Global, event: &Event, first: u16, second: u16) -> Result<Even
     })
 }
 
+/// A restate in MDZ003 and MDZ004, and a finish in MDZ004 and MDZ005.
+fn draft(alloc: Global, event: &Event) -> Result<List<Intent>, Fail>
+    ensures { IfOk result (λ intents. length intents ≤ 64) }
+{
+    let mut intents = List::new(alloc);
+    intents.push(Intent::Restate(part_in(alloc, event, 3, 4)?))?;
+    intents.push(Intent::Finish(part_in(alloc, event, 4, 5)?))?;
+    Ok(intents)
+}
+
+/// How many of the intents find another on their event in a zone.
+fn shared_in(spoken: &Spoken, number: u16) -> Result<usize, Fail> {
+    let zone = &maryland(number)?;
+    let count = spoken
+        .intents()
+        .iter()
+        .filter(|p| spoken.is_shared(p, zone))
+        .count();
+    Ok(count)
+}
+
 #[test]
 fn two_intents_share_a_zone(rt: HostRuntime) -> Result<(), Fail> {
     let alloc = rt.alloc();
-    let (event, other) = (&fog(1)?, &fog(2)?);
-    let restate = Intent::Restate(part_in(alloc, event, 3, 4)?);
-    let finish = Intent::Finish(part_in(alloc, event, 4, 5)?);
-    let ps = [
-        Placed {
-            place: 0,
-            event: *event,
-            intent: &restate,
-        },
-        Placed {
-            place: 1,
-            event: *event,
-            intent: &finish,
-        },
-    ];
-    let spoken = Spoken::new(alloc, &ps)?;
-    // the zone, whether another than the first or than the second is on the event there, and whether the finish is
-    for (zone, first, second, taken) in [
-        (3, false, true, false),
-        (4, true, true, true),
-        (5, true, false, true),
-    ] {
-        let zone = &maryland(zone)?;
-        assert!(rt; spoken.touches(zone));
-        assert!(rt; spoken.speaks(event, zone));
-        assert!(rt; !spoken.speaks(other, zone));
-        assert_eq!(rt; spoken.is_shared(&ps[0], zone), first);
-        assert_eq!(rt; spoken.is_shared(&ps[1], zone), second);
-        assert_eq!(rt; spoken.is_taken(event, zone), taken);
-    }
+    let event = &fog(1)?;
+    let intents = draft(alloc, event)?;
+    let t = Minute::new(9_471_600).ok_or("a minute")?;
+    let ps = place_all(alloc, &Numbers::new(alloc), intents.as_slice(), t)?;
+    let spoken = &Spoken::new(alloc, &ps)?;
+    assert!(rt; spoken.speaks(event, &maryland(3)?));
+    assert!(rt; !spoken.speaks(&fog(2)?, &maryland(3)?));
+    assert!(rt; !spoken.is_taken(event, &maryland(3)?));
+    assert!(rt; spoken.is_taken(event, &maryland(4)?));
+    assert!(rt; spoken.touches(&maryland(5)?));
     assert!(rt; !spoken.touches(&maryland(6)?));
+    assert_eq!(rt; shared_in(spoken, 3)?, 1);
+    assert_eq!(rt; shared_in(spoken, 4)?, 2);
+    assert_eq!(rt; shared_in(spoken, 6)?, 0);
     Ok(())
 }
