@@ -18,8 +18,9 @@ use Rattle.hazard_types.specs.declared.hazard.Hazard.{Hazard}
 use Rattle.hazard_types.specs.declared.line.Row.{Row}
 use Rattle.hazard_types.specs.contracts.hazard.HazardEq.TheImpl.Laws as hazard_laws
 use Rattle.hazard_types.specs.declared.period.Begin.{Begin}
+use Rattle.hazard_types.specs.declared.period.Begin.TheVariants as begin
 use Rattle.hazard_types.specs.declared.request.Intent.{Intent}
-use Rattle.hazard_types.specs.declared.request.Target.TheVariants.{Join}
+use Rattle.hazard_types.specs.declared.request.Target.TheVariants.{Fresh, Join}
 use Rattle.hazard_types.specs.declared.zone.Kind.TheVariants.{Z}
 use Rattle.event_life.specs.Openings.{is_numbered}
 use Rattle.event_life.specs.Table.{breach_of_line, life_after}
@@ -29,7 +30,7 @@ use Rattle.event_numbers.specs.Counts.{count_of}
 use Rattle.hazard_board.specs.Board.{are_lawful}
 use Rattle.hazard_board.specs.Consistent.{IsConsistent}
 use Rattle.action_planner.specs.Conditions.{AreOfKind, AreZones, AreNumbered, MayHold, CanPlan}
-use Rattle.action_planner.specs.WorkedDays.{maryland, snow, event, snow_lines, snow_rows, put_in, finish_in}
+use Rattle.action_planner.specs.WorkedDays.{maryland, snow, snow_watch, wintry, event, snow_lines, snow_rows, put_in, finish_in, watch_lines, watch_rows, watch_intents, ends_lines, ends_rows, ends_intents, wintry_lines, wintry_rows, wintry_intents}
 
 pub snow_lawful : are_lawful [] 9471480 snow_lines ≡ true
 unfolding breach_of_line life_after breach_in rows_after snow_lines
@@ -112,6 +113,110 @@ pub snow_ends : (rows : List Row) (counts : List Count) (t : ℕ) → rows ≡ s
 snow_ends rows counts t is count soon =
     snow_fits rows counts t (finish_in (event snow 1 2018) (3 ∷ [])) is count soon
     (((zonal_facts Wsw Winter 3, snow_facts, refl), of_kind snow (zonal_facts Wsw Winter 3) snow_facts refl (3 ∷ [])), one_zone 3)
+
+-- other days
+
+never : (b : Bool) → b ≡ false → b ≡ true → ⊥
+never b is is_not = cc
+
+or_twice : (b : Bool) → (b || (b || false)) ≡ b
+or_twice true = refl
+or_twice false = refl
+
+watch_facts : facts_of snow_watch ≡ Some (zonal_facts Wsw Winter 1)
+unfolding facts_of fact_rows desk_hazards
+watch_facts = refl
+
+abbrev pub AreCounted : List Count → List Event → Type 0
+AreCounted counts events = (g : Hazard) (y : ℕ) → count_of counts g y ≡ count_by (is_numbered g y) events
+
+-- what is planned on these rows, where the numbers are those of one event
+planned_on : (rows : List Row) (counts : List Count) (h : Hazard) (c : Category) (intents : List Intent) (t : ℕ) → IsConsistent rows t → ((e : Event) → has_rows rows e ≡ same_event (event h 1 2018) e) →
+    AreCounted counts (event h 1 2018 ∷ []) → length intents ≤ 64 → AllByRecursion (MayHold c) intents → t ≤ 52000000 → CanPlan rows counts c intents t
+planned_on rows counts h c intents t consistent has counted few fitting soon = record {
+  few = few;
+  fitting = All-from_recursion (MayHold c) intents fitting;
+  consistent = consistent;
+  numbered = numbered_once h 2018 rows counts has counted;
+  minute = soon;
+}
+
+-- a warning of snow is put into MDZ003
+snow_opens : (begin : Begin) (end : ℕ) → MayHold Wsw (put_in (Fresh snow) (3 ∷ []) begin end)
+snow_opens begin end = (((zonal_facts Wsw Winter 3, snow_facts, refl), of_kind snow (zonal_facts Wsw Winter 3) snow_facts refl (3 ∷ [])), one_zone 3)
+
+pub watch_lawful : are_lawful [] 9471480 watch_lines ≡ true
+unfolding breach_of_line life_after breach_in rows_after watch_lines
+watch_lawful = refl
+
+watch_after : rows_after [] 9471480 watch_lines ≡ watch_rows
+unfolding breach_of_line life_after breach_in rows_after watch_lines
+watch_after = refl
+
+watch_consistent : (t : ℕ) → IsConsistent watch_rows t
+watch_consistent t = record { apart = ((never false refl, tt), (tt, tt)); numbered = (((λ same. refl), tt), (tt, tt)); ends = (refl, (refl, tt)) }
+
+watch_fitting : AllByRecursion (MayHold Wsw) watch_intents
+unfolding watch_intents
+watch_fitting = (
+  snow_opens (begin.At 9472320) 9473040,
+  ((((zonal_facts Wsw Winter 1, watch_facts, refl), of_kind snow_watch (zonal_facts Wsw Winter 1) watch_facts refl (3 ∷ 4 ∷ [])), two_zones 3 4 refl), tt),
+)
+
+watch_few : length watch_intents ≤ 64
+unfolding watch_intents
+watch_few = omega arith
+
+pub watch_fits : (counts : List Count) → AreCounted counts (event snow_watch 1 2018 ∷ []) → CanPlan (rows_after [] 9471480 watch_lines) counts Wsw watch_intents 9471810
+watch_fits counts counted = rw watch_after
+    (planned_on watch_rows counts snow_watch Wsw watch_intents 9471810 (watch_consistent 9471810) (λ e. or_twice (same_event (event snow_watch 1 2018) e)) counted watch_few watch_fitting (omega arith))
+
+pub ends_lawful : are_lawful [] 9471480 ends_lines ≡ true
+unfolding breach_of_line life_after breach_in rows_after ends_lines
+ends_lawful = refl
+
+ends_after : rows_after [] 9471480 ends_lines ≡ ends_rows
+unfolding breach_of_line life_after breach_in rows_after ends_lines
+ends_after = refl
+
+ends_consistent : (t : ℕ) → IsConsistent ends_rows t
+ends_consistent t = record { apart = ((never false refl, tt), (tt, tt)); numbered = (((λ same. refl), tt), (tt, tt)); ends = (refl, (refl, tt)) }
+
+ends_fitting : AllByRecursion (MayHold Wsw) ends_intents
+unfolding ends_intents
+ends_fitting = ((((zonal_facts Wsw Winter 3, snow_facts, refl), of_kind snow (zonal_facts Wsw Winter 3) snow_facts refl (3 ∷ [])), one_zone 3), tt)
+
+ends_few : length ends_intents ≤ 64
+unfolding ends_intents
+ends_few = omega arith
+
+pub ends_fits : (counts : List Count) (t : ℕ) → t ≤ 52000000 → AreCounted counts (event snow 1 2018 ∷ []) → CanPlan (rows_after [] 9471480 ends_lines) counts Wsw ends_intents t
+ends_fits counts t soon counted = rw ends_after
+    (planned_on ends_rows counts snow Wsw ends_intents t (ends_consistent t) (λ e. or_twice (same_event (event snow 1 2018) e)) counted ends_few ends_fitting soon)
+
+pub lone_fits : (counts : List Count) (t : ℕ) → t ≤ 52000000 → AreCounted counts (event snow 1 2018 ∷ []) → CanPlan (rows_after [] 9471480 snow_lines) counts Wsw ends_intents t
+lone_fits counts t soon counted = rw snow_after
+    (planned_on snow_rows counts snow Wsw ends_intents t (snow_consistent t) (λ e. or_false (same_event (event snow 1 2018) e)) counted ends_few ends_fitting soon)
+
+pub wintry_lawful : are_lawful [] 9471480 wintry_lines ≡ true
+unfolding breach_of_line life_after breach_in rows_after wintry_lines
+wintry_lawful = refl
+
+wintry_after : rows_after [] 9471480 wintry_lines ≡ wintry_rows
+unfolding breach_of_line life_after breach_in rows_after wintry_lines
+wintry_after = refl
+
+wintry_fitting : AllByRecursion (MayHold Wsw) wintry_intents
+unfolding wintry_intents
+wintry_fitting = (snow_opens begin.Now 9471780, tt)
+
+wintry_few : length wintry_intents ≤ 64
+unfolding wintry_intents
+wintry_few = omega arith
+
+pub wintry_fits : (counts : List Count) → AreCounted counts (event wintry 1 2018 ∷ []) → CanPlan (rows_after [] 9471480 wintry_lines) counts Wsw wintry_intents 9471600
+wintry_fits counts counted = rw wintry_after
+    (planned_on wintry_rows counts wintry Wsw wintry_intents 9471600 (record { apart = (tt, tt); numbered = (tt, tt); ends = (refl, tt) }) (λ e. or_false (same_event (event wintry 1 2018) e)) counted wintry_few wintry_fitting (omega arith))
 
 -- numbers drawn one after another
 

@@ -8,10 +8,12 @@ use Rattle.hazard_types.specs.declared.hazard.Sig.TheVariants.{W, A, Y}
 use Rattle.hazard_types.specs.declared.line.Line.{Line}
 use Rattle.hazard_types.specs.declared.line.Row.{Row}
 use Rattle.hazard_types.specs.declared.period.Begin.{Begin}
+use Rattle.hazard_types.specs.declared.period.Begin.TheVariants as begin
 use Rattle.hazard_types.specs.declared.period.End.TheVariants.{At}
 use Rattle.hazard_types.specs.declared.request.Intent.{Intent}
 use Rattle.hazard_types.specs.declared.request.Intent.TheVariants.{Put, Finish, Restate}
 use Rattle.hazard_types.specs.declared.request.Target.{Target}
+use Rattle.hazard_types.specs.declared.request.Target.TheVariants.{Fresh, Join}
 use Rattle.hazard_types.specs.declared.zone.Kind.TheVariants.{Z}
 use Rattle.action_planner.specs.Texts.{no_texts}
 
@@ -59,3 +61,40 @@ snow_lines = opening (event snow 1 2018) 3 9471480 9471780 ∷ []
 
 abbrev pub snow_rows : List Row
 snow_rows = row (event snow 1 2018) 3 9471480 9471780 ∷ []
+
+-- no row
+unfoldable pub no_lines : List Line
+no_lines = []
+
+-- WS.A.0001.2018 in MDZ003 and MDZ004, 180104T0000Z to 1200Z
+unfoldable pub watch_lines : List Line
+watch_lines = opening (event snow_watch 1 2018) 3 9472320 9473040 ∷ opening (event snow_watch 1 2018) 4 9472320 9473040 ∷ []
+
+abbrev pub watch_rows : List Row
+watch_rows = row (event snow_watch 1 2018) 3 9472320 9473040 ∷ row (event snow_watch 1 2018) 4 9472320 9473040 ∷ []
+
+-- a warning in one of its zones, and its end in both
+unfoldable pub watch_intents : List Intent
+watch_intents = put_in (Fresh snow) (3 ∷ []) (begin.At 9472320) 9473040 ∷ finish_in (event snow_watch 1 2018) (3 ∷ 4 ∷ []) ∷ []
+
+-- WS.W.0001.2018 from 180103T1000Z, in MDZ003 to 1500Z, in MDZ004 to 1800Z
+unfoldable pub ends_lines : List Line
+ends_lines = opening (event snow 1 2018) 3 9471480 9471780 ∷ opening (event snow 1 2018) 4 9471480 9471960 ∷ []
+
+abbrev pub ends_rows : List Row
+ends_rows = row (event snow 1 2018) 3 9471480 9471780 ∷ row (event snow 1 2018) 4 9471480 9471960 ∷ []
+
+-- its end in MDZ003
+unfoldable pub ends_intents : List Intent
+ends_intents = finish_in (event snow 1 2018) (3 ∷ []) ∷ []
+
+-- WW.Y.0001.2018 in MDZ003, 180103T1000Z to 1500Z
+unfoldable pub wintry_lines : List Line
+wintry_lines = opening (event wintry 1 2018) 3 9471480 9471780 ∷ []
+
+abbrev pub wintry_rows : List Row
+wintry_rows = row (event wintry 1 2018) 3 9471480 9471780 ∷ []
+
+-- a warning over it, from now
+unfoldable pub wintry_intents : List Intent
+wintry_intents = put_in (Fresh snow) (3 ∷ []) begin.Now 9471780 ∷ []
