@@ -1,7 +1,8 @@
 //! Look-ups over two intents that share a zone.
-use crate::placed::Placed;
+use crate::placed::place_all;
 use crate::spoken::Spoken;
-use hazard_types::{Event, EventPart, Hazard, Intent, Kind, List, Phen, Sig, Texts, Zone};
+use event_numbers::Numbers;
+use hazard_types::{Event, EventPart, Hazard, Intent, Kind, List, Minute, Phen, Sig, Texts, Zone};
 use std::alloc::Global;
 use std::test::Fail;
 
@@ -40,23 +41,17 @@ fn part_in(alloc: Global, event: &Event, first: u16, second: u16) -> Result<Even
 fn two_intents_share_a_zone(rt: HostRuntime) -> Result<(), Fail> {
     let alloc = rt.alloc();
     let (event, other) = (&fog(1)?, &fog(2)?);
-    let restate = Intent::Restate(part_in(alloc, event, 3, 4)?);
-    let finish = Intent::Finish(part_in(alloc, event, 4, 5)?);
-    let ps = [
-        Placed {
-            place: 0,
-            event: *event,
-            intent: &restate,
-        },
-        Placed {
-            place: 1,
-            event: *event,
-            intent: &finish,
-        },
+    let intents = [
+        Intent::Restate(part_in(alloc, event, 3, 4)?),
+        Intent::Finish(part_in(alloc, event, 4, 5)?),
     ];
+    let t = Minute::new(9_471_600).ok_or("a minute")?;
+    let ps = place_all(alloc, &Numbers::new(alloc), &intents, t)?;
+    let restate = ps.first().ok_or("a first intent")?;
+    let finish = ps.last().ok_or("a last intent")?;
     let spoken = Spoken::new(alloc, &ps)?;
-    // the zone, whether another than the first or than the second is on the event there, and whether the finish is
-    for (zone, first, second, taken) in [
+    // the zone, whether another intent than the restate, and than the finish, is on the event there, and whether the finish is
+    for (zone, beside_restate, beside_finish, taken) in [
         (3, false, true, false),
         (4, true, true, true),
         (5, true, false, true),
@@ -65,8 +60,8 @@ fn two_intents_share_a_zone(rt: HostRuntime) -> Result<(), Fail> {
         assert!(rt; spoken.touches(zone));
         assert!(rt; spoken.speaks(event, zone));
         assert!(rt; !spoken.speaks(other, zone));
-        assert_eq!(rt; spoken.is_shared(&ps[0], zone), first);
-        assert_eq!(rt; spoken.is_shared(&ps[1], zone), second);
+        assert_eq!(rt; spoken.is_shared(restate, zone), beside_restate);
+        assert_eq!(rt; spoken.is_shared(finish, zone), beside_finish);
         assert_eq!(rt; spoken.is_taken(event, zone), taken);
     }
     assert!(rt; !spoken.touches(&maryland(6)?));
