@@ -4,3 +4,4 @@ pub mod RulesLemmas
 pub mod SendingLemmas
 pub mod SpokenLemmas
 pub mod TextLemmas
+pub mod WorkedLemmas

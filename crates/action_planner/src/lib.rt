@@ -16,3 +16,5 @@ pub use planning::plan;
 
 #[cfg(test)]
 mod spoken_tests;
+#[cfg(test)]
+mod tests;

@@ -1,4 +1,6 @@
 //! Look-ups over two intents that share a zone.
+ghost use Rattle.std.specs.Prelude.{◌≤◌, length, IfOk};
+
 use crate::placed::place_all;
 use crate::spoken::Spoken;
 use event_numbers::Numbers;
@@ -37,33 +39,43 @@ fn part_in(alloc: Global, event: &Event, first: u16, second: u16) -> Result<Even
     })
 }
 
+/// A restate in MDZ003 and MDZ004, and a finish in MDZ004 and MDZ005.
+fn draft(alloc: Global, event: &Event) -> Result<List<Intent>, Fail>
+    ensures { IfOk result (λ intents. length intents ≤ 64) }
+{
+    let mut intents = List::new(alloc);
+    intents.push(Intent::Restate(part_in(alloc, event, 3, 4)?))?;
+    intents.push(Intent::Finish(part_in(alloc, event, 4, 5)?))?;
+    Ok(intents)
+}
+
+/// How many of the intents find another on their event in a zone.
+fn shared_in(spoken: &Spoken, number: u16) -> Result<usize, Fail> {
+    let zone = &maryland(number)?;
+    let count = spoken
+        .intents()
+        .iter()
+        .filter(|p| spoken.is_shared(p, zone))
+        .count();
+    Ok(count)
+}
+
 #[test]
 fn two_intents_share_a_zone(rt: HostRuntime) -> Result<(), Fail> {
     let alloc = rt.alloc();
-    let (event, other) = (&fog(1)?, &fog(2)?);
-    let intents = [
-        Intent::Restate(part_in(alloc, event, 3, 4)?),
-        Intent::Finish(part_in(alloc, event, 4, 5)?),
-    ];
+    let event = &fog(1)?;
+    let intents = draft(alloc, event)?;
     let t = Minute::new(9_471_600).ok_or("a minute")?;
-    let ps = place_all(alloc, &Numbers::new(alloc), &intents, t)?;
-    let restate = ps.first().ok_or("a first intent")?;
-    let finish = ps.last().ok_or("a last intent")?;
-    let spoken = Spoken::new(alloc, &ps)?;
-    // the zone, whether another intent than the restate, and than the finish, is on the event there, and whether the finish is
-    for (zone, beside_restate, beside_finish, taken) in [
-        (3, false, true, false),
-        (4, true, true, true),
-        (5, true, false, true),
-    ] {
-        let zone = &maryland(zone)?;
-        assert!(rt; spoken.touches(zone));
-        assert!(rt; spoken.speaks(event, zone));
-        assert!(rt; !spoken.speaks(other, zone));
-        assert_eq!(rt; spoken.is_shared(restate, zone), beside_restate);
-        assert_eq!(rt; spoken.is_shared(finish, zone), beside_finish);
-        assert_eq!(rt; spoken.is_taken(event, zone), taken);
-    }
+    let ps = place_all(alloc, &Numbers::new(alloc), intents.as_slice(), t)?;
+    let spoken = &Spoken::new(alloc, &ps)?;
+    assert!(rt; spoken.speaks(event, &maryland(3)?));
+    assert!(rt; !spoken.speaks(&fog(2)?, &maryland(3)?));
+    assert!(rt; !spoken.is_taken(event, &maryland(3)?));
+    assert!(rt; spoken.is_taken(event, &maryland(4)?));
+    assert!(rt; spoken.touches(&maryland(5)?));
     assert!(rt; !spoken.touches(&maryland(6)?));
+    assert_eq!(rt; shared_in(spoken, 3)?, 1);
+    assert_eq!(rt; shared_in(spoken, 4)?, 2);
+    assert_eq!(rt; shared_in(spoken, 6)?, 0);
     Ok(())
 }

@@ -1,0 +1,137 @@
+-- What a plan is asked for holds on the worked days.
+use Rattle.std.proofs.Common.{◌≡◌, ◌∙◌, ◌==◌, ◌&&◌, ◌||◌, ◌+◌, ◌≤◌, ℕ, Bool, true, false, List, [], ◌∷◌, map, length, count_by, nat_le, Some, refl, sym, ap, arith, zero-add, take, get_or, ◌++◌, ◌<◌, length-take, if◌then◌else◌}
+use Rattle.std.specs.List.{AllByRecursion, IsDistinct}
+use Rattle.std.proofs.lemmas.Bool.Decides.{nat_tests}
+use Rattle.std.proofs.lemmas.List.{take_more}
+use Rattle.std.proofs.lemmas.List.Elements.{All-from_recursion}
+use Rattle.std.proofs.lemmas.List.Sums.{count_by-le-length, sum_by-append}
+use Rattle.hazard_types.specs.Hazards.{facts_of, fact_rows, desk_hazards}
+use Rattle.hazard_types.specs.Places.{Place}
+use Rattle.hazard_types.specs.Same.{same_hazard, same_event}
+use Rattle.hazard_types.specs.declared.codes.Category.{Category}
+use Rattle.hazard_types.specs.declared.codes.Category.TheVariants.{Wsw}
+use Rattle.hazard_types.specs.declared.codes.Family.{Family}
+use Rattle.hazard_types.specs.declared.codes.Family.TheVariants.{Winter}
+use Rattle.hazard_types.specs.declared.facts.Facts.{Facts}
+use Rattle.hazard_types.specs.declared.hazard.Event.{Event}
+use Rattle.hazard_types.specs.declared.hazard.Hazard.{Hazard}
+use Rattle.hazard_types.specs.declared.line.Row.{Row}
+use Rattle.hazard_types.specs.contracts.hazard.HazardEq.TheImpl.Laws as hazard_laws
+use Rattle.hazard_types.specs.declared.period.Begin.{Begin}
+use Rattle.hazard_types.specs.declared.request.Intent.{Intent}
+use Rattle.hazard_types.specs.declared.request.Target.TheVariants.{Join}
+use Rattle.hazard_types.specs.declared.zone.Kind.TheVariants.{Z}
+use Rattle.event_life.specs.Openings.{is_numbered}
+use Rattle.event_life.specs.Table.{breach_of_line, life_after}
+use Rattle.event_life.specs.Products.{breach_in, rows_after, has_rows}
+use Rattle.event_numbers.specs.declared.Count.{Count}
+use Rattle.event_numbers.specs.Counts.{count_of}
+use Rattle.hazard_board.specs.Board.{are_lawful}
+use Rattle.hazard_board.specs.Consistent.{IsConsistent}
+use Rattle.action_planner.specs.Conditions.{AreOfKind, AreZones, AreNumbered, MayHold, CanPlan}
+use Rattle.action_planner.specs.WorkedDays.{maryland, snow, event, snow_lines, snow_rows, put_in, finish_in}
+
+pub snow_lawful : are_lawful [] 9471480 snow_lines ≡ true
+unfolding breach_of_line life_after breach_in rows_after snow_lines
+snow_lawful = refl
+
+pub snow_after : rows_after [] 9471480 snow_lines ≡ snow_rows
+unfolding breach_of_line life_after breach_in rows_after snow_lines
+snow_after = refl
+
+-- zones of the hazard's kind
+
+some_same : {X : Type 0} (x y : X) → Some x ≡ Some y → x ≡ y
+some_same x y same = cc
+
+kinds_from : (f : Facts) → Z ≡ f.kind → (ns : List ℕ) → AllByRecursion (λ (z : Place). z.kind ≡ f.kind) (map maryland ns)
+kinds_from f same [] = tt
+kinds_from f same (n ∷ ns) = (same, kinds_from f same ns)
+
+of_kind : (h : Hazard) (g : Facts) → facts_of h ≡ Some g → g.kind ≡ Z → (ns : List ℕ) → AreOfKind h (map maryland ns)
+of_kind h g is kind ns f other =
+    let same : Z ≡ f.kind = sym kind ∙ ap (λ (x : Facts). x.kind) (some_same g f (sym is ∙ other)) in
+    All-from_recursion (λ (z : Place). z.kind ≡ f.kind) (map maryland ns) (kinds_from f same ns)
+
+pub one_zone : (n : ℕ) → AreZones (map maryland (n ∷ []))
+unfolding IsDistinct
+one_zone n = record { some = omega arith; few = omega arith; once = (tt, tt) }
+
+pub two_zones : (m n : ℕ) → (m == n) ≡ false → AreZones (map maryland (m ∷ n ∷ []))
+unfolding IsDistinct
+two_zones m n apart = record { some = omega arith; few = omega arith; once = ((apart, tt), (tt, tt)) }
+
+abbrev zonal_facts : Category → Family → ℕ → Facts
+zonal_facts c family rank = record { opens = c; follows = c; kind = Z; family = Some (family, rank); ufn = false; flood = false }
+
+snow_facts : facts_of snow ≡ Some (zonal_facts Wsw Winter 3)
+unfolding facts_of fact_rows desk_hazards
+snow_facts = refl
+
+-- the numbers of one event
+
+one_number : (a y : Bool) (n : ℕ) → (a && ((1 == n) && y)) ≡ (nat_le 1 n && nat_le n ((if a && y then 1 else 0)))
+one_number true true n = grind (arith, nat_tests)
+one_number true false n = grind (arith, nat_tests)
+one_number false y n = grind (arith, nat_tests)
+
+counted_one : {X : Type 0} (p : X → Bool) (x : X) → count_by p (x ∷ []) ≡ (if p x then 1 else 0)
+counted_one p x = zero-add (if p x then 1 else 0)
+
+numbered_once : (h : Hazard) (year : ℕ) (rows : List Row) (counts : List Count) → ((e : Event) → has_rows rows e ≡ same_event (event h 1 year) e) →
+    ((g : Hazard) (y : ℕ) → count_of counts g y ≡ count_by (is_numbered g y) (event h 1 year ∷ [])) → AreNumbered rows counts
+numbered_once h year rows counts has count e =
+    has e ∙ one_number (same_hazard h e.hazard) (year == e.year) e.etn ∙ ap (λ (n : ℕ). nat_le 1 e.etn && nat_le e.etn n) (sym (count e.hazard e.year ∙ counted_one (is_numbered e.hazard e.year) (event h 1 year)))
+
+snow_consistent : (t : ℕ) → IsConsistent snow_rows t
+snow_consistent t = record { apart = (tt, tt); numbered = (tt, tt); ends = (refl, tt) }
+
+or_false : (b : Bool) → (b || false) ≡ b
+or_false true = refl
+or_false false = refl
+
+-- a put that joins the snow, or its end, in these zones
+snow_fits : (rows : List Row) (counts : List Count) (t : ℕ) (i : Intent) → rows ≡ snow_rows → ((g : Hazard) (y : ℕ) → count_of counts g y ≡ count_by (is_numbered g y) (event snow 1 2018 ∷ [])) → t ≤ 52000000 →
+    MayHold Wsw i → CanPlan rows counts Wsw (i ∷ []) t
+snow_fits rows counts t i is count soon fits = rw is (record {
+  few = omega arith;
+  fitting = All-from_recursion (MayHold Wsw) (i ∷ []) (fits, tt);
+  consistent = snow_consistent t;
+  numbered = numbered_once snow 2018 snow_rows counts (λ e. or_false (same_event (event snow 1 2018) e)) count;
+  minute = soon;
+})
+
+pub snow_joins : (rows : List Row) (counts : List Count) (t end : ℕ) (begin : Begin) → rows ≡ snow_rows → ((g : Hazard) (y : ℕ) → count_of counts g y ≡ count_by (is_numbered g y) (event snow 1 2018 ∷ [])) → t ≤ 52000000 →
+    CanPlan rows counts Wsw (put_in (Join (event snow 1 2018)) (3 ∷ 4 ∷ []) begin end ∷ []) t
+snow_joins rows counts t end begin is count soon =
+    snow_fits rows counts t (put_in (Join (event snow 1 2018)) (3 ∷ 4 ∷ []) begin end) is count soon
+    (((zonal_facts Wsw Winter 3, snow_facts, refl), of_kind snow (zonal_facts Wsw Winter 3) snow_facts refl (3 ∷ 4 ∷ [])), two_zones 3 4 refl)
+
+pub snow_ends : (rows : List Row) (counts : List Count) (t : ℕ) → rows ≡ snow_rows → ((g : Hazard) (y : ℕ) → count_of counts g y ≡ count_by (is_numbered g y) (event snow 1 2018 ∷ [])) → t ≤ 52000000 →
+    CanPlan rows counts Wsw (finish_in (event snow 1 2018) (3 ∷ []) ∷ []) t
+snow_ends rows counts t is count soon =
+    snow_fits rows counts t (finish_in (event snow 1 2018) (3 ∷ [])) is count soon
+    (((zonal_facts Wsw Winter 3, snow_facts, refl), of_kind snow (zonal_facts Wsw Winter 3) snow_facts refl (3 ∷ [])), one_zone 3)
+
+-- numbers drawn one after another
+
+turned : (a b : ℕ) → (a == b) ≡ (b == a)
+turned a b = grind (arith, nat_tests)
+
+pub drawn_more : (h : Hazard) (year : ℕ) (old new : List Count) (e : Event) (events : List Event) (i : ℕ) → i < length events → e ≡ get_or events i e →
+    count_of old h year ≡ count_by (is_numbered h year) (take i events) →
+    count_of new h year ≡ count_of old h year + (if same_hazard h e.hazard && (year == e.year) then 1 else 0) →
+    count_of new h year ≡ count_by (is_numbered h year) (take (i + 1) events)
+drawn_more h year old new e events i within is so_far drawn =
+    let counted : Bool → ℕ = λ b. (if b then 1 else 0) in
+    let test : (same_hazard h e.hazard && (year == e.year)) ≡ is_numbered h year e = ap (λ (b : Bool). b && (year == e.year)) (hazard_laws.laws-law.symm h e.hazard) ∙ ap (λ (b : Bool). same_hazard e.hazard h && b) (turned year e.year) in
+    let cut : take (i + 1) events ≡ take i events ++ e ∷ [] = take_more events i e within ∙ ap (λ (x : Event). take i events ++ x ∷ []) (sym is) in
+    drawn
+    ∙ ap (λ (n : ℕ). n + counted (same_hazard h e.hazard && (year == e.year))) so_far
+    ∙ ap (λ (b : Bool). count_by (is_numbered h year) (take i events) + counted b) test
+    ∙ ap (λ (n : ℕ). count_by (is_numbered h year) (take i events) + n) (sym (counted_one (is_numbered h year) e))
+    ∙ sym (sum_by-append (λ (d : Event). counted (is_numbered h year d)) (take i events) (e ∷ []))
+    ∙ ap (λ (some : List Event). count_by (is_numbered h year) some) (sym cut)
+
+pub few_drawn : (p : Event → Bool) (events : List Event) (i n : ℕ) → length events ≤ 9 → n ≡ count_by p (take i events) → n + 1 ≤ 9999
+few_drawn p events i n few is = omega (arith, count_by-le-length p (take i events), length-take i events)
