@@ -7,9 +7,9 @@ ghost use Rattle.event_numbers.specs.Counts.{count_of};
 ghost use Rattle.hazard_board.specs.Board.{are_lawful};
 ghost use Rattle.action_planner.specs.Conditions.{CanPlan};
 ghost use Rattle.action_planner.specs.Texts.{no_texts};
-ghost use Rattle.action_planner.specs.WorkedDays.{maryland, snow, event, opening, put_in, snow_lines, snow_rows};
+ghost use Rattle.worked_rows.specs.WorkedDays.{maryland, snow, event, opening, put_in, snow_lines, snow_rows};
 
-use super::*;
+use action_planner::plan;
 use event_numbers::Numbers;
 use hazard_board::Board;
 use hazard_types::{

@@ -3,7 +3,7 @@ use Rattle.std.proofs.Common.{◌≡◌, ◌+◌, ◌≤◌, ℕ, count_by, leng
 use Rattle.hazard_types.specs.declared.hazard.Hazard.{Hazard}
 use Rattle.event_life.specs.Openings.{is_numbered}
 use Rattle.event_numbers.specs.Counts.{count_of}
-use Rattle.action_planner.proofs.tests.numbers_of.Given as goal
+use Rattle.worked_rows.proofs.tests.numbers_of.Given as goal
 
 abbrev pub invariant-loop-event : goal.invariant-loop-event
 invariant-loop-event l = record {

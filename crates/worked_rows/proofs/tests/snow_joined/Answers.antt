@@ -5,9 +5,9 @@ use Rattle.hazard_types.specs.declared.period.Begin.TheVariants.{Now}
 use Rattle.hazard_types.specs.declared.request.Intent.{Intent}
 use Rattle.hazard_types.specs.declared.request.Target.TheVariants.{Join}
 use Rattle.event_life.specs.Openings.{is_numbered}
-use Rattle.action_planner.specs.WorkedDays.{snow, event, put_in}
-use Rattle.action_planner.proofs.WorkedLemmas.{snow_joins}
-use Rattle.action_planner.proofs.tests.snow_joined.Goals as goal
+use Rattle.worked_rows.specs.WorkedDays.{snow, event, put_in}
+use Rattle.worked_rows.proofs.WorkedLemmas.{snow_joins}
+use Rattle.worked_rows.proofs.tests.snow_joined.Goals as goal
 
 pub plan-requires : goal.plan-requires
 plan-requires c =

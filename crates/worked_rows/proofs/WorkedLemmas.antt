@@ -29,7 +29,7 @@ use Rattle.event_numbers.specs.Counts.{count_of}
 use Rattle.hazard_board.specs.Board.{are_lawful}
 use Rattle.hazard_board.specs.Consistent.{IsConsistent}
 use Rattle.action_planner.specs.Conditions.{AreOfKind, AreZones, AreNumbered, MayHold, CanPlan}
-use Rattle.action_planner.specs.WorkedDays.{maryland, snow, event, snow_lines, snow_rows, put_in, finish_in}
+use Rattle.worked_rows.specs.WorkedDays.{maryland, snow, event, snow_lines, snow_rows, put_in, finish_in}
 
 pub snow_lawful : are_lawful [] 9471480 snow_lines ≡ true
 unfolding breach_of_line life_after breach_in rows_after snow_lines

@@ -3,8 +3,8 @@ use Rattle.std.proofs.Common.{◌≡◌, ◌≤◌, ◌∙◌, length, count_by,
 use Rattle.std.proofs.lemmas.List.Sums.{count_by-le-length}
 use Rattle.hazard_types.specs.declared.hazard.Event.{Event}
 use Rattle.event_life.specs.Openings.{is_numbered}
-use Rattle.action_planner.proofs.WorkedLemmas.{drawn_more, few_drawn}
-use Rattle.action_planner.proofs.tests.numbers_of.Goals as goal
+use Rattle.worked_rows.proofs.WorkedLemmas.{drawn_more, few_drawn}
+use Rattle.worked_rows.proofs.tests.numbers_of.Goals as goal
 
 pub commit-requires-clause-number : goal.commit-requires-clause-number
 commit-requires-clause-number c =
