@@ -1,7 +1,9 @@
 //! Worked days as tests of the crates below: the lines, segments and refusals of drafts.
 #![tactic(auto)]
 
-pub use action_planner::plan;
+mod first;
+
+pub use first::first_plan;
 
 #[cfg(test)]
 mod tests;
