@@ -19,4 +19,3 @@ pub mod SendingLemmas
 pub mod SpokenLemmas
 pub mod TextLemmas
 pub mod PlanLemmas
-pub mod WorkedLemmas

@@ -8,4 +8,3 @@ pub mod Spoken
 pub mod Sending
 pub mod Texts
 pub mod Plans
-pub mod WorkedDays

@@ -22,5 +22,3 @@ pub use planning::plan;
 
 #[cfg(test)]
 mod spoken_tests;
-#[cfg(test)]
-mod tests;

@@ -1,8 +1,10 @@
 //! The plan of a draft, or the first rule that it breaks.
-ghost use Rattle.std.specs.Prelude.{◌≡◌, Some, None, Err, IfOk, OnOk, IsTrue};
+ghost use Rattle.std.specs.Prelude.{◌≡◌, ◌↔◌, Some, None, Err, IfOk, OnOk, IsTrue, Contains};
+ghost use Rattle.hazard_types.specs.declared.line.Line.{Line as SaidLine};
 ghost use Rattle.hazard_types.specs.declared.or.Or.TheVariants.{No};
 ghost use Rattle.hazard_types.specs.declared.refusal.Refusal.{Refusal as Refused};
 ghost use Rattle.hazard_board.specs.Board.{are_lawful};
+ghost use Rattle.action_planner.specs.Cases.{IsPlanned};
 ghost use Rattle.action_planner.specs.Conditions.{CanPlan};
 ghost use Rattle.action_planner.specs.Lines.{planned_lines};
 ghost use Rattle.action_planner.specs.Offences.{broken};
@@ -49,6 +51,7 @@ pub fn plan(
 ) -> Result<Plan, Or<Refusal>>
     requires { CanPlan board.now.rows numbers.now.counts draft.now.category draft.now.intents t }
     ensures plan { IfOk result (λ plan. IsPlan draft.now.category board.now.rows t (placed numbers.now.counts t draft.now.intents) plan) }
+    ensures cases { IfOk result (λ plan. (line : SaidLine) → Contains plan.lines line ↔ IsPlanned draft.now.category board.now.rows t (placed numbers.now.counts t draft.now.intents) line) }
     ensures lawful { IfOk result (λ plan. IsTrue (are_lawful board.now.rows t plan.lines)) }
     ensures kept { OnOk result (broken draft.now.category board.now.rows t (placed numbers.now.counts t draft.now.intents) ≡ None) }
     ensures refused { (r : Refused) → result ≡ Err (No r) → broken draft.now.category board.now.rows t (placed numbers.now.counts t draft.now.intents) ≡ Some r }

@@ -13,25 +13,24 @@ use Rattle.event_life.specs.Lives.{judged_product, AreLawful, IsLawfulFrom, IsLa
 use Rattle.event_life.specs.Openings.{IsGapless, opened_of, gaps_of}
 use Rattle.event_life.specs.Products.{Product, is_routine, speaks_of, breach_in, judged_from, lines_of, rows_with}
 use Rattle.event_life.proofs.GapsLemmas.{gapless_exactly}
-use Rattle.product_decoder.specs.declared.taken.Taken.{Taken}
 use Rattle.product_decoder.specs.declared.tracks.Living.{Living}
 use Rattle.product_decoder.specs.declared.types.Found.{Found}
 use Rattle.product_decoder.specs.declared.types.Track.{Track}
 use Rattle.product_decoder.specs.Lives.{by_living, by_life}
 use Rattle.product_decoder.specs.ReaderModel.{found_at, found_in, found_from, found_of, gap_found, gaps_found}
-use Rattle.product_decoder.specs.Takings.{track_in}
+use Rattle.product_decoder.specs.Steps.{Steps, track_at}
 
 -- order
 
-tracks_above : (taken : List Taken) (l : Living) (ls : List Living) → AllByRecursion (λ (m : Living). by_living l m ≡ Less) ls →
-    AllByRecursion (λ (t : Track). by_life (track_in taken l) t ≡ Less) (map (track_in taken) ls)
-tracks_above taken l [] h = tt
-tracks_above taken l (m ∷ ls) h = (h.0, tracks_above taken l ls h.1)
+tracks_above : (steps : Steps) (l : Living) (ls : List Living) → AllByRecursion (λ (m : Living). by_living l m ≡ Less) ls →
+    AllByRecursion (λ (t : Track). by_life (track_at steps l) t ≡ Less) (map (track_at steps) ls)
+tracks_above steps l [] h = tt
+tracks_above steps l (m ∷ ls) h = (h.0, tracks_above steps l ls h.1)
 
-pub tracks_sorted : (taken : List Taken) (ls : List Living) → IsStrictlySortedBy by_living ls → IsStrictlySortedBy by_life (map (track_in taken) ls)
+pub tracks_sorted : (steps : Steps) (ls : List Living) → IsStrictlySortedBy by_living ls → IsStrictlySortedBy by_life (map (track_at steps) ls)
 unfolding IsStrictlySortedBy
-tracks_sorted taken [] h = tt
-tracks_sorted taken (l ∷ ls) h = (tracks_above taken l ls h.0, tracks_sorted taken ls h.1)
+tracks_sorted steps [] h = tt
+tracks_sorted steps (l ∷ ls) h = (tracks_above steps l ls h.0, tracks_sorted steps ls h.1)
 
 -- lawful lives
 

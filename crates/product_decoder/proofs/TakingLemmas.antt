@@ -1,5 +1,5 @@
 -- What was taken comes to what the products say.
-use Rattle.std.proofs.Common.{◌≡◌, ◌∙◌, ◌<◌, ◌+◌, ℕ, List, [], ◌∷◌, ◌++◌, length, map, fold, Option, refl, sym, ap, arith, length-append, subst}
+use Rattle.std.proofs.Common.{◌≡◌, ◌∙◌, ◌<◌, ◌+◌, ℕ, List, [], ◌∷◌, ◌++◌, length, map, fold, Option, Some, None, refl, sym, ap, arith, length-append, subst}
 use Rattle.std.proofs.lemmas.List.{length-map, map-append}
 use Rattle.std.proofs.lemmas.Grind.{fold-append}
 use Rattle.hazard_types.specs.Places.{Place}
@@ -19,7 +19,7 @@ use Rattle.product_decoder.specs.declared.types.Found.{Found}
 use Rattle.product_decoder.specs.declared.types.Track.{Track}
 use Rattle.product_decoder.specs.Lives.{living_in}
 use Rattle.product_decoder.specs.ReaderModel.{product_of, found_in, found_from, found_of, life_in, lives_of, gap_found, gaps_found}
-use Rattle.product_decoder.specs.Takings.{product_taken, products_taken, AreJudged, IsRead, steps_in, track_in, breaches_in, opened_in}
+use Rattle.product_decoder.specs.Takings.{product_taken, products_taken, AreJudged, rows_with_taken, rows_taken, AreLeft, IsRead, steps_in, track_in, breaches_in, opened_in}
 
 steps_told : (rows : List Row) (taken : List Taken) (e : Event) (z : Place) → AreJudged rows taken → steps_in e z taken ≡ track_from rows (products_taken taken) e z
 steps_told rows [] e z h = refl
@@ -44,48 +44,75 @@ judged_push : (rows : List Row) (taken : List Taken) (t : Taken) → AreJudged r
 judged_push rows [] t h j = (j, tt)
 judged_push rows (u ∷ taken) t h j = (h.0, judged_push (rows_with rows (product_taken u)) taken t h.1 j)
 
+-- the rows after products that were judged are those after the products
+rows_told : (rows : List Row) (taken : List Taken) → AreJudged rows taken → fold rows_with_taken rows taken ≡ fold rows_with rows (products_taken taken)
+unfolding rows_after
+rows_told rows [] h = refl
+rows_told rows (t ∷ taken) h =
+    ap (λ (judged : List (Line × Option Breach)). fold rows_with_taken (put_all rows t.issue (lawful_of judged) rows) taken) h.0
+    ∙ rows_told (rows_with rows (product_taken t)) taken h.1
+
+pub rows_read : (held : Option (List Row)) (taken : List Taken) → IsRead held taken → rows_taken taken ≡ rows_of (products_taken taken)
+rows_read held taken h = rows_told [] taken h.judged
+
+some_one : (a b : List Row) → ◌≡◌ {A = Option (List Row)} (Some a) (Some b) → a ≡ b
+some_one a b h = cc
+
+held_by : (held : Option (List Row)) (rows : List Row) (products : List Product) → held ≡ Some rows → AreLeft held products → rows ≡ rows_of products
+held_by None rows products h left = cc
+held_by (Some held) rows products h left = rw (← some_one held rows h) left
+
+-- rows that are held are those after the products
+pub rows_held : (held : Option (List Row)) (rows : List Row) (taken : List Taken) → held ≡ Some rows → IsRead held taken → rows ≡ rows_of (products_taken taken)
+rows_held held rows taken h read = held_by held rows (products_taken taken) h read.left
+
 -- the rows after one product more
 rows_push : (taken : List Taken) (t : Taken) → rows_of (products_taken (taken ++ t ∷ [])) ≡ rows_with (rows_of (products_taken taken)) (product_taken t)
 rows_push taken t =
     ap (λ (products : List Product). rows_of products) (map-append product_taken taken (t ∷ []))
     ∙ fold-append rows_with [] (products_taken taken) (product_taken t ∷ [])
 
+-- what is read stays so where no rows are held
+pub read_freed : (held : Option (List Row)) (taken : List Taken) → IsRead held taken → IsRead None taken
+read_freed held taken h = record { left = tt; judged = h.judged; few = h.few }
+
 -- what is read stays so with one product more
-pub read_push : (rows after : List Row) (taken : List Taken) (t : Taken) → IsRead rows taken → length taken < 4294967295 →
-    t.judged ≡ judged_product rows (product_taken t) → after ≡ rows_with rows (product_taken t) → IsRead after (taken ++ t ∷ [])
-read_push rows after taken t h few judged after_is = record {
-  left = after_is ∙ ap (λ (rows : List Row). rows_with rows (product_taken t)) h.left ∙ sym (rows_push taken t);
-  judged = judged_push [] taken t h.judged (judged ∙ ap (λ (rows : List Row). judged_product rows (product_taken t)) h.left);
+read_push : (held : Option (List Row)) (rows after : List Row) (taken : List Taken) (t : Taken) → IsRead held taken → rows ≡ rows_of (products_taken taken) → length taken < 4294967295 →
+    t.judged ≡ judged_product rows (product_taken t) → after ≡ rows_with rows (product_taken t) → IsRead (Some after) (taken ++ t ∷ [])
+read_push held rows after taken t h rows_are few judged after_is = record {
+  left = after_is ∙ ap (λ (rows : List Row). rows_with rows (product_taken t)) rows_are ∙ sym (rows_push taken t);
+  judged = judged_push [] taken t h.judged (judged ∙ ap (λ (rows : List Row). judged_product rows (product_taken t)) rows_are);
   few = rw length-append (omega arith);
 }
 
 -- a product taken from what is decoded leaves what is read
-pub take_read : (office : List ℕ) (class : Class) (rows after : List Row) (taken more : List Taken) (t : Taken) (d : Decoded) → IsRead rows taken →
+pub take_read : (held : Option (List Row)) (office : List ℕ) (class : Class) (rows after : List Row) (taken more : List Taken) (t : Taken) (d : Decoded) → IsRead held taken →
+    rows ≡ rows_of (products_taken taken) →
     length (products_taken taken) < 4294967295 → product_taken t ≡ product_of office class d → t.judged ≡ judged_product rows (product_of office class d) →
-    after ≡ put_all rows d.issue (lawful_of t.judged) rows → more ≡ taken ++ t ∷ [] → IsRead after more
+    after ≡ put_all rows d.issue (lawful_of t.judged) rows → more ≡ taken ++ t ∷ [] → IsRead (Some after) more
 unfolding rows_after
-take_read office class rows after taken more t d h few product judged after_is more_is =
+take_read held office class rows after taken more t d h rows_are few product judged after_is more_is =
     let j : t.judged ≡ judged_product rows (product_taken t) = judged ∙ ap (λ (p : Product). judged_product rows p) (sym product) in
     let few' : length taken < 4294967295 = subst (λ (n : ℕ). n < 4294967295) (length-map taken product_taken) few in
     let left : after ≡ rows_with rows (product_taken t) =
     after_is
     ∙ ap (λ (issue : ℕ). put_all rows issue (lawful_of t.judged) rows) (sym (ap (λ (p : Product). p.issue) product))
     ∙ ap (λ (found : List (Line × Option Breach)). put_all rows t.issue (lawful_of found) rows) j in
-    subst (λ (more : List Taken). IsRead after more) (sym more_is) (read_push rows after taken t h few' j left)
+    subst (λ (more : List Taken). IsRead (Some after) more) (sym more_is) (read_push held rows after taken t h rows_are few' j left)
 
 track_told : (taken : List Taken) → AreJudged [] taken → (l : Living) → track_in taken l ≡ life_in (products_taken taken) l
 track_told taken h l = ap (λ (steps : List (Action × ℕ)). record { event = l.event; zone = l.zone; steps = steps }) (steps_told [] taken l.event l.zone h)
 
-pub lives_read : (rows : List Row) (taken : List Taken) → IsRead rows taken → map (track_in taken) (living_in rows) ≡ lives_of (products_taken taken)
+pub lives_read : (held : Option (List Row)) (rows : List Row) (taken : List Taken) → IsRead held taken → rows ≡ rows_of (products_taken taken) → map (track_in taken) (living_in rows) ≡ lives_of (products_taken taken)
 unfolding lives_of
-lives_read rows taken h =
-    ap (λ (rows : List Row). map (track_in taken) (living_in rows)) h.left
+lives_read held rows taken h rows_are =
+    ap (λ (rows : List Row). map (track_in taken) (living_in rows)) rows_are
     ∙ ap (λ (f : Living → Track). map f (living_in (rows_of (products_taken taken)))) (λ i l. track_told taken h.judged l i)
 
-pub breaches_read : (rows : List Row) (taken : List Taken) → IsRead rows taken → breaches_in 1 taken ≡ found_of (products_taken taken)
+pub breaches_read : (held : Option (List Row)) (taken : List Taken) → IsRead held taken → breaches_in 1 taken ≡ found_of (products_taken taken)
 unfolding found_of
-breaches_read rows taken h = breaches_told [] 1 taken h.judged
+breaches_read held taken h = breaches_told [] 1 taken h.judged
 
-pub gaps_read : (rows : List Row) (taken : List Taken) → IsRead rows taken → map gap_found (gaps_from [] (opened_in taken)) ≡ gaps_found (products_taken taken)
+pub gaps_read : (held : Option (List Row)) (taken : List Taken) → IsRead held taken → map gap_found (gaps_from [] (opened_in taken)) ≡ gaps_found (products_taken taken)
 unfolding gaps_found
-gaps_read rows taken h = ap (λ (events : List Event). map gap_found (gaps_from [] events)) (opened_told [] taken h.judged)
+gaps_read held taken h = ap (λ (events : List Event). map gap_found (gaps_from [] events)) (opened_told [] taken h.judged)

@@ -1,4 +1,5 @@
 pub mod Decoded
 pub mod Lives
 pub mod ReaderModel
+pub mod Steps
 pub mod Takings

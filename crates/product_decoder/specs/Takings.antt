@@ -1,12 +1,12 @@
 -- What was taken, product by product, and what it comes to.
-use Rattle.std.specs.Prelude.{◌≡◌, ◌<◌, ◌+◌, ℕ, List, [], ◌∷◌, ◌++◌, length, map}
+use Rattle.std.specs.Prelude.{◌≡◌, ◌<◌, ◌+◌, ℕ, List, [], ◌∷◌, ◌++◌, length, map, fold, Option, Some, None}
 use Rattle.hazard_types.specs.Places.{Place}
 use Rattle.hazard_types.specs.declared.codes.Action.{Action}
 use Rattle.hazard_types.specs.declared.hazard.Event.{Event}
 use Rattle.hazard_types.specs.declared.line.Row.{Row}
 use Rattle.event_life.specs.Lives.{judged_product, steps_of}
 use Rattle.event_life.specs.Openings.{opened_by}
-use Rattle.event_life.specs.Products.{Product, lawful_of, rows_with, rows_of}
+use Rattle.event_life.specs.Products.{Product, lawful_of, put_all, rows_with, rows_of}
 use Rattle.product_decoder.specs.declared.taken.Taken.{Taken}
 use Rattle.product_decoder.specs.declared.tracks.Living.{Living}
 use Rattle.product_decoder.specs.declared.types.Found.{Found}
@@ -24,9 +24,22 @@ abbrev pub AreJudged : List Row → List Taken → Type 0
 AreJudged rows [] = Unit {0}
 AreJudged rows (t ∷ taken) = (t.judged ≡ judged_product rows (product_taken t)) × AreJudged (rows_with rows (product_taken t)) taken
 
--- the rows are those after the products, which are judged and few
-pub record IsRead (rows : List Row) (taken : List Taken) : Type 0 where
-  pub left : rows ≡ rows_of (products_taken taken)
+-- the rows after a product that was judged by these: each lawful line leaves its row
+abbrev pub rows_with_taken : List Row → Taken → List Row
+rows_with_taken rows t = put_all rows t.issue (lawful_of t.judged) rows
+
+-- those after products that were judged, from none
+abbrev pub rows_taken : List Taken → List Row
+rows_taken taken = fold rows_with_taken [] taken
+
+-- rows that are held are those after the products
+abbrev pub AreLeft : Option (List Row) → List Product → Type 0
+AreLeft None products = Unit {0}
+AreLeft (Some rows) products = rows ≡ rows_of products
+
+-- the rows, where they are held, are those after the products, which are judged and few
+pub record IsRead (held : Option (List Row)) (taken : List Taken) : Type 0 where
+  pub left : AreLeft held (products_taken taken)
   pub judged : AreJudged [] taken
   pub few : length taken < 4294967296
 

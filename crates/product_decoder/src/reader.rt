@@ -11,21 +11,23 @@ ghost use Rattle.product_decoder.specs.Lives.{by_life};
 ghost use Rattle.product_decoder.specs.ReaderModel.{product_of, lives_of, found_of, gaps_found};
 
 use crate::findings::{breaches_in, gaps_in};
-use crate::taken::{Taken, taken_of};
+use crate::taken::{Taken, rows_taken, taken_of};
 use crate::tracks::tracks_in;
 use crate::types::{Decoded, Found, GapFound, Track};
-use event_life::{rows_after, shown};
+use event_life::shown;
 use hazard_types::{Class, List, Minute, Oom, Row};
+use row_index::RowIndex;
 use std::alloc::Global;
 use std::marker::Model;
+use std::mem;
 
 /// Takes the products of an office in order, and of each the lines of the office and class. Its answers depend on the list of
-/// products that it took alone.
+/// products that it took alone. The rows after these are not held after a want of memory, until the next product is taken.
 #[derive(Drop)]
 pub struct Reader {
     office: [u8; 4],
     class: Class,
-    rows: List<Row>,
+    rows: Option<RowIndex>,
     taken: List<Taken>,
 }
 
@@ -50,8 +52,19 @@ impl Reader {
         Reader {
             office,
             class,
-            rows: List::new(alloc),
+            rows: Some(RowIndex::new(alloc)),
             taken: List::new(alloc),
+        }
+    }
+
+    /// The rows after the products. The reader holds them no more.
+    fn rows_before(&mut self, alloc: Global) -> Result<RowIndex, Oom>
+        ensures unchanged { self.new ≡ self.old }
+        ensures rows { IfOk result (λ rows. rows ≡ rows_of self.old.products) }
+    {
+        match mem::replace(&mut self.rows, None) {
+            Some(rows) => Ok(rows),
+            None => rows_taken(alloc, self.taken.as_slice()),
         }
     }
 
@@ -67,23 +80,30 @@ impl Reader {
         ensures ok { OnOk result (self.new.products ≡ self.old.products ++ product_of self.old.office self.old.class d.now ∷ []) }
         ensures err { OnErr result (self.new.products ≡ self.old.products) }
     {
-        let taken = taken_of(alloc, &self.office, &self.class, self.rows.as_slice(), d)?;
-        let rows = rows_after(
-            alloc,
-            self.rows.as_slice(),
-            d.issue,
-            taken.judged.as_slice(),
-        )?;
+        let rows = self.rows_before(alloc)?;
+        let taken = taken_of(alloc, &self.office, &self.class, &rows, d)?;
+        let after = rows.leave(alloc, d.issue, taken.judged.as_slice())?;
         self.taken.push(taken)?;
-        self.rows = rows;
+        self.rows = Some(after);
         Ok(())
+    }
+
+    /// The rows after the products.
+    fn rows_after(&self, alloc: Global) -> Result<List<Row>, Oom>
+        ensures { IfOk result (λ rows. rows ≡ rows_of self.now.products) }
+    {
+        match &self.rows {
+            Some(rows) => rows.rows(alloc),
+            None => rows_taken(alloc, self.taken.as_slice())?.rows(alloc),
+        }
     }
 
     /// The rows that are shown at a minute, by zone, then event.
     pub fn shown(&self, alloc: Global, t: Minute) -> Result<List<Row>, Oom>
         ensures { IfOk result (λ rows. rows ≡ shown_at t (rows_of self.now.products)) }
     {
-        shown(alloc, self.rows.as_slice(), t)
+        let rows = self.rows_after(alloc)?;
+        shown(alloc, rows.as_slice(), t)
     }
 
     /// One life for each row, by event, then zone: the action and issue minute of each lawful line, in the order of the products.
@@ -91,7 +111,8 @@ impl Reader {
         ensures value { IfOk result (λ tracks. tracks ≡ lives_of self.now.products) }
         ensures sorted { IfOk result (λ tracks. IsStrictlySortedBy by_life tracks) }
     {
-        tracks_in(alloc, self.rows.as_slice(), self.taken.as_slice())
+        let rows = self.rows_after(alloc)?;
+        tracks_in(alloc, rows.as_slice(), self.taken.as_slice())
     }
 
     /// The lines in breach, product by product, and within one in the order of the text.

@@ -3,11 +3,12 @@ ghost use Rattle.std.specs.Prelude.{◌≡◌, map, filter, IfOk};
 ghost use Rattle.event_life.specs.Lives.{judged_product};
 ghost use Rattle.event_life.specs.Products.{lines_of};
 ghost use Rattle.product_decoder.specs.ReaderModel.{is_by, line_said, product_of};
-ghost use Rattle.product_decoder.specs.Takings.{product_taken};
+ghost use Rattle.product_decoder.specs.Takings.{product_taken, rows_taken};
 
 use crate::types::{Decoded, ZonePair};
-use event_life::{Breach, judge, line_of};
-use hazard_types::{Class, Line, List, Minute, Oom, Row};
+use event_life::Breach;
+use hazard_types::{Class, Line, List, Minute, Oom};
+use row_index::RowIndex;
 use std::alloc::{AllocError, Global};
 
 /// What was taken of a product: its issue minute, its lines of the office and class, and what these say of their events, each with its breach.
@@ -42,12 +43,12 @@ fn said_by(
 }
 
 /// What lines say of their events.
-fn lines_of(alloc: Global, rows: &[Row], t: Minute, said: &[ZonePair]) -> Result<Vec<Line>, Oom>
-    ensures { IfOk result (λ lines. lines.items ≡ lines_of rows.now t (map line_said said.now)) }
+fn lines_of(alloc: Global, rows: &RowIndex, t: Minute, said: &[ZonePair]) -> Result<List<Line>, Oom>
+    ensures { IfOk result (λ lines. lines ≡ lines_of rows.now t (map line_said said.now)) }
 {
-    let mut lines = Vec::with_capacity(alloc, said.len())?;
+    let mut lines = List::new(alloc);
     for pair in said {
-        lines.push(line_of(rows, t, &pair.zone, &pair.vtec, &pair.flood))?;
+        lines.extend(&[rows.line_of(t, &pair.zone, &pair.vtec, &pair.flood)])?;
     }
     Ok(lines)
 }
@@ -57,7 +58,7 @@ pub fn taken_of(
     alloc: Global,
     office: &[u8; 4],
     class: &Class,
-    rows: &[Row],
+    rows: &RowIndex,
     d: &Decoded,
 ) -> Result<Taken, Oom>
     ensures product { IfOk result (λ taken. product_taken taken ≡ product_of office.now class.now d.now) }
@@ -65,10 +66,21 @@ pub fn taken_of(
 {
     let said = said_by(alloc, office, class, d.pairs.as_slice())?;
     let lines = lines_of(alloc, rows, d.issue, &said)?;
-    let judged = judge(alloc, rows, d.issue, &lines)?;
+    let judged = rows.judge(alloc, d.issue, lines.as_slice())?;
     Ok(Taken {
         issue: d.issue,
         said: List::from_vec(said),
         judged,
     })
+}
+
+/// The rows that products leave, each judged by the rows before it.
+pub fn rows_taken(alloc: Global, taken: &[Taken]) -> Result<RowIndex, Oom>
+    ensures { IfOk result (λ rows. rows ≡ rows_taken taken.now) }
+{
+    let mut rows = RowIndex::new(alloc);
+    for product in taken {
+        rows = rows.leave(alloc, product.issue, product.judged.as_slice())?;
+    }
+    Ok(rows)
 }

@@ -22,7 +22,9 @@ use Rattle.row_index.specs.Shelves.{is_in_zone}
 use Rattle.row_index.specs.Steps.{put_in_zone}
 use Rattle.row_index.proofs.Filters.{filter-put_kept, filter-put_left, any-filter}
 use Rattle.row_index.proofs.Lookups.{shelf_of, row_at-shelf, breach-shelf}
-use Rattle.row_index.proofs.Shelved.{zone_same}
+
+zone_same : (z : Place) (a b : Row) → a.zone ≡ b.zone → a.event ≡ b.event → is_in_zone z a ≡ is_in_zone z b
+zone_same z a b p q = ap (λ (y : Place). same_zone y z) p
 
 -- the rows of a zone after the lines of the zone
 

@@ -1,4 +1,4 @@
--- A row put at its key, in a map whose lists are what tests leave of the rows; and in both maps of an index.
+-- A row put at its key, in a map whose lists are what tests leave of the rows; and in an index.
 use Rattle.std.proofs.Common.{◌≡◌, ◌∙◌, List, [], ◌∷◌, Bool, true, false, cond, Ordering, Less, Equal, Greater, Option, Some, unwrap_or, refl, ap, sym, subst, arith}
 use Rattle.std.proofs.lemmas.Bool.{and_parts, false_from_ne_true, eqb-true}
 use Rattle.std.proofs.lemmas.Bool.Decides.{nat_tests}
@@ -7,20 +7,20 @@ use Rattle.std.specs.BTreeMap.{insert_entry, is_at}
 use Rattle.std.specs.Cmp.{IsTotalOrder}
 use Rattle.std.specs.List.{filter}
 use Rattle.std.specs.List.Sorted.{IsStrictlySortedBy}
-use Rattle.std.specs.Map.{lookup}
+use Rattle.std.specs.Map.{lookup, values_of}
 use Rattle.std.specs.Ordering.{match_ordering, ordering_then, is_eq}
 use Rattle.hazard_types.specs.Orders.{by_hazard}
-use Rattle.hazard_types.specs.Places.{Place, by_place}
-use Rattle.hazard_types.specs.Same.{same_zone, same_hazard}
+use Rattle.hazard_types.specs.Same.{same_hazard}
 use Rattle.hazard_types.specs.declared.line.Row.{Row}
-use Rattle.hazard_types.proofs.Equality.{zone_one, zone_itself, hazard_one, hazard_itself}
-use Rattle.hazard_types.proofs.OrderLaws.{by_place_total, by_place_ties, by_hazard_total, by_hazard_ties, numbers_tied}
+use Rattle.hazard_types.proofs.Equality.{hazard_one, hazard_itself}
+use Rattle.hazard_types.proofs.OrderLaws.{by_hazard_total, by_hazard_ties, numbers_tied}
 use Rattle.event_life.specs.Products.{by_key, put}
 use Rattle.event_life.proofs.Puts.{put-sorted}
 use Rattle.row_index.specs.declared.shelves.Number.{Number}
-use Rattle.row_index.specs.Shelves.{number_of, by_number, has_number, is_in_zone, list_at, laid, IsIndex}
+use Rattle.row_index.specs.declared.seats.Seat.{Seat}
+use Rattle.row_index.specs.Seating.{AreSeated}
+use Rattle.row_index.specs.Shelves.{number_of, by_number, has_number, list_at, IsIndex}
 use Rattle.row_index.proofs.Filters.{filter-put_kept, filter-put_left}
-use Rattle.row_index.proofs.Laid.{laid-put, zoned-put}
 
 module _ {K : Type 0} (cmp : K → K → Ordering) (total : IsTotalOrder cmp) (ties : (a b : K) → cmp a b ≡ Equal → a ≡ b) where
   abbrev pub Lists : Type 0
@@ -88,17 +88,6 @@ module _ {K : Type 0} (cmp : K → K → Ordering) (total : IsTotalOrder cmp) (t
         → ((k : K) → list_at cmp es k ≡ filter (test k) rows) → (q : K) → list_at cmp (put_row es row) q ≡ filter (test q) (put row rows)
     shelved-put es rows row up held q = shelved_by (is_at (cmp q) (key row)) es rows row q refl up held
 
--- zones
-
-zone_own : (r : Row) → is_in_zone r.zone r ≡ true
-zone_own r = zone_itself r.zone
-
-zone_of_one : (z : Place) (r : Row) → is_in_zone z r ≡ true → z ≡ r.zone
-zone_of_one z r h = sym (zone_one r.zone z h)
-
-pub zone_same : (z : Place) (a b : Row) → a.zone ≡ b.zone → a.event ≡ b.event → is_in_zone z a ≡ is_in_zone z b
-zone_same z a b p q = ap (λ (y : Place). same_zone y z) p
-
 -- hazards and numbers
 
 by_number_total : IsTotalOrder by_number
@@ -133,33 +122,22 @@ number_same k a b p q = rw q refl
 
 pub empty_index : IsIndex [] []
 unfolding IsStrictlySortedBy
-empty_index = record { in_order = tt; zoned = tt; by_zone = λ z. refl; shelved = λ k. refl }
+empty_index = record { in_order = tt; seated = tt; shelved = λ k. refl }
 
-abbrev pub put_zone : List (Place × List Row) → Row → List (Place × List Row)
-put_zone zones row = insert_entry by_place zones row.zone (put row (list_at by_place zones row.zone))
+abbrev pub put_shelf : List (Number × List Row) → Number → Row → List (Number × List Row)
+put_shelf shelves k row = insert_entry by_number shelves k (put row (list_at by_number shelves k))
 
-abbrev pub put_shelf : List (Number × List Row) → Row → List (Number × List Row)
-put_shelf shelves row = insert_entry by_number shelves (number_of row.event) (put row (list_at by_number shelves (number_of row.event)))
+index-put : (rows : List Row) (shelves : List (Number × List Row)) (row : Row) → IsStrictlySortedBy by_key rows → ((k : Number) → list_at by_number shelves k ≡ filter (has_number k) rows)
+    → (k : Number) → list_at by_number (put_shelf shelves (number_of row.event) row) k ≡ filter (has_number k) (put row rows)
+index-put rows shelves row up held =
+    shelved-put by_number by_number_total by_number_ties has_number (λ (r : Row). number_of r.event) number_own number_of_one number_same shelves rows row up held
 
-pub index-put : (zones : List (Place × List Row)) (shelves : List (Number × List Row)) (row : Row) → IsIndex zones shelves → IsIndex (put_zone zones row) (put_shelf shelves row)
-index-put zones shelves row index =
-    let rows : laid (put_zone zones row) ≡ put row (laid zones) = laid-put zones row (put row (list_at by_place zones row.zone)) index.zoned refl in
-    let up = put-sorted row (laid zones) index.in_order in
-    let zone = shelved-put by_place by_place_total by_place_ties is_in_zone (λ (r : Row). r.zone) zone_own zone_of_one zone_same zones (laid zones) row index.in_order index.by_zone in
-    let shelf = shelved-put by_number by_number_total by_number_ties has_number (λ (r : Row). number_of r.event) number_own number_of_one number_same shelves (laid zones) row index.in_order index.shelved in
+pub index-made : (seats new_seats : List (Seat × Row)) (shelves new_shelves : List (Number × List Row)) (row : Row) (k : Number) → k ≡ number_of row.event
+    → values_of new_seats ≡ put row (values_of seats) → AreSeated new_seats → new_shelves ≡ put_shelf shelves k row → IsIndex seats shelves → IsIndex new_seats new_shelves
+index-made seats new_seats shelves new_shelves row k key rows_are at shelves_are index =
+    let made : new_shelves ≡ put_shelf shelves (number_of row.event) row = shelves_are ∙ ap (λ (n : Number). put_shelf shelves n row) key in
     record {
-      in_order = subst (λ (all : List Row). IsStrictlySortedBy by_key all) (sym rows) up;
-      zoned = zoned-put zones row index.zoned;
-      by_zone = λ z. zone z ∙ ap (filter (is_in_zone z)) (sym rows);
-      shelved = λ k. shelf k ∙ ap (filter (has_number k)) (sym rows);
+      in_order = subst (λ (rows : List Row). IsStrictlySortedBy by_key rows) (sym rows_are) (put-sorted row (values_of seats) index.in_order);
+      seated = at;
+      shelved = λ n. ap (λ (lists : List (Number × List Row)). list_at by_number lists n) made ∙ index-put (values_of seats) shelves row index.in_order index.shelved n ∙ ap (filter (has_number n)) (sym rows_are);
     }
-
-pub rows-put : (zones : List (Place × List Row)) (shelves : List (Number × List Row)) (row : Row) → IsIndex zones shelves → laid (put_zone zones row) ≡ put row (laid zones)
-rows-put zones shelves row index = laid-put zones row (put row (list_at by_place zones row.zone)) index.zoned refl
-
-pub index-made : (zones : List (Place × List Row)) (shelves : List (Number × List Row)) (row : Row) (k : Number) (new_zones : List (Place × List Row)) (new_shelves : List (Number × List Row)) → k ≡ number_of row.event
-    → new_zones ≡ put_zone zones row → new_shelves ≡ insert_entry by_number shelves k (put row (list_at by_number shelves k)) → IsIndex zones shelves → IsIndex new_zones new_shelves
-index-made zones shelves row k new_zones new_shelves key zones_are shelves_are index =
-    let at : new_shelves ≡ put_shelf shelves row = shelves_are ∙ ap (λ (n : Number). insert_entry by_number shelves n (put row (list_at by_number shelves n))) key in
-    subst (λ (z : List (Place × List Row)). IsIndex z new_shelves) (sym zones_are)
-    (subst (λ (s : List (Number × List Row)). IsIndex (put_zone zones row) s) (sym at) (index-put zones shelves row index))

@@ -1,20 +1,20 @@
--- Rows by hazard and number, and by zone: what the maps of an index hold.
-use Rattle.std.specs.Prelude.{◌≡◌, ◌==◌, ◌&&◌, ◌++◌, Bool, List, [], ◌∷◌, filter, map, unwrap_or, Vec}
+-- Rows by hazard and number: what the maps of an index hold.
+use Rattle.std.specs.Prelude.{◌≡◌, ◌==◌, ◌&&◌, Bool, List, [], filter, map, unwrap_or, Vec}
 use Rattle.std.specs.BTreeMap.{is_at}
-use Rattle.std.specs.List.{AllByRecursion}
 use Rattle.std.specs.List.Sorted.{IsStrictlySortedBy}
-use Rattle.std.specs.Map.{lookup}
+use Rattle.std.specs.Map.{lookup, values_of}
 use Rattle.std.specs.declared.alloc.Global.{Global}
 use Rattle.std.specs.declared.cmp.Ordering.{Ordering}
-use Rattle.std.specs.declared.cmp.Ordering.TheVariants.{Less}
 use Rattle.std.specs.Ordering.{nat_cmp, on, then_cmp}
 use Rattle.hazard_types.specs.Orders.{by_hazard}
-use Rattle.hazard_types.specs.Places.{Place, by_place}
+use Rattle.hazard_types.specs.Places.{Place}
 use Rattle.hazard_types.specs.Same.{same_zone, same_hazard}
 use Rattle.hazard_types.specs.declared.hazard.Event.{Event}
 use Rattle.hazard_types.specs.declared.line.Row.{Row}
 use Rattle.event_life.specs.Products.{by_key}
 use Rattle.row_index.specs.declared.shelves.Number.{Number}
+use Rattle.row_index.specs.declared.seats.Seat.{Seat}
+use Rattle.row_index.specs.Seating.{AreSeated}
 
 abbrev pub number_of : Event → Number
 number_of e = record { hazard = e.hazard; etn = e.etn }
@@ -38,19 +38,8 @@ lists_of es = map (λ e. (e.0, e.1.items)) es
 abbrev pub list_at : {K : Type 0} → (K → K → Ordering) → List (K × List Row) → K → List Row
 list_at cmp es k = unwrap_or (lookup (is_at (cmp k)) es) []
 
--- the lists laid end to end
-abbrev pub laid : {K : Type 0} → List (K × List Row) → List Row
-laid [] = []
-laid (e ∷ es) = e.1 ++ laid es
-
--- each list has rows of its zone alone, and the zones ascend
-abbrev pub AreZoned : List (Place × List Row) → Type 0
-AreZoned [] = Unit {0}
-AreZoned (e ∷ es) = AllByRecursion (λ (r : Row). r.zone ≡ e.0) e.1 × AllByRecursion (λ (d : Place × List Row). by_place e.0 d.0 ≡ Less) es × AreZoned es
-
--- both maps hold the rows that the zones' lists, laid end to end, have: each at its zone, and each at its hazard and number
-pub record IsIndex (zones : List (Place × List Row)) (shelves : List (Number × List Row)) : Type 0 where
-  pub in_order : IsStrictlySortedBy by_key (laid zones)
-  pub zoned : AreZoned zones
-  pub by_zone : (z : Place) → list_at by_place zones z ≡ filter (is_in_zone z) (laid zones)
-  pub shelved : (k : Number) → list_at by_number shelves k ≡ filter (has_number k) (laid zones)
+-- each row is at its own seat, the rows are in order, and the shelves hold them by hazard and number
+pub record IsIndex (seats : List (Seat × Row)) (shelves : List (Number × List Row)) : Type 0 where
+  pub in_order : IsStrictlySortedBy by_key (values_of seats)
+  pub seated : AreSeated seats
+  pub shelved : (k : Number) → list_at by_number shelves k ≡ filter (has_number k) (values_of seats)

@@ -8,7 +8,8 @@ ghost use Rattle.event_life.specs.Table.{breach_of_line};
 ghost use Rattle.row_index.specs.Shelves.{number_of, has_number, is_in_zone};
 ghost use Rattle.row_index.specs.Steps.{put_in_zone, rows_left, put_each};
 
-use crate::shelves::{Number, Shelves, Zones, laid, number_of, put_at, rows_at};
+use crate::seats::{Seated, all_rows, put_seated, rows_in};
+use crate::shelves::{Number, Shelves, number_of, put_at, rows_at};
 use event_life::{Breach, end_upgraded, is_lawful, is_upgrade};
 use hazard_types::{Event, Flood, Line, List, Minute, Oom, Row, Vtec, Zone};
 use std::alloc::Global;
@@ -18,20 +19,21 @@ use std::marker::Model;
 /// Rows in order by zone, then event, each pair once.
 #[derive(Drop)]
 pub struct RowIndex {
-    zones: Zones,
+    seated: Seated,
     shelves: Shelves,
 }
 
 impl Model for RowIndex {
     ghost use Rattle.std.specs.Prelude.{List};
     ghost use Rattle.hazard_types.specs.declared.line.Row.{Row};
-    ghost use Rattle.row_index.specs.Shelves.{lists_of, laid, IsIndex};
+    ghost use Rattle.std.specs.Map.{values_of};
+    ghost use Rattle.row_index.specs.Shelves.{lists_of, IsIndex};
 
     ghost Value = { List Row };
 
-    ghost view = { λ x. laid (lists_of x.zones.entries) };
+    ghost view = { λ x. values_of x.seated.entries };
 
-    ghost invariant = { λ x. IsIndex (lists_of x.zones.entries) (lists_of x.shelves.entries) };
+    ghost invariant = { λ x. IsIndex x.seated.entries (lists_of x.shelves.entries) };
 }
 
 impl RowIndex {
@@ -40,7 +42,7 @@ impl RowIndex {
         ensures { result ≡ [] }
     {
         RowIndex {
-            zones: BTreeMap::new(alloc),
+            seated: BTreeMap::new(alloc),
             shelves: BTreeMap::new(alloc),
         }
     }
@@ -60,10 +62,10 @@ impl RowIndex {
     }
 
     /// The rows of a zone.
-    fn in_zone(&self, zone: &Zone) -> &[Row]
-        ensures { result.now ≡ filter (is_in_zone zone.now) self.now }
+    fn in_zone(&self, alloc: Global, zone: &Zone) -> Result<Vec<Row>, Oom>
+        ensures { IfOk result (λ rows. rows.items ≡ filter (is_in_zone zone.now) self.now) }
     {
-        rows_at(&self.zones, zone)
+        Ok(rows_in(alloc, &self.seated, zone)?)
     }
 
     /// What a line of a text says of its event in a zone. The rows are those just before its product, `t` is the product's issue minute.
@@ -101,7 +103,7 @@ impl RowIndex {
     ) -> Result<Vec<Row>, Oom>
         ensures { IfOk result (λ after. after.items ≡ put_in_zone zone.now self.now t [] lines.now (filter (is_in_zone zone.now) self.now)) }
     {
-        let mut after = Vec::from_slice(alloc, self.in_zone(zone))?;
+        let mut after = self.in_zone(alloc, zone)?;
         for (place, line) in lines.iter().enumerate() {
             if line.zone == *zone && self.may_count(t, &lines[..place], line) {
                 event_life::put(&mut after, &self.row_after(t, line))?;
@@ -120,7 +122,7 @@ impl RowIndex {
     ) -> Result<Vec<Row>, Oom>
         ensures { IfOk result (λ after. after.items ≡ filter (is_in_zone zone.now) (rows_for_higher self.now t lines.now)) }
     {
-        let _ = &self.zones;
+        let _ = &self.seated;
         let after = self.put_in_zone(alloc, t, lines, zone)?;
         Ok(end_upgraded(alloc, lines, &after)?)
     }
@@ -176,12 +178,12 @@ impl RowIndex {
         ensures { IfOk result (λ index. index ≡ put row.now self) }
     {
         let RowIndex {
-            mut zones,
+            mut seated,
             mut shelves,
         } = self;
-        put_at(alloc, &mut zones, row.zone, row)?;
+        put_seated(&mut seated, row)?;
         put_at(alloc, &mut shelves, number_of(&row.event), row)?;
-        Ok(RowIndex { zones, shelves })
+        Ok(RowIndex { seated, shelves })
     }
 
     /// The rows that the lawful lines of a product leave.
@@ -231,7 +233,7 @@ impl RowIndex {
     pub fn rows(&self, alloc: Global) -> Result<List<Row>, Oom>
         ensures { IfOk result (λ rows. rows ≡ self.now) }
     {
-        laid(alloc, &self.zones)
+        Ok(List::from_vec(all_rows(alloc, &self.seated)?))
     }
 
     /// The rows that are shown at a minute: those that no line has ended and whose end is until further notice or after it.

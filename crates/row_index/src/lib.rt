@@ -2,6 +2,7 @@
 #![tactic(auto)]
 
 mod index;
+mod seats;
 mod shelves;
 
 pub use index::RowIndex;

@@ -1,11 +1,11 @@
-//! Maps of rows: what stands around a line is read off the rows of its hazard and number, and a zone's rows stand together.
-ghost use Rattle.std.specs.Prelude.{◌≡◌, IfOk, OnOk};
+//! Shelves of rows: what stands around a line is read off the rows of its hazard and number.
+ghost use Rattle.std.specs.Prelude.{◌≡◌, OnOk};
 ghost use Rattle.std.specs.BTreeMap.{insert_entry};
 ghost use Rattle.event_life.specs.Products.{put};
-ghost use Rattle.row_index.specs.Shelves.{number_of, lists_of, list_at, laid};
+ghost use Rattle.row_index.specs.Shelves.{number_of, lists_of, list_at};
 
 use event_life::put;
-use hazard_types::{Event, Hazard, List, Oom, Row, Zone};
+use hazard_types::{Event, Hazard, Oom, Row};
 use std::alloc::Global;
 use std::collections::BTreeMap;
 
@@ -15,9 +15,6 @@ pub struct Number {
     pub hazard: Hazard,
     pub etn: u16,
 }
-
-/// The rows of each zone.
-pub type Zones = BTreeMap<Zone, Vec<Row>>;
 
 /// The rows of each hazard and number.
 pub type Shelves = BTreeMap<Number, Vec<Row>>;
@@ -54,15 +51,4 @@ pub fn rows_at<'a, K: Ord>(map: &'a BTreeMap<K, Vec<Row>>, key: &K) -> &'a [Row]
         Some(rows) => rows.as_slice(),
         None => &[],
     }
-}
-
-/// The rows of all zones, in order of the zones.
-pub fn laid(alloc: Global, zones: &Zones) -> Result<List<Row>, Oom>
-    ensures { IfOk result (λ rows. rows ≡ laid (lists_of zones.now.entries)) }
-{
-    let mut rows = List::new(alloc);
-    for (_, list) in zones {
-        rows.extend(list.as_slice())?;
-    }
-    Ok(rows)
 }

@@ -10,7 +10,6 @@ use Rattle.event_life.specs.Products.{Product, rows_with}
 use Rattle.product_frame.specs.declared.frame.FrameFault.{FrameFault}
 use Rattle.product_decoder.specs.ReaderModel.{found_at, found_in, found_from, found_of}
 use Rattle.product_decoder.specs.declared.types.Decoded.{Decoded}
-use Rattle.product_decoder.specs.declared.types.Found.{Found}
 use Rattle.warn_archive.specs.declared.words.Asked.{Asked}
 use Rattle.warn_archive.specs.Readings.{IsNumbered}
 use Rattle.warn_archive.specs.Report.{products_of, numbers_from}

@@ -1,12 +1,11 @@
 -- What was read and written at each status.
-use Rattle.std.proofs.Common.{ℕ, ◌≡◌, ◌≢◌, ◌≤◌, ◌+◌, ◌⊎◌, inl, inr, List, ◌++◌, length, take, drop, refl, ap, sym, ◌∙◌, append_assoc, Option, Result, Ok, Err, rules, arith}
+use Rattle.std.proofs.Common.{ℕ, ◌≡◌, ◌≢◌, ◌≤◌, ◌+◌, ◌⊎◌, inl, inr, List, ◌++◌, length, take, drop, refl, ap, sym, ◌∙◌, append_assoc, Option, Result, Err, rules, arith}
 use Rattle.std.proofs.lemmas.List.{take-append-drop}
 use Rattle.desk_traits.specs.Streams.{Adds, Takes}
 use Rattle.desk_traits.proofs.Pieces.{adds_both}
 use Rattle.warn_archive.specs.declared.reading.Stop.{Stop}
 use Rattle.warn_archive.specs.declared.reading.Stop.TheVariants as stop
 use Rattle.warn_archive.specs.declared.words.Asked.{Asked}
-use Rattle.warn_archive.specs.Report.{report, listed}
 use Rattle.warn_archive.specs.Runs.{limit, ReadsAll, AddsFront, HandsOut, IsFaultLine, IsArchiveRun, read_fault_line, write_fault_line, no_memory_line, too_long_line}
 
 is_eight : {R : Type 0} (status : ℕ) → ((status ≡ 8) ⊎ ((status ≡ 8) × R)) → status ≡ 8
@@ -121,39 +120,3 @@ module _ (asked : Asked) (left left' taken taken' : Option (List ℕ)) (status :
     others = search rules;
   }
   no_memory_run result all (inr (e, r)) whole some = cut_alone all.read all.takes all.within no_memory_line (inr (inl refl)) some e
-
-  among : ((status ≡ 0) ⊎ (status ≡ 3) ⊎ (status ≡ 8)) → (status ≡ 0) ⊎ (status ≡ 3) ⊎ (status ≡ 7) ⊎ (status ≡ 8) ⊎ (status ≡ 12) ⊎ (status ≡ 13)
-  among (inl e) = inl e
-  among (inr (inl e)) = inr (inl e)
-  among (inr (inr e)) = inr (inr (inr (inl e)))
-
-  none_else : (a : ℕ) → (a ≡ 0 → ⊥) → (a ≡ 3 → ⊥) → (a ≡ 8 → ⊥) → ((status ≡ 0) ⊎ (status ≡ 3) ⊎ (status ≡ 8)) → status ≡ a → ⊥
-  none_else a p q r (inl e) h = p (sym h ∙ e)
-  none_else a p q r (inr (inl e)) h = q (sym h ∙ e)
-  none_else a p q r (inr (inr e)) h = r (sym h ∙ e)
-
-  -- the input was read to its end, and its report written, or a front of it
-  pub handed_run : (text : List ℕ) → ReadsAll left left' (Ok text) → (told : List ℕ) (count : ℕ) → told ≡ report asked text → count ≡ listed asked text → HandsOut told count taken taken' status → IsArchiveRun asked left left' taken taken' status
-  handed_run text all told count told_is count_is out =
-      let same : text ≡ all.read = all.whole.0 in
-      let told_of : told ≡ report asked all.read = rw same at told_is in
-      let count_of : count ≡ listed asked all.read = rw same at count_is in
-      let few : length all.read ≤ limit = all.whole.2 in
-      record {
-        read = all.read;
-        written = out.written;
-        takes = all.takes;
-        adds = out.adds;
-        within = all.within;
-        fits = λ _. few;
-        ended = λ _. all.whole.1;
-        reported = λ h. out.whole h ∙ told_of;
-        clean = λ h. sym count_of ∙ out.clean h;
-        against = λ h k. out.against h (count_of ∙ k);
-        read_fault = λ q. absurd (none_else 7 (λ e. omega arith) (λ e. omega arith) (λ e. omega arith) out.others q);
-        over = λ q. absurd (none_else 13 (λ e. omega arith) (λ e. omega arith) (λ e. omega arith) out.others q);
-        too_long = λ q. absurd (none_else 13 (λ e. omega arith) (λ e. omega arith) (λ e. omega arith) out.others q);
-        no_memory = λ q. absurd (none_else 12 (λ e. omega arith) (λ e. omega arith) (λ e. omega arith) out.others q);
-        write_fault = λ h. let cut = out.cut h in inl (cut.0, (cut.1.0, sym told_of ∙ cut.1.1), cut.2);
-        others = among out.others;
-      }

@@ -1,5 +1,5 @@
 -- Products of an input, and their numbers.
-use Rattle.std.specs.Prelude.{◌≤◌, ℕ, List, length}
+use Rattle.std.specs.Prelude.{◌≤◌, ℕ}
 use Rattle.hazard_types.specs.declared.line.Span.{Span}
 use Rattle.product_decoder.specs.declared.types.Found.{Found}
 

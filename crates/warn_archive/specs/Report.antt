@@ -1,5 +1,5 @@
 -- The report of an input: its products, the lives that they tell, breaches and gaps, and the rows that are shown.
-use Rattle.std.specs.Prelude.{◌≤◌, ℕ, ◌+◌, ◌-◌, List, [], ◌∷◌, ◌++◌, length, map, flat_map, slice_index, slice_range, codes, decimal, Result, Ok, Err}
+use Rattle.std.specs.Prelude.{ℕ, ◌+◌, ◌-◌, List, [], ◌∷◌, ◌++◌, length, map, flat_map, slice_index, slice_range, codes, decimal, Result, Ok, Err}
 use Rattle.hazard_types.specs.Calendar.{stamp_of}
 use Rattle.hazard_types.specs.Hazards.{hazard_code}
 use Rattle.hazard_types.specs.declared.line.Row.{Row}

@@ -1,5 +1,5 @@
 -- What a run reads and writes, for each status.
-use Rattle.std.specs.Prelude.{◌≡◌, ◌≢◌, ◌≤◌, ◌⊎◌, ℕ, ◌+◌, ◌++◌, List, [], length, Option, codes, Result, IfOk, IsErrOf}
+use Rattle.std.specs.Prelude.{◌≡◌, ◌≢◌, ◌≤◌, ◌⊎◌, ℕ, ◌+◌, ◌++◌, List, length, Option, codes, Result, IfOk, IsErrOf}
 use Rattle.desk_traits.specs.Streams.{Takes, Adds, IsAtEnd}
 use Rattle.warn_archive.specs.declared.reading.Stop.{Stop}
 use Rattle.warn_archive.specs.declared.reading.Stop.TheVariants as stop

@@ -1,4 +1,6 @@
 //! Runs over sources and sinks that give a byte at a time and fail in turn.
+ghost use Rattle.std.specs.Prelude.{Some};
+
 use crate::desk::desk_run;
 use desk_traits::{Failed, MemSink, MemSource, Sink};
 use hazard_types::{List, Oom, Text};

@@ -5,4 +5,4 @@ use Rattle.product_decoder.proofs.taken.lines_of.Given as goal
 
 -- what is left makes the list whole
 abbrev pub invariant-loop-pair : goal.invariant-loop-pair
-invariant-loop-pair l = l.lines.items ++ lines_of l.rows l.t (map line_said (drop l.pair-index l.said)) ≡ lines_of l.rows l.t (map line_said l.said)
+invariant-loop-pair l = l.lines ++ lines_of l.rows l.t (map line_said (drop l.pair-index l.said)) ≡ lines_of l.rows l.t (map line_said l.said)

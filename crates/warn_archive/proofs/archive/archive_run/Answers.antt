@@ -1,6 +1,5 @@
-use Rattle.std.proofs.Common.{sym, ap, ◌∙◌, Ok, Err}
-use Rattle.warn_archive.specs.Report.{report, listed}
-use Rattle.warn_archive.proofs.Statuses.{read_fault_run, too_long_run, no_memory_run, handed_run}
+use Rattle.std.proofs.Common.{sym}
+use Rattle.warn_archive.proofs.Statuses.{read_fault_run, too_long_run, no_memory_run}
 use Rattle.warn_archive.proofs.archive.archive_run.Goals as goal
 
 pub returns-in-Err-Read-clause-run : goal.returns-in-Err-Read-clause-run

@@ -1,4 +1,4 @@
-use Rattle.std.proofs.Common.{◌≡◌, ◌≤◌, arith, length, take}
+use Rattle.std.proofs.Common.{arith, take}
 use Rattle.std.proofs.lemmas.List.{length-take}
 use Rattle.warn_archive.specs.declared.reading.Stop.TheVariants as stop
 use Rattle.warn_archive.proofs.Ending.{stops_by, reads_short}

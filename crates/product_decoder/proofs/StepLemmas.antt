@@ -1,0 +1,191 @@
+-- Steps put at their event and zone are found there, product by product.
+use Rattle.std.proofs.Common.{◌≡◌, ◌∙◌, ◌&&◌, ℕ, List, [], ◌∷◌, ◌++◌, Bool, true, false, cond, not, Ordering, Less, Equal, Greater, Option, Some, None, unwrap_or, Vec, Global, append_assoc, append-nil, map, fold, refl, ap, sym, subst}
+use Rattle.std.proofs.lemmas.Bool.{and_parts, false_from_ne_true}
+use Rattle.std.proofs.lemmas.Cmp.{tied_itself, then_total, on_total}
+use Rattle.std.specs.BTreeMap.{insert_entry, is_at}
+use Rattle.std.specs.Cmp.{IsTotalOrder}
+use Rattle.std.specs.Map.{lookup}
+use Rattle.std.specs.Option.{is_none}
+use Rattle.std.specs.Ordering.{match_ordering, ordering_then, is_eq}
+use Rattle.hazard_types.specs.Orders.{by_event}
+use Rattle.hazard_types.specs.Same.{same_event}
+use Rattle.hazard_types.specs.declared.line.Line.{Line}
+use Rattle.hazard_types.proofs.Equality.{event_one, event_itself, zone_one, zone_itself}
+use Rattle.hazard_types.proofs.OrderLaws.{by_event_total, by_event_ties, by_place_total, by_place_ties}
+use Rattle.event_life.specs.declared.life.Breach.{Breach}
+use Rattle.event_life.specs.Lives.{steps_of}
+use Rattle.event_life.specs.Products.{is_routine, speaks_of, lawful_of}
+use Rattle.product_decoder.specs.declared.taken.Taken.{Taken}
+use Rattle.product_decoder.specs.declared.tracks.Living.{Living}
+use Rattle.product_decoder.specs.declared.types.Track.{Track}
+use Rattle.product_decoder.specs.Lives.{by_living}
+use Rattle.product_decoder.specs.Steps.{Step, Steps, steps_at, living_of, with_line, with_product, steps_of_all, track_at, steps_view}
+use Rattle.product_decoder.specs.Takings.{steps_in, track_in}
+
+-- a map's lists
+
+abbrev Kept : Type 0
+Kept = Vec Step Global
+
+by_order : (o : Ordering) (e : Living × Kept) (es : List (Living × Kept)) (k : Living) (w : Kept) (tail : Steps) → steps_view (insert_entry by_living es k w) ≡ tail
+    → steps_view (match_ordering o ((k, w) ∷ e ∷ es) ((e.0, w) ∷ es) (e ∷ insert_entry by_living es k w))
+    ≡ match_ordering o ((k, w.items) ∷ (e.0, e.1.items) ∷ steps_view es) ((e.0, w.items) ∷ steps_view es) ((e.0, e.1.items) ∷ tail)
+by_order Less e es k w tail later = refl
+by_order Equal e es k w tail later = refl
+by_order Greater e es k w tail later = rw later refl
+
+lists_insert : (es : List (Living × Kept)) (k : Living) (w : Kept) → steps_view (insert_entry by_living es k w) ≡ insert_entry by_living (steps_view es) k w.items
+lists_insert [] k w = refl
+lists_insert (e ∷ es) k w = by_order (by_living k e.0) e es k w _ (lists_insert es k w)
+
+-- the steps of a list, which has none where there is no list
+abbrev pub kept_of : Option Kept → List Step
+kept_of None = []
+kept_of (Some w) = w.items
+
+at_first : (b : Bool) (e : Living × Kept) (o : Option Kept) (p : Option (List Step)) → kept_of o ≡ unwrap_or p [] → kept_of (cond b (Some e.1) o) ≡ unwrap_or (cond b (Some e.1.items) p) []
+at_first true e o p h = refl
+at_first false e o p h = h
+
+kept_at : (es : List (Living × Kept)) (k : Living) → kept_of (lookup (is_at (by_living k)) es) ≡ steps_at (steps_view es) k
+kept_at [] k = refl
+kept_at (e ∷ es) k = at_first (is_at (by_living k) e.0) e (lookup (is_at (by_living k)) es) (lookup (is_at (by_living k)) (steps_view es)) (kept_at es k)
+
+pub steps_found : (es : List (Living × Kept)) (k : Living) (o : Option Kept) → o ≡ lookup (is_at (by_living k)) es → kept_of o ≡ steps_at (steps_view es) k
+steps_found es k o is = ap kept_of is ∙ kept_at es k
+
+kept_or : (o : Option Kept) (d r : Kept) → r ≡ unwrap_or o d → d.items ≡ [] → r.items ≡ kept_of o
+kept_or None d r is empty = rw is empty
+kept_or (Some w) d r is empty = ap (λ (v : Kept). v.items) is
+
+-- the list at a key, or a new one, with one step more
+pub step_put : (new es : List (Living × Kept)) (k : Living) (w d r : Kept) (s : Step) → new ≡ insert_entry by_living es k w → r ≡ unwrap_or (lookup (is_at (by_living k)) es) d → d.items ≡ [] → w.items ≡ r.items ++ s ∷ []
+    → steps_view new ≡ insert_entry by_living (steps_view es) k (steps_at (steps_view es) k ++ s ∷ [])
+step_put new es k w d r s is found empty has =
+    let items : w.items ≡ steps_at (steps_view es) k ++ s ∷ [] = has ∙ ap (λ (steps : List Step). steps ++ s ∷ []) (kept_or (lookup (is_at (by_living k)) es) d r found empty ∙ kept_at es k) in
+    ap steps_view is ∙ lists_insert es k w ∙ ap (λ (steps : List Step). insert_entry by_living (steps_view es) k steps) items
+
+-- what is put at a key is found at that key alone
+
+module _ {K : Type 0} (cmp : K → K → Ordering) (total : IsTotalOrder cmp) (ties : (a b : K) → cmp a b ≡ Equal → a ≡ b) where
+  tied_to : (o : Ordering) → is_eq o ≡ true → o ≡ Equal
+  tied_to Less h = cc
+  tied_to Equal h = refl
+  tied_to Greater h = cc
+
+  pub at_one : (q k : K) → is_at (cmp q) k ≡ true → q ≡ k
+  at_one q k h = ties q k (tied_to (cmp q k) h)
+
+  at_itself : (k : K) → is_at (cmp k) k ≡ true
+  at_itself k = rw (tied_itself total k) refl
+
+module _ {K V : Type 0} (cmp : K → K → Ordering) (total : IsTotalOrder cmp) (ties : (a b : K) → cmp a b ≡ Equal → a ≡ b) where
+  abbrev at : List (K × List V) → K → List V
+  at es k = unwrap_or (lookup (is_at (cmp k)) es) []
+
+  abbrev or_none : Option (List V) → List V
+  or_none o = unwrap_or o []
+
+  same_by : (o : Ordering) (k : K) (e : K × List V) (es : List (K × List V)) (w : List V) → cmp k e.0 ≡ o
+      → at (insert_entry cmp es k w) k ≡ w → at (match_ordering o ((k, w) ∷ e ∷ es) ((e.0, w) ∷ es) (e ∷ insert_entry cmp es k w)) k ≡ w
+  same_by Less k e es w h later = rw (at_itself cmp total ties k) refl
+  same_by Equal k e es w h later = rw h refl
+  same_by Greater k e es w h later = rw h later
+
+  pub at_same : (k : K) (es : List (K × List V)) (w : List V) → at (insert_entry cmp es k w) k ≡ w
+  at_same k [] w = rw (at_itself cmp total ties k) refl
+  at_same k (e ∷ es) w = same_by (cmp k e.0) k e es w refl (at_same k es w)
+
+  other_first : (b : Bool) (xs : List V) (o p : Option (List V)) → or_none o ≡ or_none p → or_none (cond b (Some xs) o) ≡ or_none (cond b (Some xs) p)
+  other_first true xs o p h = refl
+  other_first false xs o p h = h
+
+  other_by : (o : Ordering) (q k : K) (e : K × List V) (es : List (K × List V)) (w : List V) → cmp k e.0 ≡ o → is_at (cmp q) k ≡ false
+      → at (insert_entry cmp es k w) q ≡ at es q → at (match_ordering o ((k, w) ∷ e ∷ es) ((e.0, w) ∷ es) (e ∷ insert_entry cmp es k w)) q ≡ at (e ∷ es) q
+  other_by Less q k e es w h f later = rw f refl
+  other_by Equal q k e es w h f later =
+      let g : is_at (cmp q) e.0 ≡ false = subst (λ (y : K). is_at (cmp q) y ≡ false) (ties k e.0 h) f in
+      rw g refl
+  other_by Greater q k e es w h f later = other_first (is_at (cmp q) e.0) e.1 (lookup (is_at (cmp q)) (insert_entry cmp es k w)) (lookup (is_at (cmp q)) es) later
+
+  pub at_other : (q k : K) (es : List (K × List V)) (w : List V) → is_at (cmp q) k ≡ false → at (insert_entry cmp es k w) q ≡ at es q
+  at_other q k [] w f = rw f refl
+  at_other q k (e ∷ es) w f = other_by (cmp k e.0) q k e es w refl f (at_other q k es w f)
+
+-- events and zones
+
+by_living_total : IsTotalOrder by_living
+by_living_total = then_total (on_total (λ (l : Living). l.event) by_event_total) (on_total (λ (l : Living). l.zone) by_place_total)
+
+both_tied : (o p : Ordering) → ordering_then o p ≡ Equal → (o ≡ Equal) × (p ≡ Equal)
+both_tied Less p h = cc
+both_tied Equal p h = (refl, h)
+both_tied Greater p h = cc
+
+by_living_ties : (a b : Living) → by_living a b ≡ Equal → a ≡ b
+by_living_ties a b h =
+    let p = both_tied (by_event a.event b.event) _ h in
+    let event_is = by_event_ties a.event b.event p.0 in
+    let zone_is = by_place_ties a.zone b.zone p.1 in
+    λ i. record { event = event_is i; zone = zone_is i }
+
+spoken : (line : Line) (l : Living) → speaks_of l.event l.zone line ≡ true → living_of line ≡ l
+spoken line l h =
+    let p = and_parts (not (is_routine line.action) && same_event line.event l.event) _ h in
+    let q = and_parts (not (is_routine line.action)) _ p.0 in
+    let event_is = event_one line.event l.event q.1 in
+    let zone_is = zone_one line.zone l.zone p.1 in
+    λ i. record { event = event_is i; zone = zone_is i }
+
+speaks : (line : Line) (l : Living) → is_routine line.action ≡ false → l ≡ living_of line → speaks_of l.event l.zone line ≡ true
+speaks line l routine is = subst (λ (k : Living). speaks_of k.event k.zone line ≡ true) (sym is) (rw (routine, event_itself line.event, zone_itself line.zone) refl)
+
+-- one line more
+
+line_by : (b : Bool) (issue : ℕ) (steps : Steps) (line : Line) (l : Living) → is_routine line.action ≡ false → speaks_of l.event l.zone line ≡ b
+    → steps_at (with_line issue steps line) l ≡ steps_at steps l ++ cond b ((line.action, issue) ∷ []) []
+line_by true issue steps line l routine h =
+    subst (λ (k : Living). steps_at (with_line issue steps line) k ≡ steps_at steps k ++ (line.action, issue) ∷ []) (spoken line l h)
+    (at_same by_living by_living_total by_living_ties (living_of line) steps (steps_at steps (living_of line) ++ (line.action, issue) ∷ []))
+line_by false issue steps line l routine h =
+    let left : is_at (by_living l) (living_of line) ≡ false = false_from_ne_true _ (λ g.
+    let e : true ≡ false = sym (speaks line l routine (at_one by_living by_living_total by_living_ties l (living_of line) g)) ∙ h in cc) in
+    at_other by_living by_living_total by_living_ties l (living_of line) steps (steps_at steps (living_of line) ++ (line.action, issue) ∷ []) left
+    ∙ sym (append-nil (steps_at steps l))
+
+joined : (b : Bool) (xs : List Step) (s : Step) (rest : List Step) → (xs ++ cond b (s ∷ []) []) ++ rest ≡ xs ++ cond b (s ∷ rest) rest
+joined true xs s rest = append_assoc xs (s ∷ []) rest
+joined false xs s rest = append_assoc xs [] rest
+
+lawful_by : (b : Bool) (issue : ℕ) (steps : Steps) (line : Line) (lines : List Line) (l : Living) → (b ≡ true → is_routine line.action ≡ false)
+    → ((s : Steps) → steps_at (fold (with_line issue) s lines) l ≡ steps_at s l ++ steps_of issue l.event l.zone lines)
+    → steps_at (fold (with_line issue) steps (cond b (line ∷ lines) lines)) l ≡ steps_at steps l ++ steps_of issue l.event l.zone (cond b (line ∷ lines) lines)
+lawful_by false issue steps line lines l routine later = later steps
+lawful_by true issue steps line lines l routine later =
+    later (with_line issue steps line)
+    ∙ ap (λ (xs : List Step). xs ++ steps_of issue l.event l.zone lines) (line_by (speaks_of l.event l.zone line) issue steps line l (routine refl) refl)
+    ∙ joined (speaks_of l.event l.zone line) (steps_at steps l) (line.action, issue) (steps_of issue l.event l.zone lines)
+
+no_routine : (b c : Bool) → (not b && c) ≡ true → b ≡ false
+no_routine true c h = cc
+no_routine false c h = refl
+
+lines_at : (issue : ℕ) (steps : Steps) (judged : List (Line × Option Breach)) (l : Living)
+    → steps_at (fold (with_line issue) steps (lawful_of judged)) l ≡ steps_at steps l ++ steps_of issue l.event l.zone (lawful_of judged)
+lines_at issue steps [] l = sym (append-nil (steps_at steps l))
+lines_at issue steps (j ∷ judged) l =
+    lawful_by (not (is_routine j.0.action) && is_none j.1) issue steps j.0 (lawful_of judged) l (no_routine (is_routine j.0.action) (is_none j.1)) (λ s. lines_at issue s judged l)
+
+products_at : (steps : Steps) (taken : List Taken) (l : Living) → steps_at (fold with_product steps taken) l ≡ steps_at steps l ++ steps_in l.event l.zone taken
+products_at steps [] l = sym (append-nil (steps_at steps l))
+products_at steps (t ∷ taken) l =
+    products_at (with_product steps t) taken l
+    ∙ ap (λ (xs : List Step). xs ++ steps_in l.event l.zone taken) (lines_at t.issue steps t.judged l)
+    ∙ append_assoc (steps_at steps l) (steps_of t.issue l.event l.zone (lawful_of t.judged)) (steps_in l.event l.zone taken)
+
+track_is : (taken : List Taken) (l : Living) → track_at (steps_of_all taken) l ≡ track_in taken l
+track_is taken l = ap (λ (steps : List Step). record { event = l.event; zone = l.zone; steps = steps }) (products_at [] taken l)
+
+-- the lives of events in zones are those that their steps in the products make
+pub tracks_are : (taken : List Taken) (ls : List Living) → map (track_at (steps_of_all taken)) ls ≡ map (track_in taken) ls
+tracks_are taken ls = ap (λ (f : Living → Track). map f ls) (λ i l. track_is taken l i)

@@ -1,0 +1,10 @@
+-- The steps at the event and zone, or new ones there, have one step more.
+use Rattle.std.proofs.Common.{rules}
+use Rattle.product_decoder.proofs.StepLemmas.{step_put}
+use Rattle.product_decoder.proofs.tracks.add_line.Goals as goal
+
+pub returns : goal.returns
+returns c =
+    let held = rw c.in_ok-steps.ensures.value at c.or_insert.ensures.value in
+    let put = step_put _ c.args.steps.now.entries c.living_of.result c.push.new.self c.new.result c.or_insert.result.now (c.args.line.now.action, c.args.issue) (search rules) held c.new.ensures.items c.in_ok-push.ensures.items in
+    rw (← c.living_of.ensures) put

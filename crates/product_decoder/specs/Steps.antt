@@ -1,0 +1,44 @@
+-- Steps of events in zones, found by event and zone.
+use Rattle.std.specs.Prelude.{◌++◌, ℕ, List, [], ◌∷◌, fold, map, unwrap_or, Vec}
+use Rattle.std.specs.BTreeMap.{insert_entry, is_at}
+use Rattle.std.specs.Map.{lookup}
+use Rattle.std.specs.declared.alloc.Global.{Global}
+use Rattle.hazard_types.specs.declared.codes.Action.{Action}
+use Rattle.hazard_types.specs.declared.line.Line.{Line}
+use Rattle.event_life.specs.Products.{lawful_of}
+use Rattle.product_decoder.specs.declared.taken.Taken.{Taken}
+use Rattle.product_decoder.specs.declared.tracks.Living.{Living}
+use Rattle.product_decoder.specs.declared.types.Track.{Track}
+use Rattle.product_decoder.specs.Lives.{by_living}
+
+abbrev pub Step : Type 0
+Step = Action × ℕ
+
+-- the steps of each event in a zone, by event, then zone
+abbrev pub Steps : Type 0
+Steps = List (Living × List Step)
+
+-- those of an event in a zone, which has none where it does not stand
+abbrev pub steps_at : Steps → Living → List Step
+steps_at steps l = unwrap_or (lookup (is_at (by_living l)) steps) []
+
+abbrev pub living_of : Line → Living
+living_of line = record { event = line.event; zone = line.zone }
+
+-- one step more, of the event and zone of a line
+abbrev pub with_line : ℕ → Steps → Line → Steps
+with_line issue steps line = insert_entry by_living steps (living_of line) (steps_at steps (living_of line) ++ (line.action, issue) ∷ [])
+
+-- those of the lawful lines of a product
+abbrev pub with_product : Steps → Taken → Steps
+with_product steps t = fold (with_line t.issue) steps (lawful_of t.judged)
+
+abbrev pub steps_of_all : List Taken → Steps
+steps_of_all taken = fold with_product [] taken
+
+abbrev pub track_at : Steps → Living → Track
+track_at steps l = record { event = l.event; zone = l.zone; steps = steps_at steps l }
+
+-- what the map of the code holds
+abbrev pub steps_view : List (Living × Vec Step Global) → Steps
+steps_view es = map (λ e. (e.0, e.1.items)) es

@@ -1,0 +1,77 @@
+//! The rows of an office's class, each at its seat: found by zone and event.
+ghost use Rattle.std.specs.Prelude.{◌≡◌, filter, IfOk, OnOk};
+ghost use Rattle.std.specs.BTreeMap.{insert_entry};
+ghost use Rattle.std.specs.Map.{values_of};
+ghost use Rattle.event_life.specs.Products.{put};
+ghost use Rattle.row_index.specs.Shelves.{is_in_zone};
+ghost use Rattle.row_index.specs.Seating.{AreSeated};
+
+use hazard_types::{Event, List, Oom, Row, Zone};
+use std::alloc::{AllocError, Global};
+use std::collections::BTreeMap;
+
+/// A spot in a zone: in front of all events, at an event, or behind them all.
+#[derive(Clone, Copy, PartialEq, Eq, PartialOrd, Ord)]
+pub enum Spot {
+    Front,
+    At(Event),
+    Back,
+}
+
+/// Where a row stands among all rows. Seats are in order by zone, then spot.
+#[derive(Clone, Copy, PartialEq, Eq, PartialOrd, Ord)]
+pub struct Seat {
+    pub zone: Zone,
+    pub spot: Spot,
+}
+
+/// The rows, each at its seat.
+pub type Seated = BTreeMap<Seat, Row>;
+
+/// Sets the value at a key.
+fn set<K: Ord + Drop, V: Copy>(map: &mut BTreeMap<K, V>, key: K, value: &V) -> Result<(), Oom>
+    ensures { OnOk result (map.new.entries ≡ insert_entry K.cmp map.old.entries key value.now) }
+{
+    map.insert(key, *value)?;
+    Ok(())
+}
+
+/// Puts a row in the place of the one of its zone and event, or in its own place.
+pub fn put_seated(seated: &mut Seated, row: &Row) -> Result<(), Oom>
+    requires { AreSeated seated.old.entries }
+    ensures rows { OnOk result (values_of seated.new.entries ≡ put row.now (values_of seated.old.entries)) }
+    ensures seated { OnOk result (AreSeated seated.new.entries) }
+{
+    let spot = Spot::At(row.event);
+    let seat = Seat {
+        zone: row.zone,
+        spot,
+    };
+    set(seated, seat, row)
+}
+
+/// The rows of a zone, in order.
+pub fn rows_in(alloc: Global, seated: &Seated, zone: &Zone) -> Result<Vec<Row>, AllocError>
+    requires { AreSeated seated.now.entries }
+    ensures { IfOk result (λ rows. rows.items ≡ filter (is_in_zone zone.now) (values_of seated.now.entries)) }
+{
+    let front = Seat {
+        zone: *zone,
+        spot: Spot::Front,
+    };
+    let back = Seat {
+        zone: *zone,
+        spot: Spot::Back,
+    };
+    seated
+        .range(front..back)
+        .map(|(_, row)| *row)
+        .collect(alloc)
+}
+
+/// All rows, in order.
+pub fn all_rows(alloc: Global, seated: &Seated) -> Result<Vec<Row>, AllocError>
+    ensures { IfOk result (λ rows. rows.items ≡ values_of seated.now.entries) }
+{
+    seated.values().copied().collect(alloc)
+}
