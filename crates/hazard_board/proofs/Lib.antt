@@ -10,3 +10,4 @@ pub mod OtherDayLemmas
 pub mod OverProducts
 pub mod SeatLemmas
 pub mod Turns
+pub mod DeadLemmas

@@ -33,10 +33,13 @@ fn clash(t: Minute, a: &Row, b: &Row) -> bool
         && overlaps(&a.period, &b.period)
 }
 
-/// The first of the other rows that clashes with this one.
+/// The first of the other rows that clashes with this one: none where this one is not live.
 fn clash_with(first: &Row, others: &[Row], t: Minute) -> Option<Clash>
     ensures { result ≡ option_map (clash_of first.now) (find (clash t first.now) others.now) }
 {
+    if !is_live(first, t) {
+        return None;
+    }
     let second = others.iter().find(|row| clash(t, first, row))?;
     Some(Clash {
         zone: first.zone,
