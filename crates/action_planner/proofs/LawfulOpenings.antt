@@ -65,7 +65,7 @@ map_step : (b : Bool) (e : Event) (events : List Event) → map (λ (x : Event).
 map_step true e events = refl
 map_step false e events = refl
 
-numbers-cons : (h : Hazard) (year : ℕ) (e : Event) (events : List Event) → numbers_of h year (e ∷ events) ≡ cond (is_numbered h year e) (e.etn ∷ numbers_of h year events) (numbers_of h year events)
+pub numbers-cons : (h : Hazard) (year : ℕ) (e : Event) (events : List Event) → numbers_of h year (e ∷ events) ≡ cond (is_numbered h year e) (e.etn ∷ numbers_of h year events) (numbers_of h year events)
 numbers-cons h year e events = map_step (is_numbered h year e) e (filter (is_numbered h year) events)
 
 opened_step : (b : Bool) (p : Placed) (ps : List Placed) → map (λ (x : Placed). x.event) (cond b (p ∷ ps) ps) ≡ cond b (p.event ∷ map (λ (x : Placed). x.event) ps) (map (λ (x : Placed). x.event) ps)
@@ -242,7 +242,7 @@ module _ (rows : List Row) (t : ℕ) (all : List Placed) where
       let n = new_among all some m.0 k.0 k.1 in
       (n.0, has_left (lines_from rows t all all) (added_lines c rows t all) n.0 n.1, n.2, n.3 ∙ m.2)
 
-some_placed : (counts : List Count) (c : Category) (t : ℕ) (earlier intents : List Intent) → AllByRecursion (MayHold c) intents → AllByRecursion (λ p. 1 ≤ length (zones_of p.intent)) (placed_from counts t earlier intents)
+pub some_placed : (counts : List Count) (c : Category) (t : ℕ) (earlier intents : List Intent) → AllByRecursion (MayHold c) intents → AllByRecursion (λ p. 1 ≤ length (zones_of p.intent)) (placed_from counts t earlier intents)
 some_placed counts c t earlier [] all = tt
 some_placed counts c t earlier (i ∷ intents) all = (all.0.1.some, some_placed counts c t (earlier ++ i ∷ []) intents all.1)
 

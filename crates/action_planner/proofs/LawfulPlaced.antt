@@ -41,15 +41,15 @@ or_none : {X : Type 0} (a b : Option X) → option_or a b ≡ None → (a ≡ No
 or_none None b h = (refl, h)
 or_none (Some x) b h = cc
 
-given_none : {X : Type 0} (xs : List (Option X)) → first_given xs ≡ None → AllByRecursion (λ x. x ≡ None) xs
+pub given_none : {X : Type 0} (xs : List (Option X)) → first_given xs ≡ None → AllByRecursion (λ x. x ≡ None) xs
 given_none [] h = tt
 given_none (x ∷ xs) h = let p = or_none x (first_given xs) h in (p.0, given_none xs p.1)
 
-by_none : (rule : Placed → Option Refusal) (ps : List Placed) → first_by rule ps ≡ None → AllByRecursion (λ p. rule p ≡ None) ps
+pub by_none : (rule : Placed → Option Refusal) (ps : List Placed) → first_by rule ps ≡ None → AllByRecursion (λ p. rule p ≡ None) ps
 by_none rule [] h = tt
 by_none rule (p ∷ ps) h = let q = or_none (rule p) (first_by rule ps) h in (q.0, by_none rule ps q.1)
 
-map_none : {X Y : Type 0} (f : X → Y) (o : Option X) → option_map f o ≡ None → o ≡ None
+pub map_none : {X Y : Type 0} (f : X → Y) (o : Option X) → option_map f o ≡ None → o ≡ None
 map_none f None h = refl
 map_none f (Some x) h = cc
 

@@ -17,5 +17,8 @@ pub mod CasesLines
 pub mod Cases
 pub mod SendingLemmas
 pub mod SpokenLemmas
+pub mod StandingNumbers
+pub mod StandingRows
+pub mod Standing
 pub mod TextLemmas
 pub mod PlanLemmas

@@ -8,3 +8,4 @@ pub mod Spoken
 pub mod Sending
 pub mod Texts
 pub mod Plans
+pub mod Standing

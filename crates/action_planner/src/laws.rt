@@ -1,5 +1,5 @@
 //! Laws of planned lines.
-ghost use Rattle.std.specs.Prelude.{◌≡◌, ◌↔◌, ◌+◌, ℕ, true, List, None, IsTrue, count_by, filter_map, is_none, map};
+ghost use Rattle.std.specs.Prelude.{◌≡◌, ◌↔◌, ◌≤◌, ◌+◌, ℕ, true, List, [], ◌∷◌, ◌++◌, None, IsTrue, count_by, filter_map, is_none, map};
 ghost use Rattle.std.specs.List.{All, AllPairs, Any, Contains};
 ghost use Rattle.std.specs.List.Sorted.{IsStrictlySortedBy};
 ghost use Rattle.hazard_types.specs.Days.{year_of};
@@ -10,16 +10,18 @@ ghost use Rattle.hazard_types.specs.declared.line.Line.{Line};
 ghost use Rattle.hazard_types.specs.declared.line.Row.{Row};
 ghost use Rattle.hazard_types.specs.declared.request.Intent.{Intent};
 ghost use Rattle.event_life.specs.Lives.{opens};
-ghost use Rattle.event_life.specs.Openings.{numbers_of, counted_from};
-ghost use Rattle.event_life.specs.Products.{by_key, is_new, row_at};
+ghost use Rattle.event_life.specs.Openings.{numbers_of, counted_from, is_numbered};
+ghost use Rattle.event_life.specs.Products.{by_key, is_new, row_at, rows_after};
 ghost use Rattle.event_numbers.specs.declared.Count.{Count};
 ghost use Rattle.event_numbers.specs.Counts.{count_of};
 ghost use Rattle.hazard_board.specs.Board.{are_lawful};
+ghost use Rattle.hazard_board.specs.Consistent.{NoneIsAhead};
 ghost use Rattle.action_planner.specs.Placed.{placed, opened, opens_hazard};
 ghost use Rattle.action_planner.specs.Lines.{planned_lines};
 ghost use Rattle.action_planner.specs.Offences.{broken};
 ghost use Rattle.action_planner.specs.Conditions.{CanPlan};
 ghost use Rattle.action_planner.specs.Cases.{IsPlanned, hazard_opened};
+ghost use Rattle.action_planner.specs.Standing.{DrawsAll, Stands};
 
 /// Where a draft breaks no rule, none of its lines has a breach.
 pub fn planned_lines_are_lawful()
@@ -70,4 +72,29 @@ pub fn planned_lines_are_those_planned()
 pub fn opened_events_stand_in_order()
     ensures { (counts : List Count) (intents : List Intent) (t : ℕ) →
         map (λ (e : Event). e.hazard) (opened (placed counts t intents)) ≡ filter_map hazard_opened intents }
+{}
+
+/// At first, without rows and numbers, all of this holds.
+pub fn nothing_stands_at_first()
+    ensures { (t : ℕ) → Stands [] [] t }
+{}
+
+/// What stands at a minute stands at later ones.
+pub fn what_stands_stands_later()
+    ensures { (rows : List Row) (counts : List Count) (t u : ℕ) → t ≤ u → Stands rows counts t → Stands rows counts u }
+{}
+
+/// Each event that a draft without a broken rule opens has the number behind those that were drawn before it, and it is one of four digits.
+pub fn opened_events_are_drawn_in_order()
+    ensures { (c : Category) (rows : List Row) (counts : List Count) (intents : List Intent) (t : ℕ) (earlier later : List Event) (e : Event) →
+        broken c rows t (placed counts t intents) ≡ None → opened (placed counts t intents) ≡ earlier ++ e ∷ later →
+        (e.etn ≡ count_of counts e.hazard e.year + count_by (is_numbered e.hazard e.year) earlier + 1) × (e.etn ≤ 9999) }
+{}
+
+/// The product of a draft that breaks no rule keeps what stands, once the events that it opens drew their numbers.
+pub fn plans_keep_what_stands()
+    ensures { (c : Category) (rows : List Row) (counts after : List Count) (intents : List Intent) (t : ℕ) →
+        CanPlan rows counts c intents t → NoneIsAhead rows t → IsStrictlySortedBy by_key rows → broken c rows t (placed counts t intents) ≡ None →
+        DrawsAll counts after (opened (placed counts t intents)) →
+        Stands (rows_after rows t (planned_lines c rows t (placed counts t intents))) after t }
 {}
