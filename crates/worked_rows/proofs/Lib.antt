@@ -1,1 +1,4 @@
-pub mod WorkedLemmas
+pub mod DrawLemmas
+pub mod Expiries
+pub mod OnceLemmas
+pub mod SegmentLemmas

@@ -1,1 +1,2 @@
-pub mod WorkedDays
+pub mod Days
+pub mod Written
