@@ -20,6 +20,3 @@ pub use laws::{
     planned_lines_open_where_no_row_stands, plans_keep_what_stands, what_stands_stands_later,
 };
 pub use planning::plan;
-
-#[cfg(test)]
-mod spoken_tests;

@@ -1,4 +1,6 @@
-//! Runs over sources that give seven bytes at a time, and sources and sinks that fail in turn.
+//! Runs over sources that give some bytes at a time, and sources and sinks that fail in turn.
+ghost use Rattle.std.specs.Prelude.{◌≤◌};
+
 use crate::archive::archive_run;
 use desk_traits::{MemSink, MemSource};
 use hazard_types::{List, Oom, Text};
@@ -25,29 +27,49 @@ struct Outcome {
     text: Text,
 }
 
-/// A run over these pieces, laid end to end, with one read and one write that fail; 0 is no call's number.
-fn run_over(
+/// A run over an input that comes so many bytes at a time, with one read and one write that fail; 0 is no call's number.
+fn run_on(
     alloc: Global,
     words: &[&[u8]],
-    pieces: &[&[u8]],
+    input: &[u8],
+    piece: usize,
     bad_read: u64,
     bad_write: u64,
-) -> Result<Outcome, Oom> {
+) -> Result<Outcome, Oom>
+    requires { 1 ≤ piece }
+{
     let mut list = List::new(alloc);
     for word in words {
         list.push(List::from_slice(alloc, word)?)?;
     }
-    let mut input = List::new(alloc);
-    for piece in pieces {
-        input.extend(piece)?;
-    }
     let failing_read = List::from_slice(alloc, &[bad_read])?;
     let failing_write = List::from_slice(alloc, &[bad_write])?;
-    let mut source = MemSource::new(alloc, input.as_slice(), 7, &failing_read)?;
+    let mut source = MemSource::new(alloc, input, piece, &failing_read)?;
     let mut sink = MemSink::new(alloc, &failing_write)?;
     let status = archive_run(alloc, &list, &mut source, &mut sink);
     let text = sink.taken().clone()?;
     Ok(Outcome { status, text })
+}
+
+/// Some texts, laid end to end.
+fn joined(alloc: Global, texts: &[&[u8]]) -> Result<Text, Oom> {
+    let mut whole = List::new(alloc);
+    for text in texts {
+        whole.extend(text)?;
+    }
+    Ok(whole)
+}
+
+/// A run over these texts, laid end to end, seven bytes at a time.
+fn run_over(
+    alloc: Global,
+    words: &[&[u8]],
+    texts: &[&[u8]],
+    bad_read: u64,
+    bad_write: u64,
+) -> Result<Outcome, Oom> {
+    let input = joined(alloc, texts)?;
+    run_on(alloc, words, input.as_slice(), 7, bad_read, bad_write)
 }
 
 #[test]
@@ -80,6 +102,26 @@ fn other_words_are_refused(rt: HostRuntime) -> Result<(), Fail> {
         let end = run_over(rt.alloc(), words, &[FRONT, END], 0, 0)?;
         assert_eq!(rt; end.status, 2);
         assert_eq!(rt; end.text.as_slice(), b"fault Usage\n".as_slice());
+    }
+    Ok(())
+}
+
+/// A text that is cut off after any of its bytes has a report, the same one whether it comes one, seven or a thousand bytes at a time.
+#[test]
+fn the_text_is_cut_after_each_byte(rt: HostRuntime) -> Result<(), Fail> {
+    let alloc = rt.alloc();
+    let words: [&[u8]; 3] = [b"KDMX", b"O", b"180103T1700Z"];
+    let whole = joined(alloc, &[FRONT, END])?;
+    for length in 0..whole.len() + 1 {
+        let input = &whole.as_slice()[..length];
+        let single = run_on(alloc, &words, input, 1, 0, 0)?;
+        let seven = run_on(alloc, &words, input, 7, 0, 0)?;
+        let thousand = run_on(alloc, &words, input, 1000, 0, 0)?;
+        assert!(rt; single.status == 0 || single.status == 3);
+        assert_eq!(rt; single.status, seven.status);
+        assert_eq!(rt; single.status, thousand.status);
+        assert_eq!(rt; single.text, seven.text);
+        assert_eq!(rt; single.text, thousand.text);
     }
     Ok(())
 }
