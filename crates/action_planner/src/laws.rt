@@ -74,7 +74,7 @@ pub fn opened_events_stand_in_order()
         map (λ (e : Event). e.hazard) (opened (placed counts t intents)) ≡ filter_map hazard_opened intents }
 {}
 
-/// At first, without rows and numbers, all of this holds.
+/// Of no rows and no numbers all holds that stands between the products of an office.
 pub fn nothing_stands_at_first()
     ensures { (t : ℕ) → Stands [] [] t }
 {}

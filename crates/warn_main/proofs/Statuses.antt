@@ -1,14 +1,14 @@
 -- What was read and written at each status.
-use Rattle.std.proofs.Common.{ℕ, ◌≡◌, ◌≢◌, ◌⊎◌, inl, inr, List, ◌++◌, refl, ap, sym, ◌∙◌, append_assoc, Option, Ok, Err, IsTrue, [], rules, arith}
+use Rattle.std.proofs.Common.{ℕ, ◌≡◌, ◌≢◌, ◌⊎◌, inl, inr, List, ◌++◌, refl, ap, sym, ◌∙◌, take, append_assoc, Option, Ok, Err, IsTrue, [], rules, arith}
 use Rattle.desk_traits.specs.Streams.{Adds}
 use Rattle.desk_traits.proofs.Pieces.{adds_both}
 use Rattle.warn_main.specs.declared.run.Stop.{Stop}
 use Rattle.warn_main.specs.declared.run.Stop.TheVariants as stop
 use Rattle.warn_main.specs.declared.words.Dry.{Dry}
 use Rattle.vtec_string.specs.Columns.{is_office}
-use Rattle.warn_main.specs.Lines.{lines_of}
+use Rattle.warn_main.specs.Lines.{ended_lines, lines_of}
 use Rattle.warn_main.proofs.Telling.{answers_told}
-use Rattle.warn_main.specs.Runs.{AddsFront, Ends, IsDryRun, IsFaultLine, read_fault_line, write_fault_line, no_memory_line, too_long_line}
+use Rattle.warn_main.specs.Runs.{AddsFront, Ends, IsDryRun, IsFaultLine, limit, read_fault_line, write_fault_line, no_memory_line, too_long_line}
 
 module _ (dry : Dry) (left left' taken mid taken' : Option (List ℕ)) (status : ℕ) where
   not_either : (a b : ℕ) → (status ≡ a → ⊥) → (status ≡ b → ⊥) → ((status ≡ a) ⊎ (status ≡ b)) → ⊥
@@ -27,6 +27,8 @@ module _ (dry : Dry) (left left' taken mid taken' : Option (List ℕ)) (status :
     ended = λ q. absurd (omega arith);
     answered = λ q. absurd (omega arith);
     segments = λ q. absurd (omega arith);
+    segments_so_far = λ q. absurd (omega arith);
+    segments_within = λ q. absurd (omega arith);
     read_fault = λ q. absurd (omega arith);
     over = λ q. absurd (omega arith);
     too_long = λ q. absurd (omega arith);
@@ -41,8 +43,8 @@ module _ (dry : Dry) (left left' taken mid taken' : Option (List ℕ)) (status :
     others = search rules;
   }
 
-  pub read_fault_run : {T R : Type 0} → Ends {T = T} dry left left' taken mid (Err stop.Read) → ((status ≡ 7) ⊎ ((status ≡ 8) × R)) → (status ≢ 8 → Adds mid taken' read_fault_line) → AddsFront mid taken' read_fault_line → IsDryRun dry left left' taken taken' status
-  read_fault_run ends (inl e) whole some =
+  pub read_fault_run : {T R : Type 0} → IsTrue (is_office dry.office) → Ends {T = T} dry left left' taken mid (Err stop.Read) → ((status ≡ 7) ⊎ ((status ≡ 8) × R)) → (status ≢ 8 → Adds mid taken' read_fault_line) → AddsFront mid taken' read_fault_line → IsDryRun dry left left' taken taken' status
+  read_fault_run office ends (inl e) whole some =
       let told = ends.read_fault refl in
       record {
         read = ends.read;
@@ -54,6 +56,8 @@ module _ (dry : Dry) (left left' taken mid taken' : Option (List ℕ)) (status :
         ended = λ q. absurd (omega arith);
         answered = λ q. absurd (omega arith);
         segments = λ q. absurd (omega arith);
+        segments_so_far = λ _. answers_told dry office [] (ended_lines ends.read);
+        segments_within = λ q. absurd (omega arith);
         read_fault = λ _. ap (λ (t : List ℕ). t ++ read_fault_line) told.1;
         over = λ q. absurd (omega arith);
         too_long = λ q. absurd (omega arith);
@@ -61,10 +65,10 @@ module _ (dry : Dry) (left left' taken mid taken' : Option (List ℕ)) (status :
         write_fault = λ q. absurd (omega arith);
         others = search rules;
       }
-  read_fault_run ends (inr (e, r)) whole some = cut_run stop.Read ends read_fault_line (inl refl) some e
+  read_fault_run office ends (inr (e, r)) whole some = cut_run stop.Read ends read_fault_line (inl refl) some e
 
-  pub too_long_run : {T R : Type 0} → Ends {T = T} dry left left' taken mid (Err stop.TooLong) → ((status ≡ 13) ⊎ ((status ≡ 8) × R)) → (status ≢ 8 → Adds mid taken' too_long_line) → AddsFront mid taken' too_long_line → IsDryRun dry left left' taken taken' status
-  too_long_run ends (inl e) whole some =
+  pub too_long_run : {T R : Type 0} → IsTrue (is_office dry.office) → Ends {T = T} dry left left' taken mid (Err stop.TooLong) → ((status ≡ 13) ⊎ ((status ≡ 8) × R)) → (status ≢ 8 → Adds mid taken' too_long_line) → AddsFront mid taken' too_long_line → IsDryRun dry left left' taken taken' status
+  too_long_run office ends (inl e) whole some =
       let told = ends.too_long refl in
       record {
         read = ends.read;
@@ -76,6 +80,8 @@ module _ (dry : Dry) (left left' taken mid taken' : Option (List ℕ)) (status :
         ended = λ q. absurd (omega arith);
         answered = λ q. absurd (omega arith);
         segments = λ q. absurd (omega arith);
+        segments_so_far = λ q. absurd (omega arith);
+        segments_within = λ _. answers_told dry office [] (ended_lines (take limit ends.read));
         read_fault = λ q. absurd (omega arith);
         over = λ _. told.0;
         too_long = λ _. ap (λ (t : List ℕ). t ++ too_long_line) told.1;
@@ -83,7 +89,7 @@ module _ (dry : Dry) (left left' taken mid taken' : Option (List ℕ)) (status :
         write_fault = λ q. absurd (omega arith);
         others = search rules;
       }
-  too_long_run ends (inr (e, r)) whole some = cut_run stop.TooLong ends too_long_line (search rules) some e
+  too_long_run office ends (inr (e, r)) whole some = cut_run stop.TooLong ends too_long_line (search rules) some e
 
   pub no_memory_run : {T R : Type 0} → Ends {T = T} dry left left' taken mid (Err stop.OutOfMemory) → ((status ≡ 12) ⊎ ((status ≡ 8) × R)) → (status ≢ 8 → Adds mid taken' no_memory_line) → AddsFront mid taken' no_memory_line → IsDryRun dry left left' taken taken' status
   no_memory_run ends (inl e) whole some = record {
@@ -96,6 +102,8 @@ module _ (dry : Dry) (left left' taken mid taken' : Option (List ℕ)) (status :
     ended = λ q. absurd (omega arith);
     answered = λ q. absurd (omega arith);
     segments = λ q. absurd (omega arith);
+    segments_so_far = λ q. absurd (omega arith);
+    segments_within = λ q. absurd (omega arith);
     read_fault = λ q. absurd (omega arith);
     over = λ q. absurd (omega arith);
     too_long = λ q. absurd (omega arith);
@@ -121,6 +129,8 @@ module _ (dry : Dry) (left left' taken mid taken' : Option (List ℕ)) (status :
     ended = λ _. ends.ended.0;
     answered = λ _. ends.ended.2;
     segments = λ _. rw ends.ended.2 (answers_told dry office [] (lines_of ends.read));
+    segments_so_far = λ q. absurd (omega arith);
+    segments_within = λ q. absurd (omega arith);
     read_fault = λ q. absurd (omega arith);
     over = λ q. absurd (omega arith);
     too_long = λ q. absurd (omega arith);

@@ -5,7 +5,7 @@ use Rattle.warn_main.specs.declared.run.Stop.{Stop}
 use Rattle.warn_main.specs.declared.run.Stop.TheVariants as stop
 use Rattle.warn_main.specs.declared.words.Dry.{Dry}
 use Rattle.hazard_types.specs.Places.{Place}
-use Rattle.warn_main.specs.Lines.{Pending, pending_of, lines_from, rest_from, lines_of}
+use Rattle.warn_main.specs.Lines.{Pending, pending_of, lines_from, rest_from, ended_lines, lines_of}
 use Rattle.warn_main.specs.Segments.{Segments, numbered_from, accepted_lines}
 use Rattle.warn_main.specs.Answers.{answers, zones_after, answers_to, answers_so_far}
 
@@ -67,8 +67,11 @@ pub record IsDryRun (dry : Dry) (left left' taken taken' : Option (List ℕ)) (s
   -- Its segments say the zones and periods of the accepted lines, numbered 1, 2 and so on.
   pub segments : status ≡ 0 → Segments written (numbered_from dry 1 (accepted_lines dry [] (lines_of read)))
   pub read_fault : status ≡ 7 → written ≡ answers_so_far dry read ++ read_fault_line
+  -- So do those in front of the line of a read fault, and of an input that is too long.
+  pub segments_so_far : status ≡ 7 → Segments (answers_so_far dry read) (numbered_from dry 1 (accepted_lines dry [] (ended_lines read)))
   pub over : status ≡ 13 → length read ≡ limit + 1
   pub too_long : status ≡ 13 → written ≡ answers_so_far dry (take limit read) ++ too_long_line
+  pub segments_within : status ≡ 13 → Segments (answers_so_far dry (take limit read)) (numbered_from dry 1 (accepted_lines dry [] (ended_lines (take limit read))))
   pub no_memory : status ≡ 12 → (front : List ℕ) × Begins front (answers_to dry read) × (written ≡ front ++ no_memory_line)
   pub write_fault : status ≡ 8 → IsCutShort dry read written
   pub others : (status ≡ 0) ⊎ (status ≡ 7) ⊎ (status ≡ 8) ⊎ (status ≡ 12) ⊎ (status ≡ 13)

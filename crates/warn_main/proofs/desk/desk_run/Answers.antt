@@ -7,7 +7,7 @@ returns-in-Err-Read-clause-run g c =
     let ends = rw c.in-Err-Read.field-0-is at c.in-Err-Read.ensures.ends in
     rw (sym c.in-Some.ensures.value)
     (read_fault_run c.in-Some.dry (g.S.Source.left c.args.input.now) (g.S.Source.left c.run_lines.new.input) (g.K.Sink.taken c.args.output.now) (g.K.Sink.taken c.run_lines.new.output) (g.K.Sink.taken c.fault-in-Err-Read.new.output) c.fault-in-Err-Read.result
-    ends c.fault-in-Err-Read.ensures.status c.fault-in-Err-Read.ensures.whole c.fault-in-Err-Read.ensures.front)
+    c.in-Some.ensures.office ends c.fault-in-Err-Read.ensures.status c.fault-in-Err-Read.ensures.whole c.fault-in-Err-Read.ensures.front)
 
 pub returns-in-Err-Write-clause-run : goal.returns-in-Err-Write-clause-run
 returns-in-Err-Write-clause-run g c =
@@ -21,7 +21,7 @@ returns-in-Err-TooLong-clause-run g c =
     let ends = rw c.in-Err-TooLong.field-0-is at c.in-Err-TooLong.ensures.ends in
     rw (sym c.in-Some.ensures.value)
     (too_long_run c.in-Some.dry (g.S.Source.left c.args.input.now) (g.S.Source.left c.run_lines.new.input) (g.K.Sink.taken c.args.output.now) (g.K.Sink.taken c.run_lines.new.output) (g.K.Sink.taken c.fault-in-Err-TooLong.new.output) c.fault-in-Err-TooLong.result
-    ends c.fault-in-Err-TooLong.ensures.status c.fault-in-Err-TooLong.ensures.whole c.fault-in-Err-TooLong.ensures.front)
+    c.in-Some.ensures.office ends c.fault-in-Err-TooLong.ensures.status c.fault-in-Err-TooLong.ensures.whole c.fault-in-Err-TooLong.ensures.front)
 
 pub returns-in-Err-OutOfMemory-clause-run : goal.returns-in-Err-OutOfMemory-clause-run
 returns-in-Err-OutOfMemory-clause-run g c =
