@@ -130,8 +130,13 @@ fn fill(
         let Some(draft) = brief_draft(alloc, hazard, some, t)? else {
             return Ok(done);
         };
-        if some == 0 || !may_be_sent(day, &draft, t) || day.send(alloc, &draft, t).is_err() {
+        if some == 0 || !may_be_sent(day, &draft, t) {
             return Ok(done);
+        }
+        match day.send(alloc, &draft, t) {
+            Ok(_plan) => {}
+            Err(Or::No(_refusal)) => return Ok(done),
+            Err(Or::OutOfMemory) => return Err(Oom),
         }
         done += some;
         let Some(next) = Minute::new(t.get() + 60) else {

@@ -113,19 +113,28 @@ fn fill_of(words: &mut SplitWhitespace<'_>) -> Result<Step, Or<Unread>> {
     Ok(Step::Fill(hazard, count, minute))
 }
 
-/// The step of a line.
-pub fn step_of(alloc: Global, line: &str) -> Result<Step, Or<Unread>> {
-    let mut words = line.split_whitespace();
-    match next_word(&mut words)? {
+/// The step that the first words say.
+fn read_step(alloc: Global, words: &mut SplitWhitespace<'_>) -> Result<Step, Or<Unread>> {
+    match next_word(words)? {
         "day" => Ok(Step::Day),
-        "at" => at_of(&mut words),
-        "put" => Ok(Step::Add(put_of(alloc, &mut words)?)),
-        "end" => Ok(Step::Add(Intent::Finish(part_of(alloc, &mut words)?))),
-        "restate" => Ok(Step::Add(Intent::Restate(part_of(alloc, &mut words)?))),
+        "at" => at_of(words),
+        "put" => Ok(Step::Add(put_of(alloc, words)?)),
+        "end" => Ok(Step::Add(Intent::Finish(part_of(alloc, words)?))),
+        "restate" => Ok(Step::Add(Intent::Restate(part_of(alloc, words)?))),
         "send" => Ok(Step::Send),
         "preview" => Ok(Step::Preview),
-        "board" => Ok(Step::Board(known(minute_of(next_word(&mut words)?))?)),
-        "fill" => fill_of(&mut words),
+        "board" => Ok(Step::Board(known(minute_of(next_word(words)?))?)),
+        "fill" => fill_of(words),
         _ => Err(Or::No(Unread)),
     }
+}
+
+/// The step of a line, which has no further words.
+pub fn step_of(alloc: Global, line: &str) -> Result<Step, Or<Unread>> {
+    let mut words = line.split_whitespace();
+    let step = read_step(alloc, &mut words)?;
+    if words.next().is_some() {
+        return Err(Or::No(Unread));
+    }
+    Ok(step)
 }
