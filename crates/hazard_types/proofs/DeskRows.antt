@@ -2,9 +2,10 @@
 use Rattle.std.proofs.Common.{◌≡◌, ◌≢◌, ◌∙◌, ◌<◌, ℕ, zero, suc, Bool, true, false, List, [], ◌∷◌, length, get_or, drop, map, Option, Some, None, refl, ap, sym, drop-cons, cond, Bor, arith, Contains, IfSome, IfNone}
 use Rattle.std.specs.Option.{option_copied}
 use Rattle.hazard_types.specs.declared.hazard.Hazard.{Hazard}
-use Rattle.hazard_types.specs.Hazards.{DeskHazard, desk_hazards, beside, same_hazard, facts_of, name_of, fact_rows, name_rows}
+use Rattle.hazard_types.specs.Hazards.{DeskHazard, desk_hazards, beside, facts_of, name_of, fact_rows, name_rows}
+use Rattle.hazard_types.specs.Same.{same_hazard}
 use Rattle.hazard_types.specs.declared.facts.Facts.{Facts}
-use Rattle.hazard_types.proofs.OrderLaws.{same_hazard_decides}
+use Rattle.hazard_types.proofs.Equality.{hazard_decides}
 
 module _ {X : Type 0} where
   -- the row at this place has the hazard
@@ -38,7 +39,7 @@ module _ {X : Type 0} where
   stands_if : (part : DeskHazard → X) (x : DeskHazard) (xs : List DeskHazard) (h : Hazard) (v : X) (b : Bool) → same_hazard x.hazard h ≡ b →
       (beside (map (λ (d : DeskHazard). (d.hazard, part d)) xs) h ≡ Some v → (d : DeskHazard) × Contains xs d × (d.hazard ≡ h) × (part d ≡ v)) →
       cond b (Some (part x)) (beside (map (λ (d : DeskHazard). (d.hazard, part d)) xs) h) ≡ Some v → (d : DeskHazard) × Contains (x ∷ xs) d × (d.hazard ≡ h) × (part d ≡ v)
-  stands_if part x xs h v true e later is = (x, (0, omega arith, refl), (same_hazard_decides x.hazard h).0 e, some_is is)
+  stands_if part x xs h v true e later is = (x, (0, omega arith, refl), (hazard_decides x.hazard h).0 e, some_is is)
   stands_if part x xs h v false e later is = let there = later is in (there.0, further x xs there.0 there.1, there.2, there.3)
 
   -- what is found stands in the table, beside the hazard
@@ -51,7 +52,7 @@ module _ {X : Type 0} where
       cond b (Some (part x)) (beside (map (λ (d : DeskHazard). (d.hazard, part d)) xs) h) ≡ None → (d : DeskHazard) → Contains (x ∷ xs) d → d.hazard ≢ h
   absent_if part x xs h true e later is d there same = cc
   absent_if part x xs h false e later is d (zero, inside, here) same =
-      let yes : same_hazard x.hazard h ≡ true = (same_hazard_decides x.hazard h).1 (ap (λ (y : DeskHazard). y.hazard) here ∙ same) in
+      let yes : same_hazard x.hazard h ≡ true = (hazard_decides x.hazard h).1 (ap (λ (y : DeskHazard). y.hazard) here ∙ same) in
       let no : true ≡ false = sym yes ∙ e in
       cc
   absent_if part x xs h false e later is d (suc k, inside, here) same = later is d (k, omega arith, here) same

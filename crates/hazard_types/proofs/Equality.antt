@@ -7,7 +7,8 @@ use Rattle.std.specs.Cmp.Lexicographic.{pointwise}
 use Rattle.std.proofs.lemmas.Bool.{and_parts, eqb-true}
 use Rattle.std.proofs.lemmas.Bool.Decides.{Decides-eqb}
 use Rattle.std.proofs.lemmas.Slice.Eq.{bytes_eq-Decides, slice_eq-Decides}
-use Rattle.hazard_types.specs.Desks.{padded, padded_take}
+use Rattle.hazard_types.specs.Desks.{padded}
+use Rattle.hazard_types.proofs.DeskNames.{padded_take}
 use denote.Enum.Bare.{same_true}
 use Rattle.hazard_types.specs.declared.codes.Class.{Class}
 use Rattle.hazard_types.specs.declared.codes.Action.{Action}

@@ -7,11 +7,11 @@ use Rattle.std.specs.Cmp.{IsTotalOrder}
 use Rattle.std.specs.Cmp.Lexicographic.{slice_cmp}
 use Rattle.std.specs.Bool.{Decides}
 use Rattle.std.proofs.lemmas.Cmp.{nat_cmp_total, nat_list_cmp_total, on_total, then_total, tied_itself}
-use Rattle.std.proofs.lemmas.Bool.Decides.{nat_tests, same_from_decides}
+use Rattle.std.proofs.lemmas.Bool.Decides.{nat_tests}
 use Rattle.std.proofs.lemmas.Map.Text.{is_eq-slice_cmp}
 use Rattle.std.proofs.lemmas.Slice.Eq.{bytes_eq-Decides}
 use Rattle.hazard_types.specs.Places.{Place, kind_rank, by_place}
-use Rattle.hazard_types.specs.Orders.{sig_letter, by_letter, by_hazard, by_event}
+use Rattle.hazard_types.specs.Orders.{sig_letter, by_letter, by_hazard, by_event, by_end}
 use Rattle.hazard_types.specs.declared.hazard.Sig.{Sig}
 use Rattle.hazard_types.specs.declared.hazard.Sig.TheVariants.{W, A, Y, S, F, O, N}
 use Rattle.hazard_types.specs.declared.hazard.Hazard.{Hazard}
@@ -23,8 +23,6 @@ use Rattle.hazard_types.specs.declared.period.End.TheVariants.{At, Ufn}
 use Rattle.hazard_types.specs.contracts.period.EndOrd.TheImpl as end
 use Rattle.hazard_types.specs.contracts.hazard.EventOrd.TheImpl as event
 use Rattle.hazard_types.specs.contracts.period.EndOrd.TheImpl.Laws as end_laws
-use Rattle.hazard_types.specs.contracts.hazard.HazardPartialEq.TheImpl as hazard
-use Rattle.hazard_types.proofs.Equality.{hazard_decides}
 
 pub by_letter_total : IsTotalOrder by_letter
 by_letter_total = on_total sig_letter nat_cmp_total
@@ -106,13 +104,6 @@ is_tied Greater h = cc
 tie_decides : {K : Type 0} {R : K → K → Ordering} → IsTotalOrder R → ((a b : K) → R a b ≡ Equal → a ≡ b) → (a b : K) → Decides (eq_by_cmp R a b) (a ≡ b)
 tie_decides {K} {R} total ties a b = (λ h. ties a b (is_tied (R a b) h), λ e. ap (λ x. is_eq (R a x)) (sym e) ∙ ap is_eq (tied_itself total a))
 
-pub same_hazard_decides : (a b : Hazard) → Decides (eq_by_cmp by_hazard a b) (a ≡ b)
-same_hazard_decides = tie_decides by_hazard_total by_hazard_ties
-
--- `==` of hazards is the test by their order
-pub same_hazard_is : (a b : Hazard) → hazard.eq-value.it a b ≡ eq_by_cmp by_hazard a b
-same_hazard_is a b = same_from_decides _ _ (hazard_decides a b) (tie_decides by_hazard_total by_hazard_ties a b)
-
 pub by_end_total : IsTotalOrder end.cmp-value.it
 by_end_total = end_laws.total-law
 
@@ -124,3 +115,10 @@ by_end_ties _ _ h = cc
 -- the derived order of events is by phenomenon, letter, number and year
 pub event_cmp_is : (a b : Event) → event.cmp-value.it a b ≡ by_event a b
 event_cmp_is a b = refl
+
+-- the derived order of ends has a minute before until further notice
+pub end_cmp_is : (a b : End) → end.cmp-value.it a b ≡ by_end a b
+end_cmp_is (At m) (At n) = refl
+end_cmp_is (At m) Ufn = refl
+end_cmp_is Ufn (At n) = refl
+end_cmp_is Ufn Ufn = refl

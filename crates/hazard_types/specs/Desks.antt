@@ -1,14 +1,8 @@
 -- The names of desks.
-use Rattle.std.specs.Prelude.{◌≡◌, ◌≤◌, ◌-◌, ◌++◌, ◌&&◌, ◌||◌, ℕ, Bool, List, length, take, drop, replicate, nat_le, IsTrue}
+use Rattle.std.specs.Prelude.{◌≡◌, ◌≤◌, ◌-◌, ◌++◌, ◌&&◌, ℕ, Bool, List, length, take, drop, replicate, nat_le, IsTrue}
 use Rattle.std.specs.List.{list_all}
-use Rattle.std.proofs.Common.{sym, arith, length-take, take-append-drop, length-append, leb-true, refl, true, false}
-use Rattle.std.proofs.lemmas.List.{take_at, drop_at, drop-replicate, length-replicate}
-use Rattle.hazard_types.specs.Places.{is_capital}
-use Rattle.hazard_types.specs.Calendar.{is_digit}
-
--- A to Z and 0 to 9
-abbrev pub is_name_byte : ℕ → Bool
-is_name_byte c = is_capital c || is_digit c
+use Rattle.std.proofs.Common.{sym, arith, length-take, take-append-drop}
+use Rattle.hazard_types.specs.Characters.{is_name_byte}
 
 -- 1 to 16 of these
 abbrev pub is_desk_name : List ℕ → Bool
@@ -31,28 +25,3 @@ padded_back bytes count h =
     let size : length (take count bytes) ≡ count = omega (arith, length-take count bytes, h.size, h.within) in
     let whole : take count bytes ++ replicate (16 - count) 0 ≡ bytes = rw (sym h.rest) (take-append-drop count bytes) in
     (rw size whole, size)
-
-both : (a b : Bool) → (a && b) ≡ true → (a ≡ true) × (b ≡ true)
-both true b h = (refl, h)
-both false b h = (h, cc)
-
--- a name has at most sixteen bytes
-pub name_fits : (xs : List ℕ) → is_desk_name xs ≡ true → length xs ≤ 16
-name_fits xs h = leb-true (length xs) 16 (both (nat_le 1 (length xs)) (nat_le (length xs) 16) (both _ (list_all is_name_byte xs) h).0).1
-
-pub drop_zeros : (n : ℕ) → drop n (replicate {A = ℕ} 16 0) ≡ replicate {A = ℕ} (16 - n) 0
-drop_zeros n = drop-replicate n 16 0
-
-pub padded_take : (xs : List ℕ) → take (length xs) (padded xs) ≡ xs
-padded_take xs = take_at xs _ (length xs) refl
-
--- sixteen bytes with a name in front
-pub padded_name : (xs : List ℕ) → is_desk_name xs ≡ true → IsName (padded xs) (length xs)
-padded_name xs h =
-    let fits : length xs ≤ 16 = name_fits xs h in
-    record {
-      name = rw (padded_take xs) h;
-      size = omega (arith, length-append xs (replicate (16 - length xs) 0), length-replicate {A = ℕ} (16 - length xs) 0);
-      within = fits;
-      rest = drop_at xs _ (length xs) refl;
-    }

@@ -1,7 +1,7 @@
 -- The hazards that the desk issues, with their names and facts.
-use Rattle.std.specs.Prelude.{ℕ, Bool, false, List, [], ◌∷◌, ◌++◌, Option, Some, None, map, codes, if◌then◌else◌}
-use Rattle.std.specs.Ordering.{eq_by_cmp}
-use Rattle.hazard_types.specs.Orders.{sig_letter, by_hazard}
+use Rattle.std.specs.Prelude.{ℕ, true, false, List, [], ◌∷◌, ◌++◌, Option, Some, None, map, codes, if◌then◌else◌}
+use Rattle.hazard_types.specs.Orders.{sig_letter}
+use Rattle.hazard_types.specs.Same.{same_hazard}
 use Rattle.hazard_types.specs.Tables.{row}
 use Rattle.hazard_types.specs.declared.codes.Coded.{Coded}
 use Rattle.hazard_types.specs.declared.codes.Category.{Category}
@@ -25,6 +25,22 @@ zonal phen sig name category family rank = record {
   hazard = record { phen = phen; sig = sig };
   name = name;
   facts = record { opens = category; follows = category; kind = kind.Z; family = Some (family, rank); ufn = false; flood = false };
+}
+
+-- a flood of public zones: as these, with H-VTEC
+abbrev pub areal : List ℕ → Sig → List ℕ → Category → Family → ℕ → DeskHazard
+areal phen sig name category family rank = record {
+  hazard = record { phen = phen; sig = sig };
+  name = name;
+  facts = record { opens = category; follows = category; kind = kind.Z; family = Some (family, rank); ufn = false; flood = true };
+}
+
+-- a flood of a river in counties, with H-VTEC: it may stand until further notice, and is of no family
+abbrev pub river : List ℕ → Sig → List ℕ → Category → Category → DeskHazard
+river phen sig name opens follows = record {
+  hazard = record { phen = phen; sig = sig };
+  name = name;
+  facts = record { opens = opens; follows = follows; kind = kind.C; family = None; ufn = true; flood = true };
 }
 
 unfoldable pub desk_hazards : List DeskHazard
@@ -54,11 +70,10 @@ desk_hazards =
     zonal (codes "SC") sig.Y (codes "Small Craft Advisory") category.Mww family.Marine 2 ∷
     zonal (codes "SR") sig.A (codes "Storm Watch") category.Mww family.Marine 1 ∷
     zonal (codes "GL") sig.A (codes "Gale Watch") category.Mww family.Marine 1 ∷
+    areal (codes "FA") sig.A (codes "Flood Watch") category.Ffa family.Areal 1 ∷
+    river (codes "FL") sig.W (codes "Flood Warning") category.Flw category.Fls ∷
+    river (codes "FL") sig.Y (codes "Flood Advisory") category.Fls category.Fls ∷
     []
-
--- one hazard: neither comes before the other
-abbrev pub same_hazard : Hazard → Hazard → Bool
-same_hazard = eq_by_cmp by_hazard
 
 -- what stands beside a hazard in rows
 abbrev pub beside : {X : Type 0} → List (Hazard × X) → Hazard → Option X

@@ -1,12 +1,15 @@
 -- The orders of significances, hazards, events and ends.
 use Rattle.std.specs.Prelude.{ℕ}
 use Rattle.std.specs.declared.cmp.Ordering.{Ordering}
+use Rattle.std.specs.declared.cmp.Ordering.TheVariants.{Less, Equal, Greater}
 use Rattle.std.specs.Ordering.{nat_cmp, on, then_cmp}
 use Rattle.std.specs.Cmp.Lexicographic.{slice_cmp}
 use Rattle.hazard_types.specs.declared.hazard.Sig.{Sig}
 use Rattle.hazard_types.specs.declared.hazard.Sig.TheVariants.{W, A, Y, S, F, O, N}
 use Rattle.hazard_types.specs.declared.hazard.Hazard.{Hazard}
 use Rattle.hazard_types.specs.declared.hazard.Event.{Event}
+use Rattle.hazard_types.specs.declared.period.End.{End}
+use Rattle.hazard_types.specs.declared.period.End.TheVariants.{At, Ufn}
 
 -- the letter that stands for a significance in a code
 abbrev pub sig_letter : Sig → ℕ
@@ -29,3 +32,10 @@ by_hazard = then_cmp (on (λ (h : Hazard). h.phen) (slice_cmp nat_cmp)) (on (λ 
 -- events by phenomenon, letter, number, year
 abbrev pub by_event : Event → Event → Ordering
 by_event = then_cmp (on (λ (e : Event). e.hazard) by_hazard) (then_cmp (on (λ (e : Event). e.etn) nat_cmp) (on (λ (e : Event). e.year) nat_cmp))
+
+-- a minute before until further notice
+abbrev pub by_end : End → End → Ordering
+by_end (At m) (At n) = nat_cmp m n
+by_end (At m) Ufn = Less
+by_end Ufn (At n) = Greater
+by_end Ufn Ufn = Equal

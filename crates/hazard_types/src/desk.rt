@@ -1,8 +1,8 @@
 //! The names of desks.
 ghost use Rattle.std.specs.Prelude.{◌≡◌, ◌≤◌, ◌&&◌, if◌then◌else◌, length, nat_le, List, ℕ, IsTrue};
-ghost use Rattle.hazard_types.specs.Desks.{is_desk_name, is_name_byte, padded};
-ghost use Rattle.std.specs.List.{list_all};
+ghost use Rattle.hazard_types.specs.Desks.{is_desk_name, padded};
 
+use crate::characters::are_name_bytes;
 use std::marker::Model;
 
 /// The most characters of a desk's name.
@@ -31,19 +31,6 @@ impl Model for Desk {
     ghost inverse_ok = { λ d h. λ i. record { name = (padded_back d.name d.count h).0 i; count = (padded_back d.name d.count h).1 i } };
 }
 
-fn is_name_byte(byte: u8) -> bool
-    ensures { result ≡ is_name_byte byte }
-{
-    byte.is_ascii_uppercase() || byte.is_ascii_digit()
-}
-
-/// Whether all of these may stand in a name.
-fn are_name_bytes(bytes: &[u8]) -> bool
-    ensures { result ≡ list_all is_name_byte bytes.now }
-{
-    bytes.iter().all(|byte| is_name_byte(*byte))
-}
-
 /// Whether these bytes are a desk's name.
 fn is_desk_name(bytes: &[u8]) -> bool
     ensures { result ≡ is_desk_name bytes.now }
@@ -63,7 +50,7 @@ fn padded(bytes: &[u8]) -> [u8; 16]
 
 impl Desk {
     /// The desk of this name, if it is one.
-    #[tactic(auto, using(crate::specs::Desks::padded_name, crate::specs::Desks::padded_take))]
+    #[tactic(auto, using(crate::proofs::DeskNames::padded_name, crate::proofs::DeskNames::padded_take))]
     pub fn new(bytes: &[u8]) -> Option<Self>
         ensures { result ≡ (if is_desk_name bytes.now then Some bytes.now else None) }
     {

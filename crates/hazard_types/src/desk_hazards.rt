@@ -9,35 +9,39 @@ use crate::facts::Facts;
 use crate::hazard::{Hazard, Phen, Sig};
 use crate::zone::Kind;
 
-/// What `$part` makes of each hazard: its letters, its significance, its name, the category that opens and follows it, its family and its rank there.
+/// What `$part` makes of each hazard. Of each stand its letters, its significance, its name, and then:
+/// of a zonal or areal hazard its category, its family and its rank there; of a flood of a river the categories that open and follow it.
 macro_rules! each_hazard {
     ($part:ident) => {
         [
-            $part!(b"WS", W, "Winter Storm Warning", Wsw, Winter, 3),
-            $part!(b"BZ", W, "Blizzard Warning", Wsw, Winter, 3),
-            $part!(b"IS", W, "Ice Storm Warning", Wsw, Winter, 3),
-            $part!(b"LE", W, "Lake Effect Snow Warning", Wsw, Winter, 3),
-            $part!(b"WW", Y, "Winter Weather Advisory", Wsw, Winter, 2),
-            $part!(b"WS", A, "Winter Storm Watch", Wsw, Winter, 1),
-            $part!(b"HW", W, "High Wind Warning", Npw, Wind, 3),
-            $part!(b"WI", Y, "Wind Advisory", Npw, Wind, 2),
-            $part!(b"HW", A, "High Wind Watch", Npw, Wind, 1),
-            $part!(b"FZ", W, "Freeze Warning", Npw, Frost, 3),
-            $part!(b"FR", Y, "Frost Advisory", Npw, Frost, 2),
-            $part!(b"FZ", A, "Freeze Watch", Npw, Frost, 1),
-            $part!(b"FG", Y, "Dense Fog Advisory", Npw, Fog, 1),
-            $part!(b"FW", W, "Red Flag Warning", Rfw, Fire, 3),
-            $part!(b"FW", A, "Fire Weather Watch", Rfw, Fire, 1),
-            $part!(b"CF", W, "Coastal Flood Warning", Cfw, Coast, 3),
-            $part!(b"CF", Y, "Coastal Flood Advisory", Cfw, Coast, 2),
-            $part!(b"CF", A, "Coastal Flood Watch", Cfw, Coast, 1),
-            $part!(b"SU", W, "High Surf Warning", Cfw, Surf, 3),
-            $part!(b"SU", Y, "High Surf Advisory", Cfw, Surf, 2),
-            $part!(b"SR", W, "Storm Warning", Mww, Marine, 4),
-            $part!(b"GL", W, "Gale Warning", Mww, Marine, 3),
-            $part!(b"SC", Y, "Small Craft Advisory", Mww, Marine, 2),
-            $part!(b"SR", A, "Storm Watch", Mww, Marine, 1),
-            $part!(b"GL", A, "Gale Watch", Mww, Marine, 1),
+            $part!(b"WS", W, "Winter Storm Warning", zonal Wsw, Winter, 3),
+            $part!(b"BZ", W, "Blizzard Warning", zonal Wsw, Winter, 3),
+            $part!(b"IS", W, "Ice Storm Warning", zonal Wsw, Winter, 3),
+            $part!(b"LE", W, "Lake Effect Snow Warning", zonal Wsw, Winter, 3),
+            $part!(b"WW", Y, "Winter Weather Advisory", zonal Wsw, Winter, 2),
+            $part!(b"WS", A, "Winter Storm Watch", zonal Wsw, Winter, 1),
+            $part!(b"HW", W, "High Wind Warning", zonal Npw, Wind, 3),
+            $part!(b"WI", Y, "Wind Advisory", zonal Npw, Wind, 2),
+            $part!(b"HW", A, "High Wind Watch", zonal Npw, Wind, 1),
+            $part!(b"FZ", W, "Freeze Warning", zonal Npw, Frost, 3),
+            $part!(b"FR", Y, "Frost Advisory", zonal Npw, Frost, 2),
+            $part!(b"FZ", A, "Freeze Watch", zonal Npw, Frost, 1),
+            $part!(b"FG", Y, "Dense Fog Advisory", zonal Npw, Fog, 1),
+            $part!(b"FW", W, "Red Flag Warning", zonal Rfw, Fire, 3),
+            $part!(b"FW", A, "Fire Weather Watch", zonal Rfw, Fire, 1),
+            $part!(b"CF", W, "Coastal Flood Warning", zonal Cfw, Coast, 3),
+            $part!(b"CF", Y, "Coastal Flood Advisory", zonal Cfw, Coast, 2),
+            $part!(b"CF", A, "Coastal Flood Watch", zonal Cfw, Coast, 1),
+            $part!(b"SU", W, "High Surf Warning", zonal Cfw, Surf, 3),
+            $part!(b"SU", Y, "High Surf Advisory", zonal Cfw, Surf, 2),
+            $part!(b"SR", W, "Storm Warning", zonal Mww, Marine, 4),
+            $part!(b"GL", W, "Gale Warning", zonal Mww, Marine, 3),
+            $part!(b"SC", Y, "Small Craft Advisory", zonal Mww, Marine, 2),
+            $part!(b"SR", A, "Storm Watch", zonal Mww, Marine, 1),
+            $part!(b"GL", A, "Gale Watch", zonal Mww, Marine, 1),
+            $part!(b"FA", A, "Flood Watch", areal Ffa, Areal, 1),
+            $part!(b"FL", W, "Flood Warning", river Flw, Fls),
+            $part!(b"FL", Y, "Flood Advisory", river Fls, Fls),
         ]
     };
 }
@@ -63,38 +67,59 @@ fn code(hazard: Hazard) -> Coded<Hazard>
     }
 }
 
-/// The codes of the hazards, as `WS.W`.
-#[tactic(auto, using(crate::proofs::Tables::hazard_table), unfolding(crate::specs::Hazards::hazard_rows, crate::specs::Hazards::desk_hazards))]
-pub fn hazard_codes() -> [Coded<Hazard>; 25]
-    ensures rows { result ≡ hazard_rows }
-    ensures table { IsTable result }
+#[tactic(auto, unfolding(crate::specs::Hazards::hazard_rows, crate::specs::Hazards::desk_hazards))]
+fn all_codes() -> [Coded<Hazard>; 28]
+    ensures { result ≡ hazard_rows }
 {
     macro_rules! coded {
-        ($letters:literal, $sig:ident, $name:literal, $category:ident, $family:ident, $rank:literal) => {
+        ($letters:literal, $sig:ident, $($rest:tt)*) => {
             code(hazard!($letters, $sig))
         };
     }
     each_hazard!(coded)
 }
 
+/// The codes of the hazards, as `WS.W`.
+#[tactic(auto, using(crate::proofs::Tables::hazard_table))]
+pub fn hazard_codes() -> [Coded<Hazard>; 28]
+    ensures rows { result ≡ hazard_rows }
+    ensures table { IsTable result }
+{
+    all_codes()
+}
+
 /// The hazards, and the facts of each.
 #[tactic(auto, unfolding(crate::specs::Hazards::fact_rows, crate::specs::Hazards::desk_hazards))]
-fn all_facts() -> [(Hazard, Facts); 25]
+fn all_facts() -> [(Hazard, Facts); 28]
     ensures { result ≡ fact_rows }
 {
+    macro_rules! facts {
+        ($opens:ident, $follows:ident, $kind:ident, $family:expr, $ufn:literal, $flood:literal) => {
+            Facts {
+                opens: Category::$opens,
+                follows: Category::$follows,
+                kind: Kind::$kind,
+                family: $family,
+                ufn: $ufn,
+                flood: $flood,
+            }
+        };
+    }
     macro_rules! known {
-        ($letters:literal, $sig:ident, $name:literal, $category:ident, $family:ident, $rank:literal) => {
+        ($letters:literal, $sig:ident, $name:literal, zonal $category:ident, $family:ident, $rank:literal) => {
             (
                 hazard!($letters, $sig),
-                Facts {
-                    opens: Category::$category,
-                    follows: Category::$category,
-                    kind: Kind::Z,
-                    family: Some((Family::$family, $rank)),
-                    ufn: false,
-                    flood: false,
-                },
+                facts!($category, $category, Z, Some((Family::$family, $rank)), false, false),
             )
+        };
+        ($letters:literal, $sig:ident, $name:literal, areal $category:ident, $family:ident, $rank:literal) => {
+            (
+                hazard!($letters, $sig),
+                facts!($category, $category, Z, Some((Family::$family, $rank)), false, true),
+            )
+        };
+        ($letters:literal, $sig:ident, $name:literal, river $opens:ident, $follows:ident) => {
+            (hazard!($letters, $sig), facts!($opens, $follows, C, None, true, true))
         };
     }
     each_hazard!(known)
@@ -102,11 +127,11 @@ fn all_facts() -> [(Hazard, Facts); 25]
 
 /// The hazards, and the name of each.
 #[tactic(auto, unfolding(crate::specs::Hazards::name_rows, crate::specs::Hazards::desk_hazards))]
-fn all_names() -> [(Hazard, &'static str); 25]
+fn all_names() -> [(Hazard, &'static str); 28]
     ensures { map (λ p. (p.0, p.1.now)) result ≡ name_rows }
 {
     macro_rules! named {
-        ($letters:literal, $sig:ident, $name:literal, $category:ident, $family:ident, $rank:literal) => {
+        ($letters:literal, $sig:ident, $name:literal, $($rest:tt)*) => {
             (hazard!($letters, $sig), $name)
         };
     }
@@ -114,7 +139,6 @@ fn all_names() -> [(Hazard, &'static str); 25]
 }
 
 /// What stands beside a hazard in rows.
-#[tactic(auto, using(crate::proofs::OrderLaws::same_hazard_is))]
 fn beside<V: Copy>(rows: &[(Hazard, V)], h: Hazard) -> Option<V>
     ensures { result ≡ beside rows.now h }
 {

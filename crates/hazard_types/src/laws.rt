@@ -3,18 +3,24 @@ ghost use Rattle.std.specs.Prelude.{◌≡◌, ◌<◌, ℕ, List, Some, true};
 ghost use Rattle.std.specs.Bool.{Decides};
 ghost use Rattle.std.specs.Cmp.{IsTotalOrder};
 ghost use Rattle.std.specs.declared.cmp.Ordering.TheVariants.{Equal};
+ghost use Rattle.std.specs.Prelude.{IsTrue, length, ◌≤◌};
 ghost use Rattle.hazard_types.specs.Calendar.{stamp_of, stamp_at};
-ghost use Rattle.hazard_types.specs.Orders.{by_hazard, by_event};
-ghost use Rattle.hazard_types.specs.Places.{Place, by_place};
+ghost use Rattle.hazard_types.specs.Codes.{HoldsOfIdentical};
+ghost use Rattle.hazard_types.specs.Hazards.{hazard_code};
+ghost use Rattle.hazard_types.specs.Names.{zone_text, zone_at, hazard_at, event_text, event_at};
+ghost use Rattle.hazard_types.specs.Orders.{by_hazard, by_event, by_end};
+ghost use Rattle.hazard_types.specs.Places.{Place, IsPlace, are_letters, by_place};
 
-use crate::hazard::{Event, Hazard};
+use crate::codes::{Action, Category, Cause, Class, Severity, Status};
+use crate::desk::Desk;
+use crate::hazard::{Event, Hazard, Sig};
 use crate::line::{Flood, Line, Row, SegLine};
 use crate::period::End;
 use crate::request::Request;
 use crate::zone::Zone;
 
 /// `==` holds exactly of identical values.
-#[tactic(auto, using(crate::proofs::Equality::zone_decides, crate::proofs::Equality::hazard_decides, crate::proofs::Equality::event_decides, crate::proofs::Equality::flood_decides, crate::proofs::Equality::line_decides, crate::proofs::Equality::seg_line_decides, crate::proofs::Equality::row_decides, crate::proofs::Equality::request_decides))]
+#[tactic(auto, using(crate::proofs::Equality::zone_decides, crate::proofs::Equality::hazard_decides, crate::proofs::Equality::event_decides, crate::proofs::Equality::flood_decides, crate::proofs::Equality::line_decides, crate::proofs::Equality::seg_line_decides, crate::proofs::Equality::row_decides, crate::proofs::Equality::desk_one, crate::proofs::Equality::request_decides))]
 pub fn equality_is_identity()
     ensures zones { (a b : Place) → Decides (⟦<Zone as PartialEq>⟧.eq a b) (a ≡ b) }
     ensures hazards { (a b : Hazard) → Decides (⟦<Hazard as PartialEq>⟧.eq a b) (a ≡ b) }
@@ -23,11 +29,12 @@ pub fn equality_is_identity()
     ensures lines { (a b : Line) → Decides (⟦<Line as PartialEq>⟧.eq a b) (a ≡ b) }
     ensures segment_lines { (a b : SegLine) → Decides (⟦<SegLine as PartialEq>⟧.eq a b) (a ≡ b) }
     ensures rows { (a b : Row) → Decides (⟦<Row as PartialEq>⟧.eq a b) (a ≡ b) }
+    ensures desks { (a b : List ℕ) → ⟦<Desk as PartialEq>⟧.eq a b ≡ true → a ≡ b }
     ensures requests { (a b : Request) → Decides (⟦<Request as PartialEq>⟧.eq a b) (a ≡ b) }
 {}
 
 /// Zones, hazards, events and ends are totally ordered, and what ties is identical.
-#[tactic(auto, using(crate::proofs::OrderLaws::by_place_total, crate::proofs::OrderLaws::by_place_ties, crate::proofs::OrderLaws::by_hazard_total, crate::proofs::OrderLaws::by_hazard_ties, crate::proofs::OrderLaws::by_event_total, crate::proofs::OrderLaws::by_event_ties, crate::proofs::OrderLaws::event_cmp_is, crate::proofs::OrderLaws::by_end_total, crate::proofs::OrderLaws::by_end_ties))]
+#[tactic(auto, using(crate::proofs::OrderLaws::by_place_total, crate::proofs::OrderLaws::by_place_ties, crate::proofs::OrderLaws::by_hazard_total, crate::proofs::OrderLaws::by_hazard_ties, crate::proofs::OrderLaws::by_event_total, crate::proofs::OrderLaws::by_event_ties, crate::proofs::OrderLaws::event_cmp_is, crate::proofs::OrderLaws::end_cmp_is, crate::proofs::OrderLaws::by_end_total, crate::proofs::OrderLaws::by_end_ties))]
 pub fn orders_are_total()
     ensures zones { IsTotalOrder by_place }
     ensures zone_ties { (a b : Place) → by_place a b ≡ Equal → a ≡ b }
@@ -36,6 +43,7 @@ pub fn orders_are_total()
     ensures events { IsTotalOrder by_event }
     ensures event_order { (a b : Event) → ⟦<Event as Ord>⟧.cmp a b ≡ by_event a b }
     ensures event_ties { (a b : Event) → by_event a b ≡ Equal → a ≡ b }
+    ensures end_order { (a b : End) → ⟦<End as Ord>⟧.cmp a b ≡ by_end a b }
     ensures ends { IsTotalOrder ⟦<End as Ord>⟧.cmp }
     ensures end_ties { (a b : End) → ⟦<End as Ord>⟧.cmp a b ≡ Equal → a ≡ b }
 {}
@@ -45,4 +53,25 @@ pub fn orders_are_total()
 pub fn stamps_are_inverse()
     ensures reads { (m : ℕ) → m < 52596000 → stamp_at (stamp_of m) ≡ Some m }
     ensures writes { (bytes : List ℕ) (m : ℕ) → stamp_at bytes ≡ Some m → bytes ≡ stamp_of m }
+{}
+
+/// `==` of the values of the tables of codes holds of identical values alone, as reading a table backwards asks.
+#[tactic(auto, using(crate::proofs::Equality::class_one, crate::proofs::Equality::action_one, crate::proofs::Equality::sig_one, crate::proofs::Equality::severity_one, crate::proofs::Equality::cause_one, crate::proofs::Equality::status_one, crate::proofs::Equality::category_one, crate::proofs::Equality::hazard_one))]
+pub fn values_of_tables_are_identical()
+    ensures classes { HoldsOfIdentical ⟦<Class as PartialEq>⟧.eq }
+    ensures actions { HoldsOfIdentical ⟦<Action as PartialEq>⟧.eq }
+    ensures significances { HoldsOfIdentical ⟦<Sig as PartialEq>⟧.eq }
+    ensures severities { HoldsOfIdentical ⟦<Severity as PartialEq>⟧.eq }
+    ensures causes { HoldsOfIdentical ⟦<Cause as PartialEq>⟧.eq }
+    ensures statuses { HoldsOfIdentical ⟦<Status as PartialEq>⟧.eq }
+    ensures categories { HoldsOfIdentical ⟦<Category as PartialEq>⟧.eq }
+    ensures hazards { HoldsOfIdentical ⟦<Hazard as PartialEq>⟧.eq }
+{}
+
+/// What is written of a zone, a hazard or an event is read back.
+#[tactic(auto, using(crate::proofs::NamesBack::zone_back, crate::proofs::NamesBack::hazard_back, crate::proofs::NamesBack::event_back))]
+pub fn names_read_back()
+    ensures zones { (z : Place) → IsPlace z → zone_at (zone_text z) ≡ Some z }
+    ensures hazards { (h : Hazard) → IsTrue (are_letters h.phen) → length h.phen ≡ 2 → hazard_at (hazard_code h) ≡ Some h }
+    ensures events { (e : Event) → IsTrue (are_letters e.hazard.phen) → length e.hazard.phen ≡ 2 → 1 ≤ e.etn → e.etn ≤ 9999 → 2000 ≤ e.year → e.year ≤ 2099 → event_at (event_text e) ≡ Some e }
 {}

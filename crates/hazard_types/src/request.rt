@@ -149,6 +149,25 @@ pub struct Sent {
     pub text: Text,
 }
 
+/// The form of product texts. Two has a WHEN bullet.
+#[derive(Clone, Copy, Debug, PartialEq, Eq)]
+pub enum Edition {
+    One,
+    Two,
+}
+
+/// An accepted request: when and by whom it came, under which of the desk's numbers, how it was answered, and in which
+/// edition its product text is.
+#[derive(Clone, Debug, Drop, PartialEq, Eq)]
+pub struct Entry {
+    pub minute: Minute,
+    pub desk: Desk,
+    pub seq: u32,
+    pub request: Request,
+    pub reply: Reply,
+    pub edition: Edition,
+}
+
 /// What is looked at.
 #[derive(Clone, Copy, Debug, PartialEq, Eq)]
 pub enum Query {

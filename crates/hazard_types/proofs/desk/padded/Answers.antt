@@ -1,5 +1,5 @@
 use Rattle.std.proofs.Common.{ℕ, List, ◌++◌, length, ap, ◌∙◌, drop, ◌∷◌, []}
-use Rattle.hazard_types.specs.Desks.{drop_zeros}
+use Rattle.hazard_types.proofs.DeskNames.{drop_zeros}
 use Rattle.hazard_types.proofs.desk.padded.Goals as goal
 
 pub returns : goal.returns

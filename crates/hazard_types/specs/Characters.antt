@@ -1,0 +1,25 @@
+-- The characters of codes and texts.
+use Rattle.std.specs.Prelude.{◌==◌, ◌&&◌, ◌||◌, ℕ, Bool, List, length, nat_le}
+use Rattle.std.specs.List.{list_all}
+use Rattle.hazard_types.specs.Calendar.{is_digit}
+use Rattle.hazard_types.specs.Places.{is_capital}
+
+-- A to Z and 0 to 9
+abbrev pub is_name_byte : ℕ → Bool
+is_name_byte c = is_capital c || is_digit c
+
+-- a space or a tab
+abbrev pub is_blank : ℕ → Bool
+is_blank c = (c == 32) || (c == 9)
+
+-- from the space to the tilde
+abbrev pub is_printable : ℕ → Bool
+is_printable c = nat_le 32 c && nat_le c 126
+
+-- an office's code is four of A to Z and 0 to 9
+abbrev pub is_office : List ℕ → Bool
+is_office office = (length office == 4) && list_all is_name_byte office
+
+-- a location's code is five of these
+abbrev pub is_location : List ℕ → Bool
+is_location site = (length site == 5) && list_all is_name_byte site

@@ -1,0 +1,18 @@
+-- The times of VTEC texts: the stamp of a minute, or the zero time, which is no minute.
+use Rattle.std.specs.Prelude.{◌≡◌, ℕ, List, Option, None, Some, codes}
+use Rattle.hazard_types.specs.Calendar.{stamp_of, IsStamp}
+use Rattle.hazard_types.specs.declared.period.End.{End}
+use Rattle.hazard_types.specs.declared.period.End.TheVariants.{At, Ufn}
+
+abbrev pub IsTime : List ℕ → Option ℕ → Type 0
+IsTime text None = text ≡ codes "000000T0000Z"
+IsTime text (Some m) = IsStamp text m
+
+abbrev pub time_text : Option ℕ → List ℕ
+time_text None = codes "000000T0000Z"
+time_text (Some m) = stamp_of m
+
+-- the stamp of an end; zeros are until further notice
+abbrev pub end_text : End → List ℕ
+end_text (At m) = stamp_of m
+end_text Ufn = codes "000000T0000Z"

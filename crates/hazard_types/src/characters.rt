@@ -1,0 +1,46 @@
+//! The characters of codes and texts.
+ghost use Rattle.std.specs.Prelude.{◌≡◌};
+ghost use Rattle.std.specs.List.{list_all};
+ghost use Rattle.hazard_types.specs.Characters.{is_name_byte, is_blank, is_printable, is_office, is_location};
+
+/// Whether a byte is one of A to Z and 0 to 9.
+pub fn is_name_byte(byte: u8) -> bool
+    ensures { result ≡ is_name_byte byte }
+{
+    byte.is_ascii_uppercase() || byte.is_ascii_digit()
+}
+
+/// Whether a byte is a space or a tab.
+pub fn is_blank(byte: u8) -> bool
+    ensures { result ≡ is_blank byte }
+{
+    byte == b' ' || byte == b'\t'
+}
+
+/// Whether a byte is a printable character of ASCII, the space among them.
+pub fn is_printable(byte: u8) -> bool
+    ensures { result ≡ is_printable byte }
+{
+    32 <= byte && byte <= 126
+}
+
+/// Whether each byte is one of A to Z and 0 to 9.
+pub fn are_name_bytes(text: &[u8]) -> bool
+    ensures { result ≡ list_all is_name_byte text.now }
+{
+    text.iter().all(|byte| is_name_byte(*byte))
+}
+
+/// Whether a text is an office's code: four of A to Z and 0 to 9.
+pub fn is_office(text: &[u8]) -> bool
+    ensures { result ≡ is_office text.now }
+{
+    text.len() == 4 && are_name_bytes(text)
+}
+
+/// Whether a text is a location's code: five of A to Z and 0 to 9.
+pub fn is_location(text: &[u8]) -> bool
+    ensures { result ≡ is_location text.now }
+{
+    text.len() == 5 && are_name_bytes(text)
+}

@@ -1,0 +1,117 @@
+//! Numbers and day stamps in digits.
+ghost use Rattle.std.specs.Prelude.{◌≡◌, ◌<◌, ◌≤◌, ◌+◌, ◌-◌, ◌*◌, ◌++◌, IsTrue, OnOk, decimal};
+ghost use Rattle.hazard_types.specs.Calendar.{is_digit};
+ghost use Rattle.hazard_types.specs.Digits.{two_digits, three_digits, four_digits, wide, is_day_stamp, day_text, day_stamp_in};
+
+use crate::calendar::DayStamp;
+use crate::list::{Oom, Text};
+use std::alloc::Global;
+
+/// A number below 100 in two digits.
+pub fn two_digits(n: u8) -> [u8; 2]
+    requires { n < 100 }
+    ensures { result ≡ two_digits n }
+{
+    [b'0' + n / 10, b'0' + n % 10]
+}
+
+/// A number below 1,000 in three digits.
+pub fn three_digits(n: u16) -> [u8; 3]
+    requires { n ≤ 999 }
+    ensures { result ≡ three_digits n }
+{
+    [
+        b'0' + (n / 100) as u8,
+        b'0' + (n / 10 % 10) as u8,
+        b'0' + (n % 10) as u8,
+    ]
+}
+
+/// A number below 10,000 in four digits.
+pub fn four_digits(n: u16) -> [u8; 4]
+    requires { n ≤ 9999 }
+    ensures { result ≡ four_digits n }
+{
+    [
+        b'0' + (n / 1000) as u8,
+        b'0' + (n / 100 % 10) as u8,
+        b'0' + (n / 10 % 10) as u8,
+        b'0' + (n % 10) as u8,
+    ]
+}
+
+/// Adds a number in decimal digits, without zeros in front.
+pub fn put_number(alloc: Global, out: &mut Text, n: usize) -> Result<(), Oom>
+    ensures { OnOk result (out.new ≡ out.old ++ decimal n) }
+{
+    let text = format!(in alloc; "{n}")?;
+    out.extend(text.as_bytes())
+}
+
+/// Adds a number in four digits, or in as many as it has.
+#[tactic(auto, unfolding(crate::specs::Digits::wide))]
+pub fn put_wide(alloc: Global, out: &mut Text, n: u16) -> Result<(), Oom>
+    ensures { OnOk result (out.new ≡ out.old ++ wide n) }
+{
+    if n < 10_000 {
+        out.extend(&four_digits(n))
+    } else {
+        put_number(alloc, out, n as usize)
+    }
+}
+
+/// Whether a day is 1 to 31, an hour below 24 and a minute below 60.
+pub fn is_day_stamp(d: DayStamp) -> bool
+    ensures { result ≡ is_day_stamp d }
+{
+    1 <= d.day && d.day <= 31 && d.hour <= 23 && d.minute <= 59
+}
+
+/// The six digits of a day stamp.
+pub fn day_text(d: DayStamp) -> [u8; 6]
+    requires { IsTrue (is_day_stamp d) }
+    ensures { result ≡ day_text d }
+{
+    let day = two_digits(d.day);
+    let hour = two_digits(d.hour);
+    let minute = two_digits(d.minute);
+    [day[0], day[1], hour[0], hour[1], minute[0], minute[1]]
+}
+
+/// Two digits, whose number is below a hundred.
+fn two_of(tens: u8, ones: u8) -> u8
+    requires tens { IsTrue (is_digit tens) }
+    requires ones { IsTrue (is_digit ones) }
+    ensures { result ≡ 10 * (tens - 48) + (ones - 48) }
+{
+    10 * (tens - b'0') + (ones - b'0')
+}
+
+/// The day stamp of six digits. None exactly where the bytes are no day stamp.
+#[tactic(auto, unfolding(crate::specs::Digits::day_stamp_in))]
+pub fn day_stamp_in(text: &[u8]) -> Option<DayStamp>
+    ensures { result ≡ day_stamp_in text.now }
+{
+    let [a, b, c, d, e, f] = text else {
+        return None;
+    };
+    if !(a.is_ascii_digit()
+        && b.is_ascii_digit()
+        && c.is_ascii_digit()
+        && d.is_ascii_digit()
+        && e.is_ascii_digit()
+        && f.is_ascii_digit())
+    {
+        return None;
+    }
+    let stamp = DayStamp {
+        day: two_of(*a, *b),
+        hour: two_of(*c, *d),
+        minute: two_of(*e, *f),
+    };
+    if is_day_stamp(stamp) {
+        Some(stamp)
+    } else {
+        None
+    }
+}

@@ -1,0 +1,183 @@
+//! The texts of significances, kinds, zones, hazards and events, both ways.
+ghost use Rattle.std.specs.Prelude.{◌≡◌, ◌≤◌, ◌++◌, OnOk, IfSome, Some, IsTrue, length};
+ghost use Rattle.hazard_types.specs.Hazards.{hazard_code};
+ghost use Rattle.hazard_types.specs.Names.{sig_at, kind_code, kind_at, zone_text, zone_at, hazard_at, four_of, event_if, event_text, event_at, is_flood};
+ghost use Rattle.hazard_types.specs.Places.{Place, IsPlace, are_letters};
+ghost use Rattle.hazard_types.specs.declared.hazard.Hazard.{Hazard as AnyHazard};
+ghost use Rattle.hazard_types.specs.declared.hazard.Event.{Event as AnyEvent};
+
+use crate::digits::{four_digits, put_wide, three_digits};
+use crate::hazard::{Event, Hazard, Phen, Sig};
+use crate::list::{Oom, Text};
+use crate::zone::{Kind, Zone};
+use std::alloc::Global;
+
+impl Sig {
+    /// The significance of a letter, if it has one.
+    pub fn at(letter: u8) -> Option<Self>
+        ensures { result ≡ sig_at letter }
+    {
+        match letter {
+            b'W' => Some(Sig::W),
+            b'A' => Some(Sig::A),
+            b'Y' => Some(Sig::Y),
+            b'S' => Some(Sig::S),
+            b'F' => Some(Sig::F),
+            b'O' => Some(Sig::O),
+            b'N' => Some(Sig::N),
+            _ => None,
+        }
+    }
+}
+
+impl Kind {
+    /// The kind of a letter, if it has one.
+    pub fn at(letter: u8) -> Option<Self>
+        ensures { result ≡ kind_at letter }
+    {
+        match letter {
+            b'C' => Some(Kind::C),
+            b'Z' => Some(Kind::Z),
+            _ => None,
+        }
+    }
+
+    /// C or Z.
+    pub fn letter(self) -> u8
+        ensures { result ≡ kind_code self }
+    {
+        match self {
+            Kind::C => b'C',
+            Kind::Z => b'Z',
+        }
+    }
+}
+
+/// The zone of a text such as `MDZ003`. None exactly where the bytes are no zone's.
+#[tactic(auto, unfolding(crate::specs::Names::zone_at))]
+pub fn zone_in(text: &[u8]) -> Option<Zone>
+    ensures { result ≡ zone_at text.now }
+{
+    let [first, second, kind, hundreds, tens, ones] = text else {
+        return None;
+    };
+    if !hundreds.is_ascii_digit() || !tens.is_ascii_digit() || !ones.is_ascii_digit() {
+        return None;
+    }
+    let number = 100 * u16::from(*hundreds - b'0')
+        + 10 * u16::from(*tens - b'0')
+        + u16::from(*ones - b'0');
+    let kind = Kind::at(*kind)?;
+    Zone::new([*first, *second], kind, number)
+}
+
+/// The six characters of a zone.
+pub fn zone_text(zone: &Zone) -> [u8; 6]
+    ensures { result ≡ zone_text zone.now }
+{
+    let state = zone.state();
+    let digits = three_digits(zone.number());
+    [
+        state[0],
+        state[1],
+        zone.kind().letter(),
+        digits[0],
+        digits[1],
+        digits[2],
+    ]
+}
+
+/// The hazard of a text such as `WS.W`. None exactly where the bytes are no hazard's.
+#[tactic(auto, unfolding(crate::specs::Names::hazard_at))]
+pub fn hazard_in(text: &[u8]) -> Option<Hazard>
+    ensures { result ≡ hazard_at text.now }
+{
+    let [first, second, b'.', sig] = text else {
+        return None;
+    };
+    let phen = Phen::new([*first, *second])?;
+    let sig = Sig::at(*sig)?;
+    Some(Hazard { phen, sig })
+}
+
+/// The four characters of a hazard.
+pub fn hazard_text(hazard: &Hazard) -> [u8; 4]
+    ensures { result ≡ hazard_code hazard.now }
+{
+    let [first, second] = hazard.phen.letters();
+    [first, second, b'.', hazard.sig.letter()]
+}
+
+/// The number that four digits spell. None where a byte is no digit.
+#[tactic(auto, unfolding(crate::specs::Names::four_of))]
+fn four_of(a: u8, b: u8, c: u8, d: u8) -> Option<u16>
+    ensures value { result ≡ four_of a b c d }
+    ensures range { IfSome result (λ n. n ≤ 9999) }
+{
+    if a.is_ascii_digit() && b.is_ascii_digit() && c.is_ascii_digit() && d.is_ascii_digit() {
+        Some(
+            1000 * u16::from(a - b'0')
+                + 100 * u16::from(b - b'0')
+                + 10 * u16::from(c - b'0')
+                + u16::from(d - b'0'),
+        )
+    } else {
+        None
+    }
+}
+
+fn event_if(hazard: Hazard, etn: u16, year: u16) -> Option<Event>
+    ensures { result ≡ event_if hazard etn year }
+{
+    if 1 <= etn && 2000 <= year && year <= 2099 {
+        Some(Event { hazard, etn, year })
+    } else {
+        None
+    }
+}
+
+/// The event of a text such as `WS.W.0001.2018`. None exactly where the bytes are no event's.
+#[tactic(auto, unfolding(crate::specs::Names::event_at))]
+pub fn event_in(text: &[u8]) -> Option<Event>
+    ensures { result ≡ event_at text.now }
+{
+    let [a, b, c, d, b'.', n, o, p, q, b'.', w, x, y, z] = text else {
+        return None;
+    };
+    let hazard = hazard_in(&[*a, *b, *c, *d])?;
+    let etn = four_of(*n, *o, *p, *q)?;
+    let year = four_of(*w, *x, *y, *z)?;
+    event_if(hazard, etn, year)
+}
+
+/// The fourteen characters of an event.
+#[tactic(auto, using(crate::proofs::NamesBack::wide_four), unfolding(crate::specs::Digits::wide))]
+pub fn event_text(event: &Event) -> [u8; 14]
+    requires number { event.now.etn ≤ 9999 }
+    requires year { event.now.year ≤ 9999 }
+    ensures { result ≡ event_text event.now }
+{
+    let mut text = *b"pp.s.####.yyyy";
+    text[10..14].copy_from_slice(&four_digits(event.year));
+    text[5..9].copy_from_slice(&four_digits(event.etn));
+    text[0..4].copy_from_slice(&hazard_text(&event.hazard));
+    text
+}
+
+/// Adds an event: its hazard, its number and its year.
+pub fn put_event(alloc: Global, out: &mut Text, event: &Event) -> Result<(), Oom>
+    ensures { OnOk result (out.new ≡ out.old ++ event_text event.now) }
+{
+    out.extend(&hazard_text(&event.hazard))?;
+    out.push(b'.')?;
+    put_wide(alloc, out, event.etn)?;
+    out.push(b'.')?;
+    put_wide(alloc, out, event.year)
+}
+
+/// Whether a hazard is a flood of a river, whose phenomenon is FL.
+pub fn is_flood(hazard: &Hazard) -> bool
+    ensures { result ≡ is_flood hazard.now }
+{
+    hazard.phen.letters() == *b"FL"
+}

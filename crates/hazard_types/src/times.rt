@@ -1,0 +1,40 @@
+//! The times of VTEC texts, both ways.
+ghost use Rattle.std.specs.Prelude.{◌≡◌, ℕ, MatchOption, Option as Maybe};
+ghost use Rattle.hazard_types.specs.Times.{IsTime, time_text, end_text};
+
+use crate::calendar::{read_stamp, stamp};
+use crate::minute::Minute;
+use crate::period::End;
+
+/// The stamp of a minute, or the zero time.
+pub fn time_text(time: Option<Minute>) -> [u8; 12]
+    ensures value { result ≡ time_text time }
+    ensures time { IsTime result time }
+{
+    match time {
+        Some(minute) => stamp(minute),
+        None => *b"000000T0000Z",
+    }
+}
+
+/// The minute of a stamp, or no minute for the zero time. None exactly where the bytes are neither.
+#[tactic(auto, using(crate::proofs::TimesRead::no_time, crate::proofs::TimesRead::stamp_found))]
+pub fn time_in(text: &[u8]) -> Option<Option<Minute>>
+    ensures { MatchOption result ((t : Maybe ℕ) → IsTime text.now t → ⊥) (IsTime text.now) }
+{
+    if text == b"000000T0000Z".as_slice() {
+        Some(None)
+    } else {
+        Some(Some(read_stamp(text)?))
+    }
+}
+
+/// The stamp of an end; zeros are until further notice.
+pub fn end_text(end: &End) -> [u8; 12]
+    ensures { result ≡ end_text end.now }
+{
+    match end {
+        End::At(minute) => stamp(*minute),
+        End::Ufn => *b"000000T0000Z",
+    }
+}
