@@ -1,6 +1,7 @@
 //! Numbers and day stamps in digits.
-ghost use Rattle.std.specs.Prelude.{◌≡◌, ◌<◌, ◌≤◌, ◌+◌, ◌-◌, ◌*◌, ◌++◌, IsTrue, OnOk, decimal};
+ghost use Rattle.std.specs.Prelude.{◌≡◌, ◌<◌, ◌≤◌, ◌+◌, ◌-◌, ◌*◌, ◌++◌, IsTrue, IfSome, Some, OnOk, decimal};
 ghost use Rattle.hazard_types.specs.Calendar.{is_digit};
+ghost use Rattle.hazard_types.specs.declared.calendar.DayStamp.{DayStamp as Stamp};
 ghost use Rattle.hazard_types.specs.Digits.{two_digits, three_digits, four_digits, wide, is_day_stamp, day_text, day_stamp_in};
 
 use crate::calendar::DayStamp;
@@ -87,9 +88,8 @@ fn two_of(tens: u8, ones: u8) -> u8
     10 * (tens - b'0') + (ones - b'0')
 }
 
-/// The day stamp of six digits. None exactly where the bytes are no day stamp.
 #[tactic(auto, unfolding(crate::specs::Digits::day_stamp_in))]
-pub fn day_stamp_in(text: &[u8]) -> Option<DayStamp>
+fn day_stamp_of(text: &[u8]) -> Option<DayStamp>
     ensures { result ≡ day_stamp_in text.now }
 {
     let [a, b, c, d, e, f] = text else {
@@ -114,4 +114,14 @@ pub fn day_stamp_in(text: &[u8]) -> Option<DayStamp>
     } else {
         None
     }
+}
+
+/// The day stamp of six digits. None exactly where the bytes are no day stamp.
+#[tactic(auto, using(crate::proofs::DayTexts::day_stamp_back, crate::proofs::DayTexts::day_stamp_is_read))]
+pub fn day_stamp_in(text: &[u8]) -> Option<DayStamp>
+    ensures found { IfSome result (λ d. IsTrue (is_day_stamp d) × (text.now ≡ day_text d)) }
+    ensures only { (d : Stamp) → IsTrue (is_day_stamp d) → text.now ≡ day_text d → result ≡ Some d }
+    ensures value { result ≡ day_stamp_in text.now }
+{
+    day_stamp_of(text)
 }

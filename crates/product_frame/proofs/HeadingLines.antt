@@ -6,9 +6,9 @@ use Rattle.std.proofs.lemmas.Bool.{cases_Bool, and_parts, eqb-true, ne_eqb, leb-
 use Rattle.hazard_types.specs.Calendar.{is_digit}
 use Rattle.hazard_types.specs.Places.{is_capital}
 use Rattle.hazard_types.specs.declared.calendar.DayStamp.{DayStamp}
-use Rattle.ugc_codes.specs.Grammar.{day_text, is_day_stamp}
-use Rattle.ugc_codes.specs.Codes.{expiry_of}
-use Rattle.ugc_codes.proofs.Groups.{expiry_read}
+use Rattle.hazard_types.specs.Digits.{day_text, is_day_stamp}
+use Rattle.hazard_types.specs.Digits.{day_stamp_in}
+use Rattle.hazard_types.proofs.DayTexts.{day_stamp_read}
 use Rattle.vtec_string.specs.Columns.{is_office}
 use Rattle.product_frame.specs.Text.{line_of, is_blank, is_left_out}
 use Rattle.product_frame.specs.Parts.{is_name, is_ttaaii, is_bbb, is_front, heading_by, heading_of}
@@ -111,8 +111,8 @@ front_line end a b c d e f p q r s day h o one =
 abbrev pub IsLaid : Heading → Type 0
 IsLaid h = (heading_of (heading_text h) ≡ Some h) × (line_of (heading_text h) ≡ heading_text h) × IsOneLine (heading_text h)
 
-expiry_back : (day : DayStamp) → is_day_stamp day ≡ true → expiry_of ((48 + day.day / 10) ∷ (48 + day.day % 10) ∷ (48 + day.hour / 10) ∷ (48 + day.hour % 10) ∷ (48 + day.minute / 10) ∷ (48 + day.minute % 10) ∷ []) ≡ Some day
-expiry_back day h = expiry_read day h
+expiry_back : (day : DayStamp) → is_day_stamp day ≡ true → day_stamp_in ((48 + day.day / 10) ∷ (48 + day.day % 10) ∷ (48 + day.hour / 10) ∷ (48 + day.hour % 10) ∷ (48 + day.minute / 10) ∷ (48 + day.minute % 10) ∷ []) ≡ Some day
+expiry_back day h = day_stamp_read day h
 
 bare : (a b c d e f p q r s : ℕ) (day : DayStamp) → is_ttaaii (a ∷ b ∷ c ∷ d ∷ e ∷ f ∷ []) ≡ true → IsOffice p q r s → is_day_stamp day ≡ true →
     IsLaid (record { ttaaii = a ∷ b ∷ c ∷ d ∷ e ∷ f ∷ []; office = p ∷ q ∷ r ∷ s ∷ []; day = day; bbb = None })

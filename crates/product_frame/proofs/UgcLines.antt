@@ -10,7 +10,9 @@ use Rattle.hazard_types.specs.declared.zone.Kind.{Kind}
 use Rattle.hazard_types.specs.declared.zone.Kind.TheVariants.{C, Z}
 use Rattle.hazard_types.specs.declared.calendar.DayStamp.{DayStamp}
 use Rattle.ugc_codes.specs.declared.span.Span.{Span}
-use Rattle.ugc_codes.specs.Grammar.{IsSpan, IsUgc, AreGroups, HasCode, last_code, Spells, kind_code, three_digits, code_text, run_end, full_text, day_text, numbered, add, add_run, add_spans}
+use Rattle.ugc_codes.specs.Grammar.{IsSpan, IsUgc, AreGroups, HasCode, last_code, Spells, run_end, full_text, numbered, add, add_run, add_spans}
+use Rattle.hazard_types.specs.Names.{kind_code, zone_text}
+use Rattle.hazard_types.specs.Digits.{three_digits, day_text}
 use Rattle.ugc_codes.specs.Written.{are_alike, goes_on, single, pieces, groups_from, groups, is_short, code_part, own_text, passes, put_text, put_column, lay, ugc_text}
 use Rattle.product_frame.specs.Text.{line_of, before, is_blank, is_left_out, is_empty}
 use Rattle.product_frame.specs.Parts.{begins}
@@ -57,7 +59,7 @@ kind_clear : (kind : Kind) → NoBlank (kind_code kind)
 kind_clear C = refl
 kind_clear Z = refl
 
-code_clear : (p : Place) → AllByRecursion NoBlank p.state → AllByRecursion NoBlank (code_text p)
+code_clear : (p : Place) → AllByRecursion NoBlank p.state → AllByRecursion NoBlank (zone_text p)
 code_clear p h = all_both NoBlank p.state (kind_code p.kind ∷ three_digits p.number) h (kind_clear p.kind, three_clear p.number)
 
 end_clear : (s : Span) → AllByRecursion NoBlank (run_end s)

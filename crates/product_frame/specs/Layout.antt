@@ -2,7 +2,7 @@
 use Rattle.std.specs.Prelude.{ℕ, List, [], ◌∷◌, ◌++◌, Option, Some, None, codes}
 use Rattle.hazard_types.specs.Places.{Place}
 use Rattle.hazard_types.specs.declared.calendar.DayStamp.{DayStamp}
-use Rattle.ugc_codes.specs.Grammar.{day_text}
+use Rattle.hazard_types.specs.Digits.{day_text}
 use Rattle.ugc_codes.specs.Written.{ugc_text}
 use Rattle.vtec_string.specs.Columns.{vtec_text}
 use Rattle.product_frame.specs.declared.frame.Heading.{Heading}

@@ -5,7 +5,8 @@ use Rattle.std.specs.List.Sorted.{IsStrictlySortedBy}
 use Rattle.hazard_types.specs.Calendar.{is_digit}
 use Rattle.hazard_types.specs.Places.{Place, is_capital, by_place}
 use Rattle.hazard_types.specs.declared.codes.LocalZone.{LocalZone}
-use Rattle.ugc_codes.specs.Grammar.{is_day_stamp, IsUgc}
+use Rattle.ugc_codes.specs.Grammar.{IsUgc}
+use Rattle.hazard_types.specs.Digits.{is_day_stamp}
 use Rattle.ugc_codes.specs.Written.{ugc_text}
 use Rattle.vtec_string.specs.Columns.{is_office, IsVtec, vtec_text}
 use Rattle.desk_clock.specs.DayStamps.{IsNear}

@@ -6,7 +6,7 @@ use Rattle.desk_clock.specs.declared.reading.LocalFault.{LocalFault}
 use Rattle.hazard_types.specs.Calendar.{is_digit}
 use Rattle.hazard_types.specs.Places.{is_capital}
 use Rattle.hazard_types.specs.declared.calendar.DayStamp.{DayStamp}
-use Rattle.ugc_codes.specs.Codes.{expiry_of}
+use Rattle.hazard_types.specs.Digits.{day_stamp_in}
 use Rattle.product_frame.specs.Text.{is_blank}
 use Rattle.product_frame.specs.declared.frame.Heading.{Heading}
 
@@ -35,7 +35,7 @@ is_front line = is_ttaaii line && is_blank (slice_index line 6) && is_office lin
 
 -- WWUS41 KLWX 031530
 unfoldable pub heading_by : List ℕ → Option (List ℕ) → Option Heading
-heading_by line bbb = if is_front line then option_map (heading_with line bbb) (expiry_of (slice_range line 12 18)) else None
+heading_by line bbb = if is_front line then option_map (heading_with line bbb) (day_stamp_in (slice_range line 12 18)) else None
 
 -- and optionally a blank and three letters
 unfoldable pub heading_of : List ℕ → Option Heading

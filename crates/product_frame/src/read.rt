@@ -16,9 +16,8 @@ use crate::frame::{Frame, FrameFault, Heading};
 use crate::text::{is_blank, line_of, starts};
 use crate::walk::walk_lines;
 use desk_clock::{near, read_local_line};
-use hazard_types::{DayStamp, List, Minute, Oom, Or, Text};
+use hazard_types::{DayStamp, List, Minute, Oom, Or, Text, day_stamp_in};
 use std::alloc::Global;
-use ugc_codes::expiry_of;
 
 fn is_name(c: u8) -> bool
     ensures { result ≡ is_name c }
@@ -61,7 +60,7 @@ fn heading_by(line: &[u8], bbb: Option<[u8; 3]>) -> Option<Heading>
     if !is_front(line) {
         return None;
     }
-    let day = expiry_of(&line[12..18])?;
+    let day = day_stamp_in(&line[12..18])?;
     let ttaaii = [line[0], line[1], line[2], line[3], line[4], line[5]];
     let office = [line[7], line[8], line[9], line[10]];
     Some(Heading {

@@ -1,7 +1,7 @@
 //! Texts are written for frames.
 ghost use Rattle.std.specs.Prelude.{◌≡◌, ◌≤◌, ◌<◌, ◌++◌, ◌∷◌, [], length, IsTrue, IfOk, OnOk};
 ghost use Rattle.std.specs.List.{All};
-ghost use Rattle.ugc_codes.specs.Grammar.{is_day_stamp, two_digits, day_text};
+ghost use Rattle.hazard_types.specs.Digits.{is_day_stamp, two_digits, day_text};
 ghost use Rattle.product_frame.specs.Layout.{ended, letters_text, heading_text, pairs_text, names_text, body_text, segment_text, segments_text, block_text, layout_of};
 ghost use Rattle.product_frame.specs.Frame.{FrameOf};
 ghost use Rattle.product_frame.specs.LineRules.{IsPairWritten, IsSegmentWritten, HasColumns, ReadsBack, IsWritable};

@@ -15,12 +15,17 @@ use Rattle.hazard_types.specs.declared.calendar.DayStamp.{DayStamp}
 use Rattle.ugc_codes.specs.declared.read.Group.{Group}
 use Rattle.ugc_codes.specs.declared.read.Group.TheVariants.{Zones, Expiry}
 use Rattle.ugc_codes.specs.declared.read.Refused.TheVariants.{NoCode, NoRange}
+use Rattle.hazard_types.proofs.DayTexts.{day_stamp_back, day_stamp_read}
 use Rattle.ugc_codes.specs.declared.span.Span.{Span}
-use Rattle.ugc_codes.specs.Codes.{day_stamp_at, six_digits}
+use Rattle.hazard_types.specs.Digits.{day_stamp_at, six_digits}
 use Rattle.ugc_codes.specs.declared.read.Refused.{Refused}
-use Rattle.ugc_codes.specs.Codes.{three_of, full_code, short_code, code_of, run_of, single_of, day_of, group_of, expiry_of, is_run, or_refused, run_to, three_at, kind_at}
+use Rattle.ugc_codes.specs.Codes.{three_of, full_code, short_code, code_of, run_of, single_of, day_of, group_of, is_run, or_refused, run_to, three_at}
+use Rattle.hazard_types.specs.Digits.{day_stamp_in}
+use Rattle.hazard_types.specs.Names.{kind_at}
 use Rattle.ugc_codes.specs.Faults.{IsBackwards, IsNoGroup}
-use Rattle.ugc_codes.specs.Grammar.{is_day_stamp, numbered, code_text, IsSpan, kind_code, three_digits, two_digits, day_text, run_end, full_text, short_text, Follows, Spells, HasCode}
+use Rattle.ugc_codes.specs.Grammar.{numbered, IsSpan, run_end, full_text, short_text, Follows, Spells, HasCode}
+use Rattle.hazard_types.specs.Digits.{is_day_stamp, three_digits, two_digits, day_text}
+use Rattle.hazard_types.specs.Names.{zone_text, kind_code}
 
 pub three_read : (n : ℕ) → n ≤ 999 → three_of (48 + n / 100) (48 + n / 10 % 10) (48 + n % 10) ≡ Some n
 unfolding three_of
@@ -99,7 +104,7 @@ pub record Coded (before : Option Place) (text : List ℕ) (p : Place) : Type 0 
   pub two : length p.state ≡ 2
   pub letters : are_letters p.state ≡ true
   pub number : is_number p.number ≡ true
-  pub spelled : (text ≡ code_text p) ⊎ (Follows before p × (text ≡ three_digits p.number))
+  pub spelled : (text ≡ zone_text p) ⊎ (Follows before p × (text ≡ three_digits p.number))
 
 digit_range : (x : ℕ) → is_digit x ≡ true → (48 ≤ x) × (x ≤ 57)
 digit_range x h = let p = and_parts _ _ h in (leb-true _ _ p.0, leb-true _ _ p.1)
@@ -197,7 +202,7 @@ run_parts before text first last good runs code number =
     record { coded = code_back before front first good code; high = digits.0; parts = last_four text four ∙ (λ i. front ++ gt i ∷ digits.1 i ∷ y i ∷ z i ∷ []) }
 
 -- the parts of a text behind its code are those of the whole
-coded_append : (before : Option Place) (front tail text : List ℕ) (p : Place) → (front ≡ code_text p) ⊎ (Follows before p × (front ≡ three_digits p.number)) → text ≡ front ++ tail → (text ≡ code_text p ++ tail) ⊎ (Follows before p × (text ≡ three_digits p.number ++ tail))
+coded_append : (before : Option Place) (front tail text : List ℕ) (p : Place) → (front ≡ zone_text p) ⊎ (Follows before p × (front ≡ three_digits p.number)) → text ≡ front ++ tail → (text ≡ zone_text p ++ tail) ⊎ (Follows before p × (text ≡ three_digits p.number ++ tail))
 coded_append before front tail text p (inl e) whole = inl (whole ∙ ap (λ (xs : List ℕ). xs ++ tail) e)
 coded_append before front tail text p (inr e) whole = inr (e.0, whole ∙ ap (λ (xs : List ℕ). xs ++ tail) e.1)
 
@@ -235,7 +240,7 @@ single_back before text p n good h =
     let same : (a.0.number == a.0.number) ≡ true = eq-eqb _ _ refl in
     let no_end : run_end s ≡ [] = rw same refl in
     let spells : Spells before s text = elim coded.spelled [
-      | inl e ↦ inl (e ∙ sym (append-nil (code_text a.0)) ∙ ap (λ (xs : List ℕ). code_text a.0 ++ xs) (sym no_end))
+      | inl e ↦ inl (e ∙ sym (append-nil (zone_text a.0)) ∙ ap (λ (xs : List ℕ). zone_text a.0 ++ xs) (sym no_end))
       | inr e ↦ inr (e.0, e.1 ∙ ap (λ (xs : List ℕ). three_digits a.0.number ++ xs) (sym no_end))
     ] in
     let is : IsSpan s = record { state = coded.two; letters = coded.letters; first = coded.number; last = high; order = omega arith } in
@@ -247,11 +252,11 @@ single_back before text p n good h =
 pub same_ok : (g h : Group) → ◌≡◌ {A = Result Group Refused} (Ok g) (Ok h) → g ≡ h
 same_ok g h e = cc e
 
-day_steps : (before : Option Place) (text : List ℕ) (g : Group) → day_of before text ≡ Ok g → (p : Place) × (d : DayStamp) × (before ≡ Some p) × (expiry_of text ≡ Some d) × (g ≡ Expiry d)
+day_steps : (before : Option Place) (text : List ℕ) (g : Group) → day_of before text ≡ Ok g → (p : Place) × (d : DayStamp) × (before ≡ Some p) × (day_stamp_in text ≡ Some d) × (g ≡ Expiry d)
 unfolding day_of
 day_steps before text g h =
-    let a = or_refused_ok before (λ _. or_refused (expiry_of text) (λ d. Ok (Expiry d))) g h in
-    let b = or_refused_ok (expiry_of text) (λ d. Ok (Expiry d)) g a.2 in
+    let a = or_refused_ok before (λ _. or_refused (day_stamp_in text) (λ d. Ok (Expiry d))) g h in
+    let b = or_refused_ok (day_stamp_in text) (λ d. Ok (Expiry d)) g a.2 in
     (a.0, b.0, a.1, b.1, sym (same_ok (Expiry b.0) g b.2))
 
 day_no_zones : (before : Option Place) (text : List ℕ) (p : Place) (n : ℕ) → day_of before text ≡ Ok (Zones p n) → ⊥
@@ -293,55 +298,11 @@ group_back before text p n good h =
 
 -- ---- the expiry
 
-two_back : (x y : ℕ) → is_digit x ≡ true → is_digit y ≡ true → (x ≡ 48 + (10 * (x - 48) + (y - 48)) / 10) × (y ≡ 48 + (10 * (x - 48) + (y - 48)) % 10)
-two_back x y h g = let a = digit_range x h in let b = digit_range y g in (omega arith, omega arith)
-
-pub expiry_back : (text : List ℕ) (d : DayStamp) → expiry_of text ≡ Some d → IsTrue (is_day_stamp d) × (text ≡ day_text d)
-unfolding expiry_of
-expiry_back text d h =
-    let found = cond_some _ (day_stamp_at text) d h in
-    let tests = and_parts _ _ found.0 in
-    let t5 = and_parts _ _ tests.0 in
-    let t4 = and_parts _ _ t5.0 in
-    let t3 = and_parts _ _ t4.0 in
-    let t2 = and_parts _ _ t3.0 in
-    let t1 = and_parts _ _ t2.0 in
-    let t0 = and_parts _ _ t1.0 in
-    let len : length text ≡ 6 = eqb-true _ _ t0.0 in
-    let day = two_back _ _ t0.1 t1.1 in
-    let hour = two_back _ _ t2.1 t3.1 in
-    let minute = two_back _ _ t4.1 t5.1 in
-    let spelled : text ≡ day_text (day_stamp_at text) = text_from_reads text _ len (day.0, (day.1, (hour.0, (hour.1, (minute.0, (minute.1, tt)))))) in
-    subst (λ (e : DayStamp). IsTrue (is_day_stamp e) × (text ≡ day_text e)) found.1 (tests.1, spelled)
-
-two_read : (n : ℕ) → 10 * ((48 + n / 10) - 48) + ((48 + n % 10) - 48) ≡ n
-two_read n = omega arith
-
-day_digits : (a b c : ℕ) → a ≤ 31 → b ≤ 23 → c ≤ 59 → six_digits (two_digits a ++ two_digits b ++ two_digits c) ≡ true
-day_digits a b c p q r = grind (arith, nat_tests)
-
-pub expiry_read : (d : DayStamp) → is_day_stamp d ≡ true → expiry_of (day_text d) ≡ Some d
-unfolding expiry_of
-expiry_read d h =
-    let t3 = and_parts _ _ h in
-    let t2 = and_parts _ _ t3.0 in
-    let t1 = and_parts _ _ t2.0 in
-    let day : d.day ≤ 31 = leb-true _ _ t1.1 in
-    let hour : d.hour ≤ 23 = leb-true _ _ t2.1 in
-    let minute : d.minute ≤ 59 = leb-true _ _ t3.1 in
-    let digits : six_digits (day_text d) ≡ true = day_digits d.day d.hour d.minute day hour minute in
-    let same : day_stamp_at (day_text d) ≡ d = λ i. record { day = two_read d.day i; hour = two_read d.hour i; minute = two_read d.minute i } in
-    let stamped : is_day_stamp (day_stamp_at (day_text d)) ≡ true = ap is_day_stamp same ∙ h in
-    rw (digits, stamped) (ap (λ (x : DayStamp). Some x) same)
-
-pub expiry_is_read : (text : List ℕ) (d : DayStamp) → is_day_stamp d ≡ true → text ≡ day_text d → expiry_of text ≡ Some d
-expiry_is_read text d h e = ap expiry_of e ∙ expiry_read d h
-
 day_parts : (before : Option Place) (text : List ℕ) (d : DayStamp) → day_of before text ≡ Ok (Expiry d) → HasCode before × IsTrue (is_day_stamp d) × (text ≡ day_text d)
 day_parts before text d h =
     let a = day_steps before text (Expiry d) h in
     let same : a.1 ≡ d = cc a.4 in
-    let day = expiry_back text a.1 a.3 in
+    let day = day_stamp_back text a.1 a.3 in
     (has_code before a.0 a.2, subst (λ (x : DayStamp). IsTrue (is_day_stamp x)) same day.0, day.1 ∙ ap day_text same)
   where
     has_code : (before : Option Place) (p : Place) → before ≡ Some p → HasCode before
@@ -379,12 +340,12 @@ day_read p d h =
     let hour : d.hour ≤ 23 = leb-true _ _ t2.1 in
     let digit : is_digit (48 + d.hour / 10) ≡ true = tens_digit d.hour hour in
     let no_run : (48 + d.hour / 10 == 62) ≡ false = ne_eqb _ _ (λ q. absurd (omega arith)) in
-    rw (no_run, no_full _ _ _ _ _ _ digit, expiry_read d h) refl
+    rw (no_run, no_full _ _ _ _ _ _ digit, day_stamp_read d h) refl
 
 -- ---- a run whose end is not greater
 
 full_backwards : (before : Option Place) (state : List ℕ) (kind : Kind) (n last : ℕ) → length state ≡ 2 → are_letters state ≡ true → is_number n ≡ true → last ≤ 999 → last ≤ n →
-    group_of before (code_text (record { state = state; kind = kind; number = n }) ++ 62 ∷ three_digits last) ≡ Err NoRange
+    group_of before (zone_text (record { state = state; kind = kind; number = n }) ++ 62 ∷ three_digits last) ≡ Err NoRange
 unfolding group_of run_of
 full_backwards before [] kind n last two letters number le order = absurd (omega arith)
 full_backwards before (a ∷ []) kind n last two letters number le order = absurd (omega arith)
@@ -402,7 +363,7 @@ range_read before text h = spelled before h.first.state h.first.kind h.first.num
     tests h = and_parts (are_letters h.first.state) (is_number h.first.number) h.place.0
 
     spelled : (before : Option Place) (state : List ℕ) (kind : Kind) (n last : ℕ) → length state ≡ 2 → are_letters state ≡ true → is_number n ≡ true → last ≤ 999 → last ≤ n →
-        (text ≡ code_text (record { state = state; kind = kind; number = n }) ++ 62 ∷ three_digits last) ⊎ (Follows before (record { state = state; kind = kind; number = n }) × (text ≡ three_digits n ++ 62 ∷ three_digits last)) → group_of before text ≡ Err NoRange
+        (text ≡ zone_text (record { state = state; kind = kind; number = n }) ++ 62 ∷ three_digits last) ⊎ (Follows before (record { state = state; kind = kind; number = n }) × (text ≡ three_digits n ++ 62 ∷ three_digits last)) → group_of before text ≡ Err NoRange
     spelled before state kind n last two letters number le order (inl e) = ap (group_of before) e ∙ full_backwards before state kind n last two letters number le order
     spelled None state kind n last two letters number le order (inr e) = absurd e.0
     spelled (Some p) state kind n last two letters number le order (inr e) = ap (group_of (Some p)) e.1 ∙ short_backwards p n last number le order
@@ -438,8 +399,8 @@ single_range before text h = let a = refused_steps (code_of before text) (λ p. 
 day_range : (before : Option Place) (text : List ℕ) → day_of before text ≡ Err NoRange → ⊥
 unfolding day_of
 day_range before text h =
-    let a = refused_steps before (λ _. or_refused (expiry_of text) (λ d. Ok (Expiry d))) h in
-    let b = refused_steps (expiry_of text) (λ d. Ok (Expiry d)) a.2 in
+    let a = refused_steps before (λ _. or_refused (day_stamp_in text) (λ d. Ok (Expiry d))) h in
+    let b = refused_steps (day_stamp_in text) (λ d. Ok (Expiry d)) a.2 in
     ok_no_range _ b.2
 
 pub range_back : (before : Option Place) (text : List ℕ) → IsBefore before → group_of before text ≡ Err NoRange → IsBackwards before text

@@ -19,7 +19,9 @@ use Rattle.ugc_codes.specs.declared.span.Span.{Span}
 use Rattle.ugc_codes.specs.Codes.{group_of}
 use Rattle.ugc_codes.specs.Faults.{Faults, FirstFault, HasNoHyphen, BeginsInNoGap}
 use Rattle.ugc_codes.specs.Reading.{is_none_yet, settle, fault_at, read_from, ugc_of}
-use Rattle.ugc_codes.specs.Grammar.{is_day_stamp, add_run, is_gap, IsSpan, three_digits, day_text, code_text, run_end, Spells, HasCode, IsGap, AreGroups, last_code, add_spans, zones_of, IsUgc}
+use Rattle.ugc_codes.specs.Grammar.{add_run, is_gap, IsSpan, run_end, Spells, HasCode, IsGap, AreGroups, last_code, add_spans, zones_of, IsUgc}
+use Rattle.hazard_types.specs.Digits.{is_day_stamp, three_digits, day_text}
+use Rattle.hazard_types.specs.Names.{zone_text}
 use Rattle.ugc_codes.proofs.Groups.{IsBefore, group_spelled, group_back, day_read, day_back, range_read, range_back, none_read, none_back}
 
 abbrev pub read_as : List Place → DayStamp → ℕ → Result UgcRead UgcFault
@@ -57,7 +59,7 @@ letters_high a b h =
     let y : 65 ≤ b = leb-true _ _ (and_parts (nat_le 65 b) (nat_le b 90) p.1).0 in
     (omega arith, omega arith)
 
-code_plain : (state : List ℕ) (kind : Kind) (n : ℕ) → length state ≡ 2 → are_letters state ≡ true → IsPlain (code_text (record { state = state; kind = kind; number = n }))
+code_plain : (state : List ℕ) (kind : Kind) (n : ℕ) → length state ≡ 2 → are_letters state ≡ true → IsPlain (zone_text (record { state = state; kind = kind; number = n }))
 code_plain [] kind n two letters = absurd (omega arith)
 code_plain (a ∷ []) kind n two letters = absurd (omega arith)
 code_plain (a ∷ b ∷ c ∷ cs) kind n two letters = absurd (omega arith)
@@ -65,7 +67,7 @@ code_plain (a ∷ b ∷ []) C n two letters = let h = letters_high a b letters i
 code_plain (a ∷ b ∷ []) Z n two letters = let h = letters_high a b letters in (plain_high a h.0, (plain_high b h.1, (plain_high 90 (omega arith), three_plain n)))
 
 spelled_plain : (before : Option Place) (s : Span) (own : List ℕ) → IsSpan s → Spells before s own → IsPlain own
-spelled_plain before s own is (inl e) = subst IsPlain (sym e) (plain_append (code_text s.first) (run_end s) (code_plain s.first.state s.first.kind s.first.number is.state is.letters) (end_plain s))
+spelled_plain before s own is (inl e) = subst IsPlain (sym e) (plain_append (zone_text s.first) (run_end s) (code_plain s.first.state s.first.kind s.first.number is.state is.letters) (end_plain s))
 spelled_plain before s own is (inr h) = subst IsPlain (sym h.1) (plain_append (three_digits s.first.number) (run_end s) (three_plain s.first.number) (end_plain s))
 
 day_plain : (d : DayStamp) → IsPlain (day_text d)

@@ -15,7 +15,9 @@ use Rattle.hazard_types.specs.declared.zone.Kind.{Kind}
 use Rattle.hazard_types.specs.declared.zone.Kind.TheVariants.{C, Z}
 use Rattle.hazard_types.specs.declared.calendar.DayStamp.{DayStamp}
 use Rattle.ugc_codes.specs.declared.span.Span.{Span}
-use Rattle.ugc_codes.specs.Grammar.{is_day_stamp, numbered, add, add_run, IsSpan, kind_code, three_digits, day_text, code_text, run_end, Spells, HasCode, IsGap, AreGroups, last_code, add_spans, zones_of, IsUgc}
+use Rattle.ugc_codes.specs.Grammar.{numbered, add, add_run, IsSpan, run_end, Spells, HasCode, IsGap, AreGroups, last_code, add_spans, zones_of, IsUgc}
+use Rattle.hazard_types.specs.Digits.{is_day_stamp, three_digits, day_text}
+use Rattle.hazard_types.specs.Names.{kind_code, zone_text}
 use Rattle.ugc_codes.specs.Written.{are_alike, goes_on, single, pieces, groups_from, code_part, own_text, passes, put_text, put_column, lay, ugc_text}
 
 -- ---- places that are alike
@@ -241,9 +243,9 @@ end_short s = elim (cases_Bool (s.first.number == s.last)) [ inl e ↦ rw e (lit
 own_short : (s : Span) → IsSpan s → length (own_text None s) ≤ 11
 own_short s is =
     let two : length s.first.state ≡ 2 = is.state in
-    let c : length (code_text s.first) ≡ length s.first.state + 4 = length-append s.first.state (kind_code s.first.kind ∷ three_digits s.first.number) in
-    let a : length (own_text None s) ≡ length (code_text s.first ++ run_end s) + 1 = length-append (code_text s.first ++ run_end s) (45 ∷ []) in
-    let b : length (code_text s.first ++ run_end s) ≡ length (code_text s.first) + length (run_end s) = length-append (code_text s.first) (run_end s) in
+    let c : length (zone_text s.first) ≡ length s.first.state + 4 = length-append s.first.state (kind_code s.first.kind ∷ three_digits s.first.number) in
+    let a : length (own_text None s) ≡ length (zone_text s.first ++ run_end s) + 1 = length-append (zone_text s.first ++ run_end s) (45 ∷ []) in
+    let b : length (zone_text s.first ++ run_end s) ≡ length (zone_text s.first) + length (run_end s) = length-append (zone_text s.first) (run_end s) in
     omega (arith, end_short s)
 
 -- the first group stands on the first line

@@ -2,19 +2,18 @@
 use Rattle.std.specs.Prelude.{ℕ, ◌+◌, ◌*◌, ◌-◌, ◌==◌, ◌&&◌, Bool, nat_le, nat_lt, List, [], ◌∷◌, length, slice_index, take, Option, Some, None, Result, Ok, Err, if◌then◌else◌, option_and_then, is_some}
 use Rattle.std.specs.Prelude.{◌≤◌}
 use Rattle.hazard_types.specs.Calendar.{is_digit}
+use Rattle.hazard_types.specs.Digits.{day_stamp_in}
+use Rattle.hazard_types.specs.Names.{kind_at}
 use Rattle.hazard_types.specs.Places.{Place, are_letters, is_number}
 use Rattle.hazard_types.specs.declared.zone.Kind.{Kind}
 use Rattle.hazard_types.specs.declared.zone.Kind.TheVariants.{C, Z}
 use Rattle.hazard_types.specs.declared.calendar.DayStamp.{DayStamp}
-use Rattle.ugc_codes.specs.Grammar.{numbered, is_day_stamp}
+use Rattle.ugc_codes.specs.Grammar.{numbered}
+use Rattle.hazard_types.specs.Digits.{is_day_stamp}
 use Rattle.ugc_codes.specs.declared.read.Group.{Group}
 use Rattle.ugc_codes.specs.declared.read.Group.TheVariants.{Zones, Expiry}
 use Rattle.ugc_codes.specs.declared.read.Refused.{Refused}
 use Rattle.ugc_codes.specs.declared.read.Refused.TheVariants.{NoCode, NoRange}
-
--- the kind of a letter, if it has one
-abbrev pub kind_at : ℕ → Option Kind
-kind_at c = if c == 67 then Some C else (if c == 90 then Some Z else None)
 
 -- the number that three digits spell
 unfoldable pub three_of : ℕ → ℕ → ℕ → Option ℕ
@@ -44,22 +43,6 @@ short_code before text = option_and_then (λ p. option_and_then (numbered_if p) 
 abbrev pub code_of : Option Place → List ℕ → Option Place
 code_of before text = if length text == 6 then full_code text else (if length text == 3 then short_code before text else None)
 
--- the number that two digits spell
-abbrev pub two_at : List ℕ → ℕ → ℕ
-two_at text i = 10 * (slice_index text i - 48) + (slice_index text (i + 1) - 48)
-
--- six bytes, each a digit
-abbrev pub six_digits : List ℕ → Bool
-six_digits text = (length text == 6) && is_digit (slice_index text 0) && is_digit (slice_index text 1) && is_digit (slice_index text 2) && is_digit (slice_index text 3) && is_digit (slice_index text 4) && is_digit (slice_index text 5)
-
--- the day, the hour and the minute that six digits spell
-abbrev pub day_stamp_at : List ℕ → DayStamp
-day_stamp_at text = record { day = two_at text 0; hour = two_at text 2; minute = two_at text 4 }
-
--- six digits that are a day stamp
-unfoldable pub expiry_of : List ℕ → Option DayStamp
-expiry_of text = if six_digits text && is_day_stamp (day_stamp_at text) then Some (day_stamp_at text) else None
-
 -- a run to a number that is greater
 abbrev pub run_to : Place → ℕ → Result Group Refused
 run_to first last = if nat_lt first.number last then Ok (Zones first last) else Err NoRange
@@ -79,7 +62,7 @@ single_of before text = or_refused (code_of before text) (λ p. Ok (Zones p p.nu
 
 -- an expiry, behind a code
 unfoldable pub day_of : Option Place → List ℕ → Result Group Refused
-day_of before text = or_refused before (λ _. or_refused (expiry_of text) (λ d. Ok (Expiry d)))
+day_of before text = or_refused before (λ _. or_refused (day_stamp_in text) (λ d. Ok (Expiry d)))
 
 -- > before the last three bytes
 abbrev pub is_run : List ℕ → Bool

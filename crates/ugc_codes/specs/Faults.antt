@@ -6,7 +6,9 @@ use Rattle.hazard_types.specs.declared.calendar.DayStamp.{DayStamp}
 use Rattle.ugc_codes.specs.declared.read.UgcFault.{UgcFault}
 use Rattle.ugc_codes.specs.declared.read.UgcFault.TheVariants.{NotACode, BadRange, CutShort}
 use Rattle.ugc_codes.specs.declared.span.Span.{Span}
-use Rattle.ugc_codes.specs.Grammar.{IsSpan, Spells, Follows, HasCode, AreGroups, last_code, is_gap, is_day_stamp, day_text, code_text, three_digits}
+use Rattle.ugc_codes.specs.Grammar.{IsSpan, Spells, Follows, HasCode, AreGroups, last_code, is_gap}
+use Rattle.hazard_types.specs.Digits.{is_day_stamp, day_text, three_digits}
+use Rattle.hazard_types.specs.Names.{zone_text}
 
 -- a code, > and a number that is not greater
 pub record IsBackwards (before : Option Place) (text : List ℕ) : Type 0 where
@@ -15,7 +17,7 @@ pub record IsBackwards (before : Option Place) (text : List ℕ) : Type 0 where
   pub place : IsPlace first
   pub range : last ≤ 999
   pub order : last ≤ first.number
-  pub spelled : (text ≡ code_text first ++ 62 ∷ three_digits last) ⊎ (Follows before first × (text ≡ three_digits first.number ++ 62 ∷ three_digits last))
+  pub spelled : (text ≡ zone_text first ++ 62 ∷ three_digits last) ⊎ (Follows before first × (text ≡ three_digits first.number ++ 62 ∷ three_digits last))
 
 -- no code and no run, not even a backward one, and no expiry behind a code
 pub record IsNoGroup (before : Option Place) (text : List ℕ) : Type 0 where

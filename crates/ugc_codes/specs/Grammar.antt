@@ -2,6 +2,8 @@
 use Rattle.std.specs.Prelude.{◌≡◌, ℕ, zero, suc, ◌+◌, ◌-◌, ◌/◌, ◌%◌, ◌≤◌, ◌⊎◌, ◌==◌, ◌&&◌, ◌||◌, Bool, nat_le, IsTrue, List, [], ◌∷◌, ◌++◌, length, Option, Some, None, if◌then◌else◌}
 use Rattle.std.specs.List.{AllByRecursion}
 use Rattle.std.specs.BTreeSet.{insert_key}
+use Rattle.hazard_types.specs.Digits.{three_digits, is_day_stamp, day_text}
+use Rattle.hazard_types.specs.Names.{zone_text}
 use Rattle.hazard_types.specs.Places.{Place, are_letters, is_number, by_place}
 use Rattle.hazard_types.specs.declared.zone.Kind.{Kind}
 use Rattle.hazard_types.specs.declared.zone.Kind.TheVariants.{C, Z}
@@ -16,38 +18,13 @@ pub record IsSpan (s : Span) : Type 0 where
   pub last : s.last ≤ 999
   pub order : s.first.number ≤ s.last
 
--- the letter of a kind, C or Z
-abbrev pub kind_code : Kind → ℕ
-kind_code C = 67
-kind_code Z = 90
-
--- a number below 100 in two digits
-abbrev pub two_digits : ℕ → List ℕ
-two_digits n = (48 + n / 10) ∷ (48 + n % 10) ∷ []
-
--- a number below 1,000 in three digits
-abbrev pub three_digits : ℕ → List ℕ
-three_digits n = (48 + n / 100) ∷ (48 + n / 10 % 10) ∷ (48 + n % 10) ∷ []
-
--- a day, an hour and a minute
-abbrev pub is_day_stamp : DayStamp → Bool
-is_day_stamp d = nat_le 1 d.day && nat_le d.day 31 && nat_le d.hour 23 && nat_le d.minute 59
-
--- the six digits of an expiry
-abbrev pub day_text : DayStamp → List ℕ
-day_text d = two_digits d.day ++ two_digits d.hour ++ two_digits d.minute
-
--- two letters, C or Z and three digits
-abbrev pub code_text : Place → List ℕ
-code_text p = p.state ++ kind_code p.kind ∷ three_digits p.number
-
 -- > and the last number of a run
 unfoldable pub run_end : Span → List ℕ
 run_end s = if s.first.number == s.last then [] else 62 ∷ three_digits s.last
 
 -- a group with state and kind
 abbrev pub full_text : Span → List ℕ
-full_text s = code_text s.first ++ run_end s
+full_text s = zone_text s.first ++ run_end s
 
 -- a group that takes state and kind from the code before
 abbrev pub short_text : Span → List ℕ

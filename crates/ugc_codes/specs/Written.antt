@@ -3,7 +3,9 @@ use Rattle.std.specs.Prelude.{ℕ, ◌≤◌, ◌+◌, ◌==◌, ◌&&◌, Bool,
 use Rattle.hazard_types.specs.Places.{Place}
 use Rattle.hazard_types.specs.declared.calendar.DayStamp.{DayStamp}
 use Rattle.ugc_codes.specs.declared.span.Span.{Span}
-use Rattle.ugc_codes.specs.Grammar.{numbered, kind_code, three_digits, day_text, code_text, run_end}
+use Rattle.ugc_codes.specs.Grammar.{numbered, run_end}
+use Rattle.hazard_types.specs.Names.{kind_code, zone_text}
+use Rattle.hazard_types.specs.Digits.{three_digits, day_text}
 
 -- one state and kind
 abbrev pub are_alike : Place → Place → Bool
@@ -42,7 +44,7 @@ is_short (Some b) p = are_alike b p
 
 -- the code of a group, short behind a code of its state and kind
 abbrev pub code_part : Option Place → Place → List ℕ
-code_part before p = if is_short before p then three_digits p.number else code_text p
+code_part before p = if is_short before p then three_digits p.number else zone_text p
 
 -- a group and its hyphen
 abbrev pub own_text : Option Place → Span → List ℕ

@@ -5,12 +5,15 @@ ghost use Rattle.hazard_types.specs.Calendar.{is_digit};
 ghost use Rattle.hazard_types.specs.Given.{Gives};
 ghost use Rattle.hazard_types.specs.Places.{Place, by_place};
 ghost use Rattle.hazard_types.specs.declared.calendar.DayStamp.{DayStamp as Expiry};
-ghost use Rattle.ugc_codes.specs.Grammar.{is_day_stamp, day_text, add_run, is_gap, IsUgc};
+ghost use Rattle.ugc_codes.specs.Grammar.{add_run, is_gap, IsUgc};
+ghost use Rattle.hazard_types.specs.Digits.{is_day_stamp, day_text};
 ghost use Rattle.ugc_codes.specs.Faults.{FirstFault};
-ghost use Rattle.ugc_codes.specs.Codes.{EndsInRange, kind_at, three_of, full_code, short_code, code_of, expiry_of, run_to, run_of, single_of, day_of, group_of};
+ghost use Rattle.ugc_codes.specs.Codes.{EndsInRange, three_of, full_code, short_code, code_of, run_to, run_of, single_of, day_of, group_of};
+ghost use Rattle.hazard_types.specs.Names.{kind_at};
+ghost use Rattle.hazard_types.specs.Digits.{day_stamp_in};
 ghost use Rattle.ugc_codes.specs.Reading.{ugc_of, fault_at, Closes};
 
-use hazard_types::{DayStamp, Kind, List, Oom, Or, Zone};
+use hazard_types::{DayStamp, Kind, List, Oom, Or, Zone, day_stamp_in};
 use std::alloc::Global;
 use std::collections::BTreeSet;
 
@@ -49,16 +52,6 @@ pub enum Refused {
     NoRange,
 }
 
-fn kind_of(code: u8) -> Option<Kind>
-    ensures { result ≡ kind_at code }
-{
-    match code {
-        b'C' => Some(Kind::C),
-        b'Z' => Some(Kind::Z),
-        _ => None,
-    }
-}
-
 #[tactic(auto, unfolding(crate::specs::Codes::three_of))]
 fn three_of(x: u8, y: u8, z: u8) -> Option<u16>
     ensures value { result ≡ three_of x y z }
@@ -75,7 +68,7 @@ fn three_of(x: u8, y: u8, z: u8) -> Option<u16>
 fn full_code(text: &[u8; 6]) -> Option<Zone>
     ensures { result ≡ full_code text.now }
 {
-    let kind = kind_of(text[2])?;
+    let kind = Kind::at(text[2])?;
     let number = three_of(text[3], text[4], text[5])?;
     Zone::new([text[0], text[1]], kind, number)
 }
@@ -101,59 +94,6 @@ fn code_of(before: &Option<Zone>, text: &[u8]) -> Option<Zone>
         [x, y, z] => short_code(before, &[*x, *y, *z]),
         _ => None,
     }
-}
-
-/// Two digits, whose number is below a hundred.
-fn two_of(tens: u8, ones: u8) -> u8
-    requires tens { IsTrue (is_digit tens) }
-    requires ones { IsTrue (is_digit ones) }
-    ensures { result ≡ 10 * (tens - 48) + (ones - 48) }
-{
-    10 * (tens - b'0') + (ones - b'0')
-}
-
-fn is_day_stamp(d: DayStamp) -> bool
-    ensures { result ≡ is_day_stamp d }
-{
-    1 <= d.day && d.day <= 31 && d.hour <= 23 && d.minute <= 59
-}
-
-#[tactic(auto, unfolding(crate::specs::Codes::expiry_of))]
-fn day_stamp_of(text: &[u8]) -> Option<DayStamp>
-    ensures { result ≡ expiry_of text.now }
-{
-    let [a, b, c, d, e, f] = text else {
-        return None;
-    };
-    if !(a.is_ascii_digit()
-        && b.is_ascii_digit()
-        && c.is_ascii_digit()
-        && d.is_ascii_digit()
-        && e.is_ascii_digit()
-        && f.is_ascii_digit())
-    {
-        return None;
-    }
-    let stamp = DayStamp {
-        day: two_of(*a, *b),
-        hour: two_of(*c, *d),
-        minute: two_of(*e, *f),
-    };
-    if is_day_stamp(stamp) {
-        Some(stamp)
-    } else {
-        None
-    }
-}
-
-/// The day, hour and minute of six digits; None where they are none.
-#[tactic(auto, using(crate::proofs::Groups::expiry_back, crate::proofs::Groups::expiry_is_read))]
-pub fn expiry_of(text: &[u8]) -> Option<DayStamp>
-    ensures found { IfSome result (λ d. IsTrue (is_day_stamp d) × (text.now ≡ day_text d)) }
-    ensures only { (d : Expiry) → IsTrue (is_day_stamp d) → text.now ≡ day_text d → result ≡ Some d }
-    ensures value { result ≡ expiry_of text.now }
-{
-    day_stamp_of(text)
 }
 
 fn run_to(first: Zone, last: u16) -> Result<Group, Refused>
@@ -203,7 +143,7 @@ fn day_of(before: &Option<Zone>, text: &[u8]) -> Result<Group, Refused>
     if before.is_none() {
         return Err(Refused::NoCode);
     }
-    match expiry_of(text) {
+    match day_stamp_in(text) {
         Some(expiry) => Ok(Group::Expiry(expiry)),
         None => Err(Refused::NoCode),
     }

@@ -1,6 +1,6 @@
 //! Worked texts, and texts with a fault.
-use crate::{UgcFault, expiry_of, read_ugc, write_ugc};
-use hazard_types::{Kind, Or};
+use crate::{UgcFault, read_ugc, write_ugc};
+use hazard_types::{Kind, Or, day_stamp_in};
 
 /// The first fault of each text, with its byte.
 #[test]
@@ -96,7 +96,7 @@ fn reads_zones(rt: HostRuntime) {
 fn reads_state_and_kind(rt: HostRuntime) {
     match read_ugc(rt.alloc(), b"MDC001-003-032330-") {
         Ok(read) => {
-            assert_eq!(rt; expiry_of(b"032330"), Some(read.expiry));
+            assert_eq!(rt; day_stamp_in(b"032330"), Some(read.expiry));
             for zone in read.zones.as_slice() {
                 assert_eq!(rt; zone.state(), *b"MD");
                 assert_eq!(rt; zone.kind(), Kind::C);

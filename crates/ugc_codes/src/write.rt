@@ -4,32 +4,14 @@ ghost use Rattle.std.specs.List.{All};
 ghost use Rattle.std.specs.List.Sorted.{IsStrictlySortedBy};
 ghost use Rattle.hazard_types.specs.Places.{Place, by_place, IsPlace};
 ghost use Rattle.hazard_types.specs.declared.calendar.DayStamp.{DayStamp as Expiry};
-ghost use Rattle.ugc_codes.specs.Grammar.{is_day_stamp, kind_code, two_digits, three_digits, day_text, code_text, run_end, IsUgc};
+ghost use Rattle.ugc_codes.specs.Grammar.{run_end, IsUgc};
+ghost use Rattle.hazard_types.specs.Digits.{is_day_stamp, two_digits, three_digits, day_text};
+ghost use Rattle.hazard_types.specs.Names.{kind_code, zone_text};
 ghost use Rattle.ugc_codes.specs.Written.{EndsBelow, are_alike, goes_on, pieces, groups, code_part, own_text, put_text, put_column, ugc_text};
 
 use crate::span::Span;
-use hazard_types::{DayStamp, Kind, List, Oom, Text, Zone};
+use hazard_types::{DayStamp, List, Oom, Text, Zone, day_text, three_digits, zone_text};
 use std::alloc::Global;
-
-fn kind_code(kind: Kind) -> u8
-    ensures { result ≡ kind_code kind }
-{
-    match kind {
-        Kind::C => b'C',
-        Kind::Z => b'Z',
-    }
-}
-
-fn three_digits(n: u16) -> [u8; 3]
-    requires { n ≤ 999 }
-    ensures { result ≡ three_digits n }
-{
-    [
-        b'0' + (n / 100) as u8,
-        b'0' + (n / 10 % 10) as u8,
-        b'0' + (n % 10) as u8,
-    ]
-}
 
 /// Whether two places have one state and kind.
 fn are_alike(a: &Zone, b: &Zone) -> bool
@@ -37,7 +19,7 @@ fn are_alike(a: &Zone, b: &Zone) -> bool
 {
     let x = a.state();
     let y = b.state();
-    x[0] == y[0] && x[1] == y[1] && kind_code(a.kind()) == kind_code(b.kind())
+    x[0] == y[0] && x[1] == y[1] && a.kind().letter() == b.kind().letter()
 }
 
 /// Whether a place comes just behind a span.
@@ -103,21 +85,6 @@ fn groups_of(alloc: Global, zones: &[Zone]) -> Result<List<Span>, Oom>
     Ok(list)
 }
 
-fn code_of(zone: &Zone) -> [u8; 6]
-    ensures { result ≡ code_text zone.now }
-{
-    let state = zone.state();
-    let digits = three_digits(zone.number());
-    [
-        state[0],
-        state[1],
-        kind_code(zone.kind()),
-        digits[0],
-        digits[1],
-        digits[2],
-    ]
-}
-
 /// Adds a code, short behind another of its state and kind.
 fn push_code(own: &mut Text, before: &Option<Zone>, zone: &Zone) -> Result<(), Oom>
     ensures value { OnOk result (own.new ≡ own.old ++ code_part before.now zone.now) }
@@ -128,10 +95,10 @@ fn push_code(own: &mut Text, before: &Option<Zone>, zone: &Zone) -> Result<(), O
             if are_alike(before, zone) {
                 own.extend(&three_digits(zone.number()))
             } else {
-                own.extend(&code_of(zone))
+                own.extend(&zone_text(zone))
             }
         }
-        None => own.extend(&code_of(zone)),
+        None => own.extend(&zone_text(zone)),
     }
 }
 
@@ -181,21 +148,13 @@ fn put(out: &mut Text, column: usize, own: &[u8]) -> Result<usize, Oom>
     }
 }
 
-fn two_digits(n: u8) -> [u8; 2]
-    requires { n < 100 }
-    ensures { result ≡ two_digits n }
-{
-    [b'0' + n / 10, b'0' + n % 10]
-}
-
 fn day_group(d: DayStamp) -> [u8; 7]
     requires { IsTrue (is_day_stamp d) }
     ensures { result ≡ day_text d ++ 45 ∷ [] }
 {
-    let day = two_digits(d.day);
-    let hour = two_digits(d.hour);
-    let minute = two_digits(d.minute);
-    [day[0], day[1], hour[0], hour[1], minute[0], minute[1], b'-']
+    let mut group = *b"ddhhmm-";
+    group[..6].copy_from_slice(&day_text(d));
+    group
 }
 
 #[tactic(auto, unfolding(crate::specs::Written::ugc_text))]

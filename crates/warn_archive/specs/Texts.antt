@@ -11,7 +11,7 @@ use Rattle.hazard_types.specs.declared.period.End.{End}
 use Rattle.hazard_types.specs.declared.period.End.TheVariants.{At, Ufn}
 use Rattle.vtec_string.specs.Columns.{four_digits}
 use Rattle.vtec_string.specs.Letters.{action_code}
-use Rattle.ugc_codes.specs.Grammar.{code_text}
+use Rattle.hazard_types.specs.Names.{zone_text}
 use Rattle.event_life.specs.declared.life.Breach.{Breach}
 use Rattle.event_life.specs.declared.life.Breach.TheVariants as breach
 use Rattle.product_frame.specs.declared.frame.FrameFault.{FrameFault}
@@ -27,7 +27,7 @@ event_text e = hazard_code e.hazard ++ (codes "." ++ (wide e.etn ++ (codes "." +
 
 -- an event in a zone: WS.W.0001.2018 MDZ003
 abbrev pub where_text : Event → Place → List ℕ
-where_text e z = event_text e ++ (codes " " ++ code_text z)
+where_text e z = event_text e ++ (codes " " ++ zone_text z)
 
 -- the stamp of an end; zeros are until further notice
 abbrev pub end_text : End → List ℕ
@@ -44,7 +44,7 @@ period_text p = stamp_of p.begin ++ (codes "-" ++ end_text p.end)
 
 -- MDZ003 WS.W.0001.2018 180103T1530Z-180104T0000Z
 abbrev pub row_line : Row → List ℕ
-row_line r = code_text r.zone ++ (codes " " ++ (event_text r.event ++ (codes " " ++ (period_text r.period ++ codes "\n"))))
+row_line r = zone_text r.zone ++ (codes " " ++ (event_text r.event ++ (codes " " ++ (period_text r.period ++ codes "\n"))))
 
 abbrev pub breach_name : Breach → List ℕ
 breach_name breach.Reopened = codes "Reopened"

@@ -4,7 +4,8 @@ ghost use Rattle.hazard_types.specs.Calendar.{stamp_of};
 ghost use Rattle.hazard_types.specs.Hazards.{hazard_code};
 ghost use Rattle.vtec_string.specs.Columns.{four_digits};
 ghost use Rattle.vtec_string.specs.Letters.{action_code};
-ghost use Rattle.ugc_codes.specs.Grammar.{kind_code, three_digits, code_text};
+ghost use Rattle.hazard_types.specs.Names.{kind_code, zone_text};
+ghost use Rattle.hazard_types.specs.Digits.{three_digits};
 ghost use Rattle.warn_archive.specs.Texts.{wide, event_text, where_text, end_text, period_text, steps_text, row_line, breach_name, fault_text};
 
 use event_life::Breach;
@@ -87,7 +88,7 @@ fn three_digits(n: u16) -> [u8; 3]
 
 /// A zone's code.
 fn put_zone(out: &mut Text, zone: &Zone) -> Result<(), Oom>
-    ensures { OnOk result (out.new ≡ out.old ++ code_text zone.now) }
+    ensures { OnOk result (out.new ≡ out.old ++ zone_text zone.now) }
 {
     out.extend(&zone.state())?;
     out.push(kind_code(zone.kind()))?;

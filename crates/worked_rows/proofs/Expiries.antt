@@ -4,7 +4,7 @@ use Rattle.std.proofs.lemmas.Bool.Decides.{nat_tests}
 use Rattle.hazard_types.specs.Calendar.{IsCivil, civil_of}
 use Rattle.hazard_types.specs.Days.{day_stamp_of}
 use Rattle.hazard_types.proofs.Years.{day_at_most}
-use Rattle.ugc_codes.specs.Grammar.{is_day_stamp}
+use Rattle.hazard_types.specs.Digits.{is_day_stamp}
 
 test_le : (a b : ℕ) → a ≤ b → nat_le a b ≡ true
 test_le a b h = grind (arith, nat_tests)

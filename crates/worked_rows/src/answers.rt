@@ -4,7 +4,7 @@ ghost use Rattle.std.specs.List.{AllByRecursion};
 ghost use Rattle.std.specs.List.Sorted.{IsStrictlySortedBy};
 ghost use Rattle.hazard_types.specs.Days.{day_stamp_of};
 ghost use Rattle.hazard_types.specs.Places.{by_place};
-ghost use Rattle.ugc_codes.specs.Grammar.{is_day_stamp};
+ghost use Rattle.hazard_types.specs.Digits.{is_day_stamp};
 ghost use Rattle.worked_rows.specs.Written.{CanBeWritten};
 
 use hazard_types::{

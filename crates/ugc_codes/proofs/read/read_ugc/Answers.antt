@@ -4,7 +4,8 @@ use Rattle.hazard_types.specs.Given.{Gives}
 use Rattle.hazard_types.specs.declared.or.Or.{Or}
 use Rattle.ugc_codes.specs.declared.read.UgcFault.{UgcFault}
 use Rattle.ugc_codes.specs.declared.read.UgcRead.{UgcRead}
-use Rattle.ugc_codes.specs.Grammar.{IsUgc, is_day_stamp}
+use Rattle.ugc_codes.specs.Grammar.{IsUgc}
+use Rattle.hazard_types.specs.Digits.{is_day_stamp}
 use Rattle.ugc_codes.specs.Reading.{ugc_of}
 use Rattle.ugc_codes.proofs.Adding.{zones_some}
 use Rattle.ugc_codes.proofs.Lines.{read_is_ugc, ugc_is_read, fault_is_read, refused_is_fault}

@@ -5,7 +5,8 @@ use Rattle.std.specs.List.Sorted.{IsStrictlySortedBy}
 use Rattle.hazard_types.specs.Places.{Place, IsPlace, by_place}
 use Rattle.hazard_types.specs.declared.calendar.DayStamp.{DayStamp}
 use Rattle.hazard_types.specs.declared.list.Oom.{Oom}
-use Rattle.ugc_codes.specs.Grammar.{is_day_stamp, IsUgc}
+use Rattle.ugc_codes.specs.Grammar.{IsUgc}
+use Rattle.hazard_types.specs.Digits.{is_day_stamp}
 use Rattle.ugc_codes.specs.Written.{ugc_text}
 use Rattle.ugc_codes.proofs.Lines.{ugc_once}
 use Rattle.ugc_codes.proofs.Written.{written_back}
