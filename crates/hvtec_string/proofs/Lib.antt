@@ -1,0 +1,3 @@
+pub mod TimeLemmas
+pub mod Lettering
+pub mod Laying

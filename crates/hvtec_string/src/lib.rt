@@ -1,0 +1,11 @@
+//! H-VTEC texts: `/nwsli.s.ic.yymmddThhnnZ.yymmddThhnnZ.yymmddThhnnZ.fr/`.
+#![tactic(auto)]
+
+mod columns;
+mod letters;
+mod read;
+mod times;
+mod write;
+
+pub use read::read_hvtec;
+pub use write::hvtec_text;

@@ -1,0 +1,111 @@
+//! H-VTEC texts are read.
+ghost use Rattle.std.specs.Prelude.{◌≡◌, ◌&&◌, ◌||◌, ◌≤◌, ◌<◌, ◌==◌, ◌∷◌, [], length, slice_index, codes, bytes_eq, true, Some, IfSome};
+ghost use Rattle.std.specs.List.{list_all};
+ghost use Rattle.hazard_types.specs.Calendar.{is_digit};
+ghost use Rattle.hazard_types.specs.Places.{is_capital, are_letters};
+ghost use Rattle.hazard_types.specs.declared.line.Flood.{Flood as Values};
+ghost use Rattle.hvtec_string.specs.Columns.{separators, has_columns, location_at, cause_at, values, hvtec_of, IsHvtec};
+
+use crate::columns::{BEGIN, CAUSE, CREST, END, LENGTH, LOCATION, SEVERITY, STATUS};
+use crate::letters::{severity_of, status_of};
+use crate::times::time_of;
+use hazard_types::{Cause, Flood, Minute, Severity, Status};
+
+/// Whether each is one of A to Z and 0 to 9.
+fn are_name_bytes(text: &[u8]) -> bool
+    ensures { result ≡ list_all (λ c. is_capital c || is_digit c) text.now }
+{
+    text.iter()
+        .all(|c| c.is_ascii_uppercase() || c.is_ascii_digit())
+}
+
+/// The location of five characters; None where they are none.
+fn location_of(text: &[u8]) -> Option<[u8; 5]>
+    ensures { result ≡ location_at text.now }
+{
+    let [a, b, c, d, e] = text else {
+        return None;
+    };
+    if are_name_bytes(text) {
+        Some([*a, *b, *c, *d, *e])
+    } else {
+        None
+    }
+}
+
+/// The cause of two letters; None where they are none.
+fn cause_of(text: &[u8]) -> Option<Cause>
+    requires { length text.now ≡ 2 }
+    ensures { result ≡ cause_at text.now }
+{
+    Cause::new([text[0], text[1]])
+}
+
+/// Whether length and separators are those of an H-VTEC text.
+#[tactic(auto, unfolding(crate::specs::Columns::has_columns))]
+fn has_columns(bytes: &[u8]) -> bool
+    ensures value { result ≡ has_columns bytes.now }
+    ensures size { result ≡ true → length bytes.now ≡ 54 }
+{
+    if bytes.len() != LENGTH {
+        return false;
+    }
+    let separators = [
+        bytes[0], bytes[6], bytes[8], bytes[11], bytes[24], bytes[37], bytes[50], bytes[53],
+    ];
+    separators == *b"/....../"
+}
+
+/// The values, where each column has one.
+fn values(
+    site: Option<[u8; 5]>,
+    severity: Option<Severity>,
+    cause: Option<Cause>,
+    begin: Option<Option<Minute>>,
+    crest: Option<Option<Minute>>,
+    end: Option<Option<Minute>>,
+    status: Option<Status>,
+) -> Option<Flood>
+    ensures { result ≡ values site severity cause begin crest end status }
+{
+    Some(Flood {
+        site: site?,
+        severity: severity?,
+        cause: cause?,
+        begin: begin?,
+        crest: crest?,
+        end: end?,
+        status: status?,
+    })
+}
+
+#[tactic(auto, unfolding(crate::specs::Columns::hvtec_of))]
+fn values_of(bytes: &[u8]) -> Option<Flood>
+    ensures { result ≡ hvtec_of bytes.now }
+{
+    if !has_columns(bytes) {
+        return None;
+    }
+    values(
+        location_of(&bytes[LOCATION]),
+        severity_of(&bytes[SEVERITY..SEVERITY + 1]),
+        cause_of(&bytes[CAUSE]),
+        time_of(&bytes[BEGIN]),
+        time_of(&bytes[CREST]),
+        time_of(&bytes[END]),
+        status_of(&bytes[STATUS]),
+    )
+}
+
+/// The values of an H-VTEC text; None where the bytes are none.
+#[tactic(auto, using(crate::proofs::Laying::values_found, crate::proofs::Laying::hvtec_hit))]
+pub fn read_hvtec(bytes: &[u8]) -> Option<Flood>
+    // The text has these values.
+    ensures found { IfSome result (IsHvtec bytes.now) }
+    // Each text is read, so None comes exactly where the bytes are no H-VTEC text.
+    ensures only { (h : Values) → IsHvtec bytes.now h → result ≡ Some h }
+    // The same as one function of the bytes.
+    ensures exact { result ≡ hvtec_of bytes.now }
+{
+    values_of(bytes)
+}

@@ -1,0 +1,42 @@
+//! H-VTEC texts are written.
+ghost use Rattle.std.specs.Prelude.{◌≡◌, IsTrue, List as Seq, ℕ, length};
+ghost use Rattle.hazard_types.specs.Places.{are_letters};
+ghost use Rattle.hvtec_string.specs.Times.{IsTime, time_text};
+ghost use Rattle.hvtec_string.specs.Columns.{is_location, hvtec_text, IsHvtec};
+
+use crate::columns::{BEGIN, CAUSE, CREST, END, LENGTH, LOCATION, SEVERITY, STATUS};
+use crate::letters::{severity_code, status_code};
+use crate::times::time_text;
+use hazard_types::Flood;
+
+/// The template, filled.
+#[tactic(auto, unfolding(crate::specs::Columns::hvtec_text))]
+fn filled(h: &Flood) -> [u8; LENGTH]
+    ensures value { result ≡ hvtec_text h.now }
+    ensures begin { IsTime (time_text h.now.begin) h.now.begin }
+    ensures crest { IsTime (time_text h.now.crest) h.now.crest }
+    ensures end { IsTime (time_text h.now.end) h.now.end }
+    ensures cause { IsTrue (are_letters h.now.cause) × (length h.now.cause ≡ 2) }
+{
+    let mut text = *b"/nwsli.s.ic.yymmddThhnnZ.yymmddThhnnZ.yymmddThhnnZ.fr/";
+    text[STATUS].copy_from_slice(&status_code(h.status));
+    text[END].copy_from_slice(&time_text(h.end));
+    text[CREST].copy_from_slice(&time_text(h.crest));
+    text[BEGIN].copy_from_slice(&time_text(h.begin));
+    text[CAUSE].copy_from_slice(&h.cause.letters());
+    text[SEVERITY] = severity_code(h.severity);
+    text[LOCATION].copy_from_slice(&h.site);
+    text
+}
+
+/// The 54 characters of these values.
+pub fn hvtec_text(h: &Flood) -> [u8; LENGTH]
+    requires { IsTrue (is_location h.now.site) }
+    ensures value { result ≡ hvtec_text h.now }
+    // Each column has what the values say.
+    ensures columns { IsHvtec result h.now }
+    // No other text has these values.
+    ensures only { (bytes : Seq ℕ) → IsHvtec bytes h.now → bytes ≡ result }
+{
+    filled(h)
+}
