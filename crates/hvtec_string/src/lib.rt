@@ -8,4 +8,4 @@ mod times;
 mod write;
 
 pub use read::read_hvtec;
-pub use write::hvtec_text;
+pub use write::{hvtec_columns, hvtec_text};

@@ -29,6 +29,13 @@ fn filled(h: &Flood) -> [u8; LENGTH]
     text
 }
 
+/// The 54 columns as the values fill them, whatever bytes the location has: a text by `hvtec_text`, where it has its form.
+pub fn hvtec_columns(h: &Flood) -> [u8; LENGTH]
+    ensures { result ≡ hvtec_text h.now }
+{
+    filled(h)
+}
+
 /// The 54 characters of these values.
 pub fn hvtec_text(h: &Flood) -> [u8; LENGTH]
     requires { IsTrue (is_location h.now.site) }

@@ -15,7 +15,9 @@ use Rattle.product_decoder.specs.declared.types.Found.{Found}
 use Rattle.product_decoder.specs.declared.types.GapFound.{GapFound}
 use Rattle.product_decoder.specs.declared.types.Track.{Track}
 use Rattle.warn_archive.specs.declared.words.Asked.{Asked}
-use Rattle.warn_archive.specs.Texts.{wide, where_text, steps_text, row_line, breach_name, fault_text}
+use Rattle.board_text.specs.Rows.{board_text}
+use Rattle.hazard_types.specs.Digits.{wide}
+use Rattle.warn_archive.specs.Texts.{where_text, steps_text, breach_name, fault_text}
 
 -- What is read of each product: what it says, or its first fault.
 
@@ -97,7 +99,7 @@ gap_line g = codes "gap " ++ (hazard_code g.hazard ++ (spaced g.year ++ (spaced 
 
 -- the rows that are shown at a minute
 abbrev pub shown_text : ℕ → List Row → List ℕ
-shown_text minute rows = codes "shown " ++ (counted_text minute (length rows) ++ flat_map row_line rows)
+shown_text minute rows = codes "shown " ++ (counted_text minute (length rows) ++ board_text rows)
 
 -- lives, breaches and gaps, where the products that were taken have these numbers
 abbrev pub findings_text : List ℕ → List Product → List ℕ

@@ -1,50 +1,24 @@
 -- The words of a report's lines.
 use Rattle.std.specs.Prelude.{ℕ, List, [], ◌∷◌, ◌++◌, nat_lt, if◌then◌else◌, codes, decimal}
 use Rattle.hazard_types.specs.Calendar.{stamp_of}
-use Rattle.hazard_types.specs.Hazards.{hazard_code}
+use Rattle.hazard_types.specs.Names.{zone_text, event_text}
 use Rattle.hazard_types.specs.Places.{Place}
 use Rattle.hazard_types.specs.declared.codes.Action.{Action}
 use Rattle.hazard_types.specs.declared.hazard.Event.{Event}
-use Rattle.hazard_types.specs.declared.line.Row.{Row}
-use Rattle.hazard_types.specs.declared.period.Period.{Period}
-use Rattle.hazard_types.specs.declared.period.End.{End}
-use Rattle.hazard_types.specs.declared.period.End.TheVariants.{At, Ufn}
-use Rattle.vtec_string.specs.Columns.{four_digits}
 use Rattle.vtec_string.specs.Letters.{action_code}
-use Rattle.hazard_types.specs.Names.{zone_text}
 use Rattle.event_life.specs.declared.life.Breach.{Breach}
 use Rattle.event_life.specs.declared.life.Breach.TheVariants as breach
 use Rattle.product_frame.specs.declared.frame.FrameFault.{FrameFault}
 use Rattle.product_frame.specs.declared.frame.FrameFault.TheVariants as fault
 
--- four digits, or as many as the number has
-unfoldable pub wide : ℕ → List ℕ
-wide n = if nat_lt n 10000 then four_digits n else decimal n
-
--- WS.W.0001.2018
-abbrev pub event_text : Event → List ℕ
-event_text e = hazard_code e.hazard ++ (codes "." ++ (wide e.etn ++ (codes "." ++ wide e.year)))
-
 -- an event in a zone: WS.W.0001.2018 MDZ003
 abbrev pub where_text : Event → Place → List ℕ
 where_text e z = event_text e ++ (codes " " ++ zone_text z)
-
--- the stamp of an end; zeros are until further notice
-abbrev pub end_text : End → List ℕ
-end_text (At m) = stamp_of m
-end_text Ufn = codes "000000T0000Z"
 
 -- one step of a life: NEW@180103T1530Z
 abbrev pub steps_text : List (Action × ℕ) → List ℕ
 steps_text [] = []
 steps_text (s ∷ steps) = codes " " ++ (action_code s.0 ++ (codes "@" ++ (stamp_of s.1 ++ steps_text steps)))
-
-abbrev pub period_text : Period → List ℕ
-period_text p = stamp_of p.begin ++ (codes "-" ++ end_text p.end)
-
--- MDZ003 WS.W.0001.2018 180103T1530Z-180104T0000Z
-abbrev pub row_line : Row → List ℕ
-row_line r = zone_text r.zone ++ (codes " " ++ (event_text r.event ++ (codes " " ++ (period_text r.period ++ codes "\n"))))
 
 abbrev pub breach_name : Breach → List ℕ
 breach_name breach.Reopened = codes "Reopened"

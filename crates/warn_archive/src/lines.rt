@@ -3,16 +3,13 @@ ghost use Rattle.std.specs.Prelude.{◌≡◌, ◌<◌, ◌≤◌, ◌++◌, ◌
 ghost use Rattle.std.specs.List.{All};
 ghost use Rattle.product_decoder.specs.ReaderModel.{is_by, said_by};
 ghost use Rattle.warn_archive.specs.Report.{title, counted_text, taken_line, faulty_line, product_line, product_lines, life_line, breach_line, spaced, gap_line, shown_text, last_line};
-ghost use Rattle.warn_archive.specs.Texts.{row_line};
 ghost use Rattle.warn_archive.specs.Readings.{IsNumbered};
 
 use crate::readings::Reading;
-use crate::texts::{
-    breach_name, put_fault, put_hazard, put_number, put_row, put_stamp, put_steps, put_where,
-    put_wide,
-};
+use crate::texts::{breach_name, put_fault, put_stamp, put_steps, put_where};
 use crate::words::Asked;
-use hazard_types::{List, Minute, Oom, Row, Text};
+use board_text::put_board;
+use hazard_types::{Minute, Oom, Row, Text, hazard_text, put_number, put_wide};
 use product_decoder::{Decoded, Found, GapFound, Track, ZonePair};
 use product_frame::FrameFault;
 use std::alloc::Global;
@@ -169,7 +166,7 @@ fn put_gap(alloc: Global, out: &mut Text, gap: &GapFound) -> Result<(), Oom>
     ensures { OnOk result (out.new ≡ out.old ++ gap_line gap.now) }
 {
     out.extend(b"gap ")?;
-    put_hazard(out, &gap.hazard)?;
+    out.extend(&hazard_text(&gap.hazard))?;
     put_spaced(alloc, out, gap.year)?;
     put_spaced(alloc, out, gap.wanted)?;
     put_spaced(alloc, out, gap.found)?;
@@ -186,22 +183,13 @@ pub fn put_gaps(alloc: Global, out: &mut Text, gaps: &[GapFound]) -> Result<(), 
     Ok(())
 }
 
-fn put_rows(alloc: Global, out: &mut Text, rows: &[Row]) -> Result<(), Oom>
-    ensures { OnOk result (out.new ≡ out.old ++ flat_map row_line rows.now) }
-{
-    for row in rows {
-        put_row(alloc, out, row)?;
-    }
-    Ok(())
-}
-
 /// The rows that are shown, behind their minute and count.
 pub fn put_shown(alloc: Global, out: &mut Text, minute: Minute, rows: &[Row]) -> Result<(), Oom>
     ensures { OnOk result (out.new ≡ out.old ++ shown_text minute rows.now) }
 {
     out.extend(b"shown ")?;
     put_counted(alloc, out, minute, rows.len())?;
-    put_rows(alloc, out, rows)
+    put_board(alloc, out, rows)
 }
 
 /// The last line.
