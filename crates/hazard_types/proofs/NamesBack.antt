@@ -5,7 +5,11 @@ use Rattle.std.proofs.lemmas.Bool.Decides.{nat_tests}
 use Rattle.hazard_types.specs.Calendar.{is_digit}
 use Rattle.hazard_types.specs.Digits.{three_digits, four_digits, wide}
 use Rattle.hazard_types.specs.Hazards.{hazard_code}
-use Rattle.hazard_types.specs.Names.{sig_at, kind_at, kind_code, zone_text, zone_at, hazard_at, four_of, event_if, event_text, event_at}
+use Rattle.hazard_types.specs.Codes.{value_beside}
+use Rattle.hazard_types.specs.Tables.{category_rows}
+use Rattle.hazard_types.specs.declared.codes.Category.{Category}
+use Rattle.hazard_types.specs.declared.codes.Category.TheVariants as category
+use Rattle.hazard_types.specs.Names.{category_code, sig_at, kind_at, kind_code, zone_text, zone_at, hazard_at, four_of, event_if, event_text, event_at}
 use Rattle.hazard_types.specs.Orders.{sig_letter}
 use Rattle.hazard_types.specs.Places.{Place, IsPlace, are_letters, is_capital, is_number}
 use Rattle.hazard_types.specs.declared.zone.Kind.{Kind}
@@ -105,3 +109,15 @@ pub event_back : (e : Event) → IsTrue (are_letters e.hazard.phen) → length e
 event_back e letters two one most low high =
     let late : e.year ≤ 9999 = omega arith in
     rw (wide_four e.etn most, wide_four e.year late) (event_from e.hazard.phen e.hazard.sig e.etn e.year letters two one most low high)
+
+-- the letters of a category stand beside it in the table
+pub category_back : (c : Category) → value_beside category_rows (category_code c) ≡ Some c
+unfolding category_rows
+category_back category.Wsw = refl
+category_back category.Npw = refl
+category_back category.Rfw = refl
+category_back category.Cfw = refl
+category_back category.Mww = refl
+category_back category.Ffa = refl
+category_back category.Flw = refl
+category_back category.Fls = refl

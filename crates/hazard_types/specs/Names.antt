@@ -5,6 +5,8 @@ use Rattle.hazard_types.specs.Calendar.{is_digit}
 use Rattle.hazard_types.specs.Digits.{three_digits, wide}
 use Rattle.hazard_types.specs.Hazards.{hazard_code}
 use Rattle.hazard_types.specs.Places.{Place, is_capital}
+use Rattle.hazard_types.specs.declared.codes.Category.{Category}
+use Rattle.hazard_types.specs.declared.codes.Category.TheVariants as category
 use Rattle.hazard_types.specs.declared.zone.Kind.{Kind}
 use Rattle.hazard_types.specs.declared.zone.Kind.TheVariants as kind
 use Rattle.hazard_types.specs.declared.hazard.Sig.{Sig}
@@ -42,6 +44,17 @@ unfoldable pub hazard_at : List ℕ → Option Hazard
 hazard_at bs = if (length bs == 4) && is_capital (slice_index bs 0) && is_capital (slice_index bs 1) && (slice_index bs 2 == 46)
     then option_map (λ s. record { phen = slice_index bs 0 ∷ slice_index bs 1 ∷ []; sig = s }) (sig_at (slice_index bs 3))
     else None
+
+-- the three letters of a category
+abbrev pub category_code : Category → List ℕ
+category_code category.Wsw = codes "WSW"
+category_code category.Npw = codes "NPW"
+category_code category.Rfw = codes "RFW"
+category_code category.Cfw = codes "CFW"
+category_code category.Mww = codes "MWW"
+category_code category.Ffa = codes "FFA"
+category_code category.Flw = codes "FLW"
+category_code category.Fls = codes "FLS"
 
 -- WS.W.0001.2018
 abbrev pub event_text : Event → List ℕ

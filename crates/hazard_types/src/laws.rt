@@ -5,9 +5,10 @@ ghost use Rattle.std.specs.Cmp.{IsTotalOrder};
 ghost use Rattle.std.specs.declared.cmp.Ordering.TheVariants.{Equal};
 ghost use Rattle.std.specs.Prelude.{IsTrue, length, ◌≤◌};
 ghost use Rattle.hazard_types.specs.Calendar.{stamp_of, stamp_at};
-ghost use Rattle.hazard_types.specs.Codes.{HoldsOfIdentical};
+ghost use Rattle.hazard_types.specs.Codes.{HoldsOfIdentical, value_beside};
+ghost use Rattle.hazard_types.specs.Tables.{category_rows};
 ghost use Rattle.hazard_types.specs.Hazards.{hazard_code};
-ghost use Rattle.hazard_types.specs.Names.{zone_text, zone_at, hazard_at, event_text, event_at};
+ghost use Rattle.hazard_types.specs.Names.{category_code, zone_text, zone_at, hazard_at, event_text, event_at};
 ghost use Rattle.hazard_types.specs.Orders.{by_hazard, by_event, by_end};
 ghost use Rattle.hazard_types.specs.Places.{Place, IsPlace, are_letters, by_place};
 
@@ -68,10 +69,11 @@ pub fn values_of_tables_are_identical()
     ensures hazards { HoldsOfIdentical ⟦<Hazard as PartialEq>⟧.eq }
 {}
 
-/// What is written of a zone, a hazard or an event is read back.
-#[tactic(auto, using(crate::proofs::NamesBack::zone_back, crate::proofs::NamesBack::hazard_back, crate::proofs::NamesBack::event_back))]
+/// What is written of a zone, a hazard, an event or a category is read back.
+#[tactic(auto, using(crate::proofs::NamesBack::zone_back, crate::proofs::NamesBack::hazard_back, crate::proofs::NamesBack::event_back, crate::proofs::NamesBack::category_back))]
 pub fn names_read_back()
     ensures zones { (z : Place) → IsPlace z → zone_at (zone_text z) ≡ Some z }
     ensures hazards { (h : Hazard) → IsTrue (are_letters h.phen) → length h.phen ≡ 2 → hazard_at (hazard_code h) ≡ Some h }
+    ensures categories { (c : Category) → value_beside category_rows (category_code c) ≡ Some c }
     ensures events { (e : Event) → IsTrue (are_letters e.hazard.phen) → length e.hazard.phen ≡ 2 → 1 ≤ e.etn → e.etn ≤ 9999 → 2000 ≤ e.year → e.year ≤ 2099 → event_at (event_text e) ≡ Some e }
 {}

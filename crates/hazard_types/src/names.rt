@@ -1,14 +1,19 @@
 //! The texts of significances, kinds, zones, hazards and events, both ways.
 ghost use Rattle.std.specs.Prelude.{◌≡◌, ◌≤◌, ◌++◌, OnOk, IfSome, Some, IsTrue, length};
+ghost use Rattle.hazard_types.specs.Codes.{value_beside};
 ghost use Rattle.hazard_types.specs.Hazards.{hazard_code};
-ghost use Rattle.hazard_types.specs.Names.{sig_at, kind_code, kind_at, zone_text, zone_at, hazard_at, four_of, event_if, event_text, event_at, is_flood};
+ghost use Rattle.hazard_types.specs.Tables.{category_rows};
+ghost use Rattle.hazard_types.specs.Names.{category_code, sig_at, kind_code, kind_at, zone_text, zone_at, hazard_at, four_of, event_if, event_text, event_at, is_flood};
 ghost use Rattle.hazard_types.specs.Places.{Place, IsPlace, are_letters};
 ghost use Rattle.hazard_types.specs.declared.hazard.Hazard.{Hazard as AnyHazard};
 ghost use Rattle.hazard_types.specs.declared.hazard.Event.{Event as AnyEvent};
 
+use crate::code_tables::categories;
+use crate::codes::Category;
 use crate::digits::{four_digits, put_wide, three_digits};
 use crate::hazard::{Event, Hazard, Phen, Sig};
 use crate::list::{Oom, Text};
+use crate::table::find;
 use crate::zone::{Kind, Zone};
 use std::alloc::Global;
 
@@ -50,6 +55,31 @@ impl Kind {
             Kind::C => b'C',
             Kind::Z => b'Z',
         }
+    }
+}
+
+impl Category {
+    /// The three letters of a category.
+    pub fn code(self) -> [u8; 3]
+        ensures { result ≡ category_code self }
+    {
+        match self {
+            Category::Wsw => *b"WSW",
+            Category::Npw => *b"NPW",
+            Category::Rfw => *b"RFW",
+            Category::Cfw => *b"CFW",
+            Category::Mww => *b"MWW",
+            Category::Ffa => *b"FFA",
+            Category::Flw => *b"FLW",
+            Category::Fls => *b"FLS",
+        }
+    }
+
+    /// The category of three letters, if it has one.
+    pub fn at(text: &[u8]) -> Option<Self>
+        ensures { result ≡ value_beside category_rows text.now }
+    {
+        find(&categories(), text)
     }
 }
 
