@@ -9,7 +9,7 @@ ghost use Rattle.hazard_types.specs.declared.line.Line.{Line};
 ghost use Rattle.hazard_types.specs.declared.line.Row.{Row};
 ghost use Rattle.event_life.specs.Products.{Product, by_key, row_at, rows_after, is_routine, is_upgrade, is_new, line_of, put_all, judged, lawful_of, end_upgraded, rows_for_higher};
 ghost use Rattle.event_life.specs.Firsts.{row_by_first_line, is_lawful};
-ghost use Rattle.event_life.specs.Lives.{IsLifelong, actions_of, track_of};
+ghost use Rattle.event_life.specs.Lives.{IsLife, actions_of, track_of};
 ghost use Rattle.event_life.specs.Openings.{IsGapless, opened_of, gaps_of};
 ghost use Rattle.event_life.specs.Printed.{HasOneOpen, zone_line_of};
 
@@ -25,10 +25,10 @@ pub fn rows_stay_in_order()
         IsStrictlySortedBy by_key rows → IsStrictlySortedBy by_key (rows_after rows t lines) }
 {}
 
-/// The lawful lines of an event in a zone, over any products: the first is NEW, EXA or EXB, CON, COR and EXT follow,
-/// and at most one CAN, EXP or UPG, with nothing after that.
-pub fn lives_are_lifelong()
-    ensures { (products : List Product) (e : Event) (z : Place) → IsLifelong (actions_of (track_of products e z)) }
+/// The lawful lines of an event in a zone, over any products, are spells, one after another. The first opens with NEW, EXA or EXB,
+/// each later one with EXA or EXB. A spell goes on with CON, COR or EXT. Each but the last ends with CAN, EXP or UPG, and the last may.
+pub fn lives_are_spells()
+    ensures { (products : List Product) (e : Event) (z : Place) → IsLife (actions_of (track_of products e z)) }
 {}
 
 /// The numbers of each hazard and year are 1, 2, .., in the order of opening, exactly where no gap is found.
