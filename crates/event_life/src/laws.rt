@@ -1,15 +1,17 @@
 //! Laws of lives over whole products.
 ghost use Rattle.std.specs.Prelude.{◌≡◌, ◌↔◌, not, true, false, ℕ, List, [], filter};
+ghost use Rattle.std.specs.List.{IsDistinct};
 ghost use Rattle.std.specs.List.Sorted.{IsStrictlySortedBy};
+ghost use Rattle.hazard_types.specs.Same.{same_event};
 ghost use Rattle.hazard_types.specs.Days.{year_of};
 ghost use Rattle.hazard_types.specs.Places.{Place};
 ghost use Rattle.hazard_types.specs.declared.codes.Class.{Class};
 ghost use Rattle.hazard_types.specs.declared.hazard.Event.{Event};
 ghost use Rattle.hazard_types.specs.declared.line.Line.{Line};
 ghost use Rattle.hazard_types.specs.declared.line.Row.{Row};
-ghost use Rattle.event_life.specs.Products.{Product, by_key, row_at, rows_after, is_routine, is_upgrade, is_new, line_of, put_all, judged, lawful_of, end_upgraded, rows_for_higher};
+ghost use Rattle.event_life.specs.Products.{Product, by_key, row_at, rows_after, rows_of, is_routine, is_upgrade, is_new, line_of, put_all, judged, lawful_of, end_upgraded, rows_for_higher};
 ghost use Rattle.event_life.specs.Firsts.{row_by_first_line, is_lawful};
-ghost use Rattle.event_life.specs.Lives.{IsLife, actions_of, track_of};
+ghost use Rattle.event_life.specs.Lives.{IsLife, IsLawfulLife, actions_of, said_of, track_of};
 ghost use Rattle.event_life.specs.Openings.{IsGapless, opened_of, gaps_of};
 ghost use Rattle.event_life.specs.Printed.{HasOneOpen, zone_line_of};
 
@@ -29,6 +31,21 @@ pub fn rows_stay_in_order()
 /// each later one with EXA or EXB. A spell goes on with CON, COR or EXT. Each but the last ends with CAN, EXP or UPG, and the last may.
 pub fn lives_are_spells()
     ensures { (products : List Product) (e : Event) (z : Place) → IsLife (actions_of (track_of products e z)) }
+{}
+
+/// The life of an event in a zone is lawful exactly where all its lines stand in its track.
+pub fn lawful_lives_are_whole()
+    ensures { (products : List Product) (e : Event) (z : Place) → IsLawfulLife products e z ↔ (track_of products e z ≡ said_of products e z) }
+{}
+
+/// No event is opened twice, by one product or by two.
+pub fn events_open_once()
+    ensures { (products : List Product) → IsDistinct same_event (opened_of products) }
+{}
+
+/// The rows of a list of products stand by zone, then event, each pair once.
+pub fn rows_of_are_in_order()
+    ensures { (products : List Product) → IsStrictlySortedBy by_key (rows_of products) }
 {}
 
 /// The numbers of each hazard and year are 1, 2, .., in the order of opening, exactly where no gap is found.
