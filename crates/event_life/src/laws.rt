@@ -13,12 +13,22 @@ ghost use Rattle.event_life.specs.Products.{Product, by_key, row_at, rows_after,
 ghost use Rattle.event_life.specs.Firsts.{row_by_first_line, is_lawful};
 ghost use Rattle.event_life.specs.Lives.{IsLife, IsLawfulLife, actions_of, said_of, track_of};
 ghost use Rattle.event_life.specs.Openings.{IsGapless, opened_of, gaps_of};
+ghost use Rattle.event_life.specs.Reordered.{are_lawful, AreApart, TouchAlike};
 ghost use Rattle.event_life.specs.Printed.{HasOneOpen, zone_line_of};
 
 /// The row of an event in a zone after a product is the one that the first line of both leaves, where that line is lawful; else it is as before.
 pub fn first_line_decides()
     ensures { (rows : List Row) (t : ℕ) (lines : List Line) (e : Event) (z : Place) →
         row_at (rows_after rows t lines) e z ≡ row_by_first_line rows t lines e z }
+{}
+
+/// The order of a product's lines is free: where the same lines touch a life, and no two of them speak of one event and zone,
+/// the lines are lawful alike and leave the same rows. (ROU touches no life.)
+pub fn order_of_lines_is_free()
+    ensures lawful { (rows : List Row) (t : ℕ) (xs ys : List Line) →
+        IsStrictlySortedBy by_key rows → AreApart xs → AreApart ys → TouchAlike xs ys → are_lawful rows t xs ≡ are_lawful rows t ys }
+    ensures rows { (rows : List Row) (t : ℕ) (xs ys : List Line) →
+        IsStrictlySortedBy by_key rows → AreApart xs → TouchAlike xs ys → rows_after rows t xs ≡ rows_after rows t ys }
 {}
 
 /// Rows in order by zone, then event, each pair once, are so after a product too.
