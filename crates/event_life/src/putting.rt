@@ -1,5 +1,6 @@
 //! The rows that the lines of a product leave.
-ghost use Rattle.std.specs.Prelude.{◌≡◌, ◌&&◌, not, [], map, is_none, IfOk, OnOk};
+ghost use Rattle.std.specs.Prelude.{◌≡◌, ◌≤◌, ◌<◌, ◌&&◌, not, [], length, map, is_none, IfOk, OnOk, OnErr};
+ghost use Rattle.std.specs.Vec.{vec_capacity};
 ghost use Rattle.event_life.specs.Products.{by_key, put, row_of, row_after, is_routine, is_upgrade, speaks_of, is_second, put_but_upgrades, rows_for_higher, lawful_of, put_all};
 ghost use Rattle.event_life.specs.Seats.{seated, IsSeat, is_upgraded, end_if_upgraded, may_count};
 ghost use Rattle.event_life.specs.Shown.{shown_at};
@@ -33,9 +34,12 @@ fn seat_of(rows: &[Row], row: &Row) -> Result<usize, usize>
     Err(rows.len())
 }
 
-/// Puts a row in the place of the one of its zone and event, or in its own place.
+/// Puts a row in the place of the one of its zone and event, or in its own place. Memory is wanted only where the rows outgrow their capacity.
 pub fn put(rows: &mut Vec<Row>, row: &Row) -> Result<(), Oom>
-    ensures { OnOk result (rows.new.items ≡ put row.now rows.old.items) }
+    ensures ok { OnOk result (rows.new.items ≡ put row.now rows.old.items) }
+    ensures capacity { vec_capacity rows.old ≤ vec_capacity rows.new }
+    ensures err { OnErr result (vec_capacity rows.old < length (put row.now rows.old.items)) }
+    ensures kept { OnErr result (rows.new.items ≡ rows.old.items) }
 {
     match seat_of(rows, row) {
         Ok(place) => rows[place] = *row,
@@ -45,7 +49,7 @@ pub fn put(rows: &mut Vec<Row>, row: &Row) -> Result<(), Oom>
 }
 
 /// Whether a line is a routine one, which touches no life.
-pub(crate) fn is_routine(action: &Action) -> bool
+pub fn is_routine(action: &Action) -> bool
     ensures { result ≡ is_routine action.now }
 {
     matches!(action, Action::Rou)
@@ -83,7 +87,7 @@ pub fn is_lawful(judged: &(Line, Option<Breach>)) -> bool
 }
 
 /// The row of a line's event in its zone with this life.
-fn row_of(line: &Line, life: &Life) -> Row
+pub fn row_of(line: &Line, life: &Life) -> Row
     ensures { result ≡ row_of line.now life.now }
 {
     Row {
