@@ -1,12 +1,12 @@
 -- A time's text is the zero time or the stamp of a minute.
 use Rattle.std.proofs.Common.{◌≡◌, ℕ, List, refl, ap, sym, ◌∙◌, subst, inl, inr, Option, None, Some, length}
-use Rattle.std.specs.Prelude.{codes, bytes_eq, option_map}
+use Rattle.std.specs.Prelude.{codes, bytes_eq, option_map, MatchOption}
 use Rattle.std.proofs.lemmas.Bool.{cases_Bool}
 use Rattle.std.proofs.lemmas.Slice.Eq.{bytes_eq-Decides}
-use Rattle.hazard_types.specs.Calendar.{is_civil, stamp_text, stamp_of, stamp_at, civil_of}
-use Rattle.hazard_types.proofs.Years.{civil_found}
+use Rattle.hazard_types.specs.Calendar.{is_civil, stamp_of, stamp_at}
 use Rattle.hazard_types.proofs.Stamps.{spells_exactly}
-use Rattle.hvtec_string.specs.Times.{IsTime, time_text, time_at}
+use Rattle.hazard_types.specs.Times.{IsTime, time_text}
+use Rattle.hvtec_string.specs.Columns.{time_at}
 
 zero_time_is_none : stamp_at (codes "000000T0000Z") ≡ None
 unfolding stamp_at is_civil
@@ -37,11 +37,14 @@ time_hit text (Some m) h =
       | inr e ↦ rw (e, read) refl
     ]
 
--- one text for each time
-pub time_is : (text : List ℕ) (t : Option ℕ) → IsTime text t → text ≡ time_text t
-unfolding stamp_of
-time_is text None h = h
-time_is text (Some m) (c, civil, minute, spelt) = spelt ∙ ap stamp_text (sym (civil_found c civil) ∙ ap civil_of (sym minute))
+-- what is read is the function's value
+pub time_is_at : (text : List ℕ) (r : Option (Option ℕ)) → MatchOption r ((t : Option ℕ) → IsTime text t → ⊥) (IsTime text) → r ≡ time_at text
+time_is_at text (Some t) h = sym (time_hit text t h)
+time_is_at text None h = by (time_at text) refl
+  where
+    by : (r : Option (Option ℕ)) → time_at text ≡ r → None ≡ r
+    by None e = refl
+    by (Some t) e = absurd (h t (time_back text t e))
 
 pub time_twelve : (t : Option ℕ) → length (time_text t) ≡ 12
 unfolding stamp_of

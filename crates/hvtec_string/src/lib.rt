@@ -4,7 +4,6 @@
 mod columns;
 mod letters;
 mod read;
-mod times;
 mod write;
 
 pub use read::read_hvtec;

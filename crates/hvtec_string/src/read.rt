@@ -1,23 +1,11 @@
 //! H-VTEC texts are read.
 ghost use Rattle.std.specs.Prelude.{◌≡◌, ◌&&◌, ◌||◌, ◌≤◌, ◌<◌, ◌==◌, ◌∷◌, [], length, slice_index, codes, bytes_eq, true, Some, IfSome};
-ghost use Rattle.std.specs.List.{list_all};
-ghost use Rattle.hazard_types.specs.Calendar.{is_digit};
-ghost use Rattle.hazard_types.specs.Places.{is_capital, are_letters};
 ghost use Rattle.hazard_types.specs.declared.line.Flood.{Flood as Values};
-ghost use Rattle.hvtec_string.specs.Columns.{separators, has_columns, location_at, cause_at, values, hvtec_of, IsHvtec};
+ghost use Rattle.hvtec_string.specs.Columns.{separators, has_columns, location_at, cause_at, time_at, values, hvtec_of, IsHvtec};
 
 use crate::columns::{BEGIN, CAUSE, CREST, END, LENGTH, LOCATION, SEVERITY, STATUS};
 use crate::letters::{severity_of, status_of};
-use crate::times::time_of;
-use hazard_types::{Cause, Flood, Minute, Severity, Status};
-
-/// Whether each is one of A to Z and 0 to 9.
-fn are_name_bytes(text: &[u8]) -> bool
-    ensures { result ≡ list_all (λ c. is_capital c || is_digit c) text.now }
-{
-    text.iter()
-        .all(|c| c.is_ascii_uppercase() || c.is_ascii_digit())
-}
+use hazard_types::{Cause, Flood, Minute, Severity, Status, are_name_bytes, time_in};
 
 /// The location of five characters; None where they are none.
 fn location_of(text: &[u8]) -> Option<[u8; 5]>
@@ -39,6 +27,14 @@ fn cause_of(text: &[u8]) -> Option<Cause>
     ensures { result ≡ cause_at text.now }
 {
     Cause::new([text[0], text[1]])
+}
+
+/// The minute of a stamp, or no minute for the zero time; None where the text is neither.
+#[tactic(auto, using(crate::proofs::TimeLemmas::time_is_at))]
+fn time_of(text: &[u8]) -> Option<Option<Minute>>
+    ensures { result ≡ time_at text.now }
+{
+    time_in(text)
 }
 
 /// Whether length and separators are those of an H-VTEC text.

@@ -1,13 +1,13 @@
 //! H-VTEC texts are written.
 ghost use Rattle.std.specs.Prelude.{◌≡◌, IsTrue, List as Seq, ℕ, length};
 ghost use Rattle.hazard_types.specs.Places.{are_letters};
-ghost use Rattle.hvtec_string.specs.Times.{IsTime, time_text};
-ghost use Rattle.hvtec_string.specs.Columns.{is_location, hvtec_text, IsHvtec};
+ghost use Rattle.hazard_types.specs.Characters.{is_location};
+ghost use Rattle.hazard_types.specs.Times.{IsTime, time_text};
+ghost use Rattle.hvtec_string.specs.Columns.{hvtec_text, IsHvtec};
 
 use crate::columns::{BEGIN, CAUSE, CREST, END, LENGTH, LOCATION, SEVERITY, STATUS};
 use crate::letters::{severity_code, status_code};
-use crate::times::time_text;
-use hazard_types::Flood;
+use hazard_types::{Flood, time_text};
 
 /// The template, filled.
 #[tactic(auto, unfolding(crate::specs::Columns::hvtec_text))]

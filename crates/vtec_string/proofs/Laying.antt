@@ -1,14 +1,13 @@
 -- The columns of a text, laid one behind another.
-use Rattle.std.proofs.Common.{◌≡◌, ℕ, ◌+◌, ◌-◌, ◌<◌, ◌≤◌, List, [], ◌∷◌, ◌++◌, length, drop, get_or, refl, ap, subst, sym, ◌∙◌, arith, IsTrue, lit≤, lit<, length-drop}
-use Rattle.std.specs.Prelude.{Option, None, Some, true, MatchOption}
-use Rattle.std.specs.Prelude.{codes}
+use Rattle.std.proofs.Common.{◌≡◌, ℕ, ◌+◌, ◌-◌, ◌<◌, ◌≤◌, ◌==◌, List, [], ◌∷◌, ◌++◌, length, drop, get_or, refl, ap, subst, sym, ◌∙◌, arith, IsTrue, lit≤, lit<, length-drop, cond, inl, inr}
+use Rattle.std.specs.Prelude.{Bool, Option, None, Some, true, false, codes, slice_index, bytes_eq, IfSome}
 use Rattle.std.specs.List.{slice_range}
 use Rattle.std.proofs.lemmas.List.{drop_more, drop-drop}
 use Rattle.std.proofs.Math.Seq.{take-append_seam, drop-append_seam}
-use Rattle.std.proofs.lemmas.Bool.{and_parts, eqb-true}
+use Rattle.std.proofs.lemmas.Bool.{cases_Bool, and_parts, and_from, eqb-true, eq-eqb}
+use Rattle.std.proofs.lemmas.Slice.Eq.{bytes_eq-Decides}
 use Rattle.std.proofs.lemmas.List.Folds.{drop_split}
 use Rattle.std.proofs.Math.ListN.{drop_of_length-le}
-use Rattle.hazard_types.specs.Calendar.{stamp_of}
 use Rattle.hazard_types.specs.Places.{are_letters}
 use Rattle.hazard_types.specs.declared.codes.Class.{Class}
 use Rattle.hazard_types.specs.declared.codes.Class.TheVariants as class
@@ -20,14 +19,16 @@ use Rattle.hazard_types.specs.declared.line.Vtec.{Vtec}
 use Rattle.hazard_types.specs.Codes.{value_beside}
 use Rattle.hazard_types.specs.Tables.{class_rows, action_rows, sig_rows}
 use Rattle.vtec_string.specs.Letters.{class_code, action_code, sig_code}
-use Rattle.vtec_string.specs.Columns.{is_office, four_digits, IsTime, IsVtec, time_text, vtec_text}
-use Rattle.vtec_string.proofs.Lettering.{class_letters, action_letters, sig_letters, class_found, action_found, sig_found, one_value, one_number}
-use Rattle.vtec_string.proofs.Times.{time_is, one_time}
+use Rattle.hazard_types.specs.Characters.{is_office}
+use Rattle.hazard_types.specs.Digits.{four_digits}
+use Rattle.hazard_types.specs.Times.{IsTime, time_text}
+use Rattle.hazard_types.proofs.TimesRead.{time_is}
+use Rattle.vtec_string.specs.Columns.{AreSeparated, IsVtec, vtec_text, separators, has_columns, office_at, phenomenon_at, number_at, time_at, values, vtec_of}
+use Rattle.vtec_string.proofs.Lettering.{class_letters, action_letters, sig_letters, class_found, action_found, sig_found}
+use Rattle.vtec_string.proofs.Numbers.{number_back, number_hit}
+use Rattle.vtec_string.proofs.TimeLemmas.{time_back, time_hit, time_twelve}
 
-pub one_byte : (bytes : List ℕ) (at : ℕ) → at < length bytes → slice_range bytes at (at + 1) ≡ get_or bytes at 0 ∷ []
-one_byte bytes at lt =
-    let one : at + 1 - at ≡ 1 = omega arith in
-    rw (one, drop_more bytes at 0 lt) refl
+-- ---- what is written
 
 -- a part that comes next, and what follows it
 step : (part rest bytes : List ℕ) (i j : ℕ) → drop i bytes ≡ part ++ rest → j ≡ i + length part → (slice_range bytes i j ≡ part) × (drop j bytes ≡ rest)
@@ -90,11 +91,6 @@ sig_one sig.F = refl
 sig_one sig.O = refl
 sig_one sig.N = refl
 
-time_twelve : (t : Option ℕ) → length (time_text t) ≡ 12
-unfolding stamp_of
-time_twelve None = refl
-time_twelve (Some m) = refl
-
 office_four : (office : List ℕ) → is_office office ≡ true → length office ≡ 4
 office_four office h = eqb-true _ _ (and_parts _ _ h).0
 
@@ -144,20 +140,145 @@ columns_of v two office letters number begin end =
       end = subst (λ (text : List ℕ). IsTime text v.end) (sym s15.0) end;
     }
 
--- one text has one list of values
-pub one_vtec : (bytes : List ℕ) (v w : Vtec) → IsVtec bytes v → IsVtec bytes w → v ≡ w
-one_vtec bytes v w g h =
-    let class = one_value class_rows _ v.class w.class g.class h.class in
-    let action = one_value action_rows _ v.action w.action g.action h.action in
-    let office : v.office ≡ w.office = sym g.office ∙ h.office in
-    let phen : v.hazard.phen ≡ w.hazard.phen = sym g.phenomenon ∙ h.phenomenon in
-    let sig = one_value sig_rows _ v.hazard.sig w.hazard.sig g.significance h.significance in
-    let number = one_number v.etn w.etn g.is_number h.is_number (sym g.number ∙ h.number) in
-    let begin = one_time _ v.begin w.begin g.begin h.begin in
-    let end = one_time _ v.end w.end g.end h.end in
-    λ i. record { class = class i; action = action i; office = office i; hazard = record { phen = phen i; sig = sig i }; etn = number i; begin = begin i; end = end i }
+-- ---- what is read
 
--- what has values is read
-pub is_read : (bytes : List ℕ) (r : Option Vtec) → MatchOption r ((v : Vtec) → IsVtec bytes v → ⊥) (IsVtec bytes) → (v : Vtec) → IsVtec bytes v → r ≡ Some v
-is_read bytes None h v is = absurd (h v is)
-is_read bytes (Some w) h v is = ap (λ (x : Vtec). Some x) (one_vtec bytes w v h is)
+pub one_byte : (bytes : List ℕ) (at : ℕ) → at < length bytes → slice_range bytes at (at + 1) ≡ get_or bytes at 0 ∷ []
+one_byte bytes at lt =
+    let one : at + 1 - at ≡ 1 = omega arith in
+    rw (one, drop_more bytes at 0 lt) refl
+
+at_byte : (b : List ℕ) (at c : ℕ) → at < length b → slice_index b at ≡ c → slice_range b at (at + 1) ≡ c ∷ []
+at_byte b at c lt e = one_byte b at lt ∙ ap (λ (x : ℕ). x ∷ []) e
+
+byte_at : (b : List ℕ) (at c : ℕ) → at < length b → slice_range b at (at + 1) ≡ c ∷ [] → slice_index b at ≡ c
+byte_at b at c lt e = one _ _ (sym (one_byte b at lt) ∙ e)
+  where
+    one : (x y : ℕ) → x ∷ [] ≡ y ∷ [] → x ≡ y
+    one x y e = cc
+
+separated_back : (b : List ℕ) → length b ≡ 48 → separators b ≡ codes "/......-/" → AreSeparated b
+separated_back b size h =
+    let at = λ (k : ℕ). ap (λ (t : List ℕ). get_or t k 0) h in
+    record {
+      before_class = at_byte b 0 47 (omega arith) (at 0);
+      before_action = at_byte b 2 46 (omega arith) (at 1);
+      before_office = at_byte b 6 46 (omega arith) (at 2);
+      before_phenomenon = at_byte b 11 46 (omega arith) (at 3);
+      before_significance = at_byte b 14 46 (omega arith) (at 4);
+      before_number = at_byte b 16 46 (omega arith) (at 5);
+      before_begin = at_byte b 21 46 (omega arith) (at 6);
+      before_end = at_byte b 34 45 (omega arith) (at 7);
+      behind = at_byte b 47 47 (omega arith) (at 8);
+    }
+
+separated_hit : (b : List ℕ) → length b ≡ 48 → AreSeparated b → separators b ≡ codes "/......-/"
+separated_hit b size s =
+    let a0 = byte_at b 0 47 (omega arith) s.before_class in
+    let a1 = byte_at b 2 46 (omega arith) s.before_action in
+    let a2 = byte_at b 6 46 (omega arith) s.before_office in
+    let a3 = byte_at b 11 46 (omega arith) s.before_phenomenon in
+    let a4 = byte_at b 14 46 (omega arith) s.before_significance in
+    let a5 = byte_at b 16 46 (omega arith) s.before_number in
+    let a6 = byte_at b 21 46 (omega arith) s.before_begin in
+    let a7 = byte_at b 34 45 (omega arith) s.before_end in
+    let a8 = byte_at b 47 47 (omega arith) s.behind in
+    λ i. a0 i ∷ a1 i ∷ a2 i ∷ a3 i ∷ a4 i ∷ a5 i ∷ a6 i ∷ a7 i ∷ a8 i ∷ []
+
+record Columns (c : Option Class) (a : Option Action) (o p : Option (List ℕ)) (s : Option Sig) (n : Option ℕ) (b e : Option (Option ℕ)) (v : Vtec) : Type 0 where
+  class : c ≡ Some v.class
+  action : a ≡ Some v.action
+  office : o ≡ Some v.office
+  phen : p ≡ Some v.hazard.phen
+  sig : s ≡ Some v.hazard.sig
+  etn : n ≡ Some v.etn
+  begin : b ≡ Some v.begin
+  end : e ≡ Some v.end
+
+same_vtec : (v w : Vtec) → ◌≡◌ {A = Option Vtec} (Some v) (Some w) → v ≡ w
+same_vtec v w e = cc e
+
+no_vtec : (v : Vtec) → ◌≡◌ {A = Option Vtec} None (Some v) → ⊥
+no_vtec v e = cc e
+
+values_back : (c : Option Class) (a : Option Action) (o p : Option (List ℕ)) (s : Option Sig) (n : Option ℕ) (b e : Option (Option ℕ)) (v : Vtec) → values c a o p s n b e ≡ Some v → Columns c a o p s n b e v
+values_back None a o p s n b e v h = absurd (no_vtec v h)
+values_back (Some c) None o p s n b e v h = absurd (no_vtec v h)
+values_back (Some c) (Some a) None p s n b e v h = absurd (no_vtec v h)
+values_back (Some c) (Some a) (Some o) None s n b e v h = absurd (no_vtec v h)
+values_back (Some c) (Some a) (Some o) (Some p) None n b e v h = absurd (no_vtec v h)
+values_back (Some c) (Some a) (Some o) (Some p) (Some s) None b e v h = absurd (no_vtec v h)
+values_back (Some c) (Some a) (Some o) (Some p) (Some s) (Some n) None e v h = absurd (no_vtec v h)
+values_back (Some c) (Some a) (Some o) (Some p) (Some s) (Some n) (Some b) None v h = absurd (no_vtec v h)
+values_back (Some c) (Some a) (Some o) (Some p) (Some s) (Some n) (Some b) (Some e) v h =
+    let is = same_vtec _ v h in
+    record {
+      class = ap (λ (x : Vtec). Some x.class) is;
+      action = ap (λ (x : Vtec). Some x.action) is;
+      office = ap (λ (x : Vtec). Some x.office) is;
+      phen = ap (λ (x : Vtec). Some x.hazard.phen) is;
+      sig = ap (λ (x : Vtec). Some x.hazard.sig) is;
+      etn = ap (λ (x : Vtec). Some x.etn) is;
+      begin = ap (λ (x : Vtec). Some x.begin) is;
+      end = ap (λ (x : Vtec). Some x.end) is;
+    }
+
+-- a text that is taken if it passes a test
+tested : (test : List ℕ → Bool) (text x : List ℕ) (b : Bool) → test text ≡ b → cond b (Some text) None ≡ Some x → (text ≡ x) × (test x ≡ true)
+tested test text x true is h = let same : text ≡ x = one text x h in (same, subst (λ (t : List ℕ). test t ≡ true) same is)
+  where
+    one : (a b : List ℕ) → ◌≡◌ {A = Option (List ℕ)} (Some a) (Some b) → a ≡ b
+    one a b e = cc e
+tested test text x false is h = absurd (none x h)
+  where
+    none : (x : List ℕ) → ◌≡◌ {A = Option (List ℕ)} None (Some x) → ⊥
+    none x e = cc e
+
+-- the function gives the values of the columns
+pub vtec_back : (b : List ℕ) (v : Vtec) → vtec_of b ≡ Some v → IsVtec b v
+unfolding vtec_of has_columns
+vtec_back b v h =
+    elim (cases_Bool (has_columns b)) [
+      | inl t ↦
+          let p = and_parts (length b == 48) _ t in
+          let size : length b ≡ 48 = eqb-true _ _ p.0 in
+          let k = values_back _ _ _ _ _ _ _ _ v (rw t at h) in
+          let office = tested is_office (slice_range b 7 11) v.office _ refl k.office in
+          let phen = tested are_letters (slice_range b 12 14) v.hazard.phen _ refl k.phen in
+          let number = number_back (slice_range b 17 21) v.etn k.etn in
+          record {
+            size = size;
+            separated = separated_back b size ((bytes_eq-Decides _ _).0 p.1);
+            class = k.class;
+            action = k.action;
+            office = office.0;
+            is_office = office.1;
+            phenomenon = phen.0;
+            are_letters = phen.1;
+            significance = k.sig;
+            number = number.1;
+            is_number = number.0;
+            begin = time_back _ v.begin k.begin;
+            end = time_back _ v.end k.end;
+          }
+      | inr f ↦ absurd (no_vtec v (rw f at h))
+    ]
+
+pub vtec_hit : (b : List ℕ) (v : Vtec) → IsVtec b v → vtec_of b ≡ Some v
+unfolding vtec_of has_columns
+vtec_hit b v h =
+    let size : (length b == 48) ≡ true = eq-eqb _ _ h.size in
+    let separated : bytes_eq (separators b) (codes "/......-/") ≡ true = (bytes_eq-Decides _ _).1 (separated_hit b h.size h.separated) in
+    let test : has_columns b ≡ true = and_from _ _ size separated in
+    let office : office_at (slice_range b 7 11) ≡ Some v.office = ap office_at h.office ∙ rw h.is_office refl in
+    let phen : phenomenon_at (slice_range b 12 14) ≡ Some v.hazard.phen = ap phenomenon_at h.phenomenon ∙ rw h.are_letters refl in
+    let class : value_beside class_rows (slice_range b 1 2) ≡ Some v.class = h.class in
+    let action : value_beside action_rows (slice_range b 3 6) ≡ Some v.action = h.action in
+    let sig : value_beside sig_rows (slice_range b 15 16) ≡ Some v.hazard.sig = h.significance in
+    let etn : number_at (slice_range b 17 21) ≡ Some v.etn = ap number_at h.number ∙ number_hit v.etn h.is_number in
+    let begin : time_at (slice_range b 22 34) ≡ Some v.begin = time_hit _ v.begin h.begin in
+    let end : time_at (slice_range b 35 47) ≡ Some v.end = time_hit _ v.end h.end in
+    rw test (λ i. values (class i) (action i) (office i) (phen i) (sig i) (etn i) (begin i) (end i))
+
+pub values_found : (b : List ℕ) (r : Option Vtec) → r ≡ vtec_of b → IfSome r (IsVtec b)
+values_found b None is = tt
+values_found b (Some v) is = vtec_back b v (sym is)

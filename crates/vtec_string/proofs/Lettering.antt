@@ -1,5 +1,5 @@
 -- The letters that are written are those of the tables.
-use Rattle.std.proofs.Common.{◌≡◌, ℕ, ◌≤◌, ◌+◌, ◌-◌, ◌*◌, ◌/◌, ◌%◌, List, [], ◌∷◌, arith, get_or, refl, sym, ap, ◌∙◌, Some, inl, inr}
+use Rattle.std.proofs.Common.{◌≡◌, ℕ, List, [], ◌∷◌, refl, sym, ap, ◌∙◌, Some, inl, inr}
 use Rattle.std.specs.List.{AllByRecursion}
 use Rattle.std.specs.Str.{bytes_eq}
 use Rattle.std.proofs.lemmas.Bool.{cases_Bool}
@@ -15,7 +15,6 @@ use Rattle.hazard_types.specs.declared.codes.Action.TheVariants as action
 use Rattle.hazard_types.specs.declared.hazard.Sig.{Sig}
 use Rattle.hazard_types.specs.declared.hazard.Sig.TheVariants as sig
 use Rattle.vtec_string.specs.Letters.{class_code, action_code, sig_code}
-use Rattle.vtec_string.specs.Columns.{four_digits}
 
 -- what stands beside letters has these letters, where each row's code is that of its value
 letters_are : {T : Type 0} (code : T → List ℕ) (rows : List (Coded T)) → AllByRecursion (λ (row : Coded T). unfilled row.code ≡ code row.value) rows → (text : List ℕ) (v : T) → value_beside rows text ≡ Some v → text ≡ code v
@@ -66,15 +65,3 @@ sig_found sig.S = refl
 sig_found sig.F = refl
 sig_found sig.O = refl
 sig_found sig.N = refl
-
--- one value for each text
-pub one_value : {T : Type 0} (rows : List (Coded T)) (text : List ℕ) (a b : T) → value_beside rows text ≡ Some a → value_beside rows text ≡ Some b → a ≡ b
-one_value rows text a b g h = same_Some a b (sym g ∙ h)
-
--- ---- one number for each four digits
-
-number_back : (n : ℕ) → n ≤ 9999 → 1000 * (48 + n / 1000 - 48) + 100 * (48 + n / 100 % 10 - 48) + 10 * (48 + n / 10 % 10 - 48) + (48 + n % 10 - 48) ≡ n
-number_back n h = omega arith
-
-pub one_number : (m n : ℕ) → m ≤ 9999 → n ≤ 9999 → four_digits m ≡ four_digits n → m ≡ n
-one_number m n g h e = sym (number_back m g) ∙ ap (λ (t : List ℕ). 1000 * (get_or t 0 0 - 48) + 100 * (get_or t 1 0 - 48) + 10 * (get_or t 2 0 - 48) + (get_or t 3 0 - 48)) e ∙ number_back n h

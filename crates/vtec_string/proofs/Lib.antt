@@ -1,3 +1,4 @@
-pub mod Laying
+pub mod TimeLemmas
+pub mod Numbers
 pub mod Lettering
-pub mod Times
+pub mod Laying

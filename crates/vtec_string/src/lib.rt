@@ -1,10 +1,9 @@
 //! P-VTEC texts: `/k.aaa.cccc.pp.s.####.yymmddThhnnZ-yymmddThhnnZ/`.
 #![tactic(auto)]
 
+mod columns;
 mod letters;
 mod read;
-#[cfg(test)]
-mod tests;
 mod write;
 
 pub use read::read_vtec;

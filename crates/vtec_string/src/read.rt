@@ -1,46 +1,38 @@
 //! P-VTEC texts are read.
-ghost use Rattle.std.specs.Prelude.{◌≡◌, ◌≢◌, ◌+◌, ◌<◌, ◌≤◌, ◌↔◌, ◌∷◌, [], length, ℕ, List, Some, IsTrue, IfSome, MatchOption, Option as Maybe, ◌||◌};
-ghost use Rattle.std.specs.List.{slice_range, list_all};
-ghost use Rattle.hazard_types.specs.Calendar.{is_digit};
-ghost use Rattle.hazard_types.specs.Places.{are_letters, is_capital};
+ghost use Rattle.std.specs.Prelude.{◌≡◌, ◌&&◌, ◌||◌, ◌==◌, ◌∷◌, [], length, slice_index, codes, bytes_eq, true, Some, IfSome};
 ghost use Rattle.hazard_types.specs.declared.line.Vtec.{Vtec as Values};
-ghost use Rattle.vtec_string.specs.Columns.{IsTime, four_digits, is_office, AreSeparated, IsVtec};
+ghost use Rattle.vtec_string.specs.Columns.{separators, has_columns, office_at, phenomenon_at, number_at, time_at, values, vtec_of, IsVtec};
 
+use crate::columns::{ACTION, BEGIN, CLASS, END, LENGTH, NUMBER, OFFICE, PHENOMENON, SIGNIFICANCE};
 use crate::letters::{action_of, class_of, sig_of};
-use hazard_types::{Hazard, Minute, Phen, Vtec, read_stamp};
-
-/// Whether each is one of A to Z and 0 to 9.
-fn are_office_characters(text: &[u8]) -> bool
-    ensures { result ≡ list_all (λ c. is_capital c || is_digit c) text.now }
-{
-    text.iter()
-        .all(|c| c.is_ascii_uppercase() || c.is_ascii_digit())
-}
+use hazard_types::{Action, Class, Hazard, Minute, Phen, Sig, Vtec, are_name_bytes, time_in};
 
 /// The office of four characters; None where they are none.
 fn office_of(text: &[u8]) -> Option<[u8; 4]>
-    ensures { MatchOption result (IsTrue (is_office text.now) → ⊥) (λ office. IsTrue (is_office text.now) × (text.now ≡ office)) }
+    ensures { result ≡ office_at text.now }
 {
-    if !are_office_characters(text) {
-        return None;
-    }
     let [a, b, c, d] = text else {
         return None;
     };
-    Some([*a, *b, *c, *d])
+    if are_name_bytes(text) {
+        Some([*a, *b, *c, *d])
+    } else {
+        None
+    }
 }
 
 /// The phenomenon of two letters; None where they are none.
 fn phenomenon_of(text: &[u8]) -> Option<Phen>
     requires { length text.now ≡ 2 }
-    ensures { MatchOption result (IsTrue (are_letters text.now) → ⊥) (λ letters. IsTrue (are_letters text.now) × (text.now ≡ letters)) }
+    ensures { result ≡ phenomenon_at text.now }
 {
     Phen::new([text[0], text[1]])
 }
 
 /// The number of four digits; None where a byte is no digit.
+#[tactic(auto, using(crate::proofs::Numbers::number_hit, crate::proofs::Numbers::number_back), unfolding(crate::specs::Columns::number_at))]
 fn number_of(text: &[u8]) -> Option<u16>
-    ensures { MatchOption result ((n : ℕ) → n ≤ 9999 → text.now ≢ four_digits n) (λ n. (n ≤ 9999) × (text.now ≡ four_digits n)) }
+    ensures { result ≡ number_at text.now }
 {
     let [a, b, c, d] = text else {
         return None;
@@ -55,74 +47,84 @@ fn number_of(text: &[u8]) -> Option<u16>
 }
 
 /// The minute of a stamp, or no minute for the zero time; None where the text is neither.
-#[tactic(auto, using(crate::proofs::Times::no_time, crate::proofs::Times::stamp_found))]
+#[tactic(auto, using(crate::proofs::TimeLemmas::time_is_at))]
 fn time_of(text: &[u8]) -> Option<Option<Minute>>
-    ensures { MatchOption result ((t : Maybe ℕ) → IsTime text.now t → ⊥) (IsTime text.now) }
+    ensures { result ≡ time_at text.now }
 {
-    if text == b"000000T0000Z".as_slice() {
-        Some(None)
-    } else {
-        Some(Some(read_stamp(text)?))
+    time_in(text)
+}
+
+/// Whether length and separators are those of a P-VTEC text.
+#[tactic(auto, unfolding(crate::specs::Columns::has_columns))]
+fn has_columns(bytes: &[u8]) -> bool
+    ensures value { result ≡ has_columns bytes.now }
+    ensures size { result ≡ true → length bytes.now ≡ 48 }
+{
+    if bytes.len() != LENGTH {
+        return false;
     }
+    let separators = [
+        bytes[0], bytes[2], bytes[6], bytes[11], bytes[14], bytes[16], bytes[21], bytes[34],
+        bytes[47],
+    ];
+    separators == *b"/......-/"
 }
 
-/// Whether the byte at a place is this one.
-#[tactic(auto, using(crate::proofs::Laying::one_byte))]
-fn has(bytes: &[u8], at: usize, byte: u8) -> bool
-    requires { at < length bytes.now }
-    ensures { IsTrue result ↔ (slice_range bytes.now at (at + 1) ≡ byte ∷ []) }
+/// The values, where each column has one.
+fn values(
+    class: Option<Class>,
+    action: Option<Action>,
+    office: Option<[u8; 4]>,
+    phen: Option<Phen>,
+    sig: Option<Sig>,
+    etn: Option<u16>,
+    begin: Option<Option<Minute>>,
+    end: Option<Option<Minute>>,
+) -> Option<Vtec>
+    ensures { result ≡ values class action office phen sig etn begin end }
 {
-    bytes[at] == byte
-}
-
-fn are_separated(bytes: &[u8]) -> bool
-    requires { length bytes.now ≡ 48 }
-    ensures { IsTrue result ↔ AreSeparated bytes.now }
-{
-    has(bytes, 0, b'/')
-        && has(bytes, 2, b'.')
-        && has(bytes, 6, b'.')
-        && has(bytes, 11, b'.')
-        && has(bytes, 14, b'.')
-        && has(bytes, 16, b'.')
-        && has(bytes, 21, b'.')
-        && has(bytes, 34, b'-')
-        && has(bytes, 47, b'/')
-}
-
-/// The values that the columns have; None where they have none.
-fn values_of(bytes: &[u8]) -> Option<Vtec>
-    ensures { MatchOption result ((v : Values) → IsVtec bytes.now v → ⊥) (IsVtec bytes.now) }
-{
-    if bytes.len() != 48 || !are_separated(bytes) {
-        return None;
-    }
-    let class = class_of(&bytes[1..2])?;
-    let action = action_of(&bytes[3..6])?;
-    let office = office_of(&bytes[7..11])?;
-    let phen = phenomenon_of(&bytes[12..14])?;
-    let sig = sig_of(&bytes[15..16])?;
-    let etn = number_of(&bytes[17..21])?;
-    let begin = time_of(&bytes[22..34])?;
-    let end = time_of(&bytes[35..47])?;
     Some(Vtec {
-        class,
-        action,
-        office,
-        hazard: Hazard { phen, sig },
-        etn,
-        begin,
-        end,
+        class: class?,
+        action: action?,
+        office: office?,
+        hazard: Hazard {
+            phen: phen?,
+            sig: sig?,
+        },
+        etn: etn?,
+        begin: begin?,
+        end: end?,
     })
 }
 
+#[tactic(auto, unfolding(crate::specs::Columns::vtec_of))]
+fn values_of(bytes: &[u8]) -> Option<Vtec>
+    ensures { result ≡ vtec_of bytes.now }
+{
+    if !has_columns(bytes) {
+        return None;
+    }
+    values(
+        class_of(&bytes[CLASS..CLASS + 1]),
+        action_of(&bytes[ACTION]),
+        office_of(&bytes[OFFICE]),
+        phenomenon_of(&bytes[PHENOMENON]),
+        sig_of(&bytes[SIGNIFICANCE..SIGNIFICANCE + 1]),
+        number_of(&bytes[NUMBER]),
+        time_of(&bytes[BEGIN]),
+        time_of(&bytes[END]),
+    )
+}
+
 /// The values of a P-VTEC text; None where the bytes are none.
-#[tactic(auto, using(crate::proofs::Laying::is_read))]
+#[tactic(auto, using(crate::proofs::Laying::values_found, crate::proofs::Laying::vtec_hit))]
 pub fn read_vtec(bytes: &[u8]) -> Option<Vtec>
     // The text has these values.
     ensures found { IfSome result (IsVtec bytes.now) }
     // Each text is read, so None comes exactly where the bytes are no P-VTEC text.
     ensures only { (v : Values) → IsVtec bytes.now v → result ≡ Some v }
+    // The same as one function of the bytes.
+    ensures exact { result ≡ vtec_of bytes.now }
 {
     values_of(bytes)
 }

@@ -4,7 +4,7 @@ use Rattle.hazard_types.specs.Calendar.{stamp_at}
 use Rattle.hazard_types.specs.Codes.{value_beside}
 use Rattle.hazard_types.specs.Tables.{class_rows}
 use Rattle.hazard_types.specs.declared.codes.Class.{Class}
-use Rattle.vtec_string.specs.Columns.{is_office}
+use Rattle.hazard_types.specs.Characters.{is_office}
 use Rattle.warn_archive.specs.declared.words.Asked.{Asked}
 
 -- class and minute, where there are both

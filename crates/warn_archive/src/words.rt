@@ -3,7 +3,7 @@ ghost use Rattle.std.specs.Prelude.{◌≡◌, ◌||◌, Some, None, if◌then�
 ghost use Rattle.std.specs.List.{list_all};
 ghost use Rattle.hazard_types.specs.Calendar.{is_digit};
 ghost use Rattle.hazard_types.specs.Places.{is_capital};
-ghost use Rattle.vtec_string.specs.Columns.{is_office};
+ghost use Rattle.hazard_types.specs.Characters.{is_office};
 ghost use Rattle.warn_archive.specs.Words.{asked_of};
 
 use hazard_types::{Class, List, Minute, Text, classes, find, read_stamp};

@@ -5,7 +5,7 @@ use Rattle.desk_traits.proofs.Pieces.{adds_both}
 use Rattle.warn_main.specs.declared.run.Stop.{Stop}
 use Rattle.warn_main.specs.declared.run.Stop.TheVariants as stop
 use Rattle.warn_main.specs.declared.words.Dry.{Dry}
-use Rattle.vtec_string.specs.Columns.{is_office}
+use Rattle.hazard_types.specs.Characters.{is_office}
 use Rattle.warn_main.specs.Lines.{ended_lines, lines_of}
 use Rattle.warn_main.proofs.Telling.{answers_told}
 use Rattle.warn_main.specs.Runs.{AddsFront, Ends, IsDryRun, IsFaultLine, limit, read_fault_line, write_fault_line, no_memory_line, too_long_line}

@@ -7,7 +7,8 @@ use Rattle.hazard_types.proofs.Years.{civil_ok, minute_ok}
 use Rattle.ugc_codes.specs.Grammar.{IsUgc}
 use Rattle.ugc_codes.specs.Written.{ugc_text}
 use Rattle.ugc_codes.proofs.Written.{written_back}
-use Rattle.vtec_string.specs.Columns.{is_office, vtec_text}
+use Rattle.hazard_types.specs.Characters.{is_office}
+use Rattle.vtec_string.specs.Columns.{vtec_text}
 use Rattle.vtec_string.proofs.Laying.{columns_of}
 use Rattle.request_json.specs.declared.training.TrainingRefusal.{TrainingRefusal}
 use Rattle.warn_main.specs.declared.judge.Accepted.{Accepted}

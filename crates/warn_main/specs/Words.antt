@@ -2,7 +2,7 @@
 use Rattle.std.specs.Prelude.{ℕ, ◌&&◌, List, [], ◌∷◌, if◌then◌else◌, Option, None, option_map, codes}
 use Rattle.std.specs.Str.{bytes_eq}
 use Rattle.hazard_types.specs.Calendar.{stamp_at}
-use Rattle.vtec_string.specs.Columns.{is_office}
+use Rattle.hazard_types.specs.Characters.{is_office}
 use Rattle.warn_main.specs.declared.words.Dry.{Dry}
 
 -- the office and the minute of `dry OFFICE STAMP`, which are all the words

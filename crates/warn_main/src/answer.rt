@@ -2,7 +2,7 @@
 ghost use Rattle.std.specs.Prelude.{◌≡◌, ◌≤◌, ◌<◌, ◌+◌, length, IsTrue, IfOk, OnOk, OnErr, codes, string_bytes, min, option_map};
 ghost use Rattle.hazard_types.specs.Days.{day_stamp_of};
 ghost use Rattle.hazard_types.specs.Digits.{is_day_stamp};
-ghost use Rattle.vtec_string.specs.Columns.{is_office};
+ghost use Rattle.hazard_types.specs.Characters.{is_office};
 ghost use Rattle.warn_main.specs.Answers.{field_name, part_name, refusal_text, accepted_text, expiry_of, is_empty, line_reply};
 
 use crate::judge::{Accepted, verdict};

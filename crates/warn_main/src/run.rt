@@ -2,7 +2,7 @@
 ghost use Rattle.std.specs.Prelude.{◌≡◌, ◌≤◌, ◌<◌, [], ℕ, List, length, take, IsTrue, Ok, IfOk, OnOk, OnErr, IsErrOf};
 ghost use Rattle.desk_traits.specs.Faults.{Rose, HasCause};
 ghost use Rattle.desk_traits.specs.Streams.{Takes, IsAtEnd};
-ghost use Rattle.vtec_string.specs.Columns.{is_office};
+ghost use Rattle.hazard_types.specs.Characters.{is_office};
 ghost use Rattle.warn_main.specs.Lines.{pending_of};
 ghost use Rattle.warn_main.specs.Runs.{Ends, Feeds, FeedsSome};
 

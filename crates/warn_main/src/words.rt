@@ -3,7 +3,7 @@ ghost use Rattle.std.specs.Prelude.{◌≡◌, ◌||◌, IsTrue, IfSome, Some, N
 ghost use Rattle.std.specs.List.{list_all};
 ghost use Rattle.hazard_types.specs.Calendar.{is_digit};
 ghost use Rattle.hazard_types.specs.Places.{is_capital};
-ghost use Rattle.vtec_string.specs.Columns.{is_office};
+ghost use Rattle.hazard_types.specs.Characters.{is_office};
 ghost use Rattle.warn_main.specs.Words.{dry_words};
 
 use hazard_types::{List, Minute, Text, read_stamp};
