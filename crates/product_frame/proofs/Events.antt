@@ -1,220 +1,101 @@
--- The values of a P-VTEC line are found by its columns.
-use Rattle.std.proofs.Common.{◌≡◌, ℕ, ◌+◌, ◌*◌, ◌-◌, ◌<◌, ◌≤◌, ◌==◌, ◌&&◌, Bool, true, false, List, [], ◌∷◌, length, get_or, refl, ap, sym, ◌∙◌, arith, subst, lit<, Option, Some, None, inl, inr}
-use Rattle.std.specs.Prelude.{slice_index, option_map, codes, bytes_eq, IfSome}
+-- A pair is found by its lines.
+use Rattle.std.proofs.Common.{◌≡◌, ℕ, suc, ◌+◌, ◌≤◌, ◌<◌, true, false, List, [], ◌∷◌, ◌++◌, length, refl, ap, sym, ◌∙◌, arith, subst, append_assoc, Option, Some, None, codes}
+use Rattle.std.specs.Prelude.{option_map}
 use Rattle.std.specs.List.{slice_range}
-use Rattle.std.proofs.lemmas.Bool.{cases_Bool, and_parts, and_from, eqb-true, eq-eqb, leb-true, le-leb}
-use Rattle.std.proofs.lemmas.Option.{cond_some}
-use Rattle.std.proofs.lemmas.Slice.Eq.{bytes_eq-Decides}
-use Rattle.hazard_types.specs.Calendar.{stamp_at, stamp_of, IsStamp, is_civil}
-use Rattle.hazard_types.specs.Places.{are_letters}
-use Rattle.hazard_types.specs.Codes.{value_beside}
-use Rattle.hazard_types.specs.Tables.{class_rows, action_rows, sig_rows}
-use Rattle.hazard_types.proofs.Stamps.{spells_exactly}
-use Rattle.hazard_types.specs.declared.codes.Class.{Class}
-use Rattle.hazard_types.specs.declared.codes.Action.{Action}
-use Rattle.hazard_types.specs.declared.hazard.Sig.{Sig}
+use Rattle.std.proofs.lemmas.Bool.{le-leb, eq-eqb}
 use Rattle.hazard_types.specs.declared.line.Vtec.{Vtec}
-use Rattle.vtec_string.specs.Columns.{is_office, four_digits, IsTime, AreSeparated, IsVtec}
-use Rattle.vtec_string.proofs.Laying.{one_byte}
+use Rattle.hazard_types.specs.declared.line.Flood.{Flood}
+use Rattle.vtec_string.specs.Columns.{IsVtec, vtec_of}
+use Rattle.vtec_string.proofs.Laying.{vtec_back, vtec_hit}
+use Rattle.hvtec_string.specs.Columns.{IsHvtec, hvtec_of}
+use Rattle.hvtec_string.proofs.Laying.{hvtec_back, hvtec_hit}
 use Rattle.product_frame.specs.Parts.{has_slash}
-use Rattle.product_frame.specs.Events.{IsPair, number_in, number_at, time_at, separators, has_columns, values, vtec_of, alone, pair_of}
+use Rattle.product_frame.specs.Events.{with_flood, pair_of}
+use Rattle.product_frame.specs.Frames.{line_at}
+use Rattle.product_frame.specs.Grammar.{HasFlood, IsPair, AreEvents, HasNoSlash}
+use Rattle.product_frame.specs.Walking.{next_at, ahead}
 use Rattle.product_frame.specs.declared.frame.Pair.{Pair}
 
-eq_back : (xs ys : List ℕ) → bytes_eq xs ys ≡ true → xs ≡ ys
-eq_back xs ys h = (bytes_eq-Decides xs ys).0 h
+-- ---- single lines
 
-eq_hit : (xs ys : List ℕ) → xs ≡ ys → bytes_eq xs ys ≡ true
-eq_hit xs ys h = (bytes_eq-Decides xs ys).1 h
+slashed : (line : List ℕ) → slice_range line 0 1 ≡ codes "/" → has_slash line ≡ true
+slashed [] h = absurd (cc)
+slashed (c ∷ line) h = let same : c ≡ 47 = cc in rw (le-leb 1 (length (c ∷ line)) (omega arith), eq-eqb c 47 same) refl
 
-spelled_back : (n : ℕ) → n ≤ 9999 → number_in (four_digits n) ≡ n
-spelled_back n le = omega arith
+pub vtec_has_slash : (line : List ℕ) (v : Vtec) → IsVtec line v → has_slash line ≡ true
+vtec_has_slash line v is = slashed line is.separated.before_class
 
-number_hit : (n : ℕ) → n ≤ 9999 → number_at (four_digits n) ≡ Some n
-unfolding number_at
-number_hit n le =
-    let back = spelled_back n le in
-    let small = le-leb n 9999 le in
-    let whole = eq_hit (four_digits n) (four_digits n) refl in
-    rw (back, small, whole) refl
+hvtec_has_slash : (line : List ℕ) (h : Flood) → IsHvtec line h → has_slash line ≡ true
+hvtec_has_slash line h is = slashed line is.separated.before_location
 
-number_back : (text : List ℕ) (n : ℕ) → number_at text ≡ Some n → (n ≤ 9999) × (text ≡ four_digits n)
-unfolding number_at
-number_back text n h =
-    let found = cond_some _ _ _ h in
-    let parts = and_parts _ _ found.0 in
-    let small : number_in text ≤ 9999 = leb-true _ _ parts.0 in
-    let is : text ≡ four_digits (number_in text) = eq_back _ _ parts.1 in
-    (subst (λ (k : ℕ). k ≤ 9999) found.1 small, is ∙ ap four_digits found.1)
-
-time_back : (text : List ℕ) (t : Option ℕ) → time_at text ≡ Some t → IsTime text t
-unfolding time_at
-time_back text t h =
-    elim (cases_Bool (bytes_eq text (codes "000000T0000Z"))) [
-      | inl e ↦ subst (IsTime text) (one None t (rw e at h)) (eq_back _ _ e)
-      | inr e ↦ stamped (stamp_at text) refl (rw e at h)
-    ]
+pub no_hvtec : (line : List ℕ) → ((h : Flood) → IsHvtec line h → ⊥) → hvtec_of line ≡ None
+no_hvtec line none = by (hvtec_of line) refl
   where
-    one : (a b : Option ℕ) → ◌≡◌ {A = Option (Option ℕ)} (Some a) (Some b) → a ≡ b
-    one a b e = cc e
+    by : (r : Option Flood) → hvtec_of line ≡ r → hvtec_of line ≡ None
+    by None e = e
+    by (Some h) e = absurd (none h (hvtec_back line h e))
 
-    stamped : (r : Option ℕ) → stamp_at text ≡ r → option_map (λ (m : ℕ). Some m) r ≡ Some t → IsTime text t
-    stamped None is e = absurd (cc)
-    stamped (Some m) is e = subst (IsTime text) (one (Some m) t e) ((spells_exactly text (stamp_at text) refl m).0 is)
+-- a P-VTEC line is shorter than an H-VTEC line
+pub not_both : (line : List ℕ) (v : Vtec) → IsVtec line v → hvtec_of line ≡ None
+not_both line v is = no_hvtec line (λ h other. let a : length line ≡ 48 = is.size in let b : length line ≡ 54 = other.size in absurd (omega arith))
 
-zero_time_is_none : stamp_at (codes "000000T0000Z") ≡ None
-unfolding stamp_at is_civil
-zero_time_is_none = refl
+pub no_slash_no_hvtec : (bytes lines : List ℕ) → HasNoSlash bytes lines → hvtec_of (next_at bytes lines) ≡ None
+no_slash_no_hvtec bytes [] h = no_hvtec [] (λ f is. let size : length {A = ℕ} [] ≡ 54 = is.size in absurd (omega arith))
+no_slash_no_hvtec bytes (s ∷ lines) h = no_hvtec (line_at bytes s) (λ f is. let slash : has_slash (line_at bytes s) ≡ true = hvtec_has_slash (line_at bytes s) f is in absurd (cc))
 
-time_hit : (text : List ℕ) (t : Option ℕ) → IsTime text t → time_at text ≡ Some t
-unfolding time_at
-time_hit text None h = rw (eq_hit text (codes "000000T0000Z") h) refl
-time_hit text (Some m) h =
-    let read : stamp_at text ≡ Some m = (spells_exactly text (stamp_at text) refl m).1 h in
-    elim (cases_Bool (bytes_eq text (codes "000000T0000Z"))) [
-      | inl e ↦ let none : stamp_at text ≡ None = ap stamp_at (eq_back _ _ e) ∙ zero_time_is_none in absurd (cc)
-      | inr e ↦ rw (e, read) refl
-    ]
+-- ---- the pair of a line and the one behind it
 
--- ---- the columns together
+pub pair_hit : (line next : List ℕ) (p : Pair) → IsVtec line p.vtec → hvtec_of next ≡ p.flood → pair_of line next ≡ Some p
+unfolding pair_of
+pair_hit line next p is flood = rw (vtec_hit line p.vtec is, flood) refl
 
-at_byte : (b : List ℕ) (at c : ℕ) → at < length b → slice_index b at ≡ c → slice_range b at (at + 1) ≡ c ∷ []
-at_byte b at c lt e = one_byte b at lt ∙ ap (λ (x : ℕ). x ∷ []) e
-
-byte_at : (b : List ℕ) (at c : ℕ) → at < length b → slice_range b at (at + 1) ≡ c ∷ [] → slice_index b at ≡ c
-byte_at b at c lt e = one _ _ (sym (one_byte b at lt) ∙ e)
+pub pair_none : (line next : List ℕ) → ((v : Vtec) → IsVtec line v → ⊥) → pair_of line next ≡ None
+unfolding pair_of
+pair_none line next none = by (vtec_of line) refl
   where
-    one : (x y : ℕ) → x ∷ [] ≡ y ∷ [] → x ≡ y
-    one x y e = cc
+    by : (r : Option Vtec) → vtec_of line ≡ r → option_map (with_flood (hvtec_of next)) r ≡ None
+    by None e = refl
+    by (Some v) e = absurd (none v (vtec_back line v e))
 
-separated_back : (b : List ℕ) → length b ≡ 48 → separators b ≡ codes "/......-/" → AreSeparated b
-separated_back b size h =
-    let at = λ (k : ℕ). ap (λ (t : List ℕ). get_or t k 0) h in
-    record {
-      before_class = at_byte b 0 47 (omega arith) (at 0);
-      before_action = at_byte b 2 46 (omega arith) (at 1);
-      before_office = at_byte b 6 46 (omega arith) (at 2);
-      before_phenomenon = at_byte b 11 46 (omega arith) (at 3);
-      before_significance = at_byte b 14 46 (omega arith) (at 4);
-      before_number = at_byte b 16 46 (omega arith) (at 5);
-      before_begin = at_byte b 21 46 (omega arith) (at 6);
-      before_end = at_byte b 34 45 (omega arith) (at 7);
-      behind = at_byte b 47 47 (omega arith) (at 8);
-    }
+pub none_paired : (line next : List ℕ) → pair_of line next ≡ None → (v : Vtec) → IsVtec line v → ⊥
+none_paired line next none v is = clash (with_flood (hvtec_of next) v) (sym none ∙ pair_hit line next (with_flood (hvtec_of next) v) is refl)
+  where
+    clash : (p : Pair) → ◌≡◌ {A = Option Pair} None (Some p) → ⊥
+    clash p e = cc e
 
-separated_hit : (b : List ℕ) → length b ≡ 48 → AreSeparated b → separators b ≡ codes "/......-/"
-separated_hit b size s =
-    let a0 = byte_at b 0 47 (omega arith) s.before_class in
-    let a1 = byte_at b 2 46 (omega arith) s.before_action in
-    let a2 = byte_at b 6 46 (omega arith) s.before_office in
-    let a3 = byte_at b 11 46 (omega arith) s.before_phenomenon in
-    let a4 = byte_at b 14 46 (omega arith) s.before_significance in
-    let a5 = byte_at b 16 46 (omega arith) s.before_number in
-    let a6 = byte_at b 21 46 (omega arith) s.before_begin in
-    let a7 = byte_at b 34 45 (omega arith) s.before_end in
-    let a8 = byte_at b 47 47 (omega arith) s.behind in
-    λ i. a0 i ∷ a1 i ∷ a2 i ∷ a3 i ∷ a4 i ∷ a5 i ∷ a6 i ∷ a7 i ∷ a8 i ∷ []
-
-pub record Columns (office phen : List ℕ) (c : Option Class) (a : Option Action) (s : Option Sig) (n : Option ℕ) (b e : Option (Option ℕ)) (v : Vtec) : Type 0 where
-  pub class : c ≡ Some v.class
-  pub action : a ≡ Some v.action
-  pub sig : s ≡ Some v.hazard.sig
-  pub etn : n ≡ Some v.etn
-  pub begin : b ≡ Some v.begin
-  pub end : e ≡ Some v.end
-  pub office_is : office ≡ v.office
-  pub phen_is : phen ≡ v.hazard.phen
-
-same_vtec : (v w : Vtec) → ◌≡◌ {A = Option Vtec} (Some v) (Some w) → v ≡ w
-same_vtec v w e = cc e
-
-no_vtec : (v : Vtec) → ◌≡◌ {A = Option Vtec} None (Some v) → ⊥
-no_vtec v e = cc e
-
-values_back : (office phen : List ℕ) (c : Option Class) (a : Option Action) (s : Option Sig) (n : Option ℕ) (b e : Option (Option ℕ)) (v : Vtec) → values office phen c a s n b e ≡ Some v → Columns office phen c a s n b e v
-values_back office phen None a s n b e v h = absurd (no_vtec v h)
-values_back office phen (Some c) None s n b e v h = absurd (no_vtec v h)
-values_back office phen (Some c) (Some a) None n b e v h = absurd (no_vtec v h)
-values_back office phen (Some c) (Some a) (Some s) None b e v h = absurd (no_vtec v h)
-values_back office phen (Some c) (Some a) (Some s) (Some n) None e v h = absurd (no_vtec v h)
-values_back office phen (Some c) (Some a) (Some s) (Some n) (Some b) None v h = absurd (no_vtec v h)
-values_back office phen (Some c) (Some a) (Some s) (Some n) (Some b) (Some e) v h =
-    let is = same_vtec _ v h in
-    record {
-      class = ap (λ (x : Vtec). Some x.class) is;
-      action = ap (λ (x : Vtec). Some x.action) is;
-      sig = ap (λ (x : Vtec). Some x.hazard.sig) is;
-      etn = ap (λ (x : Vtec). Some x.etn) is;
-      begin = ap (λ (x : Vtec). Some x.begin) is;
-      end = ap (λ (x : Vtec). Some x.end) is;
-      office_is = ap (λ (x : Vtec). x.office) is;
-      phen_is = ap (λ (x : Vtec). x.hazard.phen) is;
-    }
-
-pub vtec_back : (b : List ℕ) (v : Vtec) → vtec_of b ≡ Some v → IsVtec b v
-unfolding vtec_of has_columns
-vtec_back b v h =
-    elim (cases_Bool (has_columns b)) [
-      | inl t ↦
-          let p = and_parts (length b == 48) _ t in
-          let q = and_parts (bytes_eq (separators b) (codes "/......-/")) _ p.1 in
-          let r = and_parts (is_office (slice_range b 7 11)) _ q.1 in
-          let size : length b ≡ 48 = eqb-true _ _ p.0 in
-          let k = values_back _ _ _ _ _ _ _ _ v (rw t at h) in
-          let number = number_back (slice_range b 17 21) v.etn k.etn in
-          record {
-            size = size;
-            separated = separated_back b size (eq_back _ _ q.0);
-            class = k.class;
-            action = k.action;
-            office = k.office_is;
-            is_office = subst (λ (x : List ℕ). is_office x ≡ true) k.office_is r.0;
-            phenomenon = k.phen_is;
-            are_letters = subst (λ (x : List ℕ). are_letters x ≡ true) k.phen_is r.1;
-            significance = k.sig;
-            number = number.1;
-            is_number = number.0;
-            begin = time_back _ v.begin k.begin;
-            end = time_back _ v.end k.end;
-          }
-      | inr f ↦ absurd (no_vtec v (rw f at h))
-    ]
-
-pub vtec_hit : (b : List ℕ) (v : Vtec) → IsVtec b v → vtec_of b ≡ Some v
-unfolding vtec_of has_columns
-vtec_hit b v h =
-    let size : (length b == 48) ≡ true = eq-eqb _ _ h.size in
-    let separated : bytes_eq (separators b) (codes "/......-/") ≡ true = eq_hit _ _ (separated_hit b h.size h.separated) in
-    let office : is_office (slice_range b 7 11) ≡ true = ap is_office h.office ∙ h.is_office in
-    let phen : are_letters (slice_range b 12 14) ≡ true = ap are_letters h.phenomenon ∙ h.are_letters in
-    let test : has_columns b ≡ true = and_from _ _ size (and_from _ _ separated (and_from _ _ office phen)) in
-    let class : value_beside class_rows (slice_range b 1 2) ≡ Some v.class = h.class in
-    let action : value_beside action_rows (slice_range b 3 6) ≡ Some v.action = h.action in
-    let sig : value_beside sig_rows (slice_range b 15 16) ≡ Some v.hazard.sig = h.significance in
-    let etn : number_at (slice_range b 17 21) ≡ Some v.etn = ap number_at h.number ∙ number_hit v.etn h.is_number in
-    let begin : time_at (slice_range b 22 34) ≡ Some v.begin = time_hit _ v.begin h.begin in
-    let end : time_at (slice_range b 35 47) ≡ Some v.end = time_hit _ v.end h.end in
-    rw test (λ i. values (h.office i) (h.phenomenon i) (class i) (action i) (sig i) (etn i) (begin i) (end i))
-
-pub pair_hit : (line : List ℕ) (p : Pair) → IsPair line p → pair_of line ≡ Some p
+pub pair_back : (line next : List ℕ) (p : Pair) → pair_of line next ≡ Some p → IsVtec line p.vtec × (hvtec_of next ≡ p.flood)
 unfolding pair_of
-pair_hit line p h = ap (option_map alone) (vtec_hit line p.vtec h.vtec) ∙ (λ i. Some (record { vtec = p.vtec; flood = sym h.flood i }))
-
-pub pair_back : (line : List ℕ) (p : Pair) → has_slash line ≡ true → pair_of line ≡ Some p → IsPair line p
-unfolding pair_of
-pair_back line p slash h = back (vtec_of line) refl h
+pair_back line next p h = by (vtec_of line) refl h
   where
     one : (a b : Pair) → ◌≡◌ {A = Option Pair} (Some a) (Some b) → a ≡ b
     one a b e = cc e
 
-    back : (r : Option Vtec) → vtec_of line ≡ r → option_map alone r ≡ Some p → IsPair line p
-    back None is e = absurd (cc)
-    back (Some v) is e = subst (IsPair line) (one (alone v) p e) (record { slash = slash; vtec = vtec_back line v is; flood = refl })
+    by : (r : Option Vtec) → vtec_of line ≡ r → option_map (with_flood (hvtec_of next)) r ≡ Some p → IsVtec line p.vtec × (hvtec_of next ≡ p.flood)
+    by None is e = absurd (cc)
+    by (Some v) is e = let same = one (with_flood (hvtec_of next) v) p e in (subst (IsVtec line) (ap (λ (q : Pair). q.vtec) same) (vtec_back line v is), ap (λ (q : Pair). q.flood) same)
 
--- what the reader of P-VTEC texts answers is this function's value
-pub vtec_is : (b : List ℕ) (r : Option Vtec) → IfSome r (IsVtec b) → ((v : Vtec) → IsVtec b v → r ≡ Some v) → r ≡ vtec_of b
-vtec_is b (Some v) found only = sym (vtec_hit b v found)
-vtec_is b None found only = none (vtec_of b) refl
-  where
-    none : (r : Option Vtec) → vtec_of b ≡ r → None ≡ r
-    none None e = refl
-    none (Some v) e = only v (vtec_back b v e)
+-- ---- one pair before others
+
+-- the H-VTEC line that was read ahead stands first
+flood_ahead : (bytes lines next later : List ℕ) (f : Option Flood) → hvtec_of (next_at bytes lines) ≡ f → length next ≡ ahead f → lines ≡ next ++ later → HasFlood bytes next f
+flood_ahead bytes lines [] later None is size whole = tt
+flood_ahead bytes lines [] later (Some h) is size whole = absurd (omega (arith, size))
+flood_ahead bytes lines (t ∷ next) later None is size whole = absurd (omega (arith, size))
+flood_ahead bytes lines (t ∷ []) later (Some h) is size whole = hvtec_back (line_at bytes t) h (sym (ap (λ (l : List ℕ). hvtec_of (next_at bytes l)) whole) ∙ is)
+flood_ahead bytes lines (t ∷ u ∷ next) later (Some h) is size whole = absurd (omega (arith, size))
+
+-- the lines of these pairs, and then others
+pub record Begins (bytes lines : List ℕ) (pairs : List Pair) (others : List ℕ) : Type 0 where
+  pub events : List ℕ
+  pub whole : lines ≡ events ++ others
+  pub spelled : AreEvents bytes events pairs
+
+pub one_pair : (bytes lines next events others : List ℕ) (s : ℕ) (p : Pair) (pairs : List Pair) → pair_of (line_at bytes s) (next_at bytes lines) ≡ Some p → length next ≡ ahead p.flood → lines ≡ next ++ (events ++ others) → AreEvents bytes events pairs →
+    Begins bytes (s ∷ lines) (p ∷ pairs) others
+one_pair bytes lines next events others s p pairs is size whole spelled =
+    let back = pair_back (line_at bytes s) (next_at bytes lines) p is in
+    record {
+      events = s ∷ (next ++ events);
+      whole = ap (λ (l : List ℕ). s ∷ l) (whole ∙ sym (append_assoc next events others));
+      spelled = (events, record { at = s; next = next; whole = refl; vtec = back.0; flood = flood_ahead bytes lines next (events ++ others) p.flood back.1 size whole }, spelled);
+    }

@@ -1,5 +1,5 @@
 -- What is refused has that fault first.
-use Rattle.std.proofs.Common.{◌≡◌, ℕ, zero, suc, ◌+◌, ◌-◌, ◌<◌, ◌==◌, Bool, true, false, List, [], ◌∷◌, ◌++◌, length, take, drop, refl, ap, sym, ◌∙◌, arith, subst, lit<, Option, Some, None, Result, Ok, Err, inl, inr, ◌⊎◌}
+use Rattle.std.proofs.Common.{◌≡◌, ℕ, zero, suc, ◌+◌, ◌-◌, ◌<◌, ◌≤◌, ◌==◌, Bool, true, false, List, [], ◌∷◌, ◌++◌, length, take, drop, refl, ap, sym, ◌∙◌, arith, subst, lit<, Option, Some, None, Result, Ok, Err, inl, inr, ◌⊎◌}
 use Rattle.std.proofs.lemmas.Bool.{cases_Bool, ne_eqb}
 use Rattle.hazard_types.specs.Given.{◌>>=◌}
 use Rattle.hazard_types.specs.Places.{Place}
@@ -9,13 +9,16 @@ use Rattle.ugc_codes.specs.declared.read.UgcRead.{UgcRead}
 use Rattle.ugc_codes.specs.declared.read.UgcFault.{UgcFault}
 use Rattle.ugc_codes.specs.Grammar.{IsUgc}
 use Rattle.ugc_codes.proofs.Lines.{read_is_ugc, ugc_is_read}
-use Rattle.product_frame.specs.Text.{line_of, is_empty, ends_in}
+use Rattle.product_frame.specs.Text.{starts_from, line_of, is_empty, ends_in}
 use Rattle.product_frame.specs.Parts.{begins, has_slash, is_end}
-use Rattle.product_frame.specs.Events.{IsPair, pair_of}
-use Rattle.product_frame.proofs.Events.{pair_hit, pair_back}
+use Rattle.hazard_types.specs.declared.line.Flood.{Flood}
+use Rattle.hvtec_string.specs.Columns.{IsHvtec, hvtec_of}
+use Rattle.hvtec_string.proofs.Laying.{hvtec_hit}
+use Rattle.product_frame.specs.Events.{pair_of}
+use Rattle.product_frame.proofs.Events.{no_slash_no_hvtec, none_paired, pair_back, Begins, one_pair}
 use Rattle.product_frame.specs.Frames.{line_at}
-use Rattle.product_frame.specs.Walking.{at_outside, open_by, opened, at_pairs, at_rest, paired, staged, closed, skipped, step, by_stage, ended, walk}
-use Rattle.product_frame.specs.Grammar.{AreOutside, AreEvents, AreRest, HasNoSlash, IsSegment}
+use Rattle.product_frame.specs.Walking.{at_outside, open_by, opened, at_pairs, at_rest, paired, staged, closed, skipped, next_at, ahead, step, by_stage, ended, walk}
+use Rattle.product_frame.specs.Grammar.{AreOutside, AreEvents, LacksFlood, AreRest, HasNoSlash, IsSegment}
 use Rattle.product_frame.specs.Faults.{BeginsWith, IsBadUgc, Opens, StopsAtVtec, HasNoEnd, IsFaulty, IsFirstFault}
 use Rattle.product_frame.specs.declared.frame.FrameSegment.{FrameSegment}
 use Rattle.product_frame.specs.declared.frame.Pair.{Pair}
@@ -25,6 +28,7 @@ use Rattle.product_frame.specs.declared.walk.Stage.{Stage}
 use Rattle.product_frame.specs.declared.walk.Stage.TheVariants.{Outside, Pairs, Rest}
 use Rattle.product_frame.proofs.Segments.{state}
 use Rattle.product_frame.proofs.Found.{Out, made, segment_more, no_lines}
+use Rattle.product_frame.proofs.Starts.{AreStarts, ends_fit}
 
 never : (out : Out) (x : FrameFault) → ◌≡◌ {A = Result Out FrameFault} (Ok out) (Err x) → ⊥
 never out x e = cc e
@@ -94,58 +98,80 @@ rest_more bytes lines s first total x e (inl h) = inl (h.0, (e, h.1))
 rest_more bytes lines s first total x e (inr r) = inr (record { others = s ∷ r.others; end = r.end; later = r.later; whole = ap (λ (l : List ℕ). s ∷ l) r.whole; rest = (e, r.rest); ended = r.ended; then = r.then })
 
 no_event : (bytes lines : List ℕ) (s first total : ℕ) (x : FrameFault) → has_slash (line_at bytes s) ≡ false → RestFault bytes (s ∷ lines) first total x → PairsFault bytes (s ∷ lines) 0 first total x
-no_event bytes lines s first total x no_slash (inl h) = inl (h.0, record { ugc = []; events = []; pairs = []; others = s ∷ lines; whole = refl; size = inl refl; spelled = tt; behind = no_slash; rest = h.1 })
-no_event bytes lines s first total x no_slash (inr r) = inr (inr (record { ugc = []; events = []; pairs = []; others = r.others; end = r.end; later = r.later; whole = r.whole; size = refl; spelled = tt; behind = subst (HasNoSlash bytes) r.whole no_slash; rest = r.rest; ended = r.ended; then = r.then }))
+no_event bytes lines s first total x no_slash (inl h) = inl (h.0, record { ugc = []; events = []; pairs = []; others = s ∷ lines; whole = refl; size = refl; spelled = refl; behind = no_slash; rest = h.1 })
+no_event bytes lines s first total x no_slash (inr r) = inr (inr (record { ugc = []; events = []; pairs = []; others = r.others; end = r.end; later = r.later; whole = r.whole; size = refl; spelled = refl; behind = subst (HasNoSlash bytes) r.whole no_slash; rest = r.rest; ended = r.ended; then = r.then }))
 
-no_ugc : (ugc lines events : List ℕ) (s : ℕ) → length ugc ≡ 0 → lines ≡ ugc ++ events → s ∷ lines ≡ s ∷ events
-no_ugc ugc lines events s size whole = ap (λ (l : List ℕ). s ∷ l) (whole ∙ ap (λ (u : List ℕ). u ++ events) (no_lines ugc size))
-
-one_event : (bytes lines : List ℕ) (s first total : ℕ) (x : FrameFault) (p : Pair) → IsPair (line_at bytes s) p → PairsFault bytes lines 0 first total x → PairsFault bytes (s ∷ lines) 0 first total x
-one_event bytes lines s first total x p is (inl h) = inl (h.0, more h.1)
+-- the line at which pairs stop is no H-VTEC line for the pair before it
+stops_behind : (bytes lines next events left more : List ℕ) (at : ℕ) (p : Pair) (pairs : List Pair) → hvtec_of (next_at bytes lines) ≡ p.flood → length next ≡ ahead p.flood → lines ≡ next ++ (events ++ left) → left ≡ at ∷ more → AreEvents bytes events pairs →
+    (LacksFlood pairs → (h : Flood) → IsHvtec (line_at bytes at) h → ⊥) → LacksFlood (p ∷ pairs) → (h : Flood) → IsHvtec (line_at bytes at) h → ⊥
+stops_behind bytes lines next events left more at p [] flood size whole left_are spelled no_flood lacks h is = clash (sym (ap hvtec_of here) ∙ flood ∙ lacks) (hvtec_hit (line_at bytes at) h is)
   where
-    more : HasNoEnd bytes lines 0 → HasNoEnd bytes (s ∷ lines) 0
-    more n = record { ugc = []; events = s ∷ n.events; pairs = p ∷ n.pairs; others = n.others; whole = no_ugc n.ugc lines (n.events ++ n.others) s (none n.ugc n.events n.others n.size) n.whole; size = inl refl; spelled = (is, n.spelled); behind = n.behind; rest = n.rest }
-      where
-        none : (ugc events others : List ℕ) → (length ugc ≡ 0) ⊎ ((length ugc < 0) × (events ++ others ≡ [])) → length ugc ≡ 0
-        none ugc events others (inl e) = e
-        none ugc events others (inr short) = let few : length ugc < 0 = short.0 in absurd (omega (arith, few))
+    none : next ≡ []
+    none = no_lines next (size ∙ ap ahead lacks)
+
+    here : next_at bytes lines ≡ line_at bytes at
+    here = ap (next_at bytes) (whole ∙ (λ i. none i ++ (spelled i ++ left_are i)))
+
+    clash : hvtec_of (line_at bytes at) ≡ None → hvtec_of (line_at bytes at) ≡ Some h → ⊥
+    clash a b = cc
+stops_behind bytes lines next events left more at p (q ∷ pairs) flood size whole left_are spelled no_flood lacks h is = no_flood lacks h is
+
+one_event : (bytes lines : List ℕ) (s first total : ℕ) (x : FrameFault) (p : Pair) → pair_of (line_at bytes s) (next_at bytes lines) ≡ Some p → PairsFault bytes lines (ahead p.flood) first total x → PairsFault bytes (s ∷ lines) 0 first total x
+one_event bytes lines s first total x p is (inl h) =
+    let n = h.1 in
+    let b = one_pair bytes lines n.ugc n.events n.others s p n.pairs is n.size n.whole n.spelled in
+    inl (h.0, record { ugc = []; events = b.events; pairs = p ∷ n.pairs; others = n.others; whole = b.whole; size = refl; spelled = b.spelled; behind = n.behind; rest = n.rest })
 one_event bytes lines s first total x p is (inr (inl t)) =
     let n = t.stops in
-    inr (inl (record { number = t.number; is = t.is; from = t.from; sum = t.sum; stops = record { ugc = []; events = s ∷ n.events; pairs = p ∷ n.pairs; at = n.at; more = n.more; left_are = n.left_are; whole = no_ugc n.ugc lines (n.events ++ t.from) s n.size n.whole; size = refl; spelled = (is, n.spelled); slash = n.slash; none = n.none } }))
-one_event bytes lines s first total x p is (inr (inr n)) = inr (inr (record { ugc = []; events = s ∷ n.events; pairs = p ∷ n.pairs; others = n.others; end = n.end; later = n.later; whole = no_ugc n.ugc lines (n.events ++ (n.others ++ n.end ∷ n.later)) s n.size n.whole; size = refl; spelled = (is, n.spelled); behind = n.behind; rest = n.rest; ended = n.ended; then = n.then }))
+    let b = one_pair bytes lines n.ugc n.events t.from s p n.pairs is n.size n.whole n.spelled in
+    let flood = (pair_back (line_at bytes s) (next_at bytes lines) p is).1 in
+    let no_flood = stops_behind bytes lines n.ugc n.events t.from n.more n.at p n.pairs flood n.size n.whole n.left_are n.spelled n.no_flood in
+    inr (inl (record {
+      number = t.number;
+      is = t.is;
+      from = t.from;
+      sum = t.sum;
+      stops = record { ugc = []; events = b.events; pairs = p ∷ n.pairs; at = n.at; more = n.more; left_are = n.left_are; whole = b.whole; size = refl; spelled = b.spelled; slash = n.slash; no_vtec = n.no_vtec; no_flood = no_flood };
+    }))
+one_event bytes lines s first total x p is (inr (inr n)) =
+    let b = one_pair bytes lines n.ugc n.events (n.others ++ n.end ∷ n.later) s p n.pairs is n.size n.whole n.spelled in
+    inr (inr (record { ugc = []; events = b.events; pairs = p ∷ n.pairs; others = n.others; end = n.end; later = n.later; whole = b.whole; size = refl; spelled = b.spelled; behind = n.behind; rest = n.rest; ended = n.ended; then = n.then }))
 
-bad_event : (bytes lines : List ℕ) (s first number total : ℕ) (x : FrameFault) → x ≡ BadVtec number → number + (length lines + 1) ≡ total → has_slash (line_at bytes s) ≡ true → pair_of (line_at bytes s) ≡ None → PairsFault bytes (s ∷ lines) 0 first total x
+bad_event : (bytes lines : List ℕ) (s first number total : ℕ) (x : FrameFault) → x ≡ BadVtec number → number + (length lines + 1) ≡ total → has_slash (line_at bytes s) ≡ true → pair_of (line_at bytes s) (next_at bytes lines) ≡ None → PairsFault bytes (s ∷ lines) 0 first total x
 bad_event bytes lines s first number total x is sum slash none = inr (inl (record {
   number = number;
   is = is;
   from = s ∷ lines;
   sum = omega (arith, sum);
-  stops = record { ugc = []; events = []; pairs = []; at = s; more = lines; left_are = refl; whole = refl; size = refl; spelled = tt; slash = slash; none = λ p h. clash p (sym none ∙ pair_hit (line_at bytes s) p h) };
+  stops = record { ugc = []; events = []; pairs = []; at = s; more = lines; left_are = refl; whole = refl; size = refl; spelled = refl; slash = slash; no_vtec = none_paired (line_at bytes s) (next_at bytes lines) none; no_flood = λ lacks. absurd lacks };
 }))
-  where
-    clash : (p : Pair) → ◌≡◌ {A = Option Pair} None (Some p) → ⊥
-    clash p e = cc e
 
 one_skipped : (bytes lines : List ℕ) (s k first total : ℕ) (x : FrameFault) → PairsFault bytes lines k first total x → PairsFault bytes (s ∷ lines) (suc k) first total x
-one_skipped bytes lines s k first total x (inl h) = inl (h.0, more h.1)
-  where
-    size : (ugc events others : List ℕ) → (length ugc ≡ k) ⊎ ((length ugc < k) × (events ++ others ≡ [])) → (length (s ∷ ugc) ≡ suc k) ⊎ ((length (s ∷ ugc) < suc k) × (events ++ others ≡ []))
-    size ugc events others (inl e) = inl (ap suc e)
-    size ugc events others (inr short) = let few : length ugc < k = short.0 in inr (omega (arith, few), short.1)
-
-    more : HasNoEnd bytes lines k → HasNoEnd bytes (s ∷ lines) (suc k)
-    more n = record { ugc = s ∷ n.ugc; events = n.events; pairs = n.pairs; others = n.others; whole = ap (λ (l : List ℕ). s ∷ l) n.whole; size = size n.ugc n.events n.others n.size; spelled = n.spelled; behind = n.behind; rest = n.rest }
+one_skipped bytes lines s k first total x (inl h) =
+    let n = h.1 in
+    inl (h.0, record { ugc = s ∷ n.ugc; events = n.events; pairs = n.pairs; others = n.others; whole = ap (λ (l : List ℕ). s ∷ l) n.whole; size = ap suc n.size; spelled = n.spelled; behind = n.behind; rest = n.rest })
 one_skipped bytes lines s k first total x (inr (inl t)) =
     let n = t.stops in
-    inr (inl (record { number = t.number; is = t.is; from = t.from; sum = t.sum; stops = record { ugc = s ∷ n.ugc; events = n.events; pairs = n.pairs; at = n.at; more = n.more; left_are = n.left_are; whole = ap (λ (l : List ℕ). s ∷ l) n.whole; size = ap suc n.size; spelled = n.spelled; slash = n.slash; none = n.none } }))
+    inr (inl (record {
+      number = t.number;
+      is = t.is;
+      from = t.from;
+      sum = t.sum;
+      stops = record { ugc = s ∷ n.ugc; events = n.events; pairs = n.pairs; at = n.at; more = n.more; left_are = n.left_are; whole = ap (λ (l : List ℕ). s ∷ l) n.whole; size = ap suc n.size; spelled = n.spelled; slash = n.slash; no_vtec = n.no_vtec; no_flood = n.no_flood };
+    }))
 one_skipped bytes lines s k first total x (inr (inr n)) = inr (inr (record { ugc = s ∷ n.ugc; events = n.events; pairs = n.pairs; others = n.others; end = n.end; later = n.later; whole = ap (λ (l : List ℕ). s ∷ l) n.whole; size = ap suc n.size; spelled = n.spelled; behind = n.behind; rest = n.rest; ended = n.ended; then = n.then }))
 
-no_line : (bytes : List ℕ) (left first total : ℕ) (x : FrameFault) → x ≡ NoSegmentEnd first → PairsFault bytes [] left first total x
-no_line bytes left first total x is = inl (is, record { ugc = []; events = []; pairs = []; others = []; whole = refl; size = size left; spelled = tt; behind = tt; rest = tt })
+no_line : (bytes : List ℕ) (first total : ℕ) (x : FrameFault) → x ≡ NoSegmentEnd first → PairsFault bytes [] 0 first total x
+no_line bytes first total x is = inl (is, record { ugc = []; events = []; pairs = []; others = []; whole = refl; size = refl; spelled = refl; behind = tt; rest = tt })
+
+-- an H-VTEC line that was read ahead is there
+ahead_fits : (bytes lines : List ℕ) (f : Option Flood) → hvtec_of (next_at bytes lines) ≡ f → ahead f ≤ length lines
+ahead_fits bytes lines None h = omega arith
+ahead_fits bytes [] (Some f) h = clash f (sym (no_slash_no_hvtec bytes [] tt) ∙ h)
   where
-    size : (left : ℕ) → (0 ≡ left) ⊎ ((0 < left) × ◌≡◌ {A = List ℕ} [] [])
-    size zero = inl refl
-    size (suc k) = inr (omega arith, refl)
+    clash : (f : Flood) → ◌≡◌ {A = Option Flood} None (Some f) → 1 ≤ length {A = ℕ} []
+    clash f e = cc e
+ahead_fits bytes (s ∷ lines) (Some f) h = omega arith
 
 -- a fault that stands at the first of these lines
 here : (bytes lines : List ℕ) (s total : ℕ) (x : FrameFault) → begins (line_at bytes s) ≡ true → IsFaulty bytes s lines total x → IsFirstFault bytes (s ∷ lines) total x
@@ -201,32 +227,34 @@ begun_here bytes lines s number total x u b read fills sum f = by f
 -- ---- the walk
 
 abbrev pub Later : List ℕ → List ℕ → ℕ → FrameFault → Type 0
-Later bytes lines total x = (gs : Out) (zs : List Place) (d : DayStamp) (ps : List Pair) (first left number : ℕ) (stage : Stage) → number + length lines ≡ total → walk bytes (state gs zs d ps first left stage) number lines ≡ Err x → Faulty bytes lines stage left first total x
+Later bytes lines total x = (gs : Out) (zs : List Place) (d : DayStamp) (ps : List Pair) (first left number : ℕ) (stage : Stage) → left ≤ length lines → number + length lines ≡ total → walk bytes (state gs zs d ps first left stage) number lines ≡ Err x → Faulty bytes lines stage left first total x
 
 rest_line : (bytes lines : List ℕ) (total : ℕ) (x : FrameFault) (gs : Out) (zs : List Place) (d : DayStamp) (ps : List Pair) (first number s : ℕ) (stage : Stage) → Later bytes lines total x → number + 1 + length lines ≡ total →
     (at_rest (state gs zs d ps first 0 stage) (line_at bytes s) >>= λ v. walk bytes v (number + 1) lines) ≡ Err x → RestFault bytes (s ∷ lines) first total x
 rest_line bytes lines total x gs zs d ps first number s stage later sum h =
     elim (cases_Bool (is_end (line_at bytes s))) [
-      | inl e ↦ rest_end bytes lines s first total x e (later (gs ++ made zs d ps ∷ []) [] d [] first 0 (number + 1) Outside sum (rw e at h))
-      | inr e ↦ rest_more bytes lines s first total x e (later gs zs d ps first 0 (number + 1) Rest sum (rw e at h))
+      | inl e ↦ rest_end bytes lines s first total x e (later (gs ++ made zs d ps ∷ []) [] d [] first 0 (number + 1) Outside (omega arith) sum (rw e at h))
+      | inr e ↦ rest_more bytes lines s first total x e (later gs zs d ps first 0 (number + 1) Rest (omega arith) sum (rw e at h))
     ]
 
-event_line : (bytes lines : List ℕ) (total : ℕ) (x : FrameFault) (gs : Out) (zs : List Place) (d : DayStamp) (ps : List Pair) (first number s : ℕ) → Later bytes lines total x → number + 1 + length lines ≡ total → has_slash (line_at bytes s) ≡ true → (r : Option Pair) → pair_of (line_at bytes s) ≡ r →
+event_line : (bytes lines : List ℕ) (total : ℕ) (x : FrameFault) (gs : Out) (zs : List Place) (d : DayStamp) (ps : List Pair) (first number s : ℕ) → Later bytes lines total x → number + 1 + length lines ≡ total → has_slash (line_at bytes s) ≡ true → (r : Option Pair) → pair_of (line_at bytes s) (next_at bytes lines) ≡ r →
     (paired (state gs zs d ps first 0 Pairs) number r >>= λ v. walk bytes v (number + 1) lines) ≡ Err x → PairsFault bytes (s ∷ lines) 0 first total x
 event_line bytes lines total x gs zs d ps first number s later sum slash None is h = bad_event bytes lines s first number total x (same_fault (BadVtec number) x h) (omega (arith, sum)) slash is
-event_line bytes lines total x gs zs d ps first number s later sum slash (Some p) is h = one_event bytes lines s first total x p (pair_back (line_at bytes s) p slash is) (later gs zs d (ps ++ p ∷ []) first 0 (number + 1) Pairs sum h)
+event_line bytes lines total x gs zs d ps first number s later sum slash (Some p) is h =
+    let flood = (pair_back (line_at bytes s) (next_at bytes lines) p is).1 in
+    one_event bytes lines s first total x p is (later gs zs d (ps ++ p ∷ []) first (ahead p.flood) (number + 1) Pairs (ahead_fits bytes lines p.flood flood) sum h)
 
 pair_line : (bytes lines : List ℕ) (total : ℕ) (x : FrameFault) (gs : Out) (zs : List Place) (d : DayStamp) (ps : List Pair) (first number s : ℕ) → Later bytes lines total x → number + 1 + length lines ≡ total →
-    (at_pairs (state gs zs d ps first 0 Pairs) number (line_at bytes s) >>= λ v. walk bytes v (number + 1) lines) ≡ Err x → PairsFault bytes (s ∷ lines) 0 first total x
+    (at_pairs (state gs zs d ps first 0 Pairs) number (line_at bytes s) (next_at bytes lines) >>= λ v. walk bytes v (number + 1) lines) ≡ Err x → PairsFault bytes (s ∷ lines) 0 first total x
 pair_line bytes lines total x gs zs d ps first number s later sum h =
     elim (cases_Bool (has_slash (line_at bytes s))) [
-      | inl e ↦ event_line bytes lines total x gs zs d ps first number s later sum e (pair_of (line_at bytes s)) refl (rw e at h)
+      | inl e ↦ event_line bytes lines total x gs zs d ps first number s later sum e (pair_of (line_at bytes s) (next_at bytes lines)) refl (rw e at h)
       | inr e ↦ no_event bytes lines s first total x e (rest_line bytes lines total x gs zs d ps first number s Pairs later sum (rw e at h))
     ]
 
-ugc_line : (bytes lines : List ℕ) (total : ℕ) (x : FrameFault) (gs : Out) (zs : List Place) (d : DayStamp) (ps : List Pair) (first number s : ℕ) → Later bytes lines total x → number + 1 + length lines ≡ total → begins (line_at bytes s) ≡ true → (r : Result UgcRead UgcFault) → ugc_of (drop s bytes) ≡ r →
+ugc_line : (bytes lines : List ℕ) (total : ℕ) (x : FrameFault) (gs : Out) (zs : List Place) (d : DayStamp) (ps : List Pair) (first number s : ℕ) → Later bytes lines total x → lines ≡ starts_from s (drop s bytes) → number + 1 + length lines ≡ total → begins (line_at bytes s) ≡ true → (r : Result UgcRead UgcFault) → ugc_of (drop s bytes) ≡ r →
     (open_by (state gs zs d ps first 0 Outside) number (drop s bytes) r >>= λ v. walk bytes v (number + 1) lines) ≡ Err x → IsFirstFault bytes (s ∷ lines) total x
-ugc_line bytes lines total x gs zs d ps first number s later sum b (Err f) is h =
+ugc_line bytes lines total x gs zs d ps first number s later starts sum b (Err f) is h =
     subst (IsFirstFault bytes (s ∷ lines) total) (sym (same_fault (BadUgc number) x h)) (here bytes lines s total (BadUgc number) b (omega (arith, sum), inl (λ zones day n u. clash (read_as zones day n) f (sym (ugc_is_read (drop s bytes) zones day n u) ∙ is))))
   where
     read_as : List Place → DayStamp → ℕ → UgcRead
@@ -234,41 +262,43 @@ ugc_line bytes lines total x gs zs d ps first number s later sum b (Err f) is h 
 
     clash : (u : UgcRead) (f : UgcFault) → ◌≡◌ {A = Result UgcRead UgcFault} (Ok u) (Err f) → ⊥
     clash u f e = cc e
-ugc_line bytes lines total x gs zs d ps first number s later sum b (Ok u) is h =
+ugc_line bytes lines total x gs zs d ps first number s later starts sum b (Ok u) is h =
     elim (cases_Bool (is_empty (line_of (drop u.used (drop s bytes))))) [
-      | inl e ↦ begun_here bytes lines s number total x u b is e (omega (arith, sum)) (later gs u.zones u.expiry [] number (ends_in (take u.used (drop s bytes))) (number + 1) Pairs sum (rw e at h))
+      | inl e ↦ begun_here bytes lines s number total x u b is e (omega (arith, sum)) (later gs u.zones u.expiry [] number (ends_in (take u.used (drop s bytes))) (number + 1) Pairs (ends_fit bytes lines s u.used starts) sum (rw e at h))
       | inr e ↦ subst (IsFirstFault bytes (s ∷ lines) total) (sym (same_fault (BadUgc number) x (rw e at h))) (here bytes lines s total (BadUgc number) b (omega (arith, sum), inr (u.zones, u.expiry, u.used, read_is_ugc (drop s bytes) u is, e)))
     ]
 
-outside_line : (bytes lines : List ℕ) (total : ℕ) (x : FrameFault) (gs : Out) (zs : List Place) (d : DayStamp) (ps : List Pair) (first number s : ℕ) → Later bytes lines total x → number + 1 + length lines ≡ total →
+outside_line : (bytes lines : List ℕ) (total : ℕ) (x : FrameFault) (gs : Out) (zs : List Place) (d : DayStamp) (ps : List Pair) (first number s : ℕ) → Later bytes lines total x → lines ≡ starts_from s (drop s bytes) → number + 1 + length lines ≡ total →
     (at_outside (state gs zs d ps first 0 Outside) number (drop s bytes) >>= λ v. walk bytes v (number + 1) lines) ≡ Err x → IsFirstFault bytes (s ∷ lines) total x
 unfolding at_outside
-outside_line bytes lines total x gs zs d ps first number s later sum h =
+outside_line bytes lines total x gs zs d ps first number s later starts sum h =
     elim (cases_Bool (begins (line_at bytes s))) [
-      | inl e ↦ ugc_line bytes lines total x gs zs d ps first number s later sum e (ugc_of (drop s bytes)) refl (rw e at h)
-      | inr e ↦ first_more bytes lines s total x e (later gs zs d ps first 0 (number + 1) Outside sum (rw e at h))
+      | inl e ↦ ugc_line bytes lines total x gs zs d ps first number s later starts sum e (ugc_of (drop s bytes)) refl (rw e at h)
+      | inr e ↦ first_more bytes lines s total x e (later gs zs d ps first 0 (number + 1) Outside (omega arith) sum (rw e at h))
     ]
 
 next : (number : ℕ) (lines : List ℕ) (s total : ℕ) → number + length (s ∷ lines) ≡ total → number + 1 + length lines ≡ total
 next number lines s total sum = omega (arith, sum)
 
-faulty : (bytes lines : List ℕ) (total : ℕ) (x : FrameFault) → Later bytes lines total x
+faulty : (bytes lines : List ℕ) (total : ℕ) (x : FrameFault) → AreStarts bytes lines → Later bytes lines total x
 unfolding step
-faulty bytes [] total x gs zs d ps first zero number Outside sum h = absurd (never gs x h)
-faulty bytes [] total x gs zs d ps first (suc k) number Outside sum h = tt
-faulty bytes [] total x gs zs d ps first left number Pairs sum h = no_line bytes left first total x (same_fault (NoSegmentEnd first) x h)
-faulty bytes [] total x gs zs d ps first zero number Rest sum h = inl (same_fault (NoSegmentEnd first) x h, tt)
-faulty bytes [] total x gs zs d ps first (suc k) number Rest sum h = tt
-faulty bytes (s ∷ lines) total x gs zs d ps first zero number Outside sum h = outside_line bytes lines total x gs zs d ps first number s (faulty bytes lines total x) (next number lines s total sum) h
-faulty bytes (s ∷ lines) total x gs zs d ps first (suc k) number Outside sum h = tt
-faulty bytes (s ∷ lines) total x gs zs d ps first zero number Pairs sum h = pair_line bytes lines total x gs zs d ps first number s (faulty bytes lines total x) (next number lines s total sum) h
-faulty bytes (s ∷ lines) total x gs zs d ps first (suc k) number Pairs sum h =
+faulty bytes [] total x starts gs zs d ps first zero number Outside few sum h = absurd (never gs x h)
+faulty bytes [] total x starts gs zs d ps first (suc k) number Outside few sum h = tt
+faulty bytes [] total x starts gs zs d ps first zero number Pairs few sum h = no_line bytes first total x (same_fault (NoSegmentEnd first) x h)
+faulty bytes [] total x starts gs zs d ps first (suc k) number Pairs few sum h = absurd (omega (arith, few))
+faulty bytes [] total x starts gs zs d ps first zero number Rest few sum h = inl (same_fault (NoSegmentEnd first) x h, tt)
+faulty bytes [] total x starts gs zs d ps first (suc k) number Rest few sum h = tt
+faulty bytes (s ∷ lines) total x starts gs zs d ps first zero number Outside few sum h = outside_line bytes lines total x gs zs d ps first number s (faulty bytes lines total x starts.1) starts.0 (next number lines s total sum) h
+faulty bytes (s ∷ lines) total x starts gs zs d ps first (suc k) number Outside few sum h = tt
+faulty bytes (s ∷ lines) total x starts gs zs d ps first zero number Pairs few sum h = pair_line bytes lines total x gs zs d ps first number s (faulty bytes lines total x starts.1) (next number lines s total sum) h
+faulty bytes (s ∷ lines) total x starts gs zs d ps first (suc k) number Pairs few sum h =
     let back : suc k - 1 ≡ k = omega arith in
     let some : (suc k == 0) ≡ false = ne_eqb (suc k) 0 (λ e. absurd (omega arith)) in
-    one_skipped bytes lines s k first total x (subst (λ (n : ℕ). PairsFault bytes lines n first total x) back (faulty bytes lines total x gs zs d ps first (suc k - 1) (number + 1) Pairs (next number lines s total sum) (rw some at h)))
-faulty bytes (s ∷ lines) total x gs zs d ps first zero number Rest sum h = rest_line bytes lines total x gs zs d ps first number s Rest (faulty bytes lines total x) (next number lines s total sum) h
-faulty bytes (s ∷ lines) total x gs zs d ps first (suc k) number Rest sum h = tt
+    one_skipped bytes lines s k first total x (subst (λ (n : ℕ). PairsFault bytes lines n first total x) back
+    (faulty bytes lines total x starts.1 gs zs d ps first (suc k - 1) (number + 1) Pairs (omega (arith, few)) (next number lines s total sum) (rw some at h)))
+faulty bytes (s ∷ lines) total x starts gs zs d ps first zero number Rest few sum h = rest_line bytes lines total x gs zs d ps first number s Rest (faulty bytes lines total x starts.1) (next number lines s total sum) h
+faulty bytes (s ∷ lines) total x starts gs zs d ps first (suc k) number Rest few sum h = tt
 
--- what the walk refuses has that fault first
-pub walked_fault : (bytes lines : List ℕ) (total : ℕ) (x : FrameFault) (zs : List Place) (d : DayStamp) (ps : List Pair) (first number : ℕ) → number + length lines ≡ total → walk bytes (state [] zs d ps first 0 Outside) number lines ≡ Err x → IsFirstFault bytes lines total x
-walked_fault bytes lines total x zs d ps first number sum h = faulty bytes lines total x [] zs d ps first 0 number Outside sum h
+-- what the walk over the lines of a text refuses has that fault first
+pub walked_fault : (bytes lines : List ℕ) (total : ℕ) (x : FrameFault) (zs : List Place) (d : DayStamp) (ps : List Pair) (first number : ℕ) → AreStarts bytes lines → number + length lines ≡ total → walk bytes (state [] zs d ps first 0 Outside) number lines ≡ Err x → IsFirstFault bytes lines total x
+walked_fault bytes lines total x zs d ps first number starts sum h = faulty bytes lines total x starts [] zs d ps first 0 number Outside (omega arith) sum h

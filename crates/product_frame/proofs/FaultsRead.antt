@@ -11,10 +11,12 @@ use Rattle.ugc_codes.specs.Grammar.{IsUgc}
 use Rattle.ugc_codes.proofs.Lines.{read_is_ugc, ugc_is_read}
 use Rattle.product_frame.specs.Text.{line_of, is_empty, ends_in}
 use Rattle.product_frame.specs.Parts.{begins, has_slash, is_end}
-use Rattle.product_frame.specs.Events.{IsPair, pair_of}
-use Rattle.product_frame.proofs.Events.{pair_back}
+use Rattle.hazard_types.specs.declared.line.Vtec.{Vtec}
+use Rattle.vtec_string.specs.Columns.{IsVtec}
+use Rattle.hvtec_string.specs.Columns.{hvtec_of}
+use Rattle.product_frame.proofs.Events.{pair_none, no_hvtec, no_slash_no_hvtec}
 use Rattle.product_frame.specs.Frames.{line_at}
-use Rattle.product_frame.specs.Walking.{at_outside, open_by, opened, at_pairs, at_rest, paired, staged, step, by_stage, skipped, ended, walk}
+use Rattle.product_frame.specs.Walking.{at_outside, open_by, opened, at_pairs, at_rest, paired, staged, next_at, step, by_stage, skipped, ended, walk}
 use Rattle.product_frame.specs.Grammar.{AreOutside, AreEvents, AreRest, HasNoSlash, IsSegment}
 use Rattle.product_frame.specs.Faults.{BeginsWith, IsBadUgc, Opens, StopsAtVtec, HasNoEnd, IsFaulty, IsFirstFault}
 use Rattle.product_frame.specs.declared.frame.FrameSegment.{FrameSegment}
@@ -51,26 +53,11 @@ unfolding step
 pairs_run_out bytes [] gs zs d ps first number no_slash h = refl
 pairs_run_out bytes (s ∷ others) gs zs d ps first number no_slash h = rw (no_slash, h.0) (rest_runs_out bytes others gs zs d ps first (number + 1) h.1)
 
-ugc_runs_out : (bytes ugc : List ℕ) (gs : List FrameSegment) (zs : List Place) (d : DayStamp) (ps : List Pair) (first left number : ℕ) → length ugc < left →
-    walk bytes (state gs zs d ps first left Pairs) number ugc ≡ Err (NoSegmentEnd first)
-unfolding step
-ugc_runs_out bytes [] gs zs d ps first left number lt = refl
-ugc_runs_out bytes (s ∷ ugc) gs zs d ps first left number lt =
-    let some : (left == 0) ≡ false = ne_eqb left 0 (λ e. absurd (omega arith)) in
-    rw some (ugc_runs_out bytes ugc gs zs d ps first (left - 1) (number + 1) (omega arith))
-
-no_pair : (line : List ℕ) → has_slash line ≡ true → ((p : Pair) → IsPair line p → ⊥) → pair_of line ≡ None
-no_pair line slash none = by (pair_of line) refl
-  where
-    by : (r : Option Pair) → pair_of line ≡ r → pair_of line ≡ None
-    by None e = e
-    by (Some p) e = absurd (none p (pair_back line p slash e))
-
--- a line that is no P-VTEC line
-stops : (bytes more : List ℕ) (at : ℕ) (gs : List FrameSegment) (zs : List Place) (d : DayStamp) (ps : List Pair) (first number : ℕ) → has_slash (line_at bytes at) ≡ true → ((p : Pair) → IsPair (line_at bytes at) p → ⊥) →
+-- a line that is no P-VTEC line, where none was read ahead
+stops : (bytes more : List ℕ) (at : ℕ) (gs : List FrameSegment) (zs : List Place) (d : DayStamp) (ps : List Pair) (first number : ℕ) → has_slash (line_at bytes at) ≡ true → ((v : Vtec) → IsVtec (line_at bytes at) v → ⊥) →
     walk bytes (state gs zs d ps first 0 Pairs) number (at ∷ more) ≡ Err (BadVtec number)
 unfolding step
-stops bytes more at gs zs d ps first number slash none = rw (slash, no_pair (line_at bytes at) slash none) refl
+stops bytes more at gs zs d ps first number slash none = rw (slash, pair_none (line_at bytes at) (next_at bytes more) none) refl
 
 -- zones that are no UGC text
 bad_begin : (bytes more : List ℕ) (start : ℕ) (gs : List FrameSegment) (zs : List Place) (d : DayStamp) (ps : List Pair) (first number : ℕ) → begins (line_at bytes start) ≡ true → IsBadUgc (drop start bytes) →
@@ -99,9 +86,9 @@ faulty_walked bytes lines start total (BadVtec n) gs zs d ps first number sum b 
     let s = h.3 in
     let a = opened_at bytes lines start h.0 gs zs d ps first number b h.1 in
     let c = ugc_passed bytes s.ugc (s.events ++ h.2) gs h.1.zones h.1.expiry [] number h.0 a.0 Pairs s.size in
-    let e = events_passed bytes s.events h.2 s.pairs gs h.1.zones h.1.expiry [] number c.0 s.spelled in
+    let e = events_passed bytes s.events h.2 s.pairs gs h.1.zones h.1.expiry [] number c.0 s.spelled (λ lacks. ap (λ (l : List ℕ). hvtec_of (next_at bytes l)) s.left_are ∙ no_hvtec (line_at bytes s.at) (s.no_flood lacks)) in
     let f : walk bytes (state gs h.1.zones h.1.expiry s.pairs number 0 Pairs) e.0 h.2 ≡ Err (BadVtec e.0) =
-    ap (walk bytes (state gs h.1.zones h.1.expiry s.pairs number 0 Pairs) e.0) s.left_are ∙ stops bytes s.more s.at gs h.1.zones h.1.expiry s.pairs number e.0 s.slash s.none in
+    ap (walk bytes (state gs h.1.zones h.1.expiry s.pairs number 0 Pairs) e.0) s.left_are ∙ stops bytes s.more s.at gs h.1.zones h.1.expiry s.pairs number e.0 s.slash s.no_vtec in
     let at : n + length h.2 ≡ total = h.4 in
     let a2 : a.0 + length lines ≡ number + length (start ∷ lines) = a.2 in
     let c2 : c.0 + length (s.events ++ h.2) ≡ a.0 + length (s.ugc ++ (s.events ++ h.2)) = c.2 in
@@ -115,18 +102,11 @@ faulty_walked bytes lines start total (NoSegmentEnd n) gs zs d ps first number s
     let a = opened_at bytes lines start h.1 gs zs d ps first number b h.2 in
     a.1 ∙ no_end bytes lines h.1 h.3 gs h.2.zones h.2.expiry number a.0 ∙ ap (λ (k : ℕ). Err (NoSegmentEnd k)) same
   where
-    by_size : (bytes ugc events others : List ℕ) (pairs : List Pair) (ends : ℕ) → (length ugc ≡ ends) ⊎ ((length ugc < ends) × (events ++ others ≡ [])) → AreEvents bytes events pairs → HasNoSlash bytes others → AreRest bytes others →
-        (gs : List FrameSegment) (zs : List Place) (d : DayStamp) (first number : ℕ) → walk bytes (state gs zs d [] first ends Pairs) number (ugc ++ (events ++ others)) ≡ Err (NoSegmentEnd first)
-    by_size bytes ugc events others pairs ends (inl size) spelled behind rest gs zs d first number =
-        let c = ugc_passed bytes ugc (events ++ others) gs zs d [] first ends number Pairs size in
-        let e = events_passed bytes events others pairs gs zs d [] first c.0 spelled in
-        c.1 ∙ e.1 ∙ pairs_run_out bytes others gs zs d pairs first e.0 behind rest
-    by_size bytes ugc events others pairs ends (inr short) spelled behind rest gs zs d first number =
-        ap (λ (l : List ℕ). walk bytes (state gs zs d [] first ends Pairs) number (ugc ++ l)) short.1 ∙ ap (walk bytes (state gs zs d [] first ends Pairs) number) (append-nil ugc) ∙ ugc_runs_out bytes ugc gs zs d [] first ends number short.0
-
     no_end : (bytes lines : List ℕ) (ends : ℕ) → HasNoEnd bytes lines ends → (gs : List FrameSegment) (zs : List Place) (d : DayStamp) (first number : ℕ) → walk bytes (state gs zs d [] first ends Pairs) number lines ≡ Err (NoSegmentEnd first)
     no_end bytes lines ends n gs zs d first number =
-        ap (walk bytes (state gs zs d [] first ends Pairs) number) n.whole ∙ by_size bytes n.ugc n.events n.others n.pairs ends n.size n.spelled n.behind n.rest gs zs d first number
+        let c = ugc_passed bytes n.ugc (n.events ++ n.others) gs zs d [] first ends number Pairs n.size in
+        let e = events_passed bytes n.events n.others n.pairs gs zs d [] first c.0 n.spelled (λ lacks. no_slash_no_hvtec bytes n.others n.behind) in
+        ap (walk bytes (state gs zs d [] first ends Pairs) number) n.whole ∙ c.1 ∙ e.1 ∙ pairs_run_out bytes n.others gs zs d n.pairs first e.0 n.behind n.rest
 faulty_walked bytes lines start total NoHeading gs zs d ps first number sum b h = absurd h
 faulty_walked bytes lines start total NoIdentifier gs zs d ps first number sum b h = absurd h
 faulty_walked bytes lines start total NoIssueTime gs zs d ps first number sum b h = absurd h

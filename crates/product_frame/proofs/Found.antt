@@ -11,11 +11,11 @@ use Rattle.ugc_codes.specs.Grammar.{IsUgc}
 use Rattle.ugc_codes.proofs.Lines.{read_is_ugc}
 use Rattle.product_frame.specs.Text.{line_of, is_empty, ends_in}
 use Rattle.product_frame.specs.Parts.{begins, has_slash, is_end}
-use Rattle.product_frame.specs.Events.{IsPair, pair_of}
-use Rattle.product_frame.proofs.Events.{pair_hit, pair_back}
+use Rattle.product_frame.specs.Events.{pair_of}
+use Rattle.product_frame.proofs.Events.{Begins, one_pair}
 use Rattle.product_frame.specs.declared.frame.Pair.{Pair}
 use Rattle.product_frame.specs.Frames.{line_at}
-use Rattle.product_frame.specs.Walking.{at_outside, open_by, opened, at_pairs, at_rest, paired, staged, closed, skipped, step, by_stage, ended, walk}
+use Rattle.product_frame.specs.Walking.{at_outside, open_by, opened, at_pairs, at_rest, paired, staged, closed, skipped, next_at, ahead, step, by_stage, ended, walk}
 use Rattle.product_frame.specs.Grammar.{AreOutside, AreEvents, AreRest, HasNoSlash, IsSegment, AreSegments}
 use Rattle.product_frame.specs.declared.frame.FrameSegment.{FrameSegment}
 use Rattle.product_frame.specs.declared.frame.FrameFault.{FrameFault}
@@ -152,7 +152,7 @@ no_event bytes lines out gs zs d ps s no_slash r = record {
   segments = r.segments;
   whole = r.whole;
   more = refl;
-  spelled = tt;
+  spelled = refl;
   behind = subst (HasNoSlash bytes) r.whole no_slash;
   rest = r.rest;
   ended = r.ended;
@@ -164,21 +164,21 @@ pub no_lines : (xs : List ℕ) → length xs ≡ 0 → xs ≡ []
 no_lines [] h = refl
 no_lines (x ∷ xs) h = absurd (omega arith)
 
-one_event : (bytes lines : List ℕ) (out gs : Out) (zs : List Place) (d : DayStamp) (ps : List Pair) (s : ℕ) (v : Pair) → has_slash (line_at bytes s) ≡ true → pair_of (line_at bytes s) ≡ Some v →
-    InPairs bytes lines out gs zs d (ps ++ v ∷ []) 0 → InPairs bytes (s ∷ lines) out gs zs d ps 0
-one_event bytes lines out gs zs d ps s v slash is p =
-    let none : p.ugc ≡ [] = no_lines p.ugc p.more in
+one_event : (bytes lines : List ℕ) (out gs : Out) (zs : List Place) (d : DayStamp) (ps : List Pair) (s : ℕ) (v : Pair) → pair_of (line_at bytes s) (next_at bytes lines) ≡ Some v →
+    InPairs bytes lines out gs zs d (ps ++ v ∷ []) (ahead v.flood) → InPairs bytes (s ∷ lines) out gs zs d ps 0
+one_event bytes lines out gs zs d ps s v is p =
+    let b = one_pair bytes lines p.ugc p.events (p.others ++ p.end ∷ p.later) s v p.pairs is p.more p.whole p.spelled in
     record {
       ugc = [];
-      events = s ∷ p.events;
+      events = b.events;
       pairs = v ∷ p.pairs;
       others = p.others;
       end = p.end;
       later = p.later;
       segments = p.segments;
-      whole = ap (λ (xs : List ℕ). s ∷ xs) (p.whole ∙ ap (λ (u : List ℕ). u ++ (p.events ++ (p.others ++ p.end ∷ p.later))) none);
+      whole = b.whole;
       more = refl;
-      spelled = (pair_back (line_at bytes s) v slash is, p.spelled);
+      spelled = b.spelled;
       behind = p.behind;
       rest = p.rest;
       ended = p.ended;
@@ -216,16 +216,16 @@ rest_line bytes lines out gs zs d ps first number s stage later h =
       | inr e ↦ not_end bytes lines out gs zs d ps s e (later gs zs d ps first 0 (number + 1) Rest (rw e at h))
     ]
 
-event_line : (bytes lines : List ℕ) (out gs : Out) (zs : List Place) (d : DayStamp) (ps : List Pair) (first number s : ℕ) → Later bytes lines out → has_slash (line_at bytes s) ≡ true → (r : Option Pair) → pair_of (line_at bytes s) ≡ r →
+event_line : (bytes lines : List ℕ) (out gs : Out) (zs : List Place) (d : DayStamp) (ps : List Pair) (first number s : ℕ) → Later bytes lines out → (r : Option Pair) → pair_of (line_at bytes s) (next_at bytes lines) ≡ r →
     (paired (state gs zs d ps first 0 Pairs) number r >>= λ v. walk bytes v (number + 1) lines) ≡ Ok out → InPairs bytes (s ∷ lines) out gs zs d ps 0
-event_line bytes lines out gs zs d ps first number s later slash None is h = absurd (never (BadVtec number) out h)
-event_line bytes lines out gs zs d ps first number s later slash (Some v) is h = one_event bytes lines out gs zs d ps s v slash is (later gs zs d (ps ++ v ∷ []) first 0 (number + 1) Pairs h)
+event_line bytes lines out gs zs d ps first number s later None is h = absurd (never (BadVtec number) out h)
+event_line bytes lines out gs zs d ps first number s later (Some v) is h = one_event bytes lines out gs zs d ps s v is (later gs zs d (ps ++ v ∷ []) first (ahead v.flood) (number + 1) Pairs h)
 
 pair_line : (bytes lines : List ℕ) (out gs : Out) (zs : List Place) (d : DayStamp) (ps : List Pair) (first number s : ℕ) → Later bytes lines out →
-    (at_pairs (state gs zs d ps first 0 Pairs) number (line_at bytes s) >>= λ v. walk bytes v (number + 1) lines) ≡ Ok out → InPairs bytes (s ∷ lines) out gs zs d ps 0
+    (at_pairs (state gs zs d ps first 0 Pairs) number (line_at bytes s) (next_at bytes lines) >>= λ v. walk bytes v (number + 1) lines) ≡ Ok out → InPairs bytes (s ∷ lines) out gs zs d ps 0
 pair_line bytes lines out gs zs d ps first number s later h =
     elim (cases_Bool (has_slash (line_at bytes s))) [
-      | inl e ↦ event_line bytes lines out gs zs d ps first number s later e (pair_of (line_at bytes s)) refl (rw e at h)
+      | inl e ↦ event_line bytes lines out gs zs d ps first number s later (pair_of (line_at bytes s) (next_at bytes lines)) refl (rw e at h)
       | inr e ↦ no_event bytes lines out gs zs d ps s e (rest_line bytes lines out gs zs d ps first number s Pairs later (rw e at h))
     ]
 

@@ -9,10 +9,9 @@ use Rattle.hazard_types.specs.declared.calendar.DayStamp.{DayStamp}
 use Rattle.hazard_types.specs.Digits.{day_text, is_day_stamp}
 use Rattle.hazard_types.specs.Digits.{day_stamp_in}
 use Rattle.hazard_types.proofs.DayTexts.{day_stamp_read}
-use Rattle.vtec_string.specs.Columns.{is_office}
-use Rattle.product_frame.specs.Text.{line_of, is_blank, is_left_out}
-use Rattle.product_frame.specs.Parts.{is_name, is_ttaaii, is_bbb, is_front, heading_by, heading_of}
-use Rattle.product_frame.specs.Parts.{is_office as is_office_at}
+use Rattle.hazard_types.specs.Characters.{is_name_byte, is_blank, is_office}
+use Rattle.product_frame.specs.Text.{line_of, is_left_out}
+use Rattle.product_frame.specs.Parts.{has_office, is_ttaaii, is_bbb, is_front, heading_by, heading_of}
 use Rattle.product_frame.specs.Layout.{heading_text}
 use Rattle.product_frame.specs.LineRules.{IsOneLine, IsHeading, are_three}
 use Rattle.product_frame.specs.declared.frame.Heading.{Heading}
@@ -62,10 +61,10 @@ abbrev pub heading_bytes : List ℕ → (a b c d e f p q r s : ℕ) → DayStamp
 heading_bytes end a b c d e f p q r s day = a ∷ b ∷ c ∷ d ∷ e ∷ f ∷ 32 ∷ p ∷ q ∷ r ∷ s ∷ 32 ∷ (48 + day.day / 10) ∷ (48 + day.day % 10) ∷ (48 + day.hour / 10) ∷ (48 + day.hour % 10) ∷ (48 + day.minute / 10) ∷ (48 + day.minute % 10) ∷ end
 
 record IsOffice (p q r s : ℕ) : Type 0 where
-  one : is_name p ≡ true
-  two : is_name q ≡ true
-  three : is_name r ≡ true
-  four : is_name s ≡ true
+  one : is_name_byte p ≡ true
+  two : is_name_byte q ≡ true
+  three : is_name_byte r ≡ true
+  four : is_name_byte s ≡ true
 
 office_is : (p q r s : ℕ) → is_office (p ∷ q ∷ r ∷ s ∷ []) ≡ true → IsOffice p q r s
 office_is p q r s h =
@@ -79,8 +78,8 @@ office_is p q r s h =
 front_holds : (end : List ℕ) (a b c d e f p q r s : ℕ) (day : DayStamp) → is_ttaaii (a ∷ b ∷ c ∷ d ∷ e ∷ f ∷ []) ≡ true → IsOffice p q r s → is_front (heading_bytes end a b c d e f p q r s day) ≡ true
 front_holds end a b c d e f p q r s day h o =
     let line = heading_bytes end a b c d e f p q r s day in
-    let office : is_office_at line ≡ true = four_hold (is_name p) (is_name q) (is_name r) (is_name s) o.one o.two o.three o.four in
-    four_hold (is_ttaaii line) (is_blank 32) (is_office_at line) (is_blank 32) h refl office refl
+    let office : has_office line ≡ true = four_hold (is_name_byte p) (is_name_byte q) (is_name_byte r) (is_name_byte s) o.one o.two o.three o.four in
+    four_hold (is_ttaaii line) (is_blank 32) (has_office line) (is_blank 32) h refl office refl
 
 front_line : (end : List ℕ) (a b c d e f p q r s : ℕ) (day : DayStamp) → is_ttaaii (a ∷ b ∷ c ∷ d ∷ e ∷ f ∷ []) ≡ true → IsOffice p q r s → IsOneLine end → IsOneLine (heading_bytes end a b c d e f p q r s day)
 front_line end a b c d e f p q r s day h o one =

@@ -2,6 +2,7 @@ pub mod Ends
 pub mod Events
 pub mod Nearness
 pub mod Segments
+pub mod Starts
 pub mod Found
 pub mod Whole
 pub mod FaultsRead
@@ -13,6 +14,7 @@ pub mod LineKinds
 pub mod LocalLines
 pub mod UgcLines
 pub mod VtecLines
+pub mod FloodLines
 pub mod HeadingLines
 pub mod SegmentLines
 pub mod ProductLines

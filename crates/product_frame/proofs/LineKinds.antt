@@ -11,8 +11,9 @@ use Rattle.desk_clock.specs.Words.{first_word, after_word, after_aside}
 use Rattle.desk_clock.specs.Words.{is_blank as is_word_blank}
 use Rattle.desk_clock.specs.LocalWords.{number_of, time_said, words_say, are_letters}
 use Rattle.desk_clock.specs.Names.{place_of, weekday_names}
-use Rattle.product_frame.specs.Text.{line_of, is_blank}
-use Rattle.product_frame.specs.Parts.{is_ttaaii, is_office, is_bbb, is_front, heading_by, heading_of, begins, has_slash, is_end, local_at}
+use Rattle.hazard_types.specs.Characters.{is_blank}
+use Rattle.product_frame.specs.Text.{line_of}
+use Rattle.product_frame.specs.Parts.{is_ttaaii, has_office, is_bbb, is_front, heading_by, heading_of, begins, has_slash, is_end, local_at}
 use Rattle.product_frame.specs.LineRules.{HasNoDigit}
 use Rattle.product_frame.proofs.Runs.{all_line}
 
@@ -69,15 +70,15 @@ capital_first : (line : List ℕ) → is_capital (slice_index line 0) ≡ false 
 capital_first line h = rw h refl
 
 pub no_heading_first : (line : List ℕ) → is_capital (slice_index line 0) ≡ false → heading_of line ≡ None
-no_heading_first line h = no_front line (first_of_four _ (is_blank (slice_index line 6)) (is_office line) (is_blank (slice_index line 11)) (capital_first line h))
+no_heading_first line h = no_front line (first_of_four _ (is_blank (slice_index line 6)) (has_office line) (is_blank (slice_index line 11)) (capital_first line h))
 
 no_heading_digit : (line : List ℕ) → is_digit (slice_index line 4) ≡ false → heading_of line ≡ None
 no_heading_digit line h =
     let t : is_ttaaii line ≡ false = fifth_of_six (is_capital (slice_index line 0)) (is_capital (slice_index line 1)) (is_capital (slice_index line 2)) (is_capital (slice_index line 3)) (is_digit (slice_index line 4)) (is_digit (slice_index line 5)) h in
-    no_front line (first_of_four _ (is_blank (slice_index line 6)) (is_office line) (is_blank (slice_index line 11)) t)
+    no_front line (first_of_four _ (is_blank (slice_index line 6)) (has_office line) (is_blank (slice_index line 11)) t)
 
 no_heading_blank : (line : List ℕ) → is_blank (slice_index line 6) ≡ false → heading_of line ≡ None
-no_heading_blank line h = no_front line (second_of_four (is_ttaaii line) (is_blank (slice_index line 6)) (is_office line) (is_blank (slice_index line 11)) h)
+no_heading_blank line h = no_front line (second_of_four (is_ttaaii line) (is_blank (slice_index line 6)) (has_office line) (is_blank (slice_index line 11)) h)
 
 pub no_heading_length : (line : List ℕ) → length line ≤ 17 → heading_of line ≡ None
 unfolding heading_of

@@ -7,7 +7,8 @@ use Rattle.hazard_types.specs.Calendar.{is_digit}
 use Rattle.hazard_types.specs.Places.{is_capital}
 use Rattle.desk_clock.specs.LocalText.{local_line_of}
 use Rattle.product_frame.specs.Text.{starts, starts_from, line_of, before, is_left_out, is_empty}
-use Rattle.product_frame.specs.Parts.{is_name, is_bbb, heading_of, is_identifier, local_at}
+use Rattle.hazard_types.specs.Characters.{is_name_byte}
+use Rattle.product_frame.specs.Parts.{is_bbb, heading_of, is_identifier, local_at}
 use Rattle.product_frame.specs.Frames.{line_at, heading_index, full_index, issue_in, end_by, product_in}
 use Rattle.product_frame.specs.Frame.{IsFrameIn, FrameOf}
 use Rattle.product_frame.specs.Grammar.{AreSegments}
@@ -48,12 +49,12 @@ high_kept c le =
     let z : (c == 9) ≡ false = ne_eqb _ _ (λ (e : c ≡ 9). omega arith) in
     (w, rw (x, y, z) refl)
 
-name_kept : (c : ℕ) → is_name c ≡ true → IsKept c
+name_kept : (c : ℕ) → is_name_byte c ≡ true → IsKept c
 name_kept c h = elim (or_cases (is_capital c) (is_digit c) h) [ inl a ↦ high_kept c (capital_at_least c a) | inr b ↦ high_kept c (digit_at_least c b) ]
 
-names_kept : (t : List ℕ) → list_all is_name t ≡ true → AllByRecursion IsKept t
+names_kept : (t : List ℕ) → list_all is_name_byte t ≡ true → AllByRecursion IsKept t
 names_kept [] h = tt
-names_kept (c ∷ t) h = let p = and_parts (is_name c) (list_all is_name t) h in (name_kept c p.0, names_kept t p.1)
+names_kept (c ∷ t) h = let p = and_parts (is_name_byte c) (list_all is_name_byte t) h in (name_kept c p.0, names_kept t p.1)
 
 keep : (c : ℕ) (t : List ℕ) → is_left_out c ≡ false → before c t ≡ c ∷ t
 keep c [] h = rw h refl
@@ -89,7 +90,7 @@ named (a ∷ []) h = absurd (false≢true h)
 named (a ∷ b ∷ []) h = absurd (false≢true h)
 named (a ∷ b ∷ c ∷ t) h =
     let line = a ∷ b ∷ c ∷ t in
-    let p = four_parts (nat_le 4 (length line)) (nat_le (length line) 6) (is_bbb line 0) (list_all is_name t) h in
+    let p = four_parts (nat_le 4 (length line)) (nat_le (length line) 6) (is_bbb line 0) (list_all is_name_byte t) h in
     let k = three_parts (is_capital a) (is_capital b) (is_capital c) p.2 in
     record {
       kept = (high_kept a (capital_at_least a k.0), (high_kept b (capital_at_least b k.1), (high_kept c (capital_at_least c k.2), names_kept t p.3)));

@@ -19,6 +19,7 @@ use Rattle.product_frame.specs.declared.frame.FrameFault.{FrameFault}
 use Rattle.product_frame.specs.declared.frame.FrameFault.TheVariants.{NoHeading, NoIdentifier, NoIssueTime, IssueDisagrees, NoSegmentEnd, BadUgc, BadVtec}
 use Rattle.product_frame.proofs.FaultsRead.{fault_walked}
 use Rattle.product_frame.proofs.FaultsFound.{walked_fault}
+use Rattle.product_frame.proofs.Starts.{later_starts}
 use Rattle.product_frame.proofs.Whole.{frame_by, frame_read, read_is_frame}
 
 near_not : (issue : ℕ) (h : Heading) → (IsNear issue h.day → ⊥) → is_near issue h.day ≡ false
@@ -115,7 +116,7 @@ behind_faulty p h t k x i e =
       | inr a ↦ elim (cases_Bool (is_near a.0 h.day)) [
         | inl n ↦
             let walked = bind_err (segments_of p (k + 3) later) (λ segments. frame_by h t a.0 segments) x (rw n at a.2) in
-            of_segment p h x (k, a.0, record { identified = i; minute = a.1 }, (near_decides a.0 h.day).0 n, walked_fault p later (k + 3 + length later) x [] begun.expiry [] 0 (k + 3) refl walked)
+            of_segment p h x (k, a.0, record { identified = i; minute = a.1 }, (near_decides a.0 h.day).0 n, walked_fault p later (k + 3 + length later) x [] begun.expiry [] 0 (k + 3) (later_starts p (k + 1)) refl walked)
         | inr n ↦ subst (IsFaultIn p h) (same_refusal IssueDisagrees x (rw n at a.2)) (k, a.0, record { identified = i; minute = a.1 }, not_near a.0 h n)
       ]
     ]

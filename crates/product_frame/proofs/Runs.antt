@@ -1,5 +1,6 @@
 -- Lines that are laid one behind another: where they begin, and what each of them is.
-use Rattle.std.proofs.Common.{◌≡◌, ℕ, suc, ◌+◌, ◌<◌, ◌≤◌, ◌==◌, ◌&&◌, Bool, true, false, List, [], ◌∷◌, ◌++◌, length, take, drop, get_or, refl, ap, sym, ◌∙◌, subst, arith, append_assoc, append-nil, length-append, cond, inl, inr, drop-drop, drop_at, add-zero, below_more}
+use Rattle.std.proofs.Common.{◌≡◌, ℕ, suc, ◌+◌, ◌<◌, ◌≤◌, ◌==◌, ◌&&◌, Bool, true, false, List, [], ◌∷◌, ◌++◌, length, take, drop, get_or, refl, ap, sym, ◌∙◌, subst, arith, append_assoc, append-nil, length-append, cond, inl, inr, drop-drop, drop_at, add-zero, below_more, Result, Ok, Err}
+use Rattle.std.specs.Prelude.{OnOk}
 use Rattle.std.specs.List.{All, AllByRecursion}
 use Rattle.std.proofs.lemmas.Bool.{cases_Bool, eqb-true}
 use Rattle.std.proofs.lemmas.List.{get_or_default}
@@ -41,6 +42,15 @@ one_more P items i z lt is fact before k d le = below_more (λ (j : ℕ). P (get
 -- all of those that came in turn
 pub all_done : {X : Type 0} (P : X → Type 0) (items xs : List X) (i : ℕ) → items ≡ xs → length items ≤ i → ((k : ℕ) (d : X) → k < i → P (get_or items k d)) → All P xs
 all_done P items xs i e over before = subst (All P) e (λ k d lt. before k d (omega arith))
+
+-- what holds in any case holds of Ok
+pub on_ok : {T E : Type 0} (r : Result T E) (P : Type 0) → P → OnOk r P
+on_ok (Ok x) P p = p
+on_ok (Err e) P p = tt
+
+pub on_ok_too : {T E : Type 0} (r : Result T E) (P Q : Type 0) → P → OnOk r Q → OnOk r (P × Q)
+on_ok_too (Ok x) P Q p q = (p, q)
+on_ok_too (Err e) P Q p q = tt
 
 -- ---- one line
 

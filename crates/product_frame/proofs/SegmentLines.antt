@@ -6,14 +6,15 @@ use Rattle.std.proofs.lemmas.Bool.{cases_Bool, and_left, and_right, and_from, le
 use Rattle.hazard_types.specs.Places.{is_capital}
 use Rattle.ugc_codes.specs.Grammar.{IsUgc}
 use Rattle.ugc_codes.specs.Written.{ugc_text}
+use Rattle.hazard_types.specs.declared.line.Flood.{Flood}
 use Rattle.vtec_string.specs.Columns.{IsVtec, vtec_text}
-use Rattle.product_frame.specs.Text.{starts_from, line_of, before, is_left_out, is_empty, ends_in, is_blank}
+use Rattle.hvtec_string.specs.Columns.{IsHvtec, hvtec_text}
+use Rattle.product_frame.specs.Text.{starts_from, line_of, before, is_left_out, is_empty, ends_in}
 use Rattle.product_frame.specs.Parts.{heading_of, begins, has_slash, is_end, local_at}
-use Rattle.product_frame.specs.Events.{IsPair}
 use Rattle.product_frame.specs.Frames.{line_at}
-use Rattle.product_frame.specs.Grammar.{AreOutside, AreEvents, AreRest, HasNoSlash, IsSegment, AreSegments}
-use Rattle.product_frame.specs.Layout.{ended, pairs_text, names_text, body_text, segment_text, segments_text}
-use Rattle.product_frame.specs.LineRules.{IsOneLine, lines_in, IsPairWritten, IsSegmentWritten, IsBodyLine, IsBody, HasColumns, ReadsBack}
+use Rattle.product_frame.specs.Grammar.{AreOutside, HasFlood, AreEvents, AreRest, HasNoSlash, IsSegment, AreSegments}
+use Rattle.product_frame.specs.Layout.{ended, flood_text, pairs_text, names_text, body_text, segment_text, segments_text}
+use Rattle.product_frame.specs.LineRules.{IsOneLine, lines_in, IsPairWritten, IsSegmentWritten, IsBodyLine, IsBody, HasFloodColumns, HasColumns, ReadsBack}
 use Rattle.product_frame.specs.declared.frame.Pair.{Pair}
 use Rattle.product_frame.specs.declared.frame.FrameSegment.{FrameSegment}
 use Rattle.product_frame.specs.declared.write.Body.{Body}
@@ -21,7 +22,8 @@ use Rattle.product_frame.proofs.Runs.{all_both, all_weaker, all_from, starting, 
 use Rattle.product_frame.proofs.LineKinds.{no_blank_no_heading, no_heading_first, no_heading_length, no_capital_begins, digit_no_capital}
 use Rattle.product_frame.proofs.LocalLines.{NoEnd, BeginsWithDigit}
 use Rattle.product_frame.proofs.UgcLines.{NoBlank, ugc_clear, ugc_begins}
-use Rattle.product_frame.proofs.VtecLines.{vtec_line, vtec_slash, vtec_whole}
+use Rattle.product_frame.proofs.VtecLines.{vtec_line, vtec_whole}
+use Rattle.product_frame.proofs.FloodLines.{hvtec_line, hvtec_whole}
 
 abbrev pub BeginsNone : List ℕ → Type 0
 BeginsNone line = begins line ≡ false
@@ -102,29 +104,53 @@ body_run Q local body l ql qe qn qt is =
 
 -- ---- the pairs
 
-pairs_stand : (pairs : List Pair) → AllByRecursion HasColumns pairs → AllByRecursion IsPairWritten pairs → (p : List ℕ) (at : ℕ) (rest : List ℕ) → drop at p ≡ pairs_text pairs ++ rest →
+-- the line of flood values stands where it is written
+flood_stands : (f : Option Flood) → HasFloodColumns f → (p : List ℕ) (at : ℕ) (rest : List ℕ) → drop at p ≡ flood_text f ++ rest →
+    (places : List ℕ) × (starting at (flood_text f ++ rest) ≡ places ++ starting (at + length (flood_text f)) rest) × HasFlood p places f
+flood_stands None v p at rest h = ([], start_moved at (at + 0) rest (omega arith), tt)
+flood_stands (Some f) v p at rest h =
+    let t = hvtec_text f in
+    let n = next_line p t rest at (hvtec_line f v) h in
+    (at ∷ [], ap (λ (xs : List ℕ). at ∷ xs) n.0, subst (λ (l : List ℕ). IsHvtec l f) (sym (n.1 ∙ hvtec_whole f v)) v)
+
+pairs_stand : (pairs : List Pair) → AllByRecursion HasColumns pairs → (p : List ℕ) (at : ℕ) (rest : List ℕ) → drop at p ≡ pairs_text pairs ++ rest →
     (places : List ℕ) × (starting at (pairs_text pairs ++ rest) ≡ places ++ starting (at + length (pairs_text pairs)) rest) × AreEvents p places pairs
-pairs_stand [] v w p at rest h = ([], start_moved at (at + 0) rest (omega arith), tt)
-pairs_stand (q ∷ pairs) v w p at rest h =
+pairs_stand [] v p at rest h = ([], start_moved at (at + 0) rest (omega arith), refl)
+pairs_stand (q ∷ pairs) v p at rest h =
     let t = vtec_text q.vtec in
+    let f = flood_text q.flood in
     let more = pairs_text pairs in
-    let ha : drop at p ≡ ended t ++ (more ++ rest) = h ∙ append_assoc (ended t) more rest in
-    let n = next_line p t (more ++ rest) at (vtec_line q.vtec v.0) ha in
-    let y = pairs_stand pairs v.1 w.1 p (at + length (ended t)) rest (behind p (ended t) (more ++ rest) at ha) in
-    let e : at + length (ended t) + length more ≡ at + length (ended t ++ more) = omega (arith, length-append (ended t) more) in
-    let line : line_at p at ≡ t = n.1 ∙ vtec_whole q.vtec v.0 in
-    let pair : IsPair t q = record { slash = vtec_slash q.vtec; vtec = v.0; flood = w.0.flood } in (
-      at ∷ y.0,
-      ap (starting at) (append_assoc (ended t) more rest) ∙ ap (λ (xs : List ℕ). at ∷ xs) n.0 ∙ ap (λ (xs : List ℕ). at ∷ xs) y.1 ∙ ap (λ (xs : List ℕ). at ∷ (y.0 ++ xs)) (start_moved _ _ rest e),
-      (subst (λ (l : List ℕ). IsPair l q) (sym line) pair, y.2),
+    let apart : (ended t ++ (f ++ more)) ++ rest ≡ ended t ++ (f ++ (more ++ rest)) = append_assoc (ended t) (f ++ more) rest ∙ ap (λ (x : List ℕ). ended t ++ x) (append_assoc f more rest) in
+    let ha : drop at p ≡ ended t ++ (f ++ (more ++ rest)) = h ∙ apart in
+    let n = next_line p t (f ++ (more ++ rest)) at (vtec_line q.vtec v.0.0) ha in
+    let at1 = at + length (ended t) in
+    let h1 : drop at1 p ≡ f ++ (more ++ rest) = behind p (ended t) (f ++ (more ++ rest)) at ha in
+    let z = flood_stands q.flood v.0.1 p at1 (more ++ rest) h1 in
+    let at2 = at1 + length f in
+    let y = pairs_stand pairs v.1 p at2 rest (behind p f (more ++ rest) at1 h1) in
+    let e : at2 + length more ≡ at + length (ended t ++ (f ++ more)) = omega (arith, length-append (ended t) (f ++ more), length-append f more) in
+    let line : line_at p at ≡ t = n.1 ∙ vtec_whole q.vtec v.0.0 in
+    let end = at + length (ended t ++ (f ++ more)) in
+    let later : starting at2 (more ++ rest) ≡ y.0 ++ starting end rest = y.1 ∙ ap (λ (xs : List ℕ). y.0 ++ xs) (start_moved _ _ rest e) in
+    let next : starting at1 (f ++ (more ++ rest)) ≡ (z.0 ++ y.0) ++ starting end rest = z.1 ∙ ap (λ (xs : List ℕ). z.0 ++ xs) later ∙ sym (append_assoc z.0 y.0 (starting end rest)) in
+    let first : starts_from at (ended t ++ (f ++ (more ++ rest))) ≡ (z.0 ++ y.0) ++ starting end rest = n.0 ∙ next in (
+      at ∷ (z.0 ++ y.0),
+      ap (starting at) apart ∙ ap (λ (xs : List ℕ). at ∷ xs) first,
+      (y.0, record { at = at; next = z.0; whole = refl; vtec = subst (λ (l : List ℕ). IsVtec l q.vtec) (sym line) v.0.0; flood = z.2 }, y.2),
     )
+
+flood_heads_none : (f : Option Flood) → HasFloodColumns f → Runs HeadsNone (flood_text f)
+unfolding hvtec_text
+flood_heads_none None v = run_none HeadsNone
+flood_heads_none (Some f) v = run_line HeadsNone (hvtec_text f) (hvtec_line f v) (ap heading_of (hvtec_whole f v) ∙ no_heading_first (hvtec_text f) refl)
 
 pairs_heads_none : (pairs : List Pair) → AllByRecursion HasColumns pairs → Runs HeadsNone (pairs_text pairs)
 unfolding vtec_text
 pairs_heads_none [] v = run_none HeadsNone
 pairs_heads_none (q ∷ pairs) v =
     let t = vtec_text q.vtec in
-    run_both HeadsNone (ended t) (pairs_text pairs) (run_line HeadsNone t (vtec_line q.vtec v.0) (ap heading_of (vtec_whole q.vtec v.0) ∙ no_heading_first t refl)) (pairs_heads_none pairs v.1)
+    run_both HeadsNone (ended t) (flood_text q.flood ++ pairs_text pairs) (run_line HeadsNone t (vtec_line q.vtec v.0.0) (ap heading_of (vtec_whole q.vtec v.0.0) ∙ no_heading_first t refl))
+    (run_both HeadsNone (flood_text q.flood) (pairs_text pairs) (flood_heads_none q.flood v.0.1) (pairs_heads_none pairs v.1))
 
 -- ---- one segment
 
@@ -185,7 +211,7 @@ stands p front local g body at later run l s h =
     let more = starts_from at1 ugc in
     let begun : starts_from at1 (ended ugc ++ r1) ≡ more ++ starting at2 r1 = ap (starts_from at1) (ended_behind ugc r1) ∙ starts_behind ugc (10 ∷ r1) at1 ∙ ap (λ (xs : List ℕ). more ++ xs) (start_moved _ _ r1 seam) in
     let h2 : drop at2 p ≡ r1 = behind p (ended ugc) r1 at1 h1 in
-    let e = pairs_stand g.pairs (all_from HasColumns g.pairs s.typed.1) (all_from IsPairWritten g.pairs s.written.pairs) p at2 r2 h2 in
+    let e = pairs_stand g.pairs (all_from HasColumns g.pairs s.typed.1) p at2 r2 h2 in
     let at3 = at2 + length (pairs_text g.pairs) in
     let h3 : drop at3 p ≡ r2 = behind p (pairs_text g.pairs) r2 at2 h2 in
     let o = body_ends_none local body l s.well p at3 r3 h3 in

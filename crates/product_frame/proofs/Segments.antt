@@ -10,12 +10,15 @@ use Rattle.ugc_codes.specs.Grammar.{IsUgc}
 use Rattle.ugc_codes.proofs.Lines.{read_is_ugc, ugc_is_read}
 use Rattle.product_frame.specs.Text.{line_of, is_empty, ends_in}
 use Rattle.product_frame.specs.Parts.{begins, has_slash, is_end}
-use Rattle.product_frame.specs.Events.{IsPair, pair_of}
-use Rattle.product_frame.proofs.Events.{pair_hit, pair_back}
+use Rattle.hazard_types.specs.declared.line.Flood.{Flood}
+use Rattle.hvtec_string.specs.Columns.{hvtec_of}
+use Rattle.hvtec_string.proofs.Laying.{hvtec_hit}
+use Rattle.product_frame.specs.Events.{pair_of}
+use Rattle.product_frame.proofs.Events.{vtec_has_slash, pair_hit, not_both, no_slash_no_hvtec}
 use Rattle.product_frame.specs.declared.frame.Pair.{Pair}
 use Rattle.product_frame.specs.Frames.{line_at}
-use Rattle.product_frame.specs.Walking.{at_outside, open_by, opened, at_pairs, at_rest, paired, staged, closed, skipped, step, by_stage, ended, walk, begun, segments_of}
-use Rattle.product_frame.specs.Grammar.{AreOutside, AreEvents, AreRest, HasNoSlash, IsSegment, AreSegments}
+use Rattle.product_frame.specs.Walking.{at_outside, open_by, opened, at_pairs, at_rest, paired, staged, closed, skipped, next_at, ahead, step, by_stage, ended, walk, begun, segments_of}
+use Rattle.product_frame.specs.Grammar.{AreOutside, HasFlood, IsPair, AreEvents, LacksFlood, AreRest, HasNoSlash, IsSegment, AreSegments}
 use Rattle.product_frame.specs.declared.frame.FrameSegment.{FrameSegment}
 use Rattle.product_frame.specs.declared.frame.FrameFault.{FrameFault}
 use Rattle.product_frame.specs.declared.walk.Walk.{Walk}
@@ -48,17 +51,51 @@ ugc_passed bytes (s ∷ ugc) more gs zs d ps first left number stage h =
     let sum : later.0 + length more ≡ number + 1 + length (ugc ++ more) = later.2 in
     (later.0, rw some later.1, omega (arith, sum))
 
-pub events_passed : (bytes events more : List ℕ) (pairs : List Pair) (gs : List FrameSegment) (zs : List Place) (d : DayStamp) (ps : List Pair) (first number : ℕ) → AreEvents bytes events pairs →
-    GoesOn bytes (state gs zs d ps first 0 Pairs) number (events ++ more) (state gs zs d (ps ++ pairs) first 0 Pairs) more
+-- a pair is taken, where the line behind a pair without flood values is no H-VTEC line
+pair_passed : (bytes lines : List ℕ) (p : Pair) (later : List ℕ) (gs : List FrameSegment) (zs : List Place) (d : DayStamp) (ps : List Pair) (first number : ℕ) → IsPair bytes lines p later → (p.flood ≡ None → hvtec_of (next_at bytes later) ≡ None) →
+    GoesOn bytes (state gs zs d ps first 0 Pairs) number lines (state gs zs d (ps ++ p ∷ []) first 0 Pairs) later
 unfolding step
-events_passed bytes [] more [] gs zs d ps first number h = (number, ap (λ (p : List Pair). walk bytes (state gs zs d p first 0 Pairs) number more) (sym (append-nil ps)), refl)
-events_passed bytes [] more (v ∷ pairs) gs zs d ps first number h = absurd h
-events_passed bytes (s ∷ events) more [] gs zs d ps first number h = absurd h
-events_passed bytes (s ∷ events) more (v ∷ pairs) gs zs d ps first number h =
-    let later = events_passed bytes events more pairs gs zs d (ps ++ v ∷ []) first (number + 1) h.1 in
-    let slash : has_slash (line_at bytes s) ≡ true = h.0.slash in
-    let sum : later.0 + length more ≡ number + 1 + length (events ++ more) = later.2 in
-    (later.0, rw (slash, pair_hit (line_at bytes s) v h.0) (later.1 ∙ ap (λ (p : List Pair). walk bytes (state gs zs d p first 0 Pairs) later.0 more) (append_assoc ps (v ∷ []) pairs)), omega (arith, sum))
+pair_passed bytes lines p later gs zs d ps first number is free =
+    let a = by is.next p.flood refl is.flood in
+    (a.0, ap (walk bytes (state gs zs d ps first 0 Pairs) number) is.whole ∙ a.1, a.2 ∙ ap (λ (l : List ℕ). number + length l) (sym is.whole))
+  where
+    slash : has_slash (line_at bytes is.at) ≡ true
+    slash = vtec_has_slash (line_at bytes is.at) p.vtec is.vtec
+
+    by : (next : List ℕ) (f : Option Flood) → p.flood ≡ f → HasFlood bytes next f → GoesOn bytes (state gs zs d ps first 0 Pairs) number (is.at ∷ (next ++ later)) (state gs zs d (ps ++ p ∷ []) first 0 Pairs) later
+    by [] None e h =
+        let hit = pair_hit (line_at bytes is.at) (next_at bytes later) p is.vtec (free e ∙ sym e) in
+        (number + 1, rw (slash, hit) (ap (λ (f : Option Flood). walk bytes (state gs zs d (ps ++ p ∷ []) first (ahead f) Pairs) (number + 1) later) e), omega arith)
+    by [] (Some f) e h = absurd h
+    by (t ∷ next) None e h = absurd h
+    by (t ∷ []) (Some f) e h =
+        let hit = pair_hit (line_at bytes is.at) (line_at bytes t) p is.vtec (hvtec_hit (line_at bytes t) f h ∙ sym e) in
+        (number + 1 + 1, rw (slash, hit) (ap (λ (f : Option Flood). walk bytes (state gs zs d (ps ++ p ∷ []) first (ahead f) Pairs) (number + 1) (t ∷ later)) e), omega arith)
+    by (t ∷ u ∷ next) (Some f) e h = absurd h
+
+pair_before : (bytes lines more : List ℕ) (p : Pair) (later : List ℕ) → IsPair bytes lines p later → IsPair bytes (lines ++ more) p (later ++ more)
+pair_before bytes lines more p later is = record {
+  at = is.at;
+  next = is.next;
+  whole = ap (λ (l : List ℕ). l ++ more) is.whole ∙ ap (λ (l : List ℕ). is.at ∷ l) (append_assoc is.next later more);
+  vtec = is.vtec;
+  flood = is.flood;
+}
+
+pub events_passed : (bytes events more : List ℕ) (pairs : List Pair) (gs : List FrameSegment) (zs : List Place) (d : DayStamp) (ps : List Pair) (first number : ℕ) → AreEvents bytes events pairs → (LacksFlood pairs → hvtec_of (next_at bytes more) ≡ None) →
+    GoesOn bytes (state gs zs d ps first 0 Pairs) number (events ++ more) (state gs zs d (ps ++ pairs) first 0 Pairs) more
+events_passed bytes events more [] gs zs d ps first number h free =
+    (number, ap (λ (l : List ℕ). walk bytes (state gs zs d ps first 0 Pairs) number (l ++ more)) h ∙ ap (λ (p : List Pair). walk bytes (state gs zs d p first 0 Pairs) number more) (sym (append-nil ps)), ap (λ (l : List ℕ). number + length (l ++ more)) (sym h))
+events_passed bytes events more (p ∷ []) gs zs d ps first number h free =
+    let a = pair_passed bytes (events ++ more) p (h.0 ++ more) gs zs d ps first number (pair_before bytes events more p h.0 h.1) (λ none. ap (λ (l : List ℕ). hvtec_of (next_at bytes (l ++ more))) h.2 ∙ free none) in
+    let b = events_passed bytes h.0 more [] gs zs d (ps ++ p ∷ []) first a.0 h.2 (λ none. absurd none) in
+    (b.0, a.1 ∙ b.1 ∙ ap (λ (q : List Pair). walk bytes (state gs zs d q first 0 Pairs) b.0 more) (append_assoc ps (p ∷ []) []), b.2 ∙ a.2)
+events_passed bytes events more (p ∷ q ∷ pairs) gs zs d ps first number h free =
+    let next = h.2.1 in
+    let other : hvtec_of (next_at bytes (h.0 ++ more)) ≡ None = ap (λ (l : List ℕ). hvtec_of (next_at bytes (l ++ more))) next.whole ∙ not_both (line_at bytes next.at) q.vtec next.vtec in
+    let a = pair_passed bytes (events ++ more) p (h.0 ++ more) gs zs d ps first number (pair_before bytes events more p h.0 h.1) (λ none. other) in
+    let b = events_passed bytes h.0 more (q ∷ pairs) gs zs d (ps ++ p ∷ []) first a.0 h.2 free in
+    (b.0, a.1 ∙ b.1 ∙ ap (λ (r : List Pair). walk bytes (state gs zs d r first 0 Pairs) b.0 more) (append_assoc ps (p ∷ []) (q ∷ pairs)), b.2 ∙ a.2)
 
 abbrev pub done : List FrameSegment → List Place → DayStamp → List Pair → List FrameSegment
 done gs zs d ps = gs ++ record { zones = zs; expiry = d; pairs = ps } ∷ []
@@ -94,7 +131,7 @@ segment_passed bytes lines later g is gs zs d ps first number =
     let a = outside_passed bytes is.outside (is.start ∷ (is.ugc ++ (is.events ++ (is.others ++ is.end ∷ later)))) gs zs d ps first number is.passed in
     let b = begin_passed bytes (is.ugc ++ (is.events ++ (is.others ++ is.end ∷ later))) is.start is.used g.zones g.expiry gs zs d ps first a.0 is.begun is.zones is.fills in
     let c = ugc_passed bytes is.ugc (is.events ++ (is.others ++ is.end ∷ later)) gs g.zones g.expiry [] a.0 (ends_in (take is.used (drop is.start bytes))) b.0 Pairs is.more in
-    let e = events_passed bytes is.events (is.others ++ is.end ∷ later) g.pairs gs g.zones g.expiry [] a.0 c.0 is.pairs in
+    let e = events_passed bytes is.events (is.others ++ is.end ∷ later) g.pairs gs g.zones g.expiry [] a.0 c.0 is.pairs (λ none. no_slash_no_hvtec bytes (is.others ++ is.end ∷ later) is.behind) in
     let f = behind_passed bytes is.others is.end later gs g.zones g.expiry g.pairs a.0 e.0 is.behind is.rest is.ended in
     let size = ap (λ (l : List ℕ). number + length l) (sym is.whole) in
     ([], g.expiry, [], a.0, (f.0, ap (walk bytes (state gs zs d ps first 0 Outside) number) is.whole ∙ a.1 ∙ b.1 ∙ c.1 ∙ e.1 ∙ f.1, f.2 ∙ e.2 ∙ c.2 ∙ b.2 ∙ a.2 ∙ size))

@@ -14,7 +14,8 @@ use Rattle.ugc_codes.specs.Grammar.{IsSpan, IsUgc, AreGroups, HasCode, last_code
 use Rattle.hazard_types.specs.Names.{kind_code, zone_text}
 use Rattle.hazard_types.specs.Digits.{three_digits, day_text}
 use Rattle.ugc_codes.specs.Written.{are_alike, goes_on, single, pieces, groups_from, groups, is_short, code_part, own_text, passes, put_text, put_column, lay, ugc_text}
-use Rattle.product_frame.specs.Text.{line_of, before, is_blank, is_left_out, is_empty}
+use Rattle.hazard_types.specs.Characters.{is_blank}
+use Rattle.product_frame.specs.Text.{line_of, before, is_left_out, is_empty}
 use Rattle.product_frame.specs.Parts.{begins}
 use Rattle.product_frame.proofs.Runs.{all_both, all_from}
 use Rattle.product_frame.proofs.LocalLines.{NoEnd, digit_no_end}

@@ -15,7 +15,9 @@ use Rattle.hazard_types.specs.declared.hazard.Sig.{Sig}
 use Rattle.hazard_types.specs.declared.hazard.Sig.TheVariants as sig
 use Rattle.hazard_types.specs.declared.line.Vtec.{Vtec}
 use Rattle.vtec_string.specs.Letters.{class_code, action_code, sig_code}
-use Rattle.vtec_string.specs.Columns.{is_office, four_digits, IsVtec, time_text, vtec_text}
+use Rattle.hazard_types.specs.Digits.{four_digits}
+use Rattle.hazard_types.specs.Times.{time_text}
+use Rattle.vtec_string.specs.Columns.{IsVtec, vtec_text}
 use Rattle.product_frame.specs.Text.{line_of}
 use Rattle.product_frame.specs.Parts.{has_slash}
 use Rattle.product_frame.specs.LineRules.{IsOneLine}
@@ -51,7 +53,7 @@ sig_line sig.F = (refl, tt)
 sig_line sig.O = (refl, tt)
 sig_line sig.N = (refl, tt)
 
-time_line : (t : Option ℕ) → IsOneLine (time_text t)
+pub time_line : (t : Option ℕ) → IsOneLine (time_text t)
 unfolding stamp_of
 time_line None = (refl, (refl, (refl, (refl, (refl, (refl, (refl, (refl, (refl, (refl, (refl, (refl, tt))))))))))))
 time_line (Some m) =
@@ -91,7 +93,7 @@ names_line (c ∷ t) h = let p = and_parts (is_capital c || is_digit c) (list_al
 four_line : (n : ℕ) → IsOneLine (four_digits n)
 four_line n = (digit_no_end (n / 1000), (digit_no_end (n / 100 % 10), (digit_no_end (n / 10 % 10), (digit_no_end (n % 10), tt))))
 
-letters_line : (t : List ℕ) → length t ≡ 2 → are_letters t ≡ true → IsOneLine t
+pub letters_line : (t : List ℕ) → length t ≡ 2 → are_letters t ≡ true → IsOneLine t
 letters_line t two h =
     let p = and_parts (is_capital (slice_index t 0)) (is_capital (slice_index t 1)) h in
     subst IsOneLine (sym (two_of t two)) (capital_no_end (slice_index t 0) p.0, (capital_no_end (slice_index t 1) p.1, tt))

@@ -6,9 +6,12 @@ use Rattle.hazard_types.specs.declared.calendar.DayStamp.{DayStamp}
 use Rattle.ugc_codes.specs.Grammar.{IsUgc}
 use Rattle.product_frame.specs.Text.{starts, starts_from, line_of, is_empty, ends_in}
 use Rattle.product_frame.specs.Parts.{begins, has_slash, heading_of, is_identifier}
-use Rattle.product_frame.specs.Events.{IsPair}
+use Rattle.hazard_types.specs.declared.line.Vtec.{Vtec}
+use Rattle.hazard_types.specs.declared.line.Flood.{Flood}
+use Rattle.vtec_string.specs.Columns.{IsVtec}
+use Rattle.hvtec_string.specs.Columns.{IsHvtec}
 use Rattle.product_frame.specs.Frames.{line_at, heading_index, full_index, issue_in, product_in}
-use Rattle.product_frame.specs.Grammar.{AreOutside, AreEvents, AreRest, HasNoSlash, IsSegment}
+use Rattle.product_frame.specs.Grammar.{AreOutside, AreEvents, LacksFlood, AreRest, HasNoSlash, IsSegment}
 use Rattle.product_frame.specs.declared.frame.Heading.{Heading}
 use Rattle.product_frame.specs.declared.frame.Pair.{Pair}
 use Rattle.product_frame.specs.declared.frame.FrameSegment.{FrameSegment}
@@ -33,7 +36,7 @@ pub record Opens (rest : List ℕ) (ends : ℕ) : Type 0 where
   pub fills : is_empty (line_of (drop used rest)) ≡ true
   pub ends_are : ends ≡ ends_in (take used rest)
 
--- behind a UGC text of so many line ends stand P-VTEC lines, and then a line that begins with / and is none; from it on these lines are left
+-- behind a UGC text of so many line ends stand pairs, and then a line that begins with / and is neither a P-VTEC line nor the H-VTEC line of the pair before it; from it on these lines are left
 pub record StopsAtVtec (bytes lines : List ℕ) (ends : ℕ) (left : List ℕ) : Type 0 where
   pub ugc : List ℕ
   pub events : List ℕ
@@ -45,16 +48,17 @@ pub record StopsAtVtec (bytes lines : List ℕ) (ends : ℕ) (left : List ℕ) :
   pub size : length ugc ≡ ends
   pub spelled : AreEvents bytes events pairs
   pub slash : has_slash (line_at bytes at) ≡ true
-  pub none : (p : Pair) → IsPair (line_at bytes at) p → ⊥
+  pub no_vtec : (v : Vtec) → IsVtec (line_at bytes at) v → ⊥
+  pub no_flood : LacksFlood pairs → (h : Flood) → IsHvtec (line_at bytes at) h → ⊥
 
--- behind a UGC text of so many line ends stand P-VTEC lines and other lines, none of them $$; a product may end within the text's own lines
+-- behind a UGC text of so many line ends stand pairs and other lines, none of them $$
 pub record HasNoEnd (bytes lines : List ℕ) (ends : ℕ) : Type 0 where
   pub ugc : List ℕ
   pub events : List ℕ
   pub pairs : List Pair
   pub others : List ℕ
   pub whole : lines ≡ ugc ++ (events ++ others)
-  pub size : (length ugc ≡ ends) ⊎ ((length ugc < ends) × (events ++ others ≡ []))
+  pub size : length ugc ≡ ends
   pub spelled : AreEvents bytes events pairs
   pub behind : HasNoSlash bytes others
   pub rest : AreRest bytes others

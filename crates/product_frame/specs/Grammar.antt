@@ -4,7 +4,9 @@ use Rattle.std.specs.List.{AllByRecursion}
 use Rattle.ugc_codes.specs.Grammar.{IsUgc}
 use Rattle.product_frame.specs.Text.{line_of, is_empty, ends_in}
 use Rattle.product_frame.specs.Parts.{begins, has_slash, is_end}
-use Rattle.product_frame.specs.Events.{IsPair}
+use Rattle.hazard_types.specs.declared.line.Flood.{Flood}
+use Rattle.vtec_string.specs.Columns.{IsVtec}
+use Rattle.hvtec_string.specs.Columns.{IsHvtec}
 use Rattle.product_frame.specs.declared.frame.Pair.{Pair}
 use Rattle.product_frame.specs.Frames.{line_at}
 use Rattle.product_frame.specs.declared.frame.FrameSegment.{FrameSegment}
@@ -13,12 +15,32 @@ use Rattle.product_frame.specs.declared.frame.FrameSegment.{FrameSegment}
 abbrev pub AreOutside : List ℕ → List ℕ → Type 0
 AreOutside bytes = AllByRecursion (λ s. begins (line_at bytes s) ≡ false)
 
--- each of these lines is a P-VTEC line, and these are their values
+-- one H-VTEC line with these flood values, or no line where there are none
+abbrev pub HasFlood : List ℕ → List ℕ → Option Flood → Type 0
+HasFlood bytes [] None = Unit {0}
+HasFlood bytes [] (Some h) = ⊥
+HasFlood bytes (s ∷ lines) None = ⊥
+HasFlood bytes (s ∷ []) (Some h) = IsHvtec (line_at bytes s) h
+HasFlood bytes (s ∷ t ∷ lines) (Some h) = ⊥
+
+-- a pair: a P-VTEC line, and behind it the H-VTEC line of its flood values, if it has any; later are the lines behind these
+pub record IsPair (bytes lines : List ℕ) (p : Pair) (later : List ℕ) : Type 0 where
+  pub at : ℕ
+  pub next : List ℕ
+  pub whole : lines ≡ at ∷ (next ++ later)
+  pub vtec : IsVtec (line_at bytes at) p.vtec
+  pub flood : HasFlood bytes next p.flood
+
+-- these lines are P-VTEC lines, each with at most one H-VTEC line behind it, and these are their values
 abbrev pub AreEvents : List ℕ → List ℕ → List Pair → Type 0
-AreEvents bytes [] [] = Unit {0}
-AreEvents bytes [] (p ∷ pairs) = ⊥
-AreEvents bytes (s ∷ lines) [] = ⊥
-AreEvents bytes (s ∷ lines) (p ∷ pairs) = IsPair (line_at bytes s) p × AreEvents bytes lines pairs
+AreEvents bytes lines [] = lines ≡ []
+AreEvents bytes lines (p ∷ pairs) = (later : List ℕ) × IsPair bytes lines p later × AreEvents bytes later pairs
+
+-- the last of these pairs is without flood values
+abbrev pub LacksFlood : List Pair → Type 0
+LacksFlood [] = ⊥
+LacksFlood (p ∷ []) = p.flood ≡ None
+LacksFlood (p ∷ q ∷ pairs) = LacksFlood (q ∷ pairs)
 
 -- none of these lines is $$
 abbrev pub AreRest : List ℕ → List ℕ → Type 0

@@ -4,7 +4,9 @@ use Rattle.hazard_types.specs.Places.{Place}
 use Rattle.hazard_types.specs.declared.calendar.DayStamp.{DayStamp}
 use Rattle.hazard_types.specs.Digits.{day_text}
 use Rattle.ugc_codes.specs.Written.{ugc_text}
+use Rattle.hazard_types.specs.declared.line.Flood.{Flood}
 use Rattle.vtec_string.specs.Columns.{vtec_text}
+use Rattle.hvtec_string.specs.Columns.{hvtec_text}
 use Rattle.product_frame.specs.declared.frame.Heading.{Heading}
 use Rattle.product_frame.specs.declared.frame.Pair.{Pair}
 use Rattle.product_frame.specs.declared.frame.FrameSegment.{FrameSegment}
@@ -25,10 +27,15 @@ letters_text (Some letters) = 32 ∷ letters
 abbrev pub heading_text : Heading → List ℕ
 heading_text h = h.ttaaii ++ codes " " ++ h.office ++ codes " " ++ day_text h.day ++ letters_text h.bbb
 
--- a line for each pair
+-- the H-VTEC line, where there are flood values
+abbrev pub flood_text : Option Flood → List ℕ
+flood_text None = []
+flood_text (Some h) = ended (hvtec_text h)
+
+-- the P-VTEC line of each pair, and its H-VTEC line behind it
 abbrev pub pairs_text : List Pair → List ℕ
 pairs_text [] = []
-pairs_text (p ∷ pairs) = ended (vtec_text p.vtec) ++ pairs_text pairs
+pairs_text (p ∷ pairs) = ended (vtec_text p.vtec) ++ (flood_text p.flood ++ pairs_text pairs)
 
 -- the names and their end, where there are names
 abbrev pub names_text : List ℕ → List ℕ

@@ -3,12 +3,15 @@ use Rattle.std.specs.Prelude.{◌≡◌, ℕ, ◌<◌, ◌≤◌, ◌==◌, ◌&
 use Rattle.std.specs.List.{All, AllByRecursion, list_all}
 use Rattle.std.specs.List.Sorted.{IsStrictlySortedBy}
 use Rattle.hazard_types.specs.Calendar.{is_digit}
+use Rattle.hazard_types.specs.Characters.{is_office, is_location}
 use Rattle.hazard_types.specs.Places.{Place, is_capital, by_place}
 use Rattle.hazard_types.specs.declared.codes.LocalZone.{LocalZone}
 use Rattle.ugc_codes.specs.Grammar.{IsUgc}
 use Rattle.hazard_types.specs.Digits.{is_day_stamp}
 use Rattle.ugc_codes.specs.Written.{ugc_text}
-use Rattle.vtec_string.specs.Columns.{is_office, IsVtec, vtec_text}
+use Rattle.hazard_types.specs.declared.line.Flood.{Flood}
+use Rattle.vtec_string.specs.Columns.{IsVtec, vtec_text}
+use Rattle.hvtec_string.specs.Columns.{IsHvtec, hvtec_text}
 use Rattle.desk_clock.specs.DayStamps.{IsNear}
 use Rattle.desk_clock.specs.LocalText.{local_line_of}
 use Rattle.product_frame.specs.Text.{line_of}
@@ -61,11 +64,16 @@ pub record IsHeading (h : Heading) : Type 0 where
   pub day : is_day_stamp h.day ≡ true
   pub letters : are_three h.bbb ≡ true
 
--- an office and a number of their form, and no H-VTEC line
+-- a location of its form, where there are flood values
+abbrev pub HasLocation : Option Flood → Type 0
+HasLocation None = Unit {0}
+HasLocation (Some h) = IsTrue (is_location h.site)
+
+-- an office, a number and a location of their form
 pub record IsPairWritten (p : Pair) : Type 0 where
   pub office : IsTrue (is_office p.vtec.office)
   pub number : p.vtec.etn ≤ 9999
-  pub flood : p.flood ≡ None
+  pub location : HasLocation p.flood
 
 -- zones in order, each once, of which there is one at least, an expiry, and pairs
 pub record IsSegmentWritten (g : FrameSegment) : Type 0 where
@@ -99,9 +107,14 @@ pub record IsWritable (f : Frame) (block : Block) (bodies : List Body) : Type 0 
   pub zone : LocalZone
   pub local : block.local ≡ local_line_of zone f.issue
 
--- the text of the values has their columns
+-- the text of flood values has their columns
+abbrev pub HasFloodColumns : Option Flood → Type 0
+HasFloodColumns None = Unit {0}
+HasFloodColumns (Some h) = IsHvtec (hvtec_text h) h
+
+-- the texts of the values have their columns
 abbrev pub HasColumns : Pair → Type 0
-HasColumns p = IsVtec (vtec_text p.vtec) p.vtec
+HasColumns p = IsVtec (vtec_text p.vtec) p.vtec × HasFloodColumns p.flood
 
 -- the written texts read back, whatever bytes follow
 abbrev pub ReadsBack : FrameSegment → Type 0

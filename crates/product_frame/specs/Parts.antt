@@ -4,21 +4,18 @@ use Rattle.std.specs.List.{list_all}
 use Rattle.desk_clock.specs.LocalForm.{read_of}
 use Rattle.desk_clock.specs.declared.reading.LocalFault.{LocalFault}
 use Rattle.hazard_types.specs.Calendar.{is_digit}
+use Rattle.hazard_types.specs.Characters.{is_name_byte, is_blank}
 use Rattle.hazard_types.specs.Places.{is_capital}
 use Rattle.hazard_types.specs.declared.calendar.DayStamp.{DayStamp}
 use Rattle.hazard_types.specs.Digits.{day_stamp_in}
-use Rattle.product_frame.specs.Text.{is_blank}
 use Rattle.product_frame.specs.declared.frame.Heading.{Heading}
-
-abbrev pub is_name : ℕ → Bool
-is_name c = is_capital c || is_digit c
 
 -- four capital letters and two digits
 abbrev pub is_ttaaii : List ℕ → Bool
 is_ttaaii b = is_capital (slice_index b 0) && is_capital (slice_index b 1) && is_capital (slice_index b 2) && is_capital (slice_index b 3) && is_digit (slice_index b 4) && is_digit (slice_index b 5)
 
-abbrev pub is_office : List ℕ → Bool
-is_office b = is_name (slice_index b 7) && is_name (slice_index b 8) && is_name (slice_index b 9) && is_name (slice_index b 10)
+abbrev pub has_office : List ℕ → Bool
+has_office b = is_name_byte (slice_index b 7) && is_name_byte (slice_index b 8) && is_name_byte (slice_index b 9) && is_name_byte (slice_index b 10)
 
 abbrev pub is_bbb : List ℕ → ℕ → Bool
 is_bbb b i = is_capital (slice_index b i) && is_capital (slice_index b (i + 1)) && is_capital (slice_index b (i + 2))
@@ -31,7 +28,7 @@ heading_with b bbb d = record { ttaaii = slice_index b 0 ∷ slice_index b 1 ∷
 
 -- what stands before the day stamp
 abbrev pub is_front : List ℕ → Bool
-is_front line = is_ttaaii line && is_blank (slice_index line 6) && is_office line && is_blank (slice_index line 11)
+is_front line = is_ttaaii line && is_blank (slice_index line 6) && has_office line && is_blank (slice_index line 11)
 
 -- WWUS41 KLWX 031530
 unfoldable pub heading_by : List ℕ → Option (List ℕ) → Option Heading
@@ -45,7 +42,7 @@ heading_of line =
 
 -- three capital letters and one to three of A to Z and 0 to 9
 abbrev pub is_identifier : List ℕ → Bool
-is_identifier line = nat_le 4 (length line) && nat_le (length line) 6 && is_bbb line 0 && list_all is_name (drop 3 line)
+is_identifier line = nat_le 4 (length line) && nat_le (length line) 6 && is_bbb line 0 && list_all is_name_byte (drop 3 line)
 
 -- a line that begins a segment: MDZ003- or MDZ003>
 abbrev pub begins : List ℕ → Bool

@@ -8,6 +8,7 @@ use Rattle.hazard_types.specs.declared.or.Or.{Or}
 use Rattle.hazard_types.specs.declared.or.Or.TheVariants.{No, OutOfMemory}
 use Rattle.product_frame.specs.Text.{line_of, is_empty, ends_in}
 use Rattle.product_frame.specs.Parts.{begins, has_slash, is_end}
+use Rattle.hazard_types.specs.declared.line.Flood.{Flood}
 use Rattle.product_frame.specs.Events.{pair_of}
 use Rattle.product_frame.specs.declared.frame.Pair.{Pair}
 use Rattle.product_frame.specs.declared.frame.FrameSegment.{FrameSegment}
@@ -40,27 +41,37 @@ closed w = record { segments = w.segments ++ record { zones = w.zones; expiry = 
 abbrev pub at_rest : Walk → List ℕ → Result Walk FrameFault
 at_rest w line = if is_end line then Ok (closed w) else Ok (staged w Rest)
 
+-- the first of these lines, if there is one
+abbrev pub next_at : List ℕ → List ℕ → List ℕ
+next_at bytes [] = []
+next_at bytes (s ∷ lines) = line_of (drop s bytes)
+
+-- an H-VTEC line is read with the line before it
+abbrev pub ahead : Option Flood → ℕ
+ahead None = 0
+ahead (Some h) = 1
+
 abbrev pub with_pair : Walk → Pair → Walk
-with_pair w p = record { segments = w.segments; zones = w.zones; expiry = w.expiry; pairs = w.pairs ++ p ∷ []; first = w.first; left = w.left; stage = w.stage }
+with_pair w p = record { segments = w.segments; zones = w.zones; expiry = w.expiry; pairs = w.pairs ++ p ∷ []; first = w.first; left = ahead p.flood; stage = w.stage }
 
 abbrev pub paired : Walk → ℕ → Option Pair → Result Walk FrameFault
 paired w number None = Err (BadVtec number)
 paired w number (Some p) = Ok (with_pair w p)
 
-abbrev pub at_pairs : Walk → ℕ → List ℕ → Result Walk FrameFault
-at_pairs w number line = if has_slash line then paired w number (pair_of line) else at_rest w line
+abbrev pub at_pairs : Walk → ℕ → List ℕ → List ℕ → Result Walk FrameFault
+at_pairs w number line next = if has_slash line then paired w number (pair_of line next) else at_rest w line
 
-abbrev pub by_stage : Walk → ℕ → List ℕ → Stage → Result Walk FrameFault
-by_stage w number rest Outside = at_outside w number rest
-by_stage w number rest Pairs = at_pairs w number (line_of rest)
-by_stage w number rest Rest = at_rest w (line_of rest)
+abbrev pub by_stage : Walk → ℕ → List ℕ → List ℕ → Stage → Result Walk FrameFault
+by_stage w number rest next Outside = at_outside w number rest
+by_stage w number rest next Pairs = at_pairs w number (line_of rest) next
+by_stage w number rest next Rest = at_rest w (line_of rest)
 
 abbrev pub skipped : Walk → Walk
 skipped w = record { segments = w.segments; zones = w.zones; expiry = w.expiry; pairs = w.pairs; first = w.first; left = w.left - 1; stage = w.stage }
 
--- one line, of which rest is what stands from it on
-unfoldable pub step : Walk → ℕ → List ℕ → Result Walk FrameFault
-step w number rest = if w.left == 0 then by_stage w number rest w.stage else Ok (skipped w)
+-- one line, of which rest is what stands from it on, and the line behind it
+unfoldable pub step : Walk → ℕ → List ℕ → List ℕ → Result Walk FrameFault
+step w number rest next = if w.left == 0 then by_stage w number rest next w.stage else Ok (skipped w)
 
 abbrev pub ended : Walk → Stage → Result (List FrameSegment) FrameFault
 ended w Outside = Ok w.segments
@@ -69,7 +80,7 @@ ended w Rest = Err (NoSegmentEnd w.first)
 
 abbrev pub walk : List ℕ → Walk → ℕ → List ℕ → Result (List FrameSegment) FrameFault
 walk bytes w number [] = ended w w.stage
-walk bytes w number (s ∷ starts) = step w number (drop s bytes) >>= λ v. walk bytes v (number + 1) starts
+walk bytes w number (s ∷ starts) = step w number (drop s bytes) (next_at bytes starts) >>= λ v. walk bytes v (number + 1) starts
 
 -- what a step did
 abbrev pub MovesBy : Or FrameFault → Result Walk FrameFault → Type 0

@@ -11,7 +11,7 @@ pub struct Heading {
     pub bbb: Option<[u8; 3]>,
 }
 
-/// A P-VTEC line, and the values of the H-VTEC line behind it. No H-VTEC line is taken yet.
+/// The values of a P-VTEC line, and those of the H-VTEC line behind it, if there is one.
 #[derive(Clone, Copy, Debug, PartialEq, Eq)]
 pub struct Pair {
     pub vtec: Vtec,
@@ -46,6 +46,7 @@ pub enum FrameFault {
     NoSegmentEnd { line: usize },
     /// The zones that begin on this line are no UGC text, or do not fill their last line.
     BadUgc { line: usize },
-    /// This line begins with `/` and is no P-VTEC text.
+    /// This line begins with `/` where pairs stand, and is neither a P-VTEC text nor the one H-VTEC
+    /// text behind such a line.
     BadVtec { line: usize },
 }

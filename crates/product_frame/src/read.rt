@@ -1,9 +1,9 @@
 //! Frames are read.
 ghost use Rattle.std.specs.Prelude.{◌≡◌, ◌⊎◌, ℕ, List as Seq, ◌≤◌, ◌<◌, ◌^◌, ◌+◌, length, [], ◌∷◌, drop, IfOk, IfSome, take};
-ghost use Rattle.std.specs.List.{All, list_all};
+ghost use Rattle.std.specs.List.{All};
 ghost use Rattle.hazard_types.specs.Given.{Gives};
 ghost use Rattle.product_frame.specs.Text.{starts, starts_from};
-ghost use Rattle.product_frame.specs.Parts.{is_name, is_front, is_bbb, heading_by, heading_of, is_identifier, local_at};
+ghost use Rattle.product_frame.specs.Parts.{is_front, is_bbb, heading_by, heading_of, is_identifier, local_at};
 ghost use Rattle.product_frame.specs.Nearness.{is_near};
 ghost use Rattle.std.specs.Prelude.{Ok};
 ghost use Rattle.product_frame.specs.Frame.{FrameOf};
@@ -13,17 +13,13 @@ ghost use Rattle.product_frame.specs.Faults.{FrameFaultOf};
 ghost use Rattle.product_frame.specs.Frames.{heading_index, full_index, issue_in, end_by, product_in, behind, named, frame_in, frame_from, frame_of};
 
 use crate::frame::{Frame, FrameFault, Heading};
-use crate::text::{is_blank, line_of, starts};
+use crate::text::{line_of, starts};
 use crate::walk::walk_lines;
 use desk_clock::{near, read_local_line};
-use hazard_types::{DayStamp, List, Minute, Oom, Or, Text, day_stamp_in};
+use hazard_types::{
+    DayStamp, List, Minute, Oom, Or, Text, are_name_bytes, day_stamp_in, is_blank, is_name_byte,
+};
 use std::alloc::Global;
-
-fn is_name(c: u8) -> bool
-    ensures { result ≡ is_name c }
-{
-    c.is_ascii_uppercase() || c.is_ascii_digit()
-}
 
 fn is_front(line: &[u8]) -> bool
     requires { 12 ≤ length line.now }
@@ -36,10 +32,10 @@ fn is_front(line: &[u8]) -> bool
         && line[4].is_ascii_digit()
         && line[5].is_ascii_digit()
         && is_blank(line[6])
-        && is_name(line[7])
-        && is_name(line[8])
-        && is_name(line[9])
-        && is_name(line[10])
+        && is_name_byte(line[7])
+        && is_name_byte(line[8])
+        && is_name_byte(line[9])
+        && is_name_byte(line[10])
         && is_blank(line[11])
 }
 
@@ -88,13 +84,7 @@ pub fn heading_of(line: &[u8]) -> Option<Heading>
 fn is_identifier(line: &[u8]) -> bool
     ensures { result ≡ is_identifier line.now }
 {
-    line.len() >= 4 && line.len() <= 6 && is_bbb(line, 0) && are_names(&line[3..])
-}
-
-fn are_names(bytes: &[u8]) -> bool
-    ensures { result ≡ list_all is_name bytes.now }
-{
-    bytes.iter().all(|c| is_name(*c))
+    line.len() >= 4 && line.len() <= 6 && is_bbb(line, 0) && are_name_bytes(&line[3..])
 }
 
 /// The minute that a line reads as, if it is a local line.

@@ -1,182 +1,165 @@
-//! Texts as they are transmitted, and texts with a fault.
-ghost use Rattle.std.specs.Prelude.{◌≡◌};
+//! A frame with two segments is written, and read back.
+ghost use Rattle.std.specs.Prelude.{◌≡◌, [], ◌∷◌, IfOk, length};
+ghost use Rattle.std.specs.List.{All};
+ghost use Rattle.product_frame.specs.LineRules.{IsPairWritten, IsSegmentWritten, IsBody};
 
-use crate::{Block, Frame, FrameFault, Heading, frame_text, read_frame, split_products};
+use crate::{Block, Body, Frame, FrameSegment, Heading, Pair, frame_text, read_frame};
 use desk_clock::local_line;
-use hazard_types::{DayStamp, List, LocalZone, Minute, Or, Text, read_stamp};
+use hazard_types::{DayStamp, List, LocalZone, Minute, Text};
+use hvtec_string::read_hvtec;
 use std::alloc::Global;
 use std::test::Fail;
+use ugc_codes::read_ugc;
+use vtec_string::read_vtec;
 
-/// A text with five zones and one P-VTEC line.
-const WINTER: &[u8] =
-    b"WWUS41 KLWX 031530\nWSWLWX\n\nURGENT - WINTER WEATHER MESSAGE\nNational Weather Service Baltimore MD/Washington DC\n1030 AM EST Wed Jan 3 2018\n\nMDZ003>006-VAZ028-032330-\n/O.NEW.KLWX.WS.W.0001.180103T1530Z-180104T0000Z/\nWashington-Frederick-Carroll-Northern Baltimore-Frederick-\n1030 AM EST Wed Jan 3 2018\n\n...Winter Storm Warning in effect until 700 PM EST Wed Jan 3...\n\n* WHAT...Heavy snow.\n\n$$\n\n";
+/// A heading with three letters, a segment with two pairs and their H-VTEC lines, and a segment with
+/// a pair that has none.
+const STATEMENT: &[u8] =
+    b"WGUS81 KLWX 031530 CCA\nFLSLWX\n\nFLOOD STATEMENT\nNational Weather Service Sterling\n1030 AM EST Wed Jan 3 2018\n\nMDC005-032330-\n/O.CON.KLWX.FL.W.0001.000000T0000Z-180105T0000Z/\n/PTTP1.1.ER.180103T1200Z.180104T0600Z.180105T0000Z.NO/\n/O.NEW.KLWX.FL.Y.0002.180103T1800Z-000000T0000Z/\n/00000.0.ER.000000T0000Z.000000T0000Z.000000T0000Z.OO/\nBaltimore-\n1030 AM EST Wed Jan 3 2018\n\nThe warning goes on.\n\n$$\n\nMDZ003-004-040030-\n/O.NEW.KLWX.WI.Y.0003.180103T1800Z-180103T2300Z/\nWashington-Frederick-\n1030 AM EST Wed Jan 3 2018\n\n* WHAT...Wind.\n\n$$\n\n";
 
-/// The same hazard in one zone, as a training office writes it.
-const TRAINING: &[u8] =
-    b"XXXX00 KLWX 031530\nWSWLWX\n\nURGENT - WINTER WEATHER MESSAGE\nTraining office\n330 PM UTC Wed Jan 3 2018\n\nMDZ003-032330-\n/T.NEW.KLWX.WS.W.0001.180103T1530Z-180104T0000Z/\n330 PM UTC Wed Jan 3 2018\n\n...Winter Storm Warning in effect until 1200 AM UTC Thu Jan 4...\n\n$$\n\n";
-
-/// A line before the heading, a second zone's time, a polygon, initials, and CR CR LF.
-const IOWA: &[u8] =
-    b"000\r\r\nWWUS43 KDMX 031630\r\r\nWSWDMX\r\r\n\r\r\nURGENT - WINTER WEATHER MESSAGE\r\r\nNational Weather Service Des Moines IA\r\r\n1030 AM CST /1130 AM EST/ Wed Jan 3 2018\r\r\n\r\r\nIAZ004>006-032300-\r\r\n/O.NEW.KDMX.WW.Y.0003.180103T1800Z-180104T0600Z/\r\r\nEmmet-Kossuth-Winnebago-\r\r\n1030 AM CST Wed Jan 3 2018\r\r\n\r\r\nLAT...LON 4330 9600 4330 9500\r\r\n\r\r\n$$\r\r\nAB\r\r\n";
-
-/// Each of the three texts is read as one segment with one pair.
-#[test]
-fn reads_the_texts_of_offices(rt: HostRuntime) {
-    let alloc = rt.alloc();
-    for (text, identifier, office, issue, zones, number) in [
-        (WINTER, &b"WSWLWX"[..], *b"KLWX", &b"180103T1530Z"[..], 5, 1),
-        (
-            TRAINING,
-            &b"WSWLWX"[..],
-            *b"KLWX",
-            &b"180103T1530Z"[..],
-            1,
-            1,
-        ),
-        (IOWA, &b"WSWDMX"[..], *b"KDMX", &b"180103T1630Z"[..], 3, 3),
-    ] {
-        match read_frame(alloc, text) {
-            Ok(frame) => {
-                assert_eq!(rt; frame.identifier.as_slice(), identifier);
-                assert!(rt; frame.heading.office == office && frame.heading.bbb.is_none());
-                assert_eq!(rt; Some(frame.issue), read_stamp(issue));
-                assert_eq!(rt; frame.segments.len(), 1);
-                for segment in frame.segments.as_slice() {
-                    assert_eq!(rt; segment.zones.len(), zones);
-                    for pair in segment.pairs.as_slice() {
-                        assert_eq!(rt; pair.vtec.etn, number);
-                    }
-                    assert_eq!(rt; segment.pairs.len(), 1);
-                }
-            }
-            Err(_) => assert!(rt; false, "{text:?}"),
-        }
-    }
-}
-
-/// The first fault of each text, with its line.
-#[test]
-fn names_the_first_fault(rt: HostRuntime) {
-    let alloc = rt.alloc();
-    for (text, fault) in [
-        (&b""[..], FrameFault::NoHeading),
-        (&b"WWUS41 klwx 031530\n"[..], FrameFault::NoHeading),
-        (&b"WWUS41 KLWX 031560\n"[..], FrameFault::NoHeading),
-        (
-            &b"WWUS41 KLWX 031530 CC\nWSWLWX\n"[..],
-            FrameFault::NoHeading,
-        ),
-        (
-            &b"000\nWWUS41 KLWX 031530\n\n"[..],
-            FrameFault::NoIdentifier,
-        ),
-        (&b"WWUS41 KLWX 031530\nwsw\n"[..], FrameFault::NoIdentifier),
-        (
-            &b"WWUS41 KLWX 031530\nWSWLWX\n\nURGENT\n"[..],
-            FrameFault::NoIssueTime,
-        ),
-        // The next product's local line is not this one's.
-        (
-            &b"WWUS41 KLWX 031530\nWSWLWX\nWWUS41 KLWX 031530\n1030 AM EST Wed Jan 3 2018\n"[..],
-            FrameFault::NoIssueTime,
-        ),
-        (
-            &b"WWUS41 KLWX 031530\nWSWLWX\n1030 AM EST Thu Jan 4 2018\n"[..],
-            FrameFault::IssueDisagrees,
-        ),
-    ] {
-        match read_frame(alloc, text) {
-            Err(Or::No(found)) => assert_eq!(rt; found, fault, "{text:?}"),
-            _ => assert!(rt; false, "{text:?}"),
-        }
-    }
-}
-
-/// Faults of segments. Lines count from the heading, which stands on the text's second line here.
-#[test]
-fn names_faults_of_segments(rt: HostRuntime) {
-    let alloc = rt.alloc();
-    for (text, fault) in [
-        (
-            &b"\nWWUS41 KLWX 031530\nWSWLWX\n1030 AM EST Wed Jan 3 2018\nMDZ003-\n032330-\nnames\n"[..],
-            FrameFault::NoSegmentEnd { line: 4 },
-        ),
-        (
-            &b"\nWWUS41 KLWX 031530\nWSWLWX\n1030 AM EST Wed Jan 3 2018\nMDZ003-032330-\n$$ AB\n"[..],
-            FrameFault::NoSegmentEnd { line: 4 },
-        ),
-        (
-            &b"\nWWUS41 KLWX 031530\nWSWLWX\n1030 AM EST Wed Jan 3 2018\nMDZ003-032330-\nWWUS41 KLWX 031530\n$$\n"[..],
-            FrameFault::NoSegmentEnd { line: 4 },
-        ),
-        (
-            &b"\nWWUS41 KLWX 031530\nWSWLWX\n1030 AM EST Wed Jan 3 2018\n\nMDZ003-03233O-\n$$\n"[..],
-            FrameFault::BadUgc { line: 5 },
-        ),
-        (
-            &b"\nWWUS41 KLWX 031530\nWSWLWX\n1030 AM EST Wed Jan 3 2018\nMDZ003-\n032330-AB\n$$\n"[..],
-            FrameFault::BadUgc { line: 4 },
-        ),
-        (
-            &b"\nWWUS41 KLWX 031530\nWSWLWX\n1030 AM EST Wed Jan 3 2018\nMDZ003-\n032330-\n/X/\n$$\n"[..],
-            FrameFault::BadVtec { line: 6 },
-        ),
-        // An H-VTEC line is no P-VTEC line.
-        (
-            &b"\nWWUS41 KLWX 031530\nWSWLWX\n1030 AM EST Wed Jan 3 2018\nMDC005-032330-\n/O.NEW.KLWX.FL.W.0001.180103T1530Z-000000T0000Z/\n/00000.1.ER.000000T0000Z.000000T0000Z.000000T0000Z.OO/\n$$\n"[..],
-            FrameFault::BadVtec { line: 6 },
-        ),
-    ] {
-        match read_frame(alloc, text) {
-            Err(Or::No(found)) => assert_eq!(rt; found, fault, "{text:?}"),
-            _ => assert!(rt; false, "{text:?}"),
-        }
-    }
-}
-
-/// The text of a product without segments, at 2018-01-03 15:30.
-fn bare_text(alloc: Global, issue: Minute) -> Result<Text, Fail>
-    requires { issue ≡ 9471810 }
+fn two<T: Drop>(alloc: Global, first: T, second: T) -> Result<List<T>, Fail>
+    ensures { IfOk result (λ list. list ≡ first ∷ second ∷ []) }
 {
+    let mut list = List::new(alloc);
+    list.push(first)?;
+    list.push(second)?;
+    Ok(list)
+}
+
+/// The pair of a P-VTEC text.
+fn pair(vtec: &[u8]) -> Result<Pair, Fail>
+    ensures { IfOk result IsPairWritten }
+{
+    match read_vtec(vtec) {
+        Some(vtec) => Ok(Pair { vtec, flood: None }),
+        None => Err(Fail::from("no P-VTEC text")),
+    }
+}
+
+/// The pair of a P-VTEC text and an H-VTEC text.
+fn flood_pair(vtec: &[u8], flood: &[u8]) -> Result<Pair, Fail>
+    ensures { IfOk result IsPairWritten }
+{
+    let pair = pair(vtec)?;
+    match read_hvtec(flood) {
+        Some(flood) => Ok(Pair {
+            vtec: pair.vtec,
+            flood: Some(flood),
+        }),
+        None => Err(Fail::from("no H-VTEC text")),
+    }
+}
+
+/// The segment of a UGC text.
+fn segment(alloc: Global, ugc: &[u8], pairs: List<Pair>) -> Result<FrameSegment, Fail>
+    requires { All IsPairWritten pairs }
+    ensures { IfOk result IsSegmentWritten }
+{
+    match read_ugc(alloc, ugc) {
+        Ok(read) => Ok(FrameSegment {
+            zones: read.zones,
+            expiry: read.expiry,
+            pairs,
+        }),
+        Err(_fault) => Err(Fail::from("no UGC text")),
+    }
+}
+
+fn body(alloc: Global, names: &[u8], text: &[u8]) -> Result<Body, Fail>
+    requires { IsBody (record { names = names.now; text = text.now }) }
+    ensures { IfOk result IsBody }
+{
+    let names = List::from_slice(alloc, names)?;
+    let text = List::from_slice(alloc, text)?;
+    Ok(Body { names, text })
+}
+
+/// The text of a statement of 2018-01-03 15:30, and whether it reads back as the frame that was written.
+fn statement(
+    alloc: Global,
+    issue: Minute,
+    segments: List<FrameSegment>,
+    bodies: List<Body>,
+) -> Result<(Text, bool), Fail>
+    requires minute { issue ≡ 9471810 }
+    requires segments { All IsSegmentWritten segments }
+    requires bodies { All IsBody bodies }
+    requires as_many { length bodies ≡ length segments }
+{
+    let identifier = List::from_slice(alloc, b"FLSLWX")?;
     let day = DayStamp {
         day: 3,
         hour: 15,
         minute: 30,
     };
     let heading = Heading {
-        ttaaii: *b"XXXX00",
+        ttaaii: *b"WGUS81",
         office: *b"KLWX",
         day,
-        bbb: None,
+        bbb: Some(*b"CCA"),
     };
-    let identifier = List::from_slice(alloc, b"WSWLWX")?;
     let frame = Frame {
         heading,
         identifier,
         issue,
-        segments: List::new(alloc),
+        segments,
     };
-    let name = List::from_slice(alloc, b"URGENT")?;
-    let office_line = List::from_slice(alloc, b"Training office")?;
+    let name = List::from_slice(alloc, b"FLOOD STATEMENT")?;
+    let office_line = List::from_slice(alloc, b"National Weather Service Sterling")?;
+    let local = local_line(alloc, LocalZone::Eastern, issue)?;
     let block = Block {
         name,
         office_line,
-        local: local_line(alloc, LocalZone::Utc, issue)?,
+        local,
     };
-    Ok(frame_text(alloc, &frame, &block, &List::new(alloc))?)
+    let text = frame_text(alloc, &frame, &block, &bodies)?;
+    let same = match read_frame(alloc, text.as_slice()) {
+        Ok(read) => read == frame,
+        Err(_fault) => false,
+    };
+    Ok((text, same))
 }
 
-/// A frame is written, and is the one product of its text.
+fn segments(alloc: Global) -> Result<List<FrameSegment>, Fail>
+    ensures written { IfOk result (λ list. All IsSegmentWritten list) }
+    ensures two { IfOk result (λ list. length list ≡ 2) }
+{
+    let warning = flood_pair(
+        b"/O.CON.KLWX.FL.W.0001.000000T0000Z-180105T0000Z/",
+        b"/PTTP1.1.ER.180103T1200Z.180104T0600Z.180105T0000Z.NO/",
+    )?;
+    let advisory = flood_pair(
+        b"/O.NEW.KLWX.FL.Y.0002.180103T1800Z-000000T0000Z/",
+        b"/00000.0.ER.000000T0000Z.000000T0000Z.000000T0000Z.OO/",
+    )?;
+    let floods = List::from_slice(alloc, &[warning, advisory])?;
+    let wind = pair(b"/O.NEW.KLWX.WI.Y.0003.180103T1800Z-180103T2300Z/")?;
+    let winds = List::from_slice(alloc, &[wind])?;
+    let first = segment(alloc, b"MDC005-032330-", floods)?;
+    let second = segment(alloc, b"MDZ003-004-040030-", winds)?;
+    two(alloc, first, second)
+}
+
+fn bodies(alloc: Global) -> Result<List<Body>, Fail>
+    ensures written { IfOk result (λ list. All IsBody list) }
+    ensures two { IfOk result (λ list. length list ≡ 2) }
+{
+    let first = body(alloc, b"Baltimore-", b"The warning goes on.\n\n")?;
+    let second = body(alloc, b"Washington-Frederick-", b"* WHAT...Wind.\n\n")?;
+    two(alloc, first, second)
+}
+
+/// Each line stands where it is to stand, and the text reads back.
 #[test]
-fn writes_a_frame(rt: HostRuntime) -> Result<(), Fail> {
+fn writes_two_segments(rt: HostRuntime) -> Result<(), Fail> {
     let alloc = rt.alloc();
     let Some(issue) = Minute::new(9_471_810) else {
         return Ok(());
     };
-    let text = bare_text(alloc, issue)?;
-    let wanted =
-        b"XXXX00 KLWX 031530\nWSWLWX\n\nURGENT\nTraining office\n330 PM UTC Wed Jan 3 2018\n\n";
-    assert_eq!(rt; text.as_slice(), wanted.as_slice());
-    assert_eq!(rt; split_products(alloc, text.as_slice())?.len(), 1);
+    let segments = segments(alloc)?;
+    let bodies = bodies(alloc)?;
+    let (text, same) = statement(alloc, issue, segments, bodies)?;
+    assert_eq!(rt; text.as_slice(), STATEMENT);
+    assert!(rt; same);
     Ok(())
 }

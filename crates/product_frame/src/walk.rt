@@ -6,14 +6,15 @@ ghost use Rattle.std.specs.Prelude.{List as Seq, Ok};
 ghost use Rattle.product_frame.specs.declared.frame.FrameSegment.{FrameSegment as FrameSegmentValue};
 ghost use Rattle.product_frame.specs.Grammar.{AreSegments};
 ghost use Rattle.product_frame.specs.Parts.{begins, has_slash, is_end};
-ghost use Rattle.product_frame.specs.Events.{vtec_of, pair_of};
+ghost use Rattle.product_frame.specs.Events.{pair_of};
 ghost use Rattle.product_frame.specs.Frames.{or_fault};
 ghost use Rattle.product_frame.specs.declared.frame.FrameFault.TheVariants.{BadVtec};
-ghost use Rattle.product_frame.specs.Walking.{IsBadUgc, with_pair, at_outside, at_rest, at_pairs, step, ended, segments_of, Moves};
+ghost use Rattle.product_frame.specs.Walking.{IsBadUgc, ahead, next_at, with_pair, at_outside, at_rest, at_pairs, step, ended, segments_of, Moves};
 
 use crate::frame::{FrameFault, FrameSegment, Pair};
 use crate::text::{ends_in, line_of};
-use hazard_types::{DayStamp, List, Or, Vtec, Zone};
+use hazard_types::{DayStamp, Flood, List, Or, Zone};
+use hvtec_string::read_hvtec;
 use std::alloc::Global;
 use std::mem;
 use ugc_codes::{UgcFault, read_ugc};
@@ -36,32 +37,26 @@ pub struct Walk {
     pub pairs: List<Pair>,
     /// The line of the segment's UGC.
     pub first: usize,
-    /// How many lines of the UGC are left.
+    /// How many lines come next that were read ahead: of the UGC, or an H-VTEC line.
     pub left: usize,
     pub stage: Stage,
 }
 
-/// The values of a P-VTEC line.
-fn vtec_of(line: &[u8]) -> Option<Vtec>
-    ensures { result ≡ vtec_of line.now }
-{
-    read_vtec(line)
-}
-
-/// The pair of a P-VTEC line.
+/// The pair of a P-VTEC line and the line behind it.
 #[tactic(auto, unfolding(crate::specs::Events::pair_of))]
-fn pair_of(line: &[u8]) -> Option<Pair>
-    ensures { result ≡ pair_of line.now }
+fn pair_of(line: &[u8], next: &[u8]) -> Option<Pair>
+    ensures { result ≡ pair_of line.now next.now }
 {
-    let vtec = vtec_of(line)?;
-    Some(Pair { vtec, flood: None })
+    let vtec = read_vtec(line)?;
+    let flood = read_hvtec(next);
+    Some(Pair { vtec, flood })
 }
 
 /// The pair of a line that begins with `/`, or that it is none.
-fn pair_or_fault(line: &[u8], number: usize) -> Result<Pair, Or<FrameFault>>
-    ensures { Gives result (or_fault (pair_of line.now) (BadVtec number) (λ p. Ok p)) }
+fn pair_or_fault(line: &[u8], next: &[u8], number: usize) -> Result<Pair, Or<FrameFault>>
+    ensures { Gives result (or_fault (pair_of line.now next.now) (BadVtec number) (λ p. Ok p)) }
 {
-    match pair_of(line) {
+    match pair_of(line, next) {
         Some(pair) => Ok(pair),
         None => Err(Or::No(FrameFault::BadVtec { line: number })),
     }
@@ -150,11 +145,33 @@ fn at_rest(alloc: Global, walk: &mut Walk, line: &[u8]) -> Result<(), Or<FrameFa
     Ok(())
 }
 
-/// One pair more.
+/// The first of the lines that begin at these places; empty where there is none.
+fn next_at<'a>(bytes: &'a [u8], starts: &[usize]) -> &'a [u8]
+    requires { All (λ start. start ≤ length bytes.now) starts.now }
+    ensures { result.now ≡ next_at bytes.now starts.now }
+{
+    match starts {
+        [start, ..] => line_of(&bytes[*start..]),
+        [] => &[],
+    }
+}
+
+/// How many lines an H-VTEC text makes.
+fn ahead(flood: &Option<Flood>) -> usize
+    ensures { result ≡ ahead flood.now }
+{
+    match flood {
+        Some(_flood) => 1,
+        None => 0,
+    }
+}
+
+/// One pair more, whose H-VTEC line, if it has one, comes next.
 fn add_pair(walk: &mut Walk, pair: &Pair) -> Result<(), Or<FrameFault>>
     ensures { Moves result walk.new (Ok (with_pair walk.old pair.now)) }
 {
     walk.pairs.extend(&[*pair])?;
+    walk.left = ahead(&pair.flood);
     Ok(())
 }
 
@@ -164,29 +181,40 @@ fn at_pairs(
     walk: &mut Walk,
     number: usize,
     line: &[u8],
+    next: &[u8],
 ) -> Result<(), Or<FrameFault>>
-    ensures { Moves result walk.new (at_pairs walk.old number line.now) }
+    ensures { Moves result walk.new (at_pairs walk.old number line.now next.now) }
 {
     if !has_slash(line) {
         return at_rest(alloc, walk, line);
     }
-    match pair_or_fault(line, number) {
+    match pair_or_fault(line, next, number) {
         Ok(pair) => add_pair(walk, &pair),
         Err(fault) => Err(fault),
     }
 }
 
 #[tactic(auto, unfolding(crate::specs::Walking::step))]
-fn step(alloc: Global, walk: &mut Walk, number: usize, rest: &[u8]) -> Result<(), Or<FrameFault>>
-    ensures { Moves result walk.new (step walk.old number rest.now) }
+fn step(
+    alloc: Global,
+    walk: &mut Walk,
+    number: usize,
+    bytes: &[u8],
+    start: usize,
+    later: &[usize],
+) -> Result<(), Or<FrameFault>>
+    requires start { start ≤ length bytes.now }
+    requires within { All (λ start. start ≤ length bytes.now) later.now }
+    ensures { Moves result walk.new (step walk.old number (drop start bytes.now) (next_at bytes.now later.now)) }
 {
     if walk.left > 0 {
         walk.left -= 1;
         return Ok(());
     }
+    let rest = &bytes[start..];
     match walk.stage {
         Stage::Outside => at_outside(alloc, walk, number, rest),
-        Stage::Pairs => at_pairs(alloc, walk, number, line_of(rest)),
+        Stage::Pairs => at_pairs(alloc, walk, number, line_of(rest), next_at(bytes, later)),
         Stage::Rest => at_rest(alloc, walk, line_of(rest)),
     }
 }
@@ -226,7 +254,14 @@ fn walk_over(
         stage: Stage::Outside,
     };
     for (i, start) in starts.iter().enumerate() {
-        step(alloc, &mut walk, number + i, &bytes[*start..])?;
+        step(
+            alloc,
+            &mut walk,
+            number + i,
+            bytes,
+            *start,
+            &starts[i + 1..],
+        )?;
     }
     ended(walk)
 }

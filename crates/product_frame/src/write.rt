@@ -1,13 +1,15 @@
 //! Texts are written for frames.
 ghost use Rattle.std.specs.Prelude.{◌≡◌, ◌≤◌, ◌<◌, ◌++◌, ◌∷◌, [], length, IsTrue, IfOk, OnOk};
 ghost use Rattle.std.specs.List.{All};
-ghost use Rattle.hazard_types.specs.Digits.{is_day_stamp, two_digits, day_text};
-ghost use Rattle.product_frame.specs.Layout.{ended, letters_text, heading_text, pairs_text, names_text, body_text, segment_text, segments_text, block_text, layout_of};
+ghost use Rattle.hazard_types.specs.Digits.{is_day_stamp};
+ghost use Rattle.vtec_string.specs.Columns.{vtec_text};
+ghost use Rattle.product_frame.specs.Layout.{ended, letters_text, heading_text, flood_text, pairs_text, names_text, body_text, segment_text, segments_text, block_text, layout_of};
 ghost use Rattle.product_frame.specs.Frame.{FrameOf};
-ghost use Rattle.product_frame.specs.LineRules.{IsPairWritten, IsSegmentWritten, HasColumns, ReadsBack, IsWritable};
+ghost use Rattle.product_frame.specs.LineRules.{HasLocation, IsPairWritten, IsSegmentWritten, HasFloodColumns, HasColumns, ReadsBack, IsWritable};
 
 use crate::frame::{Frame, FrameSegment, Heading, Pair};
-use hazard_types::{DayStamp, List, Oom, Text};
+use hazard_types::{Flood, List, Oom, Text, day_text};
+use hvtec_string::hvtec_text;
 use std::alloc::Global;
 use ugc_codes::write_ugc;
 use vtec_string::vtec_text;
@@ -35,23 +37,6 @@ fn put_line(out: &mut Text, line: &[u8]) -> Result<(), Oom>
     out.push(b'\n')
 }
 
-fn two_digits(n: u8) -> [u8; 2]
-    requires { n < 100 }
-    ensures { result ≡ two_digits n }
-{
-    [b'0' + n / 10, b'0' + n % 10]
-}
-
-fn day_text(d: DayStamp) -> [u8; 6]
-    requires { IsTrue (is_day_stamp d) }
-    ensures { result ≡ day_text d }
-{
-    let day = two_digits(d.day);
-    let hour = two_digits(d.hour);
-    let minute = two_digits(d.minute);
-    [day[0], day[1], hour[0], hour[1], minute[0], minute[1]]
-}
-
 fn put_letters(out: &mut Text, letters: &Option<[u8; 3]>) -> Result<(), Oom>
     ensures { OnOk result (out.new ≡ out.old ++ letters_text letters.now) }
 {
@@ -74,13 +59,34 @@ fn heading_of(alloc: Global, h: &Heading) -> Result<Text, Oom>
     Ok(text)
 }
 
+fn put_flood(out: &mut Text, flood: &Option<Flood>) -> Result<(), Oom>
+    requires { HasLocation flood.now }
+    ensures value { OnOk result (out.new ≡ out.old ++ flood_text flood.now) }
+    ensures columns { OnOk result (HasFloodColumns flood.now) }
+{
+    match flood {
+        Some(flood) => put_line(out, &hvtec_text(flood)),
+        None => Ok(()),
+    }
+}
+
+/// The P-VTEC line of a pair, and its H-VTEC line behind it.
+fn put_pair(out: &mut Text, pair: &Pair) -> Result<(), Oom>
+    requires { IsPairWritten pair.now }
+    ensures value { OnOk result (out.new ≡ out.old ++ (ended (vtec_text pair.now.vtec) ++ flood_text pair.now.flood)) }
+    ensures columns { OnOk result (HasColumns pair.now) }
+{
+    put_line(out, &vtec_text(&pair.vtec))?;
+    put_flood(out, &pair.flood)
+}
+
 fn put_pairs(out: &mut Text, pairs: &List<Pair>) -> Result<(), Oom>
     requires { All IsPairWritten pairs.now }
     ensures value { OnOk result (out.new ≡ out.old ++ pairs_text pairs.now) }
     ensures columns { OnOk result (All HasColumns pairs.now) }
 {
     for pair in pairs.as_slice() {
-        put_line(out, &vtec_text(&pair.vtec))?;
+        put_pair(out, pair)?;
     }
     Ok(())
 }

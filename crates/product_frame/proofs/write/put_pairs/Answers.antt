@@ -1,6 +1,5 @@
-use Rattle.std.proofs.Common.{List, ℕ, subst, rules, arith}
+use Rattle.std.proofs.Common.{rules, arith}
 use Rattle.std.proofs.lemmas.Grind.{common_steps}
-use Rattle.vtec_string.specs.Columns.{IsVtec}
 use Rattle.product_frame.specs.LineRules.{HasColumns}
 use Rattle.product_frame.proofs.Runs.{one_more, all_done}
 use Rattle.product_frame.proofs.write.put_pairs.Goals as goal
@@ -8,8 +7,7 @@ use Rattle.product_frame.proofs.write.put_pairs.Goals as goal
 pub loop-pair-preserved : goal.loop-pair-preserved
 loop-pair-preserved c = record {
   whole = first_of (grind (arith, common_steps), search rules);
-  columns = one_more HasColumns c.as_slice-pair-items.result.now c.loop-pair.pair-index c.pair-item.result c.loop-pair-test.true c.pair-item.is
-      (subst (λ (t : List ℕ). IsVtec t c.pair-item.result.vtec) c.vtec_text.ensures.value c.vtec_text.ensures.columns) c.loop-pair.invariant.columns;
+  columns = one_more HasColumns c.as_slice-pair-items.result.now c.loop-pair.pair-index c.pair-item.result c.loop-pair-test.true c.pair-item.is (search rules) c.loop-pair.invariant.columns;
 }
 
 pub returns-clause-columns : goal.returns-clause-columns
