@@ -1,0 +1,6 @@
+pub mod Sizes
+pub mod Digits
+pub mod Folding
+pub mod Fronts
+pub mod Causes
+pub mod Streams
