@@ -97,7 +97,7 @@ bad_refusal bytes g bad h head e =
 -- two refusals are the same, but where F1 and F2 both hold
 pub one_refusal : (bytes : List ℕ) (f g : Refusal) → IsRefused bytes f → IsRefused bytes g
     → (f ≡ g) ⊎ (IsBadHead bytes × IsTooLong bytes
-      × (((f ≡ BadHead) × (g ≡ HeadTooLong)) ⊎ ((f ≡ HeadTooLong) × (g ≡ BadHead))))
+    × (((f ≡ BadHead) × (g ≡ HeadTooLong)) ⊎ ((f ≡ HeadTooLong) × (g ≡ BadHead))))
 one_refusal bytes f g (inl a) (inl b) = inl (a.0 ∙ sym b.0)
 one_refusal bytes f g (inl a) (inr (inl b)) = inr (a.1, b.1, inl (a.0, b.0))
 one_refusal bytes f g (inl a) (inr (inr b)) = inl (a.0 ∙ sym (bad_refusal bytes g a.1 b.0 b.1 b.2))
@@ -130,7 +130,7 @@ refused_answer bytes read.More cause f x =
 refused_answer bytes (read.Refused g) cause f x = inl (of (one_refusal bytes g f cause x))
   where
     of : (g ≡ f) ⊎ (IsBadHead bytes × IsTooLong bytes
-          × (((g ≡ BadHead) × (f ≡ HeadTooLong)) ⊎ ((g ≡ HeadTooLong) × (f ≡ BadHead))))
+        × (((g ≡ BadHead) × (f ≡ HeadTooLong)) ⊎ ((g ≡ HeadTooLong) × (f ≡ BadHead))))
         → RefusedOr bytes f (read.Refused g)
     of (inl same) = inl (ap read.Refused same)
     of (inr (bad, long, inl e)) = inr (inl (bad, long, inl (ap read.Refused e.0)))
@@ -183,12 +183,12 @@ pub spans_cause : (bytes : List ℕ) (headers : List HeaderSpan) (spans : Reques
 spans_cause bytes headers spans h at few =
     let front = take most_bytes bytes in
     let head : IsHead bytes h =
-        record { rest = _; reads = at.reads; few = few_fields front headers spans h at few } in
+    record { rest = _; reads = at.reads; few = few_fields front headers spans h at few } in
     let same : wanted_at front headers spans ≡ wanted_by h =
-        ap (λ (m : List ℕ). wanted m (span_bytes front spans.path) spans.version (pairs_at front headers spans)) at.method
-        ∙ ap (λ (p : List ℕ). wanted h.method p spans.version (pairs_at front headers spans)) at.path
-        ∙ ap (λ (n : ℕ). wanted h.method h.target n (pairs_at front headers spans)) at.version
-        ∙ ap (λ (f : List Pair). wanted h.method h.target h.minor f) at.fields in
+    ap (λ (m : List ℕ). wanted m (span_bytes front spans.path) spans.version (pairs_at front headers spans)) at.method
+    ∙ ap (λ (p : List ℕ). wanted h.method p spans.version (pairs_at front headers spans)) at.path
+    ∙ ap (λ (n : ℕ). wanted h.method h.target n (pairs_at front headers spans)) at.version
+    ∙ ap (λ (f : List Pair). wanted h.method h.target h.minor f) at.fields in
     rw (same, at.len) (whole_cause bytes h head (wanted_by h) refl)
 
 -- ---- the answers to a head, read from the first bytes
@@ -202,9 +202,9 @@ pub whole_answer : (bytes front : List ℕ) (headers : List HeaderSpan) (spans :
     → IsAnswer bytes answer
 whole_answer bytes front headers spans answer is says (inl e) =
     let at : IsRequestAt (take most_bytes bytes) headers spans says.0.0 =
-        subst (λ (b : List ℕ). IsRequestAt b headers spans says.0.0) is says.0.1 in
+    subst (λ (b : List ℕ). IsRequestAt b headers spans says.0.0) is says.0.1 in
     let f : answer ≡ answer_to spans.len (length bytes) (wanted_at (take most_bytes bytes) headers spans) =
-        e ∙ ap (λ (b : List ℕ). answer_to spans.len (length bytes) (wanted_at b headers spans)) is in
+    e ∙ ap (λ (b : List ℕ). answer_to spans.len (length bytes) (wanted_at b headers spans)) is in
     answers bytes answer (subst (Causes bytes) (sym f) (spans_cause bytes headers spans says.0.0 at says.2))
 whole_answer bytes front headers spans answer is says (inr e) = answers bytes answer (subst (Causes bytes) (sym e) tt)
 

@@ -24,7 +24,7 @@ reads_on n bytes h rest reads =
 pub never_on : (n : ℕ) (bytes : List ℕ) → NeverHasRequest (take n bytes) → NeverHasRequest bytes
 never_on n bytes never = λ more h rest reads.
     let e : take n bytes ++ (drop n bytes ++ more) ≡ bytes ++ more =
-        sym (append_assoc (take n bytes) (drop n bytes) more) ∙ ap (λ (b : List ℕ). b ++ more) (take-append-drop n bytes) in
+    sym (append_assoc (take n bytes) (drop n bytes) more) ∙ ap (λ (b : List ℕ). b ++ more) (take-append-drop n bytes) in
     never (drop n bytes ++ more) h rest (subst (λ (b : List ℕ). ReadsRequest b h rest) (sym e) reads)
 
 -- the first bytes of more bytes go on from the first of these
@@ -36,9 +36,11 @@ take_more n bytes more = of (cases_lt (length bytes) n)
         let k : ℕ = n - length bytes in
         let e : length bytes + k ≡ n = omega arith in
         let le : length bytes ≤ n = omega arith in
-        let all = take_all n bytes le in
-        (take k more, subst (λ (m : ℕ). take m (bytes ++ more) ≡ take n bytes ++ take k more) e
-          (take-append-add bytes more k ∙ ap (λ (b : List ℕ). b ++ take k more) (sym all)))
+        let all = take_all n bytes le in (
+          take k more,
+          subst (λ (m : ℕ). take m (bytes ++ more) ≡ take n bytes ++ take k more) e
+              (take-append-add bytes more k ∙ ap (λ (b : List ℕ). b ++ take k more) (sym all)),
+        )
     of (inr long) = ([], take-append-le n bytes more long ∙ sym (append-nil (take n bytes)))
 
 pub head_reads : (bytes : List ℕ) (h : RequestHead) → IsHead bytes h
@@ -79,7 +81,7 @@ not_too_long bytes h head (inl long) = long.1 h head.rest head.reads
 not_too_long bytes h head (inr many) =
     let e = (request_unique (take most_bytes bytes) many.0 h many.1 head.rest many.2 head.reads).0 in
     let few : length many.0.fields ≤ most_fields =
-        subst (λ (k : RequestHead). length k.fields ≤ most_fields) (sym e) head.few in
+    subst (λ (k : RequestHead). length k.fields ≤ most_fields) (sym e) head.few in
     omega arith
 
 pub bad_stays : (bytes more : List ℕ) → IsBadHead bytes → IsBadHead (bytes ++ more)

@@ -113,17 +113,17 @@ one_cut before bytes (c ∷ calls) rest [] other a b s t m n =
 one_cut before bytes (c ∷ calls) rest (d ∷ others) other a b s t m n =
     let e : c ≡ d = one_call bytes c d a.0 b.0 in
     let cut : IsCut (drop c.used bytes) others other =
-        subst (λ (k : ℕ). IsCut (drop k bytes) others other) (sym (ap (λ (k : Called). k.used) e)) b.2 in
+    subst (λ (k : ℕ). IsCut (drop k bytes) others other) (sym (ap (λ (k : Called). k.used) e)) b.2 in
     let same = one_cut (before + 1) (drop c.used bytes) calls rest others other a.2 cut
-        (λ k x stays few. s k x stays (omega (arith, few))) (λ k x stays few. t k x stays (omega (arith, few)))
-        (omega arith) (omega arith) in
+    (λ k x stays few. s k x stays (omega (arith, few))) (λ k x stays few. t k x stays (omega (arith, few)))
+    (omega arith) (omega arith) in
     ((cc (e, same.0)), same.1)
 
 refusal_alike : (rest : List ℕ) (f g : Refusal) → IsRefused rest f → IsRefused rest g → AreAlike (refused f) (refused g)
 refusal_alike rest f g x y = of (one_refusal rest f g x y)
   where
     of : (f ≡ g) ⊎ (IsBadHead rest × IsTooLong rest
-          × (((f ≡ BadHead) × (g ≡ HeadTooLong)) ⊎ ((f ≡ HeadTooLong) × (g ≡ BadHead))))
+        × (((f ≡ BadHead) × (g ≡ HeadTooLong)) ⊎ ((f ≡ HeadTooLong) × (g ≡ BadHead))))
         → AreAlike (refused f) (refused g)
     of (inl same) = inl (ap refused same)
     of (inr (bad, long, inl e)) = inr (inl (ap refused e.0, inl (ap refused e.1)))
@@ -163,11 +163,11 @@ pub one_stream : (bytes : List ℕ) (calls others : List Called) (stop other : S
 unfolding Stays
 one_stream bytes calls others stop other x y =
     let same = one_cut 0 bytes x.open_calls x.rest y.open_calls y.rest x.cut y.cut
-        (λ c k stays few. ends_stays x.open_calls x.rest calls stop x.ends c k stays (omega (arith, few)))
-        (λ c k stays few. ends_stays y.open_calls y.rest others other y.ends c k stays (omega (arith, few)))
-        (omega (arith, ends_few x.open_calls x.rest calls stop x.ends))
-        (omega (arith, ends_few y.open_calls y.rest others other y.ends)) in
+    (λ c k stays few. ends_stays x.open_calls x.rest calls stop x.ends c k stays (omega (arith, few)))
+    (λ c k stays few. ends_stays y.open_calls y.rest others other y.ends c k stays (omega (arith, few)))
+    (omega (arith, ends_few x.open_calls x.rest calls stop x.ends))
+    (omega (arith, ends_few y.open_calls y.rest others other y.ends)) in
     let ends : EndsAs x.open_calls x.rest others other =
-        subst (λ (b : List ℕ). EndsAs x.open_calls b others other) (sym same.1)
-        (subst (λ (l : List Called). EndsAs l y.rest others other) (sym same.0) y.ends) in
+    subst (λ (b : List ℕ). EndsAs x.open_calls b others other) (sym same.1)
+    (subst (λ (l : List Called). EndsAs l y.rest others other) (sym same.0) y.ends) in
     one_end x.open_calls x.rest calls others stop other x.ends ends

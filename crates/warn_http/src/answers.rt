@@ -22,6 +22,17 @@ pub const DISK_FAULT_STATUS: u16 = 500;
 /// The status of want of memory, M1.
 pub const NO_MEMORY_STATUS: u16 = 503;
 
+/// Whether a status is one of the desk's.
+#[tactic(auto, unfolding(crate::specs::Answers::is_status))]
+pub fn is_status(status: u16) -> bool
+    ensures { result ≡ is_status status }
+{
+    matches!(
+        status,
+        200 | 400 | 403 | 404 | 405 | 409 | 411 | 413 | 422 | 431 | 500 | 503
+    )
+}
+
 /// The status of a refusal.
 #[tactic(auto, unfolding(crate::specs::Answers::is_status))]
 pub fn refusal_status(refusal: &Refusal) -> u16

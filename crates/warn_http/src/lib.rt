@@ -11,7 +11,8 @@ mod routes;
 mod wants;
 
 pub use answers::{
-    ACCEPTED_STATUS, BodyKind, DISK_FAULT_STATUS, NO_MEMORY_STATUS, refusal_status, write_answer,
+    ACCEPTED_STATUS, BodyKind, DISK_FAULT_STATUS, NO_MEMORY_STATUS, is_status, refusal_status,
+    write_answer,
 };
 pub use laws::{calls_are_one, calls_go_on, calls_stay};
 pub use read::{Call, HttpRead, read_call};

@@ -8,7 +8,7 @@ loop-digit-preserved c =
     let digits = c.args.digits.now in
     let i = c.loop-digit.digit-index in
     let is : c.min-number.result ≡ min 4294967296 (10 * c.loop-digit.number + (get_or digits i 0 - 48)) =
-        c.min-number.ensures ∙ ap (λ (n : ℕ). min 4294967296 (10 * c.loop-digit.number + n)) c.from.ensures in
+    c.min-number.ensures ∙ ap (λ (n : ℕ). min 4294967296 (10 * c.loop-digit.number + n)) c.from.ensures in
     let step = capped_step 4294967296 c.loop-digit.number i digits c.loop-digit-test.true in
     record {
       low = omega arith;

@@ -12,4 +12,3 @@ returns c =
     let f = c.in_ok-insert-5.ensures in
     let h = c.in_ok-insert-6.ensures in
     rw (h.1, f.1, e.1, d.1, b.1, a.1, c.new-router.ensures) record { table = refl }
-
