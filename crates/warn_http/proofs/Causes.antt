@@ -11,13 +11,16 @@ use Rattle.hazard_types.specs.declared.refusal.Refusal.{Refusal}
 use Rattle.hazard_types.specs.declared.refusal.Refusal.TheVariants.{BadHead, HeadTooLong}
 use Rattle.warn_http.specs.Heads.{Pair, fields_of, most_bytes, most_fields, IsHead, IsBadHead, IsTooLong, IsCutHead}
 use Rattle.warn_http.specs.Wants.{wanted, wanted_by}
-use Rattle.warn_http.specs.Calls.{Called, called, as_read, IsCall, IsRefused, IsCutBody, IsUnfinished, Causes, IsAnswer, RefusedOr, MoreOr}
+use Rattle.warn_http.specs.Calls.{Called, called, as_read, IsCall, IsRefused, IsCutBody, IsUnfinished, Causes, LiesIn, IsWithin, call_at, IsAnswer, RefusedOr, MoreOr}
 use Rattle.warn_http.specs.Readings.{Says, pairs_at, wanted_at, answer_to}
 use Rattle.warn_http.specs.declared.heads.Head.{Head}
 use Rattle.warn_http.specs.declared.heads.Head.TheVariants as head_read
+use Rattle.warn_http.specs.declared.routes.Aim.{Aim}
+use Rattle.warn_http.specs.declared.routes.Aim.TheVariants as aim
 use Rattle.warn_http.specs.declared.wants.Wanted.{Wanted}
 use Rattle.warn_http.specs.declared.read.HttpRead.{HttpRead}
 use Rattle.warn_http.specs.declared.read.HttpRead.TheVariants as read
+use Rattle.warn_http.proofs.Sizes.{head_size}
 use Rattle.warn_http.proofs.Fronts.{reads_on, never_on, head_reads, head_stays, one_head, not_never, bad_head, not_too_long, bad_stays, long_stays}
 
 -- ---- of one head
@@ -146,12 +149,31 @@ more_answer bytes (read.Refused f) cause x =
     let u = cut_and_refused bytes f x cause in inl (inr (u.2, u.1, ap read.Refused u.0))
 more_answer bytes read.OutOfMemory cause x = inr refl
 
+lies : (asks : Aim) (size body used : ℕ) → used ≡ size + body → LiesIn used (call_at asks size body)
+lies aim.Post size body used e = (omega arith, omega arith)
+lies (aim.Look query) size body used e = tt
+
+within_answer : (bytes : List ℕ) (answer : HttpRead) → Causes bytes answer → IsWithin bytes answer
+within_answer bytes (read.Call call used last) cause =
+    let size : ℕ = length (print_request cause.head) in
+    let takes : used ≡ size + cause.wants.body = ap (λ (c : Called). c.used) cause.says in
+    let some = head_size cause.head cause.stands.reads.0.fields in
+    let whole = cause.whole in (
+      omega arith,
+      omega arith,
+      subst (LiesIn used) (sym (ap (λ (c : Called). c.call) cause.says)) (lies cause.wants.aim size cause.wants.body used takes),
+    )
+within_answer bytes read.More cause = tt
+within_answer bytes (read.Refused f) cause = tt
+within_answer bytes read.OutOfMemory cause = tt
+
 pub answers : (bytes : List ℕ) (answer : HttpRead) → Causes bytes answer → IsAnswer bytes answer
 answers bytes answer cause = record {
   cause = cause;
   call = call_answer bytes answer cause;
   refused = refused_answer bytes answer cause;
   more = more_answer bytes answer cause;
+  within = within_answer bytes answer cause;
 }
 
 -- ---- a whole head

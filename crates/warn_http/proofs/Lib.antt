@@ -4,3 +4,5 @@ pub mod Folding
 pub mod Fronts
 pub mod Causes
 pub mod Streams
+pub mod Paths
+pub mod Targets

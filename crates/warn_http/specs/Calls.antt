@@ -87,12 +87,24 @@ abbrev pub MoreOr : List ℕ → HttpRead → Type 0
 MoreOr bytes answer =
     (answer ≡ read.More) ⊎ (EndsInTarget bytes × IsBadHead bytes × (answer ≡ read.Refused BadHead))
 
+abbrev pub LiesIn : ℕ → Call → Type 0
+LiesIn used (Post span) = (span.from ≤ span.to) × (span.to ≤ used)
+LiesIn used (Look query) = ⊤
+
+-- a call takes bytes that are there, one or more, and the body of a POST lies in them
+abbrev pub IsWithin : List ℕ → HttpRead → Type 0
+IsWithin bytes (read.Call call used last) = (0 < used) × (used ≤ length bytes) × LiesIn used call
+IsWithin bytes read.More = ⊤
+IsWithin bytes (read.Refused refusal) = ⊤
+IsWithin bytes read.OutOfMemory = ⊤
+
 -- An answer comes exactly where it has its cause, unless memory is wanting.
 pub record IsAnswer (bytes : List ℕ) (answer : HttpRead) : Type 0 where
   pub cause : Causes bytes answer
   pub call : (c : Called) → IsCall bytes c → (answer ≡ as_read c) ⊎ (answer ≡ read.OutOfMemory)
   pub refused : (f : Refusal) → IsRefused bytes f → RefusedOr bytes f answer ⊎ (answer ≡ read.OutOfMemory)
   pub more : IsUnfinished bytes → MoreOr bytes answer ⊎ (answer ≡ read.OutOfMemory)
+  pub within : IsWithin bytes answer
 
 -- ---- the calls of a stream
 

@@ -1,7 +1,9 @@
 //! Laws of the calls of a byte stream. They have no code.
-ghost use Rattle.std.specs.Prelude.{◌≡◌, ◌⊎◌, ◌++◌, ℕ, true, false, List, [], ◌∷◌, drop};
+ghost use Rattle.std.specs.Prelude.{◌≡◌, ◌⊎◌, ◌++◌, ℕ, true, false, Some, List, [], ◌∷◌, drop};
 ghost use Rattle.hazard_types.specs.declared.refusal.Refusal.{Refusal};
 ghost use Rattle.warn_http.specs.Heads.{IsBadHead, IsTooLong};
+ghost use Rattle.warn_http.specs.Routes.{aim_of, IsPath};
+ghost use Rattle.warn_http.specs.declared.routes.Aim.{Aim};
 ghost use Rattle.warn_http.specs.Calls.{Called, IsCall, IsRefused, IsUnfinished, IsCut, Stop, AreCalls, IsFinal, AreAlike};
 
 /// What is a call on a front is the same call on every longer front, and what is refused stays refused.
@@ -24,3 +26,10 @@ pub fn calls_are_one()
 pub fn calls_go_on()
     ensures { (bytes : List ℕ) (calls : List Called) (rest : List ℕ) (c : Called) → IsCut bytes calls rest → IsCall rest c → c.last ≡ false → IsCut bytes (calls ++ c ∷ []) (drop c.used rest) }
 {}
+
+/// What the router finds for a path, and the number that it writes, are the paths of the desk.
+pub fn routes_are_paths()
+    ensures path { (path : List ℕ) (aim : Aim) → aim_of path ≡ Some aim → IsPath path aim }
+    ensures route { (path : List ℕ) (aim : Aim) → IsPath path aim → aim_of path ≡ Some aim }
+{
+}
