@@ -54,7 +54,7 @@ module _ {K : Type 0} where
   nothing zero (b ∷ path) =
       let k : ℕ = (param_step {K = K} [] (b ∷ path)).0 - 1 in
       let none : seek k (param_step {K = K} [] (b ∷ path)).1 path ≡ None =
-          ap (λ (rs : RowsOf K). seek k rs path) (no_param (b ∷ path)) ∙ nothing k path in
+      ap (λ (rs : RowsOf K). seek k rs path) (no_param (b ∷ path)) ∙ nothing k path in
       rw (nothing 0 path, none) refl
 
   past : (n : ℕ) (rs : RowsOf K) (path : List ℕ) → length path ≤ n → seek n rs path ≡ own rs
@@ -126,7 +126,7 @@ module _ {K : Type 0} where
     where
       of : (a b : Bool)
           → Has x (cond {A = ℕ × RowsOf K} a (length (segment path) - length (longest_suffix (segment path) rs), with_suffix (longest_suffix (segment path) rs) rs)
-            (cond {A = ℕ × RowsOf K} b (0, []) (length path, rs))).1
+          (cond {A = ℕ × RowsOf K} b (0, []) (length path, rs))).1
           → Has x rs
       of true b has = suffix_has (longest_suffix (segment path) rs) rs x has
       of false true has = absurd has
@@ -156,7 +156,7 @@ module _ {K : Type 0} where
           → seek ((param_step (step param_token rs) (b ∷ path)).0 - 1) (param_step (step param_token rs) (b ∷ path)).1 path ≡ p
           → (seek 0 (step b rs) path ≡ Some k → Found 0 (step b rs) path k)
           → (seek ((param_step (step param_token rs) (b ∷ path)).0 - 1) (param_step (step param_token rs) (b ∷ path)).1 path ≡ Some k
-            → Found ((param_step (step param_token rs) (b ∷ path)).0 - 1) (param_step (step param_token rs) (b ∷ path)).1 path k)
+          → Found ((param_step (step param_token rs) (b ∷ path)).0 - 1) (param_step (step param_token rs) (b ∷ path)).1 path k)
           → or_else o (or_else p (own (step catch_all_token rs))) ≡ Some k → Found 0 rs (b ∷ path) k
       literal (Some x) is p also more other e =
           let f = more (is ∙ e) in

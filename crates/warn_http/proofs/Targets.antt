@@ -198,25 +198,25 @@ product_path : (path digits : List ℕ) (n : ℕ) → path ≡ codes "/products/
     → aim_of path ≡ Some (Look (Product n))
 product_path path digits n e writes =
     rw e (number_path (codes "/products/") (row_value (open_ended (codes "/products/") (codes "n") place.Product)) Product digits n writes
-      (λ d digit. rw (no_token d 97 digit (omega arith), no_token d 256 digit (omega arith)) refl) refl refl)
+    (λ d digit. rw (no_token d 97 digit (omega arith), no_token d 256 digit (omega arith)) refl) refl refl)
 
 after_path : (path digits : List ℕ) (n : ℕ) → path ≡ codes "/products/after/" ++ digits → Writes digits n
     → aim_of path ≡ Some (Look (After n))
 after_path path digits n e writes =
     rw e (number_path (codes "/products/after/") (row_value (open_ended (codes "/products/after/") (codes "n") place.After)) After digits n writes
-      (λ d digit. rw (no_token d 256 digit (omega arith)) refl) refl refl)
+    (λ d digit. rw (no_token d 256 digit (omega arith)) refl) refl refl)
 
 draft_path : (path digits : List ℕ) (n : ℕ) → path ≡ codes "/drafts/" ++ digits → Writes digits n
     → aim_of path ≡ Some (Look (Draft n))
 draft_path path digits n e writes =
     rw e (number_path (codes "/drafts/") (row_value (open_ended (codes "/drafts/") (codes "id") place.Draft)) Draft digits n writes
-      (λ d digit. rw (no_token d 256 digit (omega arith)) refl) refl refl)
+    (λ d digit. rw (no_token d 256 digit (omega arith)) refl) refl refl)
 
 preview_path : (path digits : List ℕ) (n : ℕ) → path ≡ codes "/preview/" ++ digits → Writes digits n
     → aim_of path ≡ Some (Look (Preview n))
 preview_path path digits n e writes =
     rw e (number_path (codes "/preview/") (row_value (open_ended (codes "/preview/") (codes "id") place.Preview)) Preview digits n writes
-      (λ d digit. rw (no_token d 256 digit (omega arith)) refl) refl refl)
+    (λ d digit. rw (no_token d 256 digit (omega arith)) refl) refl refl)
 
 ends_here : (front : List ℕ) (route : RouteOf Place) → seek 0 (steps front desk_routes) [] ≡ Some route
     → first desk_routes front ≡ Some route

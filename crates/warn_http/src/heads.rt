@@ -57,13 +57,8 @@ pub fn read_head(alloc: Global, bytes: &[u8], headers: &mut [HeaderSpan; MOST_FI
 {
     match parse_request(bytes, headers.as_mut_slice()) {
         Ok(Status::Complete(spans)) => Head::Whole(spans),
-        Ok(Status::Partial) => {
-            if bytes.len() == MOST_BYTES {
-                Head::TooLong
-            } else {
-                Head::More
-            }
-        }
+        Ok(Status::Partial) if bytes.len() < MOST_BYTES => Head::More,
+        Ok(Status::Partial) => Head::TooLong,
         Err(Error::TooManyHeaders) => with_room(alloc, bytes),
         Err(_) => Head::Bad,
     }

@@ -31,5 +31,4 @@ pub fn calls_go_on()
 pub fn routes_are_paths()
     ensures path { (path : List ℕ) (aim : Aim) → aim_of path ≡ Some aim → IsPath path aim }
     ensures route { (path : List ℕ) (aim : Aim) → IsPath path aim → aim_of path ≡ Some aim }
-{
-}
+{}

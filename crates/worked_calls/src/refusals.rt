@@ -86,16 +86,26 @@ fn of_names(alloc: Global, name: &str) -> Option<Refusal> {
 
 /// What refuses a product for its events.
 fn of_events(name: &str) -> Option<Refusal> {
-    let event = event()?;
-    let zone = zone()?;
     let refusal = match name {
-        "NoEvent" => Refusal::NoEvent { event },
-        "NotLive" => Refusal::NotLive { event, zone },
-        "LeftBefore" => Refusal::LeftBefore { event, zone },
-        "Twice" => Refusal::Twice { event, zone },
-        "BegunMoved" => Refusal::BegunMoved { event, zone },
-        "SiteMoved" => Refusal::SiteMoved { event },
-        "NumberHeld" => Refusal::NumberHeld { event },
+        "NoEvent" => Refusal::NoEvent { event: event()? },
+        "NotLive" => Refusal::NotLive {
+            event: event()?,
+            zone: zone()?,
+        },
+        "LeftBefore" => Refusal::LeftBefore {
+            event: event()?,
+            zone: zone()?,
+        },
+        "Twice" => Refusal::Twice {
+            event: event()?,
+            zone: zone()?,
+        },
+        "BegunMoved" => Refusal::BegunMoved {
+            event: event()?,
+            zone: zone()?,
+        },
+        "SiteMoved" => Refusal::SiteMoved { event: event()? },
+        "NumberHeld" => Refusal::NumberHeld { event: event()? },
         _ => return None,
     };
     Some(refusal)
