@@ -1,19 +1,17 @@
 -- The causes of answers exclude each other, but where F1 may stand for F2 or for a rest.
-use Rattle.std.proofs.Common.{◌≡◌, ◌≢◌, ℕ, ◌+◌, ◌<◌, ◌≤◌, ◌⊎◌, inl, inr, Bool, true, false, List, [], ◌++◌, length, take, map, refl, ap, sym, ◌∙◌, subst, arith, length-append, Result, Ok, Err, min, nat_le, if◌then◌else◌}
+use Rattle.std.proofs.Common.{◌≡◌, ℕ, ◌+◌, ◌<◌, ◌≤◌, ◌⊎◌, inl, inr, Bool, true, false, List, [], length, take, refl, ap, sym, ◌∙◌, subst, arith, Result, Ok, Err, min, nat_le, if◌then◌else◌}
 use Rattle.std.proofs.lemmas.List.{length-map, length-take, take_all}
 use Rattle.std.proofs.lemmas.Bool.{leb-true, leb-false}
 use Rattle.httparse.specs.Grammar.{RequestHead, print_request, ReadsRequest, HasNoRequest, NeverHasRequest, MayBecomeRequest, EndsInTarget}
 use Rattle.httparse.specs.Spans.{IsRequestAt, span_bytes, header_bytes, name_and_value}
 use Rattle.httparse.specs.declared.spans.HeaderSpan.{HeaderSpan}
 use Rattle.httparse.specs.declared.spans.RequestSpans.{RequestSpans}
-use Rattle.httparse.proofs.GrammarLemmas.{ReadsRequest-append}
 use Rattle.hazard_types.specs.declared.refusal.Refusal.{Refusal}
 use Rattle.hazard_types.specs.declared.refusal.Refusal.TheVariants.{BadHead, HeadTooLong}
-use Rattle.warn_http.specs.Heads.{Pair, fields_of, most_bytes, most_fields, IsHead, IsBadHead, IsTooLong, IsCutHead}
+use Rattle.warn_http.specs.Heads.{Pair, most_bytes, most_fields, IsHead, IsBadHead, IsTooLong, IsCutHead}
 use Rattle.warn_http.specs.Wants.{wanted, wanted_by}
 use Rattle.warn_http.specs.Calls.{Called, called, as_read, IsCall, IsRefused, IsCutBody, IsUnfinished, Causes, LiesIn, IsWithin, call_at, IsAnswer, RefusedOr, MoreOr}
 use Rattle.warn_http.specs.Readings.{Says, pairs_at, wanted_at, answer_to}
-use Rattle.warn_http.specs.declared.heads.Head.{Head}
 use Rattle.warn_http.specs.declared.heads.Head.TheVariants as head_read
 use Rattle.warn_http.specs.declared.routes.Aim.{Aim}
 use Rattle.warn_http.specs.declared.routes.Aim.TheVariants as aim
@@ -21,7 +19,7 @@ use Rattle.warn_http.specs.declared.wants.Wanted.{Wanted}
 use Rattle.warn_http.specs.declared.read.HttpRead.{HttpRead}
 use Rattle.warn_http.specs.declared.read.HttpRead.TheVariants as read
 use Rattle.warn_http.proofs.Sizes.{head_size}
-use Rattle.warn_http.proofs.Fronts.{reads_on, never_on, head_reads, head_stays, one_head, not_never, bad_head, not_too_long, bad_stays, long_stays}
+use Rattle.warn_http.proofs.Fronts.{reads_on, never_on, head_reads, one_head, bad_head, not_too_long}
 
 -- ---- of one head
 

@@ -1,17 +1,15 @@
 -- Heads at the front of bytes: at most one, which more bytes do not change.
-use Rattle.std.proofs.Common.{◌≡◌, ◌≢◌, ℕ, suc, ◌+◌, ◌-◌, ◌<◌, ◌≤◌, ◌⊎◌, inl, inr, List, [], ◌∷◌, ◌++◌, length, take, drop, map, refl, ap, sym, ◌∙◌, subst, arith, append_assoc, length-append, Result, Ok, Err, rules}
+use Rattle.std.proofs.Common.{◌≡◌, ℕ, ◌+◌, ◌-◌, ◌<◌, ◌≤◌, ◌⊎◌, inl, inr, List, [], ◌++◌, length, take, drop, refl, ap, sym, ◌∙◌, subst, arith, append_assoc, length-append, Err}
 use mathlib.Core.List.{append-nil}
 use Rattle.std.proofs.lemmas.Bool.{cases_lt}
 use Rattle.std.proofs.lemmas.List.{take-append-drop, take-append-le, take_all}
 use Rattle.std.proofs.Math.Seq.{take-append-add}
-use Rattle.httparse.specs.Grammar.{RequestHead, print_request, ReadsRequest, HasNoRequest, NeverHasRequest}
+use Rattle.httparse.specs.Grammar.{RequestHead, ReadsRequest, HasNoRequest, NeverHasRequest}
 use Rattle.httparse.proofs.GrammarLemmas.{request_unique, ReadsRequest-append}
-use Rattle.hazard_types.specs.declared.refusal.Refusal.{Refusal}
 use Rattle.hazard_types.specs.declared.refusal.Refusal.TheVariants.{BadHead}
-use Rattle.warn_http.specs.Heads.{Pair, fields_of, stated, most_bytes, most_fields, IsHead, IsBadHead, IsTooLong}
+use Rattle.warn_http.specs.Heads.{fields_of, stated, most_bytes, most_fields, IsHead, IsBadHead, IsTooLong}
 use Rattle.warn_http.specs.Wants.{wanted, wanted_by}
 use Rattle.warn_http.specs.declared.fields.Stated.TheVariants.{Wrong}
-use Rattle.warn_http.specs.declared.wants.Wanted.{Wanted}
 
 -- a head of the first bytes is one of all of them
 pub reads_on : (n : ℕ) (bytes : List ℕ) (h : RequestHead) (rest : List ℕ)

@@ -1,25 +1,10 @@
 -- The router finds the desk's paths, and no others.
-use Rattle.std.proofs.Common.{◌≡◌, ◌≢◌, ℕ, zero, suc, ◌+◌, ◌-◌, ◌<◌, ◌≤◌, ◌⊎◌, inl, inr, Bool, true, false, ◌&&◌, ◌==◌, cond, List, [], ◌∷◌, ◌++◌, length, take, drop, codes, refl, ap, sym, ◌∙◌, subst, arith, Option, Some, None, ltb, if◌then◌else◌}
+use Rattle.std.proofs.Common.{◌≡◌, ℕ, zero, suc, ◌-◌, ◌≤◌, ◌⊎◌, inl, inr, Bool, true, false, ◌&&◌, ◌==◌, cond, List, [], ◌∷◌, ◌++◌, length, refl, ap, sym, ◌∙◌, subst, arith, Option, Some, None, ltb}
 use Rattle.std.specs.List.{list_all}
 use Rattle.std.specs.Str.{bytes_eq}
-use Rattle.std.proofs.lemmas.List.{take-append-drop}
-use Rattle.std.proofs.lemmas.Slice.Eq.{bytes_eq-Decides}
-use Rattle.std.proofs.Math.Seq.{take-append_seam, drop-append_seam}
 use Rattle.std.proofs.lemmas.Bool.Decides.{Decides-eqb}
 use Rattle.matchit.specs.Rows.{RowsOf, param_token, catch_all_token}
-use Rattle.matchit.specs.Router.{RouteOf}
-use Rattle.matchit.specs.Seek.{seek, param_step, first, own, step, or_else, has_slash, segment, longest_suffix, with_suffix}
-use Rattle.hazard_types.specs.Calendar.{is_digit}
-use Rattle.hazard_types.specs.declared.request.Query.{Query}
-use Rattle.hazard_types.specs.declared.request.Query.TheVariants.{Board, Product, After, Draft, Preview}
-use Rattle.warn_http.specs.Numbers.{are_digits, at_most, number_from, number_of}
-use Rattle.warn_http.specs.declared.numbers.Number.{Number}
-use Rattle.warn_http.specs.declared.numbers.Number.TheVariants.{NoNumber, TooLarge, Is}
-use Rattle.warn_http.specs.Routes.{desk_routes, number_behind, look_by, aim_at, aim_by, aim_of, Writes, IsPath}
-use Rattle.warn_http.specs.declared.routes.Place.{Place}
-use Rattle.warn_http.specs.declared.routes.Place.TheVariants as place
-use Rattle.warn_http.specs.declared.routes.Aim.{Aim}
-use Rattle.warn_http.specs.declared.routes.Aim.TheVariants.{Post, Look}
+use Rattle.matchit.specs.Seek.{seek, param_step, own, step, or_else, has_slash, segment, longest_suffix, with_suffix}
 
 -- a byte, and no parameter
 abbrev pub is_plain : List ℕ → Bool

@@ -1,13 +1,10 @@
 -- The calls of a stream: one list, which more bytes do not change, and to which one call is added.
-use Rattle.std.proofs.Common.{◌≡◌, ◌≢◌, ℕ, ◌+◌, ◌<◌, ◌≤◌, ◌⊎◌, inl, inr, Bool, true, false, List, [], ◌∷◌, ◌++◌, length, take, drop, refl, ap, sym, ◌∙◌, subst, arith, append_assoc, length-append, Result, Ok, Err}
+use Rattle.std.proofs.Common.{◌≡◌, ℕ, ◌+◌, ◌<◌, ◌≤◌, ◌⊎◌, inl, inr, true, false, List, [], ◌∷◌, ◌++◌, length, drop, refl, ap, sym, ◌∙◌, subst, arith, length-append}
 use Rattle.std.proofs.lemmas.List.{drop-append-le}
-use Rattle.httparse.specs.Grammar.{RequestHead, print_request, EndsInTarget}
 use Rattle.hazard_types.specs.declared.refusal.Refusal.{Refusal}
 use Rattle.hazard_types.specs.declared.refusal.Refusal.TheVariants.{BadHead, HeadTooLong}
-use Rattle.warn_http.specs.Heads.{IsHead, IsBadHead, IsTooLong, IsCutHead}
-use Rattle.warn_http.specs.Wants.{wanted_by}
-use Rattle.warn_http.specs.Calls.{Called, IsCall, IsRefused, IsUnfinished, IsCut, most_calls, Stop, refused, closed, spent, left, EndsAs, AreCalls, IsFinal, StandsFor, AreAlike}
-use Rattle.warn_http.specs.declared.wants.Wanted.{Wanted}
+use Rattle.warn_http.specs.Heads.{IsBadHead, IsTooLong}
+use Rattle.warn_http.specs.Calls.{Called, IsCall, IsRefused, IsCut, most_calls, Stop, refused, closed, spent, left, EndsAs, AreCalls, IsFinal, AreAlike}
 use Rattle.warn_http.proofs.Fronts.{head_stays, bad_stays, long_stays}
 use Rattle.warn_http.proofs.Causes.{one_call, one_refusal, refused_is_no_call, cut_is_no_call, cut_and_refused}
 

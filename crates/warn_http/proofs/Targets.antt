@@ -1,5 +1,5 @@
 -- What a request target asks for, and the paths of the desk in its own words.
-use Rattle.std.proofs.Common.{◌≡◌, ◌≢◌, ℕ, suc, ◌+◌, ◌-◌, ◌<◌, ◌≤◌, ◌⊎◌, inl, inr, Bool, true, false, ◌&&◌, ◌==◌, List, [], ◌∷◌, ◌++◌, length, take, drop, codes, refl, ap, sym, ◌∙◌, subst, arith, Option, Some, None, nat_le, if◌then◌else◌}
+use Rattle.std.proofs.Common.{◌≡◌, ◌≢◌, ℕ, ◌≤◌, ◌⊎◌, inl, inr, Bool, true, false, ◌&&◌, ◌==◌, List, [], ◌∷◌, ◌++◌, length, take, drop, codes, refl, ap, sym, ◌∙◌, subst, arith, Option, Some, None, nat_le, if◌then◌else◌}
 use mathlib.Core.List.{append-nil}
 use Rattle.std.specs.List.{list_all}
 use Rattle.std.specs.Str.{bytes_eq}
@@ -10,7 +10,7 @@ use Rattle.std.proofs.lemmas.Slice.Eq.{bytes_eq-Decides}
 use Rattle.std.proofs.Math.Seq.{take-append_seam, drop-append_seam}
 use Rattle.matchit.specs.Rows.{RowsOf, param_token}
 use Rattle.matchit.specs.Router.{RouteOf}
-use Rattle.matchit.specs.Seek.{seek, first, own, step, has_slash}
+use Rattle.matchit.specs.Seek.{seek, first, step, has_slash}
 use Rattle.hazard_types.specs.Calendar.{is_digit}
 use Rattle.hazard_types.specs.declared.request.Query.{Query}
 use Rattle.hazard_types.specs.declared.request.Query.TheVariants.{Board, Product, After, Draft, Preview}

@@ -1,7 +1,6 @@
 -- The calls of a byte stream. How the bytes were cut in reading is no part of them.
-use Rattle.std.specs.Prelude.{◌≡◌, ◌≤◌, ◌<◌, ◌+◌, ◌⊎◌, ◌++◌, ℕ, Bool, true, false, List, [], ◌∷◌, length, drop, Result, Ok, Err, ⊤}
+use Rattle.std.specs.Prelude.{◌≡◌, ◌≤◌, ◌<◌, ◌+◌, ◌⊎◌, ◌++◌, ℕ, Bool, true, false, List, [], ◌∷◌, length, drop, Ok, Err, ⊤}
 use Rattle.httparse.specs.Grammar.{RequestHead, print_request, EndsInTarget}
-use Rattle.hazard_types.specs.declared.line.Span.{Span}
 use Rattle.hazard_types.specs.declared.refusal.Refusal.{Refusal}
 use Rattle.hazard_types.specs.declared.refusal.Refusal.TheVariants.{BadHead, HeadTooLong}
 use Rattle.warn_http.specs.Heads.{IsHead, IsBadHead, IsTooLong, IsCutHead}

@@ -1,5 +1,5 @@
 -- What the head of a call wants, or the rule from F3 on that refuses it (F1 where its Content-Length is wrong).
-use Rattle.std.specs.Prelude.{◌≡◌, ℕ, Bool, true, false, List, codes, Option, Some, None, Result, Ok, Err, if◌then◌else◌}
+use Rattle.std.specs.Prelude.{ℕ, Bool, true, false, List, codes, Option, Some, None, Result, Ok, Err, if◌then◌else◌}
 use Rattle.std.specs.Str.{bytes_eq}
 use Rattle.httparse.specs.Grammar.{RequestHead}
 use Rattle.hazard_types.specs.declared.refusal.Refusal.{Refusal}

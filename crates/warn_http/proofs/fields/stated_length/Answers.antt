@@ -1,8 +1,7 @@
-use Rattle.std.proofs.Common.{◌≡◌, ◌≤◌, ◌∙◌, sym, ap, map, drop, length, [], List}
+use Rattle.std.proofs.Common.{◌≡◌, ◌∙◌, sym, ap, map, drop, [], List}
 use Rattle.std.proofs.lemmas.List.{drop_all}
 use Rattle.httparse.specs.Spans.{header_bytes}
 use Rattle.httparse.specs.declared.spans.HeaderSpan.{HeaderSpan}
-use Rattle.warn_http.specs.Heads.{Pair}
 use Rattle.warn_http.proofs.Folding.{stated_is, stated_from}
 use Rattle.warn_http.proofs.fields.stated_length.Goals as goal
 

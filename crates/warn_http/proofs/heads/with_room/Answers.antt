@@ -1,4 +1,4 @@
-use Rattle.std.proofs.Common.{◌≡◌, ◌++◌, List, ℕ, inl, rules, subst, sym, [], Ok, Err, drop, length, ap, ◌∙◌}
+use Rattle.std.proofs.Common.{◌≡◌, List, ℕ, inl, rules, subst, sym, [], Ok, Err, drop, length, ap, ◌∙◌}
 use mathlib.Core.List.{append-nil}
 use Rattle.httparse.specs.Grammar.{ReadsRequest}
 use Rattle.httparse.specs.Outcome.{IfComplete}

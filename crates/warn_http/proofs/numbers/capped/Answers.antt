@@ -1,4 +1,4 @@
-use Rattle.std.proofs.Common.{◌∙◌, arith, rules, ap, min, drop, get_or, ◌+◌, ◌*◌, ◌-◌, ℕ, ◌≡◌}
+use Rattle.std.proofs.Common.{◌∙◌, arith, ap, min, drop, get_or, ◌+◌, ◌*◌, ◌-◌, ℕ, ◌≡◌}
 use Rattle.warn_http.specs.Numbers.{number_from}
 use Rattle.warn_http.proofs.Digits.{capped_step}
 use Rattle.warn_http.proofs.numbers.capped.Goals as goal
