@@ -1,0 +1,91 @@
+-- The head of a call and its fields, by httparse's grammar.
+use Rattle.std.specs.Prelude.{◌≡◌, ◌≤◌, ◌<◌, ◌⊎◌, ℕ, ◌==◌, ◌||◌, ◌&&◌, Bool, List, [], ◌∷◌, length, take, map, filter, codes}
+use Rattle.std.specs.Char.{to_ascii_lowercase}
+use Rattle.std.specs.List.{list_any}
+use Rattle.std.specs.Str.{bytes_eq}
+use Rattle.httparse.specs.Grammar.{RequestHead, ReadsRequest, HasNoRequest, NeverHasRequest, MayBecomeRequest}
+use Rattle.httparse.specs.Spans.{name_and_value}
+use Rattle.warn_http.specs.Numbers.{number_of}
+use Rattle.warn_http.specs.declared.numbers.Number.{Number}
+use Rattle.warn_http.specs.declared.numbers.Number.TheVariants.{NoNumber, TooLarge, Is}
+use Rattle.warn_http.specs.declared.fields.Stated.{Stated}
+use Rattle.warn_http.specs.declared.fields.Stated.TheVariants.{Absent, Bytes, TooLong, Wrong}
+
+-- a field's name, and its value without the blanks round it
+abbrev pub Pair : Type 0
+Pair = List ℕ × List ℕ
+
+-- the fields of a head
+abbrev pub fields_of : RequestHead → List Pair
+fields_of h = map name_and_value h.fields
+
+-- the same letters, without regard to case
+abbrev pub same_letters : List ℕ → List ℕ → Bool
+same_letters a b = bytes_eq (map to_ascii_lowercase a) (map to_ascii_lowercase b)
+
+abbrev pub is_named : List ℕ → Pair → Bool
+is_named name pair = same_letters pair.0 name
+
+-- a field of this name is there
+abbrev pub has_field : List ℕ → List Pair → Bool
+has_field name pairs = list_any (is_named name) pairs
+
+-- the values of the fields of this name, in their order
+abbrev pub values_of : List ℕ → List Pair → List (List ℕ)
+values_of name pairs = map (λ (pair : Pair). pair.1) (filter (is_named name) pairs)
+
+-- the most bytes of a body
+abbrev pub most_body : ℕ
+most_body = 65536
+
+abbrev pub length_by : Number → Stated
+length_by NoNumber = Wrong
+length_by TooLarge = TooLong
+length_by (Is n) = Bytes n
+
+-- one Content-Length of so many bytes, none, or one that is wrong: it is repeated, or no decimal number
+abbrev pub length_in : List (List ℕ) → Stated
+length_in [] = Absent
+length_in (value ∷ []) = length_by (number_of most_body value)
+length_in (value ∷ other ∷ values) = Wrong
+
+-- what the fields state of the body's length
+unfoldable pub stated : List Pair → Stated
+stated pairs = length_in (values_of (codes "content-length") pairs)
+
+-- a field Connection with the value `close`
+abbrev pub asks_to_close : Pair → Bool
+asks_to_close pair = is_named (codes "connection") pair && same_letters pair.1 (codes "close")
+
+-- the link closes after a call of HTTP/1.0, and after one that asks for it
+unfoldable pub closes : ℕ → List Pair → Bool
+closes minor pairs = (minor == 0) || list_any asks_to_close pairs
+
+-- the most bytes and the most fields of a head
+abbrev pub most_bytes : ℕ
+most_bytes = 8192
+
+abbrev pub most_fields : ℕ
+most_fields = 32
+
+-- the bytes begin with this head, which is within the limits
+pub record IsHead (bytes : List ℕ) (h : RequestHead) : Type 0 where
+  pub rest : List ℕ
+  pub reads : ReadsRequest (take most_bytes bytes) h rest
+  pub few : length h.fields ≤ most_fields
+
+-- F1: whatever follows, the bytes begin with no head; or their head has a wrong Content-Length
+abbrev pub IsBadHead : List ℕ → Type 0
+IsBadHead bytes =
+    NeverHasRequest bytes
+    ⊎ ((h : RequestHead) × (rest : List ℕ) × ReadsRequest bytes h rest × (stated (fields_of h) ≡ Wrong))
+
+-- F2: the first 8,192 bytes are there and hold no whole head, or they hold a head of more than 32 fields
+abbrev pub IsTooLong : List ℕ → Type 0
+IsTooLong bytes =
+    ((most_bytes ≤ length bytes) × HasNoRequest (take most_bytes bytes))
+    ⊎ ((h : RequestHead) × (rest : List ℕ) × ReadsRequest (take most_bytes bytes) h rest × (most_fields < length h.fields))
+
+-- No head is whole, and there may come one; of bytes that end within the target httparse tells that only later.
+abbrev pub IsCutHead : List ℕ → Type 0
+IsCutHead bytes = HasNoRequest bytes × (length bytes < most_bytes) × MayBecomeRequest bytes

@@ -1,0 +1,7 @@
+pub mod Numbers
+pub mod Heads
+pub mod Routes
+pub mod Wants
+pub mod Answers
+pub mod Calls
+pub mod Readings

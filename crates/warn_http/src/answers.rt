@@ -1,0 +1,171 @@
+//! Answers, as bytes.
+ghost use Rattle.std.specs.Prelude.{◌≡◌, ◌++◌, length, IsTrue, IfOk, OnOk, decimal};
+ghost use Rattle.warn_http.specs.Answers.{is_status, status_of, phrase_of, closing, status_line, type_line, length_line, answer_text};
+
+use hazard_types::{List, Oom, Refusal, Text};
+use http::StatusCode;
+use std::alloc::Global;
+
+/// What a body is: JSON (`application/json`), or plain text (`text/plain`).
+#[derive(Clone, Copy, Debug, PartialEq, Eq)]
+pub enum BodyKind {
+    Json,
+    Plain,
+}
+
+/// The status of a request that is accepted or repeated, and of what is looked at.
+pub const ACCEPTED_STATUS: u16 = 200;
+
+/// The status of a disk fault, D1.
+pub const DISK_FAULT_STATUS: u16 = 500;
+
+/// The status of want of memory, M1.
+pub const NO_MEMORY_STATUS: u16 = 503;
+
+/// Whether a status is one of the desk's.
+#[tactic(auto, unfolding(crate::specs::Answers::is_status))]
+pub fn is_status(status: u16) -> bool
+    ensures { result ≡ is_status status }
+{
+    matches!(
+        status,
+        200 | 400 | 403 | 404 | 405 | 409 | 411 | 413 | 422 | 431 | 500 | 503
+    )
+}
+
+/// The status of a refusal.
+#[tactic(auto, unfolding(crate::specs::Answers::is_status))]
+pub fn refusal_status(refusal: &Refusal) -> u16
+    ensures value { result ≡ status_of refusal.now }
+    ensures known { IsTrue (is_status result) }
+{
+    match refusal {
+        Refusal::BadHead | Refusal::NotJson => 400,
+        Refusal::UnknownDesk => 403,
+        Refusal::NoRoute | Refusal::NoDraft | Refusal::NoProduct => 404,
+        Refusal::WrongMethod => 405,
+        Refusal::NoLength => 411,
+        Refusal::BodyTooLong | Refusal::LineTooLong => 413,
+        Refusal::HeadTooLong => 431,
+        Refusal::Reused { .. }
+        | Refusal::Stale { .. }
+        | Refusal::Gap { .. }
+        | Refusal::NotOwner { .. }
+        | Refusal::StillActive { .. }
+        | Refusal::DraftsFull
+        | Refusal::IntentsFull
+        | Refusal::NoEvent { .. }
+        | Refusal::NotLive { .. }
+        | Refusal::LeftBefore { .. }
+        | Refusal::BegunMoved { .. }
+        | Refusal::SiteMoved { .. }
+        | Refusal::Conflict { .. }
+        | Refusal::NumberHeld { .. }
+        | Refusal::NumbersSpent { .. }
+        | Refusal::NotLast { .. }
+        | Refusal::NothingToCorrect
+        | Refusal::LettersSpent
+        | Refusal::ProductsFull
+        | Refusal::JournalFull => 409,
+        Refusal::WrongShape { .. }
+        | Refusal::ClockOut { .. }
+        | Refusal::NoIntent { .. }
+        | Refusal::UnknownZone { .. }
+        | Refusal::UnknownHazard
+        | Refusal::WrongZoneKind { .. }
+        | Refusal::WrongCategory
+        | Refusal::BadText { .. }
+        | Refusal::TextTooLong { .. }
+        | Refusal::BadZoneList
+        | Refusal::EmptyDraft
+        | Refusal::Twice { .. }
+        | Refusal::BadPeriod { .. }
+        | Refusal::NoOpenEnd { .. }
+        | Refusal::FloodNeeded { .. }
+        | Refusal::FloodBarred { .. }
+        | Refusal::TooManyLines { .. }
+        | Refusal::TooLong { .. } => 422,
+    }
+}
+
+/// The phrase that http gives to a status of the desk.
+#[tactic(auto, unfolding(crate::specs::Answers::is_status, crate::specs::Answers::phrase_of))]
+fn phrase_of(status: u16) -> &'static str
+    requires { IsTrue (is_status status) }
+    ensures { result.now ≡ phrase_of status }
+{
+    match StatusCode::from_u16(status) {
+        Ok(code) => match code.canonical_reason() {
+            Some(phrase) => phrase,
+            None => unreachable!(),
+        },
+        Err(_) => unreachable!(),
+    }
+}
+
+fn put_number(alloc: Global, out: &mut Text, number: usize) -> Result<(), Oom>
+    ensures { OnOk result (out.new ≡ out.old ++ decimal number) }
+{
+    let digits = format!(in alloc; "{number}")?;
+    out.extend(digits.as_bytes())
+}
+
+fn put_status(alloc: Global, out: &mut Text, status: u16) -> Result<(), Oom>
+    requires { IsTrue (is_status status) }
+    ensures { OnOk result (out.new ≡ out.old ++ status_line status) }
+{
+    out.extend(b"HTTP/1.1 ")?;
+    put_number(alloc, out, usize::from(status))?;
+    out.push(b' ')?;
+    out.extend(phrase_of(status).as_bytes())?;
+    out.extend(b"\r\n")
+}
+
+fn put_type(out: &mut Text, kind: BodyKind) -> Result<(), Oom>
+    ensures { OnOk result (out.new ≡ out.old ++ type_line kind) }
+{
+    match kind {
+        BodyKind::Json => out.extend(b"Content-Type: application/json\r\n"),
+        BodyKind::Plain => out.extend(b"Content-Type: text/plain\r\n"),
+    }
+}
+
+fn put_length(alloc: Global, out: &mut Text, count: usize) -> Result<(), Oom>
+    ensures { OnOk result (out.new ≡ out.old ++ length_line count) }
+{
+    out.extend(b"Content-Length: ")?;
+    put_number(alloc, out, count)?;
+    out.extend(b"\r\n")
+}
+
+fn put_closing(out: &mut Text, last: bool) -> Result<(), Oom>
+    ensures { OnOk result (out.new ≡ out.old ++ closing last) }
+{
+    if last {
+        out.extend(b"Connection: close\r\n")?;
+    }
+    Ok(())
+}
+
+/// The bytes of an answer, with `Connection: close` where the link closes after it. The status is one
+/// of the desk's: 200, 500, 503, and those of `refusal_status`.
+#[tactic(auto, unfolding(crate::specs::Answers::answer_text))]
+pub fn write_answer(
+    alloc: Global,
+    status: u16,
+    kind: BodyKind,
+    body: &Text,
+    last: bool,
+) -> Result<Text, Oom>
+    requires { IsTrue (is_status status) }
+    ensures { IfOk result (λ text. text ≡ answer_text status kind body.now last) }
+{
+    let mut text = List::new(alloc);
+    put_status(alloc, &mut text, status)?;
+    put_type(&mut text, kind)?;
+    put_length(alloc, &mut text, body.len())?;
+    put_closing(&mut text, last)?;
+    text.extend(b"\r\n")?;
+    text.extend(body.as_slice())?;
+    Ok(text)
+}

@@ -1,0 +1,65 @@
+//! Heads, by httparse.
+ghost use Rattle.std.specs.Prelude.{◌≤◌, List, length};
+ghost use Rattle.httparse.specs.Spans.{RequestOverflows};
+ghost use Rattle.httparse.specs.declared.spans.HeaderSpan.{HeaderSpan};
+ghost use Rattle.warn_http.specs.Readings.{Says};
+
+use httparse::spans::{EMPTY_HEADER_SPAN, HeaderSpan, RequestSpans, parse_request};
+use httparse::{Error, Status};
+use std::alloc::Global;
+
+/// The head at the front of a link's bytes.
+#[derive(Clone, Copy, Debug)]
+pub enum Head {
+    Whole(RequestSpans),
+    More,
+    Bad,
+    TooLong,
+    OutOfMemory,
+}
+
+/// The most bytes of a head.
+pub const MOST_BYTES: usize = 8192;
+
+/// The most fields of a head.
+pub const MOST_FIELDS: usize = 32;
+
+/// More fields than `MOST_BYTES` can hold.
+const ROOM: usize = 2731;
+
+/// Parses once more the head that has more than 32 fields: it may be whole, cut, or none.
+fn with_room(alloc: Global, bytes: &[u8]) -> Head
+    requires small { length bytes.now ≤ 8192 }
+    requires many { RequestOverflows 32 bytes.now }
+    ensures { (headers : List HeaderSpan) → Says bytes.now headers result }
+{
+    let Ok(mut headers) = Vec::from_elem(alloc, EMPTY_HEADER_SPAN, ROOM) else {
+        return Head::OutOfMemory;
+    };
+    match parse_request(bytes, headers.as_mut_slice()) {
+        Ok(Status::Complete(_)) => Head::TooLong,
+        Ok(Status::Partial) => {
+            if bytes.len() == MOST_BYTES {
+                Head::TooLong
+            } else {
+                Head::More
+            }
+        }
+        Err(Error::TooManyHeaders) => unreachable!(),
+        Err(_) => Head::Bad,
+    }
+}
+
+/// Reads the head at the front of at most 8,192 bytes, and writes where its fields are.
+pub fn read_head(alloc: Global, bytes: &[u8], headers: &mut [HeaderSpan; MOST_FIELDS]) -> Head
+    requires { length bytes.now ≤ 8192 }
+    ensures { Says bytes.now headers.new result }
+{
+    match parse_request(bytes, headers.as_mut_slice()) {
+        Ok(Status::Complete(spans)) => Head::Whole(spans),
+        Ok(Status::Partial) if bytes.len() < MOST_BYTES => Head::More,
+        Ok(Status::Partial) => Head::TooLong,
+        Err(Error::TooManyHeaders) => with_room(alloc, bytes),
+        Err(_) => Head::Bad,
+    }
+}

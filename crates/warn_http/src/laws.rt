@@ -1,0 +1,34 @@
+//! Laws of the calls of a byte stream. They have no code.
+ghost use Rattle.std.specs.Prelude.{◌≡◌, ◌⊎◌, ◌++◌, ℕ, true, false, Some, List, [], ◌∷◌, drop};
+ghost use Rattle.hazard_types.specs.declared.refusal.Refusal.{Refusal};
+ghost use Rattle.warn_http.specs.Heads.{IsBadHead, IsTooLong};
+ghost use Rattle.warn_http.specs.Routes.{aim_of, IsPath};
+ghost use Rattle.warn_http.specs.declared.routes.Aim.{Aim};
+ghost use Rattle.warn_http.specs.Calls.{Called, IsCall, IsRefused, IsUnfinished, IsCut, Stop, AreCalls, IsFinal, AreAlike};
+
+/// What is a call on a front is the same call on every longer front, and what is refused stays refused.
+/// So the calls of a stream that end at more than a rest are those of every longer stream.
+pub fn calls_stay()
+    ensures call { (bytes more : List ℕ) (c : Called) → IsCall bytes c → IsCall (bytes ++ more) c }
+    ensures refused { (bytes more : List ℕ) (f : Refusal) → IsRefused bytes f → IsRefused (bytes ++ more) f }
+    ensures cut { (bytes more : List ℕ) (calls : List Called) (rest : List ℕ) → IsCut bytes calls rest → IsCut (bytes ++ more) calls (rest ++ more) }
+    ensures calls { (bytes more : List ℕ) (calls : List Called) (stop : Stop) → IsFinal stop → AreCalls bytes calls stop → AreCalls (bytes ++ more) calls stop }
+{}
+
+/// The bytes of a stream have one list of calls, and one end, but where a head is both bad and too
+/// long, or where they end within a target that can't become a head's.
+pub fn calls_are_one()
+    ensures call { (bytes : List ℕ) (c d : Called) → IsCall bytes c → IsCall bytes d → c ≡ d }
+    ensures calls { (bytes : List ℕ) (calls others : List Called) (stop other : Stop) → AreCalls bytes calls stop → AreCalls bytes others other → (calls ≡ others) × AreAlike stop other }
+{}
+
+/// One call more is cut from the front of the rest.
+pub fn calls_go_on()
+    ensures { (bytes : List ℕ) (calls : List Called) (rest : List ℕ) (c : Called) → IsCut bytes calls rest → IsCall rest c → c.last ≡ false → IsCut bytes (calls ++ c ∷ []) (drop c.used rest) }
+{}
+
+/// What the router finds for a path, and the number that it writes, are the paths of the desk.
+pub fn routes_are_paths()
+    ensures path { (path : List ℕ) (aim : Aim) → aim_of path ≡ Some aim → IsPath path aim }
+    ensures route { (path : List ℕ) (aim : Aim) → IsPath path aim → aim_of path ≡ Some aim }
+{}

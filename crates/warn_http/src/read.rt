@@ -1,0 +1,111 @@
+//! The call at the front of a link's bytes.
+ghost use Rattle.std.specs.Prelude.{◌≡◌, ◌≤◌, ◌<◌, ◌+◌, ◌^◌, ◌⊎◌, length, take, IsUtf8};
+ghost use Rattle.httparse.specs.Spans.{IsRequestWithin, span_bytes};
+ghost use Rattle.warn_http.specs.Calls.{call_at, IsAnswer};
+ghost use Rattle.warn_http.specs.Readings.{wanted_at, answer_to};
+
+use crate::heads::{Head, MOST_BYTES, MOST_FIELDS, read_head};
+use crate::routes::Aim;
+use crate::wants::{Wanted, want_of};
+use hazard_types::{Or, Query, Refusal, Span};
+use httparse::spans::{EMPTY_HEADER_SPAN, HeaderSpan, RequestSpans};
+use std::alloc::Global;
+
+/// What a call asks for: to post the request that its body holds, or to look at something.
+#[derive(Clone, Copy, Debug, PartialEq, Eq)]
+pub enum Call {
+    /// The bytes of the body, counted from the call's first byte.
+    Post(Span),
+    Look(Query),
+}
+
+/// What stands at the front of a link's bytes.
+#[derive(Clone, Debug, Drop, PartialEq, Eq)]
+pub enum HttpRead {
+    /// A whole call: what it asks for, how many bytes its head and body take, and whether the link
+    /// closes after it.
+    Call { call: Call, used: usize, last: bool },
+    /// The head, or the body of the stated length, is not yet whole.
+    More,
+    /// An F rule refuses the call.
+    Refused(Refusal),
+    OutOfMemory,
+}
+
+fn call_at(aim: Aim, size: usize, body: usize) -> Call
+    requires { size + body < 2 ^ 64 }
+    ensures { result ≡ call_at aim size body }
+{
+    match aim {
+        Aim::Post => Call::Post(Span {
+            from: size,
+            to: size + body,
+        }),
+        Aim::Look(query) => Call::Look(query),
+    }
+}
+
+/// The answer where a head of `size` bytes wants this, among `total` bytes.
+fn answer_to(size: usize, total: usize, wanted: &Wanted) -> HttpRead
+    requires { size ≤ total }
+    ensures { result ≡ answer_to size total (Ok wanted.now) }
+{
+    if total - size < wanted.body {
+        return HttpRead::More;
+    }
+    HttpRead::Call {
+        call: call_at(wanted.aim, size, wanted.body),
+        used: size + wanted.body,
+        last: wanted.last,
+    }
+}
+
+/// The answer to a whole head within the limits, among `total` bytes.
+fn answer(
+    alloc: Global,
+    front: &[u8],
+    total: usize,
+    spans: &RequestSpans,
+    headers: &[HeaderSpan],
+) -> HttpRead
+    requires within { IsRequestWithin front.now headers.now spans.now }
+    requires target { IsUtf8 (span_bytes front.now spans.now.path) }
+    requires total { length front.now ≤ total }
+    ensures { (result ≡ answer_to spans.now.len total (wanted_at front.now headers.now spans.now)) ⊎ (result ≡ HttpRead.OutOfMemory) }
+{
+    match want_of(alloc, front, spans, headers) {
+        Ok(wanted) => answer_to(spans.len, total, &wanted),
+        Err(Or::No(refusal)) => HttpRead::Refused(refusal),
+        Err(Or::OutOfMemory) => HttpRead::OutOfMemory,
+    }
+}
+
+/// The bytes among which a head must lie.
+fn front_of(bytes: &[u8]) -> &[u8]
+    ensures front { result.now ≡ take 8192 bytes.now }
+    ensures size { length result.now ≤ 8192 }
+    ensures total { length result.now ≤ length bytes.now }
+{
+    if bytes.len() < MOST_BYTES {
+        bytes
+    } else {
+        &bytes[..MOST_BYTES]
+    }
+}
+
+/// Reads the call at the front of a link's bytes: a head of at most 8,192 bytes and 32 fields, and a
+/// body of at most 65,536 bytes. The body of a `POST` lies in `bytes`; one sent with a `GET` is passed
+/// over. Refused are F1 to F6, in that order; where F1 and F2 both hold, either comes.
+pub fn read_call(alloc: Global, bytes: &[u8]) -> HttpRead
+    ensures { IsAnswer bytes.now result }
+{
+    let front = front_of(bytes);
+    let mut headers = [EMPTY_HEADER_SPAN; MOST_FIELDS];
+    match read_head(alloc, front, &mut headers) {
+        Head::Whole(spans) => answer(alloc, front, bytes.len(), &spans, &headers),
+        Head::More => HttpRead::More,
+        Head::Bad => HttpRead::Refused(Refusal::BadHead),
+        Head::TooLong => HttpRead::Refused(Refusal::HeadTooLong),
+        Head::OutOfMemory => HttpRead::OutOfMemory,
+    }
+}

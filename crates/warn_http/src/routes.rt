@@ -1,0 +1,123 @@
+//! The routes, over matchit's router.
+ghost use Rattle.std.specs.Prelude.{◌≡◌, IfOk, MatchOption, None, Some};
+ghost use Rattle.matchit.specs.Seek.{first};
+ghost use Rattle.warn_http.specs.Routes.{desk_routes, number_behind, look_by, aim_at, aim_of, method_of};
+
+use crate::numbers::{Number, number_of};
+use hazard_types::Query;
+use matchit::{InsertError, Router};
+use std::alloc::Global;
+
+/// A place of the table of routes.
+#[derive(Clone, Copy, Debug, PartialEq, Eq)]
+pub enum Place {
+    Requests,
+    Board,
+    Product,
+    After,
+    Draft,
+    Preview,
+}
+
+/// What a path asks for: to post a request, or to look at something.
+#[derive(Clone, Copy, Debug, PartialEq, Eq)]
+pub enum Aim {
+    Post,
+    Look(Query),
+}
+
+/// The desk's routes.
+pub fn routes(alloc: Global) -> Result<Router<Place>, InsertError>
+    ensures table { IfOk result (λ router. router ≡ desk_routes) }
+{
+    let mut router = Router::new(alloc);
+    router.insert("/requests", Place::Requests)?;
+    router.insert("/board", Place::Board)?;
+    router.insert("/products/{n}", Place::Product)?;
+    router.insert("/products/after/{n}", Place::After)?;
+    router.insert("/drafts/{id}", Place::Draft)?;
+    router.insert("/preview/{id}", Place::Preview)?;
+    Ok(router)
+}
+
+/// The number that a path writes behind a prefix.
+#[tactic(auto, unfolding(crate::specs::Routes::number_behind))]
+fn number_behind(path: &[u8], prefix: &[u8]) -> Number
+    ensures { result ≡ number_behind prefix.now path.now }
+{
+    match path.strip_prefix(prefix) {
+        Some(digits) => number_of(u32::MAX, digits),
+        None => Number::NoNumber,
+    }
+}
+
+fn product_at(path: &[u8]) -> Option<Aim>
+    ensures { result ≡ aim_at Place.Product path.now }
+{
+    match number_behind(path, b"/products/") {
+        Number::Is(number) => Some(Aim::Look(Query::Product(number))),
+        _ => None,
+    }
+}
+
+fn after_at(path: &[u8]) -> Option<Aim>
+    ensures { result ≡ aim_at Place.After path.now }
+{
+    match number_behind(path, b"/products/after/") {
+        Number::Is(number) => Some(Aim::Look(Query::After(number))),
+        _ => None,
+    }
+}
+
+fn draft_at(path: &[u8]) -> Option<Aim>
+    ensures { result ≡ aim_at Place.Draft path.now }
+{
+    match number_behind(path, b"/drafts/") {
+        Number::Is(number) => Some(Aim::Look(Query::Draft(number))),
+        _ => None,
+    }
+}
+
+fn preview_at(path: &[u8]) -> Option<Aim>
+    ensures { result ≡ aim_at Place.Preview path.now }
+{
+    match number_behind(path, b"/preview/") {
+        Number::Is(number) => Some(Aim::Look(Query::Preview(number))),
+        _ => None,
+    }
+}
+
+fn aim_at(place: Place, path: &[u8]) -> Option<Aim>
+    ensures { result ≡ aim_at place path.now }
+{
+    match place {
+        Place::Requests => Some(Aim::Post),
+        Place::Board => Some(Aim::Look(Query::Board)),
+        Place::Product => product_at(path),
+        Place::After => after_at(path),
+        Place::Draft => draft_at(path),
+        Place::Preview => preview_at(path),
+    }
+}
+
+/// What a request target asks for; None where it has no route, or no number below 2^32.
+#[tactic(auto, unfolding(crate::specs::Routes::aim_of))]
+pub fn aim_of(router: &Router<Place>, path: &str) -> Option<Aim>
+    requires { router.now ≡ desk_routes }
+    ensures { result ≡ aim_of path.now }
+{
+    match router.at(path) {
+        Ok(found) => aim_at(*found.value, path.as_bytes()),
+        Err(_) => None,
+    }
+}
+
+/// The method of a call that asks for this.
+pub fn method_of(aim: Aim) -> &'static [u8]
+    ensures { result.now ≡ method_of aim }
+{
+    match aim {
+        Aim::Post => b"POST",
+        Aim::Look(_) => b"GET",
+    }
+}

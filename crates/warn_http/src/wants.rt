@@ -1,0 +1,110 @@
+//! What the head of a call wants.
+ghost use Rattle.std.specs.Prelude.{◌≡◌, ◌≤◌, length, take, IfOk, IsUtf8, All};
+ghost use Rattle.httparse.specs.Spans.{IsRequestWithin, span_bytes};
+ghost use Rattle.hazard_types.specs.Given.{Gives};
+ghost use Rattle.warn_http.specs.Wants.{sized, framed, with_method, judged, wanted};
+ghost use Rattle.warn_http.specs.Readings.{wanted_at};
+
+use crate::fields::{Stated, closes, has_field, stated_length};
+use crate::routes::{Aim, aim_of, method_of, routes};
+use hazard_types::{Or, Refusal};
+use httparse::spans::{HeaderSpan, RequestSpans};
+use std::alloc::Global;
+use std::str;
+
+/// What a head asks for, how many bytes of body follow, and whether the link closes after it.
+#[derive(Clone, Copy, Debug, PartialEq, Eq)]
+pub struct Wanted {
+    pub aim: Aim,
+    pub body: usize,
+    pub last: bool,
+}
+
+fn sized(length: Stated, aim: Aim, last: bool) -> Result<Wanted, Refusal>
+    ensures { result ≡ sized length aim last }
+{
+    let body = match length {
+        Stated::Absent => match aim {
+            Aim::Post => return Err(Refusal::NoLength),
+            Aim::Look(_) => 0,
+        },
+        Stated::Bytes(count) => count as usize,
+        Stated::TooLong => return Err(Refusal::BodyTooLong),
+        Stated::Wrong => return Err(Refusal::BadHead),
+    };
+    Ok(Wanted { aim, body, last })
+}
+
+fn framed(encoded: bool, length: Stated, aim: Aim, last: bool) -> Result<Wanted, Refusal>
+    ensures { result ≡ framed encoded length aim last }
+{
+    if encoded {
+        Err(Refusal::NoLength)
+    } else {
+        sized(length, aim, last)
+    }
+}
+
+fn with_method(
+    method: &[u8],
+    encoded: bool,
+    length: Stated,
+    aim: Option<Aim>,
+    last: bool,
+) -> Result<Wanted, Refusal>
+    ensures { result ≡ with_method method.now encoded length aim last }
+{
+    let Some(aim) = aim else {
+        return Err(Refusal::NoRoute);
+    };
+    if method == method_of(aim) {
+        framed(encoded, length, aim, last)
+    } else {
+        Err(Refusal::WrongMethod)
+    }
+}
+
+fn judged(
+    method: &[u8],
+    encoded: bool,
+    length: Stated,
+    aim: Option<Aim>,
+    last: bool,
+) -> Result<Wanted, Refusal>
+    ensures { result ≡ judged method.now encoded length aim last }
+{
+    match length {
+        Stated::Wrong => Err(Refusal::BadHead),
+        _ => with_method(method, encoded, length, aim, last),
+    }
+}
+
+/// What the parts of a head want that the spans cover.
+#[tactic(auto, unfolding(crate::specs::Wants::wanted))]
+pub fn want_of(
+    alloc: Global,
+    front: &[u8],
+    spans: &RequestSpans,
+    headers: &[HeaderSpan],
+) -> Result<Wanted, Or<Refusal>>
+    requires within { IsRequestWithin front.now headers.now spans.now }
+    requires target { IsUtf8 (span_bytes front.now spans.now.path) }
+    ensures { Gives result (wanted_at front.now headers.now spans.now) }
+{
+    let Ok(router) = routes(alloc) else {
+        return Err(Or::OutOfMemory);
+    };
+    let Ok(path) = str::from_utf8(spans.path.of(front)) else {
+        unreachable!()
+    };
+    let fields = &headers[..spans.headers];
+    let method = spans.method.of(front);
+    let encoded = has_field(front, fields, b"transfer-encoding");
+    let length = stated_length(front, fields);
+    let aim = aim_of(&router, path);
+    let last = closes(spans.version, front, fields);
+    match judged(method, encoded, length, aim, last) {
+        Ok(wanted) => Ok(wanted),
+        Err(refusal) => Err(Or::No(refusal)),
+    }
+}
