@@ -1,6 +1,6 @@
-//! Products over New Year, judged by the index and by the list of rows. 2018 begins at minute 9,468,000.
+//! Products over New Year, and a zone that joins its event again, judged by the index and by the list of rows. 2018 begins at minute 9,468,000.
 use crate::index::RowIndex;
-use event_life::Breach::{NoHigher, NumberHeld, Twice};
+use event_life::Breach::{NoHigher, NumberHeld, Reopened, Twice};
 use event_life::{Breach, judge, line_of, rows_after, shown};
 use hazard_types::Action::{Can, Con, Exa, Exb, New, Upg};
 use hazard_types::Sig::{W, Y};
@@ -14,7 +14,7 @@ type Said = (Action, Sig, u16, u16, Option<u32>, u32);
 /// The issue minute of a product, its lines, and the breach of each.
 type Case = (u32, [Said; 2], [Option<Breach>; 2]);
 
-const PRODUCTS: [Case; 6] = [
+const PRODUCTS: [Case; 8] = [
     (
         9_467_940,
         [
@@ -62,6 +62,22 @@ const PRODUCTS: [Case; 6] = [
             (Can, W, 3, 3, None, 9_470_500),
         ],
         [None, Some(Twice)],
+    ),
+    (
+        9_469_030,
+        [
+            (Exa, W, 2, 8, None, 9_470_500),
+            (Can, W, 2, 4, None, 9_470_500),
+        ],
+        [None, None],
+    ),
+    (
+        9_469_040,
+        [
+            (Exa, W, 2, 4, None, 9_470_500),
+            (Exa, W, 2, 8, None, 9_470_500),
+        ],
+        [None, Some(Reopened)],
     ),
 ];
 
@@ -141,9 +157,9 @@ fn products_are_followed_as_by_the_list(rt: HostRuntime) -> Result<(), Fail> {
         (index, rows) = follow(alloc, index, rows.as_slice(), case)?;
         assert!(rt; index.rows(alloc)? == rows);
     }
-    let t = minute(9_469_020)?;
-    assert_eq!(rt; rows.len(), 6);
-    assert_eq!(rt; index.shown(alloc, t)?.len(), 2);
+    let t = minute(9_469_040)?;
+    assert_eq!(rt; rows.len(), 7);
+    assert_eq!(rt; index.shown(alloc, t)?.len(), 3);
     assert!(rt; index.shown(alloc, t)? == shown(alloc, rows.as_slice(), t)?);
     Ok(())
 }

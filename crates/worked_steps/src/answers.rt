@@ -1,0 +1,38 @@
+//! What becomes of a line, as text.
+use event_life::{Breach, Life};
+use hazard_types::{Oom, end_text, stamp};
+use std::alloc::{AllocError, Global};
+use std::str;
+
+/// Bytes as text, where they are.
+fn text_of(bytes: &[u8]) -> &str {
+    str::from_utf8(bytes).unwrap_or("?")
+}
+
+/// Adds the period of a life, its flood location, if it has one, and whether a line has ended it.
+fn push_life(out: &mut String, life: &Life) -> Result<(), AllocError> {
+    out.push_str(text_of(&stamp(life.period.begin)))?;
+    out.push('-')?;
+    out.push_str(text_of(&end_text(&life.period.end)))?;
+    if let Some(flood) = &life.flood {
+        out.push(' ')?;
+        out.push_str(text_of(&flood.site))?;
+    }
+    if life.ended {
+        out.push_str(" ended")?;
+    }
+    out.push('\n')
+}
+
+/// The life that a line leaves, or its breach. A routine line has neither.
+pub fn answer_text(alloc: Global, found: &Option<Result<Life, Breach>>) -> Result<String, Oom> {
+    match found {
+        Some(Ok(life)) => {
+            let mut out = String::new(alloc);
+            push_life(&mut out, life)?;
+            Ok(out)
+        }
+        Some(Err(breach)) => Ok(format!(in alloc; "{breach:?}\n")?),
+        None => Ok(String::from_str(alloc, "touches no life\n")?),
+    }
+}
