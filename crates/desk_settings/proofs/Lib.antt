@@ -1,0 +1,5 @@
+pub mod Reading
+pub mod ZoneCodes
+pub mod ZoneOrder
+pub mod Accepted
+pub mod TrainingForms
