@@ -1,5 +1,5 @@
 -- What is accepted has the forms.
-use Rattle.std.proofs.Common.{ℕ, ◌≡◌, ◌≤◌, ◌&&◌, ◌||◌, Bool, true, false, cond, IsTrue, List, [], ◌∷◌, length, nat_le, nat_lt, Option, Some, None, option_map, option_and_then, Result, Ok, Err, IfOk, refl, ap, sym, subst, ◌∙◌, leb-true}
+use Rattle.std.proofs.Common.{ℕ, ◌≡◌, ◌≤◌, ◌&&◌, ◌||◌, Bool, true, false, cond, IsTrue, List, [], ◌∷◌, length, nat_le, nat_lt, Option, Some, None, option_map, option_and_then, Result, Ok, Err, IfOk, refl, ap, subst, ◌∙◌, leb-true}
 use Rattle.std.specs.declared.cmp.Ordering.{Ordering}
 use Rattle.std.specs.declared.cmp.Ordering.TheVariants.{Less, Equal, Greater}
 use Rattle.std.specs.Ordering.{match_ordering, ordering_reverse}
@@ -9,10 +9,9 @@ use Rattle.std.specs.List.Sorted.{IsStrictlySortedBy}
 use Rattle.std.specs.Map.{keys_of, values_of}
 use Rattle.std.specs.Str.{bytes_eq}
 use Rattle.std.specs.BTreeMap.{insert_entry}
-use Rattle.std.specs.Cmp.{IsTotalOrder}
-use Rattle.std.proofs.lemmas.List.Elements.{All-nil, All-cons, All-from_recursion, recursion_from_All}
+use Rattle.std.proofs.lemmas.List.Elements.{All-nil, All-from_recursion, recursion_from_All}
 use Rattle.std.proofs.lemmas.Map.Views.{All-keys-insert_entry, All-values-insert_entry}
-use Rattle.toml.specs.Data.{Data, Items, no_items, item, Members, no_members, member, as_str, as_array, as_table}
+use Rattle.toml.specs.Data.{Items, no_items, item, Members, no_members, member, as_str, as_array, as_table}
 use Rattle.hazard_types.specs.Given.{Gives, ◌>>=◌}
 use Rattle.hazard_types.specs.declared.or.Or.{Or}
 use Rattle.hazard_types.specs.Desks.{is_desk_name}
@@ -20,16 +19,17 @@ use Rattle.hazard_types.specs.Places.{Place, IsPlace, by_place}
 use Rattle.hazard_types.specs.declared.codes.LocalZone.{LocalZone}
 use Rattle.hazard_types.proofs.OrderLaws.{by_place_total}
 use Rattle.desk_settings.specs.declared.fault.SettingsFault.{SettingsFault}
-use Rattle.desk_settings.specs.declared.fault.SettingsFault.TheVariants.{NotToml, BadValue}
+use Rattle.desk_settings.specs.declared.fault.SettingsFault.TheVariants.{NotToml}
 use Rattle.desk_settings.specs.declared.keys.Key.{Key}
 use Rattle.desk_settings.specs.declared.keys.Key.TheVariants as key
 use Rattle.hazard_types.specs.declared.codes.Category.{Category}
 use Rattle.hazard_types.specs.declared.codes.Category.TheVariants.{Wsw, Npw, Rfw, Cfw, Mww, Ffa, Flw, Fls}
 use Rattle.desk_settings.specs.declared.settings.Settings.{Settings}
-use Rattle.desk_settings.specs.Forms.{is_office, is_site, is_office_line, is_heading, is_zone_name, local_zone_in, zone_at}
-use Rattle.desk_settings.specs.Keys.{key_name, value_at, text_at, missing_key}
-use Rattle.desk_settings.specs.Reading.{known, office_field, site_field, line_field, zone_field, desks_field, heading_field, headings_field, zones_field, names_of, desk_in, few_desks, desks_in, zone_pairs, zone_name_in, in_order, few_zones, zones_in, has_twice, unless_twice, fields_in, if_whole, settings_in, table_of, settings_of}
-use Rattle.desk_settings.specs.AreSettings.{HasForms, AreSettings}
+use Rattle.hazard_types.specs.Characters.{is_office}
+use Rattle.desk_settings.specs.Forms.{is_site, is_office_line, is_heading, is_zone_name}
+use Rattle.desk_settings.specs.Keys.{value_at, text_at, missing_key}
+use Rattle.desk_settings.specs.Reading.{known, office_field, site_field, line_field, zone_field, desks_field, heading_field, headings_field, zones_field, names_of, desk_in, few_desks, desks_in, zone_pairs, in_order, few_zones, zones_in, has_twice, unless_twice, fields_in, if_whole, settings_in, table_of, settings_of}
+use Rattle.desk_settings.specs.AreSettings.{AreSettings}
 use Rattle.desk_settings.proofs.ZoneCodes.{both, code_parts}
 use Rattle.desk_settings.proofs.ZoneOrder.{Pair, leads, and_then_some, map_some}
 
@@ -155,10 +155,10 @@ pairs_ok (member k d ms) pairs h =
     let l = leads k d ms pairs h in
     let more = pairs_ok ms l.more l.behind in
     subst (λ (ps : List Pair). ZonesOk (in_order ps)) l.whole (record {
-        order = insert_in_order (in_order l.more) l.zone l.name more.order;
-        places = All-keys-insert_entry by_place l.zone l.name IsPlace (in_order l.more) more.places (code_parts k l.zone l.code).place;
-        names = All-values-insert_entry by_place l.zone l.name (λ (n : List ℕ). IsTrue (is_zone_name n)) (in_order l.more) more.names (passed is_zone_name (as_str d) l.name l.named);
-      })
+      order = insert_in_order (in_order l.more) l.zone l.name more.order;
+      places = All-keys-insert_entry by_place l.zone l.name IsPlace (in_order l.more) more.places (code_parts k l.zone l.code).place;
+      names = All-values-insert_entry by_place l.zone l.name (λ (n : List ℕ). IsTrue (is_zone_name n)) (in_order l.more) more.names (passed is_zone_name (as_str d) l.name l.named);
+    })
 
 record ZonesField (zones : List Pair) : Type 0 where
   some : 1 ≤ length zones
@@ -184,7 +184,7 @@ zones_ok ms zones h =
 
 -- the parts of what was read whole
 record Parts {A B C D E F G : Type 0} (office : Result A SettingsFault) (site : Result B SettingsFault) (line : Result C SettingsFault) (zone : Result D SettingsFault) (desks : Result E SettingsFault) (headings : Result F SettingsFault) (zones : Result G SettingsFault)
-  (make : A → B → C → D → E → F → G → Result Settings SettingsFault) (s : Settings) : Type 0 where
+    (make : A → B → C → D → E → F → G → Result Settings SettingsFault) (s : Settings) : Type 0 where
   a : A
   b : B
   c : C
@@ -231,24 +231,24 @@ fields_ok ms s h =
     let headings = headings_ok ms p.f p.headings_is in
     let zones = zones_ok ms p.g p.zones_is in
     subst AreSettings u.1 (record {
-        forms = record {
-          office_form = passed is_office (text_at key.Office ms) p.a (known_ok key.Office _ p.a p.office_is);
-          site_form = passed is_site (text_at key.Site ms) p.b (known_ok key.Site _ p.b p.site_is);
-          line_form = passed is_office_line (text_at key.OfficeLine ms) p.c (known_ok key.OfficeLine _ p.c p.line_is);
-          some_desk = desks.some;
-          few_desks = desks.few;
-          desk_forms = desks.forms;
-          desks_once = once p.e u.0;
-          eight = headings.count;
-          heading_forms = All-from_recursion (λ (h : List ℕ). IsTrue (is_heading h)) p.f headings.forms;
-          zone_order = zones.forms.order;
-          zone_forms = zones.forms.places;
-          name_forms = zones.forms.names;
-        };
-        some_zone = zones.some;
-        few_zones = zones.few;
-        named_alone = refl;
-      })
+      forms = record {
+        office_form = passed is_office (text_at key.Office ms) p.a (known_ok key.Office _ p.a p.office_is);
+        site_form = passed is_site (text_at key.Site ms) p.b (known_ok key.Site _ p.b p.site_is);
+        line_form = passed is_office_line (text_at key.OfficeLine ms) p.c (known_ok key.OfficeLine _ p.c p.line_is);
+        some_desk = desks.some;
+        few_desks = desks.few;
+        desk_forms = desks.forms;
+        desks_once = once p.e u.0;
+        eight = headings.count;
+        heading_forms = All-from_recursion (λ (h : List ℕ). IsTrue (is_heading h)) p.f headings.forms;
+        zone_order = zones.forms.order;
+        zone_forms = zones.forms.places;
+        name_forms = zones.forms.names;
+      };
+      some_zone = zones.some;
+      few_zones = zones.few;
+      named_alone = refl;
+    })
 
 whole_ok : (o : Option Key) (r : Result Settings SettingsFault) (s : Settings) → if_whole o r ≡ Ok s → r ≡ Ok s
 whole_ok None r s h = h

@@ -3,3 +3,4 @@ pub mod ZoneCodes
 pub mod ZoneOrder
 pub mod Accepted
 pub mod TrainingForms
+pub mod LookUps

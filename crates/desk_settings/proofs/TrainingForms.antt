@@ -1,15 +1,15 @@
 -- The settings of training have the forms.
-use Rattle.std.proofs.Common.{ℕ, ◌≡◌, ◌≤◌, ◌&&◌, ◌==◌, Bool, true, false, IsTrue, List, [], ◌∷◌, length, drop, codes, Result, Ok, Err, IfOk, refl, sym, subst, lit≤, arith}
-use Rattle.std.specs.List.{All, AllByRecursion, IsDistinct, list_all}
+use Rattle.std.proofs.Common.{ℕ, ◌≡◌, ◌==◌, true, IsTrue, List, [], ◌∷◌, length, drop, codes, Result, Ok, Err, IfOk, refl, sym, subst, lit≤, arith}
+use Rattle.std.specs.List.{AllByRecursion, IsDistinct, list_all}
 use Rattle.std.specs.List.Sorted.{IsStrictlySortedBy}
-use Rattle.std.specs.Str.{bytes_eq}
 use Rattle.std.proofs.lemmas.List.Elements.{All-nil, All-from_recursion}
 use Rattle.std.proofs.lemmas.Bool.Decides.{nat_tests}
 use Rattle.hazard_types.specs.Desks.{is_desk_name}
-use Rattle.hazard_types.specs.Places.{Place, IsPlace, by_place}
+use Rattle.hazard_types.specs.Places.{IsPlace}
 use Rattle.hazard_types.specs.declared.list.Oom.{Oom}
 use Rattle.desk_settings.specs.declared.settings.Settings.{Settings}
-use Rattle.desk_settings.specs.Forms.{is_name_byte, is_office, is_site, is_heading, is_zone_name}
+use Rattle.hazard_types.specs.Characters.{is_name_byte, is_office}
+use Rattle.desk_settings.specs.Forms.{is_site, is_heading, is_zone_name}
 use Rattle.desk_settings.specs.AreSettings.{HasForms, training_of, training_headings}
 use Rattle.desk_settings.proofs.ZoneCodes.{both}
 

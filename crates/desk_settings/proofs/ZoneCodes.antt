@@ -1,5 +1,5 @@
 -- The order of zones is the order of their codes.
-use Rattle.std.proofs.Common.{ℕ, ◌≡◌, ◌<◌, ◌≤◌, ◌+◌, ◌-◌, ◌*◌, ◌==◌, ◌&&◌, Bool, true, false, cond, IsTrue, List, [], ◌∷◌, length, slice_index, nat_le, nat_lt, Option, Some, None, option_map, refl, ap, sym, subst, ◌∙◌, arith}
+use Rattle.std.proofs.Common.{ℕ, ◌≡◌, ◌<◌, ◌≤◌, ◌+◌, ◌-◌, ◌*◌, ◌==◌, ◌&&◌, Bool, true, false, cond, List, [], ◌∷◌, length, slice_index, nat_le, nat_lt, Option, Some, None, option_map, refl, ap, sym, subst, ◌∙◌, arith}
 use Rattle.std.specs.declared.cmp.Ordering.{Ordering}
 use Rattle.std.specs.declared.cmp.Ordering.TheVariants.{Less, Equal, Greater}
 use Rattle.std.specs.Ordering.{nat_cmp, ordering_then, MatchOrdering}
@@ -12,7 +12,7 @@ use Rattle.hazard_types.specs.Calendar.{is_digit}
 use Rattle.hazard_types.specs.Places.{Place, IsPlace, is_capital, are_letters, is_number, kind_rank, by_place}
 use Rattle.hazard_types.specs.declared.zone.Kind.{Kind}
 use Rattle.hazard_types.specs.declared.zone.Kind.TheVariants.{C, Z}
-use Rattle.desk_settings.specs.Forms.{zone_at, kind_at, three_at}
+use Rattle.hazard_types.specs.Names.{zone_at, kind_at, three_at}
 
 pub both : (a b : Bool) → (a && b) ≡ true → (a ≡ true) × (b ≡ true)
 both true b h = (refl, h)

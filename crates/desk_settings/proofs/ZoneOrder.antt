@@ -1,22 +1,20 @@
 -- The zones of a table stand in the order of zones.
-use Rattle.std.proofs.Common.{ℕ, ◌≡◌, Bool, true, false, cond, List, [], ◌∷◌, ◌++◌, length, Option, Some, None, option_map, option_and_then, String, Global, string_bytes, refl, ap, sym, subst, ◌∙◌, append_assoc}
-use Rattle.std.specs.declared.cmp.Ordering.{Ordering}
-use Rattle.std.specs.declared.cmp.Ordering.TheVariants.{Less, Equal, Greater}
-use Rattle.std.specs.Ordering.{nat_cmp, match_ordering}
+use Rattle.std.proofs.Common.{ℕ, ◌≡◌, List, [], ◌∷◌, ◌++◌, Option, Some, None, option_map, option_and_then, String, Global, string_bytes, refl, ap, sym, subst, ◌∙◌, append_assoc}
+use Rattle.std.specs.declared.cmp.Ordering.TheVariants.{Less}
+use Rattle.std.specs.Ordering.{nat_cmp}
 use Rattle.std.specs.Cmp.Lexicographic.{slice_cmp}
-use Rattle.std.specs.List.{All, AllByRecursion}
+use Rattle.std.specs.List.{AllByRecursion}
 use Rattle.std.specs.List.Sorted.{IsStrictlySortedBy}
-use Rattle.std.specs.Map.{keys_of, values_of}
+use Rattle.std.specs.Map.{keys_of}
 use Rattle.std.specs.String.{string_cmp}
 use Rattle.std.specs.BTreeMap.{insert_entry}
-use Rattle.std.specs.Cmp.{IsTotalOrder}
-use Rattle.toml.specs.Data.{Data, Members, no_members, member, as_str}
+use Rattle.toml.specs.Data.{Data, Members, member, as_str}
 use Rattle.toml.specs.View.{view, members_view}
 use Rattle.toml.proofs.Views.{Entry}
-use Rattle.hazard_types.specs.Places.{Place, IsPlace, by_place}
-use Rattle.desk_settings.specs.Forms.{zone_at, is_zone_name}
+use Rattle.hazard_types.specs.Places.{Place, by_place}
+use Rattle.hazard_types.specs.Names.{zone_at}
 use Rattle.desk_settings.specs.Reading.{zone_pairs, in_order, zone_name_in}
-use Rattle.desk_settings.proofs.ZoneCodes.{IsCode, code_parts, codes_alike}
+use Rattle.desk_settings.proofs.ZoneCodes.{code_parts, codes_alike}
 
 pub and_then_some : {X Y : Type 0} (o : Option X) (f : X → Option Y) (y : Y) → option_and_then f o ≡ Some y → (x : X) × (o ≡ Some x) × (f x ≡ Some y)
 and_then_some None f y h = absurd (cc)

@@ -1,14 +1,15 @@
 -- The forms of settings.
-use Rattle.std.specs.Prelude.{ℕ, ◌≡◌, ◌≤◌, ◌+◌, ◌-◌, Bool, true, false, IsTrue, List, [], ◌∷◌, length, take, drop, Contains, codes}
+use Rattle.std.specs.Prelude.{ℕ, ◌≡◌, ◌≤◌, true, false, IsTrue, List, [], ◌∷◌, length, drop, codes}
 use Rattle.std.specs.List.{All, IsDistinct}
 use Rattle.std.specs.List.Sorted.{IsStrictlySortedBy}
 use Rattle.std.specs.Map.{keys_of, values_of}
 use Rattle.std.specs.Str.{bytes_eq}
 use Rattle.hazard_types.specs.Desks.{is_desk_name}
-use Rattle.hazard_types.specs.Places.{Place, IsPlace, by_place}
+use Rattle.hazard_types.specs.Places.{IsPlace, by_place}
 use Rattle.hazard_types.specs.declared.codes.LocalZone.TheVariants as zone
 use Rattle.desk_settings.specs.declared.settings.Settings.{Settings}
-use Rattle.desk_settings.specs.Forms.{is_office, is_site, is_office_line, is_heading, is_zone_name}
+use Rattle.hazard_types.specs.Characters.{is_office}
+use Rattle.desk_settings.specs.Forms.{is_site, is_office_line, is_heading, is_zone_name}
 
 -- office, site, office line, desks, headings and zone names have their forms, each desk stands once, and the zones are in order, each once
 pub record HasForms (s : Settings) : Type 0 where

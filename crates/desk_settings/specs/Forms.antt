@@ -1,21 +1,13 @@
 -- Which bytes have the form of a value of settings.
-use Rattle.std.specs.Prelude.{ℕ, ◌+◌, ◌-◌, ◌*◌, nat_lt, option_map, ◌==◌, ◌&&◌, ◌||◌, not, Bool, false, List, [], ◌∷◌, length, take, drop, slice_index, nat_le, if◌then◌else◌, Option, Some, None, codes}
+use Rattle.std.specs.Prelude.{ℕ, ◌==◌, ◌&&◌, not, Bool, false, List, [], ◌∷◌, length, take, drop, nat_le, if◌then◌else◌, Option, Some, None, codes}
 use Rattle.std.specs.List.{list_all}
 use Rattle.std.specs.Char.{is_ascii_alphabetic}
 use Rattle.std.specs.Str.{bytes_eq}
 use Rattle.hazard_types.specs.Calendar.{is_digit}
-use Rattle.hazard_types.specs.Places.{Place, is_capital}
-use Rattle.hazard_types.specs.declared.zone.Kind.{Kind}
-use Rattle.hazard_types.specs.declared.zone.Kind.TheVariants as kind
+use Rattle.hazard_types.specs.Characters.{is_name_byte, is_printable, is_office}
+use Rattle.hazard_types.specs.Places.{is_capital}
 use Rattle.hazard_types.specs.declared.codes.LocalZone.{LocalZone}
 use Rattle.hazard_types.specs.declared.codes.LocalZone.TheVariants.{Atlantic, Eastern, Central, Mountain, Arizona, Pacific, Alaska, Hawaii, Utc}
-
--- A to Z and 0 to 9
-abbrev pub is_name_byte : ℕ → Bool
-is_name_byte c = is_capital c || is_digit c
-
-abbrev pub is_office : List ℕ → Bool
-is_office text = (length text == 4) && list_all is_name_byte text
 
 abbrev pub office_in : List ℕ → Option (List ℕ)
 office_in text = if is_office text then Some text else None
@@ -47,7 +39,7 @@ begins_with_letter (c ∷ cs) = is_ascii_alphabetic c
 
 -- printable, and no digit
 abbrev pub is_line_byte : ℕ → Bool
-is_line_byte c = nat_le 32 c && nat_le c 126 && not (is_digit c)
+is_line_byte c = is_printable c && not (is_digit c)
 
 -- 1 to 66 printable characters without a digit, of which the first is a letter
 abbrev pub is_office_line : List ℕ → Bool
@@ -60,16 +52,3 @@ is_zone_name_byte c = is_line_byte c && not (c == 36) && not (c == 38) && not (c
 -- 1 to 40 such characters, of which the first is a letter
 abbrev pub is_zone_name : List ℕ → Bool
 is_zone_name text = nat_le (length text) 40 && begins_with_letter text && list_all is_zone_name_byte text
-
-abbrev pub kind_at : ℕ → Option Kind
-kind_at c = if c == 67 then Some kind.C else (if c == 90 then Some kind.Z else None)
-
--- the number that three digits spell
-abbrev pub three_at : List ℕ → ℕ → ℕ
-three_at bs i = 100 * (slice_index bs i - 48) + 10 * (slice_index bs (i + 1) - 48) + (slice_index bs (i + 2) - 48)
-
--- as MDZ003
-unfoldable pub zone_at : List ℕ → Option Place
-zone_at bs = if (length bs == 6) && is_capital (slice_index bs 0) && is_capital (slice_index bs 1) && is_digit (slice_index bs 3) && is_digit (slice_index bs 4) && is_digit (slice_index bs 5) && nat_lt 0 (three_at bs 3)
-    then option_map (λ k. record { state = slice_index bs 0 ∷ slice_index bs 1 ∷ []; kind = k; number = three_at bs 3 }) (kind_at (slice_index bs 2))
-    else None

@@ -1,5 +1,5 @@
 -- Which settings the bytes are, or their first fault.
-use Rattle.std.specs.Prelude.{ℕ, ◌==◌, ◌&&◌, ◌||◌, not, Bool, true, false, List, [], ◌∷◌, length, slice_index, nat_le, nat_lt, if◌then◌else◌, Option, Some, None, option_map, option_and_then, codes, Result, Ok, Err}
+use Rattle.std.specs.Prelude.{ℕ, ◌&&◌, ◌||◌, Bool, false, List, [], ◌∷◌, length, nat_le, nat_lt, if◌then◌else◌, Option, Some, None, option_map, option_and_then, Result, Ok, Err}
 use Rattle.std.specs.Option.{ok_or}
 use Rattle.std.specs.List.{list_any}
 use Rattle.std.specs.Str.{is_utf8, bytes_eq}
@@ -17,7 +17,8 @@ use Rattle.desk_settings.specs.declared.fault.SettingsFault.TheVariants.{NotToml
 use Rattle.desk_settings.specs.declared.keys.Key.{Key}
 use Rattle.desk_settings.specs.declared.keys.Key.TheVariants as key
 use Rattle.desk_settings.specs.declared.settings.Settings.{Settings}
-use Rattle.desk_settings.specs.Forms.{office_in, site_in, is_office_line, local_zone_in, heading_in, is_zone_name, zone_at}
+use Rattle.hazard_types.specs.Names.{zone_at}
+use Rattle.desk_settings.specs.Forms.{office_in, site_in, is_office_line, local_zone_in, heading_in, is_zone_name}
 use Rattle.desk_settings.specs.Keys.{key_name, value_at, text_at, missing_key}
 
 -- the value that was found, or the fault of its key

@@ -8,11 +8,9 @@ ghost use Rattle.desk_settings.specs.Reading.{zone_name_in, names_of, few_desks,
 ghost use Rattle.desk_settings.specs.declared.fault.SettingsFault.TheVariants.{BadValue};
 
 use crate::fault::SettingsFault;
-use crate::forms::{
-    heading_in, is_office_line, is_zone_name, local_zone_in, office_in, site_in, zone_of,
-};
+use crate::forms::{heading_in, is_office_line, is_zone_name, local_zone_in, office_in, site_in};
 use crate::keys::{Key, text_at, value_at};
-use hazard_types::{Category, Desk, List, LocalZone, Oom, Or, Text, Zone};
+use hazard_types::{Category, Desk, List, LocalZone, Oom, Or, Text, Zone, zone_in};
 use std::alloc::Global;
 use toml::{Table, Value};
 
@@ -162,7 +160,7 @@ fn zones_of(alloc: Global, table: &Table) -> Result<Option<List<(Zone, Text)>>, 
 {
     let mut zones = List::new(alloc);
     for (key, value) in table.iter() {
-        let Some(zone) = zone_of(key.as_bytes()) else {
+        let Some(zone) = zone_in(key.as_bytes()) else {
             return Ok(None);
         };
         let Some(text) = zone_name_in(value) else {

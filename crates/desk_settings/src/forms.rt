@@ -3,9 +3,9 @@ ghost use Rattle.std.specs.Prelude.{◌≡◌};
 ghost use Rattle.std.specs.List.{list_all};
 ghost use Rattle.hazard_types.specs.Calendar.{is_digit};
 ghost use Rattle.hazard_types.specs.Places.{is_capital};
-ghost use Rattle.desk_settings.specs.Forms.{begins_with_letter, kind_at, zone_at, is_name_byte, is_office, is_site, is_line_byte, is_office_line, is_zone_name_byte, is_zone_name, is_heading, office_in, site_in, heading_in, local_zone_in};
+ghost use Rattle.desk_settings.specs.Forms.{begins_with_letter, is_site, is_line_byte, is_office_line, is_zone_name_byte, is_zone_name, is_heading, office_in, site_in, heading_in, local_zone_in};
 
-use hazard_types::{Kind, LocalZone, Zone};
+use hazard_types::{LocalZone, is_name_byte, is_printable};
 
 /// The most characters of an office line.
 const LINE_MOST: usize = 66;
@@ -13,13 +13,7 @@ const LINE_MOST: usize = 66;
 /// The most characters of a zone's name.
 const NAME_MOST: usize = 40;
 
-fn is_name_byte(byte: u8) -> bool
-    ensures { result ≡ is_name_byte byte }
-{
-    byte.is_ascii_uppercase() || byte.is_ascii_digit()
-}
-
-/// Whether these are the characters of an office: four of `A` to `Z` and `0` to `9`.
+/// The characters of an office: four of `A` to `Z` and `0` to `9`.
 pub fn office_in(text: &[u8]) -> Option<[u8; 4]>
     ensures { result ≡ office_in text.now }
 {
@@ -111,7 +105,7 @@ fn begins_with_letter(text: &[u8]) -> bool
 fn is_line_byte(byte: u8) -> bool
     ensures { result ≡ is_line_byte byte }
 {
-    b' ' <= byte && byte <= b'~' && !byte.is_ascii_digit()
+    is_printable(byte) && !byte.is_ascii_digit()
 }
 
 fn are_line_bytes(text: &[u8]) -> bool
@@ -144,32 +138,4 @@ pub fn is_zone_name(text: &[u8]) -> bool
     ensures { result ≡ is_zone_name text.now }
 {
     text.len() <= NAME_MOST && begins_with_letter(text) && are_zone_name_bytes(text)
-}
-
-fn kind_of(code: u8) -> Option<Kind>
-    ensures { result ≡ kind_at code }
-{
-    match code {
-        b'C' => Some(Kind::C),
-        b'Z' => Some(Kind::Z),
-        _ => None,
-    }
-}
-
-/// A zone, as MDZ003.
-#[tactic(auto, unfolding(crate::specs::Forms::zone_at))]
-pub fn zone_of(text: &[u8]) -> Option<Zone>
-    ensures { result ≡ zone_at text.now }
-{
-    let [first, second, kind, hundreds, tens, ones] = text else {
-        return None;
-    };
-    if !hundreds.is_ascii_digit() || !tens.is_ascii_digit() || !ones.is_ascii_digit() {
-        return None;
-    }
-    let number = 100 * u16::from(*hundreds - b'0')
-        + 10 * u16::from(*tens - b'0')
-        + u16::from(*ones - b'0');
-    let kind = kind_of(*kind)?;
-    Zone::new([*first, *second], kind, number)
 }

@@ -72,9 +72,9 @@ impl Settings {
         match self
             .zones
             .as_slice()
-            .binary_search_by(|entry| entry.0.cmp(zone))
+            .binary_search_by_key(zone, |entry| entry.0)
         {
-            Ok(place) => self.zones.get(place).map(|entry| &entry.1),
+            Ok(place) => Some(&self.zones.as_slice()[place].1),
             Err(_) => None,
         }
     }

@@ -1,6 +1,6 @@
 //! The settings of training.
 ghost use Rattle.std.specs.Prelude.{◌≡◌, [], ◌∷◌, codes, IsTrue, IfOk};
-ghost use Rattle.desk_settings.specs.Forms.{is_office};
+ghost use Rattle.hazard_types.specs.Characters.{is_office};
 ghost use Rattle.desk_settings.specs.AreSettings.{HasForms, training_of, training_headings};
 
 use crate::settings::Settings;

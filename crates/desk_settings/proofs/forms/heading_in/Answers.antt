@@ -1,4 +1,4 @@
-use Rattle.std.proofs.Common.{◌≡◌, ◌∙◌, Some, ap, sym, length, arith, rules, true}
+use Rattle.std.proofs.Common.{◌≡◌, Some, ap, sym, length, arith, rules, true}
 use Rattle.desk_settings.specs.Forms.{is_heading}
 use Rattle.desk_settings.proofs.ZoneCodes.{six_read}
 use Rattle.desk_settings.proofs.forms.heading_in.Goals as goal

@@ -1,5 +1,3 @@
-use Rattle.std.proofs.Common.{sym, subst}
-use Rattle.desk_settings.specs.AreSettings.{HasForms}
 use Rattle.desk_settings.proofs.TrainingForms.{given_forms}
 use Rattle.desk_settings.proofs.training.training_settings.Goals as goal
 
