@@ -1,0 +1,5 @@
+pub mod Forms
+pub mod Keys
+pub mod Reading
+pub mod AreSettings
+pub mod Looking

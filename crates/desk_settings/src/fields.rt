@@ -1,0 +1,201 @@
+//! The fields of settings, each read from its value.
+ghost use Rattle.std.specs.Prelude.{◌≡◌, option_map, option_and_then, IfOk, List as Seq, [], Err};
+ghost use Rattle.hazard_types.specs.Given.{Gives};
+ghost use Rattle.toml.specs.Data.{as_str};
+ghost use Rattle.toml.specs.View.{view, items_view, members_view, table_view};
+ghost use Rattle.desk_settings.specs.Keys.{key_name};
+ghost use Rattle.desk_settings.specs.Reading.{zone_name_in, names_of, few_desks, desks_in, zone_pairs, in_order, few_zones, zones_in, office_field, site_field, line_field, zone_field, desks_field, heading_field, headings_field, zones_field};
+ghost use Rattle.desk_settings.specs.declared.fault.SettingsFault.TheVariants.{BadValue};
+
+use crate::fault::SettingsFault;
+use crate::forms::{heading_in, is_office_line, is_zone_name, local_zone_in, office_in, site_in};
+use crate::keys::{Key, text_at, value_at};
+use hazard_types::{Category, Desk, List, LocalZone, Oom, Or, Text, Zone, zone_in};
+use std::alloc::Global;
+use toml::{Table, Value};
+
+/// The most desks.
+const DESKS_MOST: usize = 64;
+
+/// The most zones.
+const ZONES_MOST: usize = 2_000;
+
+/// The refusal of the value at a key.
+fn bad_value<T>(alloc: Global, key: Key) -> Result<T, Or<SettingsFault>>
+    ensures { Gives result (Err (BadValue (key_name key))) }
+{
+    let key = key.name(alloc)?;
+    Err(Or::No(SettingsFault::BadValue { key }))
+}
+
+pub fn office_field(alloc: Global, table: &Table) -> Result<[u8; 4], Or<SettingsFault>>
+    ensures { Gives result (office_field (table_view table.now)) }
+{
+    match text_at(table, Key::Office).and_then(|text| office_in(text.as_bytes())) {
+        Some(office) => Ok(office),
+        None => bad_value(alloc, Key::Office),
+    }
+}
+
+pub fn site_field(alloc: Global, table: &Table) -> Result<[u8; 3], Or<SettingsFault>>
+    ensures { Gives result (site_field (table_view table.now)) }
+{
+    match text_at(table, Key::Site).and_then(|text| site_in(text.as_bytes())) {
+        Some(site) => Ok(site),
+        None => bad_value(alloc, Key::Site),
+    }
+}
+
+pub fn line_field(alloc: Global, table: &Table) -> Result<Text, Or<SettingsFault>>
+    ensures { Gives result (line_field (table_view table.now)) }
+{
+    match text_at(table, Key::OfficeLine) {
+        Some(text) if is_office_line(text.as_bytes()) => {
+            Ok(Text::from_slice(alloc, text.as_bytes())?)
+        }
+        _ => bad_value(alloc, Key::OfficeLine),
+    }
+}
+
+pub fn zone_field(alloc: Global, table: &Table) -> Result<LocalZone, Or<SettingsFault>>
+    ensures { Gives result (zone_field (table_view table.now)) }
+{
+    match text_at(table, Key::Zone).and_then(local_zone_in) {
+        Some(zone) => Ok(zone),
+        None => bad_value(alloc, Key::Zone),
+    }
+}
+
+fn heading_field(
+    alloc: Global,
+    table: &Table,
+    category: Category,
+) -> Result<[u8; 6], Or<SettingsFault>>
+    ensures { Gives result (heading_field (table_view table.now) category) }
+{
+    let key = Key::Heading(category);
+    match text_at(table, key).and_then(|text| heading_in(text.as_bytes())) {
+        Some(heading) => Ok(heading),
+        None => bad_value(alloc, key),
+    }
+}
+
+/// The headings in the order of the categories.
+#[tactic(auto, unfolding(crate::specs::Reading::headings_field))]
+pub fn headings_field(alloc: Global, table: &Table) -> Result<[[u8; 6]; 8], Or<SettingsFault>>
+    ensures { Gives result (headings_field (table_view table.now)) }
+{
+    let wsw = heading_field(alloc, table, Category::Wsw)?;
+    let npw = heading_field(alloc, table, Category::Npw)?;
+    let rfw = heading_field(alloc, table, Category::Rfw)?;
+    let cfw = heading_field(alloc, table, Category::Cfw)?;
+    let mww = heading_field(alloc, table, Category::Mww)?;
+    let ffa = heading_field(alloc, table, Category::Ffa)?;
+    let flw = heading_field(alloc, table, Category::Flw)?;
+    let fls = heading_field(alloc, table, Category::Fls)?;
+    Ok([wsw, npw, rfw, cfw, mww, ffa, flw, fls])
+}
+
+/// The desks that the items name, or nothing where one is no desk's name.
+fn desks_of(alloc: Global, items: &[Value]) -> Result<Option<List<Desk>>, Oom>
+    ensures { IfOk result (λ desks. desks ≡ names_of (items_view items.now)) }
+{
+    let mut desks = List::new(alloc);
+    for item in items {
+        match item.as_str().and_then(|text| Desk::new(text.as_bytes())) {
+            Some(desk) => desks.push(desk)?,
+            None => return Ok(None),
+        }
+    }
+    Ok(Some(desks))
+}
+
+fn desks_in(alloc: Global, value: &Value) -> Result<Option<List<Desk>>, Oom>
+    ensures { IfOk result (λ desks. desks ≡ desks_in (view value.now)) }
+{
+    let Some(items) = value.as_array() else {
+        return Ok(None);
+    };
+    let Some(desks) = desks_of(alloc, items)? else {
+        return Ok(None);
+    };
+    if 1 <= desks.len() && desks.len() <= DESKS_MOST {
+        Ok(Some(desks))
+    } else {
+        Ok(None)
+    }
+}
+
+pub fn desks_field(alloc: Global, table: &Table) -> Result<List<Desk>, Or<SettingsFault>>
+    ensures { Gives result (desks_field (table_view table.now)) }
+{
+    let Some(value) = value_at(table, Key::Desks) else {
+        return bad_value(alloc, Key::Desks);
+    };
+    match desks_in(alloc, value)? {
+        Some(desks) => Ok(desks),
+        None => bad_value(alloc, Key::Desks),
+    }
+}
+
+/// The name of a zone that stands there.
+fn zone_name_in(value: &Value) -> Option<&str>
+    ensures { option_map (λ s. s.now) result ≡ option_and_then zone_name_in (as_str (view value.now)) }
+{
+    match value.as_str() {
+        Some(text) => {
+            if is_zone_name(text.as_bytes()) {
+                Some(text)
+            } else {
+                None
+            }
+        }
+        None => None,
+    }
+}
+
+/// The zones that the members name, or nothing where a key is no zone or a value no name.
+fn zones_of(alloc: Global, table: &Table) -> Result<Option<List<(Zone, Text)>>, Oom>
+    ensures { IfOk result (λ zones. zones ≡ option_map in_order (zone_pairs (table_view table.now))) }
+{
+    let mut zones = List::new(alloc);
+    for (key, value) in table.iter() {
+        let Some(zone) = zone_in(key.as_bytes()) else {
+            return Ok(None);
+        };
+        let Some(text) = zone_name_in(value) else {
+            return Ok(None);
+        };
+        let name = Text::from_slice(alloc, text.as_bytes())?;
+        zones.push((zone, name))?;
+    }
+    Ok(Some(zones))
+}
+
+fn zones_in(alloc: Global, value: &Value) -> Result<Option<List<(Zone, Text)>>, Oom>
+    ensures { IfOk result (λ zones. zones ≡ zones_in (view value.now)) }
+{
+    let Some(table) = value.as_table() else {
+        return Ok(None);
+    };
+    let Some(zones) = zones_of(alloc, table)? else {
+        return Ok(None);
+    };
+    if 1 <= zones.len() && zones.len() <= ZONES_MOST {
+        Ok(Some(zones))
+    } else {
+        Ok(None)
+    }
+}
+
+pub fn zones_field(alloc: Global, table: &Table) -> Result<List<(Zone, Text)>, Or<SettingsFault>>
+    ensures { Gives result (zones_field (table_view table.now)) }
+{
+    let Some(value) = value_at(table, Key::Zones) else {
+        return bad_value(alloc, Key::Zones);
+    };
+    match zones_in(alloc, value)? {
+        Some(zones) => Ok(zones),
+        None => bad_value(alloc, Key::Zones),
+    }
+}

@@ -1,0 +1,141 @@
+//! Which bytes have the form of a value.
+ghost use Rattle.std.specs.Prelude.{◌≡◌};
+ghost use Rattle.std.specs.List.{list_all};
+ghost use Rattle.hazard_types.specs.Calendar.{is_digit};
+ghost use Rattle.hazard_types.specs.Places.{is_capital};
+ghost use Rattle.desk_settings.specs.Forms.{begins_with_letter, is_site, is_line_byte, is_office_line, is_zone_name_byte, is_zone_name, is_heading, office_in, site_in, heading_in, local_zone_in};
+
+use hazard_types::{LocalZone, is_name_byte, is_printable};
+
+/// The most characters of an office line.
+const LINE_MOST: usize = 66;
+
+/// The most characters of a zone's name.
+const NAME_MOST: usize = 40;
+
+/// The characters of an office: four of `A` to `Z` and `0` to `9`.
+pub fn office_in(text: &[u8]) -> Option<[u8; 4]>
+    ensures { result ≡ office_in text.now }
+{
+    let [a, b, c, d] = text else {
+        return None;
+    };
+    if is_name_byte(*a) && is_name_byte(*b) && is_name_byte(*c) && is_name_byte(*d) {
+        Some([*a, *b, *c, *d])
+    } else {
+        None
+    }
+}
+
+/// The three characters of a site.
+pub fn site_in(text: &[u8]) -> Option<[u8; 3]>
+    ensures { result ≡ site_in text.now }
+{
+    let [a, b, c] = text else {
+        return None;
+    };
+    if is_name_byte(*a) && is_name_byte(*b) && is_name_byte(*c) {
+        Some([*a, *b, *c])
+    } else {
+        None
+    }
+}
+
+fn are_capitals(bytes: &[u8]) -> bool
+    ensures { result ≡ list_all is_capital bytes.now }
+{
+    bytes.iter().all(|byte| byte.is_ascii_uppercase())
+}
+
+fn are_digits(bytes: &[u8]) -> bool
+    ensures { result ≡ list_all is_digit bytes.now }
+{
+    bytes.iter().all(|byte| byte.is_ascii_digit())
+}
+
+/// Whether these are four capital letters and two digits.
+fn is_heading(text: &[u8]) -> bool
+    ensures { result ≡ is_heading text.now }
+{
+    text.len() == 6 && are_capitals(&text[..4]) && are_digits(&text[4..])
+}
+
+/// What a heading begins with: four capital letters and two digits.
+pub fn heading_in(text: &[u8]) -> Option<[u8; 6]>
+    ensures { result ≡ heading_in text.now }
+{
+    let [a, b, c, d, e, f] = text else {
+        return None;
+    };
+    if is_heading(text) {
+        Some([*a, *b, *c, *d, *e, *f])
+    } else {
+        None
+    }
+}
+
+/// The zone of local times that bears this name.
+pub fn local_zone_in(text: &str) -> Option<LocalZone>
+    ensures { result ≡ local_zone_in text.now }
+{
+    match text {
+        "Atlantic" => Some(LocalZone::Atlantic),
+        "Eastern" => Some(LocalZone::Eastern),
+        "Central" => Some(LocalZone::Central),
+        "Mountain" => Some(LocalZone::Mountain),
+        "Arizona" => Some(LocalZone::Arizona),
+        "Pacific" => Some(LocalZone::Pacific),
+        "Alaska" => Some(LocalZone::Alaska),
+        "Hawaii" => Some(LocalZone::Hawaii),
+        "UTC" => Some(LocalZone::Utc),
+        _ => None,
+    }
+}
+
+/// Whether the first of these is a letter.
+fn begins_with_letter(text: &[u8]) -> bool
+    ensures { result ≡ begins_with_letter text.now }
+{
+    match text {
+        [first, ..] => first.is_ascii_alphabetic(),
+        [] => false,
+    }
+}
+
+fn is_line_byte(byte: u8) -> bool
+    ensures { result ≡ is_line_byte byte }
+{
+    is_printable(byte) && !byte.is_ascii_digit()
+}
+
+fn are_line_bytes(text: &[u8]) -> bool
+    ensures { result ≡ list_all is_line_byte text.now }
+{
+    text.iter().all(|byte| is_line_byte(*byte))
+}
+
+/// Whether these may stand under a product's name: 1 to 66 printable characters without a digit, of which the first is a letter.
+pub fn is_office_line(text: &[u8]) -> bool
+    ensures { result ≡ is_office_line text.now }
+{
+    text.len() <= LINE_MOST && begins_with_letter(text) && are_line_bytes(text)
+}
+
+fn is_zone_name_byte(byte: u8) -> bool
+    ensures { result ≡ is_zone_name_byte byte }
+{
+    is_line_byte(byte) && byte != b'$' && byte != b'&' && byte != b'-'
+}
+
+fn are_zone_name_bytes(text: &[u8]) -> bool
+    ensures { result ≡ list_all is_zone_name_byte text.now }
+{
+    text.iter().all(|byte| is_zone_name_byte(*byte))
+}
+
+/// Whether these are a zone's name: 1 to 40 printable characters without a digit, `$`, `&` and `-`, of which the first is a letter.
+pub fn is_zone_name(text: &[u8]) -> bool
+    ensures { result ≡ is_zone_name text.now }
+{
+    text.len() <= NAME_MOST && begins_with_letter(text) && are_zone_name_bytes(text)
+}

@@ -1,0 +1,139 @@
+//! The keys of settings, and what stands at them.
+ghost use Rattle.std.specs.Prelude.{◌≡◌, option_map, IfOk, OnOk, ◌++◌};
+ghost use Rattle.toml.specs.Data.{get_member};
+ghost use Rattle.toml.specs.View.{view, table_view};
+ghost use Rattle.desk_settings.specs.Keys.{key_name, category_name, keys, value_at, text_at, is_missing, missing_key};
+
+use hazard_types::{Category, Oom, Text};
+use std::alloc::Global;
+use toml::{Table, Value};
+
+/// A key that settings need: one of the whole, or one of the table `headings`.
+#[derive(Clone, Copy, Debug, PartialEq, Eq)]
+pub enum Key {
+    Office,
+    Site,
+    OfficeLine,
+    Zone,
+    Desks,
+    Heading(Category),
+    Zones,
+}
+
+/// The key of a category's heading.
+fn category_name(category: Category) -> &'static str
+    ensures { result.now ≡ category_name category }
+{
+    match category {
+        Category::Wsw => "WSW",
+        Category::Npw => "NPW",
+        Category::Rfw => "RFW",
+        Category::Cfw => "CFW",
+        Category::Mww => "MWW",
+        Category::Ffa => "FFA",
+        Category::Flw => "FLW",
+        Category::Fls => "FLS",
+    }
+}
+
+/// The keys in the order of the form.
+#[tactic(auto, unfolding(crate::specs::Keys::keys))]
+fn keys() -> [Key; 14]
+    ensures { result ≡ keys }
+{
+    [
+        Key::Office,
+        Key::Site,
+        Key::OfficeLine,
+        Key::Zone,
+        Key::Desks,
+        Key::Heading(Category::Wsw),
+        Key::Heading(Category::Npw),
+        Key::Heading(Category::Rfw),
+        Key::Heading(Category::Cfw),
+        Key::Heading(Category::Mww),
+        Key::Heading(Category::Ffa),
+        Key::Heading(Category::Flw),
+        Key::Heading(Category::Fls),
+        Key::Zones,
+    ]
+}
+
+impl Key {
+    /// The key as faults name it.
+    pub fn name(self, alloc: Global) -> Result<Text, Oom>
+        ensures { IfOk result (λ name. name ≡ key_name self) }
+    {
+        match self {
+            Key::Office => Text::from_slice(alloc, b"office"),
+            Key::Site => Text::from_slice(alloc, b"site"),
+            Key::OfficeLine => Text::from_slice(alloc, b"office_line"),
+            Key::Zone => Text::from_slice(alloc, b"zone"),
+            Key::Desks => Text::from_slice(alloc, b"desks"),
+            Key::Heading(category) => {
+                let mut name = Text::from_slice(alloc, b"headings.")?;
+                name.extend(category_name(category).as_bytes())?;
+                Ok(name)
+            }
+            Key::Zones => Text::from_slice(alloc, b"zones"),
+        }
+    }
+}
+
+/// What a table has at a key.
+fn look_up<'a>(table: &'a Table, key: &str) -> Option<&'a Value>
+    ensures { option_map (λ v. view v.now) result ≡ get_member key.now (table_view table.now) }
+{
+    table.get(key)
+}
+
+/// What the table `headings` has for a category.
+fn heading_at(table: &Table, category: Category) -> Option<&Value>
+    ensures { option_map (λ v. view v.now) result ≡ value_at (Key.Heading category) (table_view table.now) }
+{
+    match look_up(table, "headings") {
+        Some(value) => match value.as_table() {
+            Some(headings) => look_up(headings, category_name(category)),
+            None => None,
+        },
+        None => None,
+    }
+}
+
+/// What stands at a key.
+pub fn value_at(table: &Table, key: Key) -> Option<&Value>
+    ensures { option_map (λ v. view v.now) result ≡ value_at key (table_view table.now) }
+{
+    match key {
+        Key::Office => look_up(table, "office"),
+        Key::Site => look_up(table, "site"),
+        Key::OfficeLine => look_up(table, "office_line"),
+        Key::Zone => look_up(table, "zone"),
+        Key::Desks => look_up(table, "desks"),
+        Key::Heading(category) => heading_at(table, category),
+        Key::Zones => look_up(table, "zones"),
+    }
+}
+
+/// The text that stands at a key.
+pub fn text_at(table: &Table, key: Key) -> Option<&str>
+    ensures { option_map (λ s. s.now) result ≡ text_at key (table_view table.now) }
+{
+    match value_at(table, key) {
+        Some(value) => value.as_str(),
+        None => None,
+    }
+}
+
+fn is_missing(table: &Table, key: Key) -> bool
+    ensures { result ≡ is_missing (table_view table.now) key }
+{
+    value_at(table, key).is_none()
+}
+
+/// The first key that is not there.
+pub fn missing_key(table: &Table) -> Option<Key>
+    ensures { result ≡ missing_key (table_view table.now) }
+{
+    keys().iter().copied().find(|key| is_missing(table, *key))
+}

@@ -1,0 +1,81 @@
+//! The settings of an office, and what is looked up in them.
+ghost use Rattle.std.specs.Prelude.{◌≡◌, option_map, slice_index_or, [], None, Contains, MatchOption, ◌≢◌, IsTrue, ◌↔◌};
+ghost use Rattle.std.specs.List.{list_any, All};
+ghost use Rattle.std.specs.List.Sorted.{IsStrictlySortedBy};
+ghost use Rattle.std.specs.Map.{keys_of};
+ghost use Rattle.std.specs.Str.{bytes_eq};
+ghost use Rattle.hazard_types.specs.Places.{by_place};
+
+use hazard_types::{Category, Desk, List, LocalZone, Text, Zone};
+
+/// The settings of an office. Headings stand in the order of the categories, zones in the order of zones.
+#[derive(Debug, Drop)]
+pub struct Settings {
+    /// Four characters of `A` to `Z` and `0` to `9`.
+    pub office: [u8; 4],
+    /// Three of these.
+    pub site: [u8; 3],
+    /// What stands under a product's name.
+    pub office_line: Text,
+    /// The zone of local times.
+    pub zone: LocalZone,
+    pub desks: List<Desk>,
+    /// What a heading begins with, for each category: four capital letters and two digits.
+    pub headings: [[u8; 6]; 8],
+    /// The zones of the office, each with its name.
+    pub zones: List<(Zone, Text)>,
+    /// Whether zones without a name are taken too, which holds in training alone.
+    pub any_zone: bool,
+}
+
+/// Whether a desk is one of these.
+pub fn is_among(desk: &Desk, desks: &[Desk]) -> bool
+    ensures { result ≡ list_any (bytes_eq desk.now) desks.now }
+{
+    desks.iter().any(|other| desk.bytes() == other.bytes())
+}
+
+impl Settings {
+    ghost use Rattle.desk_settings.specs.Looking.{name_beside, category_place};
+
+    /// Whether the office has the desk.
+    pub fn has_desk(&self, desk: &Desk) -> bool
+        ensures value { result ≡ list_any (bytes_eq desk.now) self.now.desks }
+        ensures stands { IsTrue result ↔ Contains self.now.desks desk.now }
+    {
+        is_among(desk, self.desks.as_slice())
+    }
+
+    /// What a heading of the category begins with.
+    pub fn heading_for(&self, category: Category) -> [u8; 6]
+        ensures { result ≡ slice_index_or self.now.headings (category_place category) [] }
+    {
+        let place = match category {
+            Category::Wsw => 0,
+            Category::Npw => 1,
+            Category::Rfw => 2,
+            Category::Cfw => 3,
+            Category::Mww => 4,
+            Category::Ffa => 5,
+            Category::Flw => 6,
+            Category::Fls => 7,
+        };
+        self.headings[place]
+    }
+
+    /// The name of a zone. None exactly where the settings have no such zone.
+    pub fn zone_name(&self, zone: &Zone) -> Option<&Text>
+        requires { IsStrictlySortedBy by_place (keys_of self.now.zones) }
+        ensures value { option_map (λ name. name.now) result ≡ name_beside self.now.zones zone.now }
+        ensures stands { MatchOption result (¬ Contains (keys_of self.now.zones) zone.now) (λ name. Contains self.now.zones (zone.now, name.now)) }
+    {
+        match self
+            .zones
+            .as_slice()
+            .binary_search_by_key(zone, |entry| entry.0)
+        {
+            Ok(place) => Some(&self.zones.as_slice()[place].1),
+            Err(_) => None,
+        }
+    }
+}

@@ -1,0 +1,14 @@
+//! Headlines, the words of periods, wrapped text and lines of names.
+#![tactic(auto)]
+
+mod headlines;
+mod laws;
+mod names;
+mod periods;
+mod wrapping;
+
+pub use headlines::{headline, when_bullet};
+pub use laws::{names_stay_whole, wrapping_keeps_words};
+pub use names::name_lines;
+pub use periods::period_text;
+pub use wrapping::wrapped;

@@ -1,0 +1,40 @@
+//! Names of zones are laid on lines.
+ghost use Rattle.std.specs.Prelude.{◌≡◌, ◌≤◌, ◌<◌, ◌^◌, ◌++◌, map, length, OnOk, IfOk};
+ghost use Rattle.headline_text.specs.NameLines.{name_part, name_column, name_lines};
+
+use hazard_types::{Oom, Text};
+use std::alloc::Global;
+
+/// The most characters of a line.
+const WIDTH: usize = 66;
+
+/// Puts a name and its hyphen on the line, or on the next; the answer is the column behind them.
+fn put(out: &mut Text, column: usize, name: &[u8]) -> Result<usize, Oom>
+    ensures text { OnOk result (out.new ≡ out.old ++ name_part column name.now) }
+    ensures column { IfOk result (λ next. next ≡ name_column column name.now) }
+{
+    let passes = column != 0 && (column >= WIDTH || name.len() >= WIDTH - column);
+    if passes {
+        out.push(b'\n')?;
+    }
+    out.extend(name)?;
+    out.push(b'-')?;
+    Ok(if passes {
+        name.len() + 1
+    } else {
+        column + name.len() + 1
+    })
+}
+
+/// The names, each followed by a hyphen, on lines of at most 66 characters, with LF between them and none at the end. A name is never broken.
+#[tactic(auto, unfolding(crate::specs::NameLines::name_lines))]
+pub fn name_lines(alloc: Global, names: &[&[u8]]) -> Result<Text, Oom>
+    ensures { IfOk result (λ lines. lines ≡ name_lines (map (λ name. name.now) names.now)) }
+{
+    let mut out = Text::new(alloc);
+    let mut column = 0;
+    for name in names {
+        column = put(&mut out, column, name)?;
+    }
+    Ok(out)
+}
