@@ -1,10 +1,13 @@
-//! Laws of the calls of a byte stream. They have no code.
-ghost use Rattle.std.specs.Prelude.{◌≡◌, ◌⊎◌, ◌++◌, ℕ, true, false, Some, List, [], ◌∷◌, drop};
+//! Laws of calls, routes and statuses. They have no code.
+ghost use Rattle.std.specs.Prelude.{◌≡◌, ◌⊎◌, ◌++◌, ℕ, true, false, Some, List, [], ◌∷◌, drop, IsTrue};
 ghost use Rattle.hazard_types.specs.declared.refusal.Refusal.{Refusal};
 ghost use Rattle.warn_http.specs.Heads.{IsBadHead, IsTooLong};
+ghost use Rattle.warn_http.specs.Answers.{is_status};
 ghost use Rattle.warn_http.specs.Routes.{aim_of, IsPath};
 ghost use Rattle.warn_http.specs.declared.routes.Aim.{Aim};
 ghost use Rattle.warn_http.specs.Calls.{Called, IsCall, IsRefused, IsUnfinished, IsCut, Stop, AreCalls, IsFinal, AreAlike};
+
+use crate::answers::{ACCEPTED_STATUS, DISK_FAULT_STATUS, NO_MEMORY_STATUS};
 
 /// What is a call on a front is the same call on every longer front, and what is refused stays refused.
 /// So the calls of a stream that end at more than a rest are those of every longer stream.
@@ -31,4 +34,12 @@ pub fn calls_go_on()
 pub fn routes_are_paths()
     ensures path { (path : List ℕ) (aim : Aim) → aim_of path ≡ Some aim → IsPath path aim }
     ensures route { (path : List ℕ) (aim : Aim) → IsPath path aim → aim_of path ≡ Some aim }
+{}
+
+/// The statuses that no refusal has are the desk's too.
+#[tactic(auto, unfolding(crate::specs::Answers::is_status))]
+pub fn own_statuses_are_known()
+    ensures accepted { IsTrue (is_status ACCEPTED_STATUS) }
+    ensures disk_fault { IsTrue (is_status DISK_FAULT_STATUS) }
+    ensures no_memory { IsTrue (is_status NO_MEMORY_STATUS) }
 {}

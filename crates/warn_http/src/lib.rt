@@ -14,5 +14,5 @@ pub use answers::{
     ACCEPTED_STATUS, BodyKind, DISK_FAULT_STATUS, NO_MEMORY_STATUS, is_status, refusal_status,
     write_answer,
 };
-pub use laws::{calls_are_one, calls_go_on, calls_stay, routes_are_paths};
+pub use laws::{calls_are_one, calls_go_on, calls_stay, own_statuses_are_known, routes_are_paths};
 pub use read::{Call, HttpRead, read_call};
