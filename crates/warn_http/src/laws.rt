@@ -1,11 +1,10 @@
 //! Laws of calls, routes and statuses. They have no code.
-ghost use Rattle.std.specs.Prelude.{◌≡◌, ◌⊎◌, ◌++◌, ℕ, true, false, Some, List, [], ◌∷◌, drop, IsTrue};
+ghost use Rattle.std.specs.Prelude.{◌≡◌, ◌++◌, ℕ, false, Some, List, [], ◌∷◌, drop, IsTrue};
 ghost use Rattle.hazard_types.specs.declared.refusal.Refusal.{Refusal};
-ghost use Rattle.warn_http.specs.Heads.{IsBadHead, IsTooLong};
 ghost use Rattle.warn_http.specs.Answers.{is_status};
 ghost use Rattle.warn_http.specs.Routes.{aim_of, IsPath};
 ghost use Rattle.warn_http.specs.declared.routes.Aim.{Aim};
-ghost use Rattle.warn_http.specs.Calls.{Called, IsCall, IsRefused, IsUnfinished, IsCut, Stop, AreCalls, IsFinal, AreAlike};
+ghost use Rattle.warn_http.specs.Calls.{Called, IsCall, IsRefused, IsCut, Stop, AreCalls, IsFinal, AreAlike};
 
 use crate::answers::{ACCEPTED_STATUS, DISK_FAULT_STATUS, NO_MEMORY_STATUS};
 
