@@ -1,5 +1,5 @@
 //! What the fields of a head say of the call's length and end.
-ghost use Rattle.std.specs.Prelude.{◌≡◌, length, map, codes, All};
+ghost use Rattle.std.specs.Prelude.{◌≡◌, length, map, All};
 ghost use Rattle.httparse.specs.Spans.{IsHeaderWithin, header_bytes};
 ghost use Rattle.warn_http.specs.Heads.{is_named, same_letters, has_field, length_by, stated, asks_to_close, closes};
 

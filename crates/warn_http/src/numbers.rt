@@ -2,7 +2,7 @@
 ghost use Rattle.std.specs.Prelude.{◌≡◌, ◌≤◌, ◌<◌, ◌^◌, IsTrue, min};
 ghost use Rattle.std.specs.List.{list_all};
 ghost use Rattle.hazard_types.specs.Calendar.{is_digit};
-ghost use Rattle.warn_http.specs.Numbers.{number_from, are_digits, at_most, number_of};
+ghost use Rattle.warn_http.specs.Numbers.{number_from, are_digits, number_of};
 
 /// What bytes write as a decimal number that has a limit.
 #[derive(Clone, Copy, Debug, PartialEq, Eq)]

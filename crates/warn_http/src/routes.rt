@@ -1,7 +1,6 @@
 //! The routes, over matchit's router.
-ghost use Rattle.std.specs.Prelude.{◌≡◌, IfOk, MatchOption, None, Some};
-ghost use Rattle.matchit.specs.Seek.{first};
-ghost use Rattle.warn_http.specs.Routes.{desk_routes, number_behind, look_by, aim_at, aim_of, method_of};
+ghost use Rattle.std.specs.Prelude.{◌≡◌, IfOk};
+ghost use Rattle.warn_http.specs.Routes.{desk_routes, number_behind, aim_at, aim_of, method_of};
 
 use crate::numbers::{Number, number_of};
 use hazard_types::Query;

@@ -1,5 +1,5 @@
 //! What the head of a call wants.
-ghost use Rattle.std.specs.Prelude.{◌≡◌, ◌≤◌, length, take, IfOk, IsUtf8, All};
+ghost use Rattle.std.specs.Prelude.{◌≡◌, IsUtf8};
 ghost use Rattle.httparse.specs.Spans.{IsRequestWithin, span_bytes};
 ghost use Rattle.hazard_types.specs.Given.{Gives};
 ghost use Rattle.warn_http.specs.Wants.{sized, framed, with_method, judged, wanted};
