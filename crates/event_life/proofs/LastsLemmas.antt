@@ -1,11 +1,11 @@
 -- The last numbers after one event more, and the gap that it makes.
-use Rattle.std.proofs.Common.{◌≡◌, ◌∙◌, ◌==◌, ◌&&◌, ℕ, zero, suc, ◌+◌, ◌<◌, List, [], ◌∷◌, ◌++◌, Bool, true, false, cond, Ordering, Less, Equal, Greater, Option, Some, None, unwrap_or, refl, sym, ap, subst, take, drop, drop-cons, length, get_or, append_assoc, fold, arith}
+use Rattle.std.proofs.Common.{◌≡◌, ◌∙◌, ◌==◌, ℕ, zero, suc, ◌+◌, ◌<◌, List, [], ◌∷◌, ◌++◌, Bool, true, false, cond, Ordering, Less, Equal, Greater, Option, Some, unwrap_or, refl, sym, ap, subst, take, drop, drop-cons, length, get_or, append_assoc, arith}
 use Rattle.std.proofs.lemmas.Bool.{and_parts, false_from_ne_true, eqb-true, eq-eqb}
 use Rattle.std.proofs.lemmas.Cmp.{tied_itself, then_total, on_total, nat_cmp_total}
 use Rattle.std.specs.BTreeMap.{insert_entry, is_at}
 use Rattle.std.specs.Cmp.{IsTotalOrder}
 use Rattle.std.specs.Map.{lookup}
-use Rattle.std.specs.Ordering.{match_ordering, ordering_then, is_eq, nat_cmp}
+use Rattle.std.specs.Ordering.{match_ordering, is_eq, nat_cmp}
 use Rattle.hazard_types.specs.Orders.{by_hazard}
 use Rattle.hazard_types.specs.Same.{same_hazard}
 use Rattle.hazard_types.specs.declared.hazard.Event.{Event}
@@ -13,7 +13,7 @@ use Rattle.hazard_types.proofs.Equality.{hazard_one, hazard_itself}
 use Rattle.hazard_types.proofs.OrderLaws.{by_hazard_total, by_hazard_ties, numbers_tied}
 use Rattle.event_life.specs.declared.openings.Gap.{Gap}
 use Rattle.event_life.specs.declared.openings.Series.{Series}
-use Rattle.event_life.specs.Lasts.{series_of, by_series, wanted_in, gap_in, AreLast}
+use Rattle.event_life.specs.Lasts.{series_of, by_series, gap_in, AreLast}
 use Rattle.event_life.specs.Openings.{is_numbered, wanted_after, gaps_from}
 use Rattle.event_life.proofs.GapsLemmas.{last_of, last_of-push}
 use Rattle.event_life.proofs.Keys.{then_parts}
@@ -78,11 +78,11 @@ one_more d e lasts true h =
     ap (λ (s : Series). last_at (insert_entry by_series lasts s e.etn) (series_of d)) same ∙ at_same (series_of d) lasts e.etn
 one_more d e lasts false h =
     let apart : is_at (by_series (series_of d)) (series_of e) ≡ false = false_from_ne_true _ (λ g.
-        let same = tied_series (series_of d) (series_of e) (is_eq-tied (by_series (series_of d) (series_of e)) g) in
-        let hazards : e.hazard ≡ d.hazard = ap (λ (s : Series). s.hazard) (sym same) in
-        let years : e.year ≡ d.year = ap (λ (s : Series). s.year) (sym same) in
-        let own : is_numbered d.hazard d.year e ≡ true = rw (hazards, years, hazard_itself d.hazard) (eq-eqb d.year d.year refl) in
-        cc) in
+    let same = tied_series (series_of d) (series_of e) (is_eq-tied (by_series (series_of d) (series_of e)) g) in
+    let hazards : e.hazard ≡ d.hazard = ap (λ (s : Series). s.hazard) (sym same) in
+    let years : e.year ≡ d.year = ap (λ (s : Series). s.year) (sym same) in
+    let own : is_numbered d.hazard d.year e ≡ true = rw (hazards, years, hazard_itself d.hazard) (eq-eqb d.year d.year refl) in
+    cc) in
     at_other (series_of d) (series_of e) lasts e.etn apart
 
 pub noted : (lasts : Lasts) (earlier : List Event) (e : Event) → AreLast lasts earlier → AreLast (insert_entry by_series lasts (series_of e) e.etn) (earlier ++ e ∷ [])
