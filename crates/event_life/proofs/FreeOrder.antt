@@ -129,7 +129,7 @@ module _ (p q : Line → Bool) where
   commute_step line lines false true h g more = rw h more
   commute_step line lines false false h g more = more
 
-  pub commute : (lines : List Line) → filter p (filter q lines) ≡ filter q (filter p lines)
+  commute : (lines : List Line) → filter p (filter q lines) ≡ filter q (filter p lines)
   commute [] = refl
   commute (line ∷ lines) = commute_step line lines (p line) (q line) refl refl (commute lines)
 

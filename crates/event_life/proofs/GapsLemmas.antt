@@ -13,7 +13,7 @@ abbrev later : ℕ → ℕ → ℕ
 later last n = n
 
 -- the last of these numbers, or what was before
-abbrev last_of : Hazard → ℕ → ℕ → List Event → ℕ
+abbrev pub last_of : Hazard → ℕ → ℕ → List Event → ℕ
 last_of h year before events = fold later before (numbers_of h year events)
 
 map-cond : {A B : Type 0} (f : A → B) (b : Bool) (x : A) (xs : List A) → map f (cond b (x ∷ xs) xs) ≡ cond b (f x ∷ map f xs) (map f xs)
@@ -31,7 +31,7 @@ module _ (h : Hazard) (year : ℕ) where
   last_of-cons : (before : ℕ) (e : Event) (events : List Event) → last_of h year before (e ∷ events) ≡ last_of h year (cond (is_numbered h year e) e.etn before) events
   last_of-cons before e events = ap (λ (ns : List ℕ). fold later before ns) (numbers_of-cons e events) ∙ fold-cond (is_numbered h year e) before e.etn (numbers_of h year events)
 
-  last_of-push : (before : ℕ) (events : List Event) (e : Event) → last_of h year before (events ++ e ∷ []) ≡ cond (is_numbered h year e) e.etn (last_of h year before events)
+  pub last_of-push : (before : ℕ) (events : List Event) (e : Event) → last_of h year before (events ++ e ∷ []) ≡ cond (is_numbered h year e) e.etn (last_of h year before events)
   last_of-push before [] e = last_of-cons before e []
   last_of-push before (x ∷ events) e =
       last_of-cons before x (events ++ e ∷ [])

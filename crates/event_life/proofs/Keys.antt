@@ -8,7 +8,7 @@ use Rattle.hazard_types.specs.declared.line.Row.{Row}
 use Rattle.hazard_types.proofs.OrderLaws.{by_place_total, by_event_total, by_place_ties, by_event_ties}
 use Rattle.event_life.specs.Products.{by_key}
 
-then_parts : (a b : Ordering) → ordering_then a b ≡ Equal → (a ≡ Equal) × (b ≡ Equal)
+pub then_parts : (a b : Ordering) → ordering_then a b ≡ Equal → (a ≡ Equal) × (b ≡ Equal)
 then_parts Less b h = cc
 then_parts Equal b h = (refl, h)
 then_parts Greater b h = cc

@@ -37,8 +37,7 @@ carried_in opened a b more g (s ∷ later, are, e) =
     let whole = sym (flat_map-cons actions_in s later) ∙ e in
     let first : s.opening ≡ a = cc in
     let rest : (s.going ++ at_end s.ending) ++ flat_map actions_in later ≡ more = cc in
-    let longer : Spell = record { opening = s.opening; going = b ∷ s.going; ending = s.ending } in
-    (
+    let longer : Spell = record { opening = s.opening; going = b ∷ s.going; ending = s.ending } in (
       longer ∷ later,
       (record { first = are.0.first; carried_on = (g, are.0.carried_on); last = are.0.last }, are.1, are.2),
       flat_map-cons actions_in longer later ∙ ap (λ (x : Action). x ∷ b ∷ ((s.going ++ at_end s.ending) ++ flat_map actions_in later)) first ∙ ap (λ (xs : List Action). a ∷ b ∷ xs) rest,
@@ -49,8 +48,7 @@ carried_on b more g on opened a h = carried_in opened a b more g (on opened a h)
 
 ended_by : (b : Action) (more : List Action) → ends b ≡ true → IsOfSpells rejoins more → MayGoOn (b ∷ more)
 ended_by b more g later opened a h =
-    let own : Spell = record { opening = a; going = []; ending = Some b } in
-    (
+    let own : Spell = record { opening = a; going = []; ending = Some b } in (
       own ∷ later.0,
       (record { first = h; carried_on = tt; last = g }, (λ e. cc), later.1),
       flat_map-cons actions_in own later.0 ∙ ap (λ (xs : List Action). a ∷ b ∷ xs) later.2,

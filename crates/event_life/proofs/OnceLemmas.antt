@@ -154,11 +154,13 @@ opened_by-up (line ∷ lines) = up_step line.event (opened_by lines) (is_new lin
 
 less_apart : (e : Event) (events : List Event) → AllByRecursion (λ y. by_event e y ≡ Less) events → AllByRecursion (λ y. same_event e y ≡ false) events
 less_apart e [] all = tt
-less_apart e (d ∷ events) all =
-    (false_from_ne_true _ (λ h.
-    let same = event_one e d h in
-    let tied : by_event e d ≡ Equal = subst (λ (y : Event). by_event e y ≡ Equal) same (tied_itself by_event_total e) in
-    let less : by_event e d ≡ Less = all.0 in cc), less_apart e events all.1)
+less_apart e (d ∷ events) all = (
+  false_from_ne_true _ (λ h.
+      let same = event_one e d h in
+      let tied : by_event e d ≡ Equal = subst (λ (y : Event). by_event e y ≡ Equal) same (tied_itself by_event_total e) in
+      let less : by_event e d ≡ Less = all.0 in cc),
+  less_apart e events all.1,
+)
 
 distinct_up : (events : List Event) → IsStrictlySortedBy by_event events → IsDistinct same_event events
 unfolding IsStrictlySortedBy IsDistinct

@@ -1,6 +1,7 @@
 pub mod Bounds
 pub mod Firsts
 pub mod Higher
+pub mod Lasts
 pub mod Lives
 pub mod Openings
 pub mod Periods

@@ -1,14 +1,17 @@
 //! The events that the lines of a product open, and the gaps in the numbers of events.
-ghost use Rattle.std.specs.Prelude.{◌≡◌, [], IfOk, OnOk};
-ghost use Rattle.event_life.specs.Openings.{add_event, opened_by, wanted_after, gaps_from};
+ghost use Rattle.std.specs.Prelude.{◌≡◌, ◌++◌, [], IfOk, OnOk};
+ghost use Rattle.std.specs.BTreeMap.{insert_entry};
+ghost use Rattle.event_life.specs.Lasts.{series_of, by_series, wanted_in, gap_in};
+ghost use Rattle.event_life.specs.Openings.{add_event, opened_by, gaps_from};
 ghost use Rattle.event_life.specs.Products.{is_new, lawful_of};
 ghost use Rattle.event_life.specs.Seats.{event_seated, IsEventSeat};
 
 use crate::life::Breach;
 use crate::putting::is_lawful;
-use hazard_types::{Action, Event, Line, List, Oom};
+use hazard_types::{Action, Event, Hazard, Line, List, Oom};
 use std::alloc::Global;
 use std::cmp::Ordering;
+use std::collections::BTreeMap;
 
 /// A number was opened where another was wanted.
 #[derive(Clone, Copy, Debug, PartialEq, Eq)]
@@ -65,17 +68,56 @@ pub fn opened_by(alloc: Global, judged: &[(Line, Option<Breach>)]) -> Result<Lis
     Ok(List::from_vec(events))
 }
 
-/// One more than the last number of the event's hazard and year, from 1.
-fn wanted_after(earlier: &[Event], event: &Event) -> u32
-    ensures { result ≡ wanted_after earlier.now event.now }
+/// A hazard and a year, within which events are numbered.
+#[derive(Clone, Copy, PartialEq, Eq, PartialOrd, Ord)]
+pub struct Series {
+    pub hazard: Hazard,
+    pub year: u16,
+}
+
+/// The last number that was opened of each hazard and year.
+type Lasts = BTreeMap<Series, u16>;
+
+fn series_of(event: &Event) -> Series
+    ensures { result ≡ series_of event.now }
 {
-    let mut last: u16 = 0;
-    for other in earlier {
-        if other.hazard == event.hazard && other.year == event.year {
-            last = other.etn;
-        }
+    Series {
+        hazard: event.hazard,
+        year: event.year,
     }
+}
+
+/// One more than the last number of the event's hazard and year, from 1.
+fn wanted_in(lasts: &Lasts, event: &Event) -> u32
+    ensures { result ≡ wanted_in lasts.now.entries event.now }
+{
+    let last = match lasts.get(&series_of(event)) {
+        Some(last) => *last,
+        None => 0,
+    };
     1 + u32::from(last)
+}
+
+/// The event's number is the last of its hazard and year.
+fn note_last(lasts: &mut Lasts, event: &Event) -> Result<(), Oom>
+    ensures { OnOk result (lasts.new.entries ≡ insert_entry by_series lasts.old.entries (series_of event.now) event.now.etn) }
+{
+    lasts.insert(series_of(event), event.etn)?;
+    Ok(())
+}
+
+/// Adds the gap at an event, if there is one.
+fn add_gap(found: &mut Vec<Gap>, lasts: &Lasts, event: &Event) -> Result<(), Oom>
+    ensures { OnOk result (found.new.items ≡ found.old.items ++ gap_in lasts.now.entries event.now) }
+{
+    let wanted = wanted_in(lasts, event);
+    if u32::from(event.etn) != wanted {
+        found.push(Gap {
+            event: *event,
+            wanted,
+        })?;
+    }
+    Ok(())
 }
 
 /// Where the numbers of a hazard and year are not 1, 2, .., in the order of opening: each event whose number is not the wanted one.
@@ -84,14 +126,10 @@ pub fn gaps(alloc: Global, opened: &[Event]) -> Result<List<Gap>, Oom>
     ensures { IfOk result (λ found. found ≡ gaps_from [] opened.now) }
 {
     let mut found = Vec::new(alloc);
-    for (place, event) in opened.iter().enumerate() {
-        let wanted = wanted_after(&opened[..place], event);
-        if u32::from(event.etn) != wanted {
-            found.push(Gap {
-                event: *event,
-                wanted,
-            })?;
-        }
+    let mut lasts = BTreeMap::new(alloc);
+    for event in opened {
+        add_gap(&mut found, &lasts, event)?;
+        note_last(&mut lasts, event)?;
     }
     Ok(List::from_vec(found))
 }

@@ -44,7 +44,7 @@ opened_new : (s a b c d e : Bool) (v w x y z : Breach) → first_of ((s || a, v)
 opened_new true a b c d e v w x y z h = cc
 opened_new false a b c d e v w x y z h = (none_first b w ((c, x) ∷ (d, y) ∷ (e, z) ∷ []) (none_first a v ((b, w) ∷ (c, x) ∷ (d, y) ∷ (e, z) ∷ []) h).1).1
 
-upgraded : (a b c d e : Bool) (v w x y z : Breach) → first_of ((a, v) ∷ (b, w) ∷ (c, x) ∷ (d, y) ∷ (e, z) ∷ []) ≡ None → first_of ((a, v) ∷ (b, w) ∷ (c, x) ∷ (d, y) ∷ (false, z) ∷ []) ≡ None
+pub upgraded : (a b c d e : Bool) (v w x y z : Breach) → first_of ((a, v) ∷ (b, w) ∷ (c, x) ∷ (d, y) ∷ (e, z) ∷ []) ≡ None → first_of ((a, v) ∷ (b, w) ∷ (c, x) ∷ (d, y) ∷ (false, z) ∷ []) ≡ None
 upgraded a b c d e v w x y z h =
     let p = none_first a v ((b, w) ∷ (c, x) ∷ (d, y) ∷ (e, z) ∷ []) h in
     none_both a v ((b, w) ∷ (c, x) ∷ (d, y) ∷ (false, z) ∷ []) p.0 (without_last b c d e w x y z p.1)

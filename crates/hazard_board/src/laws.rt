@@ -16,12 +16,13 @@ pub fn lawful_lines_are_taken()
     ensures { (rows : List Row) (t : ℕ) (lines : List Line) → IsTrue (are_lawful rows t lines) → rows_taken rows t lines ≡ rows_after rows t lines }
 {}
 
-/// Where none of the lines has a breach but NumberHeld, the rows after the lines taken as lawful are those that each of them leaves.
+/// Where each line of a product has no breach, or NumberHeld alone, the rows after the lines taken as lawful are those that each line leaves.
+/// (A UPG line may have NoHigher besides: its higher row may be one that a line on a held number opens.)
 /// Lines without a breach are such lines, and leave the rows after their product.
 pub fn lines_on_held_numbers_are_taken()
-    ensures taken { (rows : List Row) (t : ℕ) (lines : List Line) → HaveNoneButHeld rows t lines [] lines → rows_taken rows t lines ≡ rows_left rows t lines }
+    ensures taken { (rows : List Row) (t : ℕ) (lines : List Line) → HaveNoneButHeld rows t [] lines → rows_taken rows t lines ≡ rows_left rows t lines }
     ensures lawful { (rows : List Row) (t : ℕ) (lines : List Line) → IsTrue (are_lawful rows t lines) →
-        HaveNoneButHeld rows t lines [] lines × (rows_left rows t lines ≡ rows_after rows t lines) }
+        HaveNoneButHeld rows t [] lines × (rows_left rows t lines ≡ rows_after rows t lines) }
 {}
 
 /// Consistent rows stay so at later minutes.

@@ -122,6 +122,7 @@ impl RowIndex {
     ) -> Result<Vec<Row>, Oom>
         ensures { IfOk result (λ after. after.items ≡ filter (is_in_zone zone.now) (rows_for_higher self.now t lines.now)) }
     {
+        // A look at a part brings the invariant into the proof: rows in order.
         let _ = &self.seated;
         let after = self.put_in_zone(alloc, t, lines, zone)?;
         Ok(end_upgraded(alloc, lines, &after)?)

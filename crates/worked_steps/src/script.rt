@@ -6,9 +6,7 @@ ghost use Rattle.event_life.specs.Table.{step};
 
 use crate::answers::answer_text;
 use crate::words::{Step, step_of};
-use event_life::{
-    Breach, Life, around, has_higher, is_routine, life_at, life_step, put, row_of,
-};
+use event_life::{Breach, Life, around, has_higher, is_routine, life_at, life_step, put, row_of};
 use hazard_types::{Line, Minute, Oom, Row};
 use std::alloc::Global;
 
