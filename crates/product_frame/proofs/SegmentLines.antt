@@ -113,6 +113,9 @@ flood_stands (Some f) v p at rest h =
     let n = next_line p t rest at (hvtec_line f v) h in
     (at ∷ [], ap (λ (xs : List ℕ). at ∷ xs) n.0, subst (λ (l : List ℕ). IsHvtec l f) (sym (n.1 ∙ hvtec_whole f v)) v)
 
+three_parts : (whole a b rest more last : List ℕ) → whole ≡ more → more ≡ a ++ last → last ≡ b ++ rest → whole ≡ (a ++ b) ++ rest
+three_parts whole a b rest more last e f g = e ∙ f ∙ ap (λ (xs : List ℕ). a ++ xs) g ∙ sym (append_assoc a b rest)
+
 pairs_stand : (pairs : List Pair) → AllByRecursion HasColumns pairs → (p : List ℕ) (at : ℕ) (rest : List ℕ) → drop at p ≡ pairs_text pairs ++ rest →
     (places : List ℕ) × (starting at (pairs_text pairs ++ rest) ≡ places ++ starting (at + length (pairs_text pairs)) rest) × AreEvents p places pairs
 pairs_stand [] v p at rest h = ([], start_moved at (at + 0) rest (omega arith), refl)
@@ -132,10 +135,9 @@ pairs_stand (q ∷ pairs) v p at rest h =
     let line : line_at p at ≡ t = n.1 ∙ vtec_whole q.vtec v.0.0 in
     let end = at + length (ended t ++ (f ++ more)) in
     let later : starting at2 (more ++ rest) ≡ y.0 ++ starting end rest = y.1 ∙ ap (λ (xs : List ℕ). y.0 ++ xs) (start_moved _ _ rest e) in
-    let next : starting at1 (f ++ (more ++ rest)) ≡ (z.0 ++ y.0) ++ starting end rest = z.1 ∙ ap (λ (xs : List ℕ). z.0 ++ xs) later ∙ sym (append_assoc z.0 y.0 (starting end rest)) in
-    let first : starts_from at (ended t ++ (f ++ (more ++ rest))) ≡ (z.0 ++ y.0) ++ starting end rest = n.0 ∙ next in (
+    let next : starts_from at (ended t ++ (f ++ (more ++ rest))) ≡ (z.0 ++ y.0) ++ starting end rest = three_parts _ z.0 y.0 (starting end rest) _ _ n.0 z.1 later in (
       at ∷ (z.0 ++ y.0),
-      ap (starting at) apart ∙ ap (λ (xs : List ℕ). at ∷ xs) first,
+      ap (starting at) apart ∙ ap (λ (xs : List ℕ). at ∷ xs) next,
       (y.0, record { at = at; next = z.0; whole = refl; vtec = subst (λ (l : List ℕ). IsVtec l q.vtec) (sym line) v.0.0; flood = z.2 }, y.2),
     )
 
