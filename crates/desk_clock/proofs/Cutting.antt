@@ -4,7 +4,8 @@ use Rattle.std.specs.List.{position_or_len, list_any, list_all, before_first, af
 use Rattle.std.proofs.lemmas.List.{take-append-drop}
 use Rattle.std.proofs.Math.Numerals.{one-add}
 use Rattle.std.proofs.lemmas.Bool.{eqb-true}
-use Rattle.desk_clock.specs.Words.{is_blank, begins_with, IsWord, IsAside, first_word, past_blanks, after_word, past_gap, after_slash, after_aside}
+use Rattle.desk_clock.specs.Words.{begins_with, IsWord, IsAside, first_word, past_blanks, after_word, past_gap, after_slash, after_aside}
+use Rattle.hazard_types.specs.Characters.{is_blank}
 
 pub split : (b : Bool) → (b ≡ true) ⊎ (b ≡ false)
 split true = inl refl

@@ -2,7 +2,8 @@
 use Rattle.std.proofs.Common.{◌≡◌, ◌≢◌, ℕ, suc, ◌+◌, ◌⊎◌, ◌==◌, ◌||◌, inl, inr, Bool, true, false, not, List, [], ◌∷◌, ◌++◌, length, take, drop, refl, ap, ◌∙◌, arith, add-one}
 use Rattle.std.specs.List.{position_or_len, list_any, list_all, after_first}
 use Rattle.std.proofs.lemmas.Bool.{and_parts}
-use Rattle.desk_clock.specs.Words.{is_blank, begins_with, IsWord, IsAside, first_word, past_blanks, after_word, past_gap, after_aside}
+use Rattle.desk_clock.specs.Words.{begins_with, IsWord, IsAside, first_word, past_blanks, after_word, past_gap, after_aside}
+use Rattle.hazard_types.specs.Characters.{is_blank}
 
 or_parts : (x y : Bool) → (x || y) ≡ false → (x ≡ false) × (y ≡ false)
 or_parts true y h = cc

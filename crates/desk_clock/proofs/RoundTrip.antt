@@ -13,11 +13,14 @@ use Rattle.desk_clock.specs.declared.local_times.LocalTime.{LocalTime}
 use Rattle.desk_clock.specs.declared.reading.Written.{Written}
 use Rattle.desk_clock.specs.Abbreviations.{letters_of, hours_behind}
 use Rattle.desk_clock.specs.LocalForm.{IsForm, minute_of, read_of}
-use Rattle.desk_clock.specs.LocalText.{one_or_two, two, four, clock_hour, half_day, short_of, line_of, local_line_of}
+use Rattle.desk_clock.specs.LocalText.{one_or_two, clock_hour, half_day, short_of, line_of, local_line_of}
+use Rattle.hazard_types.specs.Calendar.{two}
+use Rattle.hazard_types.specs.Digits.{four_digits}
 use Rattle.desk_clock.specs.LocalTimes.{local_time, shown_at, shown_of, minute_shown, minute_behind, in_2000, from_2000, on_last_day_of_1999, IsShown}
 use Rattle.desk_clock.specs.LocalWords.{words_say, date_said}
 use Rattle.desk_clock.specs.Names.{month_name, weekday_name}
-use Rattle.desk_clock.specs.Words.{is_blank, begins_with, IsWord}
+use Rattle.desk_clock.specs.Words.{begins_with, IsWord}
+use Rattle.hazard_types.specs.Characters.{is_blank}
 use Rattle.desk_clock.specs.Zones.{abbreviation_at}
 use Rattle.desk_clock.proofs.Forms.{form_says}
 use Rattle.desk_clock.proofs.ShownDates.{civil_tested, last_tested, not_last}
@@ -70,7 +73,7 @@ said a t = record { abbreviation = Some a; time = t }
 
 -- the words of the line say the abbreviation and the time
 words_back : (a : Abbreviation) (day : ℕ) (t : LocalTime) → IsShown t →
-    words_say (one_or_two (clock_hour t.hour) ++ two t.minute []) (half_day t.hour) (letters_of a) (weekday_name day) (month_name t.month) (one_or_two t.day) (four t.year) ≡ Some (said a t)
+    words_say (one_or_two (clock_hour t.hour) ++ two t.minute []) (half_day t.hour) (letters_of a) (weekday_name day) (month_name t.month) (one_or_two t.day) (four_digits t.year) ≡ Some (said a t)
 unfolding words_say date_said
 words_back a day t is =
     let weekday = (weekday_is ((day + 4) % 7) (omega arith)).found in
@@ -92,7 +95,7 @@ form_of a shown is =
     let weekday : List ℕ = weekday_name (shown / 1440) in
     let month : List ℕ = month_name t.month in
     let day : List ℕ = one_or_two t.day in
-    let year : List ℕ = four t.year in
+    let year : List ℕ = four_digits t.year in
     let from_day : List ℕ = day ++ (blank ++ year) in
     let from_month : List ℕ = month ++ (blank ++ from_day) in
     let from_weekday : List ℕ = weekday ++ (blank ++ from_month) in

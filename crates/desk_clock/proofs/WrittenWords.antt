@@ -6,10 +6,13 @@ use Rattle.std.proofs.lemmas.Bool.Decides.{nat_tests}
 use Rattle.desk_clock.specs.declared.abbreviations.Abbreviation.{Abbreviation}
 use Rattle.desk_clock.specs.declared.abbreviations.Abbreviation.TheVariants.{Ast, Est, Edt, Cst, Cdt, Mst, Mdt, Pst, Pdt, Akst, Akdt, Hst, Utc, Gmt}
 use Rattle.desk_clock.specs.Abbreviations.{letters_of}
-use Rattle.desk_clock.specs.LocalText.{one_or_two, two, four, clock_hour, half_day}
+use Rattle.desk_clock.specs.LocalText.{one_or_two, clock_hour, half_day}
+use Rattle.hazard_types.specs.Calendar.{two}
+use Rattle.hazard_types.specs.Digits.{four_digits}
 use Rattle.desk_clock.specs.LocalWords.{digit, number_of, half_of, time_of, time_said, year_said, are_letters}
 use Rattle.desk_clock.specs.Names.{month_names, weekday_names, abbreviations, abbreviation_named, place_of}
-use Rattle.desk_clock.specs.Words.{is_blank, begins_with}
+use Rattle.desk_clock.specs.Words.{begins_with}
+use Rattle.hazard_types.specs.Characters.{is_blank}
 
 digit_of : (k : ℕ) → k ≤ 9 → digit (48 + k) ≡ Some k
 digit_of k h = grind (arith, nat_tests)
@@ -64,7 +67,7 @@ day_number_said d h =
       | inr le ↦ rw (le-ltb d 10 le) (number_two d (d / 10) (d % 10) (omega arith) (omega arith) (omega arith))
     ]
 
-pub year_back : (y : ℕ) → y < 10000 → year_said (four y) ≡ Some y
+pub year_back : (y : ℕ) → y < 10000 → year_said (four_digits y) ≡ Some y
 unfolding year_said
 year_back y h =
     let century = number_two (y / 100) (y / 1000) (y / 100 % 10) (omega arith) (omega arith) (omega arith) in

@@ -1,5 +1,7 @@
 -- The text of a local line.
 use Rattle.std.specs.Prelude.{ℕ, ◌+◌, ◌/◌, ◌%◌, ◌==◌, nat_lt, List, [], ◌∷◌, ◌++◌, codes, if◌then◌else◌}
+use Rattle.hazard_types.specs.Calendar.{two}
+use Rattle.hazard_types.specs.Digits.{four_digits}
 use Rattle.hazard_types.specs.declared.codes.LocalZone.{LocalZone}
 use Rattle.desk_clock.specs.declared.abbreviations.Abbreviation.{Abbreviation}
 use Rattle.desk_clock.specs.Abbreviations.{letters_of}
@@ -10,13 +12,6 @@ use Rattle.desk_clock.specs.Zones.{abbreviation_at}
 -- a number below 100 without leading zero
 abbrev pub one_or_two : ℕ → List ℕ
 one_or_two n = if nat_lt n 10 then (48 + n) ∷ [] else (48 + n / 10) ∷ (48 + n % 10) ∷ []
-
--- two digits, and what follows
-abbrev pub two : ℕ → List ℕ → List ℕ
-two n rest = (48 + n / 10) ∷ (48 + n % 10) ∷ rest
-
-abbrev pub four : ℕ → List ℕ
-four n = (48 + n / 1000) ∷ (48 + n / 100 % 10) ∷ (48 + n / 10 % 10) ∷ (48 + n % 10) ∷ []
 
 -- the hour on a clock of twelve hours: midnight and noon are 12
 abbrev pub clock_hour : ℕ → ℕ
@@ -34,7 +29,7 @@ short_of a shown =
 
 -- the same with the year
 unfoldable pub line_of : Abbreviation → ℕ → List ℕ
-line_of a shown = short_of a shown ++ (32 ∷ four (local_time shown).year)
+line_of a shown = short_of a shown ++ (32 ∷ four_digits (local_time shown).year)
 
 -- by the abbreviation's clock in that minute
 unfoldable pub local_short_of : LocalZone → ℕ → List ℕ

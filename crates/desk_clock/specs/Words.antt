@@ -1,9 +1,7 @@
 -- Words of a line, which blanks part. A blank is a space or a tab.
 use Rattle.std.specs.Prelude.{◌≡◌, ◌≢◌, ◌==◌, ◌||◌, ℕ, Bool, true, false, not, List, [], ◌∷◌, ◌++◌, drop, if◌then◌else◌}
+use Rattle.hazard_types.specs.Characters.{is_blank}
 use Rattle.std.specs.List.{position_or_len, before_first, after_first, list_all, list_any}
-
-abbrev pub is_blank : ℕ → Bool
-is_blank c = (c == 32) || (c == 9)
 
 abbrev pub begins_with : (ℕ → Bool) → List ℕ → Bool
 begins_with p [] = false

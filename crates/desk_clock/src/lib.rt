@@ -17,5 +17,3 @@ pub use local_times::calendars_agree;
 pub use reading::{LocalFault, lines_read_back, read_local_line};
 pub use zones::rules_are_read;
 
-#[cfg(test)]
-mod tests;

@@ -2,7 +2,9 @@
 ghost use Rattle.std.specs.Prelude.{◌≡◌, ◌<◌, ◌≤◌, ◌+◌, ◌-◌, ◌*◌, ◌++◌, IfOk, OnOk};
 ghost use Rattle.desk_clock.specs.Abbreviations.{hours_behind};
 ghost use Rattle.desk_clock.specs.LocalTimes.{shown_at};
-ghost use Rattle.desk_clock.specs.LocalText.{one_or_two, two, four, clock_hour, half_day, short_of, line_of, local_short_of, local_line_of};
+ghost use Rattle.desk_clock.specs.LocalText.{one_or_two, clock_hour, half_day, short_of, line_of, local_short_of, local_line_of};
+ghost use Rattle.hazard_types.specs.Calendar.{two};
+ghost use Rattle.hazard_types.specs.Digits.{four_digits};
 
 use crate::abbreviations::Abbreviation;
 use crate::local_times::{local_time, weekday};

@@ -1,13 +1,10 @@
 //! The words of a line, which blanks part.
 ghost use Rattle.std.specs.Prelude.{◌≡◌, ◌==◌, not};
 ghost use Rattle.std.specs.List.{position};
-ghost use Rattle.desk_clock.specs.Words.{is_blank, first_word, past_blanks, after_word, past_gap, after_slash, after_aside};
+ghost use Rattle.desk_clock.specs.Words.{first_word, past_blanks, after_word, past_gap, after_slash, after_aside};
+ghost use Rattle.hazard_types.specs.Characters.{is_blank};
 
-fn is_blank(c: u8) -> bool
-    ensures { result ≡ is_blank c }
-{
-    c == b' ' || c == b'\t'
-}
+use hazard_types::is_blank;
 
 fn blank_at(b: &[u8]) -> Option<usize>
     ensures { result ≡ position is_blank b.now }

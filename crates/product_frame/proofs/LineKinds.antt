@@ -8,7 +8,7 @@ use Rattle.hazard_types.specs.Calendar.{is_digit}
 use Rattle.hazard_types.specs.Places.{is_capital}
 use Rattle.desk_clock.specs.LocalForm.{written_in, read_of}
 use Rattle.desk_clock.specs.Words.{first_word}
-use Rattle.desk_clock.specs.Words.{is_blank as is_word_blank}
+use Rattle.hazard_types.specs.Characters.{is_blank as is_word_blank}
 use Rattle.desk_clock.specs.LocalWords.{number_of, time_said, words_say, are_letters}
 use Rattle.desk_clock.specs.Names.{place_of, weekday_names}
 use Rattle.hazard_types.specs.Characters.{is_blank}

@@ -10,7 +10,9 @@ use Rattle.desk_clock.specs.Abbreviations.{letters_of}
 use Rattle.desk_clock.specs.LocalTimes.{local_time, shown_at}
 use Rattle.desk_clock.specs.Names.{month_name, weekday_name, month_names, weekday_names}
 use Rattle.desk_clock.specs.Zones.{abbreviation_at}
-use Rattle.desk_clock.specs.LocalText.{one_or_two, two, four, clock_hour, half_day, short_of, local_line_of}
+use Rattle.desk_clock.specs.LocalText.{one_or_two, clock_hour, half_day, short_of, local_line_of}
+use Rattle.hazard_types.specs.Calendar.{two}
+use Rattle.hazard_types.specs.Digits.{four_digits}
 use Rattle.desk_clock.specs.LocalText.{line_of as local_text}
 use Rattle.desk_clock.proofs.RoundTrip.{reads_back}
 use Rattle.product_frame.specs.Text.{line_of, is_left_out}
@@ -149,7 +151,7 @@ local_whole z m = text_whole (abbreviation_at z m) (shown_at (abbreviation_at z 
 
 pub local_begins : (z : LocalZone) (m : ℕ) → BeginsWithDigit (local_line_of z m)
 unfolding local_line_of local_text
-local_begins z m = begins_on _ (32 ∷ four (local_time (shown_at (abbreviation_at z m) m)).year) (short_begins (abbreviation_at z m) (shown_at (abbreviation_at z m) m))
+local_begins z m = begins_on _ (32 ∷ four_digits (local_time (shown_at (abbreviation_at z m) m)).year) (short_begins (abbreviation_at z m) (shown_at (abbreviation_at z m) m))
 
 pub local_reads : (z : LocalZone) (m : ℕ) → m < 52596000 → local_at (local_line_of z m) ≡ Some m
 unfolding local_at

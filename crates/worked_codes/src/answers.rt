@@ -1,9 +1,11 @@
 //! Lines and their answers.
+use crate::clocks::{day_answer, line_answer, read_answer, short_answer};
 use crate::values::{push_flood, push_flood_text, push_vtec, push_vtec_text, text_of};
 use hazard_types::{List, Oom, Or, Text, zone_text};
 use hvtec_string::read_hvtec;
 use product_frame::{Frame, FrameFault, FrameSegment, Pair, read_frame, split_products};
 use std::alloc::{AllocError, Global};
+use ugc_codes::{UgcFault, read_ugc, write_ugc};
 use vtec_string::read_vtec;
 
 /// What a P-VTEC text says, and the same written again.
@@ -50,6 +52,31 @@ fn bytes_of(alloc: Global, text: &str) -> Result<Text, Oom> {
         } else {
             out.push(byte)?;
         }
+    }
+    Ok(out)
+}
+
+/// What a UGC text says, with the bytes that it takes, and the zones and expiry written again.
+fn ugc_answer(alloc: Global, text: &str) -> Result<String, Oom> {
+    let bytes = bytes_of(alloc, text)?;
+    let mut out = String::new(alloc);
+    match read_ugc(alloc, bytes.as_slice()) {
+        Ok(read) => {
+            let used = read.used;
+            write!(&mut out, "used {used}")?;
+            for zone in read.zones.as_slice() {
+                let zone = zone_text(zone);
+                let zone = text_of(&zone);
+                write!(&mut out, " {zone}")?;
+            }
+            let again = write_ugc(alloc, &read.zones, read.expiry)?;
+            let again = text_of(again.as_slice());
+            writeln!(&mut out, "\n{again}")?;
+        }
+        Err(Or::No(UgcFault::NotACode { at })) => writeln!(&mut out, "NotACode {at}")?,
+        Err(Or::No(UgcFault::BadRange { at })) => writeln!(&mut out, "BadRange {at}")?,
+        Err(Or::No(UgcFault::CutShort)) => out.push_str("CutShort\n")?,
+        Err(Or::OutOfMemory) => return Err(Oom),
     }
     Ok(out)
 }
@@ -146,6 +173,11 @@ pub fn answer(alloc: Global, line: &str) -> Result<String, Oom> {
     match reader {
         "vtec" => Ok(vtec_answer(alloc, text)?),
         "hvtec" => Ok(hvtec_answer(alloc, text)?),
+        "ugc" => ugc_answer(alloc, text),
+        "line" => line_answer(alloc, text),
+        "short" => short_answer(alloc, text),
+        "read" => Ok(read_answer(alloc, text)?),
+        "day" => Ok(day_answer(alloc, text)?),
         "frame" => frame_answer(alloc, text),
         "split" => split_answer(alloc, text),
         _ => Ok(String::from_str(alloc, "no reader\n")?),

@@ -3,6 +3,7 @@
 #![tactic(auto)]
 
 mod answers;
+mod clocks;
 mod values;
 
 use crate::answers::answer;

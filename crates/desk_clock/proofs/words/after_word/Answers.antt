@@ -1,5 +1,6 @@
 use Rattle.std.proofs.Common.{ap, ◌∙◌, sym}
-use Rattle.desk_clock.specs.Words.{is_blank, past_blanks}
+use Rattle.desk_clock.specs.Words.{past_blanks}
+use Rattle.hazard_types.specs.Characters.{is_blank}
 use Rattle.desk_clock.proofs.Places.{dropped, empty_end, none_left}
 use Rattle.desk_clock.proofs.words.after_word.Goals as goal
 

@@ -1,4 +1,4 @@
-use Rattle.desk_clock.specs.Words.{is_blank}
+use Rattle.hazard_types.specs.Characters.{is_blank}
 use Rattle.desk_clock.proofs.Places.{taken_whole}
 use Rattle.desk_clock.proofs.words.first_word.Goals as goal
 

@@ -1,5 +1,5 @@
 use Rattle.std.proofs.Common.{ℕ, not}
-use Rattle.desk_clock.specs.Words.{is_blank}
+use Rattle.hazard_types.specs.Characters.{is_blank}
 use Rattle.desk_clock.proofs.Places.{dropped, dropped_whole}
 use Rattle.desk_clock.proofs.words.past_blanks.Goals as goal
 
