@@ -5,8 +5,6 @@ mod findings;
 mod read;
 mod reader;
 mod taken;
-#[cfg(test)]
-mod tests;
 mod tracks;
 mod types;
 

@@ -16,6 +16,14 @@ const END: &[u8] = b"$$\r\r\nAB\r\r\n";
 
 const CUT: &[u8] = b"product 1 fault NoSegmentEnd 8\nshown 180103T1700Z 0\nbreaches 1\n";
 
+/// The product by itself.
+const ONCE: &[u8] =
+    b"product 1 WSWDMX 180103T1630Z 3\nlife WW.Y.0003.2018 IAZ004 NEW@180103T1630Z\nlife WW.Y.0003.2018 IAZ005 NEW@180103T1630Z\nlife WW.Y.0003.2018 IAZ006 NEW@180103T1630Z\ngap WW.Y 2018 0001 0003\nshown 180103T1700Z 3\nIAZ004 WW.Y.0003.2018 180103T1800Z-180104T0600Z\nIAZ005 WW.Y.0003.2018 180103T1800Z-180104T0600Z\nIAZ006 WW.Y.0003.2018 180103T1800Z-180104T0600Z\nbreaches 1\n";
+
+/// The product twice: each line of the second opens its event again.
+const AGAIN: &[u8] =
+    b"product 1 WSWDMX 180103T1630Z 3\nproduct 2 WSWDMX 180103T1630Z 3\nlife WW.Y.0003.2018 IAZ004 NEW@180103T1630Z\nlife WW.Y.0003.2018 IAZ005 NEW@180103T1630Z\nlife WW.Y.0003.2018 IAZ006 NEW@180103T1630Z\nbreach 2 WW.Y.0003.2018 IAZ004 Reopened\nbreach 2 WW.Y.0003.2018 IAZ005 Reopened\nbreach 2 WW.Y.0003.2018 IAZ006 Reopened\ngap WW.Y 2018 0001 0003\nshown 180103T1700Z 3\nIAZ004 WW.Y.0003.2018 180103T1800Z-180104T0600Z\nIAZ005 WW.Y.0003.2018 180103T1800Z-180104T0600Z\nIAZ006 WW.Y.0003.2018 180103T1800Z-180104T0600Z\nbreaches 4\n";
+
 /// The product is cut off, and then given twice: each of its lines opens its event again.
 const TWICE: &[u8] =
     b"product 1 fault NoSegmentEnd 8\nproduct 2 WSWDMX 180103T1630Z 3\nproduct 3 WSWDMX 180103T1630Z 3\nlife WW.Y.0003.2018 IAZ004 NEW@180103T1630Z\nlife WW.Y.0003.2018 IAZ005 NEW@180103T1630Z\nlife WW.Y.0003.2018 IAZ006 NEW@180103T1630Z\nbreach 3 WW.Y.0003.2018 IAZ004 Reopened\nbreach 3 WW.Y.0003.2018 IAZ005 Reopened\nbreach 3 WW.Y.0003.2018 IAZ006 Reopened\ngap WW.Y 2018 0001 0003\nshown 180103T1700Z 3\nIAZ004 WW.Y.0003.2018 180103T1800Z-180104T0600Z\nIAZ005 WW.Y.0003.2018 180103T1800Z-180104T0600Z\nIAZ006 WW.Y.0003.2018 180103T1800Z-180104T0600Z\nbreaches 5\n";
@@ -77,10 +85,14 @@ fn reports_are_written(rt: HostRuntime) -> Result<(), Fail> {
     let words: [&[u8]; 3] = [b"KDMX", b"O", b"180103T1700Z"];
     let none: [&[u8]; 0] = [];
     let cut: [&[u8]; 1] = [FRONT];
+    let once: [&[u8]; 2] = [FRONT, END];
+    let again: [&[u8]; 4] = [FRONT, END, FRONT, END];
     let twice: [&[u8]; 5] = [FRONT, FRONT, END, FRONT, END];
-    let rows: [(&[&[u8]], u64, u64, u8, &[u8]); 5] = [
+    let rows: [(&[&[u8]], u64, u64, u8, &[u8]); 7] = [
         (&none, 0, 0, 0, b"shown 180103T1700Z 0\nbreaches 0\n"),
         (&cut, 0, 0, 3, CUT),
+        (&once, 0, 0, 3, ONCE),
+        (&again, 0, 0, 3, AGAIN),
         (&twice, 0, 0, 3, TWICE),
         (&cut, 5, 0, 7, b"fault ReadFault\n"),
         (&cut, 0, 1, 8, b"fault WriteFault\n"),
