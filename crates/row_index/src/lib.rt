@@ -7,5 +7,3 @@ mod shelves;
 
 pub use index::RowIndex;
 
-#[cfg(test)]
-mod tests;
