@@ -16,4 +16,3 @@ pub use local_lines::{local_line, local_short};
 pub use local_times::calendars_agree;
 pub use reading::{LocalFault, lines_read_back, read_local_line};
 pub use zones::rules_are_read;
-

@@ -6,4 +6,3 @@ mod seats;
 mod shelves;
 
 pub use index::RowIndex;
-
