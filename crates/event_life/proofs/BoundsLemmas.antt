@@ -19,7 +19,7 @@ use Rattle.event_life.specs.Periods.{ends_after, same_end, same_at}
 use Rattle.event_life.specs.Lives.{opens, goes_on, ends}
 use Rattle.hazard_types.specs.declared.line.Flood.{Flood}
 use Rattle.event_life.specs.Table.{flood_after, first_of, on_life, on_nothing, on_new, on_joining, on_continuing, on_ending, prints_begin, moves_begin, prints_past, prints_later, expires_early, expires_late, cancels_late, stays, continued_period, breach_of_line, life_after, left_of_life, unless_breach, step}
-use Rattle.event_life.specs.Bounds.{IsBefore, IsLongBefore, IsNear, AreSame, OpensEvent, JoinsEvent, GoesOnFrom, Stays, EndsAsPrinted, begin_left, IsOpened, IsCarriedOn, IsEnded}
+use Rattle.event_life.specs.Bounds.{IsBefore, IsLongBefore, IsNear, AreSame, HasEnded, OpensEvent, JoinsEvent, GoesOnFrom, Stays, EndsAsPrinted, begin_left, IsOpened, IsCarriedOn, IsEnded}
 use Rattle.event_life.specs.Products.{is_routine}
 use Rattle.event_life.proofs.LivesLemmas.{on_life-ended}
 
@@ -101,48 +101,60 @@ from_begin : (begin : Option ℕ) (end : End) (t : ℕ) → IsSomeAnd begin (λ 
 from_begin None end t h = absurd h
 from_begin (Some b) end t h = (refl, le-ltb b t h.0, from_before end b h.1)
 
-opens_from : (line : Line) (t : ℕ) (around : Around) → NoneHolds (on_new false line t around) → OpensEvent line t around
-opens_from line t around h = record { no_rows = h.0; number_free = h.1.0; begin = begin_from line.begin line.end t h.1.1.0 h.1.1.1.0 h.1.1.1.1.0 }
+opens_from : (stands : Bool) (line : Line) (t : ℕ) (around : Around) → NoneHolds (on_new stands line t around) → (stands ≡ false) × OpensEvent line t around
+opens_from stands line t around h =
+    let own = or_parts stands around.opened h.0 in
+    (own.0, record { no_rows = own.1; number_free = h.1.0; begin = begin_from line.begin line.end t h.1.1.0 h.1.1.1.0 h.1.1.1.1.0 })
 
-from_opens : (line : Line) (t : ℕ) (around : Around) → OpensEvent line t around → NoneHolds (on_new false line t around)
-from_opens line t around r =
+from_opens : (stands : Bool) (line : Line) (t : ℕ) (around : Around) → stands ≡ false → OpensEvent line t around → NoneHolds (on_new stands line t around)
+from_opens stands line t around none r =
     let b = from_begin line.begin line.end t r.begin in
-    (r.no_rows, (r.number_free, (b.0, (b.1, (b.2, tt)))))
+    let own : (stands || around.opened) ≡ false = rw (none, r.no_rows) refl in
+    (own, (r.number_free, (b.0, (b.1, (b.2, tt)))))
 
-pub new_exactly : (before : Option Life) (line : Line) (t : ℕ) (around : Around) → line.action ≡ New → IsOk (step before line t around) ↔ ((before ≡ None) × OpensEvent line t around)
+pub new_exactly : (before : Option Life) (line : Line) (t : ℕ) (around : Around) → line.action ≡ New → IsOk (step before line t around) ↔ (HasEnded before × OpensEvent line t around)
 new_exactly None line t around a =
     let rows = lawful_on_nothing New line t around a in
-    (λ h. (refl, opens_from line t around (rows.0 h)), λ r. rows.1 (from_opens line t around r.1))
+    (λ h. (tt, (opens_from false line t around (rows.0 h)).1), λ r. rows.1 (from_opens false line t around refl r.1))
 new_exactly (Some life) line t around a =
-    (λ h. let f = ((lawful_on_life New life line t around a).0 h).0 in cc, λ r. let f = r.0 in cc)
+    let rows = lawful_on_life New life line t around a in (
+      λ h. let p = opens_from (not life.ended) line t around (rows.0 h) in (not-false _ p.0, p.1),
+      λ r. rows.1 (from_opens (not life.ended) line t around (not_from_true _ r.0) r.1),
+    )
 
 -- EXA and EXB
 
-joins_from : (line : Line) (t : ℕ) (around : Around) (last : Bool × Breach) → NoneHolds (on_joining false line t around last) → JoinsEvent line t around × (last.0 ≡ false)
-joins_from line t around last h =
-    (record { event_open = not-false _ h.1.0; begin = ltb-false (unwrap_or line.begin t) t h.1.1.0; length = before_from line.end (unwrap_or line.begin t) h.1.1.1.0 }, h.1.1.1.1.0)
+joins_from : (stands : Bool) (line : Line) (t : ℕ) (around : Around) (last : Bool × Breach) → NoneHolds (on_joining stands line t around last) → (stands ≡ false) × JoinsEvent line t around × (last.0 ≡ false)
+joins_from stands line t around last h =
+    (h.0, record { event_open = not-false _ h.1.0; begin = ltb-false (unwrap_or line.begin t) t h.1.1.0; length = before_from line.end (unwrap_or line.begin t) h.1.1.1.0 }, h.1.1.1.1.0)
 
-from_joins : (line : Line) (t : ℕ) (around : Around) (last : Bool × Breach) → JoinsEvent line t around → last.0 ≡ false → NoneHolds (on_joining false line t around last)
-from_joins line t around last r l =
-    (refl, (not_from_true _ r.event_open, (le-ltb (unwrap_or line.begin t) t r.begin, (from_before line.end (unwrap_or line.begin t) r.length, (l, tt)))))
+from_joins : (stands : Bool) (line : Line) (t : ℕ) (around : Around) (last : Bool × Breach) → stands ≡ false → JoinsEvent line t around → last.0 ≡ false → NoneHolds (on_joining stands line t around last)
+from_joins stands line t around last none r l =
+    (none, (not_from_true _ r.event_open, (le-ltb (unwrap_or line.begin t) t r.begin, (from_before line.end (unwrap_or line.begin t) r.length, (l, tt)))))
 
-pub exa_exactly : (before : Option Life) (line : Line) (t : ℕ) (around : Around) → line.action ≡ Exa → IsOk (step before line t around) ↔ ((before ≡ None) × JoinsEvent line t around × (around.same ≡ true))
+pub exa_exactly : (before : Option Life) (line : Line) (t : ℕ) (around : Around) → line.action ≡ Exa → IsOk (step before line t around) ↔ (HasEnded before × JoinsEvent line t around × (around.same ≡ true))
 exa_exactly None line t around a =
     let rows = lawful_on_nothing Exa line t around a in (
-      λ h. let j = joins_from line t around (not around.same, PeriodMoved) (rows.0 h) in (refl, j.0, not-false _ j.1),
-      λ r. rows.1 (from_joins line t around (not around.same, PeriodMoved) r.1 (not_from_true _ r.2)),
+      λ h. let j = joins_from false line t around (not around.same, PeriodMoved) (rows.0 h) in (tt, j.1, not-false _ j.2),
+      λ r. rows.1 (from_joins false line t around (not around.same, PeriodMoved) refl r.1 (not_from_true _ r.2)),
     )
 exa_exactly (Some life) line t around a =
-    (λ h. let f = ((lawful_on_life Exa life line t around a).0 h).0 in cc, λ r. let f = r.0 in cc)
+    let rows = lawful_on_life Exa life line t around a in (
+      λ h. let j = joins_from (not life.ended) line t around (not around.same, PeriodMoved) (rows.0 h) in (not-false _ j.0, j.1, not-false _ j.2),
+      λ r. rows.1 (from_joins (not life.ended) line t around (not around.same, PeriodMoved) (not_from_true _ r.0) r.1 (not_from_true _ r.2)),
+    )
 
-pub exb_exactly : (before : Option Life) (line : Line) (t : ℕ) (around : Around) → line.action ≡ Exb → IsOk (step before line t around) ↔ ((before ≡ None) × JoinsEvent line t around × (around.same ≡ false))
+pub exb_exactly : (before : Option Life) (line : Line) (t : ℕ) (around : Around) → line.action ≡ Exb → IsOk (step before line t around) ↔ (HasEnded before × JoinsEvent line t around × (around.same ≡ false))
 exb_exactly None line t around a =
     let rows = lawful_on_nothing Exb line t around a in (
-      λ h. let j = joins_from line t around (around.same, PeriodSame) (rows.0 h) in (refl, j.0, j.1),
-      λ r. rows.1 (from_joins line t around (around.same, PeriodSame) r.1 r.2),
+      λ h. let j = joins_from false line t around (around.same, PeriodSame) (rows.0 h) in (tt, j.1, j.2),
+      λ r. rows.1 (from_joins false line t around (around.same, PeriodSame) refl r.1 r.2),
     )
 exb_exactly (Some life) line t around a =
-    (λ h. let f = ((lawful_on_life Exb life line t around a).0 h).0 in cc, λ r. let f = r.0 in cc)
+    let rows = lawful_on_life Exb life line t around a in (
+      λ h. let j = joins_from (not life.ended) line t around (around.same, PeriodSame) (rows.0 h) in (not-false _ j.0, j.1, j.2),
+      λ r. rows.1 (from_joins (not life.ended) line t around (around.same, PeriodSame) (not_from_true _ r.0) r.1 r.2),
+    )
 
 -- CON, COR and EXT
 
@@ -306,10 +318,30 @@ pub ends_leaves : (life : Life) (line : Line) (t : ℕ) (around : Around) → en
 unfolding life_after
 ends_leaves life line t around h = ok_holds (IsEnded life line) (breach_of_line (Some life) line t around) _ (ended_life line.action life line t h)
 
--- nothing but a routine line is lawful on a life that a line has ended
-pub ended_stays : (life : Life) (line : Line) (t : ℕ) (around : Around) → is_routine line.action ≡ false → life.ended ≡ true → IsOk (step (Some life) line t around) → ⊥
+-- a life that a line has ended: only lines that open are lawful, and they are judged, and leave the life, as where there is none
+
+pub ended_opens : (life : Life) (line : Line) (t : ℕ) (around : Around) → is_routine line.action ≡ false → life.ended ≡ true → IsOk (step (Some life) line t around) → opens line.action ≡ true
 unfolding breach_of_line
-ended_stays life line t around r e h = on_life-ended line.action life line t around r e (ok_none _ _ h)
+ended_opens life line t around r e h = on_life-ended line.action life line t around r e (ok_none _ _ h)
+
+anew_tests : (a : Action) (life : Life) (line : Line) (t : ℕ) (around : Around) → opens a ≡ true → life.ended ≡ true → first_of (on_life a life line t around) ≡ first_of (on_nothing a line t around)
+anew_tests New life line t around o e = rw e refl
+anew_tests Exa life line t around o e = rw e refl
+anew_tests Exb life line t around o e = rw e refl
+anew_tests _ life line t around o e = cc
+
+anew_life : (a : Action) (life : Life) (line : Line) (t : ℕ) → opens a ≡ true → left_of_life a life line t ≡ life_after None line t
+unfolding life_after
+anew_life New life line t o = refl
+anew_life Exa life line t o = refl
+anew_life Exb life line t o = refl
+anew_life _ life line t o = cc
+
+pub ended_anew : (life : Life) (line : Line) (t : ℕ) (around : Around) → opens line.action ≡ true → life.ended ≡ true → step (Some life) line t around ≡ step None line t around
+unfolding breach_of_line life_after
+ended_anew life line t around o e =
+    ap (λ (breach : Option Breach). unless_breach breach (left_of_life line.action life line t)) (anew_tests line.action life line t around o e)
+    ∙ ap (λ (after : Life). unless_breach (first_of (on_nothing line.action line t around)) after) (anew_life line.action life line t o)
 
 -- no step is Twice
 

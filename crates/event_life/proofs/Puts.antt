@@ -1,5 +1,5 @@
 -- Rows after a product: in order, each pair of zone and event once, and read off pointwise.
-use Rattle.std.proofs.Common.{◌≡◌, ◌≢◌, ◌&&◌, not, ℕ, List, [], ◌∷◌, Bool, true, false, Option, Some, Ordering, Less, Equal, Greater, refl, sym, ap, ◌∙◌, cond}
+use Rattle.std.proofs.Common.{◌≡◌, ◌≢◌, ◌&&◌, not, ℕ, List, [], ◌∷◌, Bool, true, false, Option, Some, None, Ordering, Less, Equal, Greater, refl, sym, ap, ◌∙◌, cond}
 use Rattle.std.proofs.lemmas.Bool.{and_parts, false_from_ne_true, not-true}
 use Rattle.std.specs.List.{AllByRecursion}
 use Rattle.std.specs.List.Sorted.{IsStrictlySortedBy}
@@ -62,9 +62,19 @@ row_at-put row (r ∷ rows) e z = placed-at row r rows e z (by_key row r) refl (
 
 -- order
 
-all_above : (row r : Row) (rows : List Row) → by_key row r ≡ Less → AllByRecursion (λ y. by_key r y ≡ Less) rows → AllByRecursion (λ y. by_key row y ≡ Less) rows
+pub all_above : (row r : Row) (rows : List Row) → by_key row r ≡ Less → AllByRecursion (λ y. by_key r y ≡ Less) rows → AllByRecursion (λ y. by_key row y ≡ Less) rows
 all_above row r [] h all = tt
 all_above row r (y ∷ ys) h all = (by_key-total.trans row r y h all.0, all_above row r ys h all.1)
+
+-- rows that come behind a row are not of its zone and event
+pub none_above : (row : Row) (rows : List Row) → AllByRecursion (λ y. by_key row y ≡ Less) rows → row_at rows row.event row.zone ≡ None
+none_above row [] all = refl
+none_above row (r ∷ rows) all =
+    let apart : at_key row.event row.zone r ≡ false = false_from_ne_true _ (λ h.
+    let p = at_key-parts row.event row.zone r h in
+    let tied : by_key row r ≡ Equal = key_ties row r (sym p.1) (sym p.0) in
+    let less : by_key row r ≡ Less = all.0 in cc) in
+    rw apart (none_above row rows all.1)
 
 all_above_tied : (row r : Row) (rows : List Row) → by_key row r ≡ Equal → AllByRecursion (λ y. by_key r y ≡ Less) rows → AllByRecursion (λ y. by_key row y ≡ Less) rows
 all_above_tied row r [] h all = tt

@@ -1,5 +1,5 @@
 -- Which lines are lawful, action by action, in plain inequalities.
-use Rattle.std.specs.Prelude.{◌≡◌, ◌⊎◌, ◌≤◌, ◌<◌, ◌+◌, ⊤, ℕ, true, false, min, Some, None, unwrap_or, IfSome, IsSomeAnd, MatchOption}
+use Rattle.std.specs.Prelude.{◌≡◌, ◌⊎◌, ◌≤◌, ◌<◌, ◌+◌, ⊤, ℕ, true, false, min, Option, Some, None, unwrap_or, IfSome, IsSomeAnd, MatchOption}
 use Rattle.hazard_types.specs.declared.period.End.{End}
 use Rattle.hazard_types.specs.declared.period.End.TheVariants.{At, Ufn}
 use Rattle.hazard_types.specs.declared.period.Period.{Period}
@@ -25,6 +25,10 @@ IsNear t Ufn = ⊥
 -- the ends are equal, and the begins are equal or both at most the minute
 abbrev pub AreSame : ℕ → Period → Period → Type 0
 AreSame t p q = (p.end ≡ q.end) × ((p.begin ≡ q.begin) ⊎ ((p.begin ≤ t) × (q.begin ≤ t)))
+
+-- no row stands that no line has ended
+abbrev pub HasEnded : Option Life → Type 0
+HasEnded before = IfSome before (λ life. life.ended ≡ true)
 
 -- NEW: the event has no rows, its number is free, and a begin is printed that is not past, with an end after it
 pub record OpensEvent (line : Line) (t : ℕ) (around : Around) : Type 0 where

@@ -6,6 +6,7 @@ pub mod Openings
 pub mod Periods
 pub mod Printed
 pub mod Products
+pub mod Reordered
 pub mod Seats
 pub mod Shown
 pub mod Table

@@ -1,5 +1,6 @@
 -- Tracks and lives: what the lawful lines of a list of products did to an event in a zone.
-use Rattle.std.specs.Prelude.{◌≡◌, ◌⊎◌, ℕ, Bool, true, false, List, [], ◌∷◌, ◌++◌, map, if◌then◌else◌, Option, None}
+use Rattle.std.specs.Prelude.{◌≡◌, ℕ, Bool, true, false, List, [], ◌∷◌, ◌++◌, map, if◌then◌else◌, Option, Some, None, IfSome}
+use Rattle.std.specs.List.{AllByRecursion, flat_map}
 use Rattle.hazard_types.specs.Places.{Place}
 use Rattle.hazard_types.specs.declared.codes.Action.{Action}
 use Rattle.hazard_types.specs.declared.codes.Action.TheVariants.{New, Con, Exa, Ext, Exb, Upg, Can, Exp, Cor}
@@ -26,6 +27,14 @@ track_from rows (p ∷ products) e z = steps_of p.issue e z (lawful_of (judged_p
 abbrev pub track_of : List Product → Event → Place → List (Action × ℕ)
 track_of products e z = track_from [] products e z
 
+-- action and issue minute of all lines of an event in a zone, lawful or not
+abbrev pub said_from : List Row → List Product → Event → Place → List (Action × ℕ)
+said_from rows [] e z = []
+said_from rows (p ∷ products) e z = steps_of p.issue e z (lines_of rows p.issue p.said) ++ said_from (rows_with rows p) products e z
+
+abbrev pub said_of : List Product → Event → Place → List (Action × ℕ)
+said_of products e z = said_from [] products e z
+
 -- none of the lines that speak of the event in the zone has a breach
 abbrev pub AreLawful : Event → Place → List (Line × Option Breach) → Type 0
 AreLawful e z [] = Unit {0}
@@ -39,7 +48,7 @@ IsLawfulFrom rows (p ∷ products) e z = AreLawful e z (judged_product rows p) �
 abbrev pub IsLawfulLife : List Product → Event → Place → Type 0
 IsLawfulLife products e z = IsLawfulFrom [] products e z
 
--- the shape of a life
+-- The shape of a life.
 
 abbrev pub opens : Action → Bool
 opens New = true
@@ -59,15 +68,44 @@ ends Exp = true
 ends Upg = true
 ends _ = false
 
--- it goes on, and ends at most once, with nothing after that
-abbrev pub GoesOn : List Action → Type 0
-GoesOn [] = Unit {0}
-GoesOn (a ∷ more) = ((goes_on a ≡ true) × GoesOn more) ⊎ ((ends a ≡ true) × (more ≡ []))
+-- a spell that is not the first opens with EXA or EXB
+abbrev pub rejoins : Action → Bool
+rejoins Exa = true
+rejoins Exb = true
+rejoins _ = false
 
--- it opens, and goes on
-abbrev pub IsLifelong : List Action → Type 0
-IsLifelong [] = Unit {0}
-IsLifelong (a ∷ more) = (opens a ≡ true) × GoesOn more
+-- A spell: what opens it, what it goes on with, and what ends it, if it has ended.
+pub record Spell : Type 0 where
+  pub opening : Action
+  pub going : List Action
+  pub ending : Option Action
+
+abbrev pub at_end : Option Action → List Action
+at_end None = []
+at_end (Some a) = a ∷ []
+
+-- its actions, in order
+abbrev pub actions_in : Spell → List Action
+actions_in s = s.opening ∷ (s.going ++ at_end s.ending)
+
+-- it opens so, goes on with CON, COR or EXT, and ends with CAN, EXP or UPG where it ends
+pub record IsSpell (opened : Action → Bool) (s : Spell) : Type 0 where
+  pub first : opened s.opening ≡ true
+  pub carried_on : AllByRecursion (λ (a : Action). goes_on a ≡ true) s.going
+  pub last : IfSome s.ending (λ a. ends a ≡ true)
+
+-- spells one after another: the first opens so, each later one with EXA or EXB, and one that has not ended is the last
+abbrev pub AreSpells : (Action → Bool) → List Spell → Type 0
+AreSpells opened [] = Unit {0}
+AreSpells opened (s ∷ later) = IsSpell opened s × (s.ending ≡ None → later ≡ []) × AreSpells rejoins later
+
+-- the actions are those of spells, of which the first opens so
+abbrev pub IsOfSpells : (Action → Bool) → List Action → Type 0
+IsOfSpells opened actions = (spells : List Spell) × AreSpells opened spells × (flat_map actions_in spells ≡ actions)
+
+-- a life: spells one after another, of which the first opens with NEW, EXA or EXB
+abbrev pub IsLife : List Action → Type 0
+IsLife actions = IsOfSpells opens actions
 
 abbrev pub actions_of : List (Action × ℕ) → List Action
 actions_of steps = map (λ (s : Action × ℕ). s.0) steps

@@ -53,7 +53,7 @@ prints_later (Some printed) t = nat_lt t printed
 abbrev pub opened_period : Line → ℕ → Period
 opened_period line t = record { begin = unwrap_or line.begin t; end = line.end }
 
--- NEW, where a life stands or not
+-- NEW, where a life that no line has ended stands, or none does
 abbrev pub on_new : Bool → Line → ℕ → Around → List (Bool × Breach)
 on_new stands line t around =
     ((stands || around.opened) named Reopened)
@@ -113,11 +113,11 @@ abbrev pub cancels_late : End → ℕ → Bool
 cancels_late (At m) t = nat_le m (t + 30)
 cancels_late Ufn t = false
 
--- what may be a breach of a line on a life that stands, in order; ROU has none
+-- what may be a breach of a line on a life, in order; ROU has none
 abbrev pub on_life : Action → Life → Line → ℕ → Around → List (Bool × Breach)
-on_life New life line t around = on_new true line t around
-on_life Exa life line t around = on_joining true line t around (not around.same named PeriodMoved)
-on_life Exb life line t around = on_joining true line t around (around.same named PeriodSame)
+on_life New life line t around = on_new (not life.ended) line t around
+on_life Exa life line t around = on_joining (not life.ended) line t around (not around.same named PeriodMoved)
+on_life Exb life line t around = on_joining (not life.ended) line t around (around.same named PeriodSame)
 on_life Con life line t around = on_continuing life line t (not (stays life line t) named PeriodMoved)
 on_life Cor life line t around = on_continuing life line t (not (stays life line t) named PeriodMoved)
 on_life Ext life line t around = on_continuing life line t (stays life line t named PeriodSame)
@@ -126,7 +126,7 @@ on_life Exp life line t around = on_ending life line t ((expires_early life.peri
 on_life Upg life line t around = on_ending life line t ((not (ends_after life.period.end t) named TooLate) ∷ (not around.higher named NoHigher) ∷ [])
 on_life Rou life line t around = []
 
--- the same where no life stands
+-- the same where there is no life
 abbrev pub on_nothing : Action → Line → ℕ → Around → List (Bool × Breach)
 on_nothing New line t around = on_new false line t around
 on_nothing Exa line t around = on_joining false line t around (not around.same named PeriodMoved)
@@ -139,7 +139,7 @@ unfoldable pub breach_of_line : Option Life → Line → ℕ → Around → Opti
 breach_of_line None line t around = first_of (on_nothing line.action line t around)
 breach_of_line (Some life) line t around = first_of (on_life line.action life line t around)
 
--- what a lawful line leaves of a life
+-- what a lawful line leaves of a life; NEW, EXA and EXB make it anew
 abbrev pub left_of_life : Action → Life → Line → ℕ → Life
 left_of_life Con life line t = record { period = continued_period life line t; flood = flood_after life.flood line.flood; ended = false }
 left_of_life Cor life line t = record { period = continued_period life line t; flood = flood_after life.flood line.flood; ended = false }

@@ -1,16 +1,19 @@
 //! Laws of lives over whole products.
 ghost use Rattle.std.specs.Prelude.{◌≡◌, ◌↔◌, not, true, false, ℕ, List, [], filter};
+ghost use Rattle.std.specs.List.{IsDistinct};
 ghost use Rattle.std.specs.List.Sorted.{IsStrictlySortedBy};
+ghost use Rattle.hazard_types.specs.Same.{same_event};
 ghost use Rattle.hazard_types.specs.Days.{year_of};
 ghost use Rattle.hazard_types.specs.Places.{Place};
 ghost use Rattle.hazard_types.specs.declared.codes.Class.{Class};
 ghost use Rattle.hazard_types.specs.declared.hazard.Event.{Event};
 ghost use Rattle.hazard_types.specs.declared.line.Line.{Line};
 ghost use Rattle.hazard_types.specs.declared.line.Row.{Row};
-ghost use Rattle.event_life.specs.Products.{Product, by_key, row_at, rows_after, is_routine, is_upgrade, is_new, line_of, put_all, judged, lawful_of, end_upgraded, rows_for_higher};
+ghost use Rattle.event_life.specs.Products.{Product, by_key, row_at, rows_after, rows_of, is_routine, is_upgrade, is_new, line_of, put_all, judged, lawful_of, end_upgraded, rows_for_higher};
 ghost use Rattle.event_life.specs.Firsts.{row_by_first_line, is_lawful};
-ghost use Rattle.event_life.specs.Lives.{IsLifelong, actions_of, track_of};
+ghost use Rattle.event_life.specs.Lives.{IsLife, IsLawfulLife, actions_of, said_of, track_of};
 ghost use Rattle.event_life.specs.Openings.{IsGapless, opened_of, gaps_of};
+ghost use Rattle.event_life.specs.Reordered.{are_lawful, AreApart, TouchAlike};
 ghost use Rattle.event_life.specs.Printed.{HasOneOpen, zone_line_of};
 
 /// The row of an event in a zone after a product is the one that the first line of both leaves, where that line is lawful; else it is as before.
@@ -19,16 +22,40 @@ pub fn first_line_decides()
         row_at (rows_after rows t lines) e z ≡ row_by_first_line rows t lines e z }
 {}
 
+/// The order of a product's lines is free: where the same lines touch a life, and no two of them speak of one event and zone,
+/// the lines are lawful alike and leave the same rows. (ROU touches no life.)
+pub fn order_of_lines_is_free()
+    ensures lawful { (rows : List Row) (t : ℕ) (xs ys : List Line) →
+        IsStrictlySortedBy by_key rows → AreApart xs → AreApart ys → TouchAlike xs ys → are_lawful rows t xs ≡ are_lawful rows t ys }
+    ensures rows { (rows : List Row) (t : ℕ) (xs ys : List Line) →
+        IsStrictlySortedBy by_key rows → AreApart xs → TouchAlike xs ys → rows_after rows t xs ≡ rows_after rows t ys }
+{}
+
 /// Rows in order by zone, then event, each pair once, are so after a product too.
 pub fn rows_stay_in_order()
     ensures { (rows : List Row) (t : ℕ) (lines : List Line) →
         IsStrictlySortedBy by_key rows → IsStrictlySortedBy by_key (rows_after rows t lines) }
 {}
 
-/// The lawful lines of an event in a zone, over any products: the first is NEW, EXA or EXB, CON, COR and EXT follow,
-/// and at most one CAN, EXP or UPG, with nothing after that.
-pub fn lives_are_lifelong()
-    ensures { (products : List Product) (e : Event) (z : Place) → IsLifelong (actions_of (track_of products e z)) }
+/// The lawful lines of an event in a zone, over any products, are spells, one after another. The first opens with NEW, EXA or EXB,
+/// each later one with EXA or EXB. A spell goes on with CON, COR or EXT. Each but the last ends with CAN, EXP or UPG, and the last may.
+pub fn lives_are_spells()
+    ensures { (products : List Product) (e : Event) (z : Place) → IsLife (actions_of (track_of products e z)) }
+{}
+
+/// The life of an event in a zone is lawful exactly where all its lines stand in its track.
+pub fn lawful_lives_are_whole()
+    ensures { (products : List Product) (e : Event) (z : Place) → IsLawfulLife products e z ↔ (track_of products e z ≡ said_of products e z) }
+{}
+
+/// No event is opened twice, by one product or by two.
+pub fn events_open_once()
+    ensures { (products : List Product) → IsDistinct same_event (opened_of products) }
+{}
+
+/// The rows of a list of products stand by zone, then event, each pair once.
+pub fn rows_of_are_in_order()
+    ensures { (products : List Product) → IsStrictlySortedBy by_key (rows_of products) }
 {}
 
 /// The numbers of each hazard and year are 1, 2, .., in the order of opening, exactly where no gap is found.

@@ -2,26 +2,19 @@
 #![tactic(auto)]
 
 mod judging;
-#[cfg(test)]
-mod judging_tests;
 mod laws;
 mod life;
 mod openings;
 mod periods;
 mod putting;
 mod rows;
-#[cfg(test)]
-mod rows_tests;
 mod step_laws;
-#[cfg(test)]
-mod step_tests;
-mod tracks;
 
 pub use judging::{breach_in, has_higher, judge, line_of};
 pub use laws::{
-    first_line_decides, gapless_without_gaps, higher_rows_are_lawful_rows,
-    judged_lines_leave_the_rows_after, lawful_lines_read_back, lives_are_lifelong,
-    rows_stay_in_order,
+    events_open_once, first_line_decides, gapless_without_gaps, higher_rows_are_lawful_rows,
+    judged_lines_leave_the_rows_after, lawful_lines_read_back, lawful_lives_are_whole,
+    lives_are_spells, order_of_lines_is_free, rows_of_are_in_order, rows_stay_in_order,
 };
 pub use life::{Around, Breach, Life, life_step};
 pub use openings::{Gap, gaps, opened_by};
@@ -34,9 +27,8 @@ pub use rows::{
     opened_period, row_at,
 };
 pub use step_laws::{
-    can_comes_before_the_last_half_hour, con_and_cor_keep_the_period, ended_lives_stay_ended,
+    can_comes_before_the_last_half_hour, con_and_cor_keep_the_period, ended_lives_are_opened_anew,
     exa_joins_a_period_of_the_event, exb_joins_at_another_period,
     exp_comes_within_half_an_hour_of_the_end, ext_changes_the_period, lawful_lines_leave,
     new_opens_an_event, steps_are_never_twice, upg_comes_before_the_end,
 };
-pub use tracks::add_steps;

@@ -60,7 +60,7 @@ pub(crate) fn begin_of(line: &Line, t: Minute) -> Minute
     }
 }
 
-/// The first breach of a NEW line, where a life stands or not.
+/// The first breach of a NEW line, where a life that no line has ended stands, or none does.
 fn new_breach(stands: bool, line: &Line, t: Minute, around: Around) -> Option<Breach>
     ensures { result ≡ first_of (on_new stands line.now t around) }
 {
@@ -80,7 +80,7 @@ fn new_breach(stands: bool, line: &Line, t: Minute, around: Around) -> Option<Br
     }
 }
 
-/// The first breach of an EXA or EXB line, of which this is the last.
+/// The first breach of an EXA or EXB line, of which this is the last, where a life that no line has ended stands, or none does.
 fn joining_breach(
     stands: bool,
     line: &Line,
@@ -255,14 +255,15 @@ fn upg_breach(life: &Life, t: Minute, around: Around) -> Option<Breach>
     }
 }
 
-/// The first breach of a line on a life that stands.
+/// The first breach of a line on a life.
 fn breach_on_life(life: &Life, line: &Line, t: Minute, around: Around) -> Option<Breach>
     ensures { result ≡ first_of (on_life line.now.action life.now line.now t around) }
 {
+    let stands = !life.ended;
     match line.action {
-        Action::New => new_breach(true, line, t, around),
-        Action::Exa => joining_breach(true, line, t, around, !around.same, Breach::PeriodMoved),
-        Action::Exb => joining_breach(true, line, t, around, around.same, Breach::PeriodSame),
+        Action::New => new_breach(stands, line, t, around),
+        Action::Exa => joining_breach(stands, line, t, around, !around.same, Breach::PeriodMoved),
+        Action::Exb => joining_breach(stands, line, t, around, around.same, Breach::PeriodSame),
         Action::Con | Action::Cor => {
             continuing_breach(life, line, t, !stays(life, line, t), Breach::PeriodMoved)
         }
@@ -274,7 +275,7 @@ fn breach_on_life(life: &Life, line: &Line, t: Minute, around: Around) -> Option
     }
 }
 
-/// The first breach of a line where no life stands.
+/// The first breach of a line where there is no life.
 fn breach_on_nothing(line: &Line, t: Minute, around: Around) -> Option<Breach>
     ensures { result ≡ first_of (on_nothing line.now.action line.now t around) }
 {
@@ -327,7 +328,7 @@ fn opened_life(line: &Line, t: Minute) -> Life
     }
 }
 
-/// The life that a lawful line leaves of one that stands.
+/// The life that a lawful line leaves of another: NEW, EXA and EXB make it anew.
 fn left_of_life(life: &Life, line: &Line, t: Minute) -> Life
     ensures { result ≡ left_of_life line.now.action life.now line.now t }
 {

@@ -1,5 +1,6 @@
 //! The rows that the lines of a product leave.
-ghost use Rattle.std.specs.Prelude.{◌≡◌, ◌&&◌, not, [], map, is_none, IfOk, OnOk};
+ghost use Rattle.std.specs.Prelude.{◌≡◌, ◌≤◌, ◌<◌, ◌&&◌, not, [], length, map, is_none, IfOk, OnOk, OnErr};
+ghost use Rattle.std.specs.Vec.{vec_capacity};
 ghost use Rattle.event_life.specs.Products.{by_key, put, row_of, row_after, is_routine, is_upgrade, speaks_of, is_second, put_but_upgrades, rows_for_higher, lawful_of, put_all};
 ghost use Rattle.event_life.specs.Seats.{seated, IsSeat, is_upgraded, end_if_upgraded, may_count};
 ghost use Rattle.event_life.specs.Shown.{shown_at};
@@ -33,9 +34,12 @@ fn seat_of(rows: &[Row], row: &Row) -> Result<usize, usize>
     Err(rows.len())
 }
 
-/// Puts a row in the place of the one of its zone and event, or in its own place.
+/// Puts a row in the place of the one of its zone and event, or in its own place. Memory is wanted only where the rows outgrow their capacity.
 pub fn put(rows: &mut Vec<Row>, row: &Row) -> Result<(), Oom>
-    ensures { OnOk result (rows.new.items ≡ put row.now rows.old.items) }
+    ensures ok { OnOk result (rows.new.items ≡ put row.now rows.old.items) }
+    ensures capacity { vec_capacity rows.old ≤ vec_capacity rows.new }
+    ensures err { OnErr result (vec_capacity rows.old < length (put row.now rows.old.items)) }
+    ensures kept { OnErr result (rows.new.items ≡ rows.old.items) }
 {
     match seat_of(rows, row) {
         Ok(place) => rows[place] = *row,

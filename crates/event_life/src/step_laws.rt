@@ -1,5 +1,5 @@
 //! Laws of one step: each line's bounds, and what it leaves.
-ghost use Rattle.std.specs.Prelude.{◌≡◌, ◌≢◌, ◌↔◌, ℕ, Option, IsOk, IfOk, IsSomeAnd, true, false};
+ghost use Rattle.std.specs.Prelude.{◌≡◌, ◌≢◌, ◌↔◌, ℕ, Option, Some, None, Err, IsOk, IfOk, IsSomeAnd, true, false};
 ghost use Rattle.hazard_types.specs.declared.codes.Action.TheVariants.{New, Con, Exa, Ext, Exb, Upg, Can, Exp, Cor};
 ghost use Rattle.hazard_types.specs.declared.line.Line.{Line};
 ghost use Rattle.event_life.specs.declared.life.Life.{Life};
@@ -8,27 +8,27 @@ ghost use Rattle.event_life.specs.declared.life.Breach.TheVariants.{Twice};
 ghost use Rattle.event_life.specs.Table.{step};
 ghost use Rattle.event_life.specs.Products.{is_routine};
 ghost use Rattle.event_life.specs.Lives.{opens, goes_on, ends};
-ghost use Rattle.event_life.specs.Bounds.{IsBefore, IsLongBefore, IsNear, OpensEvent, JoinsEvent, GoesOnFrom, Stays, EndsAsPrinted, IsOpened, IsCarriedOn, IsEnded};
+ghost use Rattle.event_life.specs.Bounds.{IsBefore, IsLongBefore, IsNear, OpensEvent, JoinsEvent, GoesOnFrom, HasEnded, Stays, EndsAsPrinted, IsOpened, IsCarriedOn, IsEnded};
 
-/// NEW is lawful exactly where no row stands, the event has none anywhere, no open event of an earlier year has its number,
+/// NEW is lawful exactly where no row stands that no line has ended, the event has no rows anywhere, no open event of an earlier year has its number,
 /// and it prints a begin that is not past, with an end after it.
 pub fn new_opens_an_event()
     ensures { (before : Option Life) (line : Line) (t : ℕ) (around : Around) → line.action ≡ New →
-        IsOk (step before line t around) ↔ ((before ≡ None) × OpensEvent line t around) }
+        IsOk (step before line t around) ↔ (HasEnded before × OpensEvent line t around) }
 {}
 
-/// EXA is lawful exactly where no row stands, the event is open, the period begins now or later and ends after that,
+/// EXA is lawful exactly where no row stands that no line has ended, the event is open, the period begins now or later and ends after that,
 /// and a live row of the event has that period.
 pub fn exa_joins_a_period_of_the_event()
     ensures { (before : Option Life) (line : Line) (t : ℕ) (around : Around) → line.action ≡ Exa →
-        IsOk (step before line t around) ↔ ((before ≡ None) × JoinsEvent line t around × (around.same ≡ true)) }
+        IsOk (step before line t around) ↔ (HasEnded before × JoinsEvent line t around × (around.same ≡ true)) }
 {}
 
-/// EXB is lawful exactly where no row stands, the event is open, the period begins now or later and ends after that,
+/// EXB is lawful exactly where no row stands that no line has ended, the event is open, the period begins now or later and ends after that,
 /// and no live row of the event has that period.
 pub fn exb_joins_at_another_period()
     ensures { (before : Option Life) (line : Line) (t : ℕ) (around : Around) → line.action ≡ Exb →
-        IsOk (step before line t around) ↔ ((before ≡ None) × JoinsEvent line t around × (around.same ≡ false)) }
+        IsOk (step before line t around) ↔ (HasEnded before × JoinsEvent line t around × (around.same ≡ false)) }
 {}
 
 /// CON and COR are lawful exactly on a live row whose period stays. They print a begin only where both it and the row's are later than the minute.
@@ -75,10 +75,13 @@ pub fn lawful_lines_leave()
         IfOk (step (Some life) line t around) (IsEnded life line) }
 {}
 
-/// Nothing is lawful on a life that a line has ended. (ROU touches no life.)
-pub fn ended_lives_stay_ended()
-    ensures { (life : Life) (line : Line) (t : ℕ) (around : Around) → is_routine line.action ≡ false → life.ended ≡ true →
-        ¬ IsOk (step (Some life) line t around) }
+/// On a life that a line has ended nothing is lawful but NEW, EXA and EXB, and these are judged, and leave the life, as where there is none.
+/// (ROU touches no life.)
+pub fn ended_lives_are_opened_anew()
+    ensures opening { (life : Life) (line : Line) (t : ℕ) (around : Around) → is_routine line.action ≡ false → life.ended ≡ true →
+        IsOk (step (Some life) line t around) → opens line.action ≡ true }
+    ensures anew { (life : Life) (line : Line) (t : ℕ) (around : Around) → opens line.action ≡ true → life.ended ≡ true →
+        step (Some life) line t around ≡ step None line t around }
 {}
 
 /// No step is a second line of its product: whoever sees the whole product finds that.
