@@ -1,6 +1,6 @@
 -- The correction of a product: what stays live of its lines, said again with COR.
 use Rattle.std.specs.Prelude.{◌≡◌, ◌≤◌, ◌+◌, ◌==◌, not, ℕ, Bool, List, [], ◌∷◌, length, map, filter_map, find, nat_le, if◌then◌else◌, Option, Some, None, option_map}
-use Rattle.std.specs.List.{list_any}
+use Rattle.std.specs.List.{list_any, AllPairs}
 use Rattle.std.specs.Option.{option_or}
 use Rattle.hazard_types.specs.Same.{same_event}
 use Rattle.hazard_types.specs.declared.codes.Action.TheVariants.{Cor}
@@ -15,7 +15,6 @@ use Rattle.hazard_types.specs.declared.request.Sent.{Sent}
 use Rattle.hazard_types.specs.declared.request.Texts.{Texts}
 use Rattle.event_life.specs.Periods.{is_live}
 use Rattle.event_life.specs.Products.{row_at}
-use Rattle.event_life.specs.Reordered.{AreApart}
 use Rattle.hazard_board.specs.Clashes.{least_clash}
 use Rattle.hazard_board.specs.Consistent.{IsConsistent}
 use Rattle.hazard_board.specs.Taken.{rows_taken}
@@ -96,8 +95,8 @@ pub record IsCorrection (rows : List Row) (t : ℕ) (sent : Sent) (letters : ℕ
 
 -- where a correction may be planned
 pub record CanCorrect (rows : List Row) (sent : Sent) (letters t : ℕ) : Type 0 where
-  -- no two lines of the product that touch a life are of one event in one zone
-  pub apart : AreApart sent.lines
+  -- no two lines of the product are of one event in one zone
+  pub apart : AllPairs (λ (l m : Line). ¬ ((l.event ≡ m.event) × (l.zone ≡ m.zone))) sent.lines
   pub letters : letters ≤ 24
   pub consistent : IsConsistent rows t
   pub sited : AreSited rows
