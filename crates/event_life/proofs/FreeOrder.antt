@@ -1,30 +1,27 @@
 -- Lines of a product in another order: the same are lawful, and they leave the same rows.
-use Rattle.std.proofs.Common.{◌≡◌, ◌↔◌, ◌⊎◌, inl, inr, ◌&&◌, ◌||◌, not, ℕ, List, [], ◌∷◌, ◌++◌, Bool, true, false, Option, Some, None, Ordering, Less, Equal, Greater, refl, sym, ap, subst, ◌∙◌, cond}
+use Rattle.std.proofs.Common.{◌≡◌, inl, inr, ◌&&◌, ◌||◌, not, ℕ, List, [], ◌∷◌, ◌++◌, Bool, true, false, Option, Some, None, Ordering, Less, Equal, Greater, refl, sym, ap, subst, ◌∙◌, cond}
 use Rattle.std.specs.List.{AllByRecursion, filter, find, list_any, list_all}
 use Rattle.std.specs.List.Sorted.{IsStrictlySortedBy}
 use Rattle.std.specs.Option.{is_none}
 use Rattle.std.specs.Ordering.{ordering_reverse}
-use Rattle.std.proofs.lemmas.Bool.{and_parts, not-true, false_from_ne_true, both_ways}
+use Rattle.std.proofs.lemmas.Bool.{and_parts, false_from_ne_true, both_ways}
 use Rattle.std.proofs.lemmas.List.Folds.{list_any-append}
 use Rattle.hazard_types.specs.Places.{Place}
-use Rattle.hazard_types.specs.Same.{same_zone, same_event}
-use Rattle.hazard_types.specs.declared.codes.Action.{Action}
 use Rattle.hazard_types.specs.declared.hazard.Event.{Event}
 use Rattle.hazard_types.specs.declared.line.Line.{Line}
 use Rattle.hazard_types.specs.declared.line.Row.{Row}
 use Rattle.hazard_types.proofs.Equality.{zone_itself, event_itself}
 use Rattle.event_life.specs.declared.life.Breach.{Breach}
-use Rattle.event_life.specs.declared.life.Breach.TheVariants.{Twice}
-use Rattle.event_life.specs.Firsts.{is_lawful, first_line, row_by_first, row_by_first_line}
+use Rattle.event_life.specs.Firsts.{is_lawful, first_line, row_by_first}
 use Rattle.event_life.specs.Higher.{may_yield}
 use Rattle.event_life.specs.Products.{by_key, row_at, life_at, row_after, around_of, is_routine, is_upgrade, speaks_of, is_second, is_overlapped, has_higher, breach_in, judged_from, judged, lawful_of, put_all, end_upgraded, rows_for_higher, rows_after}
 use Rattle.event_life.specs.Reordered.{are_lawful, TouchAlike, AreApart}
 use Rattle.event_life.specs.Table.{breach_of_line}
 use Rattle.event_life.proofs.HigherLemmas.{breach-higher, rows_for_higher-lawful}
-use Rattle.event_life.proofs.Keys.{by_key-total, key_exact, key_ties}
+use Rattle.event_life.proofs.Keys.{by_key-total, key_exact}
 use Rattle.event_life.proofs.Members.{IsIn, of_all, all_of, in_contains, contains_in, any_in, in_any, all_in, in_all, find_in, none_in, one_way}
 use Rattle.event_life.proofs.Puts.{at_key, at_key-parts, none_above, all_above, put_all-sorted, rows_after-sorted, speaks_of-parts}
-use Rattle.event_life.proofs.Spoken.{spoken, lawful_first, AreTouching, lawful_of-touches, row_by_last, row_at-put_all, row_at-rows_after, breach_in-first}
+use Rattle.event_life.proofs.Spoken.{spoken, lawful_first, AreTouching, lawful_of-touches, row_by_last, row_at-put_all, row_at-rows_after}
 
 -- rows in order are told by what is found in them
 
@@ -132,7 +129,7 @@ module _ (p q : Line → Bool) where
   commute_step line lines false true h g more = rw h more
   commute_step line lines false false h g more = more
 
-  commute : (lines : List Line) → filter p (filter q lines) ≡ filter q (filter p lines)
+  pub commute : (lines : List Line) → filter p (filter q lines) ≡ filter q (filter p lines)
   commute [] = refl
   commute (line ∷ lines) = commute_step line lines (p line) (q line) refl refl (commute lines)
 

@@ -1,7 +1,7 @@
 -- Members of a list, and tests that look at members alone.
-use Rattle.std.proofs.Common.{◌≡◌, ◌⊎◌, inl, inr, ◌&&◌, ◌||◌, List, [], ◌∷◌, Bool, true, false, Option, Some, None, refl, sym, subst, cond}
-use Rattle.std.specs.List.{AllByRecursion, Contains, All, list_any, list_all, find}
-use Rattle.std.proofs.lemmas.Bool.{and_parts, false_from_ne_true}
+use Rattle.std.proofs.Common.{◌≡◌, ◌⊎◌, inl, inr, ◌||◌, List, [], ◌∷◌, Bool, true, false, Some, None, refl, sym, subst, cond}
+use Rattle.std.specs.List.{AllByRecursion, Contains, list_any, list_all, find}
+use Rattle.std.proofs.lemmas.Bool.{and_parts}
 use Rattle.std.proofs.lemmas.List.Elements.{All-contains_itself, All-contains, All-from_recursion, recursion_from_All}
 
 abbrev pub IsIn : {X : Type 0} → X → List X → Type 0

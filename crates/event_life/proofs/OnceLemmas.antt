@@ -1,5 +1,5 @@
 -- No event is opened by two products: a lawful NEW line leaves a row of its event, and rows are never taken away.
-use Rattle.std.proofs.Common.{◌≡◌, ◌&&◌, ◌||◌, not, ℕ, List, [], ◌∷◌, ◌++◌, Bool, true, false, Option, Some, None, Ordering, Less, Equal, Greater, refl, sym, ap, subst, ◌∙◌, cond, fold}
+use Rattle.std.proofs.Common.{◌≡◌, ◌&&◌, ◌||◌, not, ℕ, List, [], ◌∷◌, ◌++◌, Bool, true, false, None, Ordering, Less, Equal, Greater, refl, sym, ap, subst, ◌∙◌, cond}
 use Rattle.std.specs.Option.{is_none}
 use Rattle.std.specs.List.{AllByRecursion, IsDistinct}
 use Rattle.std.specs.List.Sorted.{IsStrictlySortedBy}
@@ -14,9 +14,7 @@ use Rattle.hazard_types.specs.declared.hazard.Event.{Event}
 use Rattle.hazard_types.specs.declared.line.Line.{Line}
 use Rattle.hazard_types.specs.declared.line.Row.{Row}
 use Rattle.hazard_types.proofs.Equality.{event_one, event_itself}
-use Rattle.hazard_types.proofs.OrderLaws.{by_event_total, by_event_ties}
-use Rattle.event_life.specs.declared.life.Breach.{Breach}
-use Rattle.event_life.specs.declared.life.Breach.TheVariants.{Twice}
+use Rattle.hazard_types.proofs.OrderLaws.{by_event_total}
 use Rattle.event_life.specs.Products.{Product, by_key, placed, put, has_rows, life_at, row_after, around_of, is_routine, is_new, is_second, breach_in, judged_from, judged, lawful_of, put_all, lines_of, rows_after, rows_with}
 use Rattle.event_life.specs.Lives.{judged_product}
 use Rattle.event_life.specs.Openings.{event_placed, add_event, opened_by, opened_from, opened_of}

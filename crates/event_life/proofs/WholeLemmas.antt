@@ -3,13 +3,13 @@ use Rattle.std.proofs.Common.{◌≡◌, ◌↔◌, ◌&&◌, not, ℕ, ◌+◌,
 use Rattle.std.specs.Option.{is_none}
 use Rattle.std.proofs.lemmas.Bool.{and_parts, not-true}
 use Rattle.hazard_types.specs.Places.{Place}
-use Rattle.hazard_types.specs.Same.{same_zone, same_event}
+use Rattle.hazard_types.specs.Same.{same_event}
 use Rattle.hazard_types.specs.declared.codes.Action.{Action}
 use Rattle.hazard_types.specs.declared.hazard.Event.{Event}
 use Rattle.hazard_types.specs.declared.line.Line.{Line}
 use Rattle.hazard_types.specs.declared.line.Row.{Row}
 use Rattle.event_life.specs.declared.life.Breach.{Breach}
-use Rattle.event_life.specs.Products.{Product, is_routine, speaks_of, judged_from, judged, breach_in, lawful_of, lines_of, rows_with}
+use Rattle.event_life.specs.Products.{Product, is_routine, speaks_of, judged_from, breach_in, lawful_of, lines_of, rows_with}
 use Rattle.event_life.specs.Lives.{judged_product, steps_of, track_from, track_of, said_from, said_of, AreLawful, IsLawfulFrom, IsLawfulLife}
 
 -- one line more in front

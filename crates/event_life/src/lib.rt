@@ -20,7 +20,8 @@ pub use life::{Around, Breach, Life, life_step};
 pub use openings::{Gap, gaps, opened_by};
 pub use periods::{ends_after, ends_within, is_live, keeps_open, overlaps, same_at, same_end};
 pub use putting::{
-    end_upgraded, is_lawful, is_upgrade, may_count, put, row_after, rows_after, shown,
+    end_upgraded, is_lawful, is_routine, is_upgrade, may_count, put, row_after, row_of, rows_after,
+    shown,
 };
 pub use rows::{
     around, event_of, going_in, has_period, has_rows, has_same, is_held, is_open, life_at,

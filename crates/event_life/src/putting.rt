@@ -49,7 +49,7 @@ pub fn put(rows: &mut Vec<Row>, row: &Row) -> Result<(), Oom>
 }
 
 /// Whether a line is a routine one, which touches no life.
-pub(crate) fn is_routine(action: &Action) -> bool
+pub fn is_routine(action: &Action) -> bool
     ensures { result ≡ is_routine action.now }
 {
     matches!(action, Action::Rou)
@@ -87,7 +87,7 @@ pub fn is_lawful(judged: &(Line, Option<Breach>)) -> bool
 }
 
 /// The row of a line's event in its zone with this life.
-fn row_of(line: &Line, life: &Life) -> Row
+pub fn row_of(line: &Line, life: &Life) -> Row
     ensures { result ≡ row_of line.now life.now }
 {
     Row {

@@ -16,11 +16,11 @@ use Rattle.event_life.specs.Table.{first_of, on_life, on_nothing, prints_begin, 
 use Rattle.hazard_board.specs.Taken.{wanted, row_left}
 
 -- the tests of a list without a breach
-none_first : (b : Bool) (x : Breach) (more : List (Bool × Breach)) → first_of ((b, x) ∷ more) ≡ None → (b ≡ false) × (first_of more ≡ None)
+pub none_first : (b : Bool) (x : Breach) (more : List (Bool × Breach)) → first_of ((b, x) ∷ more) ≡ None → (b ≡ false) × (first_of more ≡ None)
 none_first true x more h = cc
 none_first false x more h = (refl, h)
 
-none_both : (b : Bool) (x : Breach) (more : List (Bool × Breach)) → b ≡ false → first_of more ≡ None → first_of ((b, x) ∷ more) ≡ None
+pub none_both : (b : Bool) (x : Breach) (more : List (Bool × Breach)) → b ≡ false → first_of more ≡ None → first_of ((b, x) ∷ more) ≡ None
 none_both true x more e h = cc
 none_both false x more e h = h
 
@@ -40,8 +40,9 @@ joined s g a b c d v w x y z e is =
     let k = none_first b y ((c, z) ∷ []) r.1 in
     rw (p.0, r.0, k.0, is) refl
 
-opened_new : (a b c d e : Bool) (v w x y z : Breach) → first_of ((a, v) ∷ (b, w) ∷ (c, x) ∷ (d, y) ∷ (e, z) ∷ []) ≡ None → first_of ((false, v) ∷ (false, w) ∷ (c, x) ∷ (d, y) ∷ (e, z) ∷ []) ≡ None
-opened_new a b c d e v w x y z h = (none_first b w ((c, x) ∷ (d, y) ∷ (e, z) ∷ []) (none_first a v ((b, w) ∷ (c, x) ∷ (d, y) ∷ (e, z) ∷ []) h).1).1
+opened_new : (s a b c d e : Bool) (v w x y z : Breach) → first_of ((s || a, v) ∷ (b, w) ∷ (c, x) ∷ (d, y) ∷ (e, z) ∷ []) ≡ None → first_of ((s || false, v) ∷ (false, w) ∷ (c, x) ∷ (d, y) ∷ (e, z) ∷ []) ≡ None
+opened_new true a b c d e v w x y z h = cc
+opened_new false a b c d e v w x y z h = (none_first b w ((c, x) ∷ (d, y) ∷ (e, z) ∷ []) (none_first a v ((b, w) ∷ (c, x) ∷ (d, y) ∷ (e, z) ∷ []) h).1).1
 
 upgraded : (a b c d e : Bool) (v w x y z : Breach) → first_of ((a, v) ∷ (b, w) ∷ (c, x) ∷ (d, y) ∷ (e, z) ∷ []) ≡ None → first_of ((a, v) ∷ (b, w) ∷ (c, x) ∷ (d, y) ∷ (false, z) ∷ []) ≡ None
 upgraded a b c d e v w x y z h =
@@ -49,14 +50,14 @@ upgraded a b c d e v w x y z h =
     none_both a v ((b, w) ∷ (c, x) ∷ (d, y) ∷ (false, z) ∷ []) p.0 (without_last b c d e w x y z p.1)
 
 alone_on_life : (a : Action) (life : Life) (line : Line) (t : ℕ) (around : Around) → first_of (on_life a life line t around) ≡ None → first_of (on_life a life line t (wanted a)) ≡ None
-alone_on_life New life line t around h = cc
-alone_on_life Exa life line t around h = cc
-alone_on_life Exb life line t around h = cc
+alone_on_life New life line t around h = opened_new (not life.ended) around.opened around.held (is_none line.begin) (nat_lt (unwrap_or line.begin t) t) (not (ends_after line.end (unwrap_or line.begin t))) Reopened NumberHeld ZeroBegin TooEarly NoLength h
+alone_on_life Exa life line t around h = joined (not life.ended) (not around.going) (nat_lt (unwrap_or line.begin t) t) (not (ends_after line.end (unwrap_or line.begin t))) (not around.same) false Reopened NotOpening TooEarly NoLength PeriodMoved h refl
+alone_on_life Exb life line t around h = joined (not life.ended) (not around.going) (nat_lt (unwrap_or line.begin t) t) (not (ends_after line.end (unwrap_or line.begin t))) around.same false Reopened NotOpening TooEarly NoLength PeriodSame h refl
 alone_on_life Upg life line t around h = upgraded life.ended (not (prints_begin line.begin life.period.begin t)) (moves_begin line.begin life.period.begin || not (same_end line.end life.period.end)) (not (ends_after life.period.end t)) (not around.higher) NotLive ZeroBegin PeriodMoved TooLate NoHigher h
 alone_on_life _ life line t around h = h
 
 alone_on_nothing : (a : Action) (line : Line) (t : ℕ) (around : Around) → first_of (on_nothing a line t around) ≡ None → first_of (on_nothing a line t (wanted a)) ≡ None
-alone_on_nothing New line t around h = opened_new (false || around.opened) around.held (is_none line.begin) (nat_lt (unwrap_or line.begin t) t) (not (ends_after line.end (unwrap_or line.begin t))) Reopened NumberHeld ZeroBegin TooEarly NoLength h
+alone_on_nothing New line t around h = opened_new false around.opened around.held (is_none line.begin) (nat_lt (unwrap_or line.begin t) t) (not (ends_after line.end (unwrap_or line.begin t))) Reopened NumberHeld ZeroBegin TooEarly NoLength h
 alone_on_nothing Exa line t around h = joined false (not around.going) (nat_lt (unwrap_or line.begin t) t) (not (ends_after line.end (unwrap_or line.begin t))) (not around.same) false Reopened NotOpening TooEarly NoLength PeriodMoved h refl
 alone_on_nothing Exb line t around h = joined false (not around.going) (nat_lt (unwrap_or line.begin t) t) (not (ends_after line.end (unwrap_or line.begin t))) around.same false Reopened NotOpening TooEarly NoLength PeriodSame h refl
 alone_on_nothing _ line t around h = h

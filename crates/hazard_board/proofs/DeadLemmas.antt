@@ -1,6 +1,5 @@
 -- A row that is not live clashes with none.
-use Rattle.std.proofs.Common.{◌≡◌, ◌∙◌, ◌&&◌, not, ℕ, Bool, true, false, List, [], ◌∷◌, find, option_map, Option, Some, None, cond, refl, sym, ap}
-use Rattle.hazard_types.specs.declared.line.Clash.{Clash}
+use Rattle.std.proofs.Common.{◌≡◌, ◌∙◌, ◌&&◌, not, ℕ, Bool, true, false, List, [], ◌∷◌, find, option_map, Some, None, cond, refl, sym, ap}
 use Rattle.hazard_types.specs.declared.line.Row.{Row}
 use Rattle.hazard_types.specs.Same.{same_zone, same_event}
 use Rattle.event_life.specs.Higher.{are_kin}

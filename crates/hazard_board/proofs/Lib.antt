@@ -3,11 +3,10 @@ pub mod Alone
 pub mod Among
 pub mod ClashLemmas
 pub mod ConsistentLemmas
-pub mod DayLemmas
 pub mod NumberLemmas
 pub mod Origins
-pub mod OtherDayLemmas
 pub mod OverProducts
-pub mod SeatLemmas
 pub mod Turns
 pub mod DeadLemmas
+pub mod ZoneLemmas
+pub mod HeldLemmas

@@ -15,9 +15,10 @@ use Rattle.event_life.specs.declared.life.Breach.TheVariants.{Twice}
 use Rattle.event_life.specs.Lives.{opens}
 use Rattle.event_life.specs.Table.{breach_of_line}
 use Rattle.event_life.specs.Products.{by_key, placed, put, row_at, life_at, life_of, row_after, is_routine, speaks_of, is_second, around_of, breach_in, judged_from, lawful_of, put_all, rows_after}
-use Rattle.event_life.proofs.Puts.{at_key, at_key-parts, row_at-put, put-sorted}
-use Rattle.event_life.proofs.Keys.{key_ties, by_key-total}
-use Rattle.hazard_board.specs.Board.{are_lawful, openings}
+use Rattle.event_life.proofs.Puts.{at_key, at_key-parts, none_above, all_above, row_at-put, put-sorted}
+use Rattle.event_life.specs.Reordered.{are_lawful}
+use Rattle.event_life.proofs.Keys.{key_ties}
+use Rattle.hazard_board.specs.Board.{openings}
 use Rattle.hazard_board.specs.Taken.{put_if, row_left, rows_taken, taken_in_turn}
 use Rattle.hazard_board.proofs.Alone.{lawful_left, meets_life}
 
@@ -45,19 +46,6 @@ turns_longer t rows (line ∷ lines) =
     omega (arith, one, more)
 
 -- a row in the place of one of its zone and event
-
-none_above : (row : Row) (rows : List Row) → AllByRecursion (λ y. by_key row y ≡ Less) rows → row_at rows row.event row.zone ≡ None
-none_above row [] all = refl
-none_above row (r ∷ rows) all =
-    let apart : at_key row.event row.zone r ≡ false = false_from_ne_true _ (λ h.
-    let p = at_key-parts row.event row.zone r h in
-    let tied : by_key row r ≡ Equal = key_ties row r (sym p.1) (sym p.0) in
-    let less : by_key row r ≡ Less = all.0 in cc) in
-    rw apart (none_above row rows all.1)
-
-all_above : (row r : Row) (rows : List Row) → by_key row r ≡ Less → AllByRecursion (λ y. by_key r y ≡ Less) rows → AllByRecursion (λ y. by_key row y ≡ Less) rows
-all_above row r [] h all = tt
-all_above row r (y ∷ ys) h all = (by_key-total.trans row r y h all.0, all_above row r ys h all.1)
 
 is_not_none : (r : Row) → ◌≡◌ {A = Option Row} None (Some r) → ⊥
 is_not_none r h = cc

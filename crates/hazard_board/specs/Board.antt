@@ -1,16 +1,17 @@
 -- The board: its rows by zone, then event, each pair once, beside a spare.
-use Rattle.std.specs.Prelude.{◌&&◌, ℕ, Bool, List, filter, count_by, Option, is_none}
-use Rattle.std.specs.List.{list_any, list_all}
+use Rattle.std.specs.Prelude.{◌&&◌, ℕ, Bool, List, filter, count_by}
+use Rattle.std.specs.List.{list_any}
+use Rattle.std.specs.declared.cmp.Ordering.{Ordering}
+use Rattle.std.specs.Ordering.{on}
+use Rattle.hazard_types.specs.Orders.{by_event}
 use Rattle.hazard_types.specs.Places.{Place}
 use Rattle.hazard_types.specs.Same.{same_zone, same_event}
 use Rattle.hazard_types.specs.declared.hazard.Event.{Event}
 use Rattle.hazard_types.specs.declared.line.Line.{Line}
 use Rattle.hazard_types.specs.declared.line.Row.{Row}
 use Rattle.hazard_types.specs.declared.period.Period.{Period}
-use Rattle.event_life.specs.declared.life.Breach.{Breach}
 use Rattle.event_life.specs.Lives.{opens}
 use Rattle.event_life.specs.Periods.{is_live, same_at}
-use Rattle.event_life.specs.Products.{judged}
 
 -- the rows, and for how many more of them there is memory
 pub record Posted : Type 0 where
@@ -25,9 +26,9 @@ has_period rows e p t = list_any (λ (r : Row). same_event r.event e && is_live 
 abbrev pub live_in : Place → ℕ → List Row → List Row
 live_in z t rows = filter (λ (r : Row). same_zone r.zone z && is_live t r) rows
 
--- none of the lines of a product has a breach
-abbrev pub are_lawful : List Row → ℕ → List Line → Bool
-are_lawful rows t lines = list_all (λ (l : Line × Option Breach). is_none l.1) (judged rows t lines)
+-- the order of rows by event
+abbrev pub by_row_event : Row → Row → Ordering
+by_row_event = on (λ (r : Row). r.event) by_event
 
 -- how many of the lines are NEW, EXA or EXB
 abbrev pub openings : List Line → ℕ

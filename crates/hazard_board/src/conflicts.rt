@@ -1,5 +1,7 @@
 //! Clashes of rows.
-ghost use Rattle.std.specs.Prelude.{◌≡◌, find, option_map};
+ghost use Rattle.std.specs.Prelude.{◌≡◌, ◌∷◌, find, option_map};
+ghost use Rattle.std.specs.List.Sorted.{IsStrictlySortedBy};
+ghost use Rattle.event_life.specs.Products.{by_key};
 ghost use Rattle.event_life.specs.Higher.{family_of, are_kin};
 ghost use Rattle.hazard_types.specs.Hazards.{facts_of};
 ghost use Rattle.hazard_board.specs.Clashes.{clash, clash_of, first_clash};
@@ -33,23 +35,32 @@ fn clash(t: Minute, a: &Row, b: &Row) -> bool
         && overlaps(&a.period, &b.period)
 }
 
-/// The first of the other rows that clashes with this one: none where this one is not live.
+/// The first of the rows behind this one that clashes with it: none where this one is not live. Only its own zone's are looked at.
 fn clash_with(first: &Row, others: &[Row], t: Minute) -> Option<Clash>
+    requires { IsStrictlySortedBy by_key (first.now ∷ others.now) }
     ensures { result ≡ option_map (clash_of first.now) (find (clash t first.now) others.now) }
 {
     if !is_live(first, t) {
         return None;
     }
-    let second = others.iter().find(|row| clash(t, first, row))?;
-    Some(Clash {
-        zone: first.zone,
-        first: first.event,
-        second: second.event,
-    })
+    for second in others {
+        if second.zone != first.zone {
+            return None;
+        }
+        if clash(t, first, second) {
+            return Some(Clash {
+                zone: first.zone,
+                first: first.event,
+                second: second.event,
+            });
+        }
+    }
+    None
 }
 
 /// The first row that clashes with a later one, with the first that it clashes with.
 pub fn first_clash(rows: &[Row], t: Minute) -> Option<Clash>
+    requires { IsStrictlySortedBy by_key rows.now }
     ensures { result ≡ first_clash t rows.now }
 {
     for (place, first) in rows.iter().enumerate() {

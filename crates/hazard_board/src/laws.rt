@@ -5,14 +5,23 @@ ghost use Rattle.hazard_types.specs.declared.line.Line.{Line};
 ghost use Rattle.hazard_types.specs.declared.line.Row.{Row};
 ghost use Rattle.event_life.specs.Printed.{HasOneOpen};
 ghost use Rattle.event_life.specs.Products.{Product, by_key, rows_after, rows_of};
-ghost use Rattle.hazard_board.specs.Board.{are_lawful};
+ghost use Rattle.event_life.specs.Reordered.{are_lawful};
 ghost use Rattle.hazard_board.specs.Clashes.{least_clash};
 ghost use Rattle.hazard_board.specs.Consistent.{IsConsistent, NoneIsAhead, AreOfTheYear, LeaveNoClash};
+ghost use Rattle.hazard_board.specs.Held.{HaveNoneButHeld, rows_left};
 ghost use Rattle.hazard_board.specs.Taken.{rows_taken};
 
 /// Where none of the lines has a breach, the rows after the lines taken as lawful are those after their product.
 pub fn lawful_lines_are_taken()
     ensures { (rows : List Row) (t : ℕ) (lines : List Line) → IsTrue (are_lawful rows t lines) → rows_taken rows t lines ≡ rows_after rows t lines }
+{}
+
+/// Where none of the lines has a breach but NumberHeld, the rows after the lines taken as lawful are those that each of them leaves.
+/// Lines without a breach are such lines, and leave the rows after their product.
+pub fn lines_on_held_numbers_are_taken()
+    ensures taken { (rows : List Row) (t : ℕ) (lines : List Line) → HaveNoneButHeld rows t lines [] lines → rows_taken rows t lines ≡ rows_left rows t lines }
+    ensures lawful { (rows : List Row) (t : ℕ) (lines : List Line) → IsTrue (are_lawful rows t lines) →
+        HaveNoneButHeld rows t lines [] lines × (rows_left rows t lines ≡ rows_after rows t lines) }
 {}
 
 /// Consistent rows stay so at later minutes.

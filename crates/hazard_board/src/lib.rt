@@ -5,7 +5,8 @@ ghost use Rattle.std.specs.Prelude.{◌≡◌, ◌+◌, ◌≤◌, ◌<◌, [], 
 ghost use Rattle.std.specs.List.Sorted.{IsStrictlySortedBy};
 ghost use Rattle.event_life.specs.Products.{by_key, row_at, has_rows, going_in, rows_after};
 ghost use Rattle.event_life.specs.Shown.{shown_at};
-ghost use Rattle.hazard_board.specs.Board.{has_period, live_in, are_lawful, openings};
+ghost use Rattle.event_life.specs.Reordered.{are_lawful};
+ghost use Rattle.hazard_board.specs.Board.{has_period, live_in, by_row_event, openings};
 ghost use Rattle.hazard_board.specs.Clashes.{clashes, least_clash, by_clash};
 ghost use Rattle.hazard_board.specs.Taken.{rows_taken};
 
@@ -18,8 +19,8 @@ use event_life::{going_in, has_period, has_rows, is_live, row_at};
 use hazard_types::{Clash, Event, Hazard, Line, List, Minute, Oom, Period, Row, Zone};
 pub use laws::{
     consistent_rows_have_one_open_event, consistent_rows_stay_consistent, lawful_lines_are_taken,
-    no_event_comes_ahead_of_its_year, no_rows_are_consistent, products_keep_rows_consistent,
-    read_rows_are_consistent,
+    lines_on_held_numbers_are_taken, no_event_comes_ahead_of_its_year, no_rows_are_consistent,
+    products_keep_rows_consistent, read_rows_are_consistent,
 };
 use lines::{rows_taken, take_lines};
 use std::alloc::{AllocError, Global};
@@ -51,16 +52,6 @@ fn live_in(alloc: Global, rows: &[Row], z: &Zone, t: Minute) -> Result<Vec<Row>,
 {
     rows.iter()
         .filter(|row| row.zone == *z && is_live(row, t))
-        .copied()
-        .collect(alloc)
-}
-
-/// The live rows.
-fn live(alloc: Global, rows: &[Row], t: Minute) -> Result<Vec<Row>, AllocError>
-    ensures { IfOk result (λ live. live.items ≡ shown_at t rows.now) }
-{
-    rows.iter()
-        .filter(|row| is_live(row, t))
         .copied()
         .collect(alloc)
 }
@@ -117,7 +108,8 @@ impl Board {
 
     /// The live rows of a zone, by event.
     pub fn rows_of(&self, alloc: Global, z: Zone, t: Minute) -> Result<List<Row>, Oom>
-        ensures { IfOk result (λ live. live ≡ live_in z t self.now.rows) }
+        ensures rows { IfOk result (λ live. live ≡ live_in z t self.now.rows) }
+        ensures order { IfOk result (λ live. IsStrictlySortedBy by_row_event live) }
     {
         Ok(List::from_vec(live_in(alloc, &self.rows, &z, t)?))
     }
@@ -127,7 +119,7 @@ impl Board {
         ensures rows { IfOk result (λ live. live ≡ shown_at t self.now.rows) }
         ensures order { IsStrictlySortedBy by_key self.now.rows }
     {
-        Ok(List::from_vec(live(alloc, &self.rows, t)?))
+        event_life::shown(alloc, &self.rows, t)
     }
 
     /// Applies the lawful lines of a product. ROU leaves the rows as they are.
@@ -157,6 +149,3 @@ impl Board {
         Ok(first_clash(&after, t))
     }
 }
-
-#[cfg(test)]
-mod tests;

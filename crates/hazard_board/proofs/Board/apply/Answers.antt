@@ -3,7 +3,8 @@ use Rattle.std.proofs.Common.{◌≡◌, ◌∙◌, ◌≤◌, ◌+◌, List, le
 use Rattle.hazard_types.specs.declared.line.Line.{Line}
 use Rattle.event_life.specs.Products.{rows_after}
 use Rattle.event_life.proofs.Puts.{rows_after-sorted}
-use Rattle.hazard_board.specs.Board.{Posted, are_lawful, openings}
+use Rattle.event_life.specs.Reordered.{are_lawful}
+use Rattle.hazard_board.specs.Board.{Posted, openings}
 use Rattle.hazard_board.specs.Taken.{taken_in_turn}
 use Rattle.hazard_board.proofs.Turns.{lawful_turns, lawful_grow}
 use Rattle.hazard_board.proofs.Board.apply.Goals as goal

@@ -21,3 +21,6 @@ returns-clause-value c =
 
 pub returns-clause-order : goal.returns-clause-order
 returns-clause-order c = rw (← c.self.view_is) (clashes_sorted c.args.t (rows_taken c.self.inside.rows.items c.args.t c.args.lines.now) (rows_taken-sorted c.self.inside.rows.items c.args.t c.args.lines.now c.self.invariant))
+
+pub first_clash-requires : goal.first_clash-requires
+first_clash-requires c = rw (c.deref-2.ensures.value ∙ c.in_ok-after.ensures) (rows_taken-sorted c.deref.result.now c.args.t c.as_slice.result.now (rw c.deref.ensures.value c.self.invariant))
