@@ -5,6 +5,7 @@ pub mod LawfulLists
 pub mod LawfulSteps
 pub mod LawfulPlaced
 pub mod LawfulKeys
+pub mod RoutineLemmas
 pub mod LawfulLines
 pub mod LawfulHigher
 pub mod LawfulUpgrades

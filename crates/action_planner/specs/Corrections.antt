@@ -97,7 +97,7 @@ pub record IsCorrection (rows : List Row) (t : ℕ) (sent : Sent) (letters : ℕ
 pub record CanCorrect (rows : List Row) (sent : Sent) (letters t : ℕ) : Type 0 where
   -- no two lines of the product are of one event in one zone
   pub apart : AllPairs (λ (l m : Line). ¬ ((l.event ≡ m.event) × (l.zone ≡ m.zone))) sent.lines
-  pub letters : letters ≤ 24
+  pub few : letters ≤ 24
   pub consistent : IsConsistent rows t
   pub sited : AreSited rows
   pub minute : t ≤ 52000000

@@ -177,8 +177,11 @@ abbrev pub other_site : Option Row → Option Flood → Bool
 other_site None named = false
 other_site (Some row) named = differs (site_of row.flood) (site_of named)
 
+abbrev pub moves_site : List Row → Event → PutPart → Bool
+moves_site rows e part = joins_by part.target && other_site (find (λ (row : Row). same_event row.event e) rows) part.flood
+
 abbrev pub site_moved_of : List Row → Event → Intent → Option Refusal
-site_moved_of rows e (Put part) = if joins_by part.target && other_site (find (λ (row : Row). same_event row.event e) rows) part.flood then Some (refusal.SiteMoved e) else None
+site_moved_of rows e (Put part) = if moves_site rows e part then Some (refusal.SiteMoved e) else None
 site_moved_of rows e (Finish part) = None
 site_moved_of rows e (Restate part) = None
 site_moved_of rows e (Routine part) = None

@@ -36,11 +36,13 @@ before_conflict = NoEvent ∷ NotLive ∷ LeftBefore ∷ Twice ∷ BadPeriod ∷
 abbrev pub on_numbers : List Rule
 on_numbers = NumberHeld ∷ NumbersSpent ∷ []
 
--- the first rule that a draft of these lines breaks
-abbrev pub broken_by : List Row → ℕ → List Placed → List Line → Option Refusal
-broken_by rows t ps lines =
-    option_or (no_intent ps)
-    (option_or (first_against rows t ps before_conflict)
-    (option_or (option_map refused_clash (least_clash t (rows_taken rows t lines)))
+-- the first rule that is broken of those that ask for no lines
+unfoldable pub broken_early : List Row → ℕ → List Placed → Option Refusal
+broken_early rows t ps = option_or (no_intent ps) (first_against rows t ps before_conflict)
+
+-- the first of the others that is, for a draft of these lines
+unfoldable pub broken_late : List Row → ℕ → List Placed → List Line → Option Refusal
+broken_late rows t ps lines =
+    option_or (option_map refused_clash (least_clash t (rows_taken rows t lines)))
     (option_or (first_against rows t ps on_numbers)
-    (too_many (length lines)))))
+    (too_many (length lines)))
