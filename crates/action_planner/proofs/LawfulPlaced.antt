@@ -21,7 +21,7 @@ use Rattle.event_numbers.specs.declared.Count.{Count}
 use Rattle.event_numbers.specs.Counts.{count_of}
 use Rattle.action_planner.specs.Placed.{Placed, placed, placed_from, event_of_intent, event_of_target, new_event, is_opening, is_opening_target, zones_of}
 use Rattle.action_planner.specs.Conditions.{AreNumbered, CanPlan, MayHold}
-use Rattle.action_planner.specs.Offences.{broken, rules, first_by, first_given, zone_named, not_live, left_before, twice, needs_event, not_open, gone, is_gone, left, was_left, shared, is_shared, bad_period, held, holds, held_by}
+use Rattle.action_planner.specs.Offences.{broken, rules, first_by, first_given, zone_named, not_live, left_before, twice, needs_event, not_open, gone, is_gone, left, was_left, shared, is_shared, bad_period, needed_flood, site_moved, held, holds, held_by}
 use Rattle.action_planner.proofs.LawfulLists.{EachPair, find_none, none_from}
 
 -- an intent of which no rule is broken
@@ -34,6 +34,8 @@ pub record IsFit (rows : List Row) (t : ℕ) (all : List Placed) (p : Placed) : 
   pub live : AllByRecursion (λ z. was_left rows t p.event p.intent z ≡ false) (zones_of p.intent)
   pub own : AllByRecursion (λ z. is_shared all p z ≡ false) (zones_of p.intent)
   pub once : IsDistinct same_zone (zones_of p.intent)
+  pub flood : needed_flood p ≡ None
+  pub site : site_moved rows p ≡ None
 
 -- rules
 
@@ -109,9 +111,10 @@ fit_all : (rows : List Row) (t : ℕ) (all ps : List Placed) →
     AllByRecursion (λ p. is_opening p.intent ≡ true → has_rows rows p.event ≡ false) ps → AllByRecursion (λ p. IsDistinct same_zone (zones_of p.intent)) ps →
     AllByRecursion (λ p. not_open rows t p ≡ None) ps → AllByRecursion (λ p. gone rows t p ≡ None) ps → AllByRecursion (λ p. left rows t p ≡ None) ps →
     AllByRecursion (λ p. shared all p ≡ None) ps → AllByRecursion (λ p. bad_period t p ≡ None) ps → AllByRecursion (λ p. held rows t p ≡ None) ps →
+    AllByRecursion (λ p. needed_flood p ≡ None) ps → AllByRecursion (λ p. site_moved rows p ≡ None) ps →
     AllByRecursion (IsFit rows t all) ps
-fit_all rows t all [] new once known there live own period free = tt
-fit_all rows t all (p ∷ ps) new once known there live own period free =
+fit_all rows t all [] new once known there live own period free flood site = tt
+fit_all rows t all (p ∷ ps) new once known there live own period free flood site =
     let first : IsFit rows t all p = record {
       new = new.0;
       free = held_by_none rows t p.event (is_opening p.intent) free.0;
@@ -121,8 +124,10 @@ fit_all rows t all (p ∷ ps) new once known there live own period free =
       live = named_none left_before p.event (was_left rows t p.event p.intent) (zones_of p.intent) live.0;
       own = named_none twice p.event (is_shared all p) (zones_of p.intent) own.0;
       once = once.0;
+      flood = flood.0;
+      site = site.0;
     } in
-    (first, fit_all rows t all ps new.1 once.1 known.1 there.1 live.1 own.1 period.1 free.1)
+    (first, fit_all rows t all ps new.1 once.1 known.1 there.1 live.1 own.1 period.1 free.1 flood.1 site.1)
 
 -- where no rule is broken, each intent is fit
 pub fits : (c : Category) (rows : List Row) (counts : List Count) (intents : List Intent) (t : ℕ) → CanPlan rows counts c intents t → broken c rows t (placed counts t intents) ≡ None →
@@ -140,3 +145,5 @@ fits c rows counts intents t can h =
     (by_none (shared ps) ps given.1.1.1.1.0)
     (by_none (bad_period t) ps given.1.1.1.1.1.0)
     (by_none (held rows t) ps given.1.1.1.1.1.1.1.1.1.1.1.1.0)
+    (by_none needed_flood ps given.1.1.1.1.1.1.1.1.0)
+    (by_none (site_moved rows) ps given.1.1.1.1.1.1.1.1.1.1.0)

@@ -20,6 +20,9 @@ pub mod SendingLemmas
 pub mod SpokenLemmas
 pub mod StandingNumbers
 pub mod StandingRows
+pub mod SourceLemmas
+pub mod AfterLemmas
+pub mod SiteLemmas
 pub mod Standing
 pub mod TextLemmas
 pub mod PlanLemmas

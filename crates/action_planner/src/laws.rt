@@ -15,7 +15,6 @@ ghost use Rattle.event_life.specs.Products.{by_key, is_new, is_routine, row_at, 
 ghost use Rattle.event_numbers.specs.declared.Count.{Count};
 ghost use Rattle.event_numbers.specs.Counts.{count_of, DrawsAll};
 ghost use Rattle.event_life.specs.Reordered.{are_lawful};
-ghost use Rattle.hazard_board.specs.Consistent.{NoneIsAhead};
 ghost use Rattle.action_planner.specs.Placed.{placed, opened, opens_hazard};
 ghost use Rattle.action_planner.specs.Lines.{planned_lines, unless_ended};
 ghost use Rattle.action_planner.specs.Offences.{broken};
@@ -97,7 +96,7 @@ pub fn opened_events_are_drawn_in_order()
 /// The product of a draft that breaks no rule keeps what stands, once the events that it opens drew their numbers.
 pub fn plans_keep_what_stands()
     ensures { (c : Category) (rows : List Row) (counts after : List Count) (intents : List Intent) (t : ℕ) →
-        CanPlan rows counts c intents t → NoneIsAhead rows t → IsStrictlySortedBy by_key rows → broken c rows t (placed counts t intents) ≡ None →
+        CanPlan rows counts c intents t → Stands rows counts t → IsStrictlySortedBy by_key rows → broken c rows t (placed counts t intents) ≡ None →
         DrawsAll counts after (opened (placed counts t intents)) →
         Stands (rows_after rows t (planned_lines c rows t (placed counts t intents))) after t }
 {}
