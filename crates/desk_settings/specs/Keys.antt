@@ -2,20 +2,10 @@
 use Rattle.std.specs.Prelude.{ℕ, Bool, List, [], ◌∷◌, ◌++◌, Option, option_and_then, is_none, codes}
 use Rattle.std.specs.List.{find}
 use Rattle.toml.specs.Data.{Data, Members, get_member, as_str, as_table}
-use Rattle.hazard_types.specs.declared.codes.Category.{Category}
+use Rattle.hazard_types.specs.Names.{category_code}
 use Rattle.hazard_types.specs.declared.codes.Category.TheVariants.{Wsw, Npw, Rfw, Cfw, Mww, Ffa, Flw, Fls}
 use Rattle.desk_settings.specs.declared.keys.Key.{Key}
 use Rattle.desk_settings.specs.declared.keys.Key.TheVariants.{Office, Site, OfficeLine, Zone, Desks, Heading, Zones}
-
-abbrev pub category_name : Category → List ℕ
-category_name Wsw = codes "WSW"
-category_name Npw = codes "NPW"
-category_name Rfw = codes "RFW"
-category_name Cfw = codes "CFW"
-category_name Mww = codes "MWW"
-category_name Ffa = codes "FFA"
-category_name Flw = codes "FLW"
-category_name Fls = codes "FLS"
 
 -- how faults name a key
 abbrev pub key_name : Key → List ℕ
@@ -24,7 +14,7 @@ key_name Site = codes "site"
 key_name OfficeLine = codes "office_line"
 key_name Zone = codes "zone"
 key_name Desks = codes "desks"
-key_name (Heading category) = codes "headings." ++ category_name category
+key_name (Heading category) = codes "headings." ++ category_code category
 key_name Zones = codes "zones"
 
 -- the keys in the order of the form
@@ -44,7 +34,7 @@ value_at Site ms = get_member (codes "site") ms
 value_at OfficeLine ms = get_member (codes "office_line") ms
 value_at Zone ms = get_member (codes "zone") ms
 value_at Desks ms = get_member (codes "desks") ms
-value_at (Heading category) ms = heading_at (category_name category) ms
+value_at (Heading category) ms = heading_at (category_code category) ms
 value_at Zones ms = get_member (codes "zones") ms
 
 abbrev pub text_at : Key → Members → Option (List ℕ)

@@ -1,8 +1,9 @@
 //! The keys of settings, and what stands at them.
 ghost use Rattle.std.specs.Prelude.{◌≡◌, option_map, IfOk, OnOk, ◌++◌};
+ghost use Rattle.hazard_types.specs.Names.{category_code};
 ghost use Rattle.toml.specs.Data.{get_member};
 ghost use Rattle.toml.specs.View.{view, table_view};
-ghost use Rattle.desk_settings.specs.Keys.{key_name, category_name, keys, value_at, text_at, is_missing, missing_key};
+ghost use Rattle.desk_settings.specs.Keys.{key_name, keys, value_at, text_at, is_missing, missing_key};
 
 use hazard_types::{Category, Oom, Text};
 use std::alloc::Global;
@@ -22,7 +23,7 @@ pub enum Key {
 
 /// The key of a category's heading.
 fn category_name(category: Category) -> &'static str
-    ensures { result.now ≡ category_name category }
+    ensures { result.now ≡ category_code category }
 {
     match category {
         Category::Wsw => "WSW",

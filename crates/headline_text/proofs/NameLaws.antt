@@ -1,7 +1,8 @@
 -- What becomes of names on lines.
-use Rattle.std.proofs.Common.{ℕ, ◌≡◌, ◌≤◌, ◌+◌, ◌==◌, not, Bool, true, false, cond, IsTrue, List, [], ◌∷◌, ◌++◌, length, map, refl, ap, sym, ◌∙◌, append_assoc, append-nil, length-append, arith, inl, inr}
-use Rattle.std.specs.List.{All, AllByRecursion, concat}
+use Rattle.std.proofs.Common.{ℕ, ◌≡◌, ◌≤◌, ◌+◌, ◌==◌, not, Bool, true, false, cond, IsTrue, List, [], ◌∷◌, ◌++◌, length, slice_index, map, refl, ap, sym, ◌∙◌, append_assoc, append-nil, length-append, arith, inl, inr}
+use Rattle.std.specs.List.{All, AllByRecursion, list_all, concat}
 use Rattle.std.proofs.lemmas.Bool.{cases_Bool}
+use Rattle.std.proofs.lemmas.List.Folds.{list_all-append}
 use Rattle.std.proofs.lemmas.Bool.Decides.{nat_tests}
 use Rattle.std.proofs.lemmas.List.Elements.{All-from_recursion, recursion_from_All, filter-append}
 use Rattle.headline_text.specs.NameLines.{passes, name_part, name_column, names_from, name_lines}
@@ -76,3 +77,28 @@ lines_short names h fits =
 pub lines_whole : (names : List (List ℕ)) → All (λ (name : List ℕ). IsTrue (is_one_line name)) names → without_breaks (name_lines names) ≡ concat (map (λ (name : List ℕ). name ++ 45 ∷ []) names)
 unfolding name_lines
 lines_whole names h = names_whole names 0 (recursion_from_All (λ (name : List ℕ). is_one_line name ≡ true) names h)
+
+-- the first byte of a name that is not empty stays in front
+pub lines_begin : (c : ℕ) (cs : List ℕ) (names : List (List ℕ)) → slice_index (name_lines ((c ∷ cs) ∷ names)) 0 ≡ c
+unfolding name_lines
+lines_begin c cs names = refl
+
+module _ (p : ℕ → Bool) (hyphen : p 45 ≡ true) (break : p 10 ≡ true) where
+  abbrev pub Pass : List ℕ → Type 0
+  Pass xs = list_all p xs ≡ true
+
+  joined : (xs ys : List ℕ) → Pass xs → Pass ys → Pass (xs ++ ys)
+  joined xs ys h k = rw (list_all-append p xs ys, h) k
+
+  part_passes : (b : Bool) (name : List ℕ) → Pass name → Pass (cond b (10 ∷ (name ++ 45 ∷ [])) (name ++ 45 ∷ []))
+  part_passes true name h = rw break (joined name (45 ∷ []) h (rw hyphen refl))
+  part_passes false name h = joined name (45 ∷ []) h (rw hyphen refl)
+
+  from_passes : (names : List (List ℕ)) (column : ℕ) → AllByRecursion Pass names → Pass (names_from column names)
+  from_passes [] column h = refl
+  from_passes (n ∷ ns) column h = joined (name_part column n) (names_from (name_column column n) ns) (part_passes (passes column n) n h.0) (from_passes ns (name_column column n) h.1)
+
+  -- a test that hyphens, LF and the bytes of names pass
+  pub lines_pass : (names : List (List ℕ)) → All Pass names → Pass (name_lines names)
+  unfolding name_lines
+  lines_pass names h = from_passes names 0 (recursion_from_All Pass names h)

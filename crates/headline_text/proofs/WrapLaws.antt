@@ -1,9 +1,9 @@
 -- What wrapping makes of a text: its lines, and its bytes but blanks.
 use Rattle.std.proofs.Common.{ℕ, ◌≡◌, ◌<◌, ◌≤◌, ◌+◌, ◌==◌, ◌||◌, ◌&&◌, ◌⊎◌, not, nat_lt, Bool, true, false, cond, List, [], ◌∷◌, ◌++◌, length, slice_index, take, drop, refl, ap, sym, ◌∙◌, append_assoc, length-append, arith, inl, inr}
-use Rattle.std.specs.List.{All, AllByRecursion, concat}
+use Rattle.std.specs.List.{All, AllByRecursion, list_all, concat}
 use Rattle.std.proofs.lemmas.Bool.{cases_Bool}
 use Rattle.std.proofs.lemmas.Bool.Decides.{nat_tests}
-use Rattle.std.proofs.lemmas.List.Folds.{list_any-append}
+use Rattle.std.proofs.lemmas.List.Folds.{list_any-append, list_all-append}
 use Rattle.std.proofs.lemmas.List.Elements.{All-from_recursion, filter-append}
 use Rattle.headline_text.specs.Wrapping.{with_word, words_from, words, next_line, fits_behind, lead, start, fill, behind, part, column_behind, lay, wrapped}
 use Rattle.headline_text.specs.Lines.{lines_from, lines, has_word, is_one_line, without_blanks}
@@ -254,3 +254,56 @@ unfolding wrapped
 wrapped_begins c cs other =
     let first = first_of_words cs c [] in
     rw (other, first.2) refl
+
+-- ---- bytes
+
+module _ (p : ℕ → Bool) (blank : p 32 ≡ true) (break : p 10 ≡ true) where
+  abbrev pub Pass : List ℕ → Type 0
+  Pass xs = list_all p xs ≡ true
+
+  joined : (xs ys : List ℕ) → Pass xs → Pass ys → Pass (xs ++ ys)
+  joined xs ys h k = rw (list_all-append p xs ys, h) k
+
+  with_pass : (word : List ℕ) (more : List (List ℕ)) → Pass word → AllByRecursion Pass more → AllByRecursion Pass (with_word word more)
+  with_pass [] more h all = all
+  with_pass (c ∷ cs) more h all = (h, all)
+
+  words_pass : (text word : List ℕ) → Pass text → Pass word → AllByRecursion Pass (words_from word text)
+  words_pass [] word h k = with_pass word [] k tt
+  words_pass (c ∷ cs) word h k =
+      let l = both (p c) (list_all p cs) h in
+      elim (cases_Bool (c == 32)) [
+        | inl is ↦ rw is (with_pass word (words_from [] cs) k (words_pass cs [] l.1 refl))
+        | inr other ↦ rw other (words_pass cs (word ++ c ∷ []) l.1 (joined word (c ∷ []) k (rw l.0 refl)))
+      ]
+
+  line_passes : Pass next_line
+  line_passes = rw (break, blank) refl
+
+  lead_passes : (first fits : Bool) → Pass (cond first [] (cond fits (32 ∷ []) next_line))
+  lead_passes true fits = refl
+  lead_passes false true = rw blank refl
+  lead_passes false false = line_passes
+
+  fill_passes : (cs : List ℕ) (column : ℕ) → Pass cs → Pass (fill column cs)
+  fill_passes [] column h = refl
+  fill_passes (c ∷ cs) column h =
+      let l = both (p c) (list_all p cs) h in
+      elim (cases_Bool (nat_lt column 66)) [
+        | inl room' ↦ rw (room', l.0) (fill_passes cs (column + 1) l.1)
+        | inr full ↦ rw (full, break, blank, l.0) (fill_passes cs 3 l.1)
+      ]
+
+  part_passes : (column : ℕ) (word : List ℕ) → Pass word → Pass (part column word)
+  part_passes column [] h = refl
+  part_passes column (c ∷ cs) h =
+      joined (lead column (c ∷ cs)) (fill (start column (c ∷ cs)) (c ∷ cs)) (lead_passes (column == 0) (fits_behind column (c ∷ cs))) (fill_passes (c ∷ cs) (start column (c ∷ cs)) h)
+
+  lay_passes : (ws : List (List ℕ)) (column : ℕ) → AllByRecursion Pass ws → Pass (lay column ws)
+  lay_passes [] column h = refl
+  lay_passes (w ∷ ws) column h = joined (part column w) (lay (column_behind column w) ws) (part_passes column w h.0) (lay_passes ws (column_behind column w) h.1)
+
+  -- a test that blanks, LF and the bytes of a text pass
+  pub wrapped_passes : (text : List ℕ) → Pass text → Pass (wrapped text)
+  unfolding wrapped
+  wrapped_passes text h = lay_passes (words text) 0 (words_pass text [] h refl)

@@ -1,12 +1,13 @@
 //! What is known of wrapped texts and lines of names, for the crates above. The functions do nothing; their contracts are the laws.
-ghost use Rattle.std.specs.Prelude.{◌≡◌, ◌≢◌, ◌≤◌, slice_index, ℕ, List, [], ◌∷◌, ◌++◌, length, take, drop, map, IsTrue};
-ghost use Rattle.std.specs.List.{All, concat};
+ghost use Rattle.std.specs.Prelude.{◌≡◌, ◌≢◌, ◌≤◌, slice_index, ℕ, Bool, true, List, [], ◌∷◌, ◌++◌, length, take, drop, map, IsTrue};
+ghost use Rattle.std.specs.List.{All, concat, list_all};
 ghost use Rattle.headline_text.specs.Wrapping.{wrapped};
 ghost use Rattle.headline_text.specs.NameLines.{name_lines};
 ghost use Rattle.headline_text.specs.Lines.{lines, has_word, is_one_line, without_blanks, without_breaks};
 
-/// What wrapping makes of a text: a first byte that is no blank stays in front. Of a text without LF: no line is longer than 66, each after the first begins with two blanks, none is without a word where the text has one, and the bytes but blanks stay in their order.
+/// What wrapping makes of a text: a test that its bytes, blanks and LF pass is passed by all its bytes; a first byte that is no blank stays in front. Of a text without LF: no line is longer than 66, each after the first begins with two blanks, none is without a word where the text has one, and the bytes but blanks stay in their order.
 pub fn wrapping_keeps_words()
+    ensures bytes { (p : ℕ → Bool) (text : List ℕ) → p 32 ≡ true → p 10 ≡ true → IsTrue (list_all p text) → IsTrue (list_all p (wrapped text)) }
     ensures begins { (c : ℕ) (cs : List ℕ) → c ≢ 32 → slice_index (wrapped (c ∷ cs)) 0 ≡ c }
     ensures short { (text : List ℕ) → IsTrue (is_one_line text) → All (λ line. length line ≤ 66) (lines (wrapped text)) }
     ensures indented { (text : List ℕ) → IsTrue (is_one_line text) → All (λ line. take 2 line ≡ 32 ∷ 32 ∷ []) (drop 1 (lines (wrapped text))) }
@@ -14,8 +15,10 @@ pub fn wrapping_keeps_words()
     ensures whole { (text : List ℕ) → IsTrue (is_one_line text) → without_blanks (wrapped text) ≡ without_blanks text }
 {}
 
-/// What becomes of names of at most 65 characters without LF: no line is longer than 66, and the lines laid end to end are the names, each with its hyphen.
+/// What becomes of names: a test that their bytes, hyphens and LF pass is passed by all bytes; the first byte of the first name stays in front. Of names of at most 65 characters without LF: no line is longer than 66, and the lines laid end to end are the names, each with its hyphen.
 pub fn names_stay_whole()
+    ensures bytes { (p : ℕ → Bool) (names : List (List ℕ)) → p 45 ≡ true → p 10 ≡ true → All (λ name. IsTrue (list_all p name)) names → IsTrue (list_all p (name_lines names)) }
+    ensures begins { (c : ℕ) (cs : List ℕ) (names : List (List ℕ)) → slice_index (name_lines ((c ∷ cs) ∷ names)) 0 ≡ c }
     ensures short { (names : List (List ℕ)) → All (λ name. IsTrue (is_one_line name)) names → All (λ name. length name ≤ 65) names → All (λ line. length line ≤ 66) (lines (name_lines names)) }
     ensures whole { (names : List (List ℕ)) → All (λ name. IsTrue (is_one_line name)) names → without_breaks (name_lines names) ≡ concat (map (λ name. name ++ 45 ∷ []) names) }
 {}
