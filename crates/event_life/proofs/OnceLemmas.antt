@@ -124,7 +124,7 @@ every_step P e events true p all = add_event-every P e events (p refl) all
 every_step P e events false p all = all
 
 -- what holds of the event of each NEW line holds of each that is opened
-opened_by-every : (P : Event → Type 0) (lines : List Line) → AllByRecursion (λ (line : Line). is_new line.action ≡ true → P line.event) lines → AllByRecursion P (opened_by lines)
+pub opened_by-every : (P : Event → Type 0) (lines : List Line) → AllByRecursion (λ (line : Line). is_new line.action ≡ true → P line.event) lines → AllByRecursion P (opened_by lines)
 opened_by-every P [] all = tt
 opened_by-every P (line ∷ lines) all = every_step P line.event (opened_by lines) (is_new line.action) all.0 (opened_by-every P lines all.1)
 
@@ -147,7 +147,7 @@ up_step : (e : Event) (events : List Event) (new : Bool) → IsStrictlySortedBy 
 up_step e events true up = add_event-up e events up
 up_step e events false up = up
 
-opened_by-up : (lines : List Line) → IsStrictlySortedBy by_event (opened_by lines)
+pub opened_by-up : (lines : List Line) → IsStrictlySortedBy by_event (opened_by lines)
 unfolding IsStrictlySortedBy
 opened_by-up [] = tt
 opened_by-up (line ∷ lines) = up_step line.event (opened_by lines) (is_new line.action) (opened_by-up lines)

@@ -1,7 +1,8 @@
 //! Laws of lives over whole products.
 ghost use Rattle.std.specs.Prelude.{◌≡◌, ◌↔◌, not, true, false, ℕ, List, [], filter};
-ghost use Rattle.std.specs.List.{IsDistinct};
+ghost use Rattle.std.specs.List.{Contains, IsDistinct};
 ghost use Rattle.std.specs.List.Sorted.{IsStrictlySortedBy};
+ghost use Rattle.hazard_types.specs.Orders.{by_event};
 ghost use Rattle.hazard_types.specs.Same.{same_event};
 ghost use Rattle.hazard_types.specs.Days.{year_of};
 ghost use Rattle.hazard_types.specs.Places.{Place};
@@ -12,7 +13,7 @@ ghost use Rattle.hazard_types.specs.declared.line.Row.{Row};
 ghost use Rattle.event_life.specs.Products.{Product, by_key, row_at, rows_after, rows_of, is_routine, is_upgrade, is_new, line_of, put_all, judged, lawful_of, end_upgraded, rows_for_higher};
 ghost use Rattle.event_life.specs.Firsts.{row_by_first_line, is_lawful};
 ghost use Rattle.event_life.specs.Lives.{IsLife, IsLawfulLife, actions_of, said_of, track_of};
-ghost use Rattle.event_life.specs.Openings.{IsGapless, opened_of, gaps_of};
+ghost use Rattle.event_life.specs.Openings.{IsGapless, opened_by, opened_of, gaps_of};
 ghost use Rattle.event_life.specs.Reordered.{are_lawful, AreApart, TouchAlike};
 ghost use Rattle.event_life.specs.Printed.{HasOneOpen, zone_line_of};
 
@@ -51,6 +52,18 @@ pub fn lawful_lives_are_whole()
 /// No event is opened twice, by one product or by two.
 pub fn events_open_once()
     ensures { (products : List Product) → IsDistinct same_event (opened_of products) }
+{}
+
+/// The events that lines open are those of the NEW lines among them, in order by event, each once; lists of lines with the same
+/// NEW lines open the same events. Where all lines of a product are lawful, its lawful lines open what its lines open.
+pub fn opened_events_are_of_the_lines()
+    ensures alike { (xs ys : List Line) →
+        ((line : Line) → is_new line.action ≡ true → Contains xs line ↔ Contains ys line) → opened_by xs ≡ opened_by ys }
+    ensures order { (lines : List Line) → IsStrictlySortedBy by_event (opened_by lines) }
+    ensures members { (lines : List Line) (e : Event) →
+        Contains (opened_by lines) e ↔ ((line : Line) × Contains lines line × (is_new line.action ≡ true) × (line.event ≡ e)) }
+    ensures lawful { (rows : List Row) (t : ℕ) (lines : List Line) →
+        are_lawful rows t lines ≡ true → opened_by (lawful_of (judged rows t lines)) ≡ opened_by lines }
 {}
 
 /// The rows of a list of products stand by zone, then event, each pair once.

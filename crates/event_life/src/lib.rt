@@ -14,7 +14,8 @@ pub use judging::{breach_in, has_higher, judge, line_of};
 pub use laws::{
     events_open_once, first_line_decides, gapless_without_gaps, higher_rows_are_lawful_rows,
     judged_lines_leave_the_rows_after, lawful_lines_read_back, lawful_lives_are_whole,
-    lives_are_spells, order_of_lines_is_free, rows_of_are_in_order, rows_stay_in_order,
+    lives_are_spells, opened_events_are_of_the_lines, order_of_lines_is_free, rows_of_are_in_order,
+    rows_stay_in_order,
 };
 pub use life::{Around, Breach, Life, life_step};
 pub use openings::{Gap, gaps, opened_by};

@@ -1,5 +1,5 @@
 -- A pair is found by its lines.
-use Rattle.std.proofs.Common.{◌≡◌, ℕ, suc, ◌+◌, ◌≤◌, ◌<◌, true, false, List, [], ◌∷◌, ◌++◌, length, refl, ap, sym, ◌∙◌, arith, subst, append_assoc, Option, Some, None, codes}
+use Rattle.std.proofs.Common.{◌≡◌, ℕ, true, List, [], ◌∷◌, ◌++◌, length, refl, ap, sym, ◌∙◌, arith, subst, append_assoc, Option, Some, None, codes}
 use Rattle.std.specs.Prelude.{option_map}
 use Rattle.std.specs.List.{slice_range}
 use Rattle.std.proofs.lemmas.Bool.{le-leb, eq-eqb}
@@ -8,11 +8,11 @@ use Rattle.hazard_types.specs.declared.line.Flood.{Flood}
 use Rattle.vtec_string.specs.Columns.{IsVtec, vtec_of}
 use Rattle.vtec_string.proofs.Laying.{vtec_back, vtec_hit}
 use Rattle.hvtec_string.specs.Columns.{IsHvtec, hvtec_of}
-use Rattle.hvtec_string.proofs.Laying.{hvtec_back, hvtec_hit}
+use Rattle.hvtec_string.proofs.Laying.{hvtec_back}
 use Rattle.product_frame.specs.Parts.{has_slash}
 use Rattle.product_frame.specs.Events.{with_flood, pair_of}
 use Rattle.product_frame.specs.Frames.{line_at}
-use Rattle.product_frame.specs.Grammar.{HasFlood, IsPair, AreEvents, HasNoSlash}
+use Rattle.product_frame.specs.Grammar.{HasFlood, AreEvents, HasNoSlash}
 use Rattle.product_frame.specs.Walking.{next_at, ahead}
 use Rattle.product_frame.specs.declared.frame.Pair.{Pair}
 

@@ -1,5 +1,5 @@
 -- What is refused has that fault first.
-use Rattle.std.proofs.Common.{◌≡◌, ℕ, zero, suc, ◌+◌, ◌-◌, ◌<◌, ◌≤◌, ◌==◌, Bool, true, false, List, [], ◌∷◌, ◌++◌, length, take, drop, refl, ap, sym, ◌∙◌, arith, subst, lit<, Option, Some, None, Result, Ok, Err, inl, inr, ◌⊎◌}
+use Rattle.std.proofs.Common.{◌≡◌, ℕ, zero, suc, ◌+◌, ◌-◌, ◌≤◌, ◌==◌, true, false, List, [], ◌∷◌, ◌++◌, length, take, drop, refl, ap, sym, ◌∙◌, arith, subst, Option, Some, None, Result, Ok, Err, inl, inr, ◌⊎◌}
 use Rattle.std.proofs.lemmas.Bool.{cases_Bool, ne_eqb}
 use Rattle.hazard_types.specs.Given.{◌>>=◌}
 use Rattle.hazard_types.specs.Places.{Place}
@@ -7,7 +7,6 @@ use Rattle.hazard_types.specs.declared.calendar.DayStamp.{DayStamp}
 use Rattle.ugc_codes.specs.Reading.{ugc_of}
 use Rattle.ugc_codes.specs.declared.read.UgcRead.{UgcRead}
 use Rattle.ugc_codes.specs.declared.read.UgcFault.{UgcFault}
-use Rattle.ugc_codes.specs.Grammar.{IsUgc}
 use Rattle.ugc_codes.proofs.Lines.{read_is_ugc, ugc_is_read}
 use Rattle.product_frame.specs.Text.{starts_from, line_of, is_empty, ends_in}
 use Rattle.product_frame.specs.Parts.{begins, has_slash, is_end}
@@ -15,11 +14,11 @@ use Rattle.hazard_types.specs.declared.line.Flood.{Flood}
 use Rattle.hvtec_string.specs.Columns.{IsHvtec, hvtec_of}
 use Rattle.hvtec_string.proofs.Laying.{hvtec_hit}
 use Rattle.product_frame.specs.Events.{pair_of}
-use Rattle.product_frame.proofs.Events.{no_slash_no_hvtec, none_paired, pair_back, Begins, one_pair}
+use Rattle.product_frame.proofs.Events.{no_slash_no_hvtec, none_paired, pair_back, one_pair}
 use Rattle.product_frame.specs.Frames.{line_at}
-use Rattle.product_frame.specs.Walking.{at_outside, open_by, opened, at_pairs, at_rest, paired, staged, closed, skipped, next_at, ahead, step, by_stage, ended, walk}
-use Rattle.product_frame.specs.Grammar.{AreOutside, AreEvents, LacksFlood, AreRest, HasNoSlash, IsSegment}
-use Rattle.product_frame.specs.Faults.{BeginsWith, IsBadUgc, Opens, StopsAtVtec, HasNoEnd, IsFaulty, IsFirstFault}
+use Rattle.product_frame.specs.Walking.{at_outside, open_by, at_pairs, at_rest, paired, next_at, ahead, step, walk}
+use Rattle.product_frame.specs.Grammar.{AreEvents, LacksFlood, AreRest, HasNoSlash}
+use Rattle.product_frame.specs.Faults.{BeginsWith, Opens, StopsAtVtec, HasNoEnd, IsFaulty, IsFirstFault}
 use Rattle.product_frame.specs.declared.frame.FrameSegment.{FrameSegment}
 use Rattle.product_frame.specs.declared.frame.Pair.{Pair}
 use Rattle.product_frame.specs.declared.frame.FrameFault.{FrameFault}

@@ -1,30 +1,25 @@
 -- A text with a fault is refused with it.
-use Rattle.std.proofs.Common.{◌≡◌, ℕ, zero, suc, ◌+◌, ◌-◌, ◌<◌, ◌==◌, Bool, true, false, List, [], ◌∷◌, ◌++◌, length, take, drop, refl, ap, sym, ◌∙◌, arith, subst, append-nil, Option, Some, None, Result, Ok, Err, inl, inr, ◌⊎◌}
-use Rattle.std.proofs.lemmas.Bool.{ne_eqb}
-use Rattle.hazard_types.specs.Given.{◌>>=◌}
+use Rattle.std.proofs.Common.{◌≡◌, ℕ, ◌+◌, true, List, [], ◌∷◌, ◌++◌, length, drop, refl, ap, sym, ◌∙◌, arith, Result, Ok, Err, inl, inr}
 use Rattle.hazard_types.specs.Places.{Place}
 use Rattle.hazard_types.specs.declared.calendar.DayStamp.{DayStamp}
 use Rattle.ugc_codes.specs.Reading.{ugc_of}
 use Rattle.ugc_codes.specs.declared.read.UgcRead.{UgcRead}
 use Rattle.ugc_codes.specs.declared.read.UgcFault.{UgcFault}
-use Rattle.ugc_codes.specs.Grammar.{IsUgc}
 use Rattle.ugc_codes.proofs.Lines.{read_is_ugc, ugc_is_read}
-use Rattle.product_frame.specs.Text.{line_of, is_empty, ends_in}
-use Rattle.product_frame.specs.Parts.{begins, has_slash, is_end}
+use Rattle.product_frame.specs.Parts.{begins, has_slash}
 use Rattle.hazard_types.specs.declared.line.Vtec.{Vtec}
 use Rattle.vtec_string.specs.Columns.{IsVtec}
 use Rattle.hvtec_string.specs.Columns.{hvtec_of}
 use Rattle.product_frame.proofs.Events.{pair_none, no_hvtec, no_slash_no_hvtec}
 use Rattle.product_frame.specs.Frames.{line_at}
-use Rattle.product_frame.specs.Walking.{at_outside, open_by, opened, at_pairs, at_rest, paired, staged, next_at, step, by_stage, skipped, ended, walk}
-use Rattle.product_frame.specs.Grammar.{AreOutside, AreEvents, AreRest, HasNoSlash, IsSegment}
-use Rattle.product_frame.specs.Faults.{BeginsWith, IsBadUgc, Opens, StopsAtVtec, HasNoEnd, IsFaulty, IsFirstFault}
+use Rattle.product_frame.specs.Walking.{at_outside, next_at, step, walk}
+use Rattle.product_frame.specs.Grammar.{AreRest, HasNoSlash}
+use Rattle.product_frame.specs.Faults.{BeginsWith, IsBadUgc, Opens, HasNoEnd, IsFaulty, IsFirstFault}
 use Rattle.product_frame.specs.declared.frame.FrameSegment.{FrameSegment}
 use Rattle.product_frame.specs.declared.frame.Pair.{Pair}
 use Rattle.product_frame.specs.declared.frame.FrameFault.{FrameFault}
 use Rattle.product_frame.specs.declared.frame.FrameFault.TheVariants.{NoHeading, NoIdentifier, NoIssueTime, IssueDisagrees, NoSegmentEnd, BadUgc, BadVtec}
 use Rattle.product_frame.specs.declared.walk.Stage.TheVariants.{Outside, Pairs, Rest}
-use Rattle.product_frame.specs.declared.walk.Stage.{Stage}
 use Rattle.product_frame.proofs.Segments.{state, GoesOn, outside_passed, ugc_passed, events_passed, begin_passed, segment_passed}
 
 abbrev pub Reached : List ℕ → List FrameSegment → List Place → DayStamp → List Pair → ℕ → ℕ → List ℕ → List ℕ → Type 0

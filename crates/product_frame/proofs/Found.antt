@@ -1,5 +1,5 @@
 -- What was walked over has its segments in the grammar.
-use Rattle.std.proofs.Common.{◌≡◌, ℕ, zero, suc, ◌+◌, ◌-◌, ◌==◌, Bool, true, false, List, [], ◌∷◌, ◌++◌, length, take, drop, refl, ap, sym, ◌∙◌, arith, append_assoc, append-nil, subst, Option, Some, None, Result, Ok, Err, inl, inr, cond}
+use Rattle.std.proofs.Common.{◌≡◌, ℕ, zero, suc, ◌+◌, ◌-◌, ◌==◌, true, false, List, [], ◌∷◌, ◌++◌, length, take, drop, refl, ap, sym, ◌∙◌, arith, append_assoc, append-nil, subst, Option, Some, None, Result, Ok, Err, inl, inr}
 use Rattle.std.proofs.lemmas.Bool.{cases_Bool, ne_eqb}
 use Rattle.hazard_types.specs.Given.{◌>>=◌}
 use Rattle.hazard_types.specs.Places.{Place}
@@ -7,20 +7,18 @@ use Rattle.hazard_types.specs.declared.calendar.DayStamp.{DayStamp}
 use Rattle.ugc_codes.specs.Reading.{ugc_of}
 use Rattle.ugc_codes.specs.declared.read.UgcRead.{UgcRead}
 use Rattle.ugc_codes.specs.declared.read.UgcFault.{UgcFault}
-use Rattle.ugc_codes.specs.Grammar.{IsUgc}
 use Rattle.ugc_codes.proofs.Lines.{read_is_ugc}
 use Rattle.product_frame.specs.Text.{line_of, is_empty, ends_in}
 use Rattle.product_frame.specs.Parts.{begins, has_slash, is_end}
 use Rattle.product_frame.specs.Events.{pair_of}
-use Rattle.product_frame.proofs.Events.{Begins, one_pair}
+use Rattle.product_frame.proofs.Events.{one_pair}
 use Rattle.product_frame.specs.declared.frame.Pair.{Pair}
 use Rattle.product_frame.specs.Frames.{line_at}
-use Rattle.product_frame.specs.Walking.{at_outside, open_by, opened, at_pairs, at_rest, paired, staged, closed, skipped, next_at, ahead, step, by_stage, ended, walk}
-use Rattle.product_frame.specs.Grammar.{AreOutside, AreEvents, AreRest, HasNoSlash, IsSegment, AreSegments}
+use Rattle.product_frame.specs.Walking.{at_outside, open_by, at_pairs, at_rest, paired, next_at, ahead, step, walk}
+use Rattle.product_frame.specs.Grammar.{AreEvents, AreRest, HasNoSlash, IsSegment, AreSegments}
 use Rattle.product_frame.specs.declared.frame.FrameSegment.{FrameSegment}
 use Rattle.product_frame.specs.declared.frame.FrameFault.{FrameFault}
 use Rattle.product_frame.specs.declared.frame.FrameFault.TheVariants.{BadUgc, BadVtec, NoSegmentEnd}
-use Rattle.product_frame.specs.declared.walk.Walk.{Walk}
 use Rattle.product_frame.specs.declared.walk.Stage.{Stage}
 use Rattle.product_frame.specs.declared.walk.Stage.TheVariants.{Outside, Pairs, Rest}
 use Rattle.product_frame.proofs.Segments.{state}

@@ -1,19 +1,19 @@
 -- What a line is not: a heading, a line that begins a segment, a local line.
-use Rattle.std.proofs.Common.{◌≡◌, ℕ, zero, suc, ◌+◌, ◌-◌, ◌<◌, ◌≤◌, ◌==◌, ◌&&◌, ◌||◌, Bool, true, false, List, [], ◌∷◌, ◌++◌, length, take, drop, get_or, refl, ap, sym, ◌∙◌, subst, arith, cond, inl, inr, Option, Some, None, Ok, Err}
+use Rattle.std.proofs.Common.{◌≡◌, ℕ, zero, suc, ◌-◌, ◌≤◌, ◌==◌, ◌&&◌, ◌||◌, Bool, true, false, List, [], ◌∷◌, length, take, get_or, refl, arith, inl, inr, None}
 use Rattle.std.specs.Prelude.{slice_index, nat_le, is_some}
-use Rattle.std.specs.List.{AllByRecursion, before_first, position_or_len}
+use Rattle.std.specs.List.{AllByRecursion, position_or_len}
 use Rattle.std.specs.Char.{is_ascii_digit}
-use Rattle.std.proofs.lemmas.Bool.{cases_Bool, and_left, and_right, lt-leb, le-leb, ne_eqb}
+use Rattle.std.proofs.lemmas.Bool.{cases_Bool, and_left, lt-leb, ne_eqb}
 use Rattle.hazard_types.specs.Calendar.{is_digit}
 use Rattle.hazard_types.specs.Places.{is_capital}
 use Rattle.desk_clock.specs.LocalForm.{written_in, read_of}
-use Rattle.desk_clock.specs.Words.{first_word, after_word, after_aside}
+use Rattle.desk_clock.specs.Words.{first_word}
 use Rattle.desk_clock.specs.Words.{is_blank as is_word_blank}
 use Rattle.desk_clock.specs.LocalWords.{number_of, time_said, words_say, are_letters}
 use Rattle.desk_clock.specs.Names.{place_of, weekday_names}
 use Rattle.hazard_types.specs.Characters.{is_blank}
 use Rattle.product_frame.specs.Text.{line_of}
-use Rattle.product_frame.specs.Parts.{is_ttaaii, has_office, is_bbb, is_front, heading_by, heading_of, begins, has_slash, is_end, local_at}
+use Rattle.product_frame.specs.Parts.{is_ttaaii, has_office, is_bbb, is_front, heading_by, heading_of, begins, local_at}
 use Rattle.product_frame.specs.LineRules.{HasNoDigit}
 use Rattle.product_frame.proofs.Runs.{all_line}
 

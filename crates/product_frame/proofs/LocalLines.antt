@@ -1,8 +1,8 @@
 -- A local line as it is written: one line, which begins and ends with a digit.
-use Rattle.std.proofs.Common.{◌≡◌, ℕ, zero, suc, ◌+◌, ◌-◌, ◌/◌, ◌%◌, ◌<◌, ◌≤◌, ◌==◌, ◌&&◌, Bool, true, false, List, [], ◌∷◌, ◌++◌, length, get_or, refl, ap, sym, ◌∙◌, subst, arith, cond, inl, inr, Option, Some, None, append_assoc, codes}
-use Rattle.std.specs.Prelude.{slice_index, nat_lt}
+use Rattle.std.proofs.Common.{◌≡◌, ℕ, zero, suc, ◌+◌, ◌-◌, ◌/◌, ◌%◌, ◌<◌, ◌≤◌, ◌==◌, false, List, [], ◌∷◌, ◌++◌, get_or, refl, ap, sym, ◌∙◌, subst, arith, inl, inr, Some, append_assoc, codes}
+use Rattle.std.specs.Prelude.{nat_lt}
 use Rattle.std.specs.List.{AllByRecursion}
-use Rattle.std.proofs.lemmas.Bool.{cases_Bool, ne_eqb, ltb-true, ltb-false}
+use Rattle.std.proofs.lemmas.Bool.{cases_Bool, ne_eqb, ltb-true}
 use Rattle.hazard_types.specs.declared.codes.LocalZone.{LocalZone}
 use Rattle.desk_clock.specs.declared.abbreviations.Abbreviation.{Abbreviation}
 use Rattle.desk_clock.specs.declared.abbreviations.Abbreviation.TheVariants.{Ast, Est, Edt, Cst, Cdt, Mst, Mdt, Pst, Pdt, Akst, Akdt, Hst, Utc, Gmt}
@@ -12,7 +12,6 @@ use Rattle.desk_clock.specs.Names.{month_name, weekday_name, month_names, weekda
 use Rattle.desk_clock.specs.Zones.{abbreviation_at}
 use Rattle.desk_clock.specs.LocalText.{one_or_two, two, four, clock_hour, half_day, short_of, local_line_of}
 use Rattle.desk_clock.specs.LocalText.{line_of as local_text}
-use Rattle.desk_clock.specs.LocalForm.{read_of}
 use Rattle.desk_clock.proofs.RoundTrip.{reads_back}
 use Rattle.product_frame.specs.Text.{line_of, is_left_out}
 use Rattle.product_frame.specs.Parts.{local_at}

@@ -1,15 +1,14 @@
 -- A product as it is written has the frame that it was written for.
-use Rattle.std.proofs.Common.{◌≡◌, ℕ, zero, suc, ◌+◌, ◌<◌, ◌≤◌, ◌==◌, ◌&&◌, ◌||◌, Bool, true, false, List, [], ◌∷◌, ◌++◌, length, take, drop, get_or, refl, ap, sym, ◌∙◌, subst, arith, cond, inl, inr, Option, Some, None, append_assoc, append-nil, length-append, take_all, le_refl}
-use Rattle.std.specs.Prelude.{slice_index, nat_le, is_some}
+use Rattle.std.proofs.Common.{◌≡◌, ℕ, ◌+◌, ◌≤◌, ◌==◌, ◌&&◌, Bool, true, false, List, [], ◌∷◌, ◌++◌, length, drop, refl, ap, sym, ◌∙◌, subst, arith, inl, inr, Some, None, append_assoc, append-nil, take_all, le_refl}
+use Rattle.std.specs.Prelude.{slice_index, nat_le}
 use Rattle.std.specs.List.{All, AllByRecursion, list_all}
-use Rattle.std.proofs.lemmas.Bool.{cases_Bool, and_parts, or_cases, leb-true, ne_eqb, false≢true}
+use Rattle.std.proofs.lemmas.Bool.{and_parts, or_cases, leb-true, ne_eqb, false≢true}
 use Rattle.hazard_types.specs.Calendar.{is_digit}
 use Rattle.hazard_types.specs.Places.{is_capital}
-use Rattle.desk_clock.specs.LocalText.{local_line_of}
 use Rattle.product_frame.specs.Text.{starts, starts_from, line_of, before, is_left_out, is_empty}
 use Rattle.hazard_types.specs.Characters.{is_name_byte}
 use Rattle.product_frame.specs.Parts.{is_bbb, heading_of, is_identifier, local_at}
-use Rattle.product_frame.specs.Frames.{line_at, heading_index, full_index, issue_in, end_by, product_in}
+use Rattle.product_frame.specs.Frames.{line_at, heading_index, full_index, issue_in, product_in}
 use Rattle.product_frame.specs.Frame.{IsFrameIn, FrameOf}
 use Rattle.product_frame.specs.Grammar.{AreSegments}
 use Rattle.product_frame.specs.Layout.{ended, heading_text, segments_text, block_text, layout_of}
@@ -18,11 +17,9 @@ use Rattle.product_frame.specs.declared.frame.Heading.{Heading}
 use Rattle.product_frame.specs.declared.frame.Frame.{Frame}
 use Rattle.product_frame.specs.declared.write.Block.{Block}
 use Rattle.product_frame.specs.declared.write.Body.{Body}
-use Rattle.product_frame.proofs.Runs.{all_both, all_from, starting, start_moved, behind, Runs, run_none, run_both, run_line, next_line}
+use Rattle.product_frame.proofs.Runs.{all_both, all_from, starting, behind, Runs, run_both, run_line, next_line}
 use Rattle.product_frame.proofs.LineKinds.{no_digit_no_heading, no_digit_no_segment, no_digit_no_local, no_heading_length}
-use Rattle.product_frame.proofs.LocalLines.{NoEnd, digit_no_end, local_line, local_whole, local_begins, local_reads}
-use Rattle.product_frame.proofs.UgcLines.{capital_no_end}
-use Rattle.product_frame.proofs.VtecLines.{name_no_end}
+use Rattle.product_frame.proofs.LocalLines.{NoEnd, local_line, local_whole, local_begins, local_reads}
 use Rattle.product_frame.proofs.HeadingLines.{heading_laid}
 use Rattle.product_frame.proofs.SegmentLines.{BeginsNone, HeadsNone, IsLocal, local_begins_none, local_heads_none, AreSound, segments_stand, segments_heads_none, sound_from}
 

@@ -1,17 +1,17 @@
 -- The first fault of a text is what the reader refuses it with.
-use Rattle.std.proofs.Common.{◌≡◌, ℕ, suc, ◌+◌, arith, Bool, true, false, List, [], ◌∷◌, length, drop, refl, ap, sym, ◌∙◌, subst, Option, Some, None, Result, Ok, Err, inl, inr, cond, ◌⊎◌}
+use Rattle.std.proofs.Common.{◌≡◌, ℕ, suc, ◌+◌, arith, true, false, List, [], ◌∷◌, length, drop, refl, ap, sym, ◌∙◌, subst, Option, Some, None, Result, Ok, Err, inl, inr, cond, ◌⊎◌}
 use Rattle.std.specs.Prelude.{slice_index, is_some}
 use Rattle.std.proofs.lemmas.Bool.{cases_Bool}
 use Rattle.hazard_types.specs.Given.{◌>>=◌}
 use Rattle.desk_clock.specs.DayStamps.{IsNear}
-use Rattle.product_frame.specs.Text.{starts, starts_from, line_of}
+use Rattle.product_frame.specs.Text.{starts, starts_from}
 use Rattle.product_frame.specs.Parts.{heading_of, is_identifier}
 use Rattle.product_frame.specs.Nearness.{is_near}
 use Rattle.product_frame.proofs.Nearness.{near_decides}
 use Rattle.product_frame.specs.Frames.{line_at, heading_index, full_index, issue_in, product_in, or_fault, behind, named, frame_in, frame_from, frame_of}
 use Rattle.product_frame.specs.Walking.{begun, segments_of}
 use Rattle.product_frame.specs.Frame.{FrameOf}
-use Rattle.product_frame.specs.Faults.{IsIdentified, IsIssued, IsFirstFault, HasBadSegment, IsFaultIn, HasFaultyProduct, FrameFaultOf}
+use Rattle.product_frame.specs.Faults.{IsIdentified, HasBadSegment, IsFaultIn, HasFaultyProduct, FrameFaultOf}
 use Rattle.product_frame.specs.declared.frame.Heading.{Heading}
 use Rattle.product_frame.specs.declared.frame.Frame.{Frame}
 use Rattle.product_frame.specs.declared.frame.FrameSegment.{FrameSegment}

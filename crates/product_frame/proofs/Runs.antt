@@ -1,5 +1,5 @@
 -- Lines that are laid one behind another: where they begin, and what each of them is.
-use Rattle.std.proofs.Common.{◌≡◌, ℕ, suc, ◌+◌, ◌<◌, ◌≤◌, ◌==◌, ◌&&◌, Bool, true, false, List, [], ◌∷◌, ◌++◌, length, take, drop, get_or, refl, ap, sym, ◌∙◌, subst, arith, append_assoc, append-nil, length-append, cond, inl, inr, drop-drop, drop_at, add-zero, below_more, Result, Ok, Err}
+use Rattle.std.proofs.Common.{◌≡◌, ℕ, suc, ◌+◌, ◌<◌, ◌≤◌, ◌==◌, ◌&&◌, true, false, List, [], ◌∷◌, ◌++◌, length, drop, get_or, refl, ap, sym, ◌∙◌, subst, arith, append_assoc, length-append, inl, inr, drop-drop, drop_at, add-zero, below_more, Result, Ok, Err}
 use Rattle.std.specs.Prelude.{OnOk}
 use Rattle.std.specs.List.{All, AllByRecursion}
 use Rattle.std.proofs.lemmas.Bool.{cases_Bool, eqb-true}

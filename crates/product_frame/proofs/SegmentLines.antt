@@ -1,8 +1,8 @@
 -- A segment as it is written reads as the segment.
-use Rattle.std.proofs.Common.{◌≡◌, ℕ, zero, suc, ◌+◌, ◌<◌, ◌≤◌, ◌==◌, ◌&&◌, Bool, true, false, List, [], ◌∷◌, ◌++◌, length, take, drop, get_or, refl, ap, sym, ◌∙◌, subst, arith, cond, inl, inr, Option, Some, None, append_assoc, append-nil, length-append, drop_at, take_at, codes}
+use Rattle.std.proofs.Common.{◌≡◌, ℕ, ◌+◌, ◌≤◌, ◌==◌, ◌&&◌, Bool, true, false, List, [], ◌∷◌, ◌++◌, length, take, drop, refl, ap, sym, ◌∙◌, subst, arith, inl, inr, Option, Some, None, append_assoc, length-append, drop_at, take_at, codes}
 use Rattle.std.specs.Prelude.{slice_index, nat_le}
-use Rattle.std.specs.List.{All, AllByRecursion}
-use Rattle.std.proofs.lemmas.Bool.{cases_Bool, and_left, and_right, and_from, le-leb, ne_eqb, false≢true, true≢false}
+use Rattle.std.specs.List.{AllByRecursion}
+use Rattle.std.proofs.lemmas.Bool.{cases_Bool, and_right, and_from, le-leb, ne_eqb, false≢true}
 use Rattle.hazard_types.specs.Places.{is_capital}
 use Rattle.ugc_codes.specs.Grammar.{IsUgc}
 use Rattle.ugc_codes.specs.Written.{ugc_text}
@@ -10,17 +10,17 @@ use Rattle.hazard_types.specs.declared.line.Flood.{Flood}
 use Rattle.vtec_string.specs.Columns.{IsVtec, vtec_text}
 use Rattle.hvtec_string.specs.Columns.{IsHvtec, hvtec_text}
 use Rattle.product_frame.specs.Text.{starts_from, line_of, before, is_left_out, is_empty, ends_in}
-use Rattle.product_frame.specs.Parts.{heading_of, begins, has_slash, is_end, local_at}
+use Rattle.product_frame.specs.Parts.{heading_of, begins, has_slash, is_end}
 use Rattle.product_frame.specs.Frames.{line_at}
-use Rattle.product_frame.specs.Grammar.{AreOutside, HasFlood, AreEvents, AreRest, HasNoSlash, IsSegment, AreSegments}
+use Rattle.product_frame.specs.Grammar.{AreOutside, HasFlood, AreEvents, HasNoSlash, IsSegment, AreSegments}
 use Rattle.product_frame.specs.Layout.{ended, flood_text, pairs_text, names_text, body_text, segment_text, segments_text}
-use Rattle.product_frame.specs.LineRules.{IsOneLine, lines_in, IsPairWritten, IsSegmentWritten, IsBodyLine, IsBody, HasFloodColumns, HasColumns, ReadsBack}
+use Rattle.product_frame.specs.LineRules.{IsOneLine, lines_in, IsSegmentWritten, IsBodyLine, IsBody, HasFloodColumns, HasColumns, ReadsBack}
 use Rattle.product_frame.specs.declared.frame.Pair.{Pair}
 use Rattle.product_frame.specs.declared.frame.FrameSegment.{FrameSegment}
 use Rattle.product_frame.specs.declared.write.Body.{Body}
 use Rattle.product_frame.proofs.Runs.{all_both, all_weaker, all_from, starting, start_moved, starts_behind, as_many_ends, behind, Runs, run_none, run_both, run_line, run_text, run_ended, ended_behind, next_line, lines_have}
 use Rattle.product_frame.proofs.LineKinds.{no_blank_no_heading, no_heading_first, no_heading_length, no_capital_begins, digit_no_capital}
-use Rattle.product_frame.proofs.LocalLines.{NoEnd, BeginsWithDigit}
+use Rattle.product_frame.proofs.LocalLines.{BeginsWithDigit}
 use Rattle.product_frame.proofs.UgcLines.{NoBlank, ugc_clear, ugc_begins}
 use Rattle.product_frame.proofs.VtecLines.{vtec_line, vtec_whole}
 use Rattle.product_frame.proofs.FloodLines.{hvtec_line, hvtec_whole}
@@ -113,6 +113,9 @@ flood_stands (Some f) v p at rest h =
     let n = next_line p t rest at (hvtec_line f v) h in
     (at ∷ [], ap (λ (xs : List ℕ). at ∷ xs) n.0, subst (λ (l : List ℕ). IsHvtec l f) (sym (n.1 ∙ hvtec_whole f v)) v)
 
+three_parts : (whole a b rest more last : List ℕ) → whole ≡ more → more ≡ a ++ last → last ≡ b ++ rest → whole ≡ (a ++ b) ++ rest
+three_parts whole a b rest more last e f g = e ∙ f ∙ ap (λ (xs : List ℕ). a ++ xs) g ∙ sym (append_assoc a b rest)
+
 pairs_stand : (pairs : List Pair) → AllByRecursion HasColumns pairs → (p : List ℕ) (at : ℕ) (rest : List ℕ) → drop at p ≡ pairs_text pairs ++ rest →
     (places : List ℕ) × (starting at (pairs_text pairs ++ rest) ≡ places ++ starting (at + length (pairs_text pairs)) rest) × AreEvents p places pairs
 pairs_stand [] v p at rest h = ([], start_moved at (at + 0) rest (omega arith), refl)
@@ -132,10 +135,9 @@ pairs_stand (q ∷ pairs) v p at rest h =
     let line : line_at p at ≡ t = n.1 ∙ vtec_whole q.vtec v.0.0 in
     let end = at + length (ended t ++ (f ++ more)) in
     let later : starting at2 (more ++ rest) ≡ y.0 ++ starting end rest = y.1 ∙ ap (λ (xs : List ℕ). y.0 ++ xs) (start_moved _ _ rest e) in
-    let next : starting at1 (f ++ (more ++ rest)) ≡ (z.0 ++ y.0) ++ starting end rest = z.1 ∙ ap (λ (xs : List ℕ). z.0 ++ xs) later ∙ sym (append_assoc z.0 y.0 (starting end rest)) in
-    let first : starts_from at (ended t ++ (f ++ (more ++ rest))) ≡ (z.0 ++ y.0) ++ starting end rest = n.0 ∙ next in (
+    let next : starts_from at (ended t ++ (f ++ (more ++ rest))) ≡ (z.0 ++ y.0) ++ starting end rest = three_parts _ z.0 y.0 (starting end rest) _ _ n.0 z.1 later in (
       at ∷ (z.0 ++ y.0),
-      ap (starting at) apart ∙ ap (λ (xs : List ℕ). at ∷ xs) first,
+      ap (starting at) apart ∙ ap (λ (xs : List ℕ). at ∷ xs) next,
       (y.0, record { at = at; next = z.0; whole = refl; vtec = subst (λ (l : List ℕ). IsVtec l q.vtec) (sym line) v.0.0; flood = z.2 }, y.2),
     )
 

@@ -1,26 +1,21 @@
 -- Segments are walked over.
-use Rattle.std.proofs.Common.{◌≡◌, ℕ, zero, suc, ◌+◌, ◌-◌, ◌<◌, ◌≤◌, ◌==◌, Bool, true, false, List, [], ◌∷◌, ◌++◌, length, take, drop, refl, ap, sym, ◌∙◌, arith, append_assoc, append-nil, subst, Option, Some, None, Result, Ok, Err, inl, inr, cond}
-use Rattle.std.proofs.lemmas.Bool.{cases_Bool, ne_eqb}
+use Rattle.std.proofs.Common.{◌≡◌, ℕ, ◌+◌, ◌-◌, ◌==◌, true, false, List, [], ◌∷◌, ◌++◌, length, take, drop, refl, ap, sym, ◌∙◌, arith, append_assoc, append-nil, Option, Some, None, Ok}
+use Rattle.std.proofs.lemmas.Bool.{ne_eqb}
 use Rattle.hazard_types.specs.Places.{Place}
 use Rattle.hazard_types.specs.declared.calendar.DayStamp.{DayStamp}
-use Rattle.ugc_codes.specs.Reading.{ugc_of}
-use Rattle.ugc_codes.specs.declared.read.UgcRead.{UgcRead}
-use Rattle.ugc_codes.specs.declared.read.UgcFault.{UgcFault}
 use Rattle.ugc_codes.specs.Grammar.{IsUgc}
-use Rattle.ugc_codes.proofs.Lines.{read_is_ugc, ugc_is_read}
+use Rattle.ugc_codes.proofs.Lines.{ugc_is_read}
 use Rattle.product_frame.specs.Text.{line_of, is_empty, ends_in}
 use Rattle.product_frame.specs.Parts.{begins, has_slash, is_end}
 use Rattle.hazard_types.specs.declared.line.Flood.{Flood}
 use Rattle.hvtec_string.specs.Columns.{hvtec_of}
 use Rattle.hvtec_string.proofs.Laying.{hvtec_hit}
-use Rattle.product_frame.specs.Events.{pair_of}
 use Rattle.product_frame.proofs.Events.{vtec_has_slash, pair_hit, not_both, no_slash_no_hvtec}
 use Rattle.product_frame.specs.declared.frame.Pair.{Pair}
 use Rattle.product_frame.specs.Frames.{line_at}
-use Rattle.product_frame.specs.Walking.{at_outside, open_by, opened, at_pairs, at_rest, paired, staged, closed, skipped, next_at, ahead, step, by_stage, ended, walk, begun, segments_of}
+use Rattle.product_frame.specs.Walking.{at_outside, next_at, ahead, step, walk}
 use Rattle.product_frame.specs.Grammar.{AreOutside, HasFlood, IsPair, AreEvents, LacksFlood, AreRest, HasNoSlash, IsSegment, AreSegments}
 use Rattle.product_frame.specs.declared.frame.FrameSegment.{FrameSegment}
-use Rattle.product_frame.specs.declared.frame.FrameFault.{FrameFault}
 use Rattle.product_frame.specs.declared.walk.Walk.{Walk}
 use Rattle.product_frame.specs.declared.walk.Stage.{Stage}
 use Rattle.product_frame.specs.declared.walk.Stage.TheVariants.{Outside, Pairs, Rest}

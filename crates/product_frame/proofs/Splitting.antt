@@ -1,5 +1,5 @@
 -- Spans laid end to end are the text from the first heading on.
-use Rattle.std.proofs.Common.{◌≡◌, ℕ, ◌+◌, ◌-◌, ◌<◌, ◌≤◌, ◌==◌, Bool, true, false, List, [], ◌∷◌, ◌++◌, length, take, drop, refl, ap, sym, ◌∙◌, arith, append-nil, length-drop, inl, inr}
+use Rattle.std.proofs.Common.{◌≡◌, ℕ, ◌+◌, ◌≤◌, ◌==◌, List, [], ◌∷◌, ◌++◌, length, take, drop, refl, ap, sym, ◌∙◌, arith, append-nil, length-drop, inl, inr}
 use Rattle.std.specs.Prelude.{is_some}
 use Rattle.std.specs.List.{slice_range}
 use Rattle.std.proofs.lemmas.Bool.{cases_Bool}
@@ -8,7 +8,7 @@ use Rattle.std.proofs.Math.Seq.{take-length}
 use Rattle.product_frame.specs.Text.{starts, starts_from}
 use Rattle.product_frame.specs.Parts.{heading_of}
 use Rattle.product_frame.specs.Frames.{line_at}
-use Rattle.product_frame.specs.Splitting.{headings_in, first_or, spans_to, spans_of, laid, from_first}
+use Rattle.product_frame.specs.Splitting.{headings_in, spans_to, spans_of, laid, from_first}
 
 -- each place is at least the one before it
 abbrev pub Rises : ℕ → List ℕ → Type 0

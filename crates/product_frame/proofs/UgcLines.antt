@@ -1,19 +1,19 @@
 -- The lines of a UGC text as it is written: the first begins a segment, and no byte is a blank.
-use Rattle.std.proofs.Common.{◌≡◌, ℕ, zero, suc, ◌+◌, ◌-◌, ◌/◌, ◌%◌, ◌<◌, ◌≤◌, ◌==◌, ◌&&◌, ◌||◌, Bool, true, false, List, [], ◌∷◌, ◌++◌, length, get_or, refl, ap, sym, ◌∙◌, subst, arith, cond, inl, inr, Option, Some, None, append_assoc}
-use Rattle.std.specs.Prelude.{slice_index, nat_le, IsTrue}
+use Rattle.std.proofs.Common.{◌≡◌, ℕ, zero, suc, ◌+◌, ◌-◌, ◌/◌, ◌%◌, ◌≤◌, ◌==◌, ◌&&◌, ◌||◌, Bool, true, false, List, [], ◌∷◌, ◌++◌, length, refl, ap, sym, ◌∙◌, subst, arith, inl, inr, Option, Some, None, append_assoc}
+use Rattle.std.specs.Prelude.{slice_index, nat_le}
 use Rattle.std.specs.List.{All, AllByRecursion}
 use Rattle.std.proofs.lemmas.Map.Views.{All-insert_key}
-use Rattle.std.proofs.lemmas.Bool.{cases_Bool, and_parts, and_from, and_right, lt-leb, le-leb, leb-true, ne_eqb}
+use Rattle.std.proofs.lemmas.Bool.{cases_Bool, and_parts, and_from, and_right, le-leb, leb-true, ne_eqb}
 use Rattle.hazard_types.specs.Calendar.{is_digit}
 use Rattle.hazard_types.specs.Places.{Place, by_place, is_capital, are_letters}
 use Rattle.hazard_types.specs.declared.zone.Kind.{Kind}
 use Rattle.hazard_types.specs.declared.zone.Kind.TheVariants.{C, Z}
 use Rattle.hazard_types.specs.declared.calendar.DayStamp.{DayStamp}
 use Rattle.ugc_codes.specs.declared.span.Span.{Span}
-use Rattle.ugc_codes.specs.Grammar.{IsSpan, IsUgc, AreGroups, HasCode, last_code, Spells, run_end, full_text, numbered, add, add_run, add_spans}
+use Rattle.ugc_codes.specs.Grammar.{IsSpan, IsUgc, AreGroups, HasCode, last_code, run_end, full_text, numbered, add, add_run, add_spans}
 use Rattle.hazard_types.specs.Names.{kind_code, zone_text}
 use Rattle.hazard_types.specs.Digits.{three_digits, day_text}
-use Rattle.ugc_codes.specs.Written.{are_alike, goes_on, single, pieces, groups_from, groups, is_short, code_part, own_text, passes, put_text, put_column, lay, ugc_text}
+use Rattle.ugc_codes.specs.Written.{are_alike, goes_on, single, pieces, groups_from, code_part, own_text, passes, put_text, put_column, lay, ugc_text}
 use Rattle.hazard_types.specs.Characters.{is_blank}
 use Rattle.product_frame.specs.Text.{line_of, before, is_left_out, is_empty}
 use Rattle.product_frame.specs.Parts.{begins}

@@ -1,8 +1,8 @@
 -- A P-VTEC text is one line, which a reader takes as it stands.
-use Rattle.std.proofs.Common.{◌≡◌, ℕ, zero, suc, ◌+◌, ◌-◌, ◌/◌, ◌%◌, ◌<◌, ◌≤◌, ◌==◌, ◌&&◌, ◌||◌, Bool, true, false, List, [], ◌∷◌, ◌++◌, length, take, drop, get_or, refl, ap, sym, ◌∙◌, subst, arith, cond, inl, inr, Option, Some, None, append_assoc, append-nil, codes, length-take, length-drop, take-append-drop, lit≤}
-use Rattle.std.specs.Prelude.{slice_index, nat_le, IsTrue}
-use Rattle.std.specs.List.{AllByRecursion, list_all, slice_range}
-use Rattle.std.proofs.lemmas.Bool.{cases_Bool, and_parts, or_cases, le-leb, leb-true, ne_eqb}
+use Rattle.std.proofs.Common.{◌≡◌, ℕ, ◌/◌, ◌%◌, ◌≤◌, ◌||◌, true, List, [], ◌∷◌, ◌++◌, length, take, drop, refl, ap, sym, ◌∙◌, subst, arith, inl, inr, Option, Some, None, codes, length-take, length-drop, take-append-drop, lit≤}
+use Rattle.std.specs.Prelude.{slice_index}
+use Rattle.std.specs.List.{list_all, slice_range}
+use Rattle.std.proofs.lemmas.Bool.{and_parts, or_cases, le-leb, leb-true, ne_eqb}
 use Rattle.std.proofs.lemmas.List.Folds.{drop_split}
 use Rattle.std.proofs.Math.ListN.{drop_of_length-le}
 use Rattle.hazard_types.specs.Calendar.{is_digit, stamp_of, civil_of}
@@ -21,7 +21,7 @@ use Rattle.vtec_string.specs.Columns.{IsVtec, vtec_text}
 use Rattle.product_frame.specs.Text.{line_of}
 use Rattle.product_frame.specs.Parts.{has_slash}
 use Rattle.product_frame.specs.LineRules.{IsOneLine}
-use Rattle.product_frame.proofs.Runs.{all_both, all_front, line_whole}
+use Rattle.product_frame.proofs.Runs.{all_both, line_whole}
 use Rattle.product_frame.proofs.LineKinds.{all_take}
 use Rattle.product_frame.proofs.LocalLines.{NoEnd, digit_no_end}
 use Rattle.product_frame.proofs.UgcLines.{two_of, capital_no_end}

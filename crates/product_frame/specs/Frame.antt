@@ -1,6 +1,6 @@
 -- What it is to be the frame of a text.
 use Rattle.std.specs.Prelude.{◌≡◌, ℕ, ◌+◌, true, List, slice_index, drop, Some}
-use Rattle.product_frame.specs.Text.{starts, starts_from, line_of}
+use Rattle.product_frame.specs.Text.{starts, starts_from}
 use Rattle.desk_clock.specs.DayStamps.{IsNear}
 use Rattle.product_frame.specs.Parts.{heading_of, is_identifier}
 use Rattle.product_frame.specs.Frames.{line_at, heading_index, full_index, issue_in, product_in}

@@ -1,5 +1,5 @@
 -- The frame of a text.
-use Rattle.std.specs.Prelude.{ℕ, ◌+◌, ◌==◌, Bool, true, false, not, List, [], ◌∷◌, length, slice_index, take, drop, Option, Some, None, Result, Ok, Err, if◌then◌else◌, is_some}
+use Rattle.std.specs.Prelude.{ℕ, ◌+◌, List, [], ◌∷◌, length, slice_index, take, drop, Option, Some, None, Result, Ok, Err, if◌then◌else◌, is_some}
 use Rattle.hazard_types.specs.Given.{◌>>=◌}
 use Rattle.product_frame.specs.Text.{starts, starts_from, line_of, is_empty}
 use Rattle.product_frame.specs.Parts.{heading_of, is_identifier, local_at}

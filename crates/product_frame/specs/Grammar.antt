@@ -1,5 +1,5 @@
 -- The segments of lines, by their parts.
-use Rattle.std.specs.Prelude.{◌≡◌, ℕ, Bool, true, false, List, [], ◌∷◌, ◌++◌, length, take, drop, Option, Some, None}
+use Rattle.std.specs.Prelude.{◌≡◌, ℕ, true, false, List, [], ◌∷◌, ◌++◌, length, take, drop, Option, Some, None}
 use Rattle.std.specs.List.{AllByRecursion}
 use Rattle.ugc_codes.specs.Grammar.{IsUgc}
 use Rattle.product_frame.specs.Text.{line_of, is_empty, ends_in}

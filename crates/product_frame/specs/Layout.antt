@@ -1,7 +1,5 @@
 -- The text that is written for a frame: its block and its bodies say what a frame leaves out.
 use Rattle.std.specs.Prelude.{ℕ, List, [], ◌∷◌, ◌++◌, Option, Some, None, codes}
-use Rattle.hazard_types.specs.Places.{Place}
-use Rattle.hazard_types.specs.declared.calendar.DayStamp.{DayStamp}
 use Rattle.hazard_types.specs.Digits.{day_text}
 use Rattle.ugc_codes.specs.Written.{ugc_text}
 use Rattle.hazard_types.specs.declared.line.Flood.{Flood}

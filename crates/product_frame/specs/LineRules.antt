@@ -4,7 +4,7 @@ use Rattle.std.specs.List.{All, AllByRecursion, list_all}
 use Rattle.std.specs.List.Sorted.{IsStrictlySortedBy}
 use Rattle.hazard_types.specs.Calendar.{is_digit}
 use Rattle.hazard_types.specs.Characters.{is_office, is_location}
-use Rattle.hazard_types.specs.Places.{Place, is_capital, by_place}
+use Rattle.hazard_types.specs.Places.{is_capital, by_place}
 use Rattle.hazard_types.specs.declared.codes.LocalZone.{LocalZone}
 use Rattle.ugc_codes.specs.Grammar.{IsUgc}
 use Rattle.hazard_types.specs.Digits.{is_day_stamp}

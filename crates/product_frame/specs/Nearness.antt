@@ -1,5 +1,5 @@
 -- Whether a day stamp is near a minute, as a test.
-use Rattle.std.specs.Prelude.{ℕ, zero, suc, ◌+◌, ◌-◌, ◌==◌, ◌&&◌, ◌||◌, min, Bool, true, false}
+use Rattle.std.specs.Prelude.{ℕ, zero, suc, ◌+◌, ◌-◌, ◌==◌, ◌&&◌, ◌||◌, min, Bool, false}
 use Rattle.hazard_types.specs.Days.{day_stamp_of}
 use Rattle.hazard_types.specs.declared.calendar.DayStamp.{DayStamp}
 

@@ -1,5 +1,5 @@
 -- What single lines say.
-use Rattle.std.specs.Prelude.{ℕ, ◌+◌, ◌*◌, ◌-◌, ◌==◌, ◌&&◌, ◌||◌, Bool, true, false, nat_le, List, [], ◌∷◌, length, slice_index, slice_range, take, drop, Option, Some, None, Result, Ok, Err, if◌then◌else◌, option_and_then, option_map, codes}
+use Rattle.std.specs.Prelude.{ℕ, ◌+◌, ◌==◌, ◌&&◌, ◌||◌, Bool, nat_le, List, [], ◌∷◌, length, slice_index, slice_range, drop, Option, Some, None, Result, Ok, Err, if◌then◌else◌, option_map}
 use Rattle.std.specs.List.{list_all}
 use Rattle.desk_clock.specs.LocalForm.{read_of}
 use Rattle.desk_clock.specs.declared.reading.LocalFault.{LocalFault}

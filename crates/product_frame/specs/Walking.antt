@@ -1,5 +1,5 @@
 -- The walk over the lines.
-use Rattle.std.specs.Prelude.{◌≡◌, ℕ, zero, suc, ◌+◌, ◌-◌, ◌==◌, ◌&&◌, Bool, true, false, List, [], ◌∷◌, ◌++◌, take, drop, Option, Some, None, Result, Ok, Err, if◌then◌else◌}
+use Rattle.std.specs.Prelude.{◌≡◌, ℕ, ◌+◌, ◌-◌, ◌==◌, List, [], ◌∷◌, ◌++◌, take, drop, Option, Some, None, Result, Ok, Err, if◌then◌else◌}
 use Rattle.hazard_types.specs.Given.{◌>>=◌}
 use Rattle.ugc_codes.specs.Reading.{ugc_of}
 use Rattle.ugc_codes.specs.declared.read.UgcRead.{UgcRead}

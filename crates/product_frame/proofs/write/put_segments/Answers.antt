@@ -1,4 +1,4 @@
-use Rattle.std.proofs.Common.{List, ℕ, subst, rules, arith, refl}
+use Rattle.std.proofs.Common.{rules, arith, refl}
 use Rattle.std.proofs.lemmas.Grind.{common_steps}
 use Rattle.product_frame.specs.LineRules.{ReadsBack}
 use Rattle.product_frame.proofs.Runs.{one_more, all_done}
