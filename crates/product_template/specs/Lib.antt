@@ -1,0 +1,4 @@
+pub mod Bodies
+pub mod Conditions
+pub mod Law
+pub mod Text
