@@ -1,5 +1,5 @@
 -- A hazard that has facts has a name.
-use Rattle.std.proofs.Common.{◌≡◌, refl, ℕ, true, false, List, [], ◌∷◌, inl, inr, cond, map, Option, Some, None}
+use Rattle.std.proofs.Common.{refl, List, [], ◌∷◌, inl, inr, map}
 use Rattle.std.specs.Prelude.{IsSome}
 use Rattle.std.proofs.lemmas.Bool.{cases_Bool}
 use Rattle.hazard_types.specs.Hazards.{DeskHazard, desk_hazards, beside, fact_rows, name_rows, facts_of, name_of}
