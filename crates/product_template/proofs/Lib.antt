@@ -5,3 +5,4 @@ pub mod Said
 pub mod ZoneNames
 pub mod BodyRules
 pub mod Writable
+pub mod Lines

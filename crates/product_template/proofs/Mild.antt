@@ -7,6 +7,7 @@ use Rattle.hazard_types.specs.Places.{is_capital}
 use Rattle.product_frame.specs.Text.{line_of, before, is_empty, is_left_out}
 use Rattle.product_frame.specs.Parts.{is_end, heading_of}
 use Rattle.product_frame.specs.LineRules.{IsBodyLine, onto, lines_in, ends_behind, are_ended}
+use Rattle.product_frame.proofs.EndToEnd.{ends_append, ends_end}
 use Rattle.product_frame.proofs.LineKinds.{no_heading_first, no_heading_length}
 use Rattle.product_template.specs.Bodies.{closed, paragraph}
 
@@ -85,14 +86,6 @@ mild_append d (c ∷ a) b e m h =
     let p = and_parts (not (d == 10) || is_mild_byte c) (mild (c == 10) a) m in
     and_from _ _ p.0 (mild_append c a b e p.1 h)
 
-ends_after : (d : ℕ) (b : List ℕ) → (d == 10) ≡ true → ends_behind 10 b ≡ true → ends_behind d b ≡ true
-ends_after d [] e h = e
-ends_after d (c ∷ b) e h = h
-
-ends_append : (d : ℕ) (a b : List ℕ) → ends_behind d a ≡ true → ends_behind 10 b ≡ true → ends_behind d (a ++ b) ≡ true
-ends_append d [] b e h = ends_after d b e h
-ends_append d (c ∷ a) b e h = ends_append c a b e h
-
 pub chunk_none : IsChunk []
 chunk_none = record { mild = refl; ended = refl }
 
@@ -109,10 +102,6 @@ mild_end false [] b m h = h
 mild_end first (c ∷ a) b m h =
     let p = and_parts (not first || is_mild_byte c) (mild (c == 10) a) m in
     and_from _ _ p.0 (mild_end (c == 10) a b p.1 h)
-
-ends_end : (d : ℕ) (a b : List ℕ) → ends_behind 10 b ≡ true → ends_behind d (a ++ 10 ∷ b) ≡ true
-ends_end d [] b h = h
-ends_end d (c ∷ a) b h = ends_end c a b h
 
 pub chunk_closed : (t : List ℕ) → mild true t ≡ true → IsChunk (closed t)
 chunk_closed [] m = chunk_none

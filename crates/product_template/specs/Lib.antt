@@ -1,4 +1,3 @@
 pub mod Bodies
 pub mod Conditions
-pub mod Law
 pub mod Text

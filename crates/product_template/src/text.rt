@@ -4,6 +4,7 @@ ghost use Rattle.hazard_types.specs.declared.or.Or.TheVariants.{No};
 ghost use Rattle.hazard_types.specs.declared.refusal.Refusal.{Refusal as Reason};
 ghost use Rattle.hazard_types.specs.declared.refusal.Refusal.TheVariants.{TooLong};
 ghost use Rattle.product_frame.specs.Frame.{FrameOf};
+ghost use Rattle.product_frame.specs.Splitting.{IsOneProduct};
 ghost use Rattle.product_template.specs.Conditions.{CanBeText};
 ghost use Rattle.product_template.specs.Text.{frame_of, text_of};
 
@@ -30,6 +31,7 @@ fn whole_text(
     requires { CanBeText settings.now class plan.now t }
     ensures value { IfOk result (λ text. text ≡ text_of settings.now class plan.now t edition) }
     ensures frame { IfOk result (λ text. FrameOf text (frame_of settings.now class plan.now t)) }
+    ensures one { IfOk result IsOneProduct }
 {
     let frame = frame_of(alloc, settings, class, plan, t)?;
     let block = block_of(alloc, settings, plan, t)?;
@@ -62,6 +64,8 @@ pub fn product_text(
     ensures refused { (r : Reason) → result ≡ Err (No r) → (r ≡ TooLong (length (text_of settings.now class plan.now t edition))) × (65536 < length (text_of settings.now class plan.now t edition)) }
     // A reader takes the plan's segments and the minute from it.
     ensures frame { IfOk result (λ text. FrameOf text (frame_of settings.now class plan.now t)) }
+    // Its one heading line is its first line, and each line has its end.
+    ensures one_product { IfOk result IsOneProduct }
 {
     let text = whole_text(alloc, settings, class, plan, t, edition)?;
     if text.len() > MOST {
