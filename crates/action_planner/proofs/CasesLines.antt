@@ -19,12 +19,12 @@ use Rattle.event_life.specs.Periods.{ends_after, is_live, keeps_open, same_at}
 use Rattle.event_life.specs.Products.{row_at}
 use Rattle.hazard_board.specs.Board.{has_period}
 use Rattle.action_planner.specs.Placed.{Placed}
-use Rattle.action_planner.specs.Lines.{continuing_line, finish_lines, finishing_action, is_near_end, is_overlaid, joined_row, line_on, lines_in, minute_of, opening_action, printed_begin, put_line, put_line_on, put_period, put_period_on, restate_lines}
+use Rattle.action_planner.specs.Lines.{continuing_line, finish_lines, finishing_action, is_near_end, is_overlaid, joined_row, line_on, lines_in, minute_of, opening_action, printed_begin, put_line, put_line_on, put_period, put_period_on, restate_lines, routine_line}
 use Rattle.action_planner.specs.Offences.{has_row_by, is_gone, joins_by, was_left}
-use Rattle.action_planner.specs.Cases.{Continues, Finishes, FirstWhere, IsLive, IsUnderHigher, Prints, PrintsRow, PutSays, Restates, Says}
+use Rattle.action_planner.specs.Cases.{Continues, IsAbsent, Finishes, FirstWhere, IsLive, IsUnderHigher, Prints, PrintsRow, PutSays, Restates, Says}
 use Rattle.action_planner.proofs.LawfulLists.{Has}
 use Rattle.action_planner.proofs.LawfulPlaced.{IsFit}
-use Rattle.action_planner.proofs.LawfulSteps.{row_at-own, row_at-parts}
+use Rattle.action_planner.proofs.LawfulSteps.{absent_from, absent_to, going_from, going_to, is_lapsed, not_dead, row_at-own, row_at-parts}
 use Rattle.action_planner.proofs.CasesWords.{first_from, first_to, le_Decides, live_Decides, near_Decides, open_Decides, period_Decides, same_Decides, same_line}
 use Rattle.action_planner.proofs.CasesRows.{upgraded_Decides}
 
@@ -49,12 +49,6 @@ module _ (rows : List Row) (t : ℕ) where
 
   -- puts
 
-  dead_by : (o : Option Row) (row : Row) → o ≡ Some row → has_row_by (λ (r : Row). not (is_live t r)) o ≡ false → IsLive t row
-  dead_by None row h g = cc
-  dead_by (Some r) row h g =
-      let same : r ≡ row = cc in
-      subst (IsLive t) same ((live_Decides t r).0 (not-false _ g))
-
   continued : (e : Event) (z : Place) (part : PutPart) (row : Row) → row_at rows e z ≡ Some row → IsLive t row → Continues rows t part (continuing_line t e part row)
   continued e z part row h live =
       let begin = (put_period_on part t row).begin in
@@ -71,12 +65,14 @@ module _ (rows : List Row) (t : ℕ) where
       }
 
   put_says : (e : Event) (z : Place) (part : PutPart) (target : Target) (o : Option Row) → part.target ≡ target → joined_row rows e z target ≡ o →
-      (joins_by target && has_row_by (λ (row : Row). not (is_live t row)) (row_at rows e z)) ≡ false → PutSays rows t part target (put_line_on rows t e part z o)
+      (joins_by target && has_row_by (is_lapsed t) (row_at rows e z)) ≡ false → PutSays rows t part target (put_line_on rows t e part z o)
   put_says e z part (Fresh h) None g j left = record { action = ap (opening_action rows t e part) g; begin = refl; end = refl; flood = refl }
   put_says e z part (Fresh h) (Some row) g j left = cc
   put_says e z part (Join d) None g j left =
-      inl (record { absent = j; action = first_from (has_period rows e (put_period part t) t) Exa Exb _ (period_Decides rows t e part) (ap (opening_action rows t e part) g); begin = refl; end = refl; flood = refl })
-  put_says e z part (Join d) (Some row) g j left = inr (continued e z part row j (dead_by (row_at rows e z) row j left))
+      inl (record { absent = absent_from (row_at rows e z) j; action = first_from (has_period rows e (put_period part t) t) Exa Exb _ (period_Decides rows t e part) (ap (opening_action rows t e part) g); begin = refl; end = refl; flood = refl })
+  put_says e z part (Join d) (Some row) g j left =
+      let p = going_from (row_at rows e z) row j in
+      inr (continued e z part row p.0 ((live_Decides t row).0 (not_dead (row_at rows e z) t row p.0 p.1 left)))
 
   -- the line of a put that goes on with a row
   continuing_is : (e : Event) (part : PutPart) (line : Line) → line.event ≡ e → (s : Continues rows t part line) → continuing_line t e part s.row ≡ line
@@ -103,11 +99,11 @@ module _ (rows : List Row) (t : ℕ) where
   put_is e z part (Join d) line g event zone (inl s) =
       let action : line.action ≡ cond (has_period rows line.event (put_period part t) t) Exa Exb = first_to _ Exa Exb line.action (period_Decides rows t line.event part) s.action in
       ap (λ (x : Target). put_line_on rows t e part z (joined_row rows e z x)) g
-      ∙ ap (put_line_on rows t e part z) (found_at line e z None event zone s.absent)
+      ∙ ap (put_line_on rows t e part z) (absent_to (row_at rows e z) (subst IsAbsent (sym (found_at line e z (row_at rows line.event line.zone) event zone refl)) s.absent))
       ∙ opening_is e z part line (cond (has_period rows e (put_period part t) t) Exa Exb) event zone (ap (opening_action rows t e part) g) (action ∙ ap (λ (x : Event). cond (has_period rows x (put_period part t) t) Exa Exb) event) s.begin s.end s.flood
   put_is e z part (Join d) line g event zone (inr s) =
       ap (λ (x : Target). put_line_on rows t e part z (joined_row rows e z x)) g
-      ∙ ap (put_line_on rows t e part z) (found_at line e z (Some s.row) event zone s.there)
+      ∙ ap (put_line_on rows t e part z) (going_to (row_at rows e z) s.row (found_at line e z (Some s.row) event zone s.there) s.live.0)
       ∙ continuing_is e part line event s
 
   -- restates
@@ -168,10 +164,10 @@ module _ (rows : List Row) (t : ℕ) where
     says_in e (Put part) z there live = (put_says e z part part.target (joined_row rows e z part.target) refl refl live, tt)
     says_in e (Finish part) z there live = finished e z (row_at rows e z) refl there
     says_in e (Restate part) z there live = restated e z (row_at rows e z) refl there
-    says_in e (Routine part) z there live = tt
+    says_in e (Routine part) z there live = (record { action = refl; begin = refl; end = refl; flood = refl }, tt)
 
     pub said_in : (e : Event) (i : Intent) (z : Place) (line : Line) → line.event ≡ e → line.zone ≡ z → Says rows t all i line → Has (lines_in rows t all e i z) line
     said_in e (Put part) z line event zone s = inl (put_is e z part part.target line refl event zone s)
     said_in e (Finish part) z line event zone s = subst (λ (o : Option Row). Has (finish_lines rows t all o) line) (sym (found_at line e z (Some s.row) event zone s.there)) (inl (finish_is line s))
     said_in e (Restate part) z line event zone s = subst (λ (o : Option Row). Has (restate_lines t o) line) (sym (found_at line e z (Some s.row) event zone s.there)) (inl (restate_is line s))
-    said_in e (Routine part) z line event zone s = absurd s
+    said_in e (Routine part) z line event zone s = inl (same_line (routine_line e z) line (sym s.action) (sym event) (sym zone) (sym s.begin) (sym s.end) (sym s.flood))

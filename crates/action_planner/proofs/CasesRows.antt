@@ -1,5 +1,5 @@
 -- The rows that a draft leaves, by the definition and by the cases; and when a row stands under a higher one.
-use Rattle.std.proofs.Common.{◌≡◌, ◌⊎◌, ◌&&◌, inl, inr, ℕ, List, [], ◌∷◌, Bool, true, false, Option, Some, None, refl, sym, ap, subst, ◌∙◌, nat_le, filter}
+use Rattle.std.proofs.Common.{◌≡◌, ◌⊎◌, ◌&&◌, inl, inr, ℕ, List, [], ◌∷◌, Bool, true, false, Option, Some, None, refl, sym, ap, subst, ◌∙◌, cond, nat_le, filter}
 use Rattle.std.proofs.lemmas.Bool.{and_from, and_parts, both_ways, false_from_ne_true, not-true, not_from_false}
 use Rattle.std.proofs.lemmas.Bool.Decides.{Decides-and}
 use Rattle.std.proofs.lemmas.List.Elements.{All-from_recursion, recursion_from_All}
@@ -20,7 +20,7 @@ use Rattle.event_life.specs.Higher.{outranks}
 use Rattle.event_life.specs.Periods.{ends_after}
 use Rattle.event_life.specs.Products.{has_rows, row_at}
 use Rattle.action_planner.specs.Placed.{Placed, zones_of, is_opening, is_opening_target, speaks}
-use Rattle.action_planner.specs.Lines.{minute_of, overlays, is_left, is_overlaid, joined_row, period_by_put, puts_or_finishes, row_by_put, rows_by_intent, rows_by_puts, rows_left}
+use Rattle.action_planner.specs.Lines.{minute_of, overlays, is_left, is_overlaid, joined_row, period_by_put, puts_or_finishes, row_by_put, rows_by_intent, rows_by_puts, rows_left, unless_ended}
 use Rattle.action_planner.specs.Cases.{BeginsIn, IsLeftBy, IsLive, IsUnderHigher, Overlap, SpeaksOf, StandsAfter, Remains}
 use Rattle.action_planner.proofs.LawfulLists.{Has, all_has, all_weaker, any_from, any_has, contains_from, has_any, has_filter, has_left, has_map, has_right, has_split, kept, map_has, none_from, none_of}
 use Rattle.action_planner.proofs.LawfulPlaced.{IsFit}
@@ -52,17 +52,22 @@ module _ (rows : List Row) (t : ℕ) (all : List Placed) where
 
   -- rows of puts
 
-  joined_by : (e : Event) (z : Place) (target : Target) → (is_opening_target target ≡ true → has_rows rows e ≡ false) → joined_row rows e z target ≡ row_at rows e z
-  joined_by e z (Fresh h) new = sym (no_row rows e z (new refl))
+  joined_by : (e : Event) (z : Place) (target : Target) → (is_opening_target target ≡ true → has_rows rows e ≡ false) → joined_row rows e z target ≡ unless_ended (row_at rows e z)
+  joined_by e z (Fresh h) new = sym (ap unless_ended (no_row rows e z (new refl)))
   joined_by e z (Join d) new = refl
 
-  begin_from : (part : PutPart) (o : Option Row) → BeginsIn t part o (period_by_put t part o).begin
-  begin_from part None = refl
-  begin_from part (Some row) = first_from (nat_le row.period.begin t) row.period.begin (minute_of part.begin t) _ (le_Decides row.period.begin t) refl
+  begin_on : (part : PutPart) (row : Row) (b : Bool) → row.ended ≡ b → BeginsIn t part (Some row) (period_by_put t part (cond b None (Some row))).begin
+  begin_on part row true e = inl (e, refl)
+  begin_on part row false e = inr (e, first_from (nat_le row.period.begin t) row.period.begin (minute_of part.begin t) _ (le_Decides row.period.begin t) refl)
 
-  begin_to : (part : PutPart) (o : Option Row) (begin : ℕ) → BeginsIn t part o begin → begin ≡ (period_by_put t part o).begin
+  begin_from : (part : PutPart) (o : Option Row) → BeginsIn t part o (period_by_put t part (unless_ended o)).begin
+  begin_from part None = refl
+  begin_from part (Some row) = begin_on part row row.ended refl
+
+  begin_to : (part : PutPart) (o : Option Row) (begin : ℕ) → BeginsIn t part o begin → begin ≡ (period_by_put t part (unless_ended o)).begin
   begin_to part None begin h = h
-  begin_to part (Some row) begin h = first_to (nat_le row.period.begin t) row.period.begin (minute_of part.begin t) begin (le_Decides row.period.begin t) h
+  begin_to part (Some row) begin (inl h) = rw h.0 h.1
+  begin_to part (Some row) begin (inr h) = rw h.0 (first_to (nat_le row.period.begin t) row.period.begin (minute_of part.begin t) begin (le_Decides row.period.begin t) h.1)
 
   end_by : (part : PutPart) (o : Option Row) → (period_by_put t part o).end ≡ part.end
   end_by part None = refl
@@ -71,12 +76,12 @@ module _ (rows : List Row) (t : ℕ) (all : List Placed) where
   by_put_from : (p : Placed) (part : PutPart) → p.intent ≡ Put part → (is_opening_target part.target ≡ true → has_rows rows p.event ≡ false) → (z : Place) → Has part.zones z → IsLeftBy rows t (row_by_put rows t p.event part z) p
   by_put_from p part i new z h =
       let zones : part.zones ≡ zones_of p.intent = ap zones_of (sym i) in
-      let begins = begin_from part (joined_row rows p.event z part.target) in
+      let begins = begin_from part (row_at rows p.event z) in
       record {
         part = part;
         put = i;
         spoken = (refl, subst (λ (zs : List Place). Contains zs z) zones (contains_from part.zones z h));
-        begin = subst (λ (o : Option Row). BeginsIn t part o (period_by_put t part (joined_row rows p.event z part.target)).begin) (joined_by p.event z part.target new) begins;
+        begin = subst (λ (o : Option Row). BeginsIn t part (row_at rows p.event z) (period_by_put t part o).begin) (sym (joined_by p.event z part.target new)) begins;
         end = end_by part (joined_row rows p.event z part.target);
       }
 
@@ -105,9 +110,8 @@ module _ (rows : List Row) (t : ℕ) (all : List Placed) where
   by_put_like : (p : Placed) (row : Row) (l : IsLeftBy rows t row p) → (is_opening p.intent ≡ true → has_rows rows p.event ≡ false) → IsLike (row_by_put rows t p.event l.part row.zone) row
   by_put_like p row l new =
       let opening : is_opening_target l.part.target ≡ true → has_rows rows p.event ≡ false = λ o. new (ap is_opening l.put ∙ o) in
-      let joined : row_at rows row.event row.zone ≡ joined_row rows p.event row.zone l.part.target = ap (λ (e : Event). row_at rows e row.zone) (sym l.spoken.0) ∙ sym (joined_by p.event row.zone l.part.target opening) in
-      let begins : BeginsIn t l.part (joined_row rows p.event row.zone l.part.target) row.period.begin = subst (λ (o : Option Row). BeginsIn t l.part o row.period.begin) joined l.begin in
-      let begin : row.period.begin ≡ (period_by_put t l.part (joined_row rows p.event row.zone l.part.target)).begin = begin_to l.part (joined_row rows p.event row.zone l.part.target) row.period.begin begins in
+      let joined : unless_ended (row_at rows row.event row.zone) ≡ joined_row rows p.event row.zone l.part.target = ap (λ (e : Event). unless_ended (row_at rows e row.zone)) (sym l.spoken.0) ∙ sym (joined_by p.event row.zone l.part.target opening) in
+      let begin : row.period.begin ≡ (period_by_put t l.part (joined_row rows p.event row.zone l.part.target)).begin = begin_to l.part (row_at rows row.event row.zone) row.period.begin l.begin ∙ ap (λ (o : Option Row). (period_by_put t l.part o).begin) joined in
       let end : row.period.end ≡ (period_by_put t l.part (joined_row rows p.event row.zone l.part.target)).end = l.end ∙ sym (end_by l.part (joined_row rows p.event row.zone l.part.target)) in
       let same : row.period ≡ period_by_put t l.part (joined_row rows p.event row.zone l.part.target) = λ i. record { begin = begin i; end = end i } in
       (l.spoken.0, refl, sym same, refl)

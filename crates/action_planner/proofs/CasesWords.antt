@@ -7,6 +7,7 @@ use Rattle.std.proofs.lemmas.Slice.Eq.{bytes_eq-Decides}
 use Rattle.std.specs.Bool.{Decides}
 use Rattle.std.specs.List.{All, Any, Contains, list_any, slice_index_or}
 use Rattle.hazard_types.specs.Hazards.{facts_of}
+use Rattle.hazard_types.specs.Names.{is_flood}
 use Rattle.hazard_types.specs.Places.{Place}
 use Rattle.hazard_types.specs.Same.{same_zone, same_event}
 use Rattle.hazard_types.specs.declared.codes.Category.{Category}
@@ -24,7 +25,7 @@ use Rattle.event_life.specs.Bounds.{AreSame, IsBefore, IsNear}
 use Rattle.event_life.specs.Periods.{ends_after, ends_within, is_live, keeps_open, overlaps, same_at, same_end}
 use Rattle.hazard_board.specs.Board.{has_period}
 use Rattle.action_planner.specs.Placed.{Placed, zones_of, touches, speaks}
-use Rattle.action_planner.specs.Lines.{follows, is_flood_event, is_near_end, put_period}
+use Rattle.action_planner.specs.Lines.{follows, is_near_end, put_period}
 use Rattle.action_planner.specs.Conditions.{IsFollowedBy}
 use Rattle.action_planner.specs.Cases.{FirstWhere, HasPeriod, IsLive, IsNotLongAfter, Overlap, SpeaksOf}
 use Rattle.action_planner.proofs.LawfulLists.{Has, all_weaker, any_from, any_has, contains_from, has_any, none_from, none_of}
@@ -138,7 +139,7 @@ follows_by c (Some facts) = (
 pub follows_Decides : (c : Category) (h : Hazard) → Decides (follows c (facts_of h)) (IsFollowedBy c h)
 follows_Decides c h = follows_by c (facts_of h)
 
-pub flood_Decides : (h : Hazard) → Decides (is_flood_event h) (h.phen ≡ codes "FL")
+pub flood_Decides : (h : Hazard) → Decides (is_flood h) (h.phen ≡ codes "FL")
 flood_Decides h = bytes_eq-Decides h.phen (codes "FL")
 
 -- lines

@@ -51,22 +51,32 @@ module _ (rows : List Row) (t : ℕ) (Q : Row → Bool) (e : Event) (z : Place) 
   skip_there line lines after true h up leaves some = absurd (both_ways _ (leaves h).0 up)
   skip_there line lines after false h up leaves some = some
 
-  there_step : (earlier : List Line) (line : Line) (lines : List Line) (after : List Row) (u : Bool) → is_upgrade line.action ≡ u → AllByRecursion (λ l. is_routine l.action ≡ false) (line ∷ lines) → AreFirst earlier (line ∷ lines) → AllByRecursion (IsSound rows t) (line ∷ lines) → AllByRecursion Leaves (line ∷ lines) →
+  skip_routine : (line : Line) (lines : List Line) (after : List Row) (s : Bool) → s ≡ false →
+      ((s || list_any (speaks_of e z) lines) ≡ true) ⊎ IsThere after → (list_any (speaks_of e z) lines ≡ true) ⊎ IsThere after
+  skip_routine line lines after true h some = cc
+  skip_routine line lines after false h some = some
+
+  unspoken : (line : Line) → is_routine line.action ≡ true → speaks_of e z line ≡ false
+  unspoken line own = rw own refl
+
+  there_step : (earlier : List Line) (line : Line) (lines : List Line) (after : List Row) (o u : Bool) → is_routine line.action ≡ o → is_upgrade line.action ≡ u → AreFirst earlier (line ∷ lines) → AllByRecursion (IsSound rows t) (line ∷ lines) → AllByRecursion Leaves (line ∷ lines) →
       (list_any (speaks_of e z) (line ∷ lines) ≡ true) ⊎ IsThere after →
       ((more : List Row) → (list_any (speaks_of e z) lines ≡ true) ⊎ IsThere more → IsThere (put_but_upgrades rows t (earlier ++ line ∷ []) lines more)) →
       IsThere (put_but_upgrades rows t earlier (line ∷ lines) after)
-  there_step earlier line lines after true up own first sound leaves some next =
-      rw (own.0, up) (next after (skip_there line lines after (speaks_of e z line) refl up leaves.0 some))
-  there_step earlier line lines after false up own first sound leaves some next =
+  there_step earlier line lines after true u own up first sound leaves some next =
+      rw own (next after (skip_routine line lines after (speaks_of e z line) (unspoken line own) some))
+  there_step earlier line lines after false true own up first sound leaves some next =
+      rw (own, up) (next after (skip_there line lines after (speaks_of e z line) refl up leaves.0 some))
+  there_step earlier line lines after false false own up first sound leaves some next =
       let lawful = none_keeps _ (sound.0 true (λ h. refl)) in
-      rw (own.0, up, first.0.0, lawful) (next (put (row_after rows t line) after) (put_there line lines after (speaks_of e z line) refl own.0 leaves.0 some))
+      rw (own, up, first.0.0, lawful) (next (put (row_after rows t line) after) (put_there line lines after (speaks_of e z line) refl own leaves.0 some))
 
-  there_after : (earlier lines : List Line) (after : List Row) → AllByRecursion (λ l. is_routine l.action ≡ false) lines → AreFirst earlier lines → AllByRecursion (IsSound rows t) lines → AllByRecursion Leaves lines →
+  there_after : (earlier lines : List Line) (after : List Row) → AreFirst earlier lines → AllByRecursion (IsSound rows t) lines → AllByRecursion Leaves lines →
       (list_any (speaks_of e z) lines ≡ true) ⊎ IsThere after → IsThere (put_but_upgrades rows t earlier lines after)
-  there_after earlier [] after own first sound leaves (inl h) = cc
-  there_after earlier [] after own first sound leaves (inr there) = there
-  there_after earlier (line ∷ lines) after own first sound leaves some =
-      there_step earlier line lines after (is_upgrade line.action) refl own first sound leaves some (λ more. there_after (earlier ++ line ∷ []) lines more own.1 (first_more earlier line lines first) sound.1 leaves.1)
+  there_after earlier [] after first sound leaves (inl h) = cc
+  there_after earlier [] after first sound leaves (inr there) = there
+  there_after earlier (line ∷ lines) after first sound leaves some =
+      there_step earlier line lines after (is_routine line.action) (is_upgrade line.action) refl refl first sound leaves some (λ more. there_after (earlier ++ line ∷ []) lines more (first_more earlier line lines first) sound.1 leaves.1)
 
   -- UPG lines end no such row
   ends_step : (lines : List Line) (r : Row) (behind : List Row) (b : Bool) → at_key e z r ≡ b → AllByRecursion Leaves lines → list_any (λ line. is_upgrade line.action && speaks_of e z line) lines ≡ false →
@@ -90,8 +100,8 @@ module _ (rows : List Row) (t : ℕ) (Q : Row → Bool) (e : Event) (z : Place) 
       rw own (no_upgrade lines leaves.1)
 
   -- a row that passes the test, or a line that leaves one, is among the rows by which UPG lines are judged
-  pub stands_after : (lines : List Line) → AllByRecursion (λ l. is_routine l.action ≡ false) lines → EachPair (λ l m. speaks_of m.event m.zone l ≡ false) lines → AllByRecursion (IsSound rows t) lines → AllByRecursion Leaves lines →
+  pub stands_after : (lines : List Line) → EachPair (λ l m. speaks_of m.event m.zone l ≡ false) lines → AllByRecursion (IsSound rows t) lines → AllByRecursion Leaves lines →
       (list_any (speaks_of e z) lines ≡ true) ⊎ IsThere rows → list_any Q (rows_for_higher rows t lines) ≡ true
-  stands_after lines own apart sound leaves some =
-      let there = there_after [] lines rows own (all_first lines, apart) sound leaves some in
+  stands_after lines apart sound leaves some =
+      let there = there_after [] lines rows (all_first lines, apart) sound leaves some in
       there_any lines (put_but_upgrades rows t [] lines rows) leaves (no_upgrade lines leaves) there.0 there.1 there.2

@@ -2,7 +2,7 @@
 use Rattle.std.proofs.Common.{◌≡◌, ◌==◌, ◌&&◌, not, ℕ, List, [], ◌∷◌, ◌++◌, Bool, true, false, Option, Some, None, Less, Equal, refl, sym, ap, ◌∙◌, inl, inr, cond, filter}
 use Rattle.std.proofs.lemmas.Bool.{and_parts, and_from, or_parts, or_left, or_right, not-true, not_from_false, false_from_ne_true, both_ways}
 use Rattle.std.proofs.lemmas.List.Folds.{list_any-append}
-use Rattle.std.specs.List.{AllByRecursion, IsDistinct, list_any}
+use Rattle.std.specs.List.{AllByRecursion, AllPairs, IsDistinct, list_any}
 use Rattle.std.specs.List.Sorted.{IsStrictlySortedBy}
 use Rattle.hazard_types.specs.Places.{Place}
 use Rattle.hazard_types.specs.Same.{same_zone, same_event}
@@ -17,7 +17,7 @@ use Rattle.hazard_types.specs.declared.request.Intent.TheVariants.{Put, Finish, 
 use Rattle.hazard_types.specs.declared.request.PutPart.{PutPart}
 use Rattle.hazard_types.specs.declared.request.Target.{Target}
 use Rattle.hazard_types.specs.declared.request.Target.TheVariants.{Fresh, Join}
-use Rattle.hazard_types.proofs.Equality.{event_itself, zone_itself}
+use Rattle.hazard_types.proofs.Equality.{event_itself, event_one, zone_itself, zone_one}
 use Rattle.event_life.specs.Periods.{ends_after, is_live, same_at}
 use Rattle.event_life.specs.Products.{by_key, is_routine, is_upgrade, row_at, speaks_of}
 use Rattle.event_life.proofs.Keys.{key_ties}
@@ -26,17 +26,37 @@ use Rattle.hazard_board.specs.Board.{has_period}
 use Rattle.action_planner.specs.Placed.{Placed, zones_of, touches, speaks}
 use Rattle.action_planner.specs.Lines.{put_period, put_period_on, opening_action, joined_row, put_line_on, put_line, line_on, finish_lines, restate_lines, is_near_end, is_overlaid, lines_in, lines_in_zones, lines_from, goes_on, goes_on_beside, added_lines, planned_lines}
 use Rattle.action_planner.specs.Offences.{is_shared}
-use Rattle.action_planner.proofs.LawfulLists.{EachPair, Has, all_append, all_both, all_each, all_weaker, all_filter, all_has, all_map, any_has, has_all, pair_append, pair_filter, pair_map, pair_weaker}
+use Rattle.action_planner.proofs.LawfulLists.{EachPair, Has, all_append, all_both, all_each, all_weaker, all_filter, all_has, all_map, any_has, has_all, pair_append, pair_filter, pair_map, pair_weaker, pairs_from}
 use Rattle.action_planner.proofs.LawfulPlaced.{IsFit}
-use Rattle.action_planner.proofs.LawfulSteps.{row_at-parts}
+use Rattle.action_planner.proofs.LawfulSteps.{going_from, row_at-parts}
 
--- the second line speaks not of the first's event and zone
+-- the line is of this event and zone
+abbrev pub of_key : Event → Place → Line → Bool
+of_key e z line = same_event line.event e && same_zone line.zone z
+
+pub of_key-parts : (e : Event) (z : Place) (line : Line) → of_key e z line ≡ true → (line.event ≡ e) × (line.zone ≡ z)
+of_key-parts e z line h = let p = and_parts (same_event line.event e) _ h in (event_one line.event e p.0, zone_one line.zone z p.1)
+
+pub key_of : (e : Event) (z : Place) (line : Line) → line.event ≡ e → line.zone ≡ z → of_key e z line ≡ true
+key_of e z line event zone = and_from _ _ (ap (same_event line.event) (sym event) ∙ event_itself line.event) (ap (same_zone line.zone) (sym zone) ∙ zone_itself line.zone)
+
+-- the lines are not of one event in one zone
 abbrev pub AreApart : Line → Line → Type 0
-AreApart l m = speaks_of l.event l.zone m ≡ false
+AreApart l m = of_key l.event l.zone m ≡ false
 
--- the line is of this event and zone, and no routine line
+pub apart_turned : (l m : Line) → AreApart l m → AreApart m l
+apart_turned l m apart = false_from_ne_true _ (λ h.
+    let p = of_key-parts m.event m.zone l h in
+    both_ways _ apart (key_of l.event l.zone m (sym p.0) (sym p.1)))
+
+pub apart_unspoken : (e : Event) (z : Place) (m : Line) → of_key e z m ≡ false → speaks_of e z m ≡ false
+apart_unspoken e z m apart = false_from_ne_true _ (λ h.
+    let p = speaks_of-parts e z m h in
+    both_ways _ apart (key_of e z m p.1 p.2))
+
+-- the line is of this event and zone
 abbrev pub IsOn : Event → Place → Line → Type 0
-IsOn e z line = (line.event ≡ e) × (line.zone ≡ z) × (is_routine line.action ≡ false)
+IsOn e z line = (line.event ≡ e) × (line.zone ≡ z)
 
 pub either_action : (f : Action → Bool) (b : Bool) (x y : Action) → f x ≡ false → f y ≡ false → f (cond b x y) ≡ false
 either_action f true x y p q = p
@@ -54,32 +74,32 @@ put_action-none f n a b c x rows t e part z (Some row) = either_action f (same_a
 pub put-no_upgrade : (rows : List Row) (t : ℕ) (e : Event) (part : PutPart) (z : Place) → is_upgrade (put_line rows t e part z).action ≡ false
 put-no_upgrade rows t e part z = put_action-none is_upgrade refl refl refl refl refl rows t e part z (joined_row rows e z part.target)
 
+pub put-no_routine : (rows : List Row) (t : ℕ) (e : Event) (part : PutPart) (z : Place) → is_routine (put_line rows t e part z).action ≡ false
+put-no_routine rows t e part z = put_action-none is_routine refl refl refl refl refl rows t e part z (joined_row rows e z part.target)
+
 joined_zone : (rows : List Row) (e : Event) (z : Place) (target : Target) (row : Row) → joined_row rows e z target ≡ Some row → row.zone ≡ z
 joined_zone rows e z (Fresh h) row g = cc
-joined_zone rows e z (Join d) row g = (row_at-parts rows e z row g).1
+joined_zone rows e z (Join d) row g = (row_at-parts rows e z row (going_from (row_at rows e z) row g).0).1
 
 put_on : (rows : List Row) (t : ℕ) (e : Event) (part : PutPart) (z : Place) (o : Option Row) → joined_row rows e z part.target ≡ o → IsOn e z (put_line_on rows t e part z o)
-put_on rows t e part z None h = (refl, refl, put_action-none is_routine refl refl refl refl refl rows t e part z None)
-put_on rows t e part z (Some row) h = (refl, joined_zone rows e z part.target row h, put_action-none is_routine refl refl refl refl refl rows t e part z (Some row))
+put_on rows t e part z None h = (refl, refl)
+put_on rows t e part z (Some row) h = (refl, joined_zone rows e z part.target row h)
 
 module _ (rows : List Row) (t : ℕ) (all : List Placed) where
   finish_on : (e : Event) (z : Place) (o : Option Row) → row_at rows e z ≡ o → AllByRecursion (IsOn e z) (finish_lines rows t all o)
   finish_on e z None h = tt
-  finish_on e z (Some row) h =
-      let p = row_at-parts rows e z row h in
-      let plain = either_action is_routine (ends_after row.period.end t && is_overlaid rows t all row) Upg (cond (is_near_end row.period.end t) Exp Can) refl (either_action is_routine (is_near_end row.period.end t) Exp Can refl refl) in
-      ((p.0, p.1, plain), tt)
+  finish_on e z (Some row) h = let p = row_at-parts rows e z row h in ((p.0, p.1), tt)
 
   restate_on : (e : Event) (z : Place) (o : Option Row) → row_at rows e z ≡ o → AllByRecursion (IsOn e z) (restate_lines t o)
   restate_on e z None h = tt
-  restate_on e z (Some row) h = let p = row_at-parts rows e z row h in ((p.0, p.1, refl), tt)
+  restate_on e z (Some row) h = let p = row_at-parts rows e z row h in ((p.0, p.1), tt)
 
   -- an intent's lines in a zone are of its event there
   pub lines_on : (e : Event) (i : Intent) (z : Place) → AllByRecursion (IsOn e z) (lines_in rows t all e i z)
   lines_on e (Put part) z = (put_on rows t e part z (joined_row rows e z part.target) refl, tt)
   lines_on e (Finish part) z = finish_on e z (row_at rows e z) refl
   lines_on e (Restate part) z = restate_on e z (row_at rows e z) refl
-  lines_on e (Routine part) z = tt
+  lines_on e (Routine part) z = ((refl, refl), tt)
 
   finish_alone : (R : Line → Line → Type 0) (o : Option Row) → EachPair R (finish_lines rows t all o)
   finish_alone R None = tt
@@ -94,7 +114,7 @@ module _ (rows : List Row) (t : ℕ) (all : List Placed) where
   lines_alone R e (Put part) z = (tt, tt)
   lines_alone R e (Finish part) z = finish_alone R (row_at rows e z)
   lines_alone R e (Restate part) z = restate_alone R (row_at rows e z)
-  lines_alone R e (Routine part) z = tt
+  lines_alone R e (Routine part) z = (tt, tt)
 
   -- what holds of the lines of each zone, or intent, holds of them all
   pub each_zone : (Q : Line → Type 0) (F : Place → Type 0) (e : Event) (i : Intent) → ((z : Place) → F z → AllByRecursion Q (lines_in rows t all e i z)) → (zones : List Place) → AllByRecursion F zones → AllByRecursion Q (lines_in_zones rows t all e i zones)
@@ -109,8 +129,8 @@ module _ (rows : List Row) (t : ℕ) (all : List Placed) where
 
   apart_zone : (l m : Line) (z : Place) → l.zone ≡ z → same_zone z m.zone ≡ false → AreApart l m
   apart_zone l m z e h = false_from_ne_true _ (λ s.
-      let p = speaks_of-parts l.event l.zone m s in
-      let same : m.zone ≡ z = p.2 ∙ e in
+      let p = of_key-parts l.event l.zone m s in
+      let same : m.zone ≡ z = p.1 ∙ e in
       let g : same_zone z z ≡ false = ap (same_zone z) (sym same) ∙ h in
       both_ways _ g (zone_itself z))
 
@@ -140,8 +160,8 @@ module _ (rows : List Row) (t : ℕ) (all : List Placed) where
 
   apart_intent : (l m : Line) (e : Event) (z : Place) (q : Placed) → IsOn e z l → speaks e z q ≡ false → speaks m.event m.zone q ≡ true → AreApart l m
   apart_intent l m e z q on h own = false_from_ne_true _ (λ s.
-      let p = speaks_of-parts l.event l.zone m s in
-      let same : speaks m.event m.zone q ≡ speaks e z q = ap (λ (x : Event). speaks x m.zone q) (p.1 ∙ on.0) ∙ ap (λ (y : Place). speaks e y q) (p.2 ∙ on.1) in
+      let p = of_key-parts l.event l.zone m s in
+      let same : speaks m.event m.zone q ≡ speaks e z q = ap (λ (x : Event). speaks x m.zone q) (p.0 ∙ on.0) ∙ ap (λ (y : Place). speaks e y q) (p.1 ∙ on.1) in
       both_ways _ h (sym same ∙ own))
 
   other_intents : (p : Placed) (z : Place) (qs : List Placed) → list_any (λ q. not (q.place == p.place) && speaks p.event z q) qs ≡ false → AllByRecursion (λ q. (q.place == p.place) ≡ false) qs → AllByRecursion (λ q. speaks p.event z q ≡ false) qs
@@ -192,8 +212,8 @@ module _ (rows : List Row) (t : ℕ) (all : List Placed) where
 
   apart_rows : (r s : Row) → by_key r s ≡ Less → AreApart (line_on Con t r) (line_on Con t s)
   apart_rows r s less = false_from_ne_true _ (λ h.
-      let p = speaks_of-parts r.event r.zone (line_on Con t s) h in
-      let tied : by_key r s ≡ Equal = key_ties r s (sym p.2) (sym p.1) in cc)
+      let p = of_key-parts r.event r.zone (line_on Con t s) h in
+      let tied : by_key r s ≡ Equal = key_ties r s (sym p.1) (sym p.0) in cc)
 
   added_apart : (c : Category) → IsStrictlySortedBy by_key rows → EachPair AreApart (added_lines c rows t all)
   added_apart c up = pair_map AreApart (line_on Con t) (filter (goes_on_beside c t all) rows)
@@ -216,8 +236,8 @@ module _ (rows : List Row) (t : ℕ) (all : List Placed) where
 
   apart_added : (l m : Line) → list_any (speaks l.event l.zone) all ≡ true → list_any (speaks m.event m.zone) all ≡ false → AreApart l m
   apart_added l m h g = false_from_ne_true _ (λ s.
-      let p = speaks_of-parts l.event l.zone m s in
-      let same : list_any (speaks m.event m.zone) all ≡ list_any (speaks l.event l.zone) all = ap (λ (x : Event). list_any (speaks x m.zone) all) p.1 ∙ ap (λ (y : Place). list_any (speaks l.event y) all) p.2 in
+      let p = of_key-parts l.event l.zone m s in
+      let same : list_any (speaks m.event m.zone) all ≡ list_any (speaks l.event l.zone) all = ap (λ (x : Event). list_any (speaks x m.zone) all) p.0 ∙ ap (λ (y : Place). list_any (speaks l.event y) all) p.1 in
       both_ways _ g (same ∙ h))
 
   pub planned_apart : (c : Category) → IsStrictlySortedBy by_key rows → AllByRecursion (IsFit rows t all) all → EachPair (λ p q. (q.place == p.place) ≡ false) all → EachPair AreApart (planned_lines c rows t all)
@@ -226,49 +246,34 @@ module _ (rows : List Row) (t : ℕ) (all : List Placed) where
       (all_weaker (λ l. list_any (speaks l.event l.zone) all ≡ true) (λ l. AllByRecursion (AreApart l) (added_lines c rows t all))
       (λ l h. all_weaker (λ m. list_any (speaks m.event m.zone) all ≡ false) (AreApart l) (λ m g. apart_added l m h g) (added_lines c rows t all) (added_unspoken c)) (lines_from rows t all all) (from_spoken all))
 
-  -- no planned line is a routine line
-  pub planned_touching : (c : Category) → AllByRecursion (λ l. is_routine l.action ≡ false) (planned_lines c rows t all)
-  planned_touching c = all_append (λ l. is_routine l.action ≡ false) (lines_from rows t all all) (added_lines c rows t all)
-      (each_intent (λ l. is_routine l.action ≡ false) (λ p. Unit {0}) (λ p u. each_zone (λ l. is_routine l.action ≡ false) (λ z. Unit {0}) p.event p.intent
-      (λ z v. all_weaker (IsOn p.event z) (λ l. is_routine l.action ≡ false) (λ l on. on.2) (lines_in rows t all p.event p.intent z) (lines_on p.event p.intent z)) (zones_of p.intent) (all_each (λ z. Unit {0}) (λ z. tt) (zones_of p.intent))) all (all_each (λ p. Unit {0}) (λ p. tt) all))
-      (all_map (λ l. is_routine l.action ≡ false) (line_on Con t) (filter (goes_on_beside c t all) rows) (all_each (λ r. is_routine (line_on Con t r).action ≡ false) (λ r. refl) (filter (goes_on_beside c t all) rows)))
-
 -- lines that are apart, either way
 
 -- a line's event and zone are no other line's
-pub one_line : (lines : List Line) (l : Line) → AllByRecursion (λ m. is_routine m.action ≡ false) lines → EachPair AreApart lines → Has lines l → AllByRecursion (λ m. speaks_of l.event l.zone m ≡ true → m ≡ l) lines
-one_line [] l own apart h = tt
-one_line (x ∷ lines) l own apart (inl same) = (
+pub one_line : (lines : List Line) (l : Line) → EachPair AreApart lines → Has lines l → AllByRecursion (λ m. speaks_of l.event l.zone m ≡ true → m ≡ l) lines
+one_line [] l apart h = tt
+one_line (x ∷ lines) l apart (inl same) = (
   λ s. same,
   all_weaker (AreApart x) (λ m. speaks_of l.event l.zone m ≡ true → m ≡ l) (λ m a s.
-      let other : speaks_of l.event l.zone m ≡ false = ap (λ (y : Line). speaks_of y.event y.zone m) (sym same) ∙ a in
+      let other : speaks_of l.event l.zone m ≡ false = ap (λ (y : Line). speaks_of y.event y.zone m) (sym same) ∙ apart_unspoken x.event x.zone m a in
       absurd (both_ways _ other s)) lines apart.0,
 )
-one_line (x ∷ lines) l own apart (inr h) =
-    let apart_here : AreApart x l = all_has (AreApart x) lines l apart.0 h in
-    let plain : is_routine l.action ≡ false = all_has (λ m. is_routine m.action ≡ false) lines l own.1 h in (
-      λ s. let p = speaks_of-parts l.event l.zone x s in
-          let back : speaks_of x.event x.zone l ≡ true = and_from _ _ (and_from _ _ (not_from_false _ plain) (ap (same_event l.event) p.1 ∙ event_itself l.event)) (ap (same_zone l.zone) p.2 ∙ zone_itself l.zone) in
-          absurd (both_ways _ apart_here back),
-      one_line lines l own.1 apart.1 h,
+one_line (x ∷ lines) l apart (inr h) =
+    let apart_here : AreApart x l = all_has (AreApart x) lines l apart.0 h in (
+      λ s. absurd (both_ways _ (apart_unspoken l.event l.zone x (apart_turned x l apart_here)) s),
+      one_line lines l apart.1 h,
     )
 
 pub spoken_itself : (l : Line) → is_routine l.action ≡ false → speaks_of l.event l.zone l ≡ true
 spoken_itself l plain = and_from _ _ (and_from _ _ (not_from_false _ plain) (event_itself l.event)) (zone_itself l.zone)
 
-turned : (l m : Line) → is_routine m.action ≡ false → AreApart l m → speaks_of m.event m.zone l ≡ false
-turned l m plain apart = false_from_ne_true _ (λ s.
-    let p = speaks_of-parts m.event m.zone l s in
-    let back : speaks_of l.event l.zone m ≡ true = ap (λ (x : Event). speaks_of x l.zone m) p.1 ∙ ap (λ (y : Place). speaks_of m.event y m) p.2 ∙ spoken_itself m plain in
-    both_ways _ apart back)
+-- in the words of clauses
+pub distinct_from : (lines : List Line) → EachPair AreApart lines → AllPairs (λ (l m : Line). (l.event ≡ m.event) × (l.zone ≡ m.zone) → ⊥) lines
+distinct_from lines apart =
+    pairs_from (λ (l m : Line). (l.event ≡ m.event) × (l.zone ≡ m.zone) → ⊥) lines
+    (pair_weaker AreApart (λ l m. (l.event ≡ m.event) × (l.zone ≡ m.zone) → ⊥) (λ l m a same. both_ways _ a (key_of l.event l.zone m (sym same.0) (sym same.1))) lines apart)
 
-turned_all : (l : Line) (lines : List Line) → AllByRecursion (λ m. is_routine m.action ≡ false) lines → AllByRecursion (AreApart l) lines → AllByRecursion (λ m. speaks_of m.event m.zone l ≡ false) lines
-turned_all l [] own apart = tt
-turned_all l (m ∷ lines) own apart = (turned l m own.0 apart.0, turned_all l lines own.1 apart.1)
-
-pub turned_pairs : (lines : List Line) → AllByRecursion (λ m. is_routine m.action ≡ false) lines → EachPair AreApart lines → EachPair (λ l m. speaks_of m.event m.zone l ≡ false) lines
-turned_pairs [] own apart = tt
-turned_pairs (l ∷ lines) own apart = (turned_all l lines own.1 apart.0, turned_pairs lines own.1 apart.1)
+pub turned_pairs : (lines : List Line) → EachPair AreApart lines → EachPair (λ l m. speaks_of m.event m.zone l ≡ false) lines
+turned_pairs lines apart = pair_weaker AreApart (λ l m. speaks_of m.event m.zone l ≡ false) (λ l m a. apart_unspoken m.event m.zone l (apart_turned l m a)) lines apart
 
 -- none of the earlier lines speaks as this one does
 abbrev pub IsFirst : List Line → Line → Type 0

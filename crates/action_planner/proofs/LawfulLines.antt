@@ -1,6 +1,6 @@
 -- Each line of a draft of which no rule is broken has no breach, where each UPG line has its higher row.
 use Rattle.std.proofs.Common.{◌≡◌, inl, inr, not, ℕ, List, [], ◌∷◌, Bool, true, false, Option, Some, None, refl, cond, filter, find}
-use Rattle.std.proofs.lemmas.Bool.{and_parts, not-false}
+use Rattle.std.proofs.lemmas.Bool.{and_parts, not-false, not_from_false}
 use Rattle.std.specs.List.{AllByRecursion}
 use Rattle.std.specs.List.Sorted.{IsStrictlySortedBy}
 use Rattle.hazard_types.specs.Places.{Place}
@@ -16,10 +16,10 @@ use Rattle.event_life.specs.Products.{by_key, has_rows, is_held, is_open, row_at
 use Rattle.event_life.proofs.Puts.{at_key}
 use Rattle.action_planner.specs.Placed.{Placed, zones_of, is_opening}
 use Rattle.action_planner.specs.Lines.{line_on, finish_lines, restate_lines, lines_in, lines_in_zones, lines_from, goes_on, goes_on_beside, added_lines, planned_lines}
-use Rattle.action_planner.specs.Offences.{is_bad_period, bad_period_of, has_row_by, is_gone, was_left}
+use Rattle.action_planner.specs.Offences.{is_bad_period, bad_period_of, has_row_by, is_gone, needs_event, was_left}
 use Rattle.action_planner.proofs.LawfulLists.{Has, all_append, all_both, all_filter, all_has, all_map, all_weaker}
 use Rattle.action_planner.proofs.LawfulPlaced.{IsFit}
-use Rattle.action_planner.proofs.LawfulSteps.{IsSound, row_at-own, put_sound, con_sound, finish_sound}
+use Rattle.action_planner.proofs.LawfulSteps.{IsSound, row_at-own, put_sound, con_sound, finish_sound, routine_sound}
 use Rattle.action_planner.proofs.LawfulKeys.{each_zone, each_intent, rows_own}
 
 found_has_step : (f : Row → Bool) (b : Bool) (x y : Row) (xs : List Row) → cond b (Some x) (find f xs) ≡ Some y → (find f xs ≡ Some y → Has xs y) → Has (x ∷ xs) y
@@ -48,12 +48,12 @@ module _ (rows : List Row) (t : ℕ) (all : List Placed) (long : AllByRecursion 
       let lasts : LastsLong row = all_has LastsLong rows row long (found_has (at_key e z) rows row h) in
       (con_sound rows t row (row_at-own rows e z row h) (not-false _ there) lasts, tt)
 
-  sound_in : (place : ℕ) (e : Event) (i : Intent) (z : Place) → (is_opening i ≡ true → has_rows rows e ≡ false) → (is_opening i ≡ true → is_held rows t e ≡ false) → (is_opening i ≡ false → is_open rows t e ≡ true) →
+  sound_in : (place : ℕ) (e : Event) (i : Intent) (z : Place) → (is_opening i ≡ true → has_rows rows e ≡ false) → (is_opening i ≡ true → is_held rows t e ≡ false) → (needs_event i ≡ true → is_open rows t e ≡ true) →
       bad_period_of t place i ≡ None → is_gone rows t e i z ≡ false → was_left rows t e i z ≡ false → AllByRecursion (IsSound rows t) (lines_in rows t all e i z)
-  sound_in place e (Put part) z new free going period there live = (put_sound rows t e part z (λ o. (new o, free o)) going (not_bad (is_bad_period part t) _ period) live, tt)
+  sound_in place e (Put part) z new free going period there live = (put_sound rows t e part z (λ o. (new o, free o)) (λ o. going (not_from_false _ o)) (not_bad (is_bad_period part t) _ period) live, tt)
   sound_in place e (Finish part) z new free going period there live = finish_in e z (row_at rows e z) refl there
   sound_in place e (Restate part) z new free going period there live = restate_in e z (row_at rows e z) refl there
-  sound_in place e (Routine part) z new free going period there live = tt
+  sound_in place e (Routine part) z new free going period there live = (routine_sound rows t e z, tt)
 
   intent_sound : (p : Placed) → IsFit rows t all p → AllByRecursion (IsSound rows t) (lines_in_zones rows t all p.event p.intent (zones_of p.intent))
   intent_sound p fit =

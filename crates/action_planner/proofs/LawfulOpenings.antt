@@ -20,7 +20,7 @@ use Rattle.hazard_types.specs.declared.codes.Category.{Category}
 use Rattle.hazard_types.specs.declared.request.PutPart.{PutPart}
 use Rattle.event_life.specs.Periods.{ends_after, same_at}
 use Rattle.hazard_board.specs.Board.{has_period}
-use Rattle.action_planner.specs.Lines.{added_lines, finish_lines, goes_on_beside, is_near_end, is_overlaid, joined_row, line_on, lines_from, lines_in, lines_in_zones, opening_action, planned_lines, put_line, put_line_on, put_period, put_period_on, restate_lines}
+use Rattle.action_planner.specs.Lines.{added_lines, finish_lines, goes_on_beside, is_near_end, is_overlaid, joined_row, line_on, lines_from, lines_in, lines_in_zones, opening_action, planned_lines, put_line, put_line_on, put_period, put_period_on, restate_lines, unless_ended}
 use Rattle.action_planner.specs.Conditions.{CanPlan, MayHold}
 use Rattle.action_planner.proofs.LawfulLists.{Has, all_append, all_each, all_map, all_weaker, any_from, contains_from, has_all, has_filter, has_left, has_map, has_right, kept, map_has}
 use Rattle.action_planner.proofs.LawfulKeys.{IsOn, each_intent, each_zone, either_action, lines_on}
@@ -44,19 +44,31 @@ opens_on_nothing Exb line t around plain h = refl
 opens_on_nothing Rou line t around plain h = cc
 opens_on_nothing _ line t around plain h = cc
 
-opens_on_life : (a : Action) (life : Life) (line : Line) (t : ℕ) (around : Around) → first_of (on_life a life line t around) ≡ None → opens a ≡ false
-opens_on_life New life line t around h = cc
-opens_on_life Exa life line t around h = cc
-opens_on_life Exb life line t around h = cc
-opens_on_life _ life line t around h = refl
+opens_on_life : (a : Action) (life : Life) (line : Line) (t : ℕ) (around : Around) → life.ended ≡ false → first_of (on_life a life line t around) ≡ None → opens a ≡ false
+opens_on_life New life line t around going h = let never = rw going at h in cc never
+opens_on_life Exa life line t around going h = let never = rw going at h in cc never
+opens_on_life Exb life line t around going h = let never = rw going at h in cc never
+opens_on_life _ life line t around going h = refl
 
-opens_by : (o : Option Row) (line : Line) (t : ℕ) (around : Around) → is_routine line.action ≡ false → breach_of_line (option_map life_of o) line t around ≡ None → opens line.action ≡ is_none o
+opens_on_ended : (a : Action) (life : Life) (line : Line) (t : ℕ) (around : Around) → is_routine a ≡ false → life.ended ≡ true → first_of (on_life a life line t around) ≡ None → opens a ≡ true
+opens_on_ended New life line t around plain over h = refl
+opens_on_ended Exa life line t around plain over h = refl
+opens_on_ended Exb life line t around plain over h = refl
+opens_on_ended Rou life line t around plain over h = cc
+opens_on_ended _ life line t around plain over h = let never = rw over at h in cc never
+
+opens_on_row : (row : Row) (b : Bool) → row.ended ≡ b → (line : Line) (t : ℕ) (around : Around) → is_routine line.action ≡ false → first_of (on_life line.action (life_of row) line t around) ≡ None → opens line.action ≡ is_none (unless_ended (Some row))
+opens_on_row row true e line t around plain h = rw e (opens_on_ended line.action (life_of row) line t around plain e h)
+opens_on_row row false e line t around plain h = rw e (opens_on_life line.action (life_of row) line t around e h)
+
+opens_by : (o : Option Row) (line : Line) (t : ℕ) (around : Around) → is_routine line.action ≡ false → breach_of_line (option_map life_of o) line t around ≡ None → opens line.action ≡ is_none (unless_ended o)
 unfolding breach_of_line
 opens_by None line t around plain h = opens_on_nothing line.action line t around plain h
-opens_by (Some row) line t around plain h = opens_on_life line.action (life_of row) line t around h
+opens_by (Some row) line t around plain h = opens_on_row row row.ended refl line t around plain h
 
--- a line that has no breach opens exactly where the event has no row in the zone
-pub opens_exactly : (rows : List Row) (line : Line) (t : ℕ) (around : Around) → is_routine line.action ≡ false → breach_of_line (option_map life_of (row_at rows line.event line.zone)) line t around ≡ None → opens line.action ≡ is_none (row_at rows line.event line.zone)
+-- a line that has no breach, and is no routine line, opens exactly where the event has no row in the zone that no line has ended
+pub opens_exactly : (rows : List Row) (line : Line) (t : ℕ) (around : Around) → is_routine line.action ≡ false → breach_of_line (option_map life_of (row_at rows line.event line.zone)) line t around ≡ None →
+    opens line.action ≡ is_none (unless_ended (row_at rows line.event line.zone))
 opens_exactly rows line t around plain h = opens_by (row_at rows line.event line.zone) line t around plain h
 
 -- numbers
@@ -201,7 +213,7 @@ module _ (rows : List Row) (t : ℕ) (all : List Placed) where
   )
   opened_in e (Finish part) z own = finish_old (row_at rows e z)
   opened_in e (Restate part) z own = restate_old (row_at rows e z)
-  opened_in e (Routine part) z own = tt
+  opened_in e (Routine part) z own = ((λ h. cc), tt)
 
   is_among : (p : Placed) → Has all p → is_opening p.intent ≡ true → Has (opened all) p.event
   is_among p h o = map_has (λ (x : Placed). x.event) (filter (λ (x : Placed). is_opening x.intent) all) p (kept (λ (x : Placed). is_opening x.intent) all p h o)

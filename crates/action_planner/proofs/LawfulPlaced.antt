@@ -21,19 +21,21 @@ use Rattle.event_numbers.specs.declared.Count.{Count}
 use Rattle.event_numbers.specs.Counts.{count_of}
 use Rattle.action_planner.specs.Placed.{Placed, placed, placed_from, event_of_intent, event_of_target, new_event, is_opening, is_opening_target, zones_of}
 use Rattle.action_planner.specs.Conditions.{AreNumbered, CanPlan, MayHold}
-use Rattle.action_planner.specs.Offences.{broken, rules, first_by, first_given, zone_named, not_live, left_before, twice, not_open, gone, is_gone, left, was_left, shared, is_shared, bad_period, held, holds, held_by}
+use Rattle.action_planner.specs.Offences.{broken, rules, first_by, first_given, zone_named, not_live, left_before, twice, needs_event, not_open, gone, is_gone, left, was_left, shared, is_shared, bad_period, needed_flood, site_moved, held, holds, held_by}
 use Rattle.action_planner.proofs.LawfulLists.{EachPair, find_none, none_from}
 
 -- an intent of which no rule is broken
 pub record IsFit (rows : List Row) (t : ℕ) (all : List Placed) (p : Placed) : Type 0 where
   pub new : is_opening p.intent ≡ true → has_rows rows p.event ≡ false
   pub free : is_opening p.intent ≡ true → is_held rows t p.event ≡ false
-  pub known : is_opening p.intent ≡ false → is_open rows t p.event ≡ true
+  pub known : needs_event p.intent ≡ true → is_open rows t p.event ≡ true
   pub period : bad_period t p ≡ None
   pub there : AllByRecursion (λ z. is_gone rows t p.event p.intent z ≡ false) (zones_of p.intent)
   pub live : AllByRecursion (λ z. was_left rows t p.event p.intent z ≡ false) (zones_of p.intent)
   pub own : AllByRecursion (λ z. is_shared all p z ≡ false) (zones_of p.intent)
   pub once : IsDistinct same_zone (zones_of p.intent)
+  pub flood : needed_flood p ≡ None
+  pub site : site_moved rows p ≡ None
 
 -- rules
 
@@ -56,8 +58,8 @@ map_none f (Some x) h = cc
 named_none : (names : Event → Place → Refusal) (e : Event) (offends : Place → Bool) (zones : List Place) → zone_named names e (find offends zones) ≡ None → AllByRecursion (λ z. offends z ≡ false) zones
 named_none names e offends zones h = find_none offends zones (map_none (names e) (find offends zones) h)
 
-open_by : (opening going : Bool) (e : Refusal) → cond (not opening && not going) (Some e) None ≡ None → opening ≡ false → going ≡ true
-open_by opening true e h o = refl
+open_by : (wanted going : Bool) (e : Refusal) → cond (wanted && not going) (Some e) None ≡ None → wanted ≡ true → going ≡ true
+open_by wanted true e h o = refl
 open_by true false e h o = cc
 open_by false false e h o = cc
 
@@ -109,20 +111,23 @@ fit_all : (rows : List Row) (t : ℕ) (all ps : List Placed) →
     AllByRecursion (λ p. is_opening p.intent ≡ true → has_rows rows p.event ≡ false) ps → AllByRecursion (λ p. IsDistinct same_zone (zones_of p.intent)) ps →
     AllByRecursion (λ p. not_open rows t p ≡ None) ps → AllByRecursion (λ p. gone rows t p ≡ None) ps → AllByRecursion (λ p. left rows t p ≡ None) ps →
     AllByRecursion (λ p. shared all p ≡ None) ps → AllByRecursion (λ p. bad_period t p ≡ None) ps → AllByRecursion (λ p. held rows t p ≡ None) ps →
+    AllByRecursion (λ p. needed_flood p ≡ None) ps → AllByRecursion (λ p. site_moved rows p ≡ None) ps →
     AllByRecursion (IsFit rows t all) ps
-fit_all rows t all [] new once known there live own period free = tt
-fit_all rows t all (p ∷ ps) new once known there live own period free =
+fit_all rows t all [] new once known there live own period free flood site = tt
+fit_all rows t all (p ∷ ps) new once known there live own period free flood site =
     let first : IsFit rows t all p = record {
       new = new.0;
       free = held_by_none rows t p.event (is_opening p.intent) free.0;
-      known = open_by (is_opening p.intent) (is_open rows t p.event) _ known.0;
+      known = open_by (needs_event p.intent) (is_open rows t p.event) _ known.0;
       period = period.0;
       there = named_none not_live p.event (is_gone rows t p.event p.intent) (zones_of p.intent) there.0;
       live = named_none left_before p.event (was_left rows t p.event p.intent) (zones_of p.intent) live.0;
       own = named_none twice p.event (is_shared all p) (zones_of p.intent) own.0;
       once = once.0;
+      flood = flood.0;
+      site = site.0;
     } in
-    (first, fit_all rows t all ps new.1 once.1 known.1 there.1 live.1 own.1 period.1 free.1)
+    (first, fit_all rows t all ps new.1 once.1 known.1 there.1 live.1 own.1 period.1 free.1 flood.1 site.1)
 
 -- where no rule is broken, each intent is fit
 pub fits : (c : Category) (rows : List Row) (counts : List Count) (intents : List Intent) (t : ℕ) → CanPlan rows counts c intents t → broken c rows t (placed counts t intents) ≡ None →
@@ -139,4 +144,6 @@ fits c rows counts intents t can h =
     (by_none (left rows t) ps given.1.1.1.0)
     (by_none (shared ps) ps given.1.1.1.1.0)
     (by_none (bad_period t) ps given.1.1.1.1.1.0)
-    (by_none (held rows t) ps given.1.1.1.1.1.1.1.1.1.1.0)
+    (by_none (held rows t) ps given.1.1.1.1.1.1.1.1.1.1.1.1.0)
+    (by_none needed_flood ps given.1.1.1.1.1.1.1.1.0)
+    (by_none (site_moved rows) ps given.1.1.1.1.1.1.1.1.1.1.0)

@@ -1,5 +1,5 @@
 -- A line of each kind, on the row that it meets, has no breach.
-use Rattle.std.proofs.Common.{◌≡◌, ◌&&◌, ◌||◌, not, ℕ, ◌+◌, ◌≤◌, List, [], ◌∷◌, Bool, true, false, Option, Some, None, refl, sym, ap, ◌∙◌, cond, min, unwrap_or, arith, nat_lt, nat_le}
+use Rattle.std.proofs.Common.{◌≡◌, ◌&&◌, ◌||◌, not, ℕ, ◌+◌, ◌≤◌, List, [], ◌∷◌, Bool, true, false, Option, Some, None, refl, sym, ap, ◌∙◌, cond, min, unwrap_or, option_map, arith, nat_lt, nat_le}
 use Rattle.std.proofs.lemmas.Bool.{and_parts, and_from, and_right, or_parts, or_from, not-false, not-true, not_from_true, ltb-true, ltb-false, leb-true, leb-false, lt-ltb, le-ltb, eq-eqb}
 use Rattle.std.specs.List.{AllByRecursion}
 use Rattle.hazard_types.specs.Places.{Place}
@@ -15,6 +15,7 @@ use Rattle.hazard_types.specs.declared.period.Period.{Period}
 use Rattle.hazard_types.specs.declared.request.PutPart.{PutPart}
 use Rattle.hazard_types.specs.declared.request.Target.{Target}
 use Rattle.hazard_types.specs.declared.request.Target.TheVariants.{Fresh, Join}
+use Rattle.event_life.specs.declared.life.Around.{Around}
 use Rattle.event_life.specs.declared.life.Breach.{Breach}
 use Rattle.event_life.specs.declared.life.Breach.TheVariants.{TooEarly, PeriodMoved, PeriodSame, TooLate, NoHigher}
 use Rattle.event_life.specs.Periods.{ends_after, ends_within, is_live, keeps_open, same_at, same_end}
@@ -24,7 +25,8 @@ use Rattle.event_life.proofs.Puts.{at_key, at_key-parts}
 use Rattle.hazard_board.specs.Board.{has_period}
 use Rattle.hazard_types.specs.declared.request.Intent.TheVariants.{Put}
 use Rattle.action_planner.specs.Placed.{Placed, is_opening_target}
-use Rattle.action_planner.specs.Lines.{minute_of, put_period, put_period_on, printed_begin, opening_action, continuing_line, joined_row, put_line_on, put_line, line_on, is_near_end, is_overlaid, finishing_action}
+use Rattle.action_planner.specs.Cases.{IsAbsent}
+use Rattle.action_planner.specs.Lines.{minute_of, put_period, put_period_on, printed_begin, opening_action, continuing_line, unless_ended, joined_row, put_line_on, put_line, line_on, is_near_end, is_overlaid, finishing_action, routine_line}
 use Rattle.action_planner.specs.Offences.{is_bad_period, has_row_by, joins_by, was_left}
 use Rattle.action_planner.proofs.LawfulLists.{found, none_of, no_find, all_weaker}
 
@@ -58,6 +60,31 @@ no_row rows e z h =
     let none : AllByRecursion (λ (r : Row). same_event r.event e ≡ false) rows = none_of (λ (r : Row). same_event r.event e) rows h in
     no_find (at_key e z) rows (all_weaker (λ (r : Row). same_event r.event e ≡ false) (λ (r : Row). at_key e z r ≡ false) (λ r g. rw g) rows none)
 
+-- the row that no line has ended
+
+ended_by : (row : Row) (b : Bool) → row.ended ≡ b → cond b None (Some row) ≡ None → row.ended ≡ true
+ended_by row true e h = e
+ended_by row false e h = cc
+
+pub absent_from : (o : Option Row) → unless_ended o ≡ None → IsAbsent o
+absent_from None h = tt
+absent_from (Some row) h = ended_by row row.ended refl h
+
+pub absent_to : (o : Option Row) → IsAbsent o → unless_ended o ≡ None
+absent_to None h = refl
+absent_to (Some row) h = rw h refl
+
+going_by : (own row : Row) (b : Bool) → own.ended ≡ b → cond b None (Some own) ≡ Some row → (own ≡ row) × (row.ended ≡ false)
+going_by own row true e h = cc
+going_by own row false e h = let same : own ≡ row = cc in (same, ap (λ (r : Row). r.ended) (sym same) ∙ e)
+
+pub going_from : (o : Option Row) (row : Row) → unless_ended o ≡ Some row → (o ≡ Some row) × (row.ended ≡ false)
+going_from None row h = cc
+going_from (Some own) row h = let p = going_by own row own.ended refl h in (ap Some p.0, p.1)
+
+pub going_to : (o : Option Row) (row : Row) → o ≡ Some row → row.ended ≡ false → unless_ended o ≡ Some row
+going_to o row h going = ap unless_ended h ∙ rw going refl
+
 -- NEW, EXA, EXB
 
 period_parts : (part : PutPart) (t : ℕ) → is_bad_period part t ≡ false → (nat_lt (minute_of part.begin t) t ≡ false) × (ends_after part.end (minute_of part.begin t) ≡ true) × (ends_after part.end t ≡ true)
@@ -66,16 +93,22 @@ period_parts part t h =
     let q = and_parts (ends_after part.end (minute_of part.begin t)) _ (not-false _ p.1) in
     (p.0, q.0, q.1)
 
-joining_sound : (rows : List Row) (t : ℕ) (e : Event) (part : PutPart) (z : Place) (same : Bool) → has_period rows e (put_period part t) t ≡ same →
-    is_open rows t e ≡ true → row_at rows e z ≡ None → is_bad_period part t ≡ false →
+joining_sound : (rows : List Row) (t : ℕ) (e : Event) (part : PutPart) (z : Place) (same : Bool) (o : Option Row) → has_period rows e (put_period part t) t ≡ same →
+    is_open rows t e ≡ true → row_at rows e z ≡ o → IsAbsent o → is_bad_period part t ≡ false →
     IsSound rows t (record { action = cond same Exa Exb; event = e; zone = z; begin = Some (minute_of part.begin t); end = part.end; flood = part.flood })
 unfolding breach_of_line
-joining_sound rows t e part z true same going none ok b u =
+joining_sound rows t e part z true None same going at away ok b u =
     let p = period_parts part t ok in
-    rw (none, going, p.0, p.1, same) refl
-joining_sound rows t e part z false same going none ok b u =
+    rw (at, going, p.0, p.1, same) refl
+joining_sound rows t e part z false None same going at away ok b u =
     let p = period_parts part t ok in
-    rw (none, going, p.0, p.1, same) refl
+    rw (at, going, p.0, p.1, same) refl
+joining_sound rows t e part z true (Some row) same going at away ok b u =
+    let p = period_parts part t ok in
+    rw (at, away, going, p.0, p.1, same) refl
+joining_sound rows t e part z false (Some row) same going at away ok b u =
+    let p = period_parts part t ok in
+    rw (at, away, going, p.0, p.1, same) refl
 
 pub opening_sound : (rows : List Row) (t : ℕ) (e : Event) (part : PutPart) (z : Place) (target : Target) →
     (is_opening_target target ≡ true → (has_rows rows e ≡ false) × (is_held rows t e ≡ false)) → (is_opening_target target ≡ false → is_open rows t e ≡ true) →
@@ -87,7 +120,7 @@ opening_sound rows t e part z (Fresh h) new going none ok b u =
     let p = period_parts part t ok in
     rw (no_row rows e z n.0, n.0, n.1, p.0, p.1) refl
 opening_sound rows t e part z (Join d) new going none ok b u =
-    joining_sound rows t e part z (has_period rows e (put_period part t) t) refl (going refl) none ok b u
+    joining_sound rows t e part z (has_period rows e (put_period part t) t) (row_at rows e z) refl (going refl) refl (absent_from (row_at rows e z) none) ok b u
 
 -- CON, EXT
 
@@ -162,16 +195,23 @@ continuing_sound rows t e z part row h live ok b u =
     let here : row_at rows e row.zone ≡ Some row = ap (λ (y : Place). row_at rows e y) p.1 ∙ h in
     rw here (continuing_by rows t e part row (same_at t row.period (put_period_on part t row)) refl live ok b)
 
-joined_parts : (rows : List Row) (e : Event) (z : Place) (target : Target) (row : Row) → joined_row rows e z target ≡ Some row → (joins_by target ≡ true) × (row_at rows e z ≡ Some row)
+joined_parts : (rows : List Row) (e : Event) (z : Place) (target : Target) (row : Row) → joined_row rows e z target ≡ Some row → (joins_by target ≡ true) × (row_at rows e z ≡ Some row) × (row.ended ≡ false)
 joined_parts rows e z (Fresh h) row g = cc
-joined_parts rows e z (Join d) row g = (refl, g)
+joined_parts rows e z (Join d) row g = let p = going_from (row_at rows e z) row g in (refl, p.0, p.1)
 
-not_dead : (o : Option Row) (t : ℕ) (row : Row) → o ≡ Some row → has_row_by (λ (r : Row). not (is_live t r)) o ≡ false → is_live t row ≡ true
-not_dead None t row e h = cc
-not_dead (Some r) t row e h =
+-- a row that no line has ended is live where it is not left before
+abbrev pub is_lapsed : ℕ → Row → Bool
+is_lapsed t row = not row.ended && not (is_live t row)
+
+lives_by : (x live : Bool) → x ≡ false → (not x && not live) ≡ false → live ≡ true
+lives_by true live e h = cc
+lives_by false live e h = not-false live h
+
+pub not_dead : (o : Option Row) (t : ℕ) (row : Row) → o ≡ Some row → row.ended ≡ false → has_row_by (is_lapsed t) o ≡ false → is_live t row ≡ true
+not_dead None t row e going h = cc
+not_dead (Some r) t row e going h =
     let same : r ≡ row = cc in
-    let own : is_live t r ≡ true = not-false _ h in
-    ap (is_live t) (sym same) ∙ own
+    lives_by row.ended (is_live t row) going (ap (is_lapsed t) (sym same) ∙ h)
 
 -- a put's line in a zone
 put_by : (rows : List Row) (t : ℕ) (e : Event) (part : PutPart) (z : Place) (o : Option Row) → joined_row rows e z part.target ≡ o →
@@ -180,8 +220,8 @@ put_by : (rows : List Row) (t : ℕ) (e : Event) (part : PutPart) (z : Place) (o
 put_by rows t e part z None h new going ok live = opening_sound rows t e part z part.target new going h ok
 put_by rows t e part z (Some row) h new going ok live =
     let j = joined_parts rows e z part.target row h in
-    let dead : has_row_by (λ (r : Row). not (is_live t r)) (row_at rows e z) ≡ false = rw j.0 at live in
-    continuing_sound rows t e z part row j.1 (not_dead (row_at rows e z) t row j.1 dead) ok
+    let dead : has_row_by (is_lapsed t) (row_at rows e z) ≡ false = rw j.0 at live in
+    continuing_sound rows t e z part row j.1 (not_dead (row_at rows e z) t row j.1 j.2 dead) ok
 
 pub put_sound : (rows : List Row) (t : ℕ) (e : Event) (part : PutPart) (z : Place) →
     (is_opening_target part.target ≡ true → (has_rows rows e ≡ false) × (is_held rows t e ≡ false)) → (is_opening_target part.target ≡ false → is_open rows t e ≡ true) →
@@ -265,3 +305,13 @@ ending_sound rows t row false false h stands before near b u =
 pub finish_sound : (rows : List Row) (t : ℕ) (all : List Placed) (row : Row) → row_at rows row.event row.zone ≡ Some row → keeps_open t row ≡ true → IsSound rows t (line_on (finishing_action rows t all row) t row)
 finish_sound rows t all row h stands =
     ending_sound rows t row (ends_after row.period.end t && is_overlaid rows t all row) (is_near_end row.period.end t) h stands (λ e. (and_parts (ends_after row.period.end t) _ e).0) refl
+
+-- ROU touches no life
+
+routine_by : (o : Option Row) (e : Event) (z : Place) (t : ℕ) (around : Around) → breach_of_line (option_map life_of o) (routine_line e z) t around ≡ None
+unfolding breach_of_line
+routine_by None e z t around = refl
+routine_by (Some row) e z t around = refl
+
+pub routine_sound : (rows : List Row) (t : ℕ) (e : Event) (z : Place) → IsSound rows t (routine_line e z)
+routine_sound rows t e z b u = routine_by (row_at rows e z) e z t (around_but_higher rows t (routine_line e z) b)

@@ -5,7 +5,8 @@ use Rattle.std.specs.List.{AllByRecursion, list_any}
 use Rattle.std.specs.List.Sorted.{IsStrictlySortedBy}
 use Rattle.hazard_types.specs.Places.{Place}
 use Rattle.hazard_types.specs.Same.{same_zone, same_event}
-use Rattle.hazard_types.specs.declared.codes.Action.TheVariants.{Con, Upg, Can, Exp}
+use Rattle.hazard_types.specs.declared.codes.Action.{Action}
+use Rattle.hazard_types.specs.declared.codes.Action.TheVariants.{New, Con, Exa, Exb, Upg, Can, Exp}
 use Rattle.hazard_types.specs.declared.codes.Category.{Category}
 use Rattle.hazard_types.specs.declared.hazard.Event.{Event}
 use Rattle.hazard_types.specs.declared.line.Line.{Line}
@@ -19,17 +20,19 @@ use Rattle.hazard_types.specs.declared.request.Target.TheVariants.{Fresh, Join}
 use Rattle.hazard_types.proofs.Equality.{event_itself}
 use Rattle.event_life.specs.declared.life.Life.{Life}
 use Rattle.event_life.specs.Higher.{may_yield, outranks}
+use Rattle.event_life.specs.Lives.{opens}
 use Rattle.event_life.specs.Periods.{ends_after, is_live, overlaps, same_at}
-use Rattle.event_life.specs.Table.{continued_period, flood_after, life_after, left_of_life}
+use Rattle.event_life.specs.Table.{continued_period, flood_after, life_after, left_of_life, opened_period}
 use Rattle.event_life.specs.Products.{by_key, has_higher, has_rows, is_overlapped, is_routine, is_upgrade, life_of, row_after, row_at, row_of, rows_for_higher, speaks_of}
 use Rattle.event_life.proofs.Puts.{speaks_of-parts}
+use Rattle.hazard_board.specs.Board.{has_period}
 use Rattle.action_planner.specs.Placed.{Placed, zones_of, is_opening, is_opening_target, touches, speaks}
-use Rattle.action_planner.specs.Lines.{put_period, put_period_on, continuing_line, opening_line, joined_row, put_line_on, put_line, line_on, puts_or_finishes, is_left, period_by_put, row_by_put, rows_by_intent, rows_by_puts, rows_left, is_overlaid, is_near_end, finishing_action, finish_lines, restate_lines, lines_in, lines_in_zones, lines_from, goes_on_beside, added_lines, planned_lines}
+use Rattle.action_planner.specs.Lines.{put_period, put_period_on, continuing_line, opening_action, opening_line, joined_row, put_line_on, put_line, line_on, puts_or_finishes, is_left, period_by_put, row_by_put, rows_by_intent, rows_by_puts, rows_left, is_overlaid, is_near_end, finishing_action, finish_lines, restate_lines, lines_in, lines_in_zones, lines_from, goes_on_beside, added_lines, planned_lines}
 use Rattle.action_planner.specs.Offences.{is_bad_period, bad_period_of}
 use Rattle.action_planner.proofs.LawfulLists.{EachPair, Has, all_append, all_each, all_filter, all_has, all_map, all_weaker, any_has, has_any, has_filter, has_left, has_map, has_right, has_split, none_of}
 use Rattle.action_planner.proofs.LawfulPlaced.{IsFit}
-use Rattle.action_planner.proofs.LawfulSteps.{IsSound, continued_by_put, continued_as_is, no_row, row_at-own, row_at-parts}
-use Rattle.action_planner.proofs.LawfulKeys.{AreApart, IsOn, each_zone, each_intent, lines_on, one_line, put-no_upgrade, rows_own, spoken_itself, touched_zones, turned_pairs}
+use Rattle.action_planner.proofs.LawfulSteps.{IsSound, continued_by_put, continued_as_is, going_from, row_at-own, row_at-parts}
+use Rattle.action_planner.proofs.LawfulKeys.{AreApart, IsOn, each_zone, each_intent, lines_on, one_line, put-no_routine, put-no_upgrade, rows_own, spoken_itself, touched_zones, turned_pairs}
 use Rattle.action_planner.proofs.LawfulLines.{not_bad}
 use Rattle.action_planner.proofs.LawfulHigher.{IsOfLives, Leaves, stands_after}
 
@@ -60,32 +63,47 @@ put_leaves_on rows t Q lives e part z row h ok q =
     ∙ ap (row_of line) (continuing_left rows t e part row (same_at t row.period (put_period_on part t row)) refl) in
     ap Q same ∙ lives _ (row_of line life) (sym p.1) refl (sym (continued_by_put t e part row ok)) refl q
 
-opening_leaves : (rows : List Row) (t : ℕ) (Q : Row → Bool) (e : Event) (part : PutPart) (z : Place) → IsOfLives Q → row_at rows e z ≡ None →
-    Q (record { event = e; zone = z; period = put_period part t; flood = part.flood; ended = false }) ≡ true → Q (row_after rows t (opening_line rows t e part z)) ≡ true
+opening_opens : (rows : List Row) (t : ℕ) (e : Event) (part : PutPart) (target : Target) → opens (opening_action rows t e part target) ≡ true
+opening_opens rows t e part (Fresh h) = refl
+opening_opens rows t e part (Join d) = joining_opens (has_period rows e (put_period part t) t)
+  where
+    joining_opens : (b : Bool) → opens (cond b Exa Exb) ≡ true
+    joining_opens true = refl
+    joining_opens false = refl
+
+opened_anew : (a : Action) (life : Life) (line : Line) (t : ℕ) → opens a ≡ true → left_of_life a life line t ≡ record { period = opened_period line t; flood = line.flood; ended = false }
+opened_anew New life line t h = refl
+opened_anew Exa life line t h = refl
+opened_anew Exb life line t h = refl
+opened_anew _ life line t h = cc
+
+-- an opening line leaves the life that it opens, whatever was there
+pub opening_left : (o : Option Row) (line : Line) (t : ℕ) → opens line.action ≡ true → life_after (option_map life_of o) line t ≡ record { period = opened_period line t; flood = line.flood; ended = false }
 unfolding life_after
-opening_leaves rows t Q e part z lives h q =
+opening_left None line t h = refl
+opening_left (Some row) line t h = opened_anew line.action (life_of row) line t h
+
+opening_leaves : (rows : List Row) (t : ℕ) (Q : Row → Bool) (e : Event) (part : PutPart) (z : Place) → IsOfLives Q →
+    Q (record { event = e; zone = z; period = put_period part t; flood = part.flood; ended = false }) ≡ true → Q (row_after rows t (opening_line rows t e part z)) ≡ true
+opening_leaves rows t Q e part z lives q =
     let line = opening_line rows t e part z in
     let same : row_after rows t line ≡ record { event = e; zone = z; period = put_period part t; flood = part.flood; ended = false } =
-    ap (λ (o : Option Row). row_of line (life_after (option_map life_of o) line t)) h in
+    ap (row_of line) (opening_left (row_at rows e z) line t (opening_opens rows t e part part.target)) in
     ap Q same ∙ q
 
 joined_is : (rows : List Row) (e : Event) (z : Place) (target : Target) (row : Row) → joined_row rows e z target ≡ Some row → row_at rows e z ≡ Some row
 joined_is rows e z (Fresh h) row g = cc
-joined_is rows e z (Join d) row g = g
-
-joined_none : (rows : List Row) (e : Event) (z : Place) (target : Target) → joined_row rows e z target ≡ None → (is_opening_target target ≡ true → has_rows rows e ≡ false) → row_at rows e z ≡ None
-joined_none rows e z (Fresh h) g new = no_row rows e z (new refl)
-joined_none rows e z (Join d) g new = g
+joined_is rows e z (Join d) row g = (going_from (row_at rows e z) row g).0
 
 put_leaves_by : (rows : List Row) (t : ℕ) (Q : Row → Bool) → IsOfLives Q → (e : Event) (part : PutPart) (z : Place) (o : Option Row) → joined_row rows e z part.target ≡ o →
-    (is_opening_target part.target ≡ true → has_rows rows e ≡ false) → is_bad_period part t ≡ false →
+    is_bad_period part t ≡ false →
     Q (record { event = e; zone = z; period = period_by_put t part o; flood = part.flood; ended = false }) ≡ true → Q (row_after rows t (put_line_on rows t e part z o)) ≡ true
-put_leaves_by rows t Q lives e part z None h new ok q = opening_leaves rows t Q e part z lives (joined_none rows e z part.target h new) q
-put_leaves_by rows t Q lives e part z (Some row) h new ok q = put_leaves_on rows t Q lives e part z row (joined_is rows e z part.target row h) ok q
+put_leaves_by rows t Q lives e part z None h ok q = opening_leaves rows t Q e part z lives q
+put_leaves_by rows t Q lives e part z (Some row) h ok q = put_leaves_on rows t Q lives e part z row (joined_is rows e z part.target row h) ok q
 
 -- a put's line leaves the put's row
 put_leaves : (rows : List Row) (t : ℕ) (Q : Row → Bool) → IsOfLives Q → (e : Event) (part : PutPart) (z : Place) →
-    (is_opening_target part.target ≡ true → has_rows rows e ≡ false) → is_bad_period part t ≡ false → Q (row_by_put rows t e part z) ≡ true → Q (row_after rows t (put_line rows t e part z)) ≡ true
+    is_bad_period part t ≡ false → Q (row_by_put rows t e part z) ≡ true → Q (row_after rows t (put_line rows t e part z)) ≡ true
 put_leaves rows t Q lives e part z = put_leaves_by rows t Q lives e part z (joined_row rows e z part.target) refl
 
 module _ (rows : List Row) (t : ℕ) (all : List Placed) (Q : Row → Bool) (lives : IsOfLives Q) where
@@ -119,7 +137,7 @@ module _ (rows : List Row) (t : ℕ) (all : List Placed) (Q : Row → Bool) (liv
     intent_leaves e (Put part) z apart = unspoken_leaves e (Put part) z (apart refl)
     intent_leaves e (Finish part) z apart = unspoken_leaves e (Finish part) z (apart refl)
     intent_leaves e (Restate part) z apart = restate_leaves e z (row_at rows e z) refl
-    intent_leaves e (Routine part) z apart = tt
+    intent_leaves e (Routine part) z apart = ((λ h. cc), tt)
 
     placed_leaves : (p : Placed) → (puts_or_finishes p.intent && speaks r.event r.zone p) ≡ false → AllByRecursion LeavesIt (lines_in_zones rows t all p.event p.intent (zones_of p.intent))
     placed_leaves p h = each_zone rows t all LeavesIt (λ z. touches z p ≡ true) p.event p.intent
@@ -137,53 +155,51 @@ module _ (rows : List Row) (t : ℕ) (all : List Placed) (Q : Row → Bool) (liv
   -- a row that a put puts there
 
   abbrev PutsIt : List Line → Type 0
-  PutsIt lines = (l : Line) × Has lines l × (is_upgrade l.action ≡ false) × (Q (row_after rows t l) ≡ true)
+  PutsIt lines = (l : Line) × Has lines l × (is_upgrade l.action ≡ false) × (is_routine l.action ≡ false) × (Q (row_after rows t l) ≡ true)
 
   has_zone : (e : Event) (i : Intent) (zones : List Place) (z : Place) (l : Line) → Has zones z → Has (lines_in rows t all e i z) l → Has (lines_in_zones rows t all e i zones) l
   has_zone e i [] z l h g = absurd h
   has_zone e i (y ∷ zones) z l (inl same) g = has_left (lines_in rows t all e i y) (lines_in_zones rows t all e i zones) l (let f : Has (lines_in rows t all e i y) l = rw same g in f)
   has_zone e i (y ∷ zones) z l (inr h) g = has_right (lines_in rows t all e i y) (lines_in_zones rows t all e i zones) l (has_zone e i zones z l h g)
 
-  puts_by : (p : Placed) (e : Event) (i : Intent) (row : Row) → (is_opening i ≡ true → has_rows rows e ≡ false) → bad_period_of t p.place i ≡ None → p.event ≡ e → Has (rows_by_intent rows t p i) row → Q row ≡ true → PutsIt (lines_in_zones rows t all e i (zones_of i))
-  puts_by p e (Put part) row new period same h q =
+  puts_by : (p : Placed) (e : Event) (i : Intent) (row : Row) → bad_period_of t p.place i ≡ None → p.event ≡ e → Has (rows_by_intent rows t p i) row → Q row ≡ true → PutsIt (lines_in_zones rows t all e i (zones_of i))
+  puts_by p e (Put part) row period same h q =
       let m = has_map (row_by_put rows t p.event part) part.zones row h in
       let passes : Q (row_by_put rows t e part m.0) ≡ true = ap (λ (x : Event). Q (row_by_put rows t x part m.0)) (sym same) ∙ ap Q m.2 ∙ q in
       let line = put_line rows t e part m.0 in
-      (line, has_zone e (Put part) part.zones m.0 line m.1 (inl refl), put-no_upgrade rows t e part m.0, put_leaves rows t Q lives e part m.0 new (not_bad (is_bad_period part t) _ period) passes)
-  puts_by p e (Finish part) row new period same h q = absurd h
-  puts_by p e (Restate part) row new period same h q = absurd h
-  puts_by p e (Routine part) row new period same h q = absurd h
+      (line, has_zone e (Put part) part.zones m.0 line m.1 (inl refl), put-no_upgrade rows t e part m.0, put-no_routine rows t e part m.0, put_leaves rows t Q lives e part m.0 (not_bad (is_bad_period part t) _ period) passes)
+  puts_by p e (Finish part) row period same h q = absurd h
+  puts_by p e (Restate part) row period same h q = absurd h
+  puts_by p e (Routine part) row period same h q = absurd h
 
   puts_among : (qs : List Placed) → AllByRecursion (IsFit rows t all) qs → (row : Row) → Has (rows_by_puts rows t qs) row → Q row ≡ true → PutsIt (lines_from rows t all qs)
   puts_among [] fit row h q = absurd h
   puts_among (p ∷ qs) fit row h q = ⊎_elim
       (λ (g : Has (rows_by_intent rows t p p.intent) row).
-      let m = puts_by p p.event p.intent row fit.0.new fit.0.period refl g q in
-      (m.0, has_left (lines_in_zones rows t all p.event p.intent (zones_of p.intent)) (lines_from rows t all qs) m.0 m.1, m.2, m.3))
+      let m = puts_by p p.event p.intent row fit.0.period refl g q in
+      (m.0, has_left (lines_in_zones rows t all p.event p.intent (zones_of p.intent)) (lines_from rows t all qs) m.0 m.1, m.2, m.3, m.4))
       (λ (g : Has (rows_by_puts rows t qs) row).
       let m = puts_among qs fit.1 row g q in
-      (m.0, has_right (lines_in_zones rows t all p.event p.intent (zones_of p.intent)) (lines_from rows t all qs) m.0 m.1, m.2, m.3))
+      (m.0, has_right (lines_in_zones rows t all p.event p.intent (zones_of p.intent)) (lines_from rows t all qs) m.0 m.1, m.2, m.3, m.4))
       (has_split (rows_by_intent rows t p p.intent) (rows_by_puts rows t qs) row h)
 
   -- such a row among those that the draft leaves is among those by which UPG lines are judged
-  module _ (c : Category) (up : IsStrictlySortedBy by_key rows) (fit : AllByRecursion (IsFit rows t all) all) (own : AllByRecursion (λ m. is_routine m.action ≡ false) (planned_lines c rows t all))
-      (apart : EachPair AreApart (planned_lines c rows t all)) (sound : AllByRecursion (IsSound rows t) (planned_lines c rows t all)) where
+  module _ (c : Category) (up : IsStrictlySortedBy by_key rows) (fit : AllByRecursion (IsFit rows t all) all) (apart : EachPair AreApart (planned_lines c rows t all)) (sound : AllByRecursion (IsSound rows t) (planned_lines c rows t all)) where
     left_stands : (r : Row) → Has rows r → is_left all r ≡ true → Q r ≡ true → list_any Q (rows_for_higher rows t (planned_lines c rows t all)) ≡ true
     left_stands r h left q =
         let lines = planned_lines c rows t all in
         let here : row_at rows r.event r.zone ≡ Some r = all_has (λ s. row_at rows s.event s.zone ≡ Some s) rows r (rows_own rows t all rows up) h in
-        stands_after rows t Q r.event r.zone lines own (turned_pairs lines own apart) sound (left_leaves r here q c up left) (inr (r, here, q))
+        stands_after rows t Q r.event r.zone lines (turned_pairs lines apart) sound (left_leaves r here q c up left) (inr (r, here, q))
 
     put_stands : PutsIt (lines_from rows t all all) → list_any Q (rows_for_higher rows t (planned_lines c rows t all)) ≡ true
     put_stands m =
         let lines = planned_lines c rows t all in
         let l : Line = m.0 in
         let there : Has lines l = has_left (lines_from rows t all all) (added_lines c rows t all) l m.1 in
-        let plain : is_routine l.action ≡ false = all_has (λ x. is_routine x.action ≡ false) lines l own there in
         let leaves : AllByRecursion (Leaves rows t Q l.event l.zone) lines = all_weaker (λ x. speaks_of l.event l.zone x ≡ true → x ≡ l) (Leaves rows t Q l.event l.zone) (λ x one s.
         let same : x ≡ l = one s in
-        (ap (λ (y : Line). is_upgrade y.action) same ∙ m.2, ap (λ (y : Line). Q (row_after rows t y)) same ∙ m.3)) lines (one_line lines l own apart there) in
-        stands_after rows t Q l.event l.zone lines own (turned_pairs lines own apart) sound leaves (inl (any_has (speaks_of l.event l.zone) lines l there (spoken_itself l plain)))
+        (ap (λ (y : Line). is_upgrade y.action) same ∙ m.2, ap (λ (y : Line). Q (row_after rows t y)) same ∙ m.4)) lines (one_line lines l apart there) in
+        stands_after rows t Q l.event l.zone lines (turned_pairs lines apart) sound leaves (inl (any_has (speaks_of l.event l.zone) lines l there (spoken_itself l m.3)))
 
     pub stands : list_any Q (rows_left rows t all) ≡ true → list_any Q (rows_for_higher rows t (planned_lines c rows t all)) ≡ true
     stands h =
@@ -213,8 +229,7 @@ upgrade_only true y h = refl
 upgrade_only false true h = cc
 upgrade_only false false h = cc
 
-module _ (rows : List Row) (t : ℕ) (all : List Placed) (c : Category) (up : IsStrictlySortedBy by_key rows) (fit : AllByRecursion (IsFit rows t all) all) (own : AllByRecursion (λ m. is_routine m.action ≡ false) (planned_lines c rows t all))
-    (apart : EachPair AreApart (planned_lines c rows t all)) (sound : AllByRecursion (IsSound rows t) (planned_lines c rows t all)) where
+module _ (rows : List Row) (t : ℕ) (all : List Placed) (c : Category) (up : IsStrictlySortedBy by_key rows) (fit : AllByRecursion (IsFit rows t all) all) (apart : EachPair AreApart (planned_lines c rows t all)) (sound : AllByRecursion (IsSound rows t) (planned_lines c rows t all)) where
   -- a UPG line has its higher row
   abbrev pub HasHigher : Line → Type 0
   HasHigher line = is_upgrade line.action ≡ true → has_higher rows t (planned_lines c rows t all) line ≡ true
@@ -226,7 +241,7 @@ module _ (rows : List Row) (t : ℕ) (all : List Placed) (c : Category) (up : Is
       let own_line : HasHigher line = λ u.
       let both = upgrade_only (ends_after row.period.end t && is_overlaid rows t all row) (is_near_end row.period.end t) u in
       let overlaid : list_any (overlays t row) (rows_left rows t all) ≡ true = (and_parts (ends_after row.period.end t) _ both).1 in
-      let lies = stands rows t all (overlays t row) (overlays-lives t row) c up fit own apart sound overlaid in
+      let lies = stands rows t all (overlays t row) (overlays-lives t row) c up fit apart sound overlaid in
       let here = ap (is_overlapped (rows_for_higher rows t (planned_lines c rows t all)) t) (row_at-own rows e z row h) in
       or_right (not (may_yield row.event.hazard)) _ (here ∙ lies) in
       (own_line, tt)
@@ -239,7 +254,7 @@ module _ (rows : List Row) (t : ℕ) (all : List Placed) (c : Category) (up : Is
   higher_in e (Put part) z = (λ u. absurd (both_ways _ (put-no_upgrade rows t e part z) u), tt)
   higher_in e (Finish part) z = finish_higher e z (row_at rows e z) refl
   higher_in e (Restate part) z = restate_higher (row_at rows e z)
-  higher_in e (Routine part) z = tt
+  higher_in e (Routine part) z = ((λ u. cc), tt)
 
   pub planned_higher : AllByRecursion HasHigher (planned_lines c rows t all)
   planned_higher = all_append HasHigher (lines_from rows t all all) (added_lines c rows t all)

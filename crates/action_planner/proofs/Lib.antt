@@ -5,6 +5,7 @@ pub mod LawfulLists
 pub mod LawfulSteps
 pub mod LawfulPlaced
 pub mod LawfulKeys
+pub mod RoutineLemmas
 pub mod LawfulLines
 pub mod LawfulHigher
 pub mod LawfulUpgrades
@@ -19,6 +20,9 @@ pub mod SendingLemmas
 pub mod SpokenLemmas
 pub mod StandingNumbers
 pub mod StandingRows
+pub mod SourceLemmas
+pub mod AfterLemmas
+pub mod SiteLemmas
 pub mod Standing
 pub mod TextLemmas
 pub mod PlanLemmas

@@ -9,7 +9,7 @@ use Rattle.hazard_types.specs.declared.line.Row.{Row}
 use Rattle.hazard_types.specs.declared.request.Intent.{Intent}
 use Rattle.event_life.specs.Products.{by_key}
 use Rattle.event_numbers.specs.declared.Count.{Count}
-use Rattle.hazard_board.specs.Board.{are_lawful}
+use Rattle.event_life.specs.Reordered.{are_lawful}
 use Rattle.action_planner.specs.Cases.{IsPlanned}
 use Rattle.action_planner.specs.Placed.{placed}
 use Rattle.action_planner.specs.Lines.{planned_lines}

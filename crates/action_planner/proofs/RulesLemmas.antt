@@ -15,7 +15,7 @@ use Rattle.action_planner.specs.declared.rules.Rule.{Rule}
 use Rattle.action_planner.specs.Placed.{Placed, placed, placed_from}
 use Rattle.action_planner.specs.Lines.{planned_lines}
 use Rattle.action_planner.specs.Offences.{broken, first_by, first_given, no_intent, refused_clash, too_many}
-use Rattle.action_planner.specs.Rules.{offence, before_conflict, on_numbers, broken_by}
+use Rattle.action_planner.specs.Rules.{offence, before_conflict, on_numbers, broken_early, broken_late}
 
 or_none : {X : Type 0} (x : Option X) → option_or x None ≡ x
 or_none None = refl
@@ -31,20 +31,29 @@ given-append (x ∷ xs) ys = ap (option_or x) (given-append xs ys) ∙ sym (or_o
 
 -- what is given first of two groups with one before each and one behind
 two_groups : {X : Type 0} (a : Option X) (xs : List (Option X)) (b : Option X) (ys : List (Option X)) (c : Option X) →
-    option_or a (option_or (first_given xs) (option_or b (option_or (first_given ys) c))) ≡ first_given (a ∷ (xs ++ b ∷ (ys ++ c ∷ [])))
-two_groups a xs b ys c = sym (simp (given-append, or_none))
+    option_or (option_or a (first_given xs)) (option_or b (option_or (first_given ys) c)) ≡ first_given (a ∷ (xs ++ b ∷ (ys ++ c ∷ [])))
+two_groups a xs b ys c = or_or a (first_given xs) _ ∙ sym (simp (given-append, or_none))
 
-module _ (c : Category) (rows : List Row) (t : ℕ) where
-  in_groups : (ps : List Placed) → broken_by rows t ps (planned_lines c rows t ps) ≡ broken c rows t ps
-  unfolding broken
-  in_groups ps =
-      let each : List Rule → List (Option Refusal) = map (λ (rule : Rule). first_by (offence rows t ps rule) ps) in
-      let lines = planned_lines c rows t ps in
-      two_groups (no_intent ps) (each before_conflict) (option_map refused_clash (least_clash t (rows_taken rows t lines))) (each on_numbers) (too_many (length lines))
+-- the rules in two groups are the rules in order
+pub in_groups : (c : Category) (rows : List Row) (t : ℕ) (ps : List Placed) → option_or (broken_early rows t ps) (broken_late rows t ps (planned_lines c rows t ps)) ≡ broken c rows t ps
+unfolding broken broken_early broken_late
+in_groups c rows t ps =
+    let each : List Rule → List (Option Refusal) = map (λ (rule : Rule). first_by (offence rows t ps rule) ps) in
+    let lines = planned_lines c rows t ps in
+    two_groups (no_intent ps) (each before_conflict) (option_map refused_clash (least_clash t (rows_taken rows t lines))) (each on_numbers) (too_many (length lines))
 
--- what the groups give is the first rule that the draft breaks, where the lines are its own
-pub from_groups : (rows : List Row) (t : ℕ) (ps : List Placed) (lines : List Line) (found : Option Refusal) → found ≡ broken_by rows t ps lines → (c : Category) → lines ≡ planned_lines c rows t ps → found ≡ broken c rows t ps
-from_groups rows t ps lines found by c same = by ∙ ap (broken_by rows t ps) same ∙ in_groups c rows t ps
+module _ (c : Category) (rows : List Row) (t : ℕ) (ps : List Placed) where
+  -- an early rule is named first
+  pub early_named : (r : Refusal) → broken_early rows t ps ≡ Some r → broken c rows t ps ≡ Some r
+  early_named r h = sym (in_groups c rows t ps) ∙ ap (λ (o : Option Refusal). option_or o (broken_late rows t ps (planned_lines c rows t ps))) h
+
+  -- then one of the others
+  pub late_named : (lines : List Line) (found : Option Refusal) → lines ≡ planned_lines c rows t ps → broken_early rows t ps ≡ None → found ≡ broken_late rows t ps lines → broken c rows t ps ≡ found
+  late_named lines found same early late =
+      sym (in_groups c rows t ps)
+      ∙ ap (λ (o : Option Refusal). option_or o (broken_late rows t ps (planned_lines c rows t ps))) early
+      ∙ ap (broken_late rows t ps) (sym same)
+      ∙ sym late
 
 -- each place is below a bound that the places do not pass
 

@@ -1,6 +1,6 @@
 -- The events that have rows after a product of lawful lines: those that had them, and those of its lines.
-use Rattle.std.proofs.Common.{◌≡◌, ◌∙◌, ◌||◌, ◌&&◌, not, ℕ, List, [], ◌∷◌, ◌++◌, Bool, true, false, Option, None, Ordering, Less, Equal, Greater, refl, ap, option_map}
-use Rattle.std.proofs.lemmas.Bool.{and_from, and_parts, false_from_ne_true, not_from_false, both_ways}
+use Rattle.std.proofs.Common.{◌≡◌, ◌∙◌, ◌||◌, ◌&&◌, not, ℕ, List, [], ◌∷◌, ◌++◌, Bool, true, false, Option, None, Ordering, Less, Equal, Greater, refl, ap, cond, filter, option_map}
+use Rattle.std.proofs.lemmas.Bool.{and_parts, false_from_ne_true, both_ways}
 use Rattle.std.specs.List.{AllByRecursion, list_all, list_any}
 use Rattle.std.specs.Option.{is_none}
 use Rattle.hazard_types.specs.Same.{same_event}
@@ -15,7 +15,8 @@ use Rattle.event_life.specs.Periods.{keeps_open}
 use Rattle.event_life.specs.Products.{around_but_higher, breach_in, by_key, has_rows, is_new, is_open, is_routine, judged_from, lawful_of, life_of, placed, put, put_all, row_after, row_at, rows_after}
 use Rattle.event_life.specs.Table.{breach_of_line, first_of, on_nothing}
 use Rattle.event_life.proofs.Keys.{key_exact}
-use Rattle.hazard_board.specs.Board.{are_lawful}
+use Rattle.event_life.proofs.LawfulLemmas.{touches}
+use Rattle.event_life.specs.Reordered.{are_lawful}
 use Rattle.action_planner.proofs.LawfulLists.{any_has, has_any}
 use Rattle.action_planner.proofs.LawfulSteps.{IsSound, no_row}
 
@@ -60,21 +61,26 @@ put_all_has rows t e (line ∷ lines) after =
 
 -- lines without a breach
 
-all_lawful : (rows : List Row) (t : ℕ) (all earlier lines : List Line) → AllByRecursion (λ line. is_routine line.action ≡ false) lines →
-    list_all (λ (l : Line × Option Breach). is_none l.1) (judged_from rows t all earlier lines) ≡ true → lawful_of (judged_from rows t all earlier lines) ≡ lines
-all_lawful rows t all earlier [] own h = refl
-all_lawful rows t all earlier (line ∷ lines) own h =
+all_lawful : (rows : List Row) (t : ℕ) (all earlier lines : List Line) → list_all (λ (l : Line × Option Breach). is_none l.1) (judged_from rows t all earlier lines) ≡ true →
+    lawful_of (judged_from rows t all earlier lines) ≡ filter touches lines
+all_lawful rows t all earlier [] h = refl
+all_lawful rows t all earlier (line ∷ lines) h =
     let p = and_parts (is_none (breach_in rows t all earlier line)) _ h in
-    let kept : (not (is_routine line.action) && is_none (breach_in rows t all earlier line)) ≡ true = and_from _ _ (not_from_false _ own.0) p.0 in
-    rw kept (ap (λ (ls : List Line). line ∷ ls) (all_lawful rows t all (earlier ++ line ∷ []) lines own.1 p.1))
+    lawful_step (touches line) (is_none (breach_in rows t all earlier line)) line p.0 (all_lawful rows t all (earlier ++ line ∷ []) lines p.1)
+  where
+    lawful_step : (own none : Bool) (line : Line) {xs ys : List Line} → none ≡ true → xs ≡ ys → cond (own && none) (line ∷ xs) xs ≡ cond own (line ∷ ys) ys
+    lawful_step true none line e same = rw e (ap (λ (ls : List Line). line ∷ ls) same)
+    lawful_step false none line e same = same
+
+-- the rows after a product of lawful lines are those that its lines leave
+pub rows_left_by : (rows : List Row) (t : ℕ) (lines : List Line) → are_lawful rows t lines ≡ true → rows_after rows t lines ≡ put_all rows t (filter touches lines) rows
+unfolding rows_after
+rows_left_by rows t lines h = ap (λ (ls : List Line). put_all rows t ls rows) (all_lawful rows t lines [] lines h)
 
 -- the events that have rows after the product
-pub after_has : (rows : List Row) (t : ℕ) (lines : List Line) (e : Event) → AllByRecursion (λ line. is_routine line.action ≡ false) lines → are_lawful rows t lines ≡ true →
-    has_rows (rows_after rows t lines) e ≡ (are_of lines e || has_rows rows e)
-unfolding rows_after
-after_has rows t lines e own h =
-    ap (λ (ls : List Line). has_rows (put_all rows t ls rows) e) (all_lawful rows t lines [] lines own h)
-    ∙ put_all_has rows t e lines rows
+pub after_has : (rows : List Row) (t : ℕ) (lines : List Line) (e : Event) → are_lawful rows t lines ≡ true →
+    has_rows (rows_after rows t lines) e ≡ (are_of (filter touches lines) e || has_rows rows e)
+after_has rows t lines e h = ap (λ (after : List Row). has_rows after e) (rows_left_by rows t lines h) ∙ put_all_has rows t e (filter touches lines) rows
 
 -- lines of events without rows
 

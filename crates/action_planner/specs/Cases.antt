@@ -2,7 +2,7 @@
 use Rattle.std.specs.Prelude.{◌≡◌, ◌⊎◌, ◌≤◌, ◌+◌, ⊤, ℕ, true, false, codes, List, Option, Some, None}
 use Rattle.std.specs.List.{All, Any, Contains}
 use Rattle.hazard_types.specs.Places.{Place}
-use Rattle.hazard_types.specs.declared.codes.Action.TheVariants.{New, Con, Exa, Ext, Exb, Upg, Can, Exp}
+use Rattle.hazard_types.specs.declared.codes.Action.TheVariants.{New, Con, Exa, Ext, Exb, Upg, Can, Exp, Rou}
 use Rattle.hazard_types.specs.declared.codes.Category.{Category}
 use Rattle.hazard_types.specs.declared.hazard.Event.{Event}
 use Rattle.hazard_types.specs.declared.hazard.Hazard.{Hazard}
@@ -65,9 +65,14 @@ pub record Opens (t : ℕ) (part : PutPart) (line : Line) : Type 0 where
 abbrev pub HasPeriod : List Row → ℕ → Event → PutPart → Type 0
 HasPeriod rows t e part = Any (λ (row : Row). (row.event ≡ e) × IsLive t row × AreSame t row.period (record { begin = minute_of part.begin t; end = part.end })) rows
 
--- a put that joins an event, in a zone without a row of it: EXA where a row of it has the period, else EXB
+-- no row stands there, or a line has ended it
+abbrev pub IsAbsent : Option Row → Type 0
+IsAbsent None = ⊤
+IsAbsent (Some row) = row.ended ≡ true
+
+-- a put that joins an event, in a zone without a row of it or whose row a line has ended: EXA where a row of it has the period, else EXB
 pub record Joins (rows : List Row) (t : ℕ) (part : PutPart) (line : Line) : Type 0 where
-  pub absent : row_at rows line.event line.zone ≡ None
+  pub absent : IsAbsent (row_at rows line.event line.zone)
   pub action : FirstWhere (HasPeriod rows t line.event part) Exa Exb line.action
   pub begin : line.begin ≡ Some (minute_of part.begin t)
   pub end : line.end ≡ part.end
@@ -102,7 +107,7 @@ Remains rows ps row = Contains rows row × All (λ (p : Placed). SpeaksOf p row.
 -- the begin that a put leaves in a zone, by the row that stands there
 abbrev pub BeginsIn : ℕ → PutPart → Option Row → ℕ → Type 0
 BeginsIn t part None begin = begin ≡ minute_of part.begin t
-BeginsIn t part (Some row) begin = BeginsOn t part row begin
+BeginsIn t part (Some row) begin = ((row.ended ≡ true) × (begin ≡ minute_of part.begin t)) ⊎ ((row.ended ≡ false) × BeginsOn t part row begin)
 
 -- a put leaves the row
 pub record IsLeftBy (rows : List Row) (t : ℕ) (row : Row) (p : Placed) : Type 0 where
@@ -152,12 +157,19 @@ pub record GoesOnBeside (c : Category) (rows : List Row) (t : ℕ) (ps : List Pl
   pub no_flood : ¬ (line.event.hazard.phen ≡ codes "FL")
   pub restated : Restates rows t line
 
--- what an intent says in one of its zones; a draft that is planned has no routine intent
+-- a routine intent: ROU with zero times and no flood values
+pub record IsRoutine (line : Line) : Type 0 where
+  pub action : line.action ≡ Rou
+  pub begin : line.begin ≡ None
+  pub end : line.end ≡ Ufn
+  pub flood : line.flood ≡ None
+
+-- what an intent says in one of its zones
 abbrev pub Says : List Row → ℕ → List Placed → Intent → Line → Type 0
 Says rows t ps (Put part) line = PutSays rows t part part.target line
 Says rows t ps (Finish part) line = Finishes rows t ps line
 Says rows t ps (Restate part) line = Restates rows t line
-Says rows t ps (Routine part) line = ⊥
+Says rows t ps (Routine part) line = IsRoutine line
 
 -- the line of an event in a zone
 abbrev pub IsPlanned : Category → List Row → ℕ → List Placed → Line → Type 0

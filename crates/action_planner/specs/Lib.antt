@@ -1,5 +1,6 @@
 pub mod Placed
 pub mod Conditions
+pub mod Corrections
 pub mod Lines
 pub mod Offences
 pub mod Rules

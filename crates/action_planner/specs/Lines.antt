@@ -1,13 +1,13 @@
 -- The lines of a draft: what each intent says of each of its zones, and the rows that go on beside them.
-use Rattle.std.specs.Prelude.{◌&&◌, not, ℕ, ◌+◌, Bool, true, false, List, [], ◌∷◌, ◌++◌, map, filter, nat_le, if◌then◌else◌, Option, Some, None, codes}
+use Rattle.std.specs.Prelude.{◌&&◌, not, ℕ, ◌+◌, Bool, true, false, List, [], ◌∷◌, ◌++◌, map, filter, nat_le, if◌then◌else◌, Option, Some, None}
 use Rattle.std.specs.List.{list_any}
-use Rattle.std.specs.Str.{bytes_eq}
 use Rattle.hazard_types.specs.Hazards.{facts_of}
+use Rattle.hazard_types.specs.Names.{is_flood}
 use Rattle.hazard_types.specs.Places.{Place}
 use Rattle.hazard_types.specs.Same.{same_zone}
 use Rattle.hazard_types.specs.contracts.codes.CategoryPartialEq.TheImpl as category
 use Rattle.hazard_types.specs.declared.codes.Action.{Action}
-use Rattle.hazard_types.specs.declared.codes.Action.TheVariants.{New, Con, Exa, Ext, Exb, Upg, Can, Exp}
+use Rattle.hazard_types.specs.declared.codes.Action.TheVariants.{New, Con, Exa, Ext, Exb, Upg, Can, Exp, Rou}
 use Rattle.hazard_types.specs.declared.codes.Category.{Category}
 use Rattle.hazard_types.specs.declared.facts.Facts.{Facts}
 use Rattle.hazard_types.specs.declared.hazard.Event.{Event}
@@ -34,7 +34,7 @@ abbrev pub minute_of : Begin → ℕ → ℕ
 minute_of begin.Now t = t
 minute_of (begin.At m) t = m
 
--- the period that a put gives to a zone without a row
+-- the period that a put gives to a zone without a row, or whose row a line has ended
 abbrev pub put_period : PutPart → ℕ → Period
 put_period part t = record { begin = minute_of part.begin t; end = part.end }
 
@@ -58,10 +58,15 @@ opening_line rows t e part z = record { action = opening_action rows t e part pa
 abbrev pub continuing_line : ℕ → Event → PutPart → Row → Line
 continuing_line t e part row = record { action = (if same_at t row.period (put_period_on part t row) then Con else Ext); event = e; zone = row.zone; begin = printed_begin (put_period_on part t row).begin t; end = part.end; flood = part.flood }
 
--- a new event has no row yet
+-- the row, where no line has ended it
+abbrev pub unless_ended : Option Row → Option Row
+unless_ended None = None
+unless_ended (Some row) = if row.ended then None else Some row
+
+-- the row that a put meets: a new event has no row yet, and a row that a line has ended is made anew
 abbrev pub joined_row : List Row → Event → Place → Target → Option Row
 joined_row rows e z (Fresh h) = None
-joined_row rows e z (Join d) = row_at rows e z
+joined_row rows e z (Join d) = unless_ended (row_at rows e z)
 
 abbrev pub put_line_on : List Row → ℕ → Event → PutPart → Place → Option Row → Line
 put_line_on rows t e part z None = opening_line rows t e part z
@@ -132,12 +137,16 @@ abbrev pub restate_lines : ℕ → Option Row → List Line
 restate_lines t None = []
 restate_lines t (Some row) = line_on Con t row ∷ []
 
+-- a routine line has number 0000 and zero times, and touches no row
+abbrev pub routine_line : Event → Place → Line
+routine_line e z = record { action = Rou; event = e; zone = z; begin = None; end = Ufn; flood = None }
+
 -- what an intent says of one of its zones; a finish or a restate without a row says nothing (and is refused)
 abbrev pub lines_in : List Row → ℕ → List Placed → Event → Intent → Place → List Line
 lines_in rows t ps e (Put part) z = put_line rows t e part z ∷ []
 lines_in rows t ps e (Finish part) z = finish_lines rows t ps (row_at rows e z)
 lines_in rows t ps e (Restate part) z = restate_lines t (row_at rows e z)
-lines_in rows t ps e (Routine part) z = []
+lines_in rows t ps e (Routine part) z = routine_line e z ∷ []
 
 abbrev pub lines_in_zones : List Row → ℕ → List Placed → Event → Intent → List Place → List Line
 lines_in_zones rows t ps e i [] = []
@@ -154,12 +163,9 @@ abbrev pub follows : Category → Option Facts → Bool
 follows c None = false
 follows c (Some facts) = category.eq-value.it facts.follows c
 
-abbrev pub is_flood_event : Hazard → Bool
-is_flood_event h = bytes_eq h.phen (codes "FL")
-
 -- a row of the draft's category in a zone that it touches, and no intent is on it
 abbrev pub goes_on : Category → List Placed → Row → Bool
-goes_on c ps row = follows c (facts_of row.event.hazard) && not (is_flood_event row.event.hazard) && list_any (touches row.zone) ps && not (list_any (speaks row.event row.zone) ps)
+goes_on c ps row = follows c (facts_of row.event.hazard) && not (is_flood row.event.hazard) && list_any (touches row.zone) ps && not (list_any (speaks row.event row.zone) ps)
 
 abbrev pub goes_on_beside : Category → ℕ → List Placed → Row → Bool
 goes_on_beside c t ps row = is_live t row && goes_on c ps row

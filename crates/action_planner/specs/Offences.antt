@@ -1,14 +1,16 @@
 -- The rules on a draft, each with the first offender against it: the first intent, then its first zone as it was written.
-use Rattle.std.specs.Prelude.{◌==◌, ◌&&◌, ◌||◌, not, ℕ, Bool, true, false, List, [], ◌∷◌, length, find, nat_lt, nat_le, if◌then◌else◌, Option, Some, None, is_some, option_map}
+use Rattle.std.specs.Prelude.{◌==◌, ◌&&◌, ◌||◌, not, ℕ, Bool, true, false, List, [], ◌∷◌, length, find, nat_lt, nat_le, if◌then◌else◌, Option, Some, None, is_some, is_none, option_map}
 use Rattle.std.specs.List.{list_any}
 use Rattle.std.specs.Option.{option_or}
+use Rattle.std.specs.Str.{bytes_eq}
 use Rattle.hazard_types.specs.Hazards.{facts_of}
 use Rattle.hazard_types.specs.Places.{Place}
-use Rattle.hazard_types.specs.Same.{same_hazard}
+use Rattle.hazard_types.specs.Same.{same_hazard, same_event}
 use Rattle.hazard_types.specs.declared.codes.Category.{Category}
 use Rattle.hazard_types.specs.declared.facts.Facts.{Facts}
 use Rattle.hazard_types.specs.declared.hazard.Event.{Event}
 use Rattle.hazard_types.specs.declared.line.Clash.{Clash}
+use Rattle.hazard_types.specs.declared.line.Flood.{Flood}
 use Rattle.hazard_types.specs.declared.line.Row.{Row}
 use Rattle.hazard_types.specs.declared.period.End.{End}
 use Rattle.hazard_types.specs.declared.period.End.TheVariants.{At, Ufn}
@@ -23,7 +25,8 @@ use Rattle.event_life.specs.Periods.{ends_after, is_live, keeps_open}
 use Rattle.event_life.specs.Products.{is_open, row_at}
 use Rattle.hazard_board.specs.Clashes.{least_clash}
 use Rattle.hazard_board.specs.Taken.{rows_taken}
-use Rattle.action_planner.specs.Placed.{Placed, zones_of, speaks, is_opening}
+use Rattle.action_planner.specs.Placed.{Placed, zones_of, speaks, is_opening, is_opening_target}
+use Rattle.action_planner.specs.Conditions.{needs_values, site_of}
 use Rattle.action_planner.specs.Lines.{minute_of, planned_lines}
 
 -- the first intent that offends
@@ -53,8 +56,14 @@ no_intent [] = Some refusal.EmptyDraft
 no_intent (p ∷ ps) = None
 
 -- NoEvent: the event that is joined, finished or restated is not open
+abbrev pub needs_event : Intent → Bool
+needs_event (Put part) = not (is_opening_target part.target)
+needs_event (Finish part) = true
+needs_event (Restate part) = true
+needs_event (Routine part) = false
+
 abbrev pub not_open : List Row → ℕ → Placed → Option Refusal
-not_open rows t p = if not (is_opening p.intent) && not (is_open rows t p.event) then Some (refusal.NoEvent p.event) else None
+not_open rows t p = if needs_event p.intent && not (is_open rows t p.event) then Some (refusal.NoEvent p.event) else None
 
 -- NotLive: a finish without a row, on an ended one, or more than half an hour after its end; a restate without a live row
 abbrev pub has_row_by : (Row → Bool) → Option Row → Bool
@@ -70,7 +79,7 @@ is_gone rows t e (Routine part) z = false
 abbrev pub gone : List Row → ℕ → Placed → Option Refusal
 gone rows t p = zone_named not_live p.event (find (is_gone rows t p.event p.intent) (zones_of p.intent))
 
--- LeftBefore: a joining put where the zone has a row that is not live
+-- LeftBefore: a joining put where the zone has a row that no line has ended and that is not live
 abbrev pub joins_by : Target → Bool
 joins_by (Fresh h) = false
 joins_by (Join e) = true
@@ -82,7 +91,7 @@ joins (Restate part) = false
 joins (Routine part) = false
 
 abbrev pub was_left : List Row → ℕ → Event → Intent → Place → Bool
-was_left rows t e i z = joins i && has_row_by (λ (row : Row). not (is_live t row)) (row_at rows e z)
+was_left rows t e i z = joins i && has_row_by (λ (row : Row). not row.ended && not (is_live t row)) (row_at rows e z)
 
 abbrev pub left : List Row → ℕ → Placed → Option Refusal
 left rows t p = zone_named left_before p.event (find (was_left rows t p.event p.intent) (zones_of p.intent))
@@ -107,10 +116,10 @@ bad_period_of t place (Routine part) = None
 abbrev pub bad_period : ℕ → Placed → Option Refusal
 bad_period t p = bad_period_of t p.place p.intent
 
--- BegunMoved: the row has begun, and the begin of a joining put is after this minute
+-- BegunMoved: the row is live and has begun, and the begin of a joining put is after this minute
 abbrev pub moves : List Row → ℕ → Event → PutPart → Place → Target → Bool
 moves rows t e part z (Fresh h) = false
-moves rows t e part z (Join d) = nat_lt t (minute_of part.begin t) && has_row_by (λ (row : Row). nat_le row.period.begin t) (row_at rows e z)
+moves rows t e part z (Join d) = nat_lt t (minute_of part.begin t) && has_row_by (λ (row : Row). is_live t row && nat_le row.period.begin t) (row_at rows e z)
 
 abbrev pub is_moved : List Row → ℕ → Event → Intent → Place → Bool
 is_moved rows t e (Put part) z = moves rows t e part z part.target
@@ -121,14 +130,10 @@ is_moved rows t e (Routine part) z = false
 abbrev pub moved : List Row → ℕ → Placed → Option Refusal
 moved rows t p = zone_named begun_moved p.event (find (is_moved rows t p.event p.intent) (zones_of p.intent))
 
--- NoOpenEnd: until further notice, for a hazard that may not stand so; FloodBarred: flood values for a hazard without
+-- NoOpenEnd: until further notice, for a hazard that may not stand so
 abbrev pub may_stand_open : Option Facts → Bool
 may_stand_open None = false
 may_stand_open (Some facts) = facts.ufn
-
-abbrev pub takes_flood : Option Facts → Bool
-takes_flood None = false
-takes_flood (Some facts) = facts.flood
 
 abbrev pub is_open_end : End → Bool
 is_open_end (At m) = false
@@ -143,14 +148,46 @@ open_end_of place e (Routine part) = None
 abbrev pub open_end : Placed → Option Refusal
 open_end p = open_end_of p.place p.event p.intent
 
+-- FloodNeeded: a put without flood values, or a routine intent, for a hazard that needs H-VTEC
+abbrev pub needed_flood_of : ℕ → Event → Intent → Option Refusal
+needed_flood_of place e (Put part) = if is_none part.flood && needs_values (facts_of e.hazard) then Some (refusal.FloodNeeded place) else None
+needed_flood_of place e (Finish part) = None
+needed_flood_of place e (Restate part) = None
+needed_flood_of place e (Routine part) = if needs_values (facts_of e.hazard) then Some (refusal.FloodNeeded place) else None
+
+abbrev pub needed_flood : Placed → Option Refusal
+needed_flood p = needed_flood_of p.place p.event p.intent
+
+-- FloodBarred: a put with flood values, for a hazard without
 abbrev pub barred_flood_of : ℕ → Event → Intent → Option Refusal
-barred_flood_of place e (Put part) = if is_some part.flood && not (takes_flood (facts_of e.hazard)) then Some (refusal.FloodBarred place) else None
+barred_flood_of place e (Put part) = if is_some part.flood && not (needs_values (facts_of e.hazard)) then Some (refusal.FloodBarred place) else None
 barred_flood_of place e (Finish part) = None
 barred_flood_of place e (Restate part) = None
 barred_flood_of place e (Routine part) = None
 
 abbrev pub barred_flood : Placed → Option Refusal
 barred_flood p = barred_flood_of p.place p.event p.intent
+
+-- SiteMoved: a joining put names another location than the event has
+abbrev pub differs : Option (List ℕ) → Option (List ℕ) → Bool
+differs (Some a) (Some b) = not (bytes_eq a b)
+differs _ _ = false
+
+abbrev pub other_site : Option Row → Option Flood → Bool
+other_site None named = false
+other_site (Some row) named = differs (site_of row.flood) (site_of named)
+
+abbrev pub moves_site : List Row → Event → PutPart → Bool
+moves_site rows e part = joins_by part.target && other_site (find (λ (row : Row). same_event row.event e) rows) part.flood
+
+abbrev pub site_moved_of : List Row → Event → Intent → Option Refusal
+site_moved_of rows e (Put part) = if moves_site rows e part then Some (refusal.SiteMoved e) else None
+site_moved_of rows e (Finish part) = None
+site_moved_of rows e (Restate part) = None
+site_moved_of rows e (Routine part) = None
+
+abbrev pub site_moved : List Row → Placed → Option Refusal
+site_moved rows p = site_moved_of rows p.event p.intent
 
 -- Conflict: after the lines two live rows of one family overlap; of the least zone the least pair
 abbrev pub refused_clash : Clash → Refusal
@@ -185,7 +222,9 @@ rules c rows t ps =
     ∷ first_by (bad_period t) ps
     ∷ first_by (moved rows t) ps
     ∷ first_by open_end ps
+    ∷ first_by needed_flood ps
     ∷ first_by barred_flood ps
+    ∷ first_by (site_moved rows) ps
     ∷ option_map refused_clash (least_clash t (rows_taken rows t (planned_lines c rows t ps)))
     ∷ first_by (held rows t) ps
     ∷ first_by spent ps

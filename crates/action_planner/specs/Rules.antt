@@ -7,9 +7,9 @@ use Rattle.hazard_types.specs.declared.refusal.Refusal.{Refusal}
 use Rattle.hazard_board.specs.Clashes.{least_clash}
 use Rattle.hazard_board.specs.Taken.{rows_taken}
 use Rattle.action_planner.specs.declared.rules.Rule.{Rule}
-use Rattle.action_planner.specs.declared.rules.Rule.TheVariants.{NoEvent, NotLive, LeftBefore, Twice, BadPeriod, BegunMoved, NoOpenEnd, FloodBarred, NumberHeld, NumbersSpent}
+use Rattle.action_planner.specs.declared.rules.Rule.TheVariants.{NoEvent, NotLive, LeftBefore, Twice, BadPeriod, BegunMoved, NoOpenEnd, FloodNeeded, FloodBarred, SiteMoved, NumberHeld, NumbersSpent}
 use Rattle.action_planner.specs.Placed.{Placed}
-use Rattle.action_planner.specs.Offences.{first_by, first_given, no_intent, not_open, gone, left, shared, bad_period, moved, open_end, barred_flood, refused_clash, held, spent, too_many}
+use Rattle.action_planner.specs.Offences.{first_by, first_given, no_intent, not_open, gone, left, shared, bad_period, moved, open_end, needed_flood, barred_flood, site_moved, refused_clash, held, spent, too_many}
 
 -- what an intent is refused with under a rule
 abbrev pub offence : List Row → ℕ → List Placed → Rule → Placed → Option Refusal
@@ -20,7 +20,9 @@ offence rows t all Twice p = shared all p
 offence rows t all BadPeriod p = bad_period t p
 offence rows t all BegunMoved p = moved rows t p
 offence rows t all NoOpenEnd p = open_end p
+offence rows t all FloodNeeded p = needed_flood p
 offence rows t all FloodBarred p = barred_flood p
+offence rows t all SiteMoved p = site_moved rows p
 offence rows t all NumberHeld p = held rows t p
 offence rows t all NumbersSpent p = spent p
 
@@ -29,16 +31,18 @@ abbrev pub first_against : List Row → ℕ → List Placed → List Rule → Op
 first_against rows t ps rules = first_given (map (λ (rule : Rule). first_by (offence rows t ps rule) ps) rules)
 
 abbrev pub before_conflict : List Rule
-before_conflict = NoEvent ∷ NotLive ∷ LeftBefore ∷ Twice ∷ BadPeriod ∷ BegunMoved ∷ NoOpenEnd ∷ FloodBarred ∷ []
+before_conflict = NoEvent ∷ NotLive ∷ LeftBefore ∷ Twice ∷ BadPeriod ∷ BegunMoved ∷ NoOpenEnd ∷ FloodNeeded ∷ FloodBarred ∷ SiteMoved ∷ []
 
 abbrev pub on_numbers : List Rule
 on_numbers = NumberHeld ∷ NumbersSpent ∷ []
 
--- the first rule that a draft of these lines breaks
-abbrev pub broken_by : List Row → ℕ → List Placed → List Line → Option Refusal
-broken_by rows t ps lines =
-    option_or (no_intent ps)
-    (option_or (first_against rows t ps before_conflict)
-    (option_or (option_map refused_clash (least_clash t (rows_taken rows t lines)))
+-- the first rule that is broken of those that ask for no lines
+unfoldable pub broken_early : List Row → ℕ → List Placed → Option Refusal
+broken_early rows t ps = option_or (no_intent ps) (first_against rows t ps before_conflict)
+
+-- the first of the others that is, for a draft of these lines
+unfoldable pub broken_late : List Row → ℕ → List Placed → List Line → Option Refusal
+broken_late rows t ps lines =
+    option_or (option_map refused_clash (least_clash t (rows_taken rows t lines)))
     (option_or (first_against rows t ps on_numbers)
-    (too_many (length lines)))))
+    (too_many (length lines)))

@@ -3,15 +3,16 @@ ghost use Rattle.std.specs.Prelude.{◌≡◌, ◌<◌, find, option_map};
 ghost use Rattle.event_life.specs.Products.{is_open};
 ghost use Rattle.hazard_board.specs.Consistent.{IsConsistent};
 ghost use Rattle.hazard_types.specs.Hazards.{facts_of};
-ghost use Rattle.action_planner.specs.Placed.{is_opening};
-ghost use Rattle.action_planner.specs.Offences.{not_open, is_bad_period, bad_period, may_stand_open, takes_flood, open_end, barred_flood, holds, held_by, held, spent};
+ghost use Rattle.action_planner.specs.Conditions.{needs_values, site_of};
+ghost use Rattle.action_planner.specs.Offences.{needs_event, not_open, is_bad_period, bad_period, may_stand_open, open_end, needed_flood, barred_flood, differs, other_site, moves_site, site_moved, holds, held_by, held, spent};
 
-use crate::placed::Placed;
-use crate::zone_rules::minute_of;
+use crate::placed::{Placed, is_opening};
+use crate::puts::minute_of;
+use crate::zone_rules::joins_by;
 use event_life::ends_after;
 use hazard_board::Board;
 use hazard_types::desk_hazards::facts;
-use hazard_types::{End, Event, Hazard, Intent, Minute, PutPart, Refusal, Target};
+use hazard_types::{End, Event, Flood, Hazard, Intent, Minute, PutPart, Refusal, Row};
 
 /// Whether the event is open: whether it is the one that goes on with its hazard and number.
 fn is_open(board: &Board, t: Minute, event: &Event) -> bool
@@ -24,16 +25,14 @@ fn is_open(board: &Board, t: Minute, event: &Event) -> bool
     }
 }
 
-/// Whether the intent is a put of a new event.
-pub fn is_opening(intent: &Intent) -> bool
-    ensures { result ≡ is_opening intent.now }
+/// Whether the intent wants its event to be open: all do but a put of a new event and a routine intent.
+fn needs_event(intent: &Intent) -> bool
+    ensures { result ≡ needs_event intent.now }
 {
     match intent {
-        Intent::Put(part) => match part.target {
-            Target::Fresh(_) => true,
-            Target::Join(_) => false,
-        },
-        Intent::Finish(_) | Intent::Restate(_) | Intent::Routine(_) => false,
+        Intent::Put(_) => !is_opening(intent),
+        Intent::Finish(_) | Intent::Restate(_) => true,
+        Intent::Routine(_) => false,
     }
 }
 
@@ -55,9 +54,9 @@ fn may_stand_open(hazard: Hazard) -> bool
     }
 }
 
-/// Whether the hazard takes flood values.
-fn takes_flood(hazard: Hazard) -> bool
-    ensures { result ≡ takes_flood (facts_of hazard) }
+/// Whether the hazard needs flood values.
+fn needs_values(hazard: Hazard) -> bool
+    ensures { result ≡ needs_values (facts_of hazard) }
 {
     match facts(hazard) {
         Some(known) => known.flood,
@@ -70,7 +69,7 @@ pub fn not_open(board: &Board, t: Minute, p: &Placed) -> Option<Refusal>
     requires { IsConsistent board.now.rows t }
     ensures { result ≡ not_open board.now.rows t p.now }
 {
-    if !is_opening(p.intent) && !is_open(board, t, &p.event) {
+    if needs_event(p.intent) && !is_open(board, t, &p.event) {
         Some(Refusal::NoEvent { event: p.event })
     } else {
         None
@@ -105,16 +104,84 @@ pub fn open_end(p: &Placed) -> Option<Refusal>
     }
 }
 
+/// FloodNeeded: a put without flood values, or a routine intent, of a hazard that needs them.
+pub fn needed_flood(p: &Placed) -> Option<Refusal>
+    requires { p.now.place < 64 }
+    ensures { result ≡ needed_flood p.now }
+{
+    let lacking = match p.intent {
+        Intent::Put(part) => part.flood.is_none(),
+        Intent::Routine(_) => true,
+        Intent::Finish(_) | Intent::Restate(_) => false,
+    };
+    if lacking && needs_values(p.event.hazard) {
+        Some(Refusal::FloodNeeded {
+            place: p.place as u32,
+        })
+    } else {
+        None
+    }
+}
+
 /// FloodBarred: a put with flood values, of a hazard without.
 pub fn barred_flood(p: &Placed) -> Option<Refusal>
     requires { p.now.place < 64 }
     ensures { result ≡ barred_flood p.now }
 {
     match p.intent {
-        Intent::Put(part) if part.flood.is_some() && !takes_flood(p.event.hazard) => {
+        Intent::Put(part) if part.flood.is_some() && !needs_values(p.event.hazard) => {
             Some(Refusal::FloodBarred {
                 place: p.place as u32,
             })
+        }
+        _ => None,
+    }
+}
+
+/// The location that flood values name.
+fn site_of(flood: &Option<Flood>) -> Option<[u8; 5]>
+    ensures { result ≡ site_of flood.now }
+{
+    match flood {
+        Some(flood) => Some(flood.site),
+        None => None,
+    }
+}
+
+/// Whether both are locations, and differ.
+fn differs(first: &Option<[u8; 5]>, second: &Option<[u8; 5]>) -> bool
+    ensures { result ≡ differs first.now second.now }
+{
+    match (first, second) {
+        (Some(first), Some(second)) => *first != *second,
+        _ => false,
+    }
+}
+
+/// Whether the flood values of a row name another location than these.
+fn other_site(row: &Option<Row>, named: &Option<Flood>) -> bool
+    ensures { result ≡ other_site row.now named.now }
+{
+    match row {
+        Some(row) => differs(&site_of(&row.flood), &site_of(named)),
+        None => false,
+    }
+}
+
+/// Whether a put joins the event and names another location than the event has.
+fn moves_site(board: &Board, event: &Event, part: &PutPart) -> bool
+    ensures { result ≡ moves_site board.now.rows event.now part.now }
+{
+    joins_by(&part.target) && other_site(&board.first(*event), &part.flood)
+}
+
+/// SiteMoved: a joining put names another location than the event has.
+pub fn site_moved(board: &Board, p: &Placed) -> Option<Refusal>
+    ensures { result ≡ site_moved board.now.rows p.now }
+{
+    match p.intent {
+        Intent::Put(part) if moves_site(board, &p.event, part) => {
+            Some(Refusal::SiteMoved { event: p.event })
         }
         _ => None,
     }

@@ -1,5 +1,5 @@
 //! Laws of planned lines.
-ghost use Rattle.std.specs.Prelude.{◌≡◌, ◌↔◌, ◌≤◌, ◌+◌, ℕ, true, List, [], ◌∷◌, ◌++◌, None, IsTrue, count_by, filter_map, is_none, map};
+ghost use Rattle.std.specs.Prelude.{◌≡◌, ◌↔◌, ◌≤◌, ◌+◌, ℕ, true, false, List, [], ◌∷◌, ◌++◌, None, IsTrue, count_by, filter_map, is_none, map};
 ghost use Rattle.std.specs.List.{All, AllPairs, Any, Contains};
 ghost use Rattle.std.specs.List.Sorted.{IsStrictlySortedBy};
 ghost use Rattle.hazard_types.specs.Days.{year_of};
@@ -11,17 +11,16 @@ ghost use Rattle.hazard_types.specs.declared.line.Row.{Row};
 ghost use Rattle.hazard_types.specs.declared.request.Intent.{Intent};
 ghost use Rattle.event_life.specs.Lives.{opens};
 ghost use Rattle.event_life.specs.Openings.{numbers_of, counted_from, is_numbered};
-ghost use Rattle.event_life.specs.Products.{by_key, is_new, row_at, rows_after};
+ghost use Rattle.event_life.specs.Products.{by_key, is_new, is_routine, row_at, rows_after};
 ghost use Rattle.event_numbers.specs.declared.Count.{Count};
-ghost use Rattle.event_numbers.specs.Counts.{count_of};
-ghost use Rattle.hazard_board.specs.Board.{are_lawful};
-ghost use Rattle.hazard_board.specs.Consistent.{NoneIsAhead};
+ghost use Rattle.event_numbers.specs.Counts.{count_of, DrawsAll};
+ghost use Rattle.event_life.specs.Reordered.{are_lawful};
 ghost use Rattle.action_planner.specs.Placed.{placed, opened, opens_hazard};
-ghost use Rattle.action_planner.specs.Lines.{planned_lines};
+ghost use Rattle.action_planner.specs.Lines.{planned_lines, unless_ended};
 ghost use Rattle.action_planner.specs.Offences.{broken};
 ghost use Rattle.action_planner.specs.Conditions.{CanPlan};
 ghost use Rattle.action_planner.specs.Cases.{IsPlanned, hazard_opened};
-ghost use Rattle.action_planner.specs.Standing.{DrawsAll, Stands};
+ghost use Rattle.action_planner.specs.Standing.{Stands};
 
 /// Where a draft breaks no rule, none of its lines has a breach.
 pub fn planned_lines_are_lawful()
@@ -37,11 +36,14 @@ pub fn planned_lines_are_distinct()
         AllPairs (λ (l m : Line). ¬ ((l.event ≡ m.event) × (l.zone ≡ m.zone))) (planned_lines c rows t (placed counts t intents)) }
 {}
 
-/// Where a draft breaks no rule, its NEW, EXA and EXB lines are those whose event has no row in the zone; the others each speak of a row.
+/// Where a draft breaks no rule, its NEW, EXA and EXB lines are those, but for ROU, whose event has no row in the zone that no line has ended. ROU lines speak of no row.
 pub fn planned_lines_open_where_no_row_stands()
-    ensures { (c : Category) (rows : List Row) (counts : List Count) (intents : List Intent) (t : ℕ) →
+    ensures opened { (c : Category) (rows : List Row) (counts : List Count) (intents : List Intent) (t : ℕ) →
         CanPlan rows counts c intents t → IsStrictlySortedBy by_key rows → broken c rows t (placed counts t intents) ≡ None →
-        All (λ (line : Line). opens line.action ≡ is_none (row_at rows line.event line.zone)) (planned_lines c rows t (placed counts t intents)) }
+        All (λ (line : Line). is_routine line.action ≡ false → opens line.action ≡ is_none (unless_ended (row_at rows line.event line.zone))) (planned_lines c rows t (placed counts t intents)) }
+    ensures routine { (c : Category) (rows : List Row) (counts : List Count) (intents : List Intent) (t : ℕ) →
+        CanPlan rows counts c intents t → IsStrictlySortedBy by_key rows → broken c rows t (placed counts t intents) ≡ None →
+        All (λ (line : Line). is_routine line.action ≡ true → row_at rows line.event line.zone ≡ None) (planned_lines c rows t (placed counts t intents)) }
 {}
 
 /// The events that a draft opens are of the year of issue, and those of each hazard are numbered on from the counts, in order of places.
@@ -94,7 +96,7 @@ pub fn opened_events_are_drawn_in_order()
 /// The product of a draft that breaks no rule keeps what stands, once the events that it opens drew their numbers.
 pub fn plans_keep_what_stands()
     ensures { (c : Category) (rows : List Row) (counts after : List Count) (intents : List Intent) (t : ℕ) →
-        CanPlan rows counts c intents t → NoneIsAhead rows t → IsStrictlySortedBy by_key rows → broken c rows t (placed counts t intents) ≡ None →
+        CanPlan rows counts c intents t → Stands rows counts t → IsStrictlySortedBy by_key rows → broken c rows t (placed counts t intents) ≡ None →
         DrawsAll counts after (opened (placed counts t intents)) →
         Stands (rows_after rows t (planned_lines c rows t (placed counts t intents))) after t }
 {}

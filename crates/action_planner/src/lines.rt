@@ -7,7 +7,7 @@ ghost use Rattle.hazard_types.specs.declared.codes.Action.TheVariants.{Con};
 ghost use Rattle.event_life.specs.Products.{by_key};
 ghost use Rattle.event_life.specs.Shown.{shown_at};
 ghost use Rattle.action_planner.specs.Placed.{zones_of, touches, speaks};
-ghost use Rattle.action_planner.specs.Lines.{line_on, is_near_end, finishing_action, finish_lines, restate_lines, lines_in, lines_in_zones, lines_from, follows, is_flood_event, goes_on, goes_on_beside, added_lines, planned_lines};
+ghost use Rattle.action_planner.specs.Lines.{line_on, is_near_end, finishing_action, finish_lines, restate_lines, lines_in, lines_in_zones, lines_from, routine_line, follows, goes_on, goes_on_beside, added_lines, planned_lines};
 
 use crate::placed::{Placed, zones_of};
 use crate::puts::{printed_begin, put_line};
@@ -16,7 +16,7 @@ use crate::spoken::Spoken;
 use event_life::ends_after;
 use hazard_types::desk_hazards::facts;
 use hazard_types::{
-    Action, Category, End, Event, Hazard, Intent, Line, List, Minute, Oom, Row, Zone,
+    Action, Category, End, Event, Hazard, Intent, Line, List, Minute, Oom, Row, Zone, is_flood,
 };
 use std::alloc::Global;
 
@@ -88,6 +88,20 @@ fn add_restate(lines: &mut List<Line>, t: Minute, row: &Option<Row>) -> Result<(
     }
 }
 
+/// The line of a routine intent in a zone: ROU, with zero times.
+fn routine_line(event: &Event, zone: &Zone) -> Line
+    ensures { result ≡ routine_line event.now zone.now }
+{
+    Line {
+        action: Action::Rou,
+        event: *event,
+        zone: *zone,
+        begin: None,
+        end: End::Ufn,
+        flood: None,
+    }
+}
+
 /// Adds what an intent says of one of its zones.
 fn add_lines_in(
     lines: &mut List<Line>,
@@ -103,7 +117,7 @@ fn add_lines_in(
         Intent::Put(part) => add_line(lines, &put_line(board, t, &p.event, part, zone)),
         Intent::Finish(_) => add_finish(lines, sending, &board.row(p.event, *zone)),
         Intent::Restate(_) => add_restate(lines, t, &board.row(p.event, *zone)),
-        Intent::Routine(_) => Ok(()),
+        Intent::Routine(_) => add_line(lines, &routine_line(&p.event, zone)),
     }
 }
 
@@ -137,19 +151,12 @@ fn follows(category: Category, hazard: &Hazard) -> bool
     }
 }
 
-/// Whether the hazard is of floods by a river's forecast, whose events have segments of their own.
-fn is_flood_event(hazard: &Hazard) -> bool
-    ensures { result ≡ is_flood_event hazard.now }
-{
-    hazard.phen.letters() == *b"FL"
-}
-
 /// Whether a live row goes on beside the intents: it is of the draft's category, one of them is in its zone, and none is on it.
 fn goes_on(category: Category, spoken: &Spoken, row: &Row) -> bool
     ensures { result ≡ goes_on category spoken.now row.now }
 {
     follows(category, &row.event.hazard)
-        && !is_flood_event(&row.event.hazard)
+        && !is_flood(&row.event.hazard)
         && spoken.touches(&row.zone)
         && !spoken.speaks(&row.event, &row.zone)
 }

@@ -3,7 +3,7 @@ ghost use Rattle.std.specs.Prelude.{◌≡◌, ◌↔◌, Some, None, Err, IfOk,
 ghost use Rattle.hazard_types.specs.declared.line.Line.{Line as SaidLine};
 ghost use Rattle.hazard_types.specs.declared.or.Or.TheVariants.{No};
 ghost use Rattle.hazard_types.specs.declared.refusal.Refusal.{Refusal as Refused};
-ghost use Rattle.hazard_board.specs.Board.{are_lawful};
+ghost use Rattle.event_life.specs.Reordered.{are_lawful};
 ghost use Rattle.action_planner.specs.Cases.{IsPlanned};
 ghost use Rattle.action_planner.specs.Conditions.{CanPlan};
 ghost use Rattle.action_planner.specs.Lines.{planned_lines};
@@ -13,7 +13,7 @@ ghost use Rattle.action_planner.specs.Plans.{HasLines, IsPlan};
 
 use crate::lines::planned_lines;
 use crate::placed::{Placed, opened, place_all};
-use crate::rules::first_broken;
+use crate::rules::{broken_early, broken_late};
 use crate::sending::Sending;
 use crate::spoken::Spoken;
 use crate::texts::event_texts;
@@ -58,9 +58,12 @@ pub fn plan(
 {
     let ps = place_all(alloc, numbers, draft.intents.as_slice(), t)?;
     let spoken = Spoken::new(alloc, &ps)?;
+    if let Some(refusal) = broken_early(board, t, &spoken) {
+        return Err(Or::No(refusal));
+    }
     let sending = Sending::new(alloc, board, t, &spoken)?;
     let lines = planned_lines(alloc, &sending, draft.category)?;
-    if let Some(refusal) = first_broken(alloc, board, t, &spoken, &lines)? {
+    if let Some(refusal) = broken_late(alloc, board, t, &spoken, &lines)? {
         return Err(Or::No(refusal));
     }
     Ok(plan_of(alloc, draft.category, lines, &ps)?)

@@ -1,6 +1,6 @@
 //! What a put says of a zone, and the period that it gives there.
 ghost use Rattle.std.specs.Prelude.{◌≡◌};
-ghost use Rattle.action_planner.specs.Lines.{minute_of, put_period, put_period_on, printed_begin, opening_action, opening_line, continuing_line, joined_row, put_line, row_by_put};
+ghost use Rattle.action_planner.specs.Lines.{minute_of, put_period, put_period_on, printed_begin, opening_action, opening_line, continuing_line, unless_ended, joined_row, put_line, row_by_put};
 
 use event_life::same_at;
 use hazard_board::Board;
@@ -16,7 +16,7 @@ pub fn minute_of(begin: &Begin, t: Minute) -> Minute
     }
 }
 
-/// The period that a put gives to a zone without a row.
+/// The period that a put gives to a zone without a row, or whose row a line has ended.
 fn put_period(part: &PutPart, t: Minute) -> Period
     ensures { result ≡ put_period part.now t }
 {
@@ -52,7 +52,7 @@ pub fn printed_begin(begin: Minute, t: Minute) -> Option<Minute>
     }
 }
 
-/// The action of a put in a zone without a row: NEW for a new event; for one that is joined EXA where a live row of it has the same period, else EXB.
+/// The action of a put where it meets no row: NEW for a new event; for one that is joined EXA where a live row of it has the same period, else EXB.
 fn opening_action(board: &Board, t: Minute, event: &Event, part: &PutPart) -> Action
     ensures { result ≡ opening_action board.now.rows t event.now part.now part.now.target }
 {
@@ -68,7 +68,7 @@ fn opening_action(board: &Board, t: Minute, event: &Event, part: &PutPart) -> Ac
     }
 }
 
-/// What a put says of a zone without a row.
+/// What a put says of a zone where it meets no row.
 fn opening_line(board: &Board, t: Minute, event: &Event, part: &PutPart, zone: &Zone) -> Line
     ensures { result ≡ opening_line board.now.rows t event.now part.now zone.now }
 {
@@ -102,13 +102,23 @@ fn continuing_line(t: Minute, event: &Event, part: &PutPart, row: &Row) -> Line
     }
 }
 
-/// The row of a put's event in a zone. A new event has none.
+/// The row, where no line has ended it.
+fn unless_ended(row: Option<Row>) -> Option<Row>
+    ensures { result ≡ unless_ended row }
+{
+    match row {
+        Some(row) if !row.ended => Some(row),
+        _ => None,
+    }
+}
+
+/// The row that a put meets in a zone. A new event has none, and one that a line has ended is made anew.
 fn joined_row(board: &Board, event: &Event, zone: &Zone, target: &Target) -> Option<Row>
     ensures { result ≡ joined_row board.now.rows event.now zone.now target.now }
 {
     match target {
         Target::Fresh(_) => None,
-        Target::Join(_) => board.row(*event, *zone),
+        Target::Join(_) => unless_ended(board.row(*event, *zone)),
     }
 }
 

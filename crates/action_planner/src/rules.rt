@@ -5,12 +5,12 @@ ghost use Rattle.hazard_board.specs.Clashes.{least_clash};
 ghost use Rattle.hazard_board.specs.Taken.{rows_taken};
 ghost use Rattle.hazard_board.specs.Consistent.{IsConsistent};
 ghost use Rattle.action_planner.specs.Placed.{Placed as PlacedIntent};
-ghost use Rattle.hazard_types.specs.declared.codes.Category.{Category};
-ghost use Rattle.action_planner.specs.Lines.{planned_lines};
-ghost use Rattle.action_planner.specs.Offences.{first_by, refused_clash, too_many, broken};
-ghost use Rattle.action_planner.specs.Rules.{offence, first_against};
+ghost use Rattle.action_planner.specs.Offences.{first_by, refused_clash, too_many};
+ghost use Rattle.action_planner.specs.Rules.{offence, first_against, broken_early, broken_late};
 
-use crate::intent_rules::{bad_period, barred_flood, held, not_open, open_end, spent};
+use crate::intent_rules::{
+    bad_period, barred_flood, held, needed_flood, not_open, open_end, site_moved, spent,
+};
 use crate::placed::Placed;
 use crate::spoken::Spoken;
 use crate::zone_rules::{gone, left, moved, shared};
@@ -28,13 +28,15 @@ pub enum Rule {
     BadPeriod,
     BegunMoved,
     NoOpenEnd,
+    FloodNeeded,
     FloodBarred,
+    SiteMoved,
     NumberHeld,
     NumbersSpent,
 }
 
 /// The rules that are asked before that on clashes, in order.
-const BEFORE_CONFLICT: [Rule; 8] = [
+const BEFORE_CONFLICT: [Rule; 10] = [
     Rule::NoEvent,
     Rule::NotLive,
     Rule::LeftBefore,
@@ -42,7 +44,9 @@ const BEFORE_CONFLICT: [Rule; 8] = [
     Rule::BadPeriod,
     Rule::BegunMoved,
     Rule::NoOpenEnd,
+    Rule::FloodNeeded,
     Rule::FloodBarred,
+    Rule::SiteMoved,
 ];
 
 /// The rules that are asked after it, in order.
@@ -62,7 +66,9 @@ fn offence(board: &Board, t: Minute, spoken: &Spoken, rule: Rule, p: &Placed) ->
         Rule::BadPeriod => bad_period(t, p),
         Rule::BegunMoved => moved(board, t, p),
         Rule::NoOpenEnd => open_end(p),
+        Rule::FloodNeeded => needed_flood(p),
         Rule::FloodBarred => barred_flood(p),
+        Rule::SiteMoved => site_moved(board, p),
         Rule::NumberHeld => held(board, t, p),
         Rule::NumbersSpent => spent(p),
     }
@@ -99,7 +105,7 @@ fn first_against(board: &Board, t: Minute, spoken: &Spoken, rules: &[Rule]) -> O
 }
 
 /// Conflict: after the lines two live rows of one family overlap in a zone.
-fn conflict(
+pub fn conflict(
     alloc: Global,
     board: &Board,
     t: Minute,
@@ -116,7 +122,7 @@ fn conflict(
 }
 
 /// TooManyLines: more than 2,000 lines.
-fn too_many(lines: usize) -> Option<Refusal>
+pub fn too_many(lines: usize) -> Option<Refusal>
     ensures { result ≡ too_many lines }
 {
     if lines > 2000 {
@@ -126,8 +132,22 @@ fn too_many(lines: usize) -> Option<Refusal>
     }
 }
 
-/// The first rule that a draft of these lines breaks, with what it names.
-pub fn first_broken(
+/// The first rule that a draft breaks of those that ask for none of its lines, with what it names.
+#[tactic(auto, unfolding(crate::specs::Rules::broken_early))]
+pub fn broken_early(board: &Board, t: Minute, spoken: &Spoken) -> Option<Refusal>
+    requires consistent { IsConsistent board.now.rows t }
+    requires places { All (λ (p : PlacedIntent). p.place < 64) spoken.now }
+    ensures { result ≡ broken_early board.now.rows t spoken.now }
+{
+    if spoken.intents().is_empty() {
+        return Some(Refusal::EmptyDraft);
+    }
+    first_against(board, t, spoken, &BEFORE_CONFLICT)
+}
+
+/// The first rule that a draft of these lines breaks of the others, with what it names.
+#[tactic(auto, unfolding(crate::specs::Rules::broken_late))]
+pub fn broken_late(
     alloc: Global,
     board: &Board,
     t: Minute,
@@ -136,15 +156,8 @@ pub fn first_broken(
 ) -> Result<Option<Refusal>, Oom>
     requires consistent { IsConsistent board.now.rows t }
     requires places { All (λ (p : PlacedIntent). p.place < 64) spoken.now }
-    ensures { (c : Category) → lines.now ≡ planned_lines c board.now.rows t spoken.now → IfOk result (λ found. found ≡ broken c board.now.rows t spoken.now) }
+    ensures { IfOk result (λ found. found ≡ broken_late board.now.rows t spoken.now lines.now) }
 {
-    if spoken.intents().is_empty() {
-        return Ok(Some(Refusal::EmptyDraft));
-    }
-    let early = first_against(board, t, spoken, &BEFORE_CONFLICT);
-    if early.is_some() {
-        return Ok(early);
-    }
     let overlap = conflict(alloc, board, t, lines)?;
     if overlap.is_some() {
         return Ok(overlap);

@@ -1,25 +1,15 @@
 //! The rules on an intent in its zones, each by the first zone that offends.
-ghost use Rattle.std.specs.Prelude.{◌≡◌, not, nat_le};
+ghost use Rattle.std.specs.Prelude.{◌≡◌, ◌&&◌, not, nat_le};
 ghost use Rattle.event_life.specs.Periods.{is_live, keeps_open};
 ghost use Rattle.event_life.specs.Products.{row_at};
-ghost use Rattle.action_planner.specs.Lines.{minute_of};
-ghost use Rattle.action_planner.specs.Offences.{has_row_by, is_gone, gone, joins, was_left, left, is_shared, shared, is_moved, moved};
+ghost use Rattle.action_planner.specs.Offences.{has_row_by, is_gone, gone, joins_by, joins, was_left, left, is_shared, shared, is_moved, moved};
 
 use crate::placed::{Placed, zones_of};
+use crate::puts::minute_of;
 use crate::spoken::Spoken;
 use event_life::{is_live, keeps_open};
 use hazard_board::Board;
-use hazard_types::{Begin, Event, Intent, Minute, Refusal, Target, Zone};
-
-/// The minute at which a put begins.
-pub fn minute_of(begin: &Begin, t: Minute) -> Minute
-    ensures { result ≡ minute_of begin.now t }
-{
-    match begin {
-        Begin::Now => t,
-        Begin::At(minute) => *minute,
-    }
-}
+use hazard_types::{Event, Intent, Minute, Refusal, Target, Zone};
 
 /// Whether the event has an open row in the zone.
 fn has_open_row(board: &Board, t: Minute, event: &Event, zone: &Zone) -> bool
@@ -41,22 +31,22 @@ fn has_live_row(board: &Board, t: Minute, event: &Event, zone: &Zone) -> bool
     }
 }
 
-/// Whether the event has a row in the zone that is not live.
-fn has_past_row(board: &Board, t: Minute, event: &Event, zone: &Zone) -> bool
-    ensures { result ≡ has_row_by (λ row. not (is_live t row)) (row_at board.now.rows event.now zone.now) }
+/// Whether the event has a row in the zone that no line has ended and that is not live.
+fn has_lapsed_row(board: &Board, t: Minute, event: &Event, zone: &Zone) -> bool
+    ensures { result ≡ has_row_by (λ row. not row.ended && not (is_live t row)) (row_at board.now.rows event.now zone.now) }
 {
     match board.row(*event, *zone) {
-        Some(row) => !is_live(&row, t),
+        Some(row) => !row.ended && !is_live(&row, t),
         None => false,
     }
 }
 
-/// Whether the event has a row in the zone that has begun.
+/// Whether the event has a live row in the zone that has begun.
 fn has_begun_row(board: &Board, t: Minute, event: &Event, zone: &Zone) -> bool
-    ensures { result ≡ has_row_by (λ row. nat_le row.period.begin t) (row_at board.now.rows event.now zone.now) }
+    ensures { result ≡ has_row_by (λ row. is_live t row && nat_le row.period.begin t) (row_at board.now.rows event.now zone.now) }
 {
     match board.row(*event, *zone) {
-        Some(row) => row.period.begin.get() <= t.get(),
+        Some(row) => is_live(&row, t) && row.period.begin.get() <= t.get(),
         None => false,
     }
 }
@@ -72,27 +62,34 @@ fn is_gone(board: &Board, t: Minute, event: &Event, intent: &Intent, zone: &Zone
     }
 }
 
+/// Whether the target is an event that is joined.
+pub fn joins_by(target: &Target) -> bool
+    ensures { result ≡ joins_by target.now }
+{
+    match target {
+        Target::Fresh(_) => false,
+        Target::Join(_) => true,
+    }
+}
+
 /// Whether the intent is a put that joins an event.
 fn joins(intent: &Intent) -> bool
     ensures { result ≡ joins intent.now }
 {
     match intent {
-        Intent::Put(part) => match part.target {
-            Target::Fresh(_) => false,
-            Target::Join(_) => true,
-        },
+        Intent::Put(part) => joins_by(&part.target),
         Intent::Finish(_) | Intent::Restate(_) | Intent::Routine(_) => false,
     }
 }
 
-/// Whether a joining put finds a row in the zone that is not live.
+/// Whether a joining put finds a row in the zone that no line has ended and that is not live.
 fn was_left(board: &Board, t: Minute, event: &Event, intent: &Intent, zone: &Zone) -> bool
     ensures { result ≡ was_left board.now.rows t event.now intent.now zone.now }
 {
-    joins(intent) && has_past_row(board, t, event, zone)
+    joins(intent) && has_lapsed_row(board, t, event, zone)
 }
 
-/// Whether a joining put would have a row in the zone begin after this minute that has begun.
+/// Whether a joining put would have a live row in the zone begin after this minute that has begun.
 fn is_moved(board: &Board, t: Minute, event: &Event, intent: &Intent, zone: &Zone) -> bool
     ensures { result ≡ is_moved board.now.rows t event.now intent.now zone.now }
 {
@@ -120,7 +117,7 @@ pub fn gone(board: &Board, t: Minute, p: &Placed) -> Option<Refusal>
     })
 }
 
-/// LeftBefore: a joining put where the zone has a row that is not live.
+/// LeftBefore: a joining put where the zone has a row that no line has ended and that is not live.
 pub fn left(board: &Board, t: Minute, p: &Placed) -> Option<Refusal>
     ensures { result ≡ left board.now.rows t p.now }
 {
@@ -146,7 +143,7 @@ pub fn shared(spoken: &Spoken, p: &Placed) -> Option<Refusal>
     })
 }
 
-/// BegunMoved: a joining put that begins after this minute, where the row has begun.
+/// BegunMoved: a joining put that begins after this minute, on a live row that has begun.
 pub fn moved(board: &Board, t: Minute, p: &Placed) -> Option<Refusal>
     ensures { result ≡ moved board.now.rows t p.now }
 {

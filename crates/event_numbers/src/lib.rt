@@ -1,10 +1,10 @@
 //! The numbers (ETN) of events: for each hazard and year they count from 1.
 #![tactic(auto)]
 
-ghost use Rattle.std.specs.Prelude.{◌≡◌, ◌+◌, ◌<◌, ◌≤◌, [], OnOk, OnErr, position};
-ghost use Rattle.event_numbers.specs.Counts.{count_of, is_count_of, DrawsOne, AreNumbers};
+ghost use Rattle.std.specs.Prelude.{◌≡◌, ◌+◌, ◌<◌, ◌≤◌, [], length, OnOk, OnErr, position};
+ghost use Rattle.event_numbers.specs.Counts.{count_of, is_count_of, DrawsOne, DrawsAll, AreDrawnInOrder, AreNumbers};
 
-use hazard_types::{Hazard, Oom};
+use hazard_types::{Event, Hazard, Oom};
 use std::alloc::Global;
 use std::marker::Model;
 
@@ -103,38 +103,16 @@ impl Numbers {
             }),
         }
     }
-}
 
-#[cfg(test)]
-mod tests {
-    use super::*;
-    use hazard_types::{Phen, Sig};
-    use std::test::Fail;
-
-    fn hazard(letters: [u8; 2], sig: Sig) -> Option<Hazard> {
-        let phen = Phen::new(letters)?;
-        Some(Hazard { phen, sig })
-    }
-
-    #[test]
-    fn numbers_count_by_hazard_and_year(rt: HostRuntime) -> Result<(), Fail> {
-        let storm = &hazard(*b"WS", Sig::W).ok_or("a hazard")?;
-        let watch = &hazard(*b"WS", Sig::A).ok_or("a hazard")?;
-        let mut numbers = Numbers::new(rt.alloc());
-        let first = numbers.next(*storm, 2018);
-        assert_eq!(rt; first, 1);
-        numbers.reserve(3)?;
-        numbers.commit(*storm, 2018);
-        let second = numbers.next(*storm, 2018);
-        assert_eq!(rt; second, 2);
-        numbers.commit(*storm, 2018);
-        assert_eq!(rt; numbers.next(*storm, 2018), 3);
-        assert_eq!(rt; numbers.next(*storm, 2019), 1);
-        let fresh = numbers.next(*watch, 2018);
-        assert_eq!(rt; fresh, 1);
-        numbers.commit(*watch, 2018);
-        assert_eq!(rt; numbers.next(*watch, 2018), 2);
-        assert_eq!(rt; numbers.next(*storm, 2018), 3);
-        Ok(())
+    /// Draws the next number of the hazard and year of each of these events, in order.
+    pub fn draw(&mut self, events: &[Event])
+        requires numbers { AreDrawnInOrder self.old.counts events.now }
+        requires spare { length events.now ≤ self.old.spare }
+        ensures drawn { DrawsAll self.old.counts self.new.counts events.now }
+        ensures spare { self.old.spare ≤ self.new.spare + length events.now }
+    {
+        for event in events {
+            self.commit(event.hazard, event.year);
+        }
     }
 }

@@ -1,8 +1,9 @@
 //! The board: the rows of the events that were opened, by zone, then event.
 #![tactic(auto)]
 
-ghost use Rattle.std.specs.Prelude.{◌≡◌, ◌+◌, ◌≤◌, ◌<◌, [], IfOk, OnOk, OnErr, IsTrue};
+ghost use Rattle.std.specs.Prelude.{◌≡◌, ◌+◌, ◌≤◌, ◌<◌, [], find, IfOk, OnOk, OnErr, IsTrue};
 ghost use Rattle.std.specs.List.Sorted.{IsStrictlySortedBy};
+ghost use Rattle.hazard_types.specs.Same.{same_event};
 ghost use Rattle.event_life.specs.Products.{by_key, row_at, has_rows, going_in, rows_after};
 ghost use Rattle.event_life.specs.Shown.{shown_at};
 ghost use Rattle.event_life.specs.Reordered.{are_lawful};
@@ -56,6 +57,18 @@ fn live_in(alloc: Global, rows: &[Row], z: &Zone, t: Minute) -> Result<Vec<Row>,
         .collect(alloc)
 }
 
+/// The first row of an event.
+fn first_row(rows: &[Row], event: &Event) -> Option<Row>
+    ensures { result ≡ find (λ r. same_event r.event event.now) rows.now }
+{
+    for row in rows {
+        if row.event == *event {
+            return Some(*row);
+        }
+    }
+    None
+}
+
 impl Board {
     /// No row stands, and there is no memory for any.
     pub fn new(alloc: Global) -> Self
@@ -90,6 +103,13 @@ impl Board {
         ensures { result ≡ has_rows self.now.rows e }
     {
         has_rows(&self.rows, &e)
+    }
+
+    /// The first row of an event, by zone, ended or not.
+    pub fn first(&self, e: Event) -> Option<Row>
+        ensures { result ≡ find (λ r. same_event r.event e) self.now.rows }
+    {
+        first_row(&self.rows, &e)
     }
 
     /// The open event of a hazard and number, of the greatest year where there are several.

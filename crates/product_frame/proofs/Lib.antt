@@ -17,4 +17,5 @@ pub mod VtecLines
 pub mod FloodLines
 pub mod HeadingLines
 pub mod SegmentLines
+pub mod EndToEnd
 pub mod ProductLines

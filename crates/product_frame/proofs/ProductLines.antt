@@ -11,8 +11,11 @@ use Rattle.product_frame.specs.Parts.{is_bbb, heading_of, is_identifier, local_a
 use Rattle.product_frame.specs.Frames.{line_at, heading_index, full_index, issue_in, product_in}
 use Rattle.product_frame.specs.Frame.{IsFrameIn, FrameOf}
 use Rattle.product_frame.specs.Grammar.{AreSegments}
-use Rattle.product_frame.specs.Layout.{ended, heading_text, segments_text, block_text, layout_of}
-use Rattle.product_frame.specs.LineRules.{IsOneLine, HasNoDigit, IsSegmentWritten, IsBody, ReadsBack, IsWritable}
+use Rattle.product_frame.specs.Layout.{ended, heading_text, segment_text, segments_text, block_text, layout_of}
+use Rattle.product_frame.specs.Splitting.{headings_in, IsOneProduct}
+use Rattle.product_frame.specs.declared.frame.FrameSegment.{FrameSegment}
+use Rattle.product_frame.proofs.EndToEnd.{ends_append, ends_end}
+use Rattle.product_frame.specs.LineRules.{ends_behind, IsOneLine, HasNoDigit, IsSegmentWritten, IsBody, ReadsBack, IsWritable}
 use Rattle.product_frame.specs.declared.frame.Heading.{Heading}
 use Rattle.product_frame.specs.declared.frame.Frame.{Frame}
 use Rattle.product_frame.specs.declared.write.Block.{Block}
@@ -182,6 +185,15 @@ full_here p more s h = rw h refl
 begins_here : (p : List ℕ) (h : Heading) → heading_of (line_of p) ≡ Some h → heading_index p 0 (starts p) ≡ Some 0
 begins_here p h e = rw e refl
 
+-- no line behind the heading is a heading line
+clear_behind : (f : Frame) (block : Block) (bodies : List Body) → IsProduct f block bodies → Runs HeadsNone (ended f.identifier ++ (block_text block ++ segments_text block.local f.segments bodies))
+clear_behind f block bodies is =
+    let segments = segments_text block.local f.segments bodies in
+    let id = named f.identifier is.rules.identifier in
+    let small : length f.identifier ≤ 17 = (let s : length f.identifier ≤ 6 = id.short in omega arith) in
+    run_both HeadsNone (ended f.identifier) (block_text block ++ segments) (run_line HeadsNone f.identifier (kept_line f.identifier id.kept) (ap heading_of (kept_whole f.identifier id.kept) ∙ no_heading_length f.identifier small))
+    (run_both HeadsNone (block_text block) segments (block_heads_none block is.well) (segments_heads_none block.local is.well.local f.segments bodies is.sound))
+
 laid_frame : (p : List ℕ) (f : Frame) (block : Block) (bodies : List Body) → IsProduct f block bodies → p ≡ layout_of f block bodies → FrameOf p f
 laid_frame p f block bodies is whole =
     let w = is.rules in
@@ -201,10 +213,7 @@ laid_frame p f block bodies is whole =
     let places : starts_from 0 p ≡ at1 ∷ starting at2 t2 = next ∙ ap (λ (xs : List ℕ). at1 ∷ xs) m.0 in
     let line : line_at p at1 ≡ f.identifier = m.1 ∙ kept_whole f.identifier id.kept in
     let first : heading_of (line_of p) ≡ Some f.heading = ap heading_of (n.1 ∙ h.1) ∙ h.0 in
-    let small : length f.identifier ≤ 17 = (let s : length f.identifier ≤ 6 = id.short in omega arith) in
-    let clear : Runs HeadsNone t1 =
-    run_both HeadsNone (ended f.identifier) t2 (run_line HeadsNone f.identifier (kept_line f.identifier id.kept) (ap heading_of (kept_whole f.identifier id.kept) ∙ no_heading_length f.identifier small))
-    (run_both HeadsNone (block_text block) segments (block_heads_none block is.well) (segments_heads_none block.local is.well.local f.segments bodies is.sound)) in
+    let clear : Runs HeadsNone t1 = clear_behind f block bodies is in
     let alone : heading_index p 0 (starts_from 0 p) ≡ None = ap (heading_index p 0) next ∙ one_product p t1 at1 clear h1 in
     let frame : IsFrameIn p f = record {
       index = 0;
@@ -222,12 +231,62 @@ laid_frame p f block bodies is whole =
       frame = subst (λ (x : List ℕ). IsFrameIn x f) (sym (product_is p alone)) frame;
     }
 
-pub written_frame : (p : List ℕ) (f : Frame) (block : Block) (bodies : List Body) → IsWritable f block bodies → All ReadsBack f.segments → p ≡ layout_of f block bodies → FrameOf p f
-written_frame p f block bodies w typed whole =
+-- ---- the one heading line
+
+no_headings : (p places : List ℕ) → AllByRecursion (λ s. HeadsNone (line_at p s)) places → headings_in p places ≡ []
+no_headings p [] h = refl
+no_headings p (s ∷ places) h = rw h.0 (no_headings p places h.1)
+
+none_behind : (p t : List ℕ) (at : ℕ) → Runs HeadsNone t → drop at p ≡ t → headings_in p (starting at t) ≡ []
+none_behind p t at run h =
+    let whole : t ≡ t ++ [] = sym (append-nil t) in
+    let r = run p at [] (h ∙ whole) in
+    let end = at + length t in
+    let none : HeadsNone (line_at p end) = ap (λ (x : List ℕ). heading_of (line_of x)) (behind p t [] at (h ∙ whole)) ∙ empty_heads_none in
+    ap (λ (x : List ℕ). headings_in p (starting at x)) whole ∙ ap (headings_in p) r.1 ∙ no_headings p (r.0 ++ starting end []) (all_both (λ s. HeadsNone (line_at p s)) r.0 (starting end []) r.2 (none, tt))
+
+first_alone : (p places : List ℕ) (h : Heading) → heading_of (line_of p) ≡ Some h → headings_in p places ≡ [] → headings_in p (0 ∷ places) ≡ 0 ∷ []
+first_alone p places h e none = rw e (ap (λ (xs : List ℕ). 0 ∷ xs) none)
+
+segments_ended : (local : List ℕ) (segments : List FrameSegment) (bodies : List Body) → ends_behind 10 (segments_text local segments bodies) ≡ true
+segments_ended local [] bodies = refl
+segments_ended local (g ∷ segments) [] = refl
+segments_ended local (g ∷ segments) (body ∷ bodies) = ends_end 10 (segment_text local g body) (segments_text local segments bodies) (segments_ended local segments bodies)
+
+line_then : (line t : List ℕ) → ends_behind 10 t ≡ true → ends_behind 10 (ended line ++ t) ≡ true
+line_then line t h = ends_append 10 (ended line) t (ends_end 10 line [] refl) h
+
+block_then : (block : Block) (t : List ℕ) → ends_behind 10 t ≡ true → ends_behind 10 (block_text block ++ t) ≡ true
+block_then block t h = ends_append 10 (block_text block) t (line_then [] (ended block.name ++ (ended block.office_line ++ (ended block.local ++ ended []))) (line_then block.name (ended block.office_line ++ (ended block.local ++ ended [])) (line_then block.office_line (ended block.local ++ ended []) (line_then block.local (ended []) refl)))) h
+
+laid_one : (p : List ℕ) (f : Frame) (block : Block) (bodies : List Body) → IsProduct f block bodies → p ≡ layout_of f block bodies → IsOneProduct p
+laid_one p f block bodies is whole =
+    let heading = heading_text f.heading in
+    let segments = segments_text block.local f.segments bodies in
+    let t1 = ended f.identifier ++ (block_text block ++ segments) in
+    let h = heading_laid f.heading is.rules.heading in
+    let n = next_line p heading t1 0 h.2 whole in
+    let at1 = 0 + length (ended heading) in
+    let h1 : drop at1 p ≡ t1 = behind p (ended heading) t1 0 whole in
+    let first : heading_of (line_of p) ≡ Some f.heading = ap heading_of (n.1 ∙ h.1) ∙ h.0 in
+    let next : starts_from 0 p ≡ starting at1 t1 = ap (starts_from 0) whole ∙ n.0 in
+    record {
+      heading = first_alone p (starts_from 0 p) f.heading first (ap (headings_in p) next ∙ none_behind p t1 at1 (clear_behind f block bodies is) h1);
+      ended = ap (ends_behind 10) whole ∙ line_then heading t1 (line_then f.identifier (block_text block ++ segments) (block_then block segments (segments_ended block.local f.segments bodies)));
+    }
+
+written_product : (f : Frame) (block : Block) (bodies : List Body) → IsWritable f block bodies → All ReadsBack f.segments → IsProduct f block bodies
+written_product f block bodies w typed =
     let local : IsLocal block.local = subst IsLocal (sym w.local) (record { line = local_line w.zone f.issue; whole = local_whole w.zone f.issue; first = local_begins w.zone f.issue }) in
-    laid_frame p f block bodies (record {
+    record {
       rules = w;
       sound = sound_from f.segments bodies w.as_many (all_from IsSegmentWritten f.segments w.segments) (all_from ReadsBack f.segments typed) (all_from IsBody bodies w.each_body);
       well = record { name = w.name; office_line = w.office_line; local = local };
       reads = ap local_at w.local ∙ local_reads w.zone f.issue w.minute;
-    }) whole
+    }
+
+pub written_frame : (p : List ℕ) (f : Frame) (block : Block) (bodies : List Body) → IsWritable f block bodies → All ReadsBack f.segments → p ≡ layout_of f block bodies → FrameOf p f
+written_frame p f block bodies w typed whole = laid_frame p f block bodies (written_product f block bodies w typed) whole
+
+pub written_one : (p : List ℕ) (f : Frame) (block : Block) (bodies : List Body) → IsWritable f block bodies → All ReadsBack f.segments → p ≡ layout_of f block bodies → IsOneProduct p
+written_one p f block bodies w typed whole = laid_one p f block bodies (written_product f block bodies w typed) whole

@@ -1,8 +1,8 @@
 //! Texts are split into products.
-ghost use Rattle.std.specs.Prelude.{◌≡◌, ◌≤◌, length, IfOk};
-ghost use Rattle.std.specs.List.{All};
+ghost use Rattle.std.specs.Prelude.{◌≡◌, ◌≤◌, ℕ, List as Seq, length, IfOk};
+ghost use Rattle.std.specs.List.{All, concat};
 ghost use Rattle.product_frame.specs.Text.{starts};
-ghost use Rattle.product_frame.specs.Splitting.{headings_in, first_or, spans_to, spans_of, laid, from_first};
+ghost use Rattle.product_frame.specs.Splitting.{headings_in, first_or, spans_to, spans_of, laid, from_first, IsOneProduct, spans_from};
 
 use crate::read::heading_of;
 use crate::text::{line_of, starts};
@@ -57,3 +57,9 @@ pub fn split_products(alloc: Global, bytes: &[u8]) -> Result<List<Span>, Oom>
     let headings = headings_in(alloc, bytes, places.as_slice())?;
     spans_to(alloc, bytes.len(), headings.as_slice())
 }
+
+/// Texts of which each has one heading line, its first, and the end of each line: laid end to end they are split where one ends and the next begins.
+#[tactic(auto, using(crate::proofs::EndToEnd::split_apart))]
+pub fn texts_are_split_apart()
+    ensures { (texts : Seq (Seq ℕ)) → All IsOneProduct texts → spans_of (concat texts) ≡ spans_from 0 texts }
+{}

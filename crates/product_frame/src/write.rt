@@ -5,6 +5,7 @@ ghost use Rattle.hazard_types.specs.Digits.{is_day_stamp};
 ghost use Rattle.vtec_string.specs.Columns.{vtec_text};
 ghost use Rattle.product_frame.specs.Layout.{ended, letters_text, heading_text, flood_text, pairs_text, names_text, body_text, segment_text, segments_text, block_text, layout_of};
 ghost use Rattle.product_frame.specs.Frame.{FrameOf};
+ghost use Rattle.product_frame.specs.Splitting.{IsOneProduct};
 ghost use Rattle.product_frame.specs.LineRules.{HasLocation, IsPairWritten, IsSegmentWritten, HasFloodColumns, HasColumns, ReadsBack, IsWritable};
 
 use crate::frame::{Frame, FrameSegment, Heading, Pair};
@@ -164,6 +165,8 @@ pub fn frame_text(alloc: Global, f: &Frame, block: &Block, bodies: &List<Body>) 
     ensures layout { IfOk result (λ text. text ≡ layout_of f.now block.now bodies.now) }
     // The frame of the text is this one.
     ensures frame { IfOk result (λ text. FrameOf text f.now) }
+    // Its one heading line is its first line, and each line has its end.
+    ensures one { IfOk result IsOneProduct }
 {
     let heading = heading_of(alloc, &f.heading)?;
     let mut text = List::new(alloc);

@@ -26,7 +26,7 @@ one_of None None h = refl
 one_of (Some x) (Some y) h = ap Some (event_one x y h)
 one_of _ _ h = cc
 
-group_one : (a b : Group) → same_group a b ≡ true → a ≡ b
+pub group_one : (a b : Group) → same_group a b ≡ true → a ≡ b
 group_one a b h =
     let p = and_parts (same_zone a.zone b.zone) _ h in
     let zone_is = zone_one a.zone b.zone p.0 in

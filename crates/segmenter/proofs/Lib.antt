@@ -9,3 +9,5 @@ pub mod OrderLemmas
 pub mod PlaceLemmas
 pub mod PutLemmas
 pub mod RisingLemmas
+pub mod ExpiryLemmas
+pub mod SaidLemmas

@@ -1,9 +1,9 @@
 //! The lines of each group, in order.
 ghost use Rattle.std.specs.Prelude.{◌≡◌, ◌≤◌, length, insert, IfOk, OnOk};
-ghost use Rattle.segmenter.specs.Groups.{is_flood, flood_event, group_of, without_zone, same_group, action_rank, by_line, placed};
+ghost use Rattle.segmenter.specs.Groups.{flood_event, group_of, without_zone, same_group, action_rank, by_line, placed};
 ghost use Rattle.segmenter.specs.Steps.{put, groups_of, groups_view};
 
-use hazard_types::{Action, Event, Hazard, Line, Oom, SegLine, Zone};
+use hazard_types::{Action, Event, Line, Oom, SegLine, Zone, is_flood};
 use indexmap::IndexMap;
 use std::alloc::Global;
 use std::cmp::Ordering;
@@ -24,13 +24,6 @@ pub struct Head {
 
 /// The lines of each group.
 pub type Groups = IndexMap<Group, Vec<SegLine>>;
-
-/// Whether a hazard's phenomenon is FL.
-fn is_flood(hazard: &Hazard) -> bool
-    ensures { result ≡ is_flood hazard.now }
-{
-    hazard.phen.letters() == *b"FL"
-}
 
 /// The event that has a group of its own.
 fn flood_event(event: &Event) -> Option<Event>

@@ -1,11 +1,14 @@
 //! Laws of segments, for the crates above. The functions do nothing; their contracts are the laws.
-ghost use Rattle.std.specs.Prelude.{◌≡◌, ◌↔◌, List};
+ghost use Rattle.std.specs.Prelude.{◌≡◌, ◌↔◌, ◌<◌, ℕ, List};
+ghost use Rattle.std.specs.List.{AllPairs, Contains};
 ghost use Rattle.hazard_types.specs.Places.{Place};
 ghost use Rattle.hazard_types.specs.declared.line.Line.{Line};
 ghost use Rattle.hazard_types.specs.declared.line.SegLine.{SegLine};
 ghost use Rattle.hazard_types.specs.declared.line.Segment.{Segment};
+ghost use Rattle.segmenter.specs.Expiry.{expiry_of, EndAfter};
 ghost use Rattle.segmenter.specs.Groups.{lines_of};
 ghost use Rattle.segmenter.specs.Laws.{IsSaid, IsOfLines, AreInOrder};
+ghost use Rattle.segmenter.specs.Said.{lines_in_text, IsApart};
 ghost use Rattle.segmenter.specs.Segments.{AreSegments};
 ghost use Rattle.segmenter.specs.declared.groups.Group.{Group};
 
@@ -23,4 +26,16 @@ pub fn lines_are_in_order()
 /// Lines have one list of segments.
 pub fn segments_are_determined()
     ensures { (lines : List Line) (segments others : List Segment) → AreSegments lines segments → AreSegments lines others → segments ≡ others }
+{}
+
+/// The lines of segments, as a text says them, are those that the segments are of. Where no two of these are of one event in one zone, no two in the text are, so that it says each once.
+pub fn segments_say_each_line_once()
+    ensures lines { (lines : List Line) (segments : List Segment) → AreSegments lines segments → (line : Line) → Contains (lines_in_text segments) line ↔ Contains lines line }
+    ensures once { (lines : List Line) (segments : List Segment) → AreSegments lines segments → AllPairs IsApart lines → AllPairs IsApart (lines_in_text segments) }
+{}
+
+/// A text expires after its issue, where each row that it leaves live ends after it.
+#[tactic(auto, using(crate::proofs::ExpiryLemmas::later))]
+pub fn expiry_is_later()
+    ensures { (t : ℕ) (lines : List SegLine) → EndAfter t lines → t < expiry_of t lines }
 {}

@@ -6,13 +6,18 @@
 ghost use Rattle.std.specs.Prelude.{IfOk};
 ghost use Rattle.segmenter.specs.Segments.{AreSegments};
 
+mod expiries;
 mod groups;
 mod laws;
 mod zones;
 
+pub use expiries::expiry;
 use groups::groups_of;
 use hazard_types::{Line, List, Oom, Segment};
-pub use laws::{lines_are_in_order, segments_are_determined, segments_say_the_lines};
+pub use laws::{
+    expiry_is_later, lines_are_in_order, segments_are_determined, segments_say_each_line_once,
+    segments_say_the_lines,
+};
 use std::alloc::Global;
 use zones::{classes_of, heads_of, segments_of};
 

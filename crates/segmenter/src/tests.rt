@@ -127,68 +127,24 @@ fn make(alloc: Global, lines: &[Said], expected: &[(&[Said], &[Said])]) -> Resul
     Ok(segments(alloc, &list)? == wanted)
 }
 
-/// Wind from 1800Z to 2300Z is issued where fog stands until 1500Z, and beside it.
+/// The fog is extended to 1700Z in both its zones, and the wind goes on. A flood warning and a flood advisory in one county stand apart.
 #[test]
-fn a_wind_advisory_beside_fog(rt: HostRuntime) -> Result<(), Fail> {
-    let alloc = rt.alloc();
-    let wind = in_zone(Action::New, *b"WI", Sig::Y, 4, 9_471_960, 9_472_260);
-    let beside = in_zone(Action::New, *b"WI", Sig::Y, 5, 9_471_960, 9_472_260);
-    let fog = in_zone(Action::Con, *b"FG", Sig::Y, 4, 0, 9_471_780);
-    assert!(rt;
-        make(
-            alloc,
-            &[fog, beside, wind],
-            &[(&[wind], &[wind, fog]), (&[beside], &[wind])]
-        )?
-    );
-    Ok(())
-}
-
-/// The fog is extended to 1700Z in both its zones, and the wind goes on.
-#[test]
-fn fog_is_extended(rt: HostRuntime) -> Result<(), Fail> {
+fn segments_of_worked_products(rt: HostRuntime) -> Result<(), Fail> {
     let alloc = rt.alloc();
     let west = in_zone(Action::Ext, *b"FG", Sig::Y, 3, 0, 9_471_900);
     let fog = in_zone(Action::Ext, *b"FG", Sig::Y, 4, 0, 9_471_900);
     let wind = in_zone(Action::Con, *b"WI", Sig::Y, 4, 9_471_960, 9_472_260);
     let east = in_zone(Action::Con, *b"WI", Sig::Y, 5, 9_471_960, 9_472_260);
-    let segments: [(&[Said], &[Said]); 3] = [
+    let warning = flood(Sig::W, 21);
+    let advisory = flood(Sig::Y, 21);
+    let lines = [west, advisory, fog, east, wind, warning];
+    let segments: [(&[Said], &[Said]); 5] = [
+        (&[warning], &[warning]),
+        (&[advisory], &[advisory]),
         (&[west], &[west]),
         (&[fog], &[fog, wind]),
         (&[east], &[east]),
     ];
-    assert!(rt; make(alloc, &[west, fog, east, wind], &segments)?);
-    Ok(())
-}
-
-/// A watch gives way to a warning in one of its zones, and ends in two others.
-#[test]
-fn a_warning_takes_the_place_of_a_watch(rt: HostRuntime) -> Result<(), Fail> {
-    let alloc = rt.alloc();
-    let watch = in_zone(Action::Upg, *b"WS", Sig::A, 3, 9_472_320, 9_473_040);
-    let warning = in_zone(Action::New, *b"WS", Sig::W, 3, 9_472_320, 9_473_040);
-    let ended = in_zone(Action::Can, *b"WS", Sig::A, 4, 9_472_320, 9_473_040);
-    let other = in_zone(Action::Can, *b"WS", Sig::A, 6, 9_472_320, 9_473_040);
-    let segments: [(&[Said], &[Said]); 2] = [
-        (&[watch], &[watch, warning]),
-        (&[ended, other], &[ended]),
-    ];
-    assert!(rt; make(alloc, &[other, warning, watch, ended], &segments)?);
-    Ok(())
-}
-
-/// A flood warning and a flood advisory in one county stand apart.
-#[test]
-fn each_flood_event_has_its_segment(rt: HostRuntime) -> Result<(), Fail> {
-    let alloc = rt.alloc();
-    let warning = flood(Sig::W, 21);
-    let advisory = flood(Sig::Y, 21);
-    assert!(rt;
-        make(
-            alloc,
-            &[advisory, warning],
-            &[(&[warning], &[warning]), (&[advisory], &[advisory])]
-        )?
-    );
+    assert!(rt; make(alloc, &lines, &segments)?);
     Ok(())
 }

@@ -1,0 +1,46 @@
+-- The minute at which a segment's text expires.
+use Rattle.std.specs.Prelude.{◌≡◌, ◌||◌, ◌<◌, ⊤, ℕ, ◌+◌, Bool, true, false, List, fold, min, if◌then◌else◌}
+use Rattle.std.specs.List.{All, list_any}
+use Rattle.hazard_types.specs.declared.codes.Action.{Action}
+use Rattle.hazard_types.specs.declared.codes.Action.TheVariants.{Upg, Can, Exp, Rou}
+use Rattle.hazard_types.specs.declared.line.SegLine.{SegLine}
+use Rattle.hazard_types.specs.declared.period.End.{End}
+use Rattle.hazard_types.specs.declared.period.End.TheVariants.{At, Ufn}
+
+-- UPG, CAN and EXP end a row, and ROU speaks of none; every other line leaves its row live
+abbrev pub leaves_live : Action → Bool
+leaves_live Upg = false
+leaves_live Can = false
+leaves_live Exp = false
+leaves_live Rou = false
+leaves_live _ = true
+
+-- the lesser of a minute and a closed end
+abbrev pub lesser : ℕ → End → ℕ
+lesser m (At end) = min m end
+lesser m Ufn = m
+
+-- the end of a row that the line leaves live counts
+abbrev pub lesser_left : ℕ → SegLine → ℕ
+lesser_left m line = if leaves_live line.action then lesser m line.end else m
+
+-- ROU
+abbrev pub is_routine : Action → Bool
+is_routine Rou = true
+is_routine _ = false
+
+-- a row is left live, or the line is a routine one
+abbrev pub stands_long : SegLine → Bool
+stands_long line = leaves_live line.action || is_routine line.action
+
+-- the least of eight hours on and the closed ends of the rows that are left live; one hour on, where none is left live and no line is a routine one
+abbrev pub expiry_of : ℕ → List SegLine → ℕ
+expiry_of t lines = if list_any stands_long lines then fold lesser_left (t + 480) lines else t + 60
+
+abbrev pub IsAfter : ℕ → End → Type 0
+IsAfter t (At end) = t < end
+IsAfter t Ufn = ⊤
+
+-- each row that is left live ends after the minute
+abbrev pub EndAfter : ℕ → List SegLine → Type 0
+EndAfter t lines = All (λ (line : SegLine). leaves_live line.action ≡ true → IsAfter t line.end) lines
