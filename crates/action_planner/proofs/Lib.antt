@@ -24,5 +24,6 @@ pub mod SourceLemmas
 pub mod AfterLemmas
 pub mod SiteLemmas
 pub mod Standing
+pub mod CorrectionLemmas
 pub mod TextLemmas
 pub mod PlanLemmas
