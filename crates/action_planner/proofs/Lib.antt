@@ -27,3 +27,7 @@ pub mod Standing
 pub mod CorrectionLemmas
 pub mod TextLemmas
 pub mod PlanLemmas
+pub mod NumberLemmas
+pub mod ToldLemmas
+pub mod LineLemmas
+pub mod SaidLemmas

@@ -235,7 +235,7 @@ module _ (rows : List Row) (t : ℕ) (all : List Placed) (sited : AreSited rows)
       first_of [] h = cc
       first_of (r ∷ rest) h = step e (same_event r.event e) r rest refl (first_of rest) h
 
-  open_has : (e : Event) → is_open rows t e ≡ true → has_rows rows e ≡ true
+  pub open_has : (e : Event) → is_open rows t e ≡ true → has_rows rows e ≡ true
   open_has e h =
       let m = has_any (λ (r : Row). same_event r.event e && keeps_open t r) rows h in
       any_has (λ (r : Row). same_event r.event e) rows m.0 m.1 (and_parts (same_event m.0.event e) _ m.2).0

@@ -10,3 +10,4 @@ pub mod Sending
 pub mod Texts
 pub mod Plans
 pub mod Standing
+pub mod Told

@@ -4,6 +4,7 @@
 mod correcting;
 mod intent_rules;
 mod laws;
+mod line_laws;
 mod lines;
 mod placed;
 mod planning;
@@ -12,6 +13,7 @@ mod rules;
 mod sending;
 mod spoken;
 mod texts;
+mod told_laws;
 mod zone_rules;
 
 pub use laws::{
@@ -22,3 +24,10 @@ pub use laws::{
 };
 pub use planning::plan;
 pub use correcting::plan_correction;
+pub use line_laws::{
+    expiring_lines_end_at_a_minute, flood_lines_have_values, flood_values_are_those_given,
+    lines_are_of_the_desks_hazards, lines_have_four_digits, lines_stand_in_the_drafts_zones,
+};
+pub use told_laws::{
+    new_lines_draw_the_numbers, rows_tell_the_numbers, texts_say_what_their_lines_say,
+};

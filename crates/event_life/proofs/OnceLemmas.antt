@@ -115,7 +115,7 @@ placed-every P e d events behind Less p all more = (p, all)
 placed-every P e d events behind Equal p all more = all
 placed-every P e d events behind Greater p all more = (all.0, more)
 
-add_event-every : (P : Event → Type 0) (e : Event) (events : List Event) → P e → AllByRecursion P events → AllByRecursion P (add_event e events)
+pub add_event-every : (P : Event → Type 0) (e : Event) (events : List Event) → P e → AllByRecursion P events → AllByRecursion P (add_event e events)
 add_event-every P e [] p all = (p, tt)
 add_event-every P e (d ∷ events) p all = placed-every P e d events (add_event e events) (by_event e d) p all (add_event-every P e events p all.1)
 
@@ -124,7 +124,7 @@ every_step P e events true p all = add_event-every P e events (p refl) all
 every_step P e events false p all = all
 
 -- what holds of the event of each NEW line holds of each that is opened
-opened_by-every : (P : Event → Type 0) (lines : List Line) → AllByRecursion (λ (line : Line). is_new line.action ≡ true → P line.event) lines → AllByRecursion P (opened_by lines)
+pub opened_by-every : (P : Event → Type 0) (lines : List Line) → AllByRecursion (λ (line : Line). is_new line.action ≡ true → P line.event) lines → AllByRecursion P (opened_by lines)
 opened_by-every P [] all = tt
 opened_by-every P (line ∷ lines) all = every_step P line.event (opened_by lines) (is_new line.action) all.0 (opened_by-every P lines all.1)
 
@@ -138,7 +138,7 @@ placed-up e d events Less h up more = ((h, above_all e d events h up.0), up)
 placed-up e d events Equal h up more = up
 placed-up e d events Greater h up more = (add_event-every (λ y. by_event d y ≡ Less) e events (by_event_total.antisymm d e ∙ ap ordering_reverse h) up.0, more)
 
-add_event-up : (e : Event) (events : List Event) → IsStrictlySortedBy by_event events → IsStrictlySortedBy by_event (add_event e events)
+pub add_event-up : (e : Event) (events : List Event) → IsStrictlySortedBy by_event events → IsStrictlySortedBy by_event (add_event e events)
 unfolding IsStrictlySortedBy
 add_event-up e [] up = (tt, tt)
 add_event-up e (d ∷ events) up = placed-up e d events (by_event e d) refl up (add_event-up e events up.1)
@@ -147,7 +147,7 @@ up_step : (e : Event) (events : List Event) (new : Bool) → IsStrictlySortedBy 
 up_step e events true up = add_event-up e events up
 up_step e events false up = up
 
-opened_by-up : (lines : List Line) → IsStrictlySortedBy by_event (opened_by lines)
+pub opened_by-up : (lines : List Line) → IsStrictlySortedBy by_event (opened_by lines)
 unfolding IsStrictlySortedBy
 opened_by-up [] = tt
 opened_by-up (line ∷ lines) = up_step line.event (opened_by lines) (is_new line.action) (opened_by-up lines)
