@@ -164,5 +164,5 @@ corrections_keep rows counts sent last letters given t stands up apart h =
       digits = stands.digits;
       sited = plan_sited rows t [] stands.sited tt tt lines (all_weaker (FromRow rows) (Comes rows []) (λ l f. inl f) lines from) lawful;
       known = all_after (λ row. IsKnown row.event.hazard) rows t lines lawful stands.known
-        (all_kept (λ l. IsKnown l.event.hazard) touches lines (all_weaker (FromRow rows) (λ l. IsKnown l.event.hazard) (λ l f. subst (λ (e : Event). IsKnown e.hazard) f.event (all_has (λ (row : Row). IsKnown row.event.hazard) rows f.row stands.known f.there)) lines from));
+          (all_kept (λ l. IsKnown l.event.hazard) touches lines (all_weaker (FromRow rows) (λ l. IsKnown l.event.hazard) (λ l f. subst (λ (e : Event). IsKnown e.hazard) f.event (all_has (λ (row : Row). IsKnown row.event.hazard) rows f.row stands.known f.there)) lines from));
     }

@@ -31,3 +31,4 @@ pub mod NumberLemmas
 pub mod ToldLemmas
 pub mod LineLemmas
 pub mod SaidLemmas
+pub mod FittingLemmas

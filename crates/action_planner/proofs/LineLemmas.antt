@@ -177,7 +177,7 @@ module _ (rows : List Row) (t : ℕ) (all : List Placed) where
   zone_lines : (c : Category) → AllByRecursion (IsTouched all) (planned_lines c rows t all)
   zone_lines c = all_append (IsTouched all) (lines_from rows t all all) (added_lines c rows t all)
       (each_intent rows t all (IsTouched all) (Has all) (λ p h. each_zone rows t all (IsTouched all) (Has (zones_of p.intent)) p.event p.intent
-        (λ z g. all_weaker (IsOn p.event z) (IsTouched all) (λ line on. (p, h, subst (λ (y : Place). Has (zones_of p.intent) y) (sym on.1) g)) (lines_in rows t all p.event p.intent z) (lines_on rows t all p.event p.intent z)) (zones_of p.intent) (has_all (zones_of p.intent))) all (has_all all))
+      (λ z g. all_weaker (IsOn p.event z) (IsTouched all) (λ line on. (p, h, subst (λ (y : Place). Has (zones_of p.intent) y) (sym on.1) g)) (lines_in rows t all p.event p.intent z) (lines_on rows t all p.event p.intent z)) (zones_of p.intent) (has_all (zones_of p.intent))) all (has_all all))
       (all_map (IsTouched all) (line_on Con t) (filter (goes_on_beside c t all) rows)
       (all_weaker (λ r. Unit {0} × (goes_on_beside c t all r ≡ true)) (λ r. IsTouched all (line_on Con t r)) (λ r h. touched_zone all c r (and_parts (is_live t r) (goes_on c all r) h.1).1) (filter (goes_on_beside c t all) rows)
       (all_filter (λ r. Unit {0}) (goes_on_beside c t all) rows (all_each (λ r. Unit {0}) (λ r. tt) rows))))

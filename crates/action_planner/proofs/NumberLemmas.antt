@@ -187,8 +187,8 @@ rising_is n (suc k) [] up within all = absurd (all n (omega arith) (omega arith)
 rising_is n (suc k) (x ∷ ns) up within all =
     let same : x ≡ n = first_is x n ns (within x (inl refl)).0 up.0 (all n (omega arith) (omega arith)) in
     let rest : ns ≡ counted_from (n + 1) k = rising_is (n + 1) k ns up.1
-      (λ m h. let gt = all_has (λ y. x < y) ns m up.0 h in let w = within m (inr h) in (omega (arith, same, gt), omega (arith, w.1)))
-      (λ m low high. not_here x n m ns same low (all m (omega (arith, low)) (omega (arith, high)))) in
+    (λ m h. let gt = all_has (λ y. x < y) ns m up.0 h in let w = within m (inr h) in (omega (arith, same, gt), omega (arith, w.1)))
+    (λ m low high. not_here x n m ns same low (all m (omega (arith, low)) (omega (arith, high)))) in
     λ i. same i ∷ rest i
 
 -- ---- NEW lines have the numbers of the events that they open
@@ -199,15 +199,15 @@ pub numbers_alike : (h : Hazard) (year n k : ℕ) (lines : List Line) (events : 
 numbers_alike h year n k lines events on each one =
     rising_is n k (numbers_of h year (opened_by lines)) (numbers_rise h year (opened_by lines) (opened_by-up lines))
     (λ m g.
-      let w = number_from h year (opened_by lines) m g in
-      let l = opened_from lines w.0 w.1 in
-      let there : Has events w.0 = subst (λ (x : Event). Has events x) l.3 (one l.0 l.1 l.2) in
-      counted_has n k m (subst (λ (ns : List ℕ). Has ns m) on (subst (λ x. Has (numbers_of h year events) x) w.3 (number_to h year events w.0 there w.2))))
+    let w = number_from h year (opened_by lines) m g in
+    let l = opened_from lines w.0 w.1 in
+    let there : Has events w.0 = subst (λ (x : Event). Has events x) l.3 (one l.0 l.1 l.2) in
+    counted_has n k m (subst (λ (ns : List ℕ). Has ns m) on (subst (λ x. Has (numbers_of h year events) x) w.3 (number_to h year events w.0 there w.2))))
     (λ m low high.
-      let w = number_from h year events m (subst (λ (ns : List ℕ). Has ns m) (sym on) (counted_to n k m low high)) in
-      let l = each w.0 w.1 in
-      let there : Has (opened_by lines) w.0 = subst (λ (x : Event). Has (opened_by lines) x) l.3 (opened_to lines l.0 l.1 l.2) in
-      subst (λ x. Has (numbers_of h year (opened_by lines)) x) w.3 (number_to h year (opened_by lines) w.0 there w.2))
+    let w = number_from h year events m (subst (λ (ns : List ℕ). Has ns m) (sym on) (counted_to n k m low high)) in
+    let l = each w.0 w.1 in
+    let there : Has (opened_by lines) w.0 = subst (λ (x : Event). Has (opened_by lines) x) l.3 (opened_to lines l.0 l.1 l.2) in
+    subst (λ x. Has (numbers_of h year (opened_by lines)) x) w.3 (number_to h year (opened_by lines) w.0 there w.2))
     ∙ sym on
 
 -- ---- the rows tell the counts
@@ -221,19 +221,19 @@ module _ (rows : List Row) (counts : List Count) (numbered : AreNumbered rows co
   row_numbers =
       rising_is 1 (count_of counts h year) (numbers_of h year (events_in rows)) (numbers_rise h year (events_in rows) (events_up rows))
       (λ m g.
-        let w = number_from h year (events_in rows) m g in
-        let p = numbered_parts h year w.0 w.2 in
-        let there : (nat_le 1 w.0.etn && nat_le w.0.etn (count_of counts w.0.hazard w.0.year)) ≡ true = sym (numbered w.0) ∙ events_from rows w.0 w.1 in
-        let q = and_parts (nat_le 1 w.0.etn) _ there in
-        let low : 1 ≤ w.0.etn = leb-true 1 w.0.etn q.0 in
-        let high : w.0.etn ≤ count_of counts w.0.hazard w.0.year = leb-true w.0.etn _ q.1 in
-        let same : count_of counts w.0.hazard w.0.year ≡ count_of counts h year = ap (λ (x : Hazard). count_of counts x w.0.year) p.0 ∙ ap (count_of counts h) p.1 in
-        let is : w.0.etn ≡ m = w.3 in
-        (omega (arith, low, is), omega (arith, high, same, is)))
+      let w = number_from h year (events_in rows) m g in
+      let p = numbered_parts h year w.0 w.2 in
+      let there : (nat_le 1 w.0.etn && nat_le w.0.etn (count_of counts w.0.hazard w.0.year)) ≡ true = sym (numbered w.0) ∙ events_from rows w.0 w.1 in
+      let q = and_parts (nat_le 1 w.0.etn) _ there in
+      let low : 1 ≤ w.0.etn = leb-true 1 w.0.etn q.0 in
+      let high : w.0.etn ≤ count_of counts w.0.hazard w.0.year = leb-true w.0.etn _ q.1 in
+      let same : count_of counts w.0.hazard w.0.year ≡ count_of counts h year = ap (λ (x : Hazard). count_of counts x w.0.year) p.0 ∙ ap (count_of counts h) p.1 in
+      let is : w.0.etn ≡ m = w.3 in
+      (omega (arith, low, is), omega (arith, high, same, is)))
       (λ m low high.
-        let e : Event = record { hazard = h; etn = m; year = year } in
-        let there : has_rows rows e ≡ true = numbered e ∙ and_from _ _ (le-leb 1 m low) (le-leb m (count_of counts h year) (omega (arith, high))) in
-        number_to h year (events_in rows) e (events_to rows e there) (numbered_from_parts h year e refl refl))
+      let e : Event = record { hazard = h; etn = m; year = year } in
+      let there : has_rows rows e ≡ true = numbered e ∙ and_from _ _ (le-leb 1 m low) (le-leb m (count_of counts h year) (omega (arith, high))) in
+      number_to h year (events_in rows) e (events_to rows e there) (numbered_from_parts h year e refl refl))
 
   among_step : (r : Row) (b : Bool) (rest : ℕ) → is_numbered h year r.event ≡ b → rest ≡ length (numbers_of h year (events_in rows)) → cond b (length (numbers_of r.event.hazard r.event.year (events_in rows))) rest ≡ length (numbers_of h year (events_in rows))
   among_step r true rest is more =

@@ -27,9 +27,9 @@ each_apart : (lines : List Line) → EachPair IsApart lines → AreApart lines
 each_apart [] pairs = tt
 each_apart (line ∷ lines) pairs = (
   λ own. none_from (speaks_of line.event line.zone) lines
-    (all_weaker (IsApart line) (λ m. speaks_of line.event line.zone m ≡ false) (λ m apart. false_from_ne_true _ (λ h.
-    let p = speaks_of-parts line.event line.zone m h in
-    apart (sym p.1, sym p.2))) lines pairs.0),
+      (all_weaker (IsApart line) (λ m. speaks_of line.event line.zone m ≡ false) (λ m apart. false_from_ne_true _ (λ h.
+      let p = speaks_of-parts line.event line.zone m h in
+      apart (sym p.1, sym p.2))) lines pairs.0),
   each_apart lines pairs.1,
 )
 

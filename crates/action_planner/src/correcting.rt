@@ -14,7 +14,9 @@ use crate::rules::{conflict, too_many};
 use crate::texts::{copied, events_of, no_texts};
 use event_life::is_live;
 use hazard_board::Board;
-use hazard_types::{Action, Event, EventTexts, Line, List, Minute, Oom, Or, Plan, Refusal, Row, Sent, Texts};
+use hazard_types::{
+    Action, Event, EventTexts, Line, List, Minute, Oom, Or, Plan, Refusal, Row, Sent, Texts,
+};
 use segmenter::segments;
 use std::alloc::Global;
 

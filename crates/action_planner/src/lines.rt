@@ -142,7 +142,7 @@ fn add_spoken(lines: &mut List<Line>, sending: &Sending) -> Result<(), Oom>
 }
 
 /// Whether products of this category follow the hazard.
-fn follows(category: Category, hazard: &Hazard) -> bool
+pub fn follows(category: Category, hazard: &Hazard) -> bool
     ensures { result ≡ follows category (facts_of hazard.now) }
 {
     match facts(*hazard) {
