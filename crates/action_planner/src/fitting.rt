@@ -15,7 +15,7 @@ use hazard_types::desk_hazards::facts;
 use hazard_types::{Category, Draft, Facts, Hazard, Intent, Target, Zone};
 
 /// The most intents of a draft.
-const MOST_INTENTS: usize = 64;
+pub const MOST_INTENTS: usize = 64;
 
 /// The most zones of an intent.
 const MOST_ZONES: usize = 600;

@@ -19,7 +19,7 @@ mod zone_rules;
 
 pub use correcting::plan_correction;
 pub use fitting::{
-    are_zones, is_followed_by, is_known, is_opened_by, may_be_planned, may_hold, wrong_kind,
+    MOST_INTENTS, are_zones, is_followed_by, is_known, is_opened_by, may_be_planned, may_hold, wrong_kind,
 };
 pub use laws::{
     corrected_lines_are_distinct, corrections_keep_what_stands, new_lines_are_of_opened_events,
@@ -36,3 +36,4 @@ pub use planning::plan;
 pub use told_laws::{
     new_lines_draw_the_numbers, rows_tell_the_numbers, texts_say_what_their_lines_say,
 };
+pub use texts::no_texts;
