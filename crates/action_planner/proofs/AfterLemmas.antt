@@ -12,7 +12,7 @@ use Rattle.event_life.specs.Reordered.{are_lawful}
 use Rattle.event_life.specs.Table.{flood_after, left_of_life, life_after}
 use Rattle.event_life.proofs.LawfulLemmas.{touches}
 use Rattle.hazard_board.specs.Consistent.{EachToLater}
-use Rattle.action_planner.proofs.LawfulLists.{Has, all_has}
+use Rattle.action_planner.proofs.LawfulLists.{Has, all_has, every}
 use Rattle.action_planner.proofs.StandingRows.{rows_left_by}
 
 -- what stands there was there, or is what was put
@@ -46,19 +46,15 @@ after_from rows t lines lawful x h = put_all_from rows t (filter touches lines) 
 
 -- what holds of the rows before and of each line's row
 
-pub all_from : (P : Row → Type 0) (xs : List Row) → ((x : Row) → Has xs x → P x) → AllByRecursion P xs
-all_from P [] each = tt
-all_from P (x ∷ xs) each = (each x (inl refl), all_from P xs (λ y h. each y (inr h)))
-
 pub all_after : (P : Row → Type 0) (rows : List Row) (t : ℕ) (lines : List Line) → are_lawful rows t lines ≡ true → AllByRecursion P rows → AllByRecursion (λ l. P (row_after rows t l)) (filter touches lines) → AllByRecursion P (rows_after rows t lines)
-all_after P rows t lines lawful before each = all_from P (rows_after rows t lines) (λ x h.
+all_after P rows t lines lawful before each = every P (rows_after rows t lines) (λ x h.
     ⊎_elim {C = P x} (λ (m : IsLeft rows t (filter touches lines) x). subst P (sym m.2) (all_has (λ l. P (row_after rows t l)) (filter touches lines) m.0 each m.1)) (λ (g : Has rows x). all_has P rows x before g) (after_from rows t lines lawful x h))
 
 -- pairs
 
 pub later_from : (R : Row → Row → Type 0) (xs : List Row) → ((x y : Row) → Has xs x → Has xs y → R x y) → EachToLater R xs
 later_from R [] each = tt
-later_from R (x ∷ xs) each = (all_from (R x) xs (λ y h. each x y (inl refl) (inr h)), later_from R xs (λ y z h g. each y z (inr h) (inr g)))
+later_from R (x ∷ xs) each = (every (R x) xs (λ y h. each x y (inl refl) (inr h)), later_from R xs (λ y z h g. each y z (inr h) (inr g)))
 
 module _ (R : Row → Row → Type 0) (itself : (x : Row) → R x x) (turned : (x y : Row) → R x y → R y x) where
   pub pair_of : (xs : List Row) → EachToLater R xs → (x y : Row) → Has xs x → Has xs y → R x y

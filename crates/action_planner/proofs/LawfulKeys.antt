@@ -67,7 +67,7 @@ opening_action-none f n a b rows t e part (Fresh h) = n
 opening_action-none f n a b rows t e part (Join d) = either_action f (has_period rows e (put_period part t) t) Exa Exb a b
 
 -- a put's line has one of five actions
-put_action-none : (f : Action → Bool) → f New ≡ false → f Exa ≡ false → f Exb ≡ false → f Con ≡ false → f Ext ≡ false → (rows : List Row) (t : ℕ) (e : Event) (part : PutPart) (z : Place) (o : Option Row) → f (put_line_on rows t e part z o).action ≡ false
+pub put_action-none : (f : Action → Bool) → f New ≡ false → f Exa ≡ false → f Exb ≡ false → f Con ≡ false → f Ext ≡ false → (rows : List Row) (t : ℕ) (e : Event) (part : PutPart) (z : Place) (o : Option Row) → f (put_line_on rows t e part z o).action ≡ false
 put_action-none f n a b c x rows t e part z None = opening_action-none f n a b rows t e part part.target
 put_action-none f n a b c x rows t e part z (Some row) = either_action f (same_at t row.period (put_period_on part t row)) Con Ext c x
 

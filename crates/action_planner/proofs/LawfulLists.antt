@@ -1,7 +1,7 @@
 -- Lists: what holds of each element, of each pair, and of what is found.
 use Rattle.std.proofs.Common.{◌≡◌, ◌⊎◌, inl, inr, ⊎_elim, ◌||◌, ℕ, zero, suc, ◌<◌, length, get_or, arith, List, [], ◌∷◌, ◌++◌, Bool, true, false, Option, Some, None, refl, ap, cond, map}
 use Rattle.std.proofs.lemmas.Bool.{or_parts, or_from, or_left, or_right}
-use Rattle.std.specs.List.{AllByRecursion, AllPairs, Any, Contains, filter, find, list_any}
+use Rattle.std.specs.List.{AllByRecursion, AllPairs, Any, Contains, cons_option, filter, filter_map, find, list_any}
 
 module _ {X : Type 0} where
   pub all_append : (P : X → Type 0) (xs ys : List X) → AllByRecursion P xs → AllByRecursion P ys → AllByRecursion P (xs ++ ys)
@@ -174,6 +174,42 @@ module _ {X : Type 0} where
   pairs_from R (x ∷ xs) all zero (suc j) d le lt = all_at (R x) xs j d (omega (arith, lt)) all.0
   pairs_from R (x ∷ xs) all (suc i) zero d le lt = absurd (omega (arith, le))
   pairs_from R (x ∷ xs) all (suc i) (suc j) d le lt = pairs_from R xs all.1 i j d (omega (arith, le)) (omega (arith, lt))
+
+  all_places : (P : X → Type 0) (xs : List X) → ((j : ℕ) (d : X) → j < length xs → P (get_or xs j d)) → AllByRecursion P xs
+  all_places P [] each = tt
+  all_places P (x ∷ xs) each = (each 0 x (omega arith), all_places P xs (λ j d lt. each (suc j) d (omega (arith, lt))))
+
+  pub pairs_to : (R : X → X → Type 0) (xs : List X) → AllPairs R xs → EachPair R xs
+  pairs_to R [] each = tt
+  pairs_to R (x ∷ xs) each = (
+    all_places (R x) xs (λ j d lt. each 0 (suc j) d (omega arith) (omega (arith, lt))),
+    pairs_to R xs (λ i j d le lt. each (suc i) (suc j) d (omega (arith, le)) (omega (arith, lt))),
+  )
+
+  pub every : (P : X → Type 0) (xs : List X) → ((x : X) → Has xs x → P x) → AllByRecursion P xs
+  every P [] own = tt
+  every P (x ∷ xs) own = (own x (inl refl), every P xs (λ y h. own y (inr h)))
+
+module _ {Y : Type 0} where
+  all_some_step : (P : Y → Type 0) (o : Option Y) (ys : List Y) → ((y : Y) → o ≡ Some y → P y) → AllByRecursion P ys → AllByRecursion P (cons_option o ys)
+  all_some_step P None ys own rest = rest
+  all_some_step P (Some y) ys own rest = (own y refl, rest)
+
+  pair_some_step : (S : Y → Y → Type 0) (o : Option Y) (ys : List Y) → ((y : Y) → o ≡ Some y → AllByRecursion (S y) ys) → EachPair S ys → EachPair S (cons_option o ys)
+  pair_some_step S None ys own rest = rest
+  pair_some_step S (Some y) ys own rest = (own y refl, rest)
+
+module _ {X Y : Type 0} where
+  -- what a map that leaves some out keeps
+
+  pub all_some : (P : Y → Type 0) (f : X → Option Y) (xs : List X) → ((x : X) → Has xs x → (y : Y) → f x ≡ Some y → P y) → AllByRecursion P (filter_map f xs)
+  all_some P f [] own = tt
+  all_some P f (x ∷ xs) own = all_some_step P (f x) (filter_map f xs) (own x (inl refl)) (all_some P f xs (λ z h. own z (inr h)))
+
+  pub pair_some : (R : X → X → Type 0) (S : Y → Y → Type 0) (f : X → Option Y) → ((x z : X) (y w : Y) → R x z → f x ≡ Some y → f z ≡ Some w → S y w) → (xs : List X) → EachPair R xs → EachPair S (filter_map f xs)
+  pair_some R S f across [] apart = tt
+  pair_some R S f across (x ∷ xs) apart =
+      pair_some_step S (f x) (filter_map f xs) (λ y e. all_some (S y) f xs (λ z h w g. across x z y w (all_has (R x) xs z apart.0 h) e g)) (pair_some R S f across xs apart.1)
 
 module _ {X Y : Type 0} where
   pub all_map : (P : Y → Type 0) (f : X → Y) (xs : List X) → AllByRecursion (λ x. P (f x)) xs → AllByRecursion P (map f xs)

@@ -24,5 +24,11 @@ pub mod SourceLemmas
 pub mod AfterLemmas
 pub mod SiteLemmas
 pub mod Standing
+pub mod CorrectionLemmas
 pub mod TextLemmas
 pub mod PlanLemmas
+pub mod NumberLemmas
+pub mod ToldLemmas
+pub mod LineLemmas
+pub mod SaidLemmas
+pub mod FittingLemmas

@@ -34,7 +34,7 @@ use Rattle.action_planner.specs.Lines.{planned_lines}
 use Rattle.action_planner.specs.Offences.{differs, joins_by, moves_site, needed_flood, needed_flood_of, needs_event, other_site, site_moved, site_moved_of}
 use Rattle.action_planner.specs.Placed.{Placed, event_of_intent, event_of_target, is_opening, is_opening_target, opens_hazard, placed, placed_from}
 use Rattle.action_planner.proofs.AfterLemmas.{after_from, all_after, later_from, pair_of, row_flood}
-use Rattle.action_planner.proofs.LawfulLists.{EachPair, Has, all_has, all_weaker, any_has, has_any, has_filter}
+use Rattle.action_planner.proofs.LawfulLists.{EachPair, Has, all_has, all_weaker, any_has, every, has_any, has_filter}
 use Rattle.action_planner.proofs.LawfulLines.{not_bad}
 use Rattle.action_planner.proofs.LawfulPlaced.{IsFit}
 use Rattle.action_planner.proofs.RoutineLemmas.{is_routine_intent}
@@ -235,7 +235,7 @@ module _ (rows : List Row) (t : ℕ) (all : List Placed) (sited : AreSited rows)
       first_of [] h = cc
       first_of (r ∷ rest) h = step e (same_event r.event e) r rest refl (first_of rest) h
 
-  open_has : (e : Event) → is_open rows t e ≡ true → has_rows rows e ≡ true
+  pub open_has : (e : Event) → is_open rows t e ≡ true → has_rows rows e ≡ true
   open_has e h =
       let m = has_any (λ (r : Row). same_event r.event e && keeps_open t r) rows h in
       any_has (λ (r : Row). same_event r.event e) rows m.0 m.1 (and_parts (same_event m.0.event e) _ m.2).0
@@ -331,10 +331,6 @@ module _ (rows : List Row) (t : ℕ) (all : List Placed) (sited : AreSited rows)
         (each lines (λ l h. at_rows_of l (among l h)))
         (λ l m h g. lines_at l m (among l h) (among m g))
       where
-        every : (P : Line → Type 0) (xs : List Line) → ((x : Line) → Has xs x → P x) → AllByRecursion P xs
-        every P [] own = tt
-        every P (x ∷ xs) own = (own x (inl refl), every P xs (λ y h. own y (inr h)))
-
         each : {P : Line → Type 0} (lines : List Line) → ((x : Line) → Has (filter touches lines) x → P x) → AllByRecursion P (filter touches lines)
         each {P} lines own = every P (filter touches lines) own
 

@@ -43,7 +43,7 @@ use Rattle.action_planner.specs.Placed.{Placed, event_of_intent, event_of_target
 use Rattle.action_planner.specs.Standing.{AreKnown, HaveFourDigits, IsKnown, Stands}
 use Rattle.action_planner.proofs.Lawful.{planned_lawful, sound}
 use Rattle.action_planner.proofs.LawfulLines.{not_bad}
-use Rattle.action_planner.proofs.LawfulLists.{Has, all_filter, all_has, all_kept, all_weaker, any_has, has_any, has_filter, has_map, has_right, kept}
+use Rattle.action_planner.proofs.LawfulLists.{Has, all_filter, all_has, all_kept, all_weaker, any_has, has_any, has_filter, has_map, has_right, kept, map_has}
 use Rattle.action_planner.proofs.LawfulOpenings.{new_lines_opened, new_numbers, opened_have_lines, some_placed, years_of_issue}
 use Rattle.action_planner.proofs.AfterLemmas.{all_after}
 use Rattle.action_planner.proofs.LawfulPlaced.{by_none, fits, given_none, map_none}
@@ -89,12 +89,15 @@ not_spent : (opening : Bool) (etn : ℕ) (r : Refusal) → opening ≡ true → 
 not_spent true etn r o h = ltb-false 9999 etn (not_bad (nat_lt 9999 etn) r h)
 not_spent false etn r o h = cc
 
-four_digits : (ps : List Placed) (e : Event) → first_by spent ps ≡ None → Has (opened ps) e → e.etn ≤ 9999
+pub four_digits : (ps : List Placed) (e : Event) → first_by spent ps ≡ None → Has (opened ps) e → e.etn ≤ 9999
 four_digits ps e none h =
     let m = has_map (λ (x : Placed). x.event) (filter (λ (x : Placed). is_opening x.intent) ps) e h in
     let k = has_filter (λ (x : Placed). is_opening x.intent) ps m.0 m.1 in
     let own : spent m.0 ≡ None = all_has (λ (p : Placed). spent p ≡ None) ps m.0 (by_none spent ps none) k.0 in
     subst (λ (x : Event). x.etn ≤ 9999) m.2 (not_spent (is_opening m.0.intent) m.0.event.etn _ k.1 own)
+
+pub is_among_opened : (ps : List Placed) (p : Placed) → Has ps p → is_opening p.intent ≡ true → Has (opened ps) p.event
+is_among_opened ps p h o = map_has (λ (x : Placed). x.event) (filter (λ (x : Placed). is_opening x.intent) ps) p (kept (λ (x : Placed). is_opening x.intent) ps p h o)
 
 pub drawn_in_order : (c : Category) (rows : List Row) (counts : List Count) (intents : List Intent) (t : ℕ) (earlier behind : List Event) (e : Event) →
     broken c rows t (placed counts t intents) ≡ None → opened (placed counts t intents) ≡ earlier ++ e ∷ behind →

@@ -1,5 +1,5 @@
 -- The correction of a product: what stays live of its lines, said again with COR.
-use Rattle.std.specs.Prelude.{◌≡◌, ◌≤◌, ◌+◌, ◌==◌, not, ℕ, Bool, List, [], ◌∷◌, length, map, filter_map, find, nat_le, if◌then◌else◌, Option, Some, None, option_map}
+use Rattle.std.specs.Prelude.{◌≡◌, ◌≤◌, ◌+◌, ◌==◌, not, ℕ, Bool, List, [], ◌∷◌, ◌++◌, length, map, filter_map, find, nat_le, if◌then◌else◌, Option, Some, None, option_map}
 use Rattle.std.specs.List.{list_any, AllPairs}
 use Rattle.std.specs.Option.{option_or}
 use Rattle.hazard_types.specs.Same.{same_event}
@@ -28,6 +28,11 @@ use Rattle.action_planner.specs.Texts.{no_texts, events_of}
 abbrev pub correcting : ℕ → Option Row → Option Line
 correcting t None = None
 correcting t (Some row) = if is_live t row then Some (line_on Cor t row) else None
+
+-- a line behind others, where there is one
+abbrev pub with_some : List Line → Option Line → List Line
+with_some lines None = lines
+with_some lines (Some line) = lines ++ line ∷ []
 
 -- the lines whose row is live, each with COR; the others are left out
 abbrev pub corrected_lines : List Row → ℕ → List Line → List Line
@@ -84,14 +89,26 @@ correction_rules rows t sent last letters given =
 unfoldable pub broken_correction : List Row → ℕ → Sent → ℕ → ℕ → List EventTexts → Option Refusal
 broken_correction rows t sent last letters given = first_given (correction_rules rows t sent last letters given)
 
--- the plan of a correction: the letter behind those of the original's earlier corrections, A for the first; it opens nothing
-pub record IsCorrection (rows : List Row) (t : ℕ) (sent : Sent) (letters : ℕ) (given : List EventTexts) (plan : Plan) : Type 0 where
+-- the rules but that on the texts, for a correction of these lines
+unfoldable pub broken_on : List Row → ℕ → ℕ → ℕ → ℕ → List Line → Option Refusal
+broken_on rows t number last letters lines =
+    option_or (option_map refused_clash (least_clash t (rows_taken rows t lines)))
+    (option_or (not_last number last)
+    (option_or (nothing_left lines)
+    (option_or (letters_spent letters)
+    (too_many (length lines)))))
+
+-- the plan of a correction of these lines: the letter behind those of the original's earlier corrections, A for the first; it opens nothing
+pub record IsCorrectionOf (sent : Sent) (letters : ℕ) (given : List EventTexts) (said : List Line) (plan : Plan) : Type 0 where
   pub category : plan.category ≡ sent.category
   pub letter : plan.bbb ≡ Some (65 + letters)
-  pub lines : plan.lines ≡ corrected_lines rows t sent.lines
-  pub segments : AreSegments (corrected_lines rows t sent.lines) plan.segments
+  pub lines : plan.lines ≡ said
+  pub segments : AreSegments said plan.segments
   pub opened : plan.opened ≡ []
-  pub texts : plan.texts ≡ corrected_texts given sent.texts (events_of (corrected_lines rows t sent.lines))
+  pub texts : plan.texts ≡ corrected_texts given sent.texts (events_of said)
+
+abbrev pub IsCorrection : List Row → ℕ → Sent → ℕ → List EventTexts → Plan → Type 0
+IsCorrection rows t sent letters given plan = IsCorrectionOf sent letters given (corrected_lines rows t sent.lines) plan
 
 -- where a correction may be planned
 pub record CanCorrect (rows : List Row) (sent : Sent) (letters t : ℕ) : Type 0 where

@@ -2,6 +2,7 @@ pub mod Placed
 pub mod Conditions
 pub mod Corrections
 pub mod Lines
+pub mod Fitting
 pub mod Offences
 pub mod Rules
 pub mod Cases
@@ -10,3 +11,4 @@ pub mod Sending
 pub mod Texts
 pub mod Plans
 pub mod Standing
+pub mod Told

@@ -8,7 +8,9 @@ ghost use Rattle.hazard_types.specs.declared.hazard.Event.{Event};
 ghost use Rattle.hazard_types.specs.declared.hazard.Hazard.{Hazard};
 ghost use Rattle.hazard_types.specs.declared.line.Line.{Line};
 ghost use Rattle.hazard_types.specs.declared.line.Row.{Row};
+ghost use Rattle.hazard_types.specs.declared.request.EventTexts.{EventTexts};
 ghost use Rattle.hazard_types.specs.declared.request.Intent.{Intent};
+ghost use Rattle.hazard_types.specs.declared.request.Sent.{Sent};
 ghost use Rattle.event_life.specs.Lives.{opens};
 ghost use Rattle.event_life.specs.Openings.{numbers_of, counted_from, is_numbered};
 ghost use Rattle.event_life.specs.Products.{by_key, is_new, is_routine, row_at, rows_after};
@@ -19,6 +21,7 @@ ghost use Rattle.action_planner.specs.Placed.{placed, opened, opens_hazard};
 ghost use Rattle.action_planner.specs.Lines.{planned_lines, unless_ended};
 ghost use Rattle.action_planner.specs.Offences.{broken};
 ghost use Rattle.action_planner.specs.Conditions.{CanPlan};
+ghost use Rattle.action_planner.specs.Corrections.{broken_correction, corrected_lines};
 ghost use Rattle.action_planner.specs.Cases.{IsPlanned, hazard_opened};
 ghost use Rattle.action_planner.specs.Standing.{Stands};
 
@@ -99,4 +102,18 @@ pub fn plans_keep_what_stands()
         CanPlan rows counts c intents t → Stands rows counts t → IsStrictlySortedBy by_key rows → broken c rows t (placed counts t intents) ≡ None →
         DrawsAll counts after (opened (placed counts t intents)) →
         Stands (rows_after rows t (planned_lines c rows t (placed counts t intents))) after t }
+{}
+
+/// The lines of a correction are apart in event and zone, as those of the product that it corrects are.
+pub fn corrected_lines_are_distinct()
+    ensures { (rows : List Row) (t : ℕ) (lines : List Line) →
+        AllPairs (λ (l m : Line). ¬ ((l.event ≡ m.event) × (l.zone ≡ m.zone))) lines →
+        AllPairs (λ (l m : Line). ¬ ((l.event ≡ m.event) × (l.zone ≡ m.zone))) (corrected_lines rows t lines) }
+{}
+
+/// The correction of a product that breaks no rule keeps what stands. It draws no number.
+pub fn corrections_keep_what_stands()
+    ensures { (rows : List Row) (counts : List Count) (sent : Sent) (last letters : ℕ) (given : List EventTexts) (t : ℕ) →
+        Stands rows counts t → IsStrictlySortedBy by_key rows → AllPairs (λ (l m : Line). ¬ ((l.event ≡ m.event) × (l.zone ≡ m.zone))) sent.lines →
+        broken_correction rows t sent last letters given ≡ None → Stands (rows_after rows t (corrected_lines rows t sent.lines)) counts t }
 {}

@@ -1,8 +1,11 @@
 //! The lines of a draft, or the first rule that it breaks.
 #![tactic(auto)]
 
+mod correcting;
+mod fitting;
 mod intent_rules;
 mod laws;
+mod line_laws;
 mod lines;
 mod placed;
 mod planning;
@@ -11,12 +14,26 @@ mod rules;
 mod sending;
 mod spoken;
 mod texts;
+mod told_laws;
 mod zone_rules;
 
+pub use correcting::plan_correction;
+pub use fitting::{
+    MOST_INTENTS, are_zones, is_followed_by, is_known, is_opened_by, may_be_planned, may_hold, wrong_kind,
+};
 pub use laws::{
-    new_lines_are_of_opened_events, nothing_stands_at_first, opened_events_are_drawn_in_order,
-    opened_events_are_numbered_on, opened_events_stand_in_order, planned_lines_are_distinct,
-    planned_lines_are_lawful, planned_lines_are_those_planned,
-    planned_lines_open_where_no_row_stands, plans_keep_what_stands, what_stands_stands_later,
+    corrected_lines_are_distinct, corrections_keep_what_stands, new_lines_are_of_opened_events,
+    nothing_stands_at_first, opened_events_are_drawn_in_order, opened_events_are_numbered_on,
+    opened_events_stand_in_order, planned_lines_are_distinct, planned_lines_are_lawful,
+    planned_lines_are_those_planned, planned_lines_open_where_no_row_stands,
+    plans_keep_what_stands, what_stands_stands_later,
+};
+pub use line_laws::{
+    expiring_lines_end_at_a_minute, flood_lines_have_values, flood_values_are_those_given,
+    lines_are_of_the_desks_hazards, lines_have_four_digits, lines_stand_in_the_drafts_zones,
 };
 pub use planning::plan;
+pub use told_laws::{
+    new_lines_draw_the_numbers, rows_tell_the_numbers, texts_say_what_their_lines_say,
+};
+pub use texts::no_texts;

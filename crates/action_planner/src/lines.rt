@@ -21,7 +21,7 @@ use hazard_types::{
 use std::alloc::Global;
 
 /// The line that says of a row what it is, by this action.
-fn line_on(action: Action, t: Minute, row: &Row) -> Line
+pub fn line_on(action: Action, t: Minute, row: &Row) -> Line
     ensures { result ≡ line_on action t row.now }
 {
     Line {
@@ -59,7 +59,7 @@ fn finishing_action(sending: &Sending, row: &Row) -> Action
 }
 
 /// Adds a line.
-fn add_line(lines: &mut List<Line>, line: &Line) -> Result<(), Oom>
+pub fn add_line(lines: &mut List<Line>, line: &Line) -> Result<(), Oom>
     ensures { OnOk result (lines.new ≡ lines.old ++ line.now ∷ []) }
 {
     lines.extend(&[*line])
@@ -142,7 +142,7 @@ fn add_spoken(lines: &mut List<Line>, sending: &Sending) -> Result<(), Oom>
 }
 
 /// Whether products of this category follow the hazard.
-fn follows(category: Category, hazard: &Hazard) -> bool
+pub fn follows(category: Category, hazard: &Hazard) -> bool
     ensures { result ≡ follows category (facts_of hazard.now) }
 {
     match facts(*hazard) {

@@ -21,7 +21,7 @@ fn texts_of(intent: &Intent) -> &Texts
 }
 
 /// The texts of an event on which no intent is.
-fn no_texts(alloc: Global) -> Texts
+pub fn no_texts(alloc: Global) -> Texts
     ensures { result ≡ no_texts }
 {
     Texts {
@@ -33,7 +33,7 @@ fn no_texts(alloc: Global) -> Texts
 }
 
 /// A copy of texts.
-fn copied(texts: &Texts) -> Result<Texts, Oom>
+pub fn copied(texts: &Texts) -> Result<Texts, Oom>
     ensures { IfOk result (λ copy. copy ≡ texts.now) }
 {
     let copy = texts.clone()?;
@@ -62,7 +62,7 @@ fn add_event(events: &mut BTreeSet<Event>, event: &Event) -> Result<(), Oom>
 }
 
 /// The events that have a line, in order, each once.
-fn events_of(alloc: Global, lines: &[Line]) -> Result<BTreeSet<Event>, Oom>
+pub fn events_of(alloc: Global, lines: &[Line]) -> Result<BTreeSet<Event>, Oom>
     ensures { IfOk result (λ events. events.keys ≡ events_of lines.now) }
 {
     let mut events = BTreeSet::new(alloc);

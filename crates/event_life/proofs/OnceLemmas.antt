@@ -115,7 +115,7 @@ placed-every P e d events behind Less p all more = (p, all)
 placed-every P e d events behind Equal p all more = all
 placed-every P e d events behind Greater p all more = (all.0, more)
 
-add_event-every : (P : Event → Type 0) (e : Event) (events : List Event) → P e → AllByRecursion P events → AllByRecursion P (add_event e events)
+pub add_event-every : (P : Event → Type 0) (e : Event) (events : List Event) → P e → AllByRecursion P events → AllByRecursion P (add_event e events)
 add_event-every P e [] p all = (p, tt)
 add_event-every P e (d ∷ events) p all = placed-every P e d events (add_event e events) (by_event e d) p all (add_event-every P e events p all.1)
 
@@ -138,7 +138,7 @@ placed-up e d events Less h up more = ((h, above_all e d events h up.0), up)
 placed-up e d events Equal h up more = up
 placed-up e d events Greater h up more = (add_event-every (λ y. by_event d y ≡ Less) e events (by_event_total.antisymm d e ∙ ap ordering_reverse h) up.0, more)
 
-add_event-up : (e : Event) (events : List Event) → IsStrictlySortedBy by_event events → IsStrictlySortedBy by_event (add_event e events)
+pub add_event-up : (e : Event) (events : List Event) → IsStrictlySortedBy by_event events → IsStrictlySortedBy by_event (add_event e events)
 unfolding IsStrictlySortedBy
 add_event-up e [] up = (tt, tt)
 add_event-up e (d ∷ events) up = placed-up e d events (by_event e d) refl up (add_event-up e events up.1)

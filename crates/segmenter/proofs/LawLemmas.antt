@@ -59,7 +59,7 @@ module _ {K : Type 0} (R : K → K → Ordering) (total : IsTotalOrder R) where
   same_first x y xs ys above higher (inr h) (inl e) = sym e
   same_first x y xs ys above higher (inr h) (inr k) = absurd (not_both x y (all_at (λ z. R x z ≡ Less) xs y above k) (all_at (λ z. R y z ≡ Less) ys x higher h))
 
-  same_list : (xs ys : List K) → IsStrictlySortedBy R xs → IsStrictlySortedBy R ys → ((z : K) → Has xs z → Has ys z) → ((z : K) → Has ys z → Has xs z) → xs ≡ ys
+  pub same_list : (xs ys : List K) → IsStrictlySortedBy R xs → IsStrictlySortedBy R ys → ((z : K) → Has xs z → Has ys z) → ((z : K) → Has ys z → Has xs z) → xs ≡ ys
   unfolding IsStrictlySortedBy
   same_list [] [] p q to back = refl
   same_list [] (y ∷ ys) p q to back = absurd (back y (inl refl))

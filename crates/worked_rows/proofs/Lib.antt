@@ -1,4 +1,3 @@
-pub mod DrawLemmas
 pub mod Expiries
-pub mod OnceLemmas
 pub mod SegmentLemmas
+pub mod DayLemmas

@@ -1,16 +1,16 @@
 //! What becomes of a draft, as text.
-ghost use Rattle.std.specs.Prelude.{◌≡◌, ◌≢◌, ◌≤◌, [], IsTrue, IfOk, length};
+ghost use Rattle.std.specs.Prelude.{◌≡◌, ◌≤◌, IsTrue};
 ghost use Rattle.std.specs.List.{AllByRecursion};
-ghost use Rattle.std.specs.List.Sorted.{IsStrictlySortedBy};
 ghost use Rattle.hazard_types.specs.Days.{day_stamp_of};
-ghost use Rattle.hazard_types.specs.Places.{by_place};
 ghost use Rattle.hazard_types.specs.Digits.{is_day_stamp};
+ghost use Rattle.hazard_types.specs.declared.line.SegLine.{SegLine as SaidLine};
 ghost use Rattle.worked_rows.specs.Written.{CanBeWritten};
 
 use hazard_types::{
-    Action, Class, DayStamp, End, Event, Hazard, Kind, Minute, Oom, Plan, Refusal, Row, SegLine,
-    Segment, Vtec, Zone, civil_of, stamp,
+    Class, DayStamp, End, Event, Hazard, Minute, Oom, Plan, Refusal, Row, SegLine, Segment, Vtec,
+    Zone, civil_of, end_text, hazard_text, stamp, zone_text,
 };
+use segmenter::expiry;
 use std::alloc::{AllocError, Global};
 use std::str;
 use ugc_codes::write_ugc;
@@ -18,39 +18,6 @@ use vtec_string::vtec_text;
 
 /// The office of the worked days.
 const OFFICE: [u8; 4] = *b"KLWX";
-
-/// How many minutes a segment stands that leaves a row live.
-const LONG: u32 = 480;
-
-/// How many minutes a segment stands that leaves none.
-const SHORT: u32 = 60;
-
-/// Whether a line of this action leaves its row live.
-fn leaves_live(action: Action) -> bool {
-    match action {
-        Action::New | Action::Con | Action::Exa | Action::Ext | Action::Exb | Action::Cor => true,
-        Action::Upg | Action::Can | Action::Exp | Action::Rou => false,
-    }
-}
-
-/// The minute at which a segment expires: the first of eight hours on and the ends of the rows that it leaves live. One hour on, where it leaves none.
-fn expiry_of(t: Minute, lines: &[SegLine]) -> Option<Minute> {
-    let mut stands = false;
-    let mut expiry = t.get().checked_add(LONG)?;
-    for line in lines {
-        if leaves_live(line.action) {
-            stands = true;
-            if let End::At(end) = line.end {
-                expiry = expiry.min(end.get());
-            }
-        }
-    }
-    if stands {
-        Minute::new(expiry)
-    } else {
-        Minute::new(t.get().checked_add(SHORT)?)
-    }
-}
 
 /// The day stamp of a minute.
 #[tactic(auto, using(crate::proofs::Expiries::is_day))]
@@ -70,11 +37,10 @@ fn text_of(bytes: &[u8]) -> &str {
     str::from_utf8(bytes).unwrap_or("?")
 }
 
-/// Adds the P-VTEC line of a line.
-fn push_line(out: &mut String, line: &SegLine) -> Result<(), AllocError> {
-    if line.event.etn > 9999 {
-        return out.push_str("a number of five digits\n");
-    }
+/// Adds the P-VTEC line of a line, and the location of its flood values behind it.
+fn push_line(out: &mut String, line: &SegLine) -> Result<(), AllocError>
+    requires { line.now.event.etn ≤ 9999 }
+{
     let end = match line.end {
         End::At(end) => Some(end),
         End::Ufn => None,
@@ -89,67 +55,95 @@ fn push_line(out: &mut String, line: &SegLine) -> Result<(), AllocError> {
         end,
     });
     out.push_str(text_of(&text))?;
-    out.push('\n')
+    out.push('\n')?;
+    if let Some(flood) = &line.flood {
+        let site = text_of(&flood.site);
+        writeln!(out, "site {site}")?;
+    }
+    Ok(())
+}
+
+/// Adds the P-VTEC lines of lines.
+fn push_lines(out: &mut String, lines: &[SegLine]) -> Result<(), AllocError>
+    requires { AllByRecursion (λ (line : SaidLine). line.event.etn ≤ 9999) lines.now }
+{
+    for line in lines {
+        push_line(out, line)?;
+    }
+    Ok(())
 }
 
 /// Adds a segment's UGC text, its P-VTEC lines and its end.
 fn push_segment(alloc: Global, out: &mut String, t: Minute, segment: &Segment) -> Result<(), Oom>
-    requires { CanBeWritten segment.now }
+    requires written { CanBeWritten segment.now }
+    requires soon { t ≤ 52000000 }
 {
-    match expiry_of(t, segment.lines.as_slice()) {
-        Some(expiry) => {
-            let ugc = write_ugc(alloc, &segment.zones, expiry_stamp(expiry))?;
-            out.push_str(text_of(ugc.as_slice()))?;
-            out.push('\n')?;
-        }
-        None => out.push_str("an expiry out of range\n")?,
-    }
-    for line in &segment.lines {
-        push_line(out, line)?;
-    }
+    let expiry = expiry(segment.lines.as_slice(), t);
+    let ugc = write_ugc(alloc, &segment.zones, expiry_stamp(expiry))?;
+    out.push_str(text_of(ugc.as_slice()))?;
+    out.push('\n')?;
+    push_lines(out, segment.lines.as_slice())?;
     out.push_str("$$\n")?;
     Ok(())
 }
 
-/// The segments of a plan, as they stand in its product.
-pub fn segments_text(alloc: Global, t: Minute, segments: &[Segment]) -> Result<String, Oom>
-    requires { AllByRecursion CanBeWritten segments.now }
+/// Adds segments.
+fn push_segments(
+    alloc: Global,
+    out: &mut String,
+    t: Minute,
+    segments: &[Segment],
+) -> Result<(), Oom>
+    requires written { AllByRecursion CanBeWritten segments.now }
+    requires soon { t ≤ 52000000 }
 {
-    let mut out = String::new(alloc);
     for segment in segments {
-        push_segment(alloc, &mut out, t, segment)?;
+        push_segment(alloc, out, t, segment)?;
     }
-    Ok(out)
+    Ok(())
 }
 
-/// A hazard, as `WS.W`.
-fn hazard_text(alloc: Global, hazard: &Hazard) -> Result<String, AllocError> {
-    let [first, second] = hazard.phen.letters();
-    let first = char::from(first);
-    let second = char::from(second);
-    let sig = char::from(hazard.sig.letter());
-    format!(in alloc; "{first}{second}.{sig}")
+/// The letters of a correction and the segments of a plan, as they stand in its product.
+pub fn plan_text(alloc: Global, t: Minute, plan: &Plan) -> Result<String, Oom>
+    requires written { AllByRecursion CanBeWritten plan.now.segments }
+    requires soon { t ≤ 52000000 }
+{
+    let mut out = String::new(alloc);
+    if let Some(letter) = plan.bbb {
+        let letter = char::from(letter);
+        writeln!(out, "CC{letter}")?;
+    }
+    push_segments(alloc, &mut out, t, plan.segments.as_slice())?;
+    Ok(out)
 }
 
 /// An event, as `WS.W.0001.2018`.
 fn event_text(alloc: Global, event: &Event) -> Result<String, AllocError> {
-    let hazard = hazard_text(alloc, &event.hazard)?;
+    let hazard = hazard_text(&event.hazard);
+    let hazard = text_of(&hazard);
     let etn = event.etn;
     let year = event.year;
     format!(in alloc; "{hazard}.{etn:04}.{year}")
 }
 
-/// A zone, as `MDZ003`.
-fn zone_text(alloc: Global, zone: &Zone) -> Result<String, AllocError> {
-    let [first, second] = zone.state();
-    let first = char::from(first);
-    let second = char::from(second);
-    let kind = match zone.kind() {
-        Kind::C => 'C',
-        Kind::Z => 'Z',
-    };
-    let number = zone.number();
-    format!(in alloc; "{first}{second}{kind}{number:03}")
+/// The events that a plan opens, a line each, and the texts of each event with a line, of which `what` is told.
+pub fn told_text(alloc: Global, plan: &Plan) -> Result<String, AllocError> {
+    let mut out = String::new(alloc);
+    for event in plan.opened.as_slice() {
+        let event = event_text(alloc, event)?;
+        writeln!(out, "opened {event}")?;
+    }
+    for told in plan.texts.as_slice() {
+        let event = event_text(alloc, &told.event)?;
+        let what = text_of(told.texts.what.as_slice());
+        writeln!(out, "texts {event} \"{what}\"")?;
+    }
+    Ok(out)
+}
+
+/// The line of a refusal without values.
+fn bare(alloc: Global, number: &str, rule: &str) -> Result<String, AllocError> {
+    format!(in alloc; "{{\"no\":\"{number}\",\"rule\":\"{rule}\"}}\n")
 }
 
 /// The line of a refusal that names an event and a zone.
@@ -161,7 +155,8 @@ fn in_zone(
     zone: &Zone,
 ) -> Result<String, AllocError> {
     let event = event_text(alloc, event)?;
-    let zone = zone_text(alloc, zone)?;
+    let zone = zone_text(zone);
+    let zone = text_of(&zone);
     format!(in alloc;
         "{{\"event\":\"{event}\",\"no\":\"{number}\",\"rule\":\"{rule}\",\"zone\":\"{zone}\"}}\n"
     )
@@ -185,7 +180,8 @@ fn conflict(
     first: &Event,
     second: &Event,
 ) -> Result<String, AllocError> {
-    let zone = zone_text(alloc, zone)?;
+    let zone = zone_text(zone);
+    let zone = text_of(&zone);
     let first = event_text(alloc, first)?;
     let second = event_text(alloc, second)?;
     format!(in alloc;
@@ -193,10 +189,17 @@ fn conflict(
     )
 }
 
-/// The line of a refusal of a draft.
+/// The line of spent numbers.
+fn spent(alloc: Global, hazard: &Hazard) -> Result<String, AllocError> {
+    let hazard = hazard_text(hazard);
+    let hazard = text_of(&hazard);
+    format!(in alloc; "{{\"hazard\":\"{hazard}\",\"no\":\"L14\",\"rule\":\"NumbersSpent\"}}\n")
+}
+
+/// The line of a refusal of a draft or a correction. Others, which no plan is refused with, are told by their names in the code.
 pub fn refusal_text(alloc: Global, refusal: &Refusal) -> Result<String, AllocError> {
     match refusal {
-        Refusal::EmptyDraft => format!(in alloc; "{{\"no\":\"L1\",\"rule\":\"EmptyDraft\"}}\n"),
+        Refusal::EmptyDraft => bare(alloc, "L1", "EmptyDraft"),
         Refusal::NoEvent { event } => of_event(alloc, "L2", "NoEvent", event),
         Refusal::NotLive { event, zone } => in_zone(alloc, "L3", "NotLive", event, zone),
         Refusal::LeftBefore { event, zone } => in_zone(alloc, "L4", "LeftBefore", event, zone),
@@ -204,19 +207,21 @@ pub fn refusal_text(alloc: Global, refusal: &Refusal) -> Result<String, AllocErr
         Refusal::BadPeriod { place } => at_place(alloc, "L6", "BadPeriod", *place),
         Refusal::BegunMoved { event, zone } => in_zone(alloc, "L7", "BegunMoved", event, zone),
         Refusal::NoOpenEnd { place } => at_place(alloc, "L8", "NoOpenEnd", *place),
+        Refusal::FloodNeeded { place } => at_place(alloc, "L9", "FloodNeeded", *place),
         Refusal::FloodBarred { place } => at_place(alloc, "L10", "FloodBarred", *place),
+        Refusal::SiteMoved { event } => of_event(alloc, "L11", "SiteMoved", event),
         Refusal::Conflict {
             zone,
             first,
             second,
         } => conflict(alloc, zone, first, second),
         Refusal::NumberHeld { event } => of_event(alloc, "L13", "NumberHeld", event),
-        Refusal::NumbersSpent { hazard } => {
-            let hazard = hazard_text(alloc, hazard)?;
-            format!(in alloc;
-                "{{\"hazard\":\"{hazard}\",\"no\":\"L14\",\"rule\":\"NumbersSpent\"}}\n"
-            )
+        Refusal::NumbersSpent { hazard } => spent(alloc, hazard),
+        Refusal::NotLast { last } => {
+            format!(in alloc; "{{\"last\":{last},\"no\":\"L15\",\"rule\":\"NotLast\"}}\n")
         }
+        Refusal::NothingToCorrect => bare(alloc, "L16", "NothingToCorrect"),
+        Refusal::LettersSpent => bare(alloc, "L17", "LettersSpent"),
         Refusal::TooManyLines { lines } => {
             format!(in alloc; "{{\"lines\":{lines},\"no\":\"L18\",\"rule\":\"TooManyLines\"}}\n")
         }
@@ -226,14 +231,12 @@ pub fn refusal_text(alloc: Global, refusal: &Refusal) -> Result<String, AllocErr
 
 /// The line of a row that is shown.
 fn push_row(alloc: Global, out: &mut String, row: &Row) -> Result<(), AllocError> {
-    let zone = zone_text(alloc, &row.zone)?;
+    let zone = zone_text(&row.zone);
+    let zone = text_of(&zone);
     let event = event_text(alloc, &row.event)?;
     let begin = stamp(row.period.begin);
-    let end = match row.period.end {
-        End::At(end) => stamp(end),
-        End::Ufn => *b"000000T0000Z",
-    };
     let begin = text_of(&begin);
+    let end = end_text(&row.period.end);
     let end = text_of(&end);
     writeln!(out, "{zone} {event} {begin}-{end}")
 }

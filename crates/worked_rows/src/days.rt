@@ -1,79 +1,108 @@
-//! A day at the desk: the board and the numbers after the drafts that were sent.
-ghost use Rattle.std.specs.Prelude.{◌≡◌, ◌≤◌, [], length, Some, Err, IfOk, OnOk, OnErr};
+//! A day at the desk: the board, the numbers and the products after the drafts that were sent.
+ghost use Rattle.std.specs.Prelude.{◌≡◌, ◌<◌, ◌≤◌, [], length, slice_get, None, Some, Err, IfOk, OnOk, OnErr};
 ghost use Rattle.std.specs.List.{AllByRecursion};
 ghost use Rattle.hazard_types.specs.declared.or.Or.TheVariants.{No};
 ghost use Rattle.hazard_types.specs.declared.refusal.Refusal.{Refusal as Refused};
 ghost use Rattle.event_life.specs.Products.{rows_after};
 ghost use Rattle.event_life.specs.Shown.{shown_at};
+ghost use Rattle.event_numbers.specs.Counts.{DrawsAll};
 ghost use Rattle.action_planner.specs.Offences.{broken};
 ghost use Rattle.action_planner.specs.Placed.{placed, opened};
 ghost use Rattle.action_planner.specs.Plans.{IsPlan};
-ghost use Rattle.action_planner.specs.Standing.{DrawsAll};
-ghost use Rattle.worked_rows.specs.Days.{AreDrawnInOrder, MaySend};
+ghost use Rattle.worked_rows.specs.Days.{MaySend};
 ghost use Rattle.worked_rows.specs.Written.{CanBeWritten};
 
+use crate::series::{last_of, letters_of, original_of};
 use action_planner::{
-    nothing_stands_at_first, opened_events_are_drawn_in_order, plan, plans_keep_what_stands,
-    what_stands_stands_later,
+    corrected_lines_are_distinct, corrections_keep_what_stands, lines_have_four_digits,
+    nothing_stands_at_first, opened_events_are_drawn_in_order, plan, plan_correction,
+    planned_lines_are_distinct, plans_keep_what_stands, what_stands_stands_later,
 };
 use event_life::rows_stay_in_order;
 use event_numbers::Numbers;
 use hazard_board::Board;
-use hazard_types::{Draft, Event, List, Minute, Oom, Or, Plan, Refusal, Row};
+use hazard_types::{
+    Draft, EventTexts, List, Minute, Oom, Or, Plan, Refusal, Row, Sent,
+};
 use std::alloc::Global;
 use std::marker::Model;
 
-/// The rows and numbers of an office, and the minute of the last draft that was sent.
+/// The rows, numbers and products of an office, and the minute of the last product.
 #[derive(Drop)]
 pub struct Day {
     board: Board,
     numbers: Numbers,
+    products: List<Sent>,
     last: Minute,
 }
 
 impl Model for Day {
+    ghost use Rattle.std.specs.List.{AllByRecursion};
     ghost use Rattle.std.specs.List.Sorted.{IsStrictlySortedBy};
     ghost use Rattle.event_life.specs.Products.{by_key};
     ghost use Rattle.action_planner.specs.Standing.{Stands};
-    ghost use Rattle.worked_rows.specs.Days.{Standing};
+    ghost use Rattle.worked_rows.specs.Days.{HasApart, Standing};
 
     ghost Value = { Standing };
 
-    ghost view = { λ d. record { rows = d.board.rows; counts = d.numbers.counts; last = d.last } };
+    ghost view = { λ d. record { rows = d.board.rows; counts = d.numbers.counts; products = d.products; last = d.last } };
 
-    ghost invariant = { λ d. Stands d.board.rows d.numbers.counts d.last × IsStrictlySortedBy by_key d.board.rows };
+    ghost invariant = { λ d. Stands d.board.rows d.numbers.counts d.last × IsStrictlySortedBy by_key d.board.rows × AllByRecursion HasApart d.products };
 }
 
-/// Draws the numbers of these events.
-fn draw(numbers: &mut Numbers, events: &[Event])
-    requires numbers { AreDrawnInOrder numbers.old.counts events.now }
-    requires spare { length events.now ≤ numbers.old.spare }
-    ensures { DrawsAll numbers.old.counts numbers.new.counts events.now }
+/// The product of a plan, behind so many others.
+fn sent_of(
+    alloc: Global,
+    before: usize,
+    plan: &Plan,
+    t: Minute,
+    original: Option<u32>,
+) -> Result<Sent, Oom>
+    ensures { IfOk result (λ sent. sent.lines ≡ plan.now.lines) }
 {
-    for event in events {
-        numbers.commit(event.hazard, event.year);
-    }
+    let number = u32::try_from(before).unwrap_or(u32::MAX).saturating_add(1);
+    let lines = plan.lines.clone()?;
+    let texts = plan.texts.clone()?;
+    Ok(Sent {
+        number,
+        category: plan.category,
+        time: t,
+        original,
+        lines,
+        texts,
+        text: List::new(alloc),
+    })
 }
 
 impl Day {
-    /// No row stands, and no number is drawn.
+    /// No row stands, no number is drawn and no product is sent.
     pub fn new(alloc: Global) -> Self
         ensures rows { result.rows ≡ [] }
         ensures counts { result.counts ≡ [] }
+        ensures products { result.products ≡ [] }
+        ensures last { result.last ≡ 0 }
     {
         nothing_stands_at_first();
         Day {
             board: Board::new(alloc),
             numbers: Numbers::new(alloc),
+            products: List::new(alloc),
             last: Minute::new(0).unwrap(),
         }
     }
 
-    /// The minute of the last draft that was sent.
+    /// The minute of the last product.
     pub fn last(&self) -> Minute
         ensures { result ≡ self.now.last }
     {
         self.last
+    }
+
+    /// How many products were sent.
+    pub fn count(&self) -> usize
+        ensures { result ≡ length self.now.products }
+    {
+        self.products.len()
     }
 
     /// What a draft would be, sent at t, or the first rule that it breaks.
@@ -82,13 +111,15 @@ impl Day {
         requires { MaySend draft.now.category draft.now.intents self.now.last t }
         ensures plan { IfOk result (λ plan. IsPlan draft.now.category self.now.rows t (placed self.now.counts t draft.now.intents) plan) }
         ensures written { IfOk result (λ plan. AllByRecursion CanBeWritten plan.segments) }
+        ensures kept { OnOk result (broken draft.now.category self.now.rows t (placed self.now.counts t draft.now.intents) ≡ None) }
         ensures refused { (r : Refused) → result ≡ Err (No r) → broken draft.now.category self.now.rows t (placed self.now.counts t draft.now.intents) ≡ Some r }
     {
         what_stands_stands_later();
+        lines_have_four_digits();
         plan(alloc, &self.board, &self.numbers, draft, t)
     }
 
-    /// Sends a draft at t: its lines change the rows, and the events that it opens draw their numbers. A refusal, and want of memory, changes neither.
+    /// Sends a draft at t: its lines change the rows, the events that it opens draw their numbers, and its product stands behind the others. A refusal, and want of memory, changes nothing.
     #[tactic(auto, using(crate::proofs::SegmentLemmas::can_be_written))]
     pub fn send(&mut self, alloc: Global, draft: &Draft, t: Minute) -> Result<Plan, Or<Refusal>>
         requires { MaySend draft.now.category draft.now.intents self.old.last t }
@@ -97,18 +128,59 @@ impl Day {
         ensures rows { IfOk result (λ plan. self.new.rows ≡ rows_after self.old.rows t plan.lines) }
         ensures counts { OnOk result (DrawsAll self.old.counts self.new.counts (opened (placed self.old.counts t draft.now.intents))) }
         ensures last { OnOk result (self.new.last ≡ t) }
+        ensures kept { OnOk result (broken draft.now.category self.old.rows t (placed self.old.counts t draft.now.intents) ≡ None) }
         ensures refused { (r : Refused) → result ≡ Err (No r) → broken draft.now.category self.old.rows t (placed self.old.counts t draft.now.intents) ≡ Some r }
         ensures unchanged { OnErr result (self.new ≡ self.old) }
     {
         what_stands_stands_later();
         opened_events_are_drawn_in_order();
         plans_keep_what_stands();
+        planned_lines_are_distinct();
+        lines_have_four_digits();
         rows_stay_in_order();
         let plan = plan(alloc, &self.board, &self.numbers, draft, t)?;
         self.board.reserve(plan.lines.len())?;
         self.numbers.reserve(plan.opened.len())?;
+        let sent = sent_of(alloc, self.products.len(), &plan, t, None)?;
+        self.products.push(sent)?;
         self.board.apply(&plan.lines, t);
-        draw(&mut self.numbers, plan.opened.as_slice());
+        self.numbers.draw(plan.opened.as_slice());
+        self.last = t;
+        Ok(plan)
+    }
+
+    /// Corrects the product at a place among those that were sent: what stays live of its lines is said again, and the correction stands behind the others. A refusal, and want of memory, changes nothing.
+    #[tactic(auto, using(crate::proofs::SegmentLemmas::can_be_written))]
+    pub fn correct(
+        &mut self,
+        alloc: Global,
+        place: usize,
+        texts: &List<EventTexts>,
+        t: Minute,
+    ) -> Result<Plan, Or<Refusal>>
+        requires place { place < length self.old.products }
+        requires later { self.old.last ≤ t }
+        requires soon { t ≤ 52000000 }
+        ensures written { IfOk result (λ plan. AllByRecursion CanBeWritten plan.segments) }
+        ensures rows { IfOk result (λ plan. self.new.rows ≡ rows_after self.old.rows t plan.lines) }
+        ensures last { OnOk result (self.new.last ≡ t) }
+        ensures unchanged { OnErr result (self.new ≡ self.old) }
+    {
+        what_stands_stands_later();
+        corrections_keep_what_stands();
+        corrected_lines_are_distinct();
+        lines_have_four_digits();
+        rows_stay_in_order();
+        let products = self.products.as_slice();
+        let before = &products[place];
+        let original = original_of(before);
+        let last = last_of(products, before.category);
+        let letters = letters_of(products, original);
+        let plan = plan_correction(alloc, &self.board, before, last, letters, texts, t)?;
+        self.board.reserve(plan.lines.len())?;
+        let sent = sent_of(alloc, products.len(), &plan, t, Some(original))?;
+        self.products.push(sent)?;
+        self.board.apply(&plan.lines, t);
         self.last = t;
         Ok(plan)
     }

@@ -3,8 +3,8 @@
 
 mod answers;
 mod days;
-mod fitting;
 mod script;
+mod series;
 mod steps;
 mod words;
 

@@ -1,26 +1,27 @@
 //! The script of a day: each line's step is worked, and answered by text.
-ghost use Rattle.std.specs.Prelude.{IsTrue, IfOk};
-ghost use Rattle.std.specs.List.{AllByRecursion};
+ghost use Rattle.std.specs.Prelude.{IsTrue};
 ghost use Rattle.worked_rows.specs.Days.{MaySend};
-ghost use Rattle.worked_rows.specs.Written.{CanBeWritten};
 
-use crate::answers::{board_text, refusal_text, segments_text};
+use crate::answers::{board_text, plan_text, refusal_text, told_text};
 use crate::days::Day;
-use crate::fitting::may_be_planned;
-use crate::steps::{Step, no_texts, step_of};
+use crate::steps::{Step, step_of};
 use crate::words::Unread;
+use action_planner::{MOST_INTENTS, may_be_planned, no_texts};
 use hazard_types::desk_hazards::facts;
 use hazard_types::{
-    Begin, Category, Desk, Draft, End, Hazard, Intent, Kind, List, Minute, Oom, Or, Plan, PutPart,
-    Refusal, Target, Zone,
+    Begin, Category, Desk, Draft, End, EventTexts, Hazard, Intent, Kind, List, Minute, Oom, Or,
+    PutPart, Refusal, Target, Zone,
 };
 use std::alloc::Global;
 
 /// The last minute at which a draft is sent.
 const LAST_MINUTE: u32 = 52_000_000;
 
-/// The most intents of a draft.
-const MOST_INTENTS: u16 = 64;
+/// What a draft is answered that may not be sent.
+const NO_FORM: &str = "no draft of this form\n";
+
+/// What is answered where there is no draft.
+const NO_DRAFT: &str = "no draft\n";
 
 /// A day, and the draft that is being written on it.
 #[derive(Drop)]
@@ -41,17 +42,6 @@ fn new_draft(alloc: Global, category: Category, minute: Minute) -> Option<Draft>
     })
 }
 
-/// What a plan says, or a refusal.
-fn plan_text(alloc: Global, t: Minute, planned: Result<Plan, Or<Refusal>>) -> Result<String, Oom>
-    requires { IfOk planned (λ plan. AllByRecursion CanBeWritten plan.segments) }
-{
-    match planned {
-        Ok(plan) => segments_text(alloc, t, plan.segments.as_slice()),
-        Err(Or::No(refusal)) => Ok(refusal_text(alloc, &refusal)?),
-        Err(Or::OutOfMemory) => Err(Oom),
-    }
-}
-
 fn note(alloc: Global, text: &str) -> Result<String, Oom> {
     Ok(String::from_str(alloc, text)?)
 }
@@ -63,20 +53,55 @@ fn may_be_sent(day: &Day, draft: &Draft, t: Minute) -> bool
     day.last().get() <= t.get() && t.get() <= LAST_MINUTE && may_be_planned(draft)
 }
 
-/// Sends a draft.
-fn sent_text(alloc: Global, day: &mut Day, draft: &Draft, t: Minute) -> Result<String, Oom> {
-    if !may_be_sent(day, draft, t) {
-        return note(alloc, "no draft of this form\n");
+/// What becomes of a product that is not sent: the first rule that is broken, or want of memory.
+fn refused(alloc: Global, stop: Or<Refusal>) -> Result<String, Oom> {
+    match stop {
+        Or::No(refusal) => Ok(refusal_text(alloc, &refusal)?),
+        Or::OutOfMemory => Err(Oom),
     }
-    plan_text(alloc, t, day.send(alloc, draft, t))
 }
 
 /// Looks at what a draft would be.
 fn preview_text(alloc: Global, day: &Day, draft: &Draft, t: Minute) -> Result<String, Oom> {
     if !may_be_sent(day, draft, t) {
-        return note(alloc, "no draft of this form\n");
+        return note(alloc, NO_FORM);
     }
-    plan_text(alloc, t, day.plan(alloc, draft, t))
+    match day.plan(alloc, draft, t) {
+        Ok(plan) => plan_text(alloc, t, &plan),
+        Err(stop) => refused(alloc, stop),
+    }
+}
+
+/// Looks at what a draft would open, and at its texts.
+fn told(alloc: Global, day: &Day, draft: &Draft, t: Minute) -> Result<String, Oom> {
+    if !may_be_sent(day, draft, t) {
+        return note(alloc, NO_FORM);
+    }
+    match day.plan(alloc, draft, t) {
+        Ok(plan) => Ok(told_text(alloc, &plan)?),
+        Err(stop) => refused(alloc, stop),
+    }
+}
+
+/// Corrects the product of a number.
+fn corrected(
+    alloc: Global,
+    day: &mut Day,
+    number: u16,
+    texts: &List<EventTexts>,
+    t: Minute,
+) -> Result<String, Oom> {
+    let number = usize::from(number);
+    if number == 0 || number > day.count() {
+        return note(alloc, "no product\n");
+    }
+    if day.last().get() > t.get() || t.get() > LAST_MINUTE {
+        return note(alloc, NO_FORM);
+    }
+    match day.correct(alloc, number - 1, texts, t) {
+        Ok(plan) => plan_text(alloc, t, &plan),
+        Err(stop) => refused(alloc, stop),
+    }
 }
 
 /// A put of a hazard in a zone for one minute.
@@ -125,8 +150,8 @@ fn fill(
 ) -> Result<u16, Oom> {
     let mut done = 0u16;
     let mut t = from;
-    for _draft in 0..=count / MOST_INTENTS {
-        let some = (count - done).min(MOST_INTENTS);
+    for _draft in 0..=count / MOST_INTENTS as u16 {
+        let some = (count - done).min(MOST_INTENTS as u16);
         let Some(draft) = brief_draft(alloc, hazard, some, t)? else {
             return Ok(done);
         };
@@ -162,21 +187,41 @@ impl Script {
                 draft.intents.push(intent)?;
                 note(alloc, "")
             }
-            None => note(alloc, "no draft\n"),
+            None => note(alloc, NO_DRAFT),
         }
     }
 
+    /// Sends the draft. One that is refused stays.
     fn send(&mut self, alloc: Global) -> Result<String, Oom> {
+        let Some(draft) = self.draft.take() else {
+            return note(alloc, NO_DRAFT);
+        };
+        let t = self.minute;
+        if !may_be_sent(&self.day, &draft, t) {
+            self.draft = Some(draft);
+            return note(alloc, NO_FORM);
+        }
+        match self.day.send(alloc, &draft, t) {
+            Ok(plan) => plan_text(alloc, t, &plan),
+            Err(stop) => {
+                self.draft = Some(draft);
+                refused(alloc, stop)
+            }
+        }
+    }
+
+    /// What the draft would open, and its texts.
+    fn tell(&self, alloc: Global) -> Result<String, Oom> {
         match &self.draft {
-            Some(draft) => sent_text(alloc, &mut self.day, draft, self.minute),
-            None => note(alloc, "no draft\n"),
+            Some(draft) => told(alloc, &self.day, draft, self.minute),
+            None => note(alloc, NO_DRAFT),
         }
     }
 
     fn preview(&self, alloc: Global) -> Result<String, Oom> {
         match &self.draft {
             Some(draft) => preview_text(alloc, &self.day, draft, self.minute),
-            None => note(alloc, "no draft\n"),
+            None => note(alloc, NO_DRAFT),
         }
     }
 
@@ -215,6 +260,10 @@ impl Script {
             Step::Add(intent) => self.add(alloc, intent),
             Step::Send => self.send(alloc),
             Step::Preview => self.preview(alloc),
+            Step::Plan => self.tell(alloc),
+            Step::Correct(minute, number, texts) => {
+                corrected(alloc, &mut self.day, number, &texts, minute)
+            }
             Step::Board(minute) => self.board(alloc, minute),
             Step::Fill(hazard, count, from) => self.fill(alloc, &hazard, count, from),
         }

@@ -1,11 +1,12 @@
 //! The steps of a script, one a line.
 use crate::words::{
-    Unread, begin_of, category_of, end_of, event_of, hazard_of, minute_of, number_of, target_of,
-    zones_of,
+    Unread, begin_of, category_of, end_of, event_of, hazard_of, minute_of, number_of, site_of,
+    target_of, zones_of,
 };
+use action_planner::no_texts;
 use hazard_types::{
-    Category, Cause, EventPart, Flood, Hazard, Intent, List, Minute, Or, PutPart, Severity, Status,
-    Texts,
+    Category, Cause, EventPart, EventTexts, Flood, Hazard, Intent, List, Minute, Or, PutPart,
+    RoutinePart, Severity, Status, Texts,
 };
 use std::alloc::Global;
 use std::str::SplitWhitespace;
@@ -19,30 +20,24 @@ pub enum Step {
     At(Minute, Category),
     /// One intent more.
     Add(Intent),
-    /// The draft is sent: the rows and numbers are those after it.
+    /// The draft is sent: the rows and numbers are those after it, and there is no draft any more.
     Send,
     /// What the draft would be, without sending it.
     Preview,
+    /// The events that the draft would open, and the texts of each event with a line.
+    Plan,
+    /// The correction of a product by its number, at a minute, with texts.
+    Correct(Minute, u16, List<EventTexts>),
     /// The rows that are shown at a minute.
     Board(Minute),
     /// So many events of a hazard, sixty-four a draft and a draft an hour from a minute on, each over at once.
     Fill(Hazard, u16, Minute),
 }
 
-/// Texts without any words.
-pub fn no_texts(alloc: Global) -> Texts {
-    Texts {
-        what: List::new(alloc),
-        area: List::new(alloc),
-        impacts: List::new(alloc),
-        details: List::new(alloc),
-    }
-}
-
-/// The flood values of an areal flood without a forecast point.
-fn areal_flood() -> Option<Flood> {
+/// The flood values of a location, without a forecast.
+fn flood_at(site: [u8; 5]) -> Option<Flood> {
     Some(Flood {
-        site: *b"00000",
+        site,
         severity: Severity::Zero,
         cause: Cause::new(*b"ER")?,
         begin: None,
@@ -61,40 +56,78 @@ fn next_word<'a>(words: &mut SplitWhitespace<'a>) -> Result<&'a str, Or<Unread>>
     known(words.next())
 }
 
-/// The flood values that the last word of a put asks for.
-fn flood_of(word: Option<&str>) -> Result<Option<Flood>, Or<Unread>> {
-    match word {
-        None => Ok(None),
-        Some("flood") => Ok(areal_flood()),
-        Some(_) => Err(Or::No(Unread)),
+/// Texts of which `what` is this word.
+fn texts_of(alloc: Global, word: &str) -> Result<Texts, Or<Unread>> {
+    let what = List::from_slice(alloc, word.as_bytes())?;
+    Ok(Texts {
+        what,
+        area: List::new(alloc),
+        impacts: List::new(alloc),
+        details: List::new(alloc),
+    })
+}
+
+/// The texts that `what=WORD` asks for; none without it.
+fn said_of(alloc: Global, word: Option<&str>) -> Result<Texts, Or<Unread>> {
+    let Some(word) = word else {
+        return Ok(no_texts(alloc));
+    };
+    match word.split_once('=') {
+        Some(("what", text)) => texts_of(alloc, text),
+        _ => Err(Or::No(Unread)),
     }
 }
 
-/// `HAZARD-OR-EVENT ZONES BEGIN END`, and `flood` for flood values.
+/// The flood values that `flood` or `flood=SITE` asks for.
+fn flood_of(word: &str) -> Option<Flood> {
+    match word.split_once('=') {
+        None if word == "flood" => flood_at(*b"00000"),
+        Some(("flood", site)) => flood_at(site_of(site)?),
+        _ => None,
+    }
+}
+
+/// `HAZARD-OR-EVENT ZONES BEGIN END`, then `flood` or `flood=SITE` for flood values, then `what=WORD` for a text.
 fn put_of(alloc: Global, words: &mut SplitWhitespace<'_>) -> Result<Intent, Or<Unread>> {
     let target = known(target_of(next_word(words)?))?;
     let zones = zones_of(alloc, next_word(words)?)?;
     let begin = known(begin_of(next_word(words)?))?;
     let end = known(end_of(next_word(words)?))?;
-    let flood = flood_of(words.next())?;
+    let word = words.next();
+    let flood = word.and_then(flood_of);
+    let said = if flood.is_some() { words.next() } else { word };
+    let texts = said_of(alloc, said)?;
     Ok(Intent::Put(PutPart {
         target,
         zones,
         begin,
         end,
         flood,
-        texts: no_texts(alloc),
+        texts,
     }))
 }
 
-/// `EVENT ZONES`.
+/// `EVENT ZONES`, then `what=WORD` for a text.
 fn part_of(alloc: Global, words: &mut SplitWhitespace<'_>) -> Result<EventPart, Or<Unread>> {
     let event = known(event_of(next_word(words)?))?;
     let zones = zones_of(alloc, next_word(words)?)?;
+    let texts = said_of(alloc, words.next())?;
     Ok(EventPart {
         event,
         zones,
-        texts: no_texts(alloc),
+        texts,
+    })
+}
+
+/// `HAZARD ZONES`, then `what=WORD` for a text.
+fn routine_of(alloc: Global, words: &mut SplitWhitespace<'_>) -> Result<RoutinePart, Or<Unread>> {
+    let hazard = known(hazard_of(next_word(words)?))?;
+    let zones = zones_of(alloc, next_word(words)?)?;
+    let texts = said_of(alloc, words.next())?;
+    Ok(RoutinePart {
+        hazard,
+        zones,
+        texts,
     })
 }
 
@@ -103,6 +136,25 @@ fn at_of(words: &mut SplitWhitespace<'_>) -> Result<Step, Or<Unread>> {
     let minute = known(minute_of(next_word(words)?))?;
     let category = known(category_of(next_word(words)?))?;
     Ok(Step::At(minute, category))
+}
+
+/// `EVENT=WORD`.
+fn told_of(alloc: Global, word: &str) -> Result<EventTexts, Or<Unread>> {
+    let (event, text) = known(word.split_once('='))?;
+    let event = known(event_of(event))?;
+    let texts = texts_of(alloc, text)?;
+    Ok(EventTexts { event, texts })
+}
+
+/// `STAMP NUMBER`, then `EVENT=WORD` for each text.
+fn correct_of(alloc: Global, words: &mut SplitWhitespace<'_>) -> Result<Step, Or<Unread>> {
+    let minute = known(minute_of(next_word(words)?))?;
+    let number = known(number_of(next_word(words)?))?;
+    let mut texts = List::new(alloc);
+    for word in words {
+        texts.push(told_of(alloc, word)?)?;
+    }
+    Ok(Step::Correct(minute, number, texts))
 }
 
 /// `HAZARD COUNT STAMP`.
@@ -121,8 +173,11 @@ fn read_step(alloc: Global, words: &mut SplitWhitespace<'_>) -> Result<Step, Or<
         "put" => Ok(Step::Add(put_of(alloc, words)?)),
         "end" => Ok(Step::Add(Intent::Finish(part_of(alloc, words)?))),
         "restate" => Ok(Step::Add(Intent::Restate(part_of(alloc, words)?))),
+        "routine" => Ok(Step::Add(Intent::Routine(routine_of(alloc, words)?))),
         "send" => Ok(Step::Send),
         "preview" => Ok(Step::Preview),
+        "plan" => Ok(Step::Plan),
+        "correct" => correct_of(alloc, words),
         "board" => Ok(Step::Board(known(minute_of(next_word(words)?))?)),
         "fill" => fill_of(words),
         _ => Err(Or::No(Unread)),

@@ -1,9 +1,7 @@
 //! The words of a script's lines.
-ghost use Rattle.std.specs.Prelude.{◌≤◌, IfSome};
-
 use hazard_types::{
-    Begin, Category, End, Event, Hazard, Kind, List, Minute, Or, Phen, Target, Zone, categories,
-    find, read_stamp, significances,
+    Begin, Category, End, Event, Hazard, List, Minute, Or, Target, Zone, categories, event_in, find,
+    hazard_in, read_stamp, zone_in,
 };
 use std::alloc::Global;
 
@@ -36,20 +34,9 @@ pub fn category_of(word: &str) -> Option<Category> {
     find(&categories(), word.as_bytes())
 }
 
-fn letters_of(word: &str) -> Option<[u8; 2]> {
-    let [first, second] = word.as_bytes() else {
-        return None;
-    };
-    Some([*first, *second])
-}
-
 /// A hazard of two letters and a significance, as `WS.W`.
 pub fn hazard_of(word: &str) -> Option<Hazard> {
-    let (phen, sig) = word.split_once('.')?;
-    Some(Hazard {
-        phen: Phen::new(letters_of(phen)?)?,
-        sig: find(&significances(), sig.as_bytes())?,
-    })
+    hazard_in(word.as_bytes())
 }
 
 /// A number in decimal digits.
@@ -59,13 +46,7 @@ pub fn number_of(word: &str) -> Option<u16> {
 
 /// An event, as `WS.W.0001.2018`.
 pub fn event_of(word: &str) -> Option<Event> {
-    let (front, year) = word.rsplit_once('.')?;
-    let (hazard, etn) = front.rsplit_once('.')?;
-    Some(Event {
-        hazard: hazard_of(hazard)?,
-        etn: number_of(etn)?,
-        year: number_of(year)?,
-    })
+    event_in(word.as_bytes())
 }
 
 /// A new event of a hazard, or an event that is joined.
@@ -76,30 +57,12 @@ pub fn target_of(word: &str) -> Option<Target> {
     }
 }
 
-fn kind_of(letter: u8) -> Option<Kind> {
-    match letter {
-        b'C' => Some(Kind::C),
-        b'Z' => Some(Kind::Z),
-        _ => None,
-    }
-}
-
-fn digit_of(digit: u8) -> Option<u16>
-    ensures { IfSome result (λ d. d ≤ 9) }
-{
-    match digit {
-        b'0'..=b'9' => Some(u16::from(digit - b'0')),
-        _ => None,
-    }
-}
-
-/// A zone, as `MDZ003`.
-fn zone_of(word: &str) -> Option<Zone> {
-    let [first, second, kind, hundreds, tens, ones] = word.as_bytes() else {
+/// The five characters of a location.
+pub fn site_of(word: &str) -> Option<[u8; 5]> {
+    let [a, b, c, d, e] = word.as_bytes() else {
         return None;
     };
-    let number = 100 * digit_of(*hundreds)? + 10 * digit_of(*tens)? + digit_of(*ones)?;
-    Zone::new([*first, *second], kind_of(*kind)?, number)
+    Some([*a, *b, *c, *d, *e])
 }
 
 /// The zones of one state and kind from the first number to the last.
@@ -117,12 +80,12 @@ pub fn zones_of(alloc: Global, word: &str) -> Result<List<Zone>, Or<Unread>> {
     for item in word.split(',') {
         match item.split_once('>') {
             Some((first, last)) => {
-                let first = zone_of(first).ok_or(Or::No(Unread))?;
+                let first = zone_in(first.as_bytes()).ok_or(Or::No(Unread))?;
                 let last = number_of(last).ok_or(Or::No(Unread))?;
                 push_run(&mut zones, &first, last)?;
             }
             None => {
-                let zone = zone_of(item).ok_or(Or::No(Unread))?;
+                let zone = zone_in(item.as_bytes()).ok_or(Or::No(Unread))?;
                 zones.push(zone)?;
             }
         }

@@ -1,0 +1,176 @@
+//! Whether a draft may be planned: each of its intents by its hazard, its category and its zones.
+ghost use Rattle.std.specs.Prelude.{◌≡◌, ◌≤◌, ◌↔◌, find, length, None, IsTrue};
+ghost use Rattle.std.specs.List.{All, list_any};
+ghost use Rattle.hazard_types.specs.Hazards.{facts_of};
+ghost use Rattle.hazard_types.specs.Places.{Place};
+ghost use Rattle.hazard_types.specs.Same.{same_zone};
+ghost use Rattle.action_planner.specs.Conditions.{AreOfKind, AreZones, IsFollowedBy, IsOpenedBy, MayHold};
+ghost use Rattle.action_planner.specs.Fitting.{of_other_kind, are_of_kind, opens_with, fits_target, fits_following, fits, stand_once, are_zones, may_hold};
+ghost use Rattle.action_planner.specs.Lines.{follows};
+ghost use Rattle.action_planner.specs.Standing.{IsKnown};
+
+use crate::lines::follows;
+use crate::placed::zones_of;
+use hazard_types::desk_hazards::facts;
+use hazard_types::{Category, Draft, Facts, Hazard, Intent, Target, Zone};
+
+/// The most intents of a draft.
+pub const MOST_INTENTS: usize = 64;
+
+/// The most zones of an intent.
+const MOST_ZONES: usize = 600;
+
+/// Whether the desk issues the hazard.
+pub fn is_known(hazard: &Hazard) -> bool
+    ensures { IsTrue result ↔ IsKnown hazard.now }
+{
+    facts(*hazard).is_some()
+}
+
+/// Whether the zone is of another kind than these facts have.
+fn of_other_kind(known: &Option<Facts>, zone: &Zone) -> bool
+    ensures { result ≡ of_other_kind known.now zone.now }
+{
+    match known {
+        Some(known) => zone.kind() != known.kind,
+        None => false,
+    }
+}
+
+/// The first zone of another kind.
+fn first_other(known: &Option<Facts>, zones: &[Zone]) -> Option<Zone>
+    ensures { result ≡ find (of_other_kind known.now) zones.now }
+{
+    for zone in zones {
+        if of_other_kind(known, zone) {
+            return Some(*zone);
+        }
+    }
+    None
+}
+
+/// The first zone that is of another kind than the hazard's. None where the hazard is not the desk's.
+pub fn wrong_kind(hazard: &Hazard, zones: &[Zone]) -> Option<Zone>
+    ensures first { result ≡ find (of_other_kind (facts_of hazard.now)) zones.now }
+    ensures none { (result ≡ None) ↔ AreOfKind hazard.now zones.now }
+{
+    first_other(&facts(*hazard), zones)
+}
+
+fn are_of_kind(hazard: &Hazard, zones: &[Zone]) -> bool
+    ensures { result ≡ are_of_kind (facts_of hazard.now) zones.now }
+{
+    wrong_kind(hazard, zones).is_none()
+}
+
+/// Whether products of the category open new events of the hazard.
+fn opens_with(category: Category, hazard: &Hazard) -> bool
+    ensures { result ≡ opens_with category (facts_of hazard.now) }
+{
+    match facts(*hazard) {
+        Some(known) => known.opens == category,
+        None => false,
+    }
+}
+
+/// Whether the desk issues the hazard, and opens its events with this category.
+pub fn is_opened_by(category: Category, hazard: &Hazard) -> bool
+    ensures { IsTrue result ↔ IsOpenedBy category hazard.now }
+{
+    opens_with(category, hazard)
+}
+
+/// Whether the desk issues the hazard, and follows its events with this category.
+pub fn is_followed_by(category: Category, hazard: &Hazard) -> bool
+    ensures { IsTrue result ↔ IsFollowedBy category hazard.now }
+{
+    follows(category, hazard)
+}
+
+fn fits_target(category: Category, target: &Target, zones: &[Zone]) -> bool
+    ensures { result ≡ fits_target category target.now zones.now }
+{
+    match target {
+        Target::Fresh(hazard) => opens_with(category, hazard) && are_of_kind(hazard, zones),
+        Target::Join(event) => {
+            follows(category, &event.hazard) && are_of_kind(&event.hazard, zones)
+        }
+    }
+}
+
+fn fits_following(category: Category, hazard: &Hazard, zones: &[Zone]) -> bool
+    ensures { result ≡ fits_following category hazard.now zones.now }
+{
+    follows(category, hazard) && are_of_kind(hazard, zones)
+}
+
+fn fits(category: Category, intent: &Intent) -> bool
+    ensures { result ≡ fits category intent.now }
+{
+    let zones = zones_of(intent);
+    match intent {
+        Intent::Put(part) => fits_target(category, &part.target, zones),
+        Intent::Finish(part) => fits_following(category, &part.event.hazard, zones),
+        Intent::Restate(part) => fits_following(category, &part.event.hazard, zones),
+        Intent::Routine(part) => fits_following(category, &part.hazard, zones),
+    }
+}
+
+fn has(zones: &[Zone], zone: Zone) -> bool
+    ensures { result ≡ list_any (λ (z : Place). same_zone zone z) zones.now }
+{
+    zones.iter().any(|other| zone == *other)
+}
+
+/// Whether each zone stands once.
+fn stand_once(zones: &[Zone]) -> bool
+    ensures { result ≡ stand_once zones.now }
+{
+    for (place, zone) in zones.iter().enumerate() {
+        if has(&zones[place + 1..], *zone) {
+            return false;
+        }
+    }
+    true
+}
+
+/// Whether there are as many zones as an intent may have, each once.
+fn make_a_list(zones: &[Zone]) -> bool
+    ensures { result ≡ are_zones zones.now }
+{
+    1 <= zones.len() && zones.len() <= MOST_ZONES && stand_once(zones)
+}
+
+/// Whether there is at least one zone, and at most six hundred, each once.
+pub fn are_zones(zones: &[Zone]) -> bool
+    ensures { IsTrue result ↔ AreZones zones.now }
+{
+    make_a_list(zones)
+}
+
+fn holds(category: Category, intent: &Intent) -> bool
+    ensures { result ≡ may_hold category intent.now }
+{
+    fits(category, intent) && make_a_list(zones_of(intent))
+}
+
+/// Whether a draft of the category may hold the intent: its hazard is the category's, and its zones are a list of the hazard's kind.
+pub fn may_hold(category: Category, intent: &Intent) -> bool
+    ensures { IsTrue result ↔ MayHold category intent.now }
+{
+    holds(category, intent)
+}
+
+/// Whether a draft may be planned, as far as it goes itself: it holds at most 64 intents, each of which it may hold.
+pub fn may_be_planned(draft: &Draft) -> bool
+    ensures { IsTrue result ↔ ((length draft.now.intents ≤ 64) × All (MayHold draft.now.category) draft.now.intents) }
+{
+    draft.intents.len() <= MOST_INTENTS && may_hold_all(draft.category, draft.intents.as_slice())
+}
+
+/// Whether a draft of the category may hold each of the intents.
+fn may_hold_all(category: Category, intents: &[Intent]) -> bool
+    ensures { IsTrue result ↔ All (MayHold category) intents.now }
+{
+    intents.iter().all(|intent| may_hold(category, intent))
+}

@@ -1,0 +1,44 @@
+//! Laws of numbers and texts, for an office without counts and for the readers of its products.
+ghost use Rattle.std.specs.Prelude.{◌≡◌, ℕ, List};
+ghost use Rattle.std.specs.List.{AllPairs};
+ghost use Rattle.std.specs.List.Sorted.{IsStrictlySortedBy};
+ghost use Rattle.hazard_types.specs.declared.codes.Category.{Category};
+ghost use Rattle.hazard_types.specs.declared.hazard.Hazard.{Hazard};
+ghost use Rattle.hazard_types.specs.declared.line.Line.{Line};
+ghost use Rattle.hazard_types.specs.declared.line.Row.{Row};
+ghost use Rattle.hazard_types.specs.declared.line.Segment.{Segment};
+ghost use Rattle.hazard_types.specs.declared.request.Intent.{Intent};
+ghost use Rattle.event_life.specs.Openings.{numbers_of, opened_by};
+ghost use Rattle.event_life.specs.Products.{by_key, rows_after};
+ghost use Rattle.event_life.specs.Reordered.{are_lawful};
+ghost use Rattle.event_numbers.specs.declared.Count.{Count};
+ghost use Rattle.event_numbers.specs.Counts.{count_of};
+ghost use Rattle.segmenter.specs.Said.{lines_in_text, IsApart};
+ghost use Rattle.segmenter.specs.Segments.{AreSegments};
+ghost use Rattle.action_planner.specs.Conditions.{AreNumbered, CanPlan};
+ghost use Rattle.action_planner.specs.Lines.{planned_lines};
+ghost use Rattle.action_planner.specs.Placed.{placed, opened};
+ghost use Rattle.action_planner.specs.Told.{counts_in};
+
+/// The events of a draft's NEW lines, in order of events, have the numbers of each hazard and year that the events it opens have, in order of places.
+pub fn new_lines_draw_the_numbers()
+    ensures { (c : Category) (rows : List Row) (counts : List Count) (intents : List Intent) (t : ℕ) → CanPlan rows counts c intents t →
+        (h : Hazard) (year : ℕ) → numbers_of h year (opened_by (planned_lines c rows t (placed counts t intents))) ≡ numbers_of h year (opened (placed counts t intents)) }
+{}
+
+/// The rows alone tell how many numbers of a hazard and year were drawn, and so the events of a draft's intents.
+pub fn rows_tell_the_numbers()
+    ensures counts { (rows : List Row) (counts : List Count) → AreNumbered rows counts →
+        (h : Hazard) (year : ℕ) → count_of (counts_in rows) h year ≡ count_of counts h year }
+    ensures placed { (rows : List Row) (counts : List Count) (intents : List Intent) (t : ℕ) → AreNumbered rows counts →
+        placed (counts_in rows) t intents ≡ placed counts t intents }
+{}
+
+/// A text says what the lines that its segments are of say, though in another order: they are lawful alike, leave the same rows, and open the same events. The lines are apart in event and zone.
+pub fn texts_say_what_their_lines_say()
+    ensures lawful { (rows : List Row) (t : ℕ) (lines : List Line) (segments : List Segment) →
+        IsStrictlySortedBy by_key rows → AreSegments lines segments → AllPairs IsApart lines → are_lawful rows t (lines_in_text segments) ≡ are_lawful rows t lines }
+    ensures rows { (rows : List Row) (t : ℕ) (lines : List Line) (segments : List Segment) →
+        IsStrictlySortedBy by_key rows → AreSegments lines segments → AllPairs IsApart lines → rows_after rows t (lines_in_text segments) ≡ rows_after rows t lines }
+    ensures opened { (lines : List Line) (segments : List Segment) → AreSegments lines segments → opened_by (lines_in_text segments) ≡ opened_by lines }
+{}

@@ -1,0 +1,71 @@
+//! The series of a product and its corrections.
+ghost use Rattle.std.specs.Prelude.{◌≡◌, ◌≤◌};
+ghost use Rattle.worked_rows.specs.Days.{of_rivers, are_alike, last_of, is_number, corrects, letters_of, original_of};
+
+use hazard_types::{Category, Sent};
+
+/// Whether the category is FLW or FLS.
+fn of_rivers(category: Category) -> bool
+    ensures { result ≡ of_rivers category }
+{
+    matches!(category, Category::Flw | Category::Fls)
+}
+
+/// Whether two categories are one: FLW and FLS count as one.
+fn are_alike(first: Category, second: Category) -> bool
+    ensures { result ≡ are_alike first second }
+{
+    first == second || (of_rivers(first) && of_rivers(second))
+}
+
+/// The number of the last product of a category, 0 where there is none.
+pub fn last_of(products: &[Sent], category: Category) -> u32
+    ensures { result ≡ last_of products.now category }
+{
+    let mut last = 0;
+    for sent in products {
+        if are_alike(sent.category, category) {
+            last = sent.number;
+        }
+    }
+    last
+}
+
+/// Whether a number is there and is this one.
+fn is_number(number: u32, found: &Option<u32>) -> bool
+    ensures { result ≡ is_number number found.now }
+{
+    match found {
+        Some(found) => *found == number,
+        None => false,
+    }
+}
+
+/// Whether a product is a correction of this one.
+fn corrects(number: u32, sent: &Sent) -> bool
+    ensures { result ≡ corrects number sent.now }
+{
+    is_number(number, &sent.original)
+}
+
+/// How many corrections a product has, 24 at most.
+pub fn letters_of(products: &[Sent], number: u32) -> u8
+    ensures value { result ≡ letters_of products.now number }
+    ensures range { result ≤ 24 }
+{
+    products
+        .iter()
+        .filter(|sent| corrects(number, sent))
+        .count()
+        .min(24) as u8
+}
+
+/// The number of the product that a correction of this one counts for.
+pub fn original_of(sent: &Sent) -> u32
+    ensures { result ≡ original_of sent.now }
+{
+    match sent.original {
+        Some(original) => original,
+        None => sent.number,
+    }
+}
