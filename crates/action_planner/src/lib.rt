@@ -19,7 +19,8 @@ mod zone_rules;
 
 pub use correcting::plan_correction;
 pub use fitting::{
-    MOST_INTENTS, are_zones, is_followed_by, is_known, is_opened_by, may_be_planned, may_hold, wrong_kind,
+    MOST_INTENTS, are_zones, is_followed_by, is_known, is_opened_by, may_be_planned, may_hold,
+    wrong_kind,
 };
 pub use laws::{
     corrected_lines_are_distinct, corrections_keep_what_stands, new_lines_are_of_opened_events,
@@ -33,7 +34,7 @@ pub use line_laws::{
     lines_are_of_the_desks_hazards, lines_have_four_digits, lines_stand_in_the_drafts_zones,
 };
 pub use planning::plan;
+pub use texts::no_texts;
 pub use told_laws::{
     new_lines_draw_the_numbers, rows_tell_the_numbers, texts_say_what_their_lines_say,
 };
-pub use texts::no_texts;
