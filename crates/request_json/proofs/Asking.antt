@@ -16,7 +16,8 @@ use Rattle.hazard_types.specs.declared.period.End.{End}
 use Rattle.hazard_types.specs.declared.period.End.TheVariants as end
 use Rattle.hazard_types.proofs.Stamps.{spells_exactly}
 use Rattle.hazard_types.proofs.Years.{days_fit}
-use Rattle.request_json.specs.Fields.{zone_at, kind_at, three_at, end_at}
+use Rattle.hazard_types.specs.Names.{zone_at, kind_at, three_at}
+use Rattle.request_json.specs.Fields.{end_at}
 use Rattle.request_json.specs.Json.{json_of, text_at}
 use Rattle.request_json.specs.Training.{training_of, training_in, zones_at, whole_field, hazard_field, zones_field, begin_field, end_field, is_issue, all_known}
 use Rattle.request_json.specs.declared.training.Field.TheVariants as field

@@ -1,3 +1,5 @@
 pub mod Fields
+pub mod Form
 pub mod Json
+pub mod Keys
 pub mod Training
