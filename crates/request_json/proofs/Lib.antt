@@ -1,3 +1,4 @@
 pub mod Asking
+pub mod EachTexts
 pub mod KeysKnown
 pub mod Reading

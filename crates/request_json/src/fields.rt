@@ -259,10 +259,10 @@ pub fn each_event_texts(alloc: Global, values: &[Value]) -> Result<Option<List<E
 {
     let mut list = List::new(alloc);
     for value in values {
-        match event_texts_of(alloc, value)? {
-            Some(texts) => list.push(texts)?,
-            None => return Ok(None),
-        }
+        let Some(texts) = event_texts_of(alloc, value)? else {
+            return Ok(None);
+        };
+        list.push(texts)?;
     }
     Ok(Some(list))
 }
