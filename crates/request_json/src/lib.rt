@@ -4,10 +4,15 @@
 mod asked;
 mod fields;
 mod keys;
+mod members;
+mod refusals;
+mod replies;
 mod request;
 mod training;
 
 pub use asked::Asked;
+pub use refusals::refusal_text;
+pub use replies::{disk_fault_text, out_of_memory_text, reply_text};
 pub use request::{read_request, read_training_issue};
 pub use training::{Field, Part, Training, TrainingRefusal, read_training};
 

@@ -1,0 +1,159 @@
+-- Canonical texts: compact JSON. `put` sets a member at its key's place, so keys are in byte order.
+use Rattle.std.specs.Prelude.{ℕ, List, map, Option, Some, None, codes}
+use Rattle.std.specs.Str.Lossy.{utf8_lossy}
+use Rattle.serde_json.specs.Data.{Data, number, unsigned, string, array, object, Items, Members, no_members, put}
+use Rattle.serde_json.specs.View.{items_of}
+use Rattle.serde_json.specs.Written.{compact_text}
+use Rattle.hazard_types.specs.Calendar.{stamp_of}
+use Rattle.hazard_types.specs.Hazards.{hazard_code}
+use Rattle.hazard_types.specs.Names.{category_code, zone_text, event_text}
+use Rattle.hazard_types.specs.Places.{Place}
+use Rattle.hazard_types.specs.Times.{time_text}
+use Rattle.hazard_types.specs.declared.codes.Severity.{Severity}
+use Rattle.hazard_types.specs.declared.codes.Severity.TheVariants as severity
+use Rattle.hazard_types.specs.declared.codes.Status.{Status}
+use Rattle.hazard_types.specs.declared.codes.Status.TheVariants as status
+use Rattle.hazard_types.specs.declared.hazard.Event.{Event}
+use Rattle.hazard_types.specs.declared.line.Flood.{Flood}
+use Rattle.hazard_types.specs.declared.period.Begin.{Begin}
+use Rattle.hazard_types.specs.declared.period.Begin.TheVariants as begin
+use Rattle.hazard_types.specs.declared.period.End.{End}
+use Rattle.hazard_types.specs.declared.period.End.TheVariants as end
+use Rattle.hazard_types.specs.declared.request.EventPart.{EventPart}
+use Rattle.hazard_types.specs.declared.request.EventTexts.{EventTexts}
+use Rattle.hazard_types.specs.declared.request.Intent.{Intent}
+use Rattle.hazard_types.specs.declared.request.Intent.TheVariants as intent
+use Rattle.hazard_types.specs.declared.request.PutPart.{PutPart}
+use Rattle.hazard_types.specs.declared.request.Request.{Request}
+use Rattle.hazard_types.specs.declared.request.Request.TheVariants as request
+use Rattle.hazard_types.specs.declared.request.RoutinePart.{RoutinePart}
+use Rattle.hazard_types.specs.declared.request.Target.{Target}
+use Rattle.hazard_types.specs.declared.request.Target.TheVariants as target
+use Rattle.hazard_types.specs.declared.request.Texts.{Texts}
+use Rattle.request_json.specs.declared.asked.Asked.{Asked}
+
+-- a text; bytes that are no UTF-8 are written lossily
+unfoldable pub as_text : List ℕ → Data
+as_text bytes = string (utf8_lossy bytes)
+
+-- members in their places, one behind another
+abbrev pub put_text : List ℕ → List ℕ → Members → Members
+put_text key bytes ms = put key (as_text bytes) ms
+
+abbrev pub put_number : List ℕ → ℕ → Members → Members
+put_number key n ms = put key (number (unsigned n)) ms
+
+abbrev pub severity_code : Severity → List ℕ
+severity_code severity.N = codes "N"
+severity_code severity.Zero = codes "0"
+severity_code severity.One = codes "1"
+severity_code severity.Two = codes "2"
+severity_code severity.Three = codes "3"
+severity_code severity.U = codes "U"
+
+abbrev pub status_code : Status → List ℕ
+status_code status.No = codes "NO"
+status_code status.Nr = codes "NR"
+status_code status.Uu = codes "UU"
+status_code status.Oo = codes "OO"
+
+abbrev pub begin_code : Begin → List ℕ
+begin_code begin.Now = codes "now"
+begin_code (begin.At m) = stamp_of m
+
+abbrev pub end_code : End → List ℕ
+end_code end.Ufn = codes "ufn"
+end_code (end.At m) = stamp_of m
+
+abbrev pub zone_data : Place → Data
+zone_data z = as_text (zone_text z)
+
+abbrev pub zone_items : List Place → Items
+zone_items zs = items_of (map zone_data zs)
+
+-- the four texts, also where they are empty
+unfoldable pub texts_data : Texts → Data
+texts_data t = object (put_text (codes "details") t.details (put_text (codes "impacts") t.impacts (put_text (codes "area") t.area (put_text (codes "what") t.what no_members))))
+
+unfoldable pub flood_data : Flood → Data
+flood_data f = object (
+    put_text (codes "status") (status_code f.status) (
+    put_text (codes "end") (time_text f.end) (
+    put_text (codes "crest") (time_text f.crest) (
+    put_text (codes "begin") (time_text f.begin) (
+    put_text (codes "cause") f.cause (
+    put_text (codes "severity") (severity_code f.severity) (
+    put_text (codes "site") f.site no_members)))))))
+
+unfoldable pub event_texts_data : EventTexts → Data
+event_texts_data t = object (put (codes "texts") (texts_data t.texts) (put_text (codes "event") (event_text t.event) no_members))
+
+abbrev pub event_texts_items : List EventTexts → Items
+event_texts_items ts = items_of (map event_texts_data ts)
+
+-- flood values are left out where there are none
+abbrev pub put_flood : Option Flood → Members → Members
+put_flood None ms = ms
+put_flood (Some f) ms = put (codes "flood") (flood_data f) ms
+
+abbrev pub put_target : Target → Members → Members
+put_target (target.Fresh h) ms = put_text (codes "hazard") (hazard_code h) ms
+put_target (target.Join e) ms = put_text (codes "event") (event_text e) ms
+
+abbrev pub put_zones_texts : List Place → Texts → Members → Members
+put_zones_texts zones texts ms = put (codes "texts") (texts_data texts) (put (codes "zones") (array (zone_items zones)) ms)
+
+unfoldable pub put_put : PutPart → Members → Members
+put_put p ms =
+    put_flood p.flood (
+    put_text (codes "end") (end_code p.end) (
+    put_text (codes "begin") (begin_code p.begin) (
+    put_zones_texts p.zones p.texts (
+    put_target p.target ms))))
+
+unfoldable pub put_event_part : EventPart → Members → Members
+put_event_part p ms = put_zones_texts p.zones p.texts (put_text (codes "event") (event_text p.event) ms)
+
+unfoldable pub put_routine : RoutinePart → Members → Members
+put_routine p ms = put_zones_texts p.zones p.texts (put_text (codes "hazard") (hazard_code p.hazard) ms)
+
+-- what a request does
+abbrev pub doing : List ℕ → Members → Members
+doing word ms = put_text (codes "do") word ms
+
+-- a step of a draft: its request without desk, number and draft
+unfoldable pub intent_members : Intent → Members
+intent_members (intent.Put p) = put_put p (doing (codes "put") no_members)
+intent_members (intent.Finish p) = put_event_part p (doing (codes "end") no_members)
+intent_members (intent.Restate p) = put_event_part p (doing (codes "restate") no_members)
+intent_members (intent.Routine p) = put_routine p (doing (codes "routine") no_members)
+
+abbrev pub draft : ℕ → Members → Members
+draft n ms = put_number (codes "draft") n ms
+
+-- a request without desk and number
+unfoldable pub request_members : Request → Members
+request_members (request.Begin c) = put_text (codes "category") (category_code c) (doing (codes "open") no_members)
+request_members (request.Issue p) = put_put p (doing (codes "issue") no_members)
+request_members (request.Put n p) = draft n (intent_members (intent.Put p))
+request_members (request.Finish n p) = draft n (intent_members (intent.Finish p))
+request_members (request.Restate n p) = draft n (intent_members (intent.Restate p))
+request_members (request.Routine n p) = draft n (intent_members (intent.Routine p))
+request_members (request.Drop n place) = put_number (codes "place") place (draft n (doing (codes "drop") no_members))
+request_members (request.Take n) = draft n (doing (codes "take") no_members)
+request_members (request.Discard n) = draft n (doing (codes "discard") no_members)
+request_members (request.Send n) = draft n (doing (codes "send") no_members)
+request_members (request.Correct n ts) = put (codes "texts") (array (event_texts_items ts)) (put_number (codes "product") n (doing (codes "correct") no_members))
+
+unfoldable pub asked_data : Asked → Data
+asked_data a = object (put_number (codes "seq") a.seq (put_text (codes "desk") a.desk (request_members a.request)))
+
+-- the canonical text of a request
+unfoldable pub asked_text : Asked → List ℕ
+asked_text a = compact_text (asked_data a)
+
+unfoldable pub intent_data : Intent → Data
+intent_data i = object (intent_members i)
+
+unfoldable pub intent_text : Intent → List ℕ
+intent_text i = compact_text (intent_data i)
