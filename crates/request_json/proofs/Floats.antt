@@ -36,7 +36,7 @@ no_float_put k d (member l e ms) hd hm =
     let h = either (has_float e) (members_have_float ms) hm in
     beside (slice_cmp nat_cmp k l) k l d e ms hd h.0 h.1 (no_float_put k d ms hd h.1)
 
-text_no_float : (bytes : List ℕ) → has_float (as_text bytes) ≡ false
+pub text_no_float : (bytes : List ℕ) → has_float (as_text bytes) ≡ false
 unfolding as_text
 text_no_float bytes = refl
 

@@ -1,4 +1,5 @@
 pub mod Asking
+pub mod CanonicalFloats
 pub mod EachTexts
 pub mod Floats
 pub mod KeysKnown

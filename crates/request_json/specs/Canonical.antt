@@ -9,6 +9,7 @@ use Rattle.hazard_types.specs.Hazards.{hazard_code}
 use Rattle.hazard_types.specs.Names.{category_code, zone_text, event_text}
 use Rattle.hazard_types.specs.Places.{Place}
 use Rattle.hazard_types.specs.Times.{time_text}
+use Rattle.hazard_types.specs.declared.codes.Category.{Category}
 use Rattle.hazard_types.specs.declared.codes.Severity.{Severity}
 use Rattle.hazard_types.specs.declared.codes.Severity.TheVariants as severity
 use Rattle.hazard_types.specs.declared.codes.Status.{Status}
@@ -57,13 +58,13 @@ status_code status.Nr = codes "NR"
 status_code status.Uu = codes "UU"
 status_code status.Oo = codes "OO"
 
-abbrev pub begin_code : Begin → List ℕ
-begin_code begin.Now = codes "now"
-begin_code (begin.At m) = stamp_of m
+abbrev pub put_begin : Begin → Members → Members
+put_begin begin.Now ms = put_text (codes "begin") (codes "now") ms
+put_begin (begin.At m) ms = put_text (codes "begin") (stamp_of m) ms
 
-abbrev pub end_code : End → List ℕ
-end_code end.Ufn = codes "ufn"
-end_code (end.At m) = stamp_of m
+abbrev pub put_end : End → Members → Members
+put_end end.Ufn ms = put_text (codes "end") (codes "ufn") ms
+put_end (end.At m) ms = put_text (codes "end") (stamp_of m) ms
 
 abbrev pub zone_data : Place → Data
 zone_data z = as_text (zone_text z)
@@ -75,15 +76,14 @@ zone_items zs = items_of (map zone_data zs)
 unfoldable pub texts_data : Texts → Data
 texts_data t = object (put_text (codes "details") t.details (put_text (codes "impacts") t.impacts (put_text (codes "area") t.area (put_text (codes "what") t.what no_members))))
 
+abbrev pub put_source : Flood → Members → Members
+put_source f ms = put_text (codes "cause") f.cause (put_text (codes "severity") (severity_code f.severity) (put_text (codes "site") f.site ms))
+
+abbrev pub put_times : Flood → Members → Members
+put_times f ms = put_text (codes "end") (time_text f.end) (put_text (codes "crest") (time_text f.crest) (put_text (codes "begin") (time_text f.begin) ms))
+
 unfoldable pub flood_data : Flood → Data
-flood_data f = object (
-    put_text (codes "status") (status_code f.status) (
-    put_text (codes "end") (time_text f.end) (
-    put_text (codes "crest") (time_text f.crest) (
-    put_text (codes "begin") (time_text f.begin) (
-    put_text (codes "cause") f.cause (
-    put_text (codes "severity") (severity_code f.severity) (
-    put_text (codes "site") f.site no_members)))))))
+flood_data f = object (put_text (codes "status") (status_code f.status) (put_times f (put_source f no_members)))
 
 unfoldable pub event_texts_data : EventTexts → Data
 event_texts_data t = object (put (codes "texts") (texts_data t.texts) (put_text (codes "event") (event_text t.event) no_members))
@@ -106,8 +106,8 @@ put_zones_texts zones texts ms = put (codes "texts") (texts_data texts) (put (co
 unfoldable pub put_put : PutPart → Members → Members
 put_put p ms =
     put_flood p.flood (
-    put_text (codes "end") (end_code p.end) (
-    put_text (codes "begin") (begin_code p.begin) (
+    put_end p.end (
+    put_begin p.begin (
     put_zones_texts p.zones p.texts (
     put_target p.target ms))))
 
@@ -117,43 +117,62 @@ put_event_part p ms = put_zones_texts p.zones p.texts (put_text (codes "event") 
 unfoldable pub put_routine : RoutinePart → Members → Members
 put_routine p ms = put_zones_texts p.zones p.texts (put_text (codes "hazard") (hazard_code p.hazard) ms)
 
--- what a request does
-abbrev pub doing : List ℕ → Members → Members
-doing word ms = put_text (codes "do") word ms
+-- with what the request does
+abbrev pub put_do : List ℕ → Members → Members
+put_do word ms = put_text (codes "do") word ms
+
+abbrev pub put_put_do : List ℕ → PutPart → Members → Members
+put_put_do word p ms = put_put p (put_do word ms)
+
+abbrev pub put_event_do : List ℕ → EventPart → Members → Members
+put_event_do word p ms = put_event_part p (put_do word ms)
+
+abbrev pub put_routine_do : RoutinePart → Members → Members
+put_routine_do p ms = put_routine p (put_do (codes "routine") ms)
 
 -- a step of a draft: its request without desk, number and draft
-unfoldable pub intent_members : Intent → Members
-intent_members (intent.Put p) = put_put p (doing (codes "put") no_members)
-intent_members (intent.Finish p) = put_event_part p (doing (codes "end") no_members)
-intent_members (intent.Restate p) = put_event_part p (doing (codes "restate") no_members)
-intent_members (intent.Routine p) = put_routine p (doing (codes "routine") no_members)
+unfoldable pub put_intent : Intent → Members → Members
+put_intent (intent.Put p) ms = put_put_do (codes "put") p ms
+put_intent (intent.Finish p) ms = put_event_do (codes "end") p ms
+put_intent (intent.Restate p) ms = put_event_do (codes "restate") p ms
+put_intent (intent.Routine p) ms = put_routine_do p ms
 
-abbrev pub draft : ℕ → Members → Members
-draft n ms = put_number (codes "draft") n ms
+unfoldable pub intent_data : Intent → Data
+intent_data i = object (put_intent i no_members)
+
+abbrev pub put_draft : ℕ → Members → Members
+put_draft n ms = put_number (codes "draft") n ms
+
+abbrev pub put_draft_do : List ℕ → ℕ → Members → Members
+put_draft_do word n ms = put_draft n (put_do word ms)
+
+abbrev pub put_drop : ℕ → ℕ → Members → Members
+put_drop n place ms = put_number (codes "place") place (put_draft_do (codes "drop") n ms)
+
+abbrev pub put_open : Category → Members → Members
+put_open c ms = put_text (codes "category") (category_code c) (put_do (codes "open") ms)
+
+-- the texts of a correction are an array, also where there are none
+abbrev pub put_correct : ℕ → List EventTexts → Members → Members
+put_correct n ts ms = put (codes "texts") (array (event_texts_items ts)) (put_number (codes "product") n (put_do (codes "correct") ms))
 
 -- a request without desk and number
-unfoldable pub request_members : Request → Members
-request_members (request.Begin c) = put_text (codes "category") (category_code c) (doing (codes "open") no_members)
-request_members (request.Issue p) = put_put p (doing (codes "issue") no_members)
-request_members (request.Put n p) = draft n (intent_members (intent.Put p))
-request_members (request.Finish n p) = draft n (intent_members (intent.Finish p))
-request_members (request.Restate n p) = draft n (intent_members (intent.Restate p))
-request_members (request.Routine n p) = draft n (intent_members (intent.Routine p))
-request_members (request.Drop n place) = put_number (codes "place") place (draft n (doing (codes "drop") no_members))
-request_members (request.Take n) = draft n (doing (codes "take") no_members)
-request_members (request.Discard n) = draft n (doing (codes "discard") no_members)
-request_members (request.Send n) = draft n (doing (codes "send") no_members)
-request_members (request.Correct n ts) = put (codes "texts") (array (event_texts_items ts)) (put_number (codes "product") n (doing (codes "correct") no_members))
+unfoldable pub put_request : Request → Members → Members
+put_request (request.Begin c) ms = put_open c ms
+put_request (request.Issue p) ms = put_put_do (codes "issue") p ms
+put_request (request.Put n p) ms = put_put_do (codes "put") p (put_draft n ms)
+put_request (request.Finish n p) ms = put_event_do (codes "end") p (put_draft n ms)
+put_request (request.Restate n p) ms = put_event_do (codes "restate") p (put_draft n ms)
+put_request (request.Routine n p) ms = put_routine_do p (put_draft n ms)
+put_request (request.Drop n place) ms = put_drop n place ms
+put_request (request.Take n) ms = put_draft_do (codes "take") n ms
+put_request (request.Discard n) ms = put_draft_do (codes "discard") n ms
+put_request (request.Send n) ms = put_draft_do (codes "send") n ms
+put_request (request.Correct n ts) ms = put_correct n ts ms
 
-unfoldable pub asked_data : Asked → Data
-asked_data a = object (put_number (codes "seq") a.seq (put_text (codes "desk") a.desk (request_members a.request)))
+unfoldable pub asked_members : Asked → Members
+asked_members a = put_number (codes "seq") a.seq (put_text (codes "desk") a.desk (put_request a.request no_members))
 
 -- the canonical text of a request
 unfoldable pub asked_text : Asked → List ℕ
-asked_text a = compact_text (asked_data a)
-
-unfoldable pub intent_data : Intent → Data
-intent_data i = object (intent_members i)
-
-unfoldable pub intent_text : Intent → List ℕ
-intent_text i = compact_text (intent_data i)
+asked_text a = compact_text (object (asked_members a))

@@ -167,10 +167,13 @@ out_of_memory_text = codes "{\"no\":\"M1\",\"rule\":\"OutOfMemory\"}"
 abbrev pub intent_items : List Intent → Items
 intent_items is = items_of (map intent_data is)
 
-unfoldable pub draft_text : Draft → List ℕ
-draft_text d = compact_text (object (
+unfoldable pub draft_members : Draft → Members
+draft_members d =
     put (codes "intents") (array (intent_items d.intents)) (
     put_text (codes "touched") (stamp_of d.touched) (
     put_text (codes "owner") d.owner (
     put_text (codes "category") (category_code d.category) (
-    put_number (codes "draft") d.id no_members))))))
+    put_number (codes "draft") d.id no_members))))
+
+unfoldable pub draft_text : Draft → List ℕ
+draft_text d = compact_text (object (draft_members d))

@@ -2,6 +2,8 @@
 #![tactic(auto)]
 
 mod asked;
+mod canonical;
+mod drafts;
 mod fields;
 mod keys;
 mod members;
@@ -11,6 +13,8 @@ mod request;
 mod training;
 
 pub use asked::Asked;
+pub use canonical::request_text;
+pub use drafts::draft_text;
 pub use refusals::refusal_text;
 pub use replies::{disk_fault_text, out_of_memory_text, reply_text};
 pub use request::{read_request, read_training_issue};

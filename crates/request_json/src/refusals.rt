@@ -122,12 +122,7 @@ fn put_clash(
 }
 
 /// Sets a field, and a place in its text.
-fn put_place_in(
-    alloc: Global,
-    members: &mut Members,
-    field: &[u8],
-    at: usize,
-) -> Result<(), Oom>
+fn put_place_in(alloc: Global, members: &mut Members, field: &[u8], at: usize) -> Result<(), Oom>
     ensures { OnOk result (members_view members.new.entries ≡ put_place_in field.now at (members_view members.old.entries)) }
 {
     put_text(alloc, members, "field", field)?;
@@ -159,9 +154,8 @@ fn put_values(alloc: Global, members: &mut Members, refusal: &Refusal) -> Result
             put_zone(alloc, members, zone)
         }
         Refusal::BadText { field, at } => put_place_in(alloc, members, field.as_slice(), *at),
-        Refusal::NoEvent { event }
-        | Refusal::SiteMoved { event }
-        | Refusal::NumberHeld { event } => put_event_text(alloc, members, "event", event),
+        Refusal::NoEvent { event } | Refusal::SiteMoved { event } | Refusal::NumberHeld { event } =>
+            put_event_text(alloc, members, "event", event),
         Refusal::NotLive { event, zone }
         | Refusal::LeftBefore { event, zone }
         | Refusal::Twice { event, zone }
