@@ -1,6 +1,6 @@
 -- No canonical text has a float.
 use Rattle.std.proofs.Common.{◌≡◌, false, ℕ, List, Option, Some, None, refl, codes}
-use Rattle.serde_json.specs.Data.{object, array, Members, no_members, put}
+use Rattle.serde_json.specs.Data.{array, Members, no_members, put}
 use Rattle.serde_json.specs.Written.{has_float, items_have_float, members_have_float}
 use Rattle.hazard_types.specs.Calendar.{stamp_of}
 use Rattle.hazard_types.specs.Hazards.{hazard_code}
@@ -23,7 +23,7 @@ use Rattle.hazard_types.specs.declared.request.RoutinePart.{RoutinePart}
 use Rattle.hazard_types.specs.declared.request.Target.{Target}
 use Rattle.hazard_types.specs.declared.request.Target.TheVariants as target
 use Rattle.hazard_types.specs.declared.request.Texts.{Texts}
-use Rattle.request_json.specs.Canonical.{as_text, put_text, put_number, severity_code, status_code, put_source, put_times, put_begin, put_end, zone_data, zone_items, texts_data, flood_data, event_texts_data, event_texts_items, put_flood, put_target, put_zones_texts, put_put, put_event_part, put_routine, put_do, put_draft, put_put_do, put_event_do, put_routine_do, put_intent, intent_data, put_request, asked_members}
+use Rattle.request_json.specs.Canonical.{put_text, put_number, severity_code, status_code, put_source, put_times, put_begin, put_end, zone_data, zone_items, texts_data, flood_data, event_texts_data, event_texts_items, put_flood, put_target, put_zones_texts, put_put, put_event_part, put_routine, put_do, put_draft, put_put_do, put_event_do, put_routine_do, put_intent, intent_data, put_request, asked_members}
 use Rattle.request_json.specs.Replies.{draft_members, intent_items}
 use Rattle.hazard_types.specs.declared.request.Draft.{Draft}
 use Rattle.request_json.specs.declared.asked.Asked.{Asked}

@@ -14,7 +14,6 @@ use Rattle.hazard_types.specs.declared.codes.Severity.{Severity}
 use Rattle.hazard_types.specs.declared.codes.Severity.TheVariants as severity
 use Rattle.hazard_types.specs.declared.codes.Status.{Status}
 use Rattle.hazard_types.specs.declared.codes.Status.TheVariants as status
-use Rattle.hazard_types.specs.declared.hazard.Event.{Event}
 use Rattle.hazard_types.specs.declared.line.Flood.{Flood}
 use Rattle.hazard_types.specs.declared.period.Begin.{Begin}
 use Rattle.hazard_types.specs.declared.period.Begin.TheVariants as begin
@@ -139,6 +138,9 @@ put_intent (intent.Routine p) ms = put_routine_do p ms
 
 unfoldable pub intent_data : Intent → Data
 intent_data i = object (put_intent i no_members)
+
+unfoldable pub intent_text : Intent → List ℕ
+intent_text i = compact_text (intent_data i)
 
 abbrev pub put_draft : ℕ → Members → Members
 put_draft n ms = put_number (codes "draft") n ms

@@ -1,5 +1,5 @@
 -- The texts of replies, refusals and drafts.
-use Rattle.std.specs.Prelude.{ℕ, ℤ, List, map, codes}
+use Rattle.std.specs.Prelude.{ℕ, List, map, codes}
 use Rattle.serde_json.specs.Data.{Data, number, array, object, Items, Members, no_members, put}
 use Rattle.serde_json.specs.Find.{of_integer}
 use Rattle.serde_json.specs.View.{items_of}

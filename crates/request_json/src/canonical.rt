@@ -1,14 +1,15 @@
 //! Canonical texts of requests.
 ghost use Rattle.std.specs.Prelude.{◌≡◌, IfOk, OnOk, map, codes};
 ghost use Rattle.serde_json.specs.View.{view, members_view};
-ghost use Rattle.request_json.specs.Canonical.{put_text, severity_code, status_code, put_source, put_times, put_begin, put_end, zone_data, texts_data, flood_data, event_texts_data, put_flood, put_target, put_zones_texts, put_put, put_event_part, put_routine, put_put_do, put_event_do, put_routine_do, put_intent, intent_data, put_correct, put_draft_do, put_drop, put_open, put_request, asked_members, asked_text};
+ghost use Rattle.request_json.specs.Canonical.{put_text, severity_code, status_code, put_source, put_times, put_begin, put_end, zone_data, texts_data, flood_data, event_texts_data, put_flood, put_target, put_zones_texts, put_put, put_event_part, put_routine, put_put_do, put_event_do, put_routine_do, put_intent, intent_data, intent_text, put_correct, put_draft_do, put_drop, put_open, put_request, asked_members, asked_text};
 
 use crate::asked::Asked;
 use crate::members::{Members, put, put_number, put_text, text_value, written};
 use crate::refusals::put_event_text;
 use hazard_types::{
-    Begin, Category, End, EventPart, EventTexts, Flood, Intent, Oom, PutPart, Request, RoutinePart,
-    Severity, Status, Target, Text, Texts, Zone, hazard_text, stamp, time_text, zone_text,
+    Begin, Category, End, EventPart, EventTexts, Flood, Intent, List, Oom, PutPart, Request,
+    RoutinePart, Severity, Status, Target, Text, Texts, Zone, hazard_text, stamp, time_text,
+    zone_text,
 };
 use serde_json::{Map, Value};
 use std::alloc::Global;
@@ -253,6 +254,15 @@ pub fn intent_value(alloc: Global, intent: &Intent) -> Result<Value, Oom>
     let mut members = Map::new(alloc);
     put_intent(alloc, &mut members, intent)?;
     Ok(Value::Object(members))
+}
+
+/// The canonical text of an intent: its request without desk, number and draft.
+#[tactic(auto, using(crate::proofs::CanonicalFloats::intent_clean), unfolding(crate::specs::Canonical::intent_text))]
+pub fn intent_text(alloc: Global, intent: &Intent) -> Result<Text, Oom>
+    ensures { IfOk result (λ text. text ≡ intent_text intent.now) }
+{
+    let text = intent_value(alloc, intent)?.to_vec(alloc)?;
+    Ok(List::from_vec(text))
 }
 
 fn put_correct(

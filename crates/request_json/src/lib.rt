@@ -13,7 +13,7 @@ mod request;
 mod training;
 
 pub use asked::Asked;
-pub use canonical::request_text;
+pub use canonical::{intent_text, request_text};
 pub use drafts::draft_text;
 pub use refusals::refusal_text;
 pub use replies::{disk_fault_text, out_of_memory_text, reply_text};
