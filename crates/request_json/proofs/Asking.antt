@@ -1,12 +1,12 @@
 -- A line that is read has places, and an end that is a minute.
-use Rattle.std.proofs.Common.{ℕ, ◌≡◌, ◌≤◌, ◌<◌, ◌+◌, ◌-◌, ◌*◌, ◌==◌, ◌&&◌, not, Bool, true, false, cond, IsTrue, List, [], ◌∷◌, length, slice_index, nat_le, nat_lt, Option, Some, None, option_map, option_and_then, is_some, codes, Result, Ok, Err, refl, ap, sym, subst, ◌∙◌, arith}
+use Rattle.std.proofs.Common.{ℕ, ◌≡◌, ◌≤◌, ◌<◌, ◌==◌, ◌&&◌, not, Bool, true, false, cond, List, [], ◌∷◌, length, slice_index, nat_le, nat_lt, Option, Some, None, option_map, option_and_then, is_some, codes, Result, Ok, Err, refl, ap, subst, ◌∙◌, arith}
 use Rattle.std.specs.Option.{ok_or}
 use Rattle.std.specs.List.{AllByRecursion}
 use Rattle.std.proofs.lemmas.Bool.Decides.{nat_tests}
 use Rattle.serde_json.specs.Data.{Data, Items, no_items, item, Members}
-use Rattle.serde_json.specs.Find.{get, as_str, as_array, as_object}
+use Rattle.serde_json.specs.Find.{get, as_str, as_array}
 use Rattle.hazard_types.specs.Given.{◌>>=◌}
-use Rattle.hazard_types.specs.Calendar.{IsCivil, IsStamp, minute_of, stamp_at, is_digit, days_before_year, days_before_month}
+use Rattle.hazard_types.specs.Calendar.{IsCivil, minute_of, stamp_at, is_digit}
 use Rattle.hazard_types.specs.Places.{Place, IsPlace, is_capital, are_letters, is_number}
 use Rattle.hazard_types.specs.declared.calendar.Civil.{Civil}
 use Rattle.hazard_types.specs.declared.zone.Kind.{Kind}
@@ -16,11 +16,11 @@ use Rattle.hazard_types.specs.declared.period.End.{End}
 use Rattle.hazard_types.specs.declared.period.End.TheVariants as end
 use Rattle.hazard_types.proofs.Stamps.{spells_exactly}
 use Rattle.hazard_types.proofs.Years.{days_fit}
-use Rattle.request_json.specs.Fields.{zone_at, kind_at, three_at, end_at}
+use Rattle.hazard_types.specs.Names.{zone_at, kind_at, three_at}
+use Rattle.request_json.specs.Fields.{end_at}
 use Rattle.request_json.specs.Json.{json_of, text_at}
 use Rattle.request_json.specs.Training.{training_of, training_in, zones_at, whole_field, hazard_field, zones_field, begin_field, end_field, is_issue, all_known}
 use Rattle.request_json.specs.declared.training.Field.TheVariants as field
-use Rattle.request_json.specs.declared.training.TrainingRefusal.{TrainingRefusal}
 use Rattle.request_json.specs.declared.training.TrainingRefusal.TheVariants.{NotJson, WrongShape}
 use Rattle.request_json.specs.declared.training.Training.{Training}
 

@@ -1,42 +1,117 @@
--- The texts of fields.
-use Rattle.std.specs.Prelude.{◌==◌, ◌&&◌, ◌+◌, ◌-◌, ◌*◌, ℕ, List, [], ◌∷◌, length, slice_index, nat_lt, if◌then◌else◌, Option, Some, None, option_map, codes}
+-- The values of fields, as JSON has them.
+use Rattle.std.specs.Prelude.{ℕ, ◌^◌, List, [], ◌∷◌, nat_le, nat_lt, if◌then◌else◌, Option, Some, None, option_map, option_and_then, codes}
 use Rattle.std.specs.Str.{bytes_eq}
-use Rattle.hazard_types.specs.Calendar.{stamp_at, is_digit}
-use Rattle.hazard_types.specs.Places.{Place, is_capital}
-use Rattle.hazard_types.specs.declared.zone.Kind.{Kind}
-use Rattle.hazard_types.specs.declared.zone.Kind.TheVariants as kind
-use Rattle.hazard_types.specs.declared.hazard.Sig.{Sig}
-use Rattle.hazard_types.specs.declared.hazard.Sig.TheVariants as sig
-use Rattle.hazard_types.specs.declared.hazard.Hazard.{Hazard}
+use Rattle.serde_json.specs.Data.{Data, Items, no_items, item}
+use Rattle.serde_json.specs.Find.{get, as_str, as_number, as_u64, as_object}
+use Rattle.hazard_types.specs.Calendar.{stamp_at}
+use Rattle.hazard_types.specs.Characters.{is_location}
+use Rattle.hazard_types.specs.Codes.{value_beside}
+use Rattle.hazard_types.specs.Desks.{is_desk_name}
+use Rattle.hazard_types.specs.Names.{zone_at, event_at}
+use Rattle.hazard_types.specs.Places.{Place}
+use Rattle.hazard_types.specs.Tables.{severity_rows, cause_rows, status_rows}
+use Rattle.hazard_types.specs.declared.codes.Severity.{Severity}
+use Rattle.hazard_types.specs.declared.codes.Status.{Status}
+use Rattle.hazard_types.specs.declared.line.Flood.{Flood}
 use Rattle.hazard_types.specs.declared.period.Begin.{Begin}
 use Rattle.hazard_types.specs.declared.period.Begin.TheVariants as begin
 use Rattle.hazard_types.specs.declared.period.End.{End}
 use Rattle.hazard_types.specs.declared.period.End.TheVariants as end
+use Rattle.hazard_types.specs.declared.request.EventTexts.{EventTexts}
+use Rattle.hazard_types.specs.declared.request.Texts.{Texts}
+use Rattle.request_json.specs.Json.{text_at}
+use Rattle.request_json.specs.Keys.{all_known}
+use Rattle.request_json.specs.declared.keys.Keys.TheVariants as keys
 
-abbrev pub sig_at : ℕ → Option Sig
-sig_at c = if c == 87 then Some sig.W else (if c == 65 then Some sig.A else (if c == 89 then Some sig.Y else (if c == 83 then Some sig.S else (if c == 70 then Some sig.F else (if c == 79 then Some sig.O else (if c == 78 then Some sig.N else None))))))
-
-abbrev pub kind_at : ℕ → Option Kind
-kind_at c = if c == 67 then Some kind.C else (if c == 90 then Some kind.Z else None)
-
--- as WS.W
-unfoldable pub hazard_at : List ℕ → Option Hazard
-hazard_at bs = if (length bs == 4) && is_capital (slice_index bs 0) && is_capital (slice_index bs 1) && (slice_index bs 2 == 46)
-    then option_map (λ s. record { phen = slice_index bs 0 ∷ slice_index bs 1 ∷ []; sig = s }) (sig_at (slice_index bs 3))
-    else None
-
--- the number that three digits spell
-abbrev pub three_at : List ℕ → ℕ → ℕ
-three_at bs i = 100 * (slice_index bs i - 48) + 10 * (slice_index bs (i + 1) - 48) + (slice_index bs (i + 2) - 48)
-
--- as MDZ003
-unfoldable pub zone_at : List ℕ → Option Place
-zone_at bs = if (length bs == 6) && is_capital (slice_index bs 0) && is_capital (slice_index bs 1) && is_digit (slice_index bs 3) && is_digit (slice_index bs 4) && is_digit (slice_index bs 5) && nat_lt 0 (three_at bs 3)
-    then option_map (λ k. record { state = slice_index bs 0 ∷ slice_index bs 1 ∷ []; kind = k; number = three_at bs 3 }) (kind_at (slice_index bs 2))
-    else None
-
+-- now, or a stamp
 abbrev pub begin_at : List ℕ → Option Begin
 begin_at bs = if bytes_eq bs (codes "now") then Some begin.Now else option_map (λ m. begin.At m) (stamp_at bs)
 
+-- until further notice, or a stamp
 abbrev pub end_at : List ℕ → Option End
 end_at bs = if bytes_eq bs (codes "ufn") then Some end.Ufn else option_map (λ m. end.At m) (stamp_at bs)
+
+abbrev pub desk_named : List ℕ → Option (List ℕ)
+desk_named bs = if is_desk_name bs then Some bs else None
+
+-- a whole number below 2^32
+abbrev pub if_small : ℕ → Option ℕ
+if_small n = if nat_lt n (2 ^ 32) then Some n else None
+
+abbrev pub number_at : List ℕ → Data → Option ℕ
+number_at key d = option_and_then if_small (option_and_then as_u64 (option_and_then as_number (get key d)))
+
+-- which is not 0
+abbrev pub if_counted : ℕ → Option ℕ
+if_counted n = if nat_le 1 n then Some n else None
+
+-- the zones of an array of texts, if each is one
+abbrev pub zones_of : Items → Option (List Place)
+zones_of no_items = Some []
+zones_of (item d ds) = option_and_then (λ z. option_map (λ zs. z ∷ zs) (zones_of ds)) (option_and_then zone_at (as_str d))
+
+-- ---- flood values
+
+abbrev pub location_at : List ℕ → Option (List ℕ)
+location_at text = if is_location text then Some text else None
+
+-- the minute of a stamp, or no minute for the zero time
+unfoldable pub time_at : List ℕ → Option (Option ℕ)
+time_at text = if bytes_eq text (codes "000000T0000Z") then Some None else option_map (λ m. Some m) (stamp_at text)
+
+abbrev pub site_in : Data → Option (List ℕ)
+site_in d = option_and_then location_at (text_at (codes "site") d)
+
+abbrev pub severity_in : Data → Option Severity
+severity_in d = option_and_then (value_beside severity_rows) (text_at (codes "severity") d)
+
+-- one of the seven causes that the desk writes
+abbrev pub cause_in : Data → Option (List ℕ)
+cause_in d = option_and_then (value_beside cause_rows) (text_at (codes "cause") d)
+
+abbrev pub time_in : List ℕ → Data → Option (Option ℕ)
+time_in key d = option_and_then time_at (text_at key d)
+
+abbrev pub status_in : Data → Option Status
+status_in d = option_and_then (value_beside status_rows) (text_at (codes "status") d)
+
+-- the values of an object, where each is there
+unfoldable pub values_in : Data → Option Flood
+values_in d =
+    option_and_then (λ site. option_and_then (λ severity. option_and_then (λ cause. option_and_then (λ begin. option_and_then (λ crest. option_and_then (λ end. option_map (λ status.
+    record { site = site; severity = severity; cause = cause; begin = begin; crest = crest; end = end; status = status })
+    (status_in d)) (time_in (codes "end") d)) (time_in (codes "crest") d)) (time_in (codes "begin") d)) (cause_in d)) (severity_in d)) (site_in d)
+
+-- and no other key is
+unfoldable pub flood_of : Data → Option Flood
+flood_of d = option_and_then (λ ms. if all_known keys.Flood ms then values_in d else None) (as_object d)
+
+-- ---- texts
+
+-- an absent text is empty
+abbrev pub text_or_empty : Option Data → Option (List ℕ)
+text_or_empty None = Some []
+text_or_empty (Some d) = as_str d
+
+abbrev pub free_text : List ℕ → Data → Option (List ℕ)
+free_text key d = text_or_empty (get key d)
+
+unfoldable pub four_texts : Data → Option Texts
+four_texts d =
+    option_and_then (λ what. option_and_then (λ area. option_and_then (λ impacts. option_map (λ details.
+    record { what = what; area = area; impacts = impacts; details = details })
+    (free_text (codes "details") d)) (free_text (codes "impacts") d)) (free_text (codes "area") d)) (free_text (codes "what") d)
+
+unfoldable pub texts_of : Data → Option Texts
+texts_of d = option_and_then (λ ms. if all_known keys.Texts ms then four_texts d else None) (as_object d)
+
+-- an event with its texts, both there
+unfoldable pub event_texts_of : Data → Option EventTexts
+event_texts_of d = option_and_then (λ ms. if all_known keys.EventTexts ms
+    then option_and_then (λ event. option_map (λ texts. record { event = event; texts = texts }) (option_and_then texts_of (get (codes "texts") d))) (option_and_then event_at (text_at (codes "event") d))
+    else None) (as_object d)
+
+-- those of an array, if each is one
+abbrev pub each_event_texts : Items → Option (List EventTexts)
+each_event_texts no_items = Some []
+each_event_texts (item d ds) = option_and_then (λ t. option_map (λ ts. t ∷ ts) (each_event_texts ds)) (event_texts_of d)

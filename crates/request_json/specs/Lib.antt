@@ -1,3 +1,7 @@
+pub mod Canonical
 pub mod Fields
+pub mod Form
 pub mod Json
+pub mod Keys
+pub mod Replies
 pub mod Training

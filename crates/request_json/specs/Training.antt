@@ -7,7 +7,8 @@ use Rattle.serde_json.specs.Find.{get, as_str, as_array, as_object}
 use Rattle.hazard_types.specs.Given.{◌>>=◌}
 use Rattle.hazard_types.specs.Places.{Place}
 use Rattle.hazard_types.specs.declared.hazard.Hazard.{Hazard}
-use Rattle.request_json.specs.Fields.{hazard_at, zone_at, begin_at, end_at}
+use Rattle.hazard_types.specs.Names.{hazard_at, zone_at}
+use Rattle.request_json.specs.Fields.{begin_at, end_at}
 use Rattle.request_json.specs.Json.{json_of, text_at}
 use Rattle.hazard_types.specs.declared.period.Begin.{Begin}
 use Rattle.hazard_types.specs.declared.period.End.{End}

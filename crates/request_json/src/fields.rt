@@ -1,63 +1,24 @@
-//! The texts of fields: hazards, zones and times.
-ghost use Rattle.std.specs.Prelude.{◌≡◌};
-ghost use Rattle.request_json.specs.Fields.{sig_at, kind_at, hazard_at, zone_at, begin_at, end_at};
+//! The values of fields.
+ghost use Rattle.std.specs.Prelude.{◌≡◌, option_map, option_and_then, codes, IfOk};
+ghost use Rattle.serde_json.specs.Find.{get, as_array};
+ghost use Rattle.serde_json.specs.View.{view, items_view};
+ghost use Rattle.request_json.specs.Json.{text_at};
+ghost use Rattle.request_json.specs.Fields.{begin_at, end_at, desk_named, if_counted, number_at, zones_of, location_at, time_at, site_in, severity_in, cause_in, time_in, status_in, values_in, flood_of, free_text, four_texts, texts_of, event_texts_of, each_event_texts};
 
-use hazard_types::{Begin, End, Hazard, Kind, Minute, Phen, Sig, Zone, read_stamp};
+use crate::keys::Keys;
+use hazard_types::{
+    Begin, Cause, Desk, End, EventTexts, Flood, List, Minute, Oom, Severity, Status, Text, Texts,
+    Zone, are_name_bytes, event_in, find, read_stamp, severities, statuses, written_causes,
+    zone_in,
+};
+use serde_json::Value;
+use std::alloc::Global;
 
-fn sig_of(code: u8) -> Option<Sig>
-    ensures { result ≡ sig_at code }
+/// The text of a member.
+pub fn text_at<'v>(value: &'v Value, key: &str) -> Option<&'v str>
+    ensures { option_map (λ s. s.now) result ≡ text_at key.now (view value.now) }
 {
-    match code {
-        b'W' => Some(Sig::W),
-        b'A' => Some(Sig::A),
-        b'Y' => Some(Sig::Y),
-        b'S' => Some(Sig::S),
-        b'F' => Some(Sig::F),
-        b'O' => Some(Sig::O),
-        b'N' => Some(Sig::N),
-        _ => None,
-    }
-}
-
-fn kind_of(code: u8) -> Option<Kind>
-    ensures { result ≡ kind_at code }
-{
-    match code {
-        b'C' => Some(Kind::C),
-        b'Z' => Some(Kind::Z),
-        _ => None,
-    }
-}
-
-/// A hazard, as WS.W.
-#[tactic(auto, unfolding(crate::specs::Fields::hazard_at))]
-pub fn hazard_of(text: &[u8]) -> Option<Hazard>
-    ensures { result ≡ hazard_at text.now }
-{
-    let [first, second, b'.', sig] = text else {
-        return None;
-    };
-    let phen = Phen::new([*first, *second])?;
-    let sig = sig_of(*sig)?;
-    Some(Hazard { phen, sig })
-}
-
-/// A zone, as MDZ003.
-#[tactic(auto, unfolding(crate::specs::Fields::zone_at))]
-pub fn zone_of(text: &[u8]) -> Option<Zone>
-    ensures { result ≡ zone_at text.now }
-{
-    let [first, second, kind, hundreds, tens, ones] = text else {
-        return None;
-    };
-    if !hundreds.is_ascii_digit() || !tens.is_ascii_digit() || !ones.is_ascii_digit() {
-        return None;
-    }
-    let number = 100 * u16::from(*hundreds - b'0')
-        + 10 * u16::from(*tens - b'0')
-        + u16::from(*ones - b'0');
-    let kind = kind_of(*kind)?;
-    Zone::new([*first, *second], kind, number)
+    value.get(key).and_then(Value::as_str)
 }
 
 /// A begin: `now`, or a stamp.
@@ -79,4 +40,243 @@ pub fn end_of(text: &str) -> Option<End>
         "ufn" => Some(End::Ufn),
         _ => read_stamp(text.as_bytes()).map(End::At),
     }
+}
+
+/// A whole number below 2^32.
+pub fn number_at(value: &Value, key: &str) -> Option<u32>
+    ensures { result ≡ number_at key.now (view value.now) }
+{
+    match value.get(key).and_then(Value::as_u64) {
+        Some(n) => {
+            if n < 4_294_967_296 {
+                Some(n as u32)
+            } else {
+                None
+            }
+        }
+        None => None,
+    }
+}
+
+/// The zones of the texts, or nothing where one is no zone.
+pub fn zones_of(alloc: Global, values: &[Value]) -> Result<Option<List<Zone>>, Oom>
+    ensures { IfOk result (λ zones. zones ≡ zones_of (items_view values.now)) }
+{
+    let mut zones = List::new(alloc);
+    for value in values {
+        match value.as_str().and_then(|text| zone_in(text.as_bytes())) {
+            Some(zone) => zones.push(zone)?,
+            None => return Ok(None),
+        }
+    }
+    Ok(Some(zones))
+}
+
+/// The zones of a request, or nothing where they are missing or wrong.
+pub fn zones_at(alloc: Global, value: &Value) -> Result<Option<List<Zone>>, Oom>
+    ensures { IfOk result (λ zones. zones ≡ option_and_then zones_of (option_and_then as_array (get (codes "zones") (view value.now)))) }
+{
+    match value.get("zones").and_then(Value::as_array) {
+        Some(values) => zones_of(alloc, values),
+        None => Ok(None),
+    }
+}
+
+/// A location's code.
+fn location_of(text: &str) -> Option<[u8; 5]>
+    ensures { result ≡ location_at text.now }
+{
+    let bytes = text.as_bytes();
+    let [a, b, c, d, e] = bytes else {
+        return None;
+    };
+    if are_name_bytes(bytes) {
+        Some([*a, *b, *c, *d, *e])
+    } else {
+        None
+    }
+}
+
+/// The minute of a stamp, or no minute for the zero time.
+#[tactic(auto, unfolding(crate::specs::Fields::time_at))]
+fn time_of(text: &str) -> Option<Option<Minute>>
+    ensures { result ≡ time_at text.now }
+{
+    if text == "000000T0000Z" {
+        return Some(None);
+    }
+    let minute = read_stamp(text.as_bytes())?;
+    Some(Some(minute))
+}
+
+fn site_in(value: &Value) -> Option<[u8; 5]>
+    ensures { result ≡ site_in (view value.now) }
+{
+    text_at(value, "site").and_then(location_of)
+}
+
+fn severity_in(value: &Value) -> Option<Severity>
+    ensures { result ≡ severity_in (view value.now) }
+{
+    let text = text_at(value, "severity")?;
+    find(&severities(), text.as_bytes())
+}
+
+/// One of the causes that the desk writes.
+fn cause_in(value: &Value) -> Option<Cause>
+    ensures { result ≡ cause_in (view value.now) }
+{
+    let text = text_at(value, "cause")?;
+    find(&written_causes(), text.as_bytes())
+}
+
+fn time_in(value: &Value, key: &str) -> Option<Option<Minute>>
+    ensures { result ≡ time_in key.now (view value.now) }
+{
+    text_at(value, key).and_then(time_of)
+}
+
+fn status_in(value: &Value) -> Option<Status>
+    ensures { result ≡ status_in (view value.now) }
+{
+    let text = text_at(value, "status")?;
+    find(&statuses(), text.as_bytes())
+}
+
+#[tactic(auto, unfolding(crate::specs::Fields::values_in))]
+fn values_in(value: &Value) -> Option<Flood>
+    ensures { result ≡ values_in (view value.now) }
+{
+    Some(Flood {
+        site: site_in(value)?,
+        severity: severity_in(value)?,
+        cause: cause_in(value)?,
+        begin: time_in(value, "begin")?,
+        crest: time_in(value, "crest")?,
+        end: time_in(value, "end")?,
+        status: status_in(value)?,
+    })
+}
+
+/// Flood values, or nothing where one is missing or wrong, or a key is unknown.
+#[tactic(auto, unfolding(crate::specs::Fields::flood_of))]
+pub fn flood_of(value: &Value) -> Option<Flood>
+    ensures { result ≡ flood_of (view value.now) }
+{
+    let members = value.as_object()?;
+    if Keys::Flood.know_all(members) {
+        values_in(value)
+    } else {
+        None
+    }
+}
+
+/// A text of a member, which is empty where the member is absent. Nothing where it is no text.
+fn free_text(alloc: Global, value: &Value, key: &str) -> Result<Option<Text>, Oom>
+    ensures { IfOk result (λ text. text ≡ free_text key.now (view value.now)) }
+{
+    match value.get(key) {
+        None => Ok(Some(List::new(alloc))),
+        Some(found) => match found.as_str() {
+            Some(text) => Ok(Some(List::from_slice(alloc, text.as_bytes())?)),
+            None => Ok(None),
+        },
+    }
+}
+
+#[tactic(auto, unfolding(crate::specs::Fields::four_texts))]
+fn four_texts(alloc: Global, value: &Value) -> Result<Option<Texts>, Oom>
+    ensures { IfOk result (λ texts. texts ≡ four_texts (view value.now)) }
+{
+    let Some(what) = free_text(alloc, value, "what")? else {
+        return Ok(None);
+    };
+    let Some(area) = free_text(alloc, value, "area")? else {
+        return Ok(None);
+    };
+    let Some(impacts) = free_text(alloc, value, "impacts")? else {
+        return Ok(None);
+    };
+    let Some(details) = free_text(alloc, value, "details")? else {
+        return Ok(None);
+    };
+    Ok(Some(Texts {
+        what,
+        area,
+        impacts,
+        details,
+    }))
+}
+
+/// Texts, or nothing where one is wrong or a key is unknown.
+#[tactic(auto, unfolding(crate::specs::Fields::texts_of))]
+pub fn texts_of(alloc: Global, value: &Value) -> Result<Option<Texts>, Oom>
+    ensures { IfOk result (λ texts. texts ≡ texts_of (view value.now)) }
+{
+    let Some(members) = value.as_object() else {
+        return Ok(None);
+    };
+    if Keys::Texts.know_all(members) {
+        four_texts(alloc, value)
+    } else {
+        Ok(None)
+    }
+}
+
+/// The texts of a member that must be there.
+fn texts_within(alloc: Global, value: &Value) -> Result<Option<Texts>, Oom>
+    ensures { IfOk result (λ texts. texts ≡ option_and_then texts_of (get (codes "texts") (view value.now))) }
+{
+    match value.get("texts") {
+        Some(texts) => texts_of(alloc, texts),
+        None => Ok(None),
+    }
+}
+
+/// An event with its texts, or nothing where one is missing or wrong, or a key is unknown.
+#[tactic(auto, unfolding(crate::specs::Fields::event_texts_of))]
+fn event_texts_of(alloc: Global, value: &Value) -> Result<Option<EventTexts>, Oom>
+    ensures { IfOk result (λ texts. texts ≡ event_texts_of (view value.now)) }
+{
+    let Some(members) = value.as_object() else {
+        return Ok(None);
+    };
+    if !Keys::EventTexts.know_all(members) {
+        return Ok(None);
+    }
+    let Some(event) = text_at(value, "event").and_then(|text| event_in(text.as_bytes())) else {
+        return Ok(None);
+    };
+    let Some(texts) = texts_within(alloc, value)? else {
+        return Ok(None);
+    };
+    Ok(Some(EventTexts { event, texts }))
+}
+
+/// The events with their texts of an array, or nothing where one is wrong.
+pub fn each_event_texts(alloc: Global, values: &[Value]) -> Result<Option<List<EventTexts>>, Oom>
+    ensures { IfOk result (λ texts. texts ≡ each_event_texts (items_view values.now)) }
+{
+    let mut list = List::new(alloc);
+    for value in values {
+        let Some(texts) = event_texts_of(alloc, value)? else {
+            return Ok(None);
+        };
+        list.push(texts)?;
+    }
+    Ok(Some(list))
+}
+
+/// A desk of this name.
+pub fn desk_of(text: &str) -> Option<Desk>
+    ensures { result ≡ desk_named text.now }
+{
+    Desk::new(text.as_bytes())
+}
+
+/// A desk's number, which is not 0.
+pub fn seq_of(number: u32) -> Option<u32>
+    ensures { result ≡ if_counted number }
+{
+    if 1 <= number { Some(number) } else { None }
 }

@@ -5,8 +5,8 @@ ghost use Rattle.serde_json.specs.View.{view, items_view, members_view};
 ghost use Rattle.request_json.specs.Json.{json_of, text_at};
 ghost use Rattle.request_json.specs.Training.{is_issue, is_known, all_known, zones_at, hazard_field, zones_field, begin_field, end_field, training_in, training_of};
 
-use crate::fields::{begin_of, end_of, hazard_of, zone_of};
-use hazard_types::{Begin, End, Hazard, List, Minute, Oom, Or, Zone};
+use crate::fields::{begin_of, end_of, text_at};
+use hazard_types::{Begin, End, Hazard, List, Minute, Oom, Or, Zone, hazard_in, zone_in};
 use serde_json::{Map, Value};
 use std::alloc::Global;
 
@@ -86,13 +86,7 @@ fn read_json(alloc: Global, bytes: &[u8]) -> Result<Value, Or<TrainingRefusal>>
     }
 }
 
-fn text_at<'v>(value: &'v Value, key: &str) -> Option<&'v str>
-    ensures { option_map (λ s. s.now) result ≡ text_at key.now (view value.now) }
-{
-    value.get(key).and_then(Value::as_str)
-}
-
-fn is_issue(value: &Value) -> bool
+pub fn is_issue(value: &Value) -> bool
     ensures { result ≡ is_issue (text_at (codes "do") (view value.now)) }
 {
     text_at(value, "do") == Some("issue")
@@ -102,7 +96,7 @@ fn hazard_field(value: &Value) -> Result<Hazard, Or<TrainingRefusal>>
     ensures { Gives result (hazard_field (view value.now)) }
 {
     text_at(value, "hazard")
-        .and_then(|text| hazard_of(text.as_bytes()))
+        .and_then(|text| hazard_in(text.as_bytes()))
         .ok_or(wrong(Field::Hazard))
 }
 
@@ -144,7 +138,7 @@ fn zones_of(alloc: Global, values: &[Value]) -> Result<Option<List<Zone>>, Oom>
 {
     let mut zones = List::new(alloc);
     for value in values {
-        match value.as_str().and_then(|text| zone_of(text.as_bytes())) {
+        match value.as_str().and_then(|text| zone_in(text.as_bytes())) {
             Some(zone) => zones.push(zone)?,
             None => return Ok(None),
         }

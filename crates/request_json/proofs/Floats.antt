@@ -1,0 +1,144 @@
+-- A member that has no float gives an object none.
+use Rattle.std.proofs.Common.{◌≡◌, ◌||◌, ℕ, ℤ, pos, negsuc, List, [], ◌∷◌, Bool, true, false, map, refl, codes}
+use Rattle.std.specs.declared.cmp.Ordering.{Ordering}
+use Rattle.std.specs.declared.cmp.Ordering.TheVariants.{Less, Equal, Greater}
+use Rattle.std.specs.Ordering.{nat_cmp, match_ordering}
+use Rattle.std.specs.Cmp.Lexicographic.{slice_cmp}
+use Rattle.serde_json.specs.Data.{Data, array, Members, no_members, member, put, number, unsigned}
+use Rattle.serde_json.specs.Find.{of_integer}
+use Rattle.hazard_types.specs.declared.refusal.Refusal.{Refusal}
+use Rattle.hazard_types.specs.declared.refusal.Refusal.TheVariants as refusal
+use Rattle.request_json.specs.Canonical.{as_text, put_text, put_number}
+use Rattle.request_json.specs.Replies.{label, labelled, put_zone, put_event_zone, put_clash, put_place_in, put_values, word_code, event_data, event_items, put_reply}
+use Rattle.hazard_types.specs.declared.request.Reply.{Reply}
+use Rattle.hazard_types.specs.declared.request.Reply.TheVariants as reply
+use Rattle.hazard_types.specs.Calendar.{stamp_of}
+use Rattle.hazard_types.specs.Hazards.{hazard_code}
+use Rattle.hazard_types.specs.Names.{zone_text, event_text}
+use Rattle.hazard_types.specs.Places.{Place}
+use Rattle.hazard_types.specs.declared.hazard.Event.{Event}
+use Rattle.serde_json.specs.View.{items_of}
+use Rattle.serde_json.specs.Written.{has_float, items_have_float, members_have_float}
+
+either : (a b : Bool) → (a || b) ≡ false → (a ≡ false) × (b ≡ false)
+either false b h = (refl, h)
+either true b h = absurd (cc)
+
+beside : (o : Ordering) (k l : List ℕ) (d e : Data) (ms : Members) → has_float d ≡ false → has_float e ≡ false → members_have_float ms ≡ false → members_have_float (put k d ms) ≡ false
+    → members_have_float (match_ordering o (member k d (member l e ms)) (member l d ms) (member l e (put k d ms))) ≡ false
+beside Less k l d e ms hd he hm hp = rw (hd, he, hm) refl
+beside Equal k l d e ms hd he hm hp = rw (hd, hm) refl
+beside Greater k l d e ms hd he hm hp = rw (he, hp) refl
+
+pub no_float_put : (k : List ℕ) (d : Data) (ms : Members) → has_float d ≡ false → members_have_float ms ≡ false → members_have_float (put k d ms) ≡ false
+no_float_put k d no_members hd hm = rw hd refl
+no_float_put k d (member l e ms) hd hm =
+    let h = either (has_float e) (members_have_float ms) hm in
+    beside (slice_cmp nat_cmp k l) k l d e ms hd h.0 h.1 (no_float_put k d ms hd h.1)
+
+pub text_no_float : (bytes : List ℕ) → has_float (as_text bytes) ≡ false
+unfolding as_text
+text_no_float bytes = refl
+
+pub put_text_no_float : (k : List ℕ) (bytes : List ℕ) (ms : Members) → members_have_float ms ≡ false → members_have_float (put_text k bytes ms) ≡ false
+put_text_no_float k bytes ms h = no_float_put k (as_text bytes) ms (text_no_float bytes) h
+
+pub put_number_no_float : (k : List ℕ) (n : ℕ) (ms : Members) → members_have_float ms ≡ false → members_have_float (put_number k n ms) ≡ false
+put_number_no_float k n ms h = no_float_put k (number (unsigned n)) ms refl h
+
+signed_no_float : (z : ℤ) → has_float (number (of_integer z)) ≡ false
+signed_no_float (pos n) = refl
+signed_no_float (negsuc n) = refl
+
+zone_no_float : (z : Place) (ms : Members) → members_have_float ms ≡ false → members_have_float (put_zone z ms) ≡ false
+zone_no_float z ms h = put_text_no_float (codes "zone") (zone_text z) ms h
+
+event_zone_no_float : (e : Event) (z : Place) (ms : Members) → members_have_float ms ≡ false → members_have_float (put_event_zone e z ms) ≡ false
+event_zone_no_float e z ms h = put_text_no_float (codes "event") (event_text e) (put_zone z ms) (zone_no_float z ms h)
+
+clash_no_float : (z : Place) (a b : Event) (ms : Members) → members_have_float ms ≡ false → members_have_float (put_clash z a b ms) ≡ false
+clash_no_float z a b ms h =
+    let one = put_text_no_float (codes "first") (event_text a) (put_zone z ms) (zone_no_float z ms h) in
+    put_text_no_float (codes "second") (event_text b) (put_text (codes "first") (event_text a) (put_zone z ms)) one
+
+place_no_float : (field : List ℕ) (at : ℕ) (ms : Members) → members_have_float ms ≡ false → members_have_float (put_place_in field at ms) ≡ false
+place_no_float field at ms h = put_number_no_float (codes "at") at (put_text (codes "field") field ms) (put_text_no_float (codes "field") field ms h)
+
+values_no_float : (r : Refusal) (ms : Members) → members_have_float ms ≡ false → members_have_float (put_values r ms) ≡ false
+unfolding put_values
+values_no_float refusal.BadHead ms h = h
+values_no_float refusal.HeadTooLong ms h = h
+values_no_float refusal.NoRoute ms h = h
+values_no_float refusal.WrongMethod ms h = h
+values_no_float refusal.NoLength ms h = h
+values_no_float refusal.BodyTooLong ms h = h
+values_no_float refusal.LineTooLong ms h = h
+values_no_float refusal.NotJson ms h = h
+values_no_float (refusal.WrongShape field) ms h = put_text_no_float (codes "field") field ms h
+values_no_float refusal.UnknownDesk ms h = h
+values_no_float (refusal.Reused last) ms h = put_number_no_float (codes "last") last ms h
+values_no_float (refusal.Stale last) ms h = put_number_no_float (codes "last") last ms h
+values_no_float (refusal.Gap last) ms h = put_number_no_float (codes "last") last ms h
+values_no_float (refusal.ClockOut minute) ms h = no_float_put (codes "minute") (number (of_integer minute)) ms (signed_no_float minute) h
+values_no_float refusal.NoDraft ms h = h
+values_no_float (refusal.NotOwner owner) ms h = put_text_no_float (codes "owner") owner ms h
+values_no_float (refusal.StillActive free_at) ms h = put_text_no_float (codes "free_at") (stamp_of free_at) ms h
+values_no_float refusal.DraftsFull ms h = h
+values_no_float refusal.IntentsFull ms h = h
+values_no_float (refusal.NoIntent place) ms h = put_number_no_float (codes "place") place ms h
+values_no_float (refusal.UnknownZone zone) ms h = put_text_no_float (codes "zone") (zone_text zone) ms h
+values_no_float refusal.UnknownHazard ms h = h
+values_no_float (refusal.WrongZoneKind zone) ms h = put_text_no_float (codes "zone") (zone_text zone) ms h
+values_no_float refusal.WrongCategory ms h = h
+values_no_float (refusal.BadText field at) ms h = place_no_float field at ms h
+values_no_float (refusal.TextTooLong field) ms h = put_text_no_float (codes "field") field ms h
+values_no_float refusal.BadZoneList ms h = h
+values_no_float refusal.NoProduct ms h = h
+values_no_float refusal.EmptyDraft ms h = h
+values_no_float (refusal.NoEvent event) ms h = put_text_no_float (codes "event") (event_text event) ms h
+values_no_float (refusal.NotLive event zone) ms h = event_zone_no_float event zone ms h
+values_no_float (refusal.LeftBefore event zone) ms h = event_zone_no_float event zone ms h
+values_no_float (refusal.Twice event zone) ms h = event_zone_no_float event zone ms h
+values_no_float (refusal.BadPeriod place) ms h = put_number_no_float (codes "place") place ms h
+values_no_float (refusal.BegunMoved event zone) ms h = event_zone_no_float event zone ms h
+values_no_float (refusal.NoOpenEnd place) ms h = put_number_no_float (codes "place") place ms h
+values_no_float (refusal.FloodNeeded place) ms h = put_number_no_float (codes "place") place ms h
+values_no_float (refusal.FloodBarred place) ms h = put_number_no_float (codes "place") place ms h
+values_no_float (refusal.SiteMoved event) ms h = put_text_no_float (codes "event") (event_text event) ms h
+values_no_float (refusal.Conflict zone first second) ms h = clash_no_float zone first second ms h
+values_no_float (refusal.NumberHeld event) ms h = put_text_no_float (codes "event") (event_text event) ms h
+values_no_float (refusal.NumbersSpent hazard) ms h = put_text_no_float (codes "hazard") (hazard_code hazard) ms h
+values_no_float (refusal.NotLast last) ms h = put_number_no_float (codes "last") last ms h
+values_no_float refusal.NothingToCorrect ms h = h
+values_no_float refusal.LettersSpent ms h = h
+values_no_float (refusal.TooManyLines lines) ms h = put_number_no_float (codes "lines") lines ms h
+values_no_float (refusal.TooLong bytes) ms h = put_number_no_float (codes "bytes") bytes ms h
+values_no_float refusal.ProductsFull ms h = h
+values_no_float refusal.JournalFull ms h = h
+
+pub labelled_no_float : (l : List ℕ × List ℕ) → members_have_float (labelled l) ≡ false
+labelled_no_float l = put_text_no_float (codes "rule") l.1 (put_text (codes "no") l.0 no_members) (put_text_no_float (codes "no") l.0 no_members refl)
+
+pub refusal_no_float : (r : Refusal) → members_have_float (put_values r (labelled (label r))) ≡ false
+refusal_no_float r = values_no_float r (labelled (label r)) (labelled_no_float (label r))
+
+-- ---- replies
+
+pub mapped_no_float : {X : Type 0} (f : X → Data) → ((x : X) → has_float (f x) ≡ false) → (xs : List X) → items_have_float (items_of (map f xs)) ≡ false
+mapped_no_float f h [] = refl
+mapped_no_float f h (x ∷ xs) = rw (h x, mapped_no_float f h xs) refl
+
+events_no_float : (es : List Event) → items_have_float (event_items es) ≡ false
+events_no_float es = mapped_no_float event_data (λ (e : Event). text_no_float (event_text e)) es
+
+pub reply_no_float : (r : Reply) → members_have_float (put_reply r no_members) ≡ false
+unfolding put_reply
+reply_no_float (reply.Draft w n) = put_text_no_float (codes "ok") (word_code w) (put_number (codes "draft") n no_members) (put_number_no_float (codes "draft") n no_members refl)
+reply_no_float (reply.Placed n place) =
+    put_text_no_float (codes "ok") (codes "put") (put_number (codes "place") place (put_number (codes "draft") n no_members))
+    (put_number_no_float (codes "place") place (put_number (codes "draft") n no_members) (put_number_no_float (codes "draft") n no_members refl))
+reply_no_float (reply.Sent s) =
+    let one = put_text_no_float (codes "ok") (codes "send") no_members refl in
+    let two = put_number_no_float (codes "product") s.product (put_text (codes "ok") (codes "send") no_members) one in
+    let three = put_text_no_float (codes "time") (stamp_of s.time) (put_number (codes "product") s.product (put_text (codes "ok") (codes "send") no_members)) two in
+    no_float_put (codes "events") (array (event_items s.events)) (put_text (codes "time") (stamp_of s.time) (put_number (codes "product") s.product (put_text (codes "ok") (codes "send") no_members))) (events_no_float s.events) three

@@ -1,0 +1,357 @@
+//! Canonical texts of requests.
+ghost use Rattle.std.specs.Prelude.{◌≡◌, IfOk, OnOk, map, codes};
+ghost use Rattle.serde_json.specs.View.{view, members_view};
+ghost use Rattle.request_json.specs.Canonical.{put_text, severity_code, status_code, put_source, put_times, put_begin, put_end, zone_data, texts_data, flood_data, event_texts_data, put_flood, put_target, put_zones_texts, put_put, put_event_part, put_routine, put_put_do, put_event_do, put_routine_do, put_intent, intent_data, intent_text, put_correct, put_draft_do, put_drop, put_open, put_request, asked_members, asked_text};
+
+use crate::asked::Asked;
+use crate::members::{Members, put, put_number, put_text, text_value, written};
+use crate::refusals::put_event_text;
+use hazard_types::{
+    Begin, Category, End, EventPart, EventTexts, Flood, Intent, List, Oom, PutPart, Request,
+    RoutinePart, Severity, Status, Target, Text, Texts, Zone, hazard_text, stamp, time_text,
+    zone_text,
+};
+use serde_json::{Map, Value};
+use std::alloc::Global;
+
+fn severity_code(severity: Severity) -> &'static str
+    ensures { result.now ≡ severity_code severity }
+{
+    match severity {
+        Severity::N => "N",
+        Severity::Zero => "0",
+        Severity::One => "1",
+        Severity::Two => "2",
+        Severity::Three => "3",
+        Severity::U => "U",
+    }
+}
+
+fn status_code(status: Status) -> &'static str
+    ensures { result.now ≡ status_code status }
+{
+    match status {
+        Status::No => "NO",
+        Status::Nr => "NR",
+        Status::Uu => "UU",
+        Status::Oo => "OO",
+    }
+}
+
+/// Sets the begin.
+fn put_begin(alloc: Global, members: &mut Members, begin: &Begin) -> Result<(), Oom>
+    ensures { OnOk result (members_view members.new.entries ≡ put_begin begin.now (members_view members.old.entries)) }
+{
+    match begin {
+        Begin::Now => put_text(alloc, members, "begin", b"now"),
+        Begin::At(minute) => put_text(alloc, members, "begin", &stamp(*minute)),
+    }
+}
+
+/// Sets the end.
+fn put_end(alloc: Global, members: &mut Members, end: &End) -> Result<(), Oom>
+    ensures { OnOk result (members_view members.new.entries ≡ put_end end.now (members_view members.old.entries)) }
+{
+    match end {
+        End::Ufn => put_text(alloc, members, "end", b"ufn"),
+        End::At(minute) => put_text(alloc, members, "end", &stamp(*minute)),
+    }
+}
+
+/// The texts of zones.
+fn zone_values(alloc: Global, zones: &[Zone]) -> Result<Vec<Value>, Oom>
+    ensures { IfOk result (λ values. map view values.items ≡ map zone_data zones.now) }
+{
+    let mut values = Vec::new(alloc);
+    for zone in zones {
+        let value = text_value(alloc, &zone_text(zone))?;
+        values.push(value)?;
+    }
+    Ok(values)
+}
+
+/// The four texts, also where they are empty.
+#[tactic(auto, unfolding(crate::specs::Canonical::texts_data))]
+fn texts_value(alloc: Global, texts: &Texts) -> Result<Value, Oom>
+    ensures { IfOk result (λ value. view value ≡ texts_data texts.now) }
+{
+    let mut members = Map::new(alloc);
+    put_text(alloc, &mut members, "what", texts.what.as_slice())?;
+    put_text(alloc, &mut members, "area", texts.area.as_slice())?;
+    put_text(alloc, &mut members, "impacts", texts.impacts.as_slice())?;
+    put_text(alloc, &mut members, "details", texts.details.as_slice())?;
+    Ok(Value::Object(members))
+}
+
+fn put_site(alloc: Global, members: &mut Members, site: &[u8; 5]) -> Result<(), Oom>
+    ensures { OnOk result (members_view members.new.entries ≡ put_text (codes "site") site.now (members_view members.old.entries)) }
+{
+    put_text(alloc, members, "site", site)
+}
+
+/// Sets where a flood is, and of which severity and cause.
+fn put_source(alloc: Global, members: &mut Members, flood: &Flood) -> Result<(), Oom>
+    ensures { OnOk result (members_view members.new.entries ≡ put_source flood.now (members_view members.old.entries)) }
+{
+    let cause = flood.cause;
+    let severity = severity_code(flood.severity);
+    put_site(alloc, members, &flood.site)?;
+    put_text(alloc, members, "severity", severity.as_bytes())?;
+    put_text(alloc, members, "cause", &cause.letters())
+}
+
+/// Sets when a flood begins, crests and ends.
+fn put_times(alloc: Global, members: &mut Members, flood: &Flood) -> Result<(), Oom>
+    ensures { OnOk result (members_view members.new.entries ≡ put_times flood.now (members_view members.old.entries)) }
+{
+    put_text(alloc, members, "begin", &time_text(flood.begin))?;
+    put_text(alloc, members, "crest", &time_text(flood.crest))?;
+    put_text(alloc, members, "end", &time_text(flood.end))
+}
+
+#[tactic(auto, unfolding(crate::specs::Canonical::flood_data))]
+fn flood_value(alloc: Global, flood: &Flood) -> Result<Value, Oom>
+    ensures { IfOk result (λ value. view value ≡ flood_data flood.now) }
+{
+    let mut members = Map::new(alloc);
+    put_source(alloc, &mut members, flood)?;
+    put_times(alloc, &mut members, flood)?;
+    let status = status_code(flood.status);
+    put_text(alloc, &mut members, "status", status.as_bytes())?;
+    Ok(Value::Object(members))
+}
+
+#[tactic(auto, unfolding(crate::specs::Canonical::event_texts_data))]
+fn event_texts_value(alloc: Global, texts: &EventTexts) -> Result<Value, Oom>
+    ensures { IfOk result (λ value. view value ≡ event_texts_data texts.now) }
+{
+    let mut members = Map::new(alloc);
+    put_event_text(alloc, &mut members, "event", &texts.event)?;
+    let value = texts_value(alloc, &texts.texts)?;
+    put(alloc, &mut members, "texts", value)?;
+    Ok(Value::Object(members))
+}
+
+fn event_texts_values(alloc: Global, list: &[EventTexts]) -> Result<Vec<Value>, Oom>
+    ensures { IfOk result (λ values. map view values.items ≡ map event_texts_data list.now) }
+{
+    let mut values = Vec::new(alloc);
+    for texts in list {
+        let value = event_texts_value(alloc, texts)?;
+        values.push(value)?;
+    }
+    Ok(values)
+}
+
+/// Sets flood values, where there are some.
+fn put_flood(alloc: Global, members: &mut Members, flood: &Option<Flood>) -> Result<(), Oom>
+    ensures { OnOk result (members_view members.new.entries ≡ put_flood flood.now (members_view members.old.entries)) }
+{
+    match flood {
+        None => Ok(()),
+        Some(flood) => {
+            let value = flood_value(alloc, flood)?;
+            put(alloc, members, "flood", value)
+        }
+    }
+}
+
+fn put_target(alloc: Global, members: &mut Members, target: &Target) -> Result<(), Oom>
+    ensures { OnOk result (members_view members.new.entries ≡ put_target target.now (members_view members.old.entries)) }
+{
+    match target {
+        Target::Fresh(hazard) => put_text(alloc, members, "hazard", &hazard_text(hazard)),
+        Target::Join(event) => put_event_text(alloc, members, "event", event),
+    }
+}
+
+fn put_zones_texts(
+    alloc: Global,
+    members: &mut Members,
+    zones: &[Zone],
+    texts: &Texts,
+) -> Result<(), Oom>
+    ensures { OnOk result (members_view members.new.entries ≡ put_zones_texts zones.now texts.now (members_view members.old.entries)) }
+{
+    let zones = zone_values(alloc, zones)?;
+    put(alloc, members, "zones", Value::Array(zones))?;
+    let texts = texts_value(alloc, texts)?;
+    put(alloc, members, "texts", texts)
+}
+
+#[tactic(auto, unfolding(crate::specs::Canonical::put_put))]
+fn put_put(alloc: Global, members: &mut Members, part: &PutPart) -> Result<(), Oom>
+    ensures { OnOk result (members_view members.new.entries ≡ put_put part.now (members_view members.old.entries)) }
+{
+    put_target(alloc, members, &part.target)?;
+    put_zones_texts(alloc, members, part.zones.as_slice(), &part.texts)?;
+    put_begin(alloc, members, &part.begin)?;
+    put_end(alloc, members, &part.end)?;
+    put_flood(alloc, members, &part.flood)
+}
+
+#[tactic(auto, unfolding(crate::specs::Canonical::put_event_part))]
+fn put_event_part(alloc: Global, members: &mut Members, part: &EventPart) -> Result<(), Oom>
+    ensures { OnOk result (members_view members.new.entries ≡ put_event_part part.now (members_view members.old.entries)) }
+{
+    put_event_text(alloc, members, "event", &part.event)?;
+    put_zones_texts(alloc, members, part.zones.as_slice(), &part.texts)
+}
+
+#[tactic(auto, unfolding(crate::specs::Canonical::put_routine))]
+fn put_routine(alloc: Global, members: &mut Members, part: &RoutinePart) -> Result<(), Oom>
+    ensures { OnOk result (members_view members.new.entries ≡ put_routine part.now (members_view members.old.entries)) }
+{
+    let hazard = part.hazard;
+    put_text(alloc, members, "hazard", &hazard_text(&hazard))?;
+    put_zones_texts(alloc, members, part.zones.as_slice(), &part.texts)
+}
+
+fn put_put_do(alloc: Global, members: &mut Members, word: &str, part: &PutPart) -> Result<(), Oom>
+    ensures { OnOk result (members_view members.new.entries ≡ put_put_do word.now part.now (members_view members.old.entries)) }
+{
+    put_text(alloc, members, "do", word.as_bytes())?;
+    put_put(alloc, members, part)
+}
+
+fn put_event_do(
+    alloc: Global,
+    members: &mut Members,
+    word: &str,
+    part: &EventPart,
+) -> Result<(), Oom>
+    ensures { OnOk result (members_view members.new.entries ≡ put_event_do word.now part.now (members_view members.old.entries)) }
+{
+    put_text(alloc, members, "do", word.as_bytes())?;
+    put_event_part(alloc, members, part)
+}
+
+fn put_routine_do(alloc: Global, members: &mut Members, part: &RoutinePart) -> Result<(), Oom>
+    ensures { OnOk result (members_view members.new.entries ≡ put_routine_do part.now (members_view members.old.entries)) }
+{
+    put_text(alloc, members, "do", b"routine")?;
+    put_routine(alloc, members, part)
+}
+
+/// Sets what a step of a draft asks.
+#[tactic(auto, unfolding(crate::specs::Canonical::put_intent))]
+fn put_intent(alloc: Global, members: &mut Members, intent: &Intent) -> Result<(), Oom>
+    ensures { OnOk result (members_view members.new.entries ≡ put_intent intent.now (members_view members.old.entries)) }
+{
+    match intent {
+        Intent::Put(part) => put_put_do(alloc, members, "put", part),
+        Intent::Finish(part) => put_event_do(alloc, members, "end", part),
+        Intent::Restate(part) => put_event_do(alloc, members, "restate", part),
+        Intent::Routine(part) => put_routine_do(alloc, members, part),
+    }
+}
+
+/// The canonical request of an intent, without desk, number and draft.
+#[tactic(auto, unfolding(crate::specs::Canonical::intent_data))]
+pub fn intent_value(alloc: Global, intent: &Intent) -> Result<Value, Oom>
+    ensures { IfOk result (λ value. view value ≡ intent_data intent.now) }
+{
+    let mut members = Map::new(alloc);
+    put_intent(alloc, &mut members, intent)?;
+    Ok(Value::Object(members))
+}
+
+/// The canonical text of an intent: its request without desk, number and draft.
+#[tactic(auto, using(crate::proofs::CanonicalFloats::intent_clean), unfolding(crate::specs::Canonical::intent_text))]
+pub fn intent_text(alloc: Global, intent: &Intent) -> Result<Text, Oom>
+    ensures { IfOk result (λ text. text ≡ intent_text intent.now) }
+{
+    let text = intent_value(alloc, intent)?.to_vec(alloc)?;
+    Ok(List::from_vec(text))
+}
+
+fn put_correct(
+    alloc: Global,
+    members: &mut Members,
+    product: u32,
+    texts: &[EventTexts],
+) -> Result<(), Oom>
+    ensures { OnOk result (members_view members.new.entries ≡ put_correct product texts.now (members_view members.old.entries)) }
+{
+    put_text(alloc, members, "do", b"correct")?;
+    put_number(alloc, members, "product", product)?;
+    let values = event_texts_values(alloc, texts)?;
+    put(alloc, members, "texts", Value::Array(values))
+}
+
+/// Sets a word and a draft.
+fn put_draft_do(alloc: Global, members: &mut Members, word: &str, draft: u32) -> Result<(), Oom>
+    ensures { OnOk result (members_view members.new.entries ≡ put_draft_do word.now draft (members_view members.old.entries)) }
+{
+    put_text(alloc, members, "do", word.as_bytes())?;
+    put_number(alloc, members, "draft", draft)
+}
+
+fn put_drop(alloc: Global, members: &mut Members, draft: u32, place: u32) -> Result<(), Oom>
+    ensures { OnOk result (members_view members.new.entries ≡ put_drop draft place (members_view members.old.entries)) }
+{
+    put_draft_do(alloc, members, "drop", draft)?;
+    put_number(alloc, members, "place", place)
+}
+
+fn put_open(alloc: Global, members: &mut Members, category: Category) -> Result<(), Oom>
+    ensures { OnOk result (members_view members.new.entries ≡ put_open category (members_view members.old.entries)) }
+{
+    put_text(alloc, members, "do", b"open")?;
+    put_text(alloc, members, "category", &category.code())
+}
+
+/// Sets what a request asks of a draft.
+#[tactic(auto, unfolding(crate::specs::Canonical::put_request))]
+fn put_request(alloc: Global, members: &mut Members, request: &Request) -> Result<(), Oom>
+    ensures { OnOk result (members_view members.new.entries ≡ put_request request.now (members_view members.old.entries)) }
+{
+    match request {
+        Request::Issue(part) => put_put_do(alloc, members, "issue", part),
+        Request::Begin(category) => put_open(alloc, members, *category),
+        Request::Put(draft, part) => {
+            put_number(alloc, members, "draft", *draft)?;
+            put_put_do(alloc, members, "put", part)
+        }
+        Request::Finish(draft, part) => {
+            put_number(alloc, members, "draft", *draft)?;
+            put_event_do(alloc, members, "end", part)
+        }
+        Request::Restate(draft, part) => {
+            put_number(alloc, members, "draft", *draft)?;
+            put_event_do(alloc, members, "restate", part)
+        }
+        Request::Routine(draft, part) => {
+            put_number(alloc, members, "draft", *draft)?;
+            put_routine_do(alloc, members, part)
+        }
+        Request::Drop(draft, place) => put_drop(alloc, members, *draft, *place),
+        Request::Take(draft) => put_draft_do(alloc, members, "take", *draft),
+        Request::Discard(draft) => put_draft_do(alloc, members, "discard", *draft),
+        Request::Send(draft) => put_draft_do(alloc, members, "send", *draft),
+        Request::Correct(product, texts) => {
+            put_correct(alloc, members, *product, texts.as_slice())
+        }
+    }
+}
+
+#[tactic(auto, unfolding(crate::specs::Canonical::asked_members))]
+fn asked_members(alloc: Global, asked: &Asked) -> Result<Members, Oom>
+    ensures { IfOk result (λ members. members_view members.entries ≡ asked_members asked.now) }
+{
+    let mut members = Map::new(alloc);
+    put_request(alloc, &mut members, &asked.request)?;
+    put_text(alloc, &mut members, "desk", asked.desk.bytes())?;
+    put_number(alloc, &mut members, "seq", asked.seq)?;
+    Ok(members)
+}
+
+/// The canonical text of a request: compact JSON, keys in byte order, with all four texts, without flood values that it
+/// doesn't have.
+#[tactic(auto, using(crate::proofs::CanonicalFloats::asked_no_float), unfolding(crate::specs::Canonical::asked_text))]
+pub fn request_text(alloc: Global, asked: &Asked) -> Result<Text, Oom>
+    ensures { IfOk result (λ text. text ≡ asked_text asked.now) }
+{
+    let members = asked_members(alloc, asked)?;
+    written(alloc, members)
+}

@@ -1,0 +1,46 @@
+//! The texts of drafts.
+ghost use Rattle.std.specs.Prelude.{◌≡◌, IfOk, map};
+ghost use Rattle.serde_json.specs.View.{view, members_view};
+ghost use Rattle.request_json.specs.Canonical.{intent_data};
+ghost use Rattle.request_json.specs.Replies.{draft_members, draft_text};
+
+use crate::canonical::intent_value;
+use crate::members::{Members, put, put_number, put_text, written};
+use hazard_types::{Draft, Intent, Oom, Text, stamp};
+use serde_json::{Map, Value};
+use std::alloc::Global;
+
+fn intent_values(alloc: Global, intents: &[Intent]) -> Result<Vec<Value>, Oom>
+    ensures { IfOk result (λ values. map view values.items ≡ map intent_data intents.now) }
+{
+    let mut values = Vec::new(alloc);
+    for intent in intents {
+        let value = intent_value(alloc, intent)?;
+        values.push(value)?;
+    }
+    Ok(values)
+}
+
+#[tactic(auto, unfolding(crate::specs::Replies::draft_members))]
+fn draft_members(alloc: Global, draft: &Draft) -> Result<Members, Oom>
+    ensures { IfOk result (λ members. members_view members.entries ≡ draft_members draft.now) }
+{
+    let mut members = Map::new(alloc);
+    put_number(alloc, &mut members, "draft", draft.id)?;
+    put_text(alloc, &mut members, "category", &draft.category.code())?;
+    put_text(alloc, &mut members, "owner", draft.owner.bytes())?;
+    put_text(alloc, &mut members, "touched", &stamp(draft.touched))?;
+    let intents = intent_values(alloc, draft.intents.as_slice())?;
+    put(alloc, &mut members, "intents", Value::Array(intents))?;
+    Ok(members)
+}
+
+/// The text of a draft: an object of its category, its number, its intents (each as its canonical request without desk,
+/// number and draft), its owner and the minute at which it was touched.
+#[tactic(auto, using(crate::proofs::CanonicalFloats::draft_no_float), unfolding(crate::specs::Replies::draft_text))]
+pub fn draft_text(alloc: Global, draft: &Draft) -> Result<Text, Oom>
+    ensures { IfOk result (λ text. text ≡ draft_text draft.now) }
+{
+    let members = draft_members(alloc, draft)?;
+    written(alloc, members)
+}

@@ -1,0 +1,195 @@
+//! The texts of refusals.
+ghost use Rattle.std.specs.Prelude.{◌≡◌, IfOk, OnOk, codes};
+ghost use Rattle.serde_json.specs.View.{members_view};
+ghost use Rattle.hazard_types.specs.Names.{event_text};
+ghost use Rattle.request_json.specs.Canonical.{put_text};
+ghost use Rattle.request_json.specs.Replies.{label, labelled, put_zone, put_event_zone, put_clash, put_place_in, put_values, refusal_text};
+
+use crate::members::{Members, put_number, put_signed, put_size, put_text, written};
+use hazard_types::{
+    Event, List, Oom, Refusal, Text, Zone, hazard_text, put_event, stamp, zone_text,
+};
+use serde_json::Map;
+use std::alloc::Global;
+
+/// The code and the name of a refusal.
+#[tactic(auto, unfolding(crate::specs::Replies::label))]
+fn label(refusal: &Refusal) -> (&'static str, &'static str)
+    ensures { (result.0.now, result.1.now) ≡ label refusal.now }
+{
+    match refusal {
+        Refusal::BadHead => ("F1", "BadHead"),
+        Refusal::HeadTooLong => ("F2", "HeadTooLong"),
+        Refusal::NoRoute => ("F3", "NoRoute"),
+        Refusal::WrongMethod => ("F4", "WrongMethod"),
+        Refusal::NoLength => ("F5", "NoLength"),
+        Refusal::BodyTooLong => ("F6", "BodyTooLong"),
+        Refusal::LineTooLong => ("J3", "LineTooLong"),
+        Refusal::NotJson => ("J1", "NotJson"),
+        Refusal::WrongShape { field: _ } => ("J2", "WrongShape"),
+        Refusal::UnknownDesk => ("K1", "UnknownDesk"),
+        Refusal::Reused { last: _ } => ("K2", "Reused"),
+        Refusal::Stale { last: _ } => ("K3", "Stale"),
+        Refusal::Gap { last: _ } => ("K4", "Gap"),
+        Refusal::ClockOut { minute: _ } => ("C1", "ClockOut"),
+        Refusal::NoDraft => ("E1", "NoDraft"),
+        Refusal::NotOwner { owner: _ } => ("E2", "NotOwner"),
+        Refusal::StillActive { free_at: _ } => ("E3", "StillActive"),
+        Refusal::DraftsFull => ("E4", "DraftsFull"),
+        Refusal::IntentsFull => ("E5", "IntentsFull"),
+        Refusal::NoIntent { place: _ } => ("E6", "NoIntent"),
+        Refusal::UnknownZone { zone: _ } => ("E7", "UnknownZone"),
+        Refusal::UnknownHazard => ("E8", "UnknownHazard"),
+        Refusal::WrongZoneKind { zone: _ } => ("E9", "WrongZoneKind"),
+        Refusal::WrongCategory => ("E10", "WrongCategory"),
+        Refusal::BadText { field: _, at: _ } => ("E11", "BadText"),
+        Refusal::TextTooLong { field: _ } => ("E12", "TextTooLong"),
+        Refusal::BadZoneList => ("E13", "BadZoneList"),
+        Refusal::NoProduct => ("E14", "NoProduct"),
+        Refusal::EmptyDraft => ("L1", "EmptyDraft"),
+        Refusal::NoEvent { event: _ } => ("L2", "NoEvent"),
+        Refusal::NotLive { event: _, zone: _ } => ("L3", "NotLive"),
+        Refusal::LeftBefore { event: _, zone: _ } => ("L4", "LeftBefore"),
+        Refusal::Twice { event: _, zone: _ } => ("L5", "Twice"),
+        Refusal::BadPeriod { place: _ } => ("L6", "BadPeriod"),
+        Refusal::BegunMoved { event: _, zone: _ } => ("L7", "BegunMoved"),
+        Refusal::NoOpenEnd { place: _ } => ("L8", "NoOpenEnd"),
+        Refusal::FloodNeeded { place: _ } => ("L9", "FloodNeeded"),
+        Refusal::FloodBarred { place: _ } => ("L10", "FloodBarred"),
+        Refusal::SiteMoved { event: _ } => ("L11", "SiteMoved"),
+        Refusal::Conflict {
+            zone: _,
+            first: _,
+            second: _,
+        } => ("L12", "Conflict"),
+        Refusal::NumberHeld { event: _ } => ("L13", "NumberHeld"),
+        Refusal::NumbersSpent { hazard: _ } => ("L14", "NumbersSpent"),
+        Refusal::NotLast { last: _ } => ("L15", "NotLast"),
+        Refusal::NothingToCorrect => ("L16", "NothingToCorrect"),
+        Refusal::LettersSpent => ("L17", "LettersSpent"),
+        Refusal::TooManyLines { lines: _ } => ("L18", "TooManyLines"),
+        Refusal::TooLong { bytes: _ } => ("L19", "TooLong"),
+        Refusal::ProductsFull => ("L20", "ProductsFull"),
+        Refusal::JournalFull => ("L21", "JournalFull"),
+    }
+}
+
+/// Sets a member that is an event.
+pub fn put_event_text(
+    alloc: Global,
+    members: &mut Members,
+    key: &str,
+    event: &Event,
+) -> Result<(), Oom>
+    ensures { OnOk result (members_view members.new.entries ≡ put_text key.now (event_text event.now) (members_view members.old.entries)) }
+{
+    let mut text = List::new(alloc);
+    put_event(alloc, &mut text, event)?;
+    put_text(alloc, members, key, text.as_slice())
+}
+
+fn put_zone(alloc: Global, members: &mut Members, zone: &Zone) -> Result<(), Oom>
+    ensures { OnOk result (members_view members.new.entries ≡ put_zone zone.now (members_view members.old.entries)) }
+{
+    put_text(alloc, members, "zone", &zone_text(zone))
+}
+
+fn put_event_zone(
+    alloc: Global,
+    members: &mut Members,
+    event: &Event,
+    zone: &Zone,
+) -> Result<(), Oom>
+    ensures { OnOk result (members_view members.new.entries ≡ put_event_zone event.now zone.now (members_view members.old.entries)) }
+{
+    put_zone(alloc, members, zone)?;
+    put_event_text(alloc, members, "event", event)
+}
+
+/// Sets two events that clash in a zone.
+fn put_clash(
+    alloc: Global,
+    members: &mut Members,
+    zone: &Zone,
+    first: &Event,
+    second: &Event,
+) -> Result<(), Oom>
+    ensures { OnOk result (members_view members.new.entries ≡ put_clash zone.now first.now second.now (members_view members.old.entries)) }
+{
+    put_zone(alloc, members, zone)?;
+    put_event_text(alloc, members, "first", first)?;
+    put_event_text(alloc, members, "second", second)
+}
+
+/// Sets a field, and a place in its text.
+fn put_place_in(alloc: Global, members: &mut Members, field: &[u8], at: usize) -> Result<(), Oom>
+    ensures { OnOk result (members_view members.new.entries ≡ put_place_in field.now at (members_view members.old.entries)) }
+{
+    put_text(alloc, members, "field", field)?;
+    put_size(alloc, members, "at", at)
+}
+
+/// Sets the values of a refusal, by name.
+#[tactic(auto, unfolding(crate::specs::Replies::put_values))]
+fn put_values(alloc: Global, members: &mut Members, refusal: &Refusal) -> Result<(), Oom>
+    ensures { OnOk result (members_view members.new.entries ≡ put_values refusal.now (members_view members.old.entries)) }
+{
+    match refusal {
+        Refusal::WrongShape { field } | Refusal::TextTooLong { field } => {
+            put_text(alloc, members, "field", field.as_slice())
+        }
+        Refusal::Reused { last }
+        | Refusal::Stale { last }
+        | Refusal::Gap { last }
+        | Refusal::NotLast { last } => put_number(alloc, members, "last", *last),
+        Refusal::ClockOut { minute } => put_signed(alloc, members, "minute", *minute),
+        Refusal::NotOwner { owner } => put_text(alloc, members, "owner", owner.bytes()),
+        Refusal::StillActive { free_at } => put_text(alloc, members, "free_at", &stamp(*free_at)),
+        Refusal::NoIntent { place }
+        | Refusal::BadPeriod { place }
+        | Refusal::NoOpenEnd { place }
+        | Refusal::FloodNeeded { place }
+        | Refusal::FloodBarred { place } => put_number(alloc, members, "place", *place),
+        Refusal::UnknownZone { zone } | Refusal::WrongZoneKind { zone } => {
+            put_zone(alloc, members, zone)
+        }
+        Refusal::BadText { field, at } => put_place_in(alloc, members, field.as_slice(), *at),
+        Refusal::NoEvent { event } | Refusal::SiteMoved { event } | Refusal::NumberHeld { event } =>
+            put_event_text(alloc, members, "event", event),
+        Refusal::NotLive { event, zone }
+        | Refusal::LeftBefore { event, zone }
+        | Refusal::Twice { event, zone }
+        | Refusal::BegunMoved { event, zone } => put_event_zone(alloc, members, event, zone),
+        Refusal::Conflict {
+            zone,
+            first,
+            second,
+        } => put_clash(alloc, members, zone, first, second),
+        Refusal::NumbersSpent { hazard } => {
+            put_text(alloc, members, "hazard", &hazard_text(hazard))
+        }
+        Refusal::TooManyLines { lines } => put_size(alloc, members, "lines", *lines),
+        Refusal::TooLong { bytes } => put_size(alloc, members, "bytes", *bytes),
+        _ => Ok(()),
+    }
+}
+
+fn refusal_members(alloc: Global, refusal: &Refusal) -> Result<Members, Oom>
+    ensures { IfOk result (λ members. members_view members.entries ≡ put_values refusal.now (labelled (label refusal.now))) }
+{
+    let (no, rule) = label(refusal);
+    let mut members = Map::new(alloc);
+    put_text(alloc, &mut members, "no", no.as_bytes())?;
+    put_text(alloc, &mut members, "rule", rule.as_bytes())?;
+    put_values(alloc, &mut members, refusal)?;
+    Ok(members)
+}
+
+/// The text of a refusal: an object of its code, its name and its values, keys in byte order.
+#[tactic(auto, using(crate::proofs::Floats::refusal_no_float), unfolding(crate::specs::Replies::refusal_text))]
+pub fn refusal_text(alloc: Global, refusal: &Refusal) -> Result<Text, Oom>
+    ensures { IfOk result (λ text. text ≡ refusal_text refusal.now) }
+{
+    let members = refusal_members(alloc, refusal)?;
+    written(alloc, members)
+}

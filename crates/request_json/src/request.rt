@@ -1,0 +1,372 @@
+//! Requests are read.
+ghost use Rattle.std.specs.Prelude.{◌≡◌, IfOk, codes, Some, None};
+ghost use Rattle.hazard_types.specs.Given.{Gives};
+ghost use Rattle.hazard_types.specs.declared.refusal.Refusal.{Refusal as Refused};
+ghost use Rattle.serde_json.specs.Find.{get};
+ghost use Rattle.serde_json.specs.View.{view};
+ghost use Rattle.request_json.specs.Json.{json_of};
+ghost use Rattle.request_json.specs.Form.{given, desk_field, seq_field, verb_field, category_field, number_field, hazard_field, event_field, zones_field, begin_field, end_field, flood_or_none, flood_field, texts_or_empty, texts_field, event_texts_or_none, event_texts_field, target_field, put_on, issue_part, put_part, event_part, routine_part, draft_in, draft_request, request_in, asked_in, asked_of, training_issue_in, training_issue_of};
+
+use crate::asked::Asked;
+use crate::fields::{
+    begin_of, desk_of, each_event_texts, end_of, flood_of, number_at, seq_of, text_at, texts_of,
+    zones_at,
+};
+use crate::keys::{Keys, Verb};
+use crate::training::is_issue;
+use hazard_types::{
+    Begin, Category, Desk, End, Event, EventPart, EventTexts, Flood, Hazard, List, Oom, Or,
+    PutPart, Refusal, Request, RoutinePart, Target, Texts, Zone, event_in, hazard_in,
+};
+use serde_json::Value;
+use std::alloc::Global;
+
+/// What a field has, or the fault of the field.
+fn given<T: Drop>(alloc: Global, found: Option<T>, field: &str) -> Result<T, Or<Refusal>>
+    ensures { Gives result (given found field.now) }
+{
+    match found {
+        Some(value) => Ok(value),
+        None => Err(Or::No(Refusal::WrongShape {
+            field: List::from_slice(alloc, field.as_bytes())?,
+        })),
+    }
+}
+
+/// The fault of a field.
+fn wrong<T: Drop>(alloc: Global, field: &str) -> Result<T, Or<Refusal>>
+    ensures { Gives result (Err (Refusal.WrongShape field.now)) }
+{
+    given(alloc, None, field)
+}
+
+fn desk_field(alloc: Global, value: &Value) -> Result<Desk, Or<Refusal>>
+    ensures { Gives result (desk_field (view value.now)) }
+{
+    given(alloc, text_at(value, "desk").and_then(desk_of), "desk")
+}
+
+fn seq_field(alloc: Global, value: &Value) -> Result<u32, Or<Refusal>>
+    ensures { Gives result (seq_field (view value.now)) }
+{
+    given(alloc, number_at(value, "seq").and_then(seq_of), "seq")
+}
+
+fn verb_field(alloc: Global, value: &Value) -> Result<Verb, Or<Refusal>>
+    ensures { Gives result (verb_field (view value.now)) }
+{
+    given(
+        alloc,
+        text_at(value, "do").and_then(|word| Verb::at(word)),
+        "do",
+    )
+}
+
+fn category_field(alloc: Global, value: &Value) -> Result<Category, Or<Refusal>>
+    ensures { Gives result (category_field (view value.now)) }
+{
+    let category = text_at(value, "category").and_then(|text| Category::at(text.as_bytes()));
+    given(alloc, category, "category")
+}
+
+/// A whole number below 2^32: a draft's, a place, or a product's.
+fn number_field(alloc: Global, value: &Value, key: &str) -> Result<u32, Or<Refusal>>
+    ensures { Gives result (number_field key.now (view value.now)) }
+{
+    given(alloc, number_at(value, key), key)
+}
+
+fn hazard_field(alloc: Global, value: &Value) -> Result<Hazard, Or<Refusal>>
+    ensures { Gives result (hazard_field (view value.now)) }
+{
+    let hazard = text_at(value, "hazard").and_then(|text| hazard_in(text.as_bytes()));
+    given(alloc, hazard, "hazard")
+}
+
+fn event_field(alloc: Global, value: &Value) -> Result<Event, Or<Refusal>>
+    ensures { Gives result (event_field (view value.now)) }
+{
+    let event = text_at(value, "event").and_then(|text| event_in(text.as_bytes()));
+    given(alloc, event, "event")
+}
+
+fn zones_field(alloc: Global, value: &Value) -> Result<List<Zone>, Or<Refusal>>
+    ensures { Gives result (zones_field (view value.now)) }
+{
+    let zones = zones_at(alloc, value)?;
+    given(alloc, zones, "zones")
+}
+
+fn begin_field(alloc: Global, value: &Value) -> Result<Begin, Or<Refusal>>
+    ensures { Gives result (begin_field (view value.now)) }
+{
+    given(alloc, text_at(value, "begin").and_then(begin_of), "begin")
+}
+
+fn end_field(alloc: Global, value: &Value) -> Result<End, Or<Refusal>>
+    ensures { Gives result (end_field (view value.now)) }
+{
+    given(
+        alloc,
+        text_at(value, "end").and_then(|text| end_of(text)),
+        "end",
+    )
+}
+
+/// Flood values, which may be absent; nothing where they are wrong.
+fn flood_or_none(value: &Value) -> Option<Option<Flood>>
+    ensures { result ≡ flood_or_none (get (codes "flood") (view value.now)) }
+{
+    match value.get("flood") {
+        None => Some(None),
+        Some(found) => match flood_of(found) {
+            Some(flood) => Some(Some(flood)),
+            None => None,
+        },
+    }
+}
+
+fn flood_field(alloc: Global, value: &Value) -> Result<Option<Flood>, Or<Refusal>>
+    ensures { Gives result (flood_field (view value.now)) }
+{
+    given(alloc, flood_or_none(value), "flood")
+}
+
+/// Texts, which are empty where they are absent; nothing where they are wrong.
+fn texts_or_empty(alloc: Global, value: &Value) -> Result<Option<Texts>, Oom>
+    ensures { IfOk result (λ texts. texts ≡ texts_or_empty (get (codes "texts") (view value.now))) }
+{
+    match value.get("texts") {
+        None => Ok(Some(Texts {
+            what: List::new(alloc),
+            area: List::new(alloc),
+            impacts: List::new(alloc),
+            details: List::new(alloc),
+        })),
+        Some(found) => texts_of(alloc, found),
+    }
+}
+
+fn texts_field(alloc: Global, value: &Value) -> Result<Texts, Or<Refusal>>
+    ensures { Gives result (texts_field (view value.now)) }
+{
+    let texts = texts_or_empty(alloc, value)?;
+    given(alloc, texts, "texts")
+}
+
+/// The texts of a correction, of which there are none where they are absent; nothing where they are wrong.
+fn event_texts_or_none(alloc: Global, value: &Value) -> Result<Option<List<EventTexts>>, Oom>
+    ensures { IfOk result (λ texts. texts ≡ event_texts_or_none (get (codes "texts") (view value.now))) }
+{
+    match value.get("texts") {
+        None => Ok(Some(List::new(alloc))),
+        Some(found) => match found.as_array() {
+            Some(values) => each_event_texts(alloc, values),
+            None => Ok(None),
+        },
+    }
+}
+
+fn event_texts_field(alloc: Global, value: &Value) -> Result<List<EventTexts>, Or<Refusal>>
+    ensures { Gives result (event_texts_field (view value.now)) }
+{
+    let texts = event_texts_or_none(alloc, value)?;
+    given(alloc, texts, "texts")
+}
+
+/// What a put is about: exactly one of hazard and event is there.
+fn target_field(alloc: Global, value: &Value) -> Result<Target, Or<Refusal>>
+    ensures { Gives result (target_field (view value.now)) }
+{
+    match (value.get("hazard"), value.get("event")) {
+        (Some(_hazard), None) => Ok(Target::Fresh(hazard_field(alloc, value)?)),
+        (None, Some(_event)) => Ok(Target::Join(event_field(alloc, value)?)),
+        _ => wrong(alloc, "hazard"),
+    }
+}
+
+#[tactic(auto, unfolding(crate::specs::Form::put_on))]
+fn put_on(alloc: Global, target: Target, value: &Value) -> Result<PutPart, Or<Refusal>>
+    ensures { Gives result (put_on target (view value.now)) }
+{
+    let zones = zones_field(alloc, value)?;
+    let begin = begin_field(alloc, value)?;
+    let end = end_field(alloc, value)?;
+    let flood = flood_field(alloc, value)?;
+    let texts = texts_field(alloc, value)?;
+    Ok(PutPart {
+        target,
+        zones,
+        begin,
+        end,
+        flood,
+        texts,
+    })
+}
+
+#[tactic(auto, unfolding(crate::specs::Form::issue_part))]
+fn issue_part(alloc: Global, value: &Value) -> Result<PutPart, Or<Refusal>>
+    ensures { Gives result (issue_part (view value.now)) }
+{
+    let hazard = hazard_field(alloc, value)?;
+    put_on(alloc, Target::Fresh(hazard), value)
+}
+
+#[tactic(auto, unfolding(crate::specs::Form::put_part))]
+fn put_part(alloc: Global, value: &Value) -> Result<PutPart, Or<Refusal>>
+    ensures { Gives result (put_part (view value.now)) }
+{
+    let target = target_field(alloc, value)?;
+    put_on(alloc, target, value)
+}
+
+#[tactic(auto, unfolding(crate::specs::Form::event_part))]
+fn event_part(alloc: Global, value: &Value) -> Result<EventPart, Or<Refusal>>
+    ensures { Gives result (event_part (view value.now)) }
+{
+    let event = event_field(alloc, value)?;
+    let zones = zones_field(alloc, value)?;
+    let texts = texts_field(alloc, value)?;
+    Ok(EventPart {
+        event,
+        zones,
+        texts,
+    })
+}
+
+#[tactic(auto, unfolding(crate::specs::Form::routine_part))]
+fn routine_part(alloc: Global, value: &Value) -> Result<RoutinePart, Or<Refusal>>
+    ensures { Gives result (routine_part (view value.now)) }
+{
+    let hazard = hazard_field(alloc, value)?;
+    let zones = zones_field(alloc, value)?;
+    let texts = texts_field(alloc, value)?;
+    Ok(RoutinePart {
+        hazard,
+        zones,
+        texts,
+    })
+}
+
+/// The fields that follow the draft.
+#[tactic(auto, unfolding(crate::specs::Form::draft_in))]
+fn draft_in(alloc: Global, verb: Verb, draft: u32, value: &Value) -> Result<Request, Or<Refusal>>
+    ensures { Gives result (draft_in verb draft (view value.now)) }
+{
+    match verb {
+        Verb::Put => Ok(Request::Put(draft, put_part(alloc, value)?)),
+        Verb::End => Ok(Request::Finish(draft, event_part(alloc, value)?)),
+        Verb::Restate => Ok(Request::Restate(draft, event_part(alloc, value)?)),
+        Verb::Routine => Ok(Request::Routine(draft, routine_part(alloc, value)?)),
+        Verb::Drop => Ok(Request::Drop(draft, number_field(alloc, value, "place")?)),
+        Verb::Take => Ok(Request::Take(draft)),
+        Verb::Discard => Ok(Request::Discard(draft)),
+        _ => Ok(Request::Send(draft)),
+    }
+}
+
+/// The further fields of a request that names a draft.
+#[tactic(auto, unfolding(crate::specs::Form::draft_request))]
+fn draft_request(alloc: Global, verb: Verb, value: &Value) -> Result<Request, Or<Refusal>>
+    ensures { Gives result (draft_request verb (view value.now)) }
+{
+    let draft = number_field(alloc, value, "draft")?;
+    draft_in(alloc, verb, draft, value)
+}
+
+/// The further fields of a request, in their order.
+#[tactic(auto, unfolding(crate::specs::Form::request_in))]
+fn request_in(alloc: Global, verb: Verb, value: &Value) -> Result<Request, Or<Refusal>>
+    ensures { Gives result (request_in verb (view value.now)) }
+{
+    match verb {
+        Verb::Open => Ok(Request::Begin(category_field(alloc, value)?)),
+        Verb::Issue => Ok(Request::Issue(issue_part(alloc, value)?)),
+        Verb::Correct => {
+            let product = number_field(alloc, value, "product")?;
+            Ok(Request::Correct(product, event_texts_field(alloc, value)?))
+        }
+        _ => draft_request(alloc, verb, value),
+    }
+}
+
+/// What a JSON value asks.
+#[tactic(auto, unfolding(crate::specs::Form::asked_in))]
+fn asked_in(alloc: Global, value: &Value) -> Result<Asked, Or<Refusal>>
+    ensures { Gives result (asked_in (view value.now)) }
+{
+    let Some(members) = value.as_object() else {
+        return wrong(alloc, ".");
+    };
+    let desk = desk_field(alloc, value)?;
+    let seq = seq_field(alloc, value)?;
+    let verb = verb_field(alloc, value)?;
+    let request = request_in(alloc, verb, value)?;
+    if verb.keys().know_all(members) {
+        Ok(Asked { desk, seq, request })
+    } else {
+        wrong(alloc, "?")
+    }
+}
+
+/// The JSON value that the bytes are.
+fn read_json(alloc: Global, bytes: &[u8]) -> Result<Value, Or<Refusal>>
+    ensures ok { IfOk result (λ value. json_of bytes.now ≡ Some (view value)) }
+    ensures refused { (refusal : Refused) → result ≡ Err (Or.No refusal) → json_of bytes.now ≡ None }
+    ensures named { (refusal : Refused) → result ≡ Err (Or.No refusal) → refusal ≡ Refusal.NotJson }
+{
+    match Value::from_slice(alloc, bytes) {
+        Ok(value) => Ok(value),
+        Err(error) => {
+            if error.is_memory() {
+                Err(Or::OutOfMemory)
+            } else {
+                Err(Or::No(Refusal::NotJson))
+            }
+        }
+    }
+}
+
+/// Reads a request.
+///
+/// # Errors
+///
+/// `NotJson`, or `WrongShape` with the first field that is missing or wrong (`?` for an unknown key, `.` for a value that is no object), or want of memory.
+#[tactic(auto, unfolding(crate::specs::Form::asked_of))]
+pub fn read_request(alloc: Global, bytes: &[u8]) -> Result<Asked, Or<Refusal>>
+    ensures { Gives result (asked_of bytes.now) }
+{
+    let value = read_json(alloc, bytes)?;
+    asked_in(alloc, &value)
+}
+
+#[tactic(auto, unfolding(crate::specs::Form::training_issue_in))]
+fn training_issue_in(alloc: Global, value: &Value) -> Result<PutPart, Or<Refusal>>
+    ensures { Gives result (training_issue_in (view value.now)) }
+{
+    let Some(members) = value.as_object() else {
+        return wrong(alloc, ".");
+    };
+    if !is_issue(value) {
+        return wrong(alloc, "do");
+    }
+    let part = issue_part(alloc, value)?;
+    if Keys::Training.know_all(members) {
+        Ok(part)
+    } else {
+        wrong(alloc, "?")
+    }
+}
+
+/// Reads an `issue` line without desk and number, which are unknown keys here.
+///
+/// # Errors
+///
+/// As `read_request`; a line that is no `issue` has a wrong `do`.
+#[tactic(auto, unfolding(crate::specs::Form::training_issue_of))]
+pub fn read_training_issue(alloc: Global, line: &[u8]) -> Result<PutPart, Or<Refusal>>
+    ensures { Gives result (training_issue_of line.now) }
+{
+    let value = read_json(alloc, line)?;
+    training_issue_in(alloc, &value)
+}

@@ -1,0 +1,56 @@
+//! Bytes as a script writes them: `~` and two hex digits are one byte.
+use hazard_types::{List, Oom, Text};
+use std::alloc::Global;
+
+/// How far an escape was read.
+#[derive(Clone, Copy, Debug, PartialEq, Eq)]
+enum Escape {
+    Outside,
+    Begun,
+    Behind(u8),
+}
+
+/// The value of a hex digit; 0 where it is none.
+fn hex_value(digit: u8) -> u8 {
+    match digit {
+        b'0'..=b'9' => digit - b'0',
+        b'a'..=b'f' => digit - b'a' + 10,
+        _ => 0,
+    }
+}
+
+/// The bytes that a script's text stands for.
+pub fn bytes_of(alloc: Global, text: &str) -> Result<Text, Oom> {
+    let mut out = List::new(alloc);
+    let mut escape = Escape::Outside;
+    for byte in text.as_bytes() {
+        escape = match escape {
+            Escape::Outside => {
+                if *byte == b'~' {
+                    Escape::Begun
+                } else {
+                    out.push(*byte)?;
+                    Escape::Outside
+                }
+            }
+            Escape::Begun => Escape::Behind(*byte),
+            Escape::Behind(high) => {
+                out.push((hex_value(high) << 4) | hex_value(*byte))?;
+                Escape::Outside
+            }
+        };
+    }
+    Ok(out)
+}
+
+/// An array in an array, as deep as this.
+pub fn nested(alloc: Global, depth: u8) -> Result<Text, Oom> {
+    let mut out = List::new(alloc);
+    for _ in 0..depth {
+        out.push(b'[')?;
+    }
+    for _ in 0..depth {
+        out.push(b']')?;
+    }
+    Ok(out)
+}
