@@ -141,8 +141,7 @@ corrected_plain (Some letter) = (refl, refl)
 title_is : (c : Category) (letter : Option ℕ) → IsOneLine (product_name c ++ corrected letter) × HasNoDigit (product_name c ++ corrected letter)
 title_is c letter =
     let a = name_plain c in
-    let b = corrected_plain letter in
-    (
+    let b = corrected_plain letter in (
       line_to (product_name c ++ corrected letter) (line_both (product_name c) (corrected letter) a.0 b.0),
       all_both (λ c. is_digit c ≡ false) (product_name c) (corrected letter) (digits_to (product_name c) a.1) (digits_to (corrected letter) b.1),
     )
