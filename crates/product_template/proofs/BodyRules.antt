@@ -61,9 +61,9 @@ MayPrint (Some x) = (list_all is_printable x.what ≡ true) × (list_all is_prin
 on_prints : (texts : List EventTexts) (e : Event) → AllByRecursion ArePrintable texts → MayPrint (texts_on texts e)
 on_prints [] e h = tt
 on_prints (x ∷ texts) e h = elim (cases_Bool (same_event x.event e)) [
-    | inl n ↦ rw n (h.0.what, h.0.area, h.0.impacts, h.0.details)
-    | inr n ↦ rw n (on_prints texts e h.1)
-  ]
+  | inl n ↦ rw n (h.0.what, h.0.area, h.0.impacts, h.0.details)
+  | inr n ↦ rw n (on_prints texts e h.1)
+]
 
 bullets_chunk : (edition : Edition) (z : LocalZone) (t : ℕ) (l : SegLine) (texts : Option Texts) → MayPrint texts → IsChunk (bullets edition z t l texts)
 bullets_chunk edition z t l None h = when_chunk edition z t l
@@ -88,9 +88,9 @@ body_well settings class texts t edition s names some named printable =
     elim (cases_Bool (is_training class)) [
       | inl e ↦ record { no_slash = rw e refl; names = rw e tt; text = chunk_lines _ chunk; ended = chunk.ended }
       | inr e ↦ record {
-          no_slash = rw e (no_slash settings.zones s.zones some names (named e));
-          names = rw e (lines_calm (name_lines (zone_names settings.zones s.zones)) (names_calm (zone_names settings.zones s.zones) (all_calm settings.zones s.zones names (named e))));
-          text = chunk_lines _ chunk;
-          ended = chunk.ended;
-        }
+        no_slash = rw e (no_slash settings.zones s.zones some names (named e));
+        names = rw e (lines_calm (name_lines (zone_names settings.zones s.zones)) (names_calm (zone_names settings.zones s.zones) (all_calm settings.zones s.zones names (named e))));
+        text = chunk_lines _ chunk;
+        ended = chunk.ended;
+      }
     ]

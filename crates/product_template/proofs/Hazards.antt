@@ -9,9 +9,9 @@ use Rattle.hazard_types.specs.declared.hazard.Hazard.{Hazard}
 beside_both : (rows : List DeskHazard) (h : Hazard) → IsSome (beside (map (λ (d : DeskHazard). (d.hazard, d.facts)) rows) h) → IsSome (beside (map (λ (d : DeskHazard). (d.hazard, d.name)) rows) h)
 beside_both [] h is = is
 beside_both (d ∷ rows) h is = elim (cases_Bool (same_hazard d.hazard h)) [
-    | inl e ↦ rw e refl
-    | inr e ↦ rw e (beside_both rows h (rw e at is))
-  ]
+  | inl e ↦ rw e refl
+  | inr e ↦ rw e (beside_both rows h (rw e at is))
+]
 
 pub named : (h : Hazard) → IsSome (facts_of h) → IsSome (name_of h)
 unfolding facts_of name_of fact_rows name_rows

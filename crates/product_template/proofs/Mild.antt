@@ -38,12 +38,12 @@ AreMild false t = AllByRecursion MildLine (drop 1 (lines_in t))
 mild_both : (t : List ℕ) → (mild false t ≡ true → AreMild false t) × (mild true t ≡ true → AreMild true t)
 mild_both [] = (λ h. tt, λ h. tt)
 mild_both (c ∷ cs) = elim (cases_Bool (c == 10)) [
-    | inl e ↦ rw e (λ h. (mild_both cs).1 h, λ h. (tt, (mild_both cs).1 (and_parts (is_mild_byte c) (mild true cs) h).1))
-    | inr e ↦ rw e (
-        λ h. onto_drop c (lines_in cs) ((mild_both cs).0 h),
-        λ h. let p = and_parts (is_mild_byte c) (mild false cs) h in onto_all c (lines_in cs) p.0 ((mild_both cs).0 p.1),
-      )
-  ]
+  | inl e ↦ rw e (λ h. (mild_both cs).1 h, λ h. (tt, (mild_both cs).1 (and_parts (is_mild_byte c) (mild true cs) h).1))
+  | inr e ↦ rw e (
+    λ h. onto_drop c (lines_in cs) ((mild_both cs).0 h),
+    λ h. let p = and_parts (is_mild_byte c) (mild false cs) h in onto_all c (lines_in cs) p.0 ((mild_both cs).0 p.1),
+  )
+]
 
 pub not_true : (b : Bool) → not b ≡ true → b ≡ false
 not_true true h = sym h

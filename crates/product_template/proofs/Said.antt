@@ -124,9 +124,9 @@ period_capital z t (Some begin) end = elim (cases_Bool (nat_le begin t)) [ inl e
 pub when_fit : (l : SegLine) (z : LocalZone) (t : ℕ) → IsFit (when_of l z t)
 unfolding when_of
 when_fit l z t = elim (cases_Bool (has_when l.action)) [
-    | inl e ↦ rw e ((refl, refl), line_both (codes "* WHEN..." ++ capital (period_of z t l.begin l.end)) (codes ".") (period_capital z t l.begin l.end) refl)
-    | inr e ↦ rw e (tt, refl)
-  ]
+  | inl e ↦ rw e ((refl, refl), line_both (codes "* WHEN..." ++ capital (period_of z t l.begin l.end)) (codes ".") (period_capital z t l.begin l.end) refl)
+  | inr e ↦ rw e (tt, refl)
+]
 
 -- ---- texts of forecasters
 

@@ -16,9 +16,9 @@ IsIndented line = take 2 line ≡ 32 ∷ 32 ∷ []
 first_line : (line t : List ℕ) → (more : List ℕ) × (rest : List (List ℕ)) × (lines_from line t ≡ (line ++ more) ∷ rest)
 first_line line [] = ([], [], ap (λ (x : List ℕ). x ∷ []) (sym (append-nil line)))
 first_line line (c ∷ cs) = elim (cases_Bool (c == 10)) [
-    | inl e ↦ rw e ([], lines_from [] cs, ap (λ (x : List ℕ). x ∷ lines_from [] cs) (sym (append-nil line)))
-    | inr e ↦ rw e (let n = first_line (line ++ c ∷ []) cs in (c ∷ n.0, n.1, n.2 ∙ ap (λ (x : List ℕ). x ∷ n.1) (append_assoc line (c ∷ []) n.0)))
-  ]
+  | inl e ↦ rw e ([], lines_from [] cs, ap (λ (x : List ℕ). x ∷ lines_from [] cs) (sym (append-nil line)))
+  | inr e ↦ rw e (let n = first_line (line ++ c ∷ []) cs in (c ∷ n.0, n.1, n.2 ∙ ap (λ (x : List ℕ). x ∷ n.1) (append_assoc line (c ∷ []) n.0)))
+]
 
 never : (a b : ℕ) → ◌≡◌ {A = List ℕ} [] (a ∷ b ∷ []) → ⊥
 never a b e = cc e
@@ -37,12 +37,12 @@ drop_all_but line t h =
 indented_mild : (t : List ℕ) → ((line : List ℕ) → AllByRecursion IsIndented (drop 1 (lines_from line t)) → mild false t ≡ true) × (AllByRecursion IsIndented (lines_from [] t) → mild true t ≡ true)
 indented_mild [] = (λ line h. refl, λ h. refl)
 indented_mild (c ∷ cs) = elim (cases_Bool (c == 10)) [
-    | inl e ↦ rw e (λ line h. (indented_mild cs).1 h, λ h. absurd (never 32 32 h.0))
-    | inr e ↦ rw e (
-        λ line h. (indented_mild cs).0 (line ++ c ∷ []) h,
-        λ h. let b = blank_first c cs h in and_from _ _ (ap is_mild_byte b) ((indented_mild cs).0 (c ∷ []) (drop_all_but (c ∷ []) cs h)),
-      )
-  ]
+  | inl e ↦ rw e (λ line h. (indented_mild cs).1 h, λ h. absurd (never 32 32 h.0))
+  | inr e ↦ rw e (
+    λ line h. (indented_mild cs).0 (line ++ c ∷ []) h,
+    λ h. let b = blank_first c cs h in and_from _ _ (ap is_mild_byte b) ((indented_mild cs).0 (c ∷ []) (drop_all_but (c ∷ []) cs h)),
+  )
+]
 
 -- empty, or a first byte that is no blank, no capital letter and no $
 abbrev pub BeginsMild : List ℕ → Type 0

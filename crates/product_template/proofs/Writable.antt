@@ -28,11 +28,14 @@ use Rattle.desk_settings.specs.Looking.{category_place, name_beside}
 use Rattle.desk_settings.specs.declared.settings.Settings.{Settings}
 use Rattle.segmenter.specs.Expiry.{leaves_live, lesser, lesser_left, stands_long, expiry_of}
 use Rattle.product_frame.specs.Parts.{is_ttaaii, is_identifier}
-use Rattle.product_frame.specs.LineRules.{IsOneLine, HasNoDigit, are_three, IsPairWritten, IsSegmentWritten, IsBody, IsWritable}
+use Rattle.product_frame.specs.LineRules.{IsOneLine, HasNoDigit, are_three, IsPairWritten, IsSegmentWritten, IsBody, ReadsBack, IsWritable}
+use Rattle.product_frame.specs.Frame.{FrameOf}
+use Rattle.product_frame.specs.Splitting.{IsOneProduct}
+use Rattle.product_frame.proofs.ProductLines.{written_frame, written_one}
 use Rattle.product_frame.proofs.Runs.{all_both}
 use Rattle.product_template.specs.Bodies.{is_training, body_of}
 use Rattle.product_template.specs.Conditions.{CanBeSaid, CanBeSegment, ArePrintable, IsLetter, CanBeText}
-use Rattle.product_template.specs.Text.{product_name, corrected, three_letters, pair_of, segment_of, frame_of, block_of, bodies_of}
+use Rattle.product_template.specs.Text.{product_name, corrected, three_letters, pair_of, segment_of, frame_of, block_of, bodies_of, text_of}
 use Rattle.product_template.proofs.BodyRules.{body_well}
 use Rattle.product_template.proofs.Mild.{not_true}
 use Rattle.product_template.proofs.Said.{IsLine, line_both, line_to, printable_line}
@@ -141,8 +144,7 @@ corrected_plain (Some letter) = (refl, refl)
 title_is : (c : Category) (letter : Option ℕ) → IsOneLine (product_name c ++ corrected letter) × HasNoDigit (product_name c ++ corrected letter)
 title_is c letter =
     let a = name_plain c in
-    let b = corrected_plain letter in
-    (
+    let b = corrected_plain letter in (
       line_to (product_name c ++ corrected letter) (line_both (product_name c) (corrected letter) a.0 b.0),
       all_both (λ c. is_digit c ≡ false) (product_name c) (corrected letter) (digits_to (product_name c) a.1) (digits_to (corrected letter) b.1),
     )
@@ -238,3 +240,15 @@ writable settings class plan t edition can =
       zone = settings.zone;
       local = refl;
     }
+
+pub text_framed : (settings : Settings) (class : Class) (plan : Plan) (t : ℕ) (edition : Edition) → CanBeText settings class plan t → All ReadsBack (map (segment_of class settings.office t) plan.segments)
+    → FrameOf (text_of settings class plan t edition) (frame_of settings class plan t)
+unfolding text_of
+text_framed settings class plan t edition can back =
+    written_frame (text_of settings class plan t edition) (frame_of settings class plan t) (block_of settings plan t) (bodies_of settings class plan t edition) (writable settings class plan t edition can) back refl
+
+pub text_alone : (settings : Settings) (class : Class) (plan : Plan) (t : ℕ) (edition : Edition) → CanBeText settings class plan t → All ReadsBack (map (segment_of class settings.office t) plan.segments)
+    → IsOneProduct (text_of settings class plan t edition)
+unfolding text_of
+text_alone settings class plan t edition can back =
+    written_one (text_of settings class plan t edition) (frame_of settings class plan t) (block_of settings plan t) (bodies_of settings class plan t edition) (writable settings class plan t edition can) back refl

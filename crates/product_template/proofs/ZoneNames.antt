@@ -45,9 +45,9 @@ name_calm (c ∷ cs) h = let p = and_parts (is_zone_name_byte c) (list_all is_zo
 beside_passes : (P : List ℕ → Bool) → (names : List (Place × List ℕ)) (z : Place) → AllByRecursion (λ n. P n ≡ true) (values_of names) → (name : List ℕ) → name_beside names z ≡ Some name → P name ≡ true
 beside_passes P [] z h name e = cc e
 beside_passes P (pair ∷ pairs) z h name e = elim (cases_Bool (is_eq (by_place pair.0 z))) [
-    | inl n ↦ (let same : Some pair.1 ≡ Some name = rw n at e in (let one : pair.1 ≡ name = cc same in ap P (sym one) ∙ h.0))
-    | inr n ↦ beside_passes P pairs z h.1 name (rw n at e)
-  ]
+  | inl n ↦ (let same : Some pair.1 ≡ Some name = rw n at e in (let one : pair.1 ≡ name = cc same in ap P (sym one) ∙ h.0))
+  | inr n ↦ beside_passes P pairs z h.1 name (rw n at e)
+]
 
 found : (o : Option (List ℕ)) → IsSome o → (name : List ℕ) × (o ≡ Some name)
 found (Some name) h = (name, refl)
@@ -68,9 +68,9 @@ all_calm names (z ∷ zones) h is = (let n = unwrap_or (name_beside names z) [] 
 
 letter_no_slash : (c : ℕ) → is_ascii_alphabetic c ≡ true → (c == 47) ≡ false
 letter_no_slash c h = elim (cases_Bool (c == 47)) [
-    | inl e ↦ (let k : is_ascii_alphabetic 47 ≡ true = subst (λ (x : ℕ). is_ascii_alphabetic x ≡ true) (eqb-true c 47 e) h in cc k)
-    | inr e ↦ e
-  ]
+  | inl e ↦ (let k : is_ascii_alphabetic 47 ≡ true = subst (λ (x : ℕ). is_ascii_alphabetic x ≡ true) (eqb-true c 47 e) h in cc k)
+  | inr e ↦ e
+]
 
 second_none : (a b : Bool) → b ≡ false → (a && b) ≡ false
 second_none false b h = refl

@@ -11,7 +11,9 @@ ghost use Rattle.product_template.specs.Conditions.{CanBeSaid, CanBeSegment, Are
 use crate::bullets::{put_bullets, put_closed};
 use crate::names::names_of;
 use desk_settings::Settings;
-use hazard_types::{Class, Edition, EventTexts, List, LocalZone, Minute, Oom, SegLine, Segment, Text};
+use hazard_types::{
+    Class, Edition, EventTexts, List, LocalZone, Minute, Oom, SegLine, Segment, Text,
+};
 use headline_text::headline;
 use product_frame::Body;
 use std::alloc::Global;
@@ -95,9 +97,7 @@ pub fn bodies_of(
 {
     let mut bodies = List::new(alloc);
     for segment in segments {
-        bodies.push(body_of(
-            alloc, settings, class, texts, t, edition, segment,
-        )?)?;
+        bodies.push(body_of(alloc, settings, class, texts, t, edition, segment)?)?;
     }
     Ok(bodies)
 }

@@ -7,9 +7,7 @@ ghost use Rattle.product_template.specs.Text.{three_letters, heading_of, identif
 use crate::names::title_of;
 use desk_clock::{day_stamp, local_line};
 use desk_settings::Settings;
-use hazard_types::{
-    Category, Class, End, List, Minute, Oom, Plan, SegLine, Segment, Text, Vtec,
-};
+use hazard_types::{Category, Class, End, List, Minute, Oom, Plan, SegLine, Segment, Text, Vtec};
 use product_frame::{Block, Frame, FrameSegment, Heading, Pair};
 use segmenter::expiry;
 use std::alloc::Global;
@@ -85,7 +83,12 @@ fn pair_of(class: Class, office: [u8; 4], line: &SegLine) -> Pair
     }
 }
 
-fn pairs_of(alloc: Global, class: Class, office: [u8; 4], lines: &[SegLine]) -> Result<List<Pair>, Oom>
+fn pairs_of(
+    alloc: Global,
+    class: Class,
+    office: [u8; 4],
+    lines: &[SegLine],
+) -> Result<List<Pair>, Oom>
     ensures { IfOk result (λ pairs. pairs ≡ map (pair_of class office) lines.now) }
 {
     let mut pairs = List::new(alloc);
@@ -144,13 +147,7 @@ pub fn frame_of(
     ensures { IfOk result (λ frame. frame ≡ frame_of settings.now class plan.now t) }
 {
     let identifier = identifier_of(alloc, settings, plan)?;
-    let segments = segments_of(
-        alloc,
-        class,
-        settings.office,
-        t,
-        plan.segments.as_slice(),
-    )?;
+    let segments = segments_of(alloc, class, settings.office, t, plan.segments.as_slice())?;
     Ok(Frame {
         heading: heading_of(settings, plan, t),
         identifier,
@@ -160,12 +157,7 @@ pub fn frame_of(
 }
 
 /// What stands between a product's identifier and its segments.
-pub fn block_of(
-    alloc: Global,
-    settings: &Settings,
-    plan: &Plan,
-    t: Minute,
-) -> Result<Block, Oom>
+pub fn block_of(alloc: Global, settings: &Settings, plan: &Plan, t: Minute) -> Result<Block, Oom>
     ensures { IfOk result (λ block. block ≡ block_of settings.now plan.now t) }
 {
     let name = title_of(alloc, plan.category, &plan.bbb)?;

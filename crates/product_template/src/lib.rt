@@ -8,5 +8,5 @@ mod laws;
 mod names;
 mod text;
 
-pub use laws::texts_say_the_lines;
+pub use laws::{texts_read_as_their_plans, texts_say_the_lines};
 pub use text::product_text;

@@ -1,5 +1,6 @@
 //! What a line of the script is answered.
 use crate::lines::{Said, read_line};
+use crate::products::product_answer;
 use crate::settings::{
     desk_answer, filled, heading_answer, settings_answer, training_answer, unescaped, with_zones,
     zone_answer,
@@ -80,6 +81,7 @@ fn push_settings(out: &mut String, alloc: Global, command: &str, rest: &str) -> 
         "desk" => desk_answer(out, alloc, word, unescaped(alloc, more)?.as_str())?,
         "heading" => heading_answer(out, alloc, word, unescaped(alloc, more)?.as_str())?,
         "training" => training_answer(out, alloc, word)?,
+        "product" => product_answer(out, alloc, rest)?,
         _ => return Ok(false),
     }
     Ok(true)

@@ -3,6 +3,8 @@
 
 mod answers;
 mod lines;
+mod plans;
+mod products;
 mod settings;
 
 use crate::answers::answer;
