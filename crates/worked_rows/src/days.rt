@@ -21,9 +21,7 @@ use action_planner::{
 use event_life::rows_stay_in_order;
 use event_numbers::Numbers;
 use hazard_board::Board;
-use hazard_types::{
-    Draft, EventTexts, List, Minute, Oom, Or, Plan, Refusal, Row, Sent,
-};
+use hazard_types::{Draft, EventTexts, List, Minute, Oom, Or, Plan, Refusal, Row, Sent};
 use std::alloc::Global;
 use std::marker::Model;
 
@@ -106,7 +104,6 @@ impl Day {
     }
 
     /// What a draft would be, sent at t, or the first rule that it breaks.
-    #[tactic(auto, using(crate::proofs::SegmentLemmas::can_be_written))]
     pub fn plan(&self, alloc: Global, draft: &Draft, t: Minute) -> Result<Plan, Or<Refusal>>
         requires { MaySend draft.now.category draft.now.intents self.now.last t }
         ensures plan { IfOk result (λ plan. IsPlan draft.now.category self.now.rows t (placed self.now.counts t draft.now.intents) plan) }
@@ -116,11 +113,11 @@ impl Day {
     {
         what_stands_stands_later();
         lines_have_four_digits();
-        plan(alloc, &self.board, &self.numbers, draft, t)
+        let plan = plan(alloc, &self.board, &self.numbers, draft, t)?;
+        Ok(plan)
     }
 
     /// Sends a draft at t: its lines change the rows, the events that it opens draw their numbers, and its product stands behind the others. A refusal, and want of memory, changes nothing.
-    #[tactic(auto, using(crate::proofs::SegmentLemmas::can_be_written))]
     pub fn send(&mut self, alloc: Global, draft: &Draft, t: Minute) -> Result<Plan, Or<Refusal>>
         requires { MaySend draft.now.category draft.now.intents self.old.last t }
         ensures plan { IfOk result (λ plan. IsPlan draft.now.category self.old.rows t (placed self.old.counts t draft.now.intents) plan) }
@@ -150,7 +147,6 @@ impl Day {
     }
 
     /// Corrects the product at a place among those that were sent: what stays live of its lines is said again, and the correction stands behind the others. A refusal, and want of memory, changes nothing.
-    #[tactic(auto, using(crate::proofs::SegmentLemmas::can_be_written))]
     pub fn correct(
         &mut self,
         alloc: Global,
@@ -176,13 +172,13 @@ impl Day {
         let original = original_of(before);
         let last = last_of(products, before.category);
         let letters = letters_of(products, original);
-        let plan = plan_correction(alloc, &self.board, before, last, letters, texts, t)?;
-        self.board.reserve(plan.lines.len())?;
-        let sent = sent_of(alloc, products.len(), &plan, t, Some(original))?;
+        let correction = plan_correction(alloc, &self.board, before, last, letters, texts, t)?;
+        self.board.reserve(correction.lines.len())?;
+        let sent = sent_of(alloc, products.len(), &correction, t, Some(original))?;
         self.products.push(sent)?;
-        self.board.apply(&plan.lines, t);
+        self.board.apply(&correction.lines, t);
         self.last = t;
-        Ok(plan)
+        Ok(correction)
     }
 
     /// The rows that are shown at a minute, by zone, then event.

@@ -1,7 +1,7 @@
 //! The words of a script's lines.
 use hazard_types::{
-    Begin, Category, End, Event, Hazard, List, Minute, Or, Target, Zone, categories, event_in, find,
-    hazard_in, read_stamp, zone_in,
+    Begin, Category, End, Event, Hazard, List, Minute, Or, Target, Zone, categories, event_in,
+    find, hazard_in, read_stamp, zone_in,
 };
 use std::alloc::Global;
 

@@ -1,9 +1,39 @@
--- what stood at the last minute stands now
-use Rattle.std.proofs.Common.{ap}
-use Rattle.worked_rows.specs.Days.{Standing}
+-- What stood at the last minute stands now.
+use Rattle.std.proofs.Common.{◌≡◌, ◌∙◌, ◌+◌, List, count_by, ap, sym, subst}
+use Rattle.std.specs.List.{All, AllPairs}
+use Rattle.std.specs.List.Sorted.{IsStrictlySortedBy}
+use Rattle.hazard_types.specs.declared.hazard.Event.{Event}
+use Rattle.hazard_types.specs.declared.line.Line.{Line}
+use Rattle.hazard_types.specs.declared.line.Row.{Row}
+use Rattle.hazard_types.specs.declared.request.Sent.{Sent}
+use Rattle.event_life.specs.Openings.{is_numbered}
+use Rattle.event_life.specs.Products.{by_key, rows_after}
+use Rattle.event_numbers.specs.declared.Count.{Count}
+use Rattle.event_numbers.specs.Counts.{count_of, DrawsAll}
+use Rattle.segmenter.specs.Said.{IsApart}
+use Rattle.action_planner.specs.Conditions.{CanPlan}
+use Rattle.action_planner.specs.Corrections.{corrected_lines}
+use Rattle.action_planner.specs.Lines.{planned_lines}
+use Rattle.action_planner.specs.Placed.{placed, opened}
+use Rattle.action_planner.specs.Standing.{Stands}
+use Rattle.worked_rows.specs.Days.{HasApart, Standing}
+use Rattle.worked_rows.proofs.DayLemmas.{apart_at, may_plan, one_more}
+use Rattle.worked_rows.proofs.SegmentLemmas.{can_be_written}
 use Rattle.worked_rows.proofs.days.Day.plan.Goals as goal
 
 pub plan-requires : goal.plan-requires
 plan-requires c =
-    let stands = c.what_stands_stands_later.ensures c.self.inside.board.rows c.self.inside.numbers.counts c.self.inside.last c.args.t (rw (ap (λ (d : Standing). d.last) c.self.view_is) c.requires.later) c.self.invariant.0 in
-    record { few = c.requires.few; fitting = c.requires.fitting; consistent = stands.consistent; numbered = stands.numbered; minute = c.requires.soon }
+    let stands : Stands c.self.inside.board.rows c.self.inside.numbers.counts c.args.t =
+    c.what_stands_stands_later.ensures c.self.inside.board.rows c.self.inside.numbers.counts c.self.inside.last c.args.t (rw (ap (λ (d : Standing). d.last) c.self.view_is) c.requires.later) c.self.invariant.0 in
+    may_plan c.self.inside.board.rows c.self.inside.numbers.counts c.args.draft.now.category c.args.draft.now.intents _ c.args.t c.requires stands
+
+pub returns-clause-written : goal.returns-clause-written
+returns-clause-written c =
+    let rows = c.self.inside.board.rows in
+    let counts = c.self.inside.numbers.counts in
+    let stands : Stands c.self.inside.board.rows c.self.inside.numbers.counts c.args.t =
+    c.what_stands_stands_later.ensures c.self.inside.board.rows c.self.inside.numbers.counts c.self.inside.last c.args.t (rw (ap (λ (d : Standing). d.last) c.self.view_is) c.requires.later) c.self.invariant.0 in
+    let can : CanPlan rows counts c.args.draft.now.category c.args.draft.now.intents c.args.t = may_plan rows counts c.args.draft.now.category c.args.draft.now.intents _ c.args.t c.requires stands in
+    let lines = planned_lines c.args.draft.now.category rows c.args.t (placed counts c.args.t c.args.draft.now.intents) in
+    can_be_written lines c.in_ok-plan.plan.segments c.in_ok-plan.ensures.plan.segments
+    (c.lines_have_four_digits.ensures.planned c.args.draft.now.category rows counts c.args.draft.now.intents c.args.t can stands.digits c.in_ok-plan.ensures.kept)

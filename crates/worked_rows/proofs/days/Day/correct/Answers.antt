@@ -1,0 +1,63 @@
+-- What stood at the last minute stands now, and after the correction.
+use Rattle.std.proofs.Common.{◌≡◌, ◌∙◌, ◌+◌, List, count_by, get_or, length, ap, sym, subst}
+use Rattle.std.specs.List.{All, AllPairs}
+use Rattle.std.specs.List.Sorted.{IsStrictlySortedBy}
+use Rattle.hazard_types.specs.declared.hazard.Event.{Event}
+use Rattle.hazard_types.specs.declared.line.Line.{Line}
+use Rattle.hazard_types.specs.declared.line.Row.{Row}
+use Rattle.hazard_types.specs.declared.request.Sent.{Sent}
+use Rattle.event_life.specs.Openings.{is_numbered}
+use Rattle.event_life.specs.Products.{by_key, rows_after}
+use Rattle.event_numbers.specs.declared.Count.{Count}
+use Rattle.event_numbers.specs.Counts.{count_of, DrawsAll}
+use Rattle.segmenter.specs.Said.{IsApart}
+use Rattle.action_planner.specs.Conditions.{CanPlan}
+use Rattle.action_planner.specs.Corrections.{corrected_lines}
+use Rattle.action_planner.specs.Lines.{planned_lines}
+use Rattle.action_planner.specs.Placed.{placed, opened}
+use Rattle.action_planner.specs.Standing.{Stands}
+use Rattle.worked_rows.specs.Days.{HasApart, Standing}
+use Rattle.worked_rows.proofs.DayLemmas.{apart_at, may_plan, one_more}
+use Rattle.worked_rows.proofs.SegmentLemmas.{can_be_written}
+use Rattle.action_planner.specs.Corrections.{CanCorrect}
+use Rattle.worked_rows.proofs.days.Day.correct.Goals as goal
+
+pub plan_correction-requires : goal.plan_correction-requires
+plan_correction-requires c =
+    let stands : Stands c.self.inside.board.rows c.self.inside.numbers.counts c.args.t =
+    c.what_stands_stands_later.ensures c.self.inside.board.rows c.self.inside.numbers.counts c.self.inside.last c.args.t (rw (ap (λ (d : Standing). d.last) c.self.view_is) c.requires.later) c.self.invariant.0 in
+    let sent_is : c.index-products-place.result ≡ get_or c.self.inside.products c.args.place c.index-products-place.result =
+    c.index-products-place.is ∙ ap (λ (xs : List Sent). get_or xs c.args.place c.index-products-place.result) c.as_slice-products.ensures in
+    let before : AllPairs IsApart c.index-products-place.result.lines = subst (λ (s : Sent). AllPairs IsApart s.lines) (sym sent_is)
+    (apart_at c.self.inside.products c.args.place c.index-products-place.result (rw (ap (λ (d : Standing). length d.products) c.self.view_is) c.requires.place) c.self.invariant.2) in
+    record { apart = before; few = c.letters_of-letters.ensures.range; consistent = stands.consistent; sited = stands.sited; minute = c.requires.soon }
+
+pub returns-clause-written : goal.returns-clause-written
+returns-clause-written c =
+    let rows = c.self.inside.board.rows in
+    let counts = c.self.inside.numbers.counts in
+    let stands : Stands c.self.inside.board.rows c.self.inside.numbers.counts c.args.t =
+    c.what_stands_stands_later.ensures c.self.inside.board.rows c.self.inside.numbers.counts c.self.inside.last c.args.t (rw (ap (λ (d : Standing). d.last) c.self.view_is) c.requires.later) c.self.invariant.0 in
+    can_be_written (corrected_lines rows c.args.t c.index-products-place.result.lines) c.in_ok-correction.correction.segments c.in_ok-correction.ensures.plan.segments
+    (c.lines_have_four_digits.ensures.corrected rows counts c.args.t c.index-products-place.result.lines stands.numbered stands.digits)
+
+pub invariant_of-self-2 : goal.invariant_of-self-2
+invariant_of-self-2 c =
+    let rows = c.self.inside.board.rows in
+    let counts = c.self.inside.numbers.counts in
+    let sent : Sent = c.index-products-place.result in
+    let lines = corrected_lines rows c.args.t sent.lines in
+    let stands : Stands c.self.inside.board.rows c.self.inside.numbers.counts c.args.t =
+    c.what_stands_stands_later.ensures c.self.inside.board.rows c.self.inside.numbers.counts c.self.inside.last c.args.t (rw (ap (λ (d : Standing). d.last) c.self.view_is) c.requires.later) c.self.invariant.0 in
+    let sent_is : c.index-products-place.result ≡ get_or c.self.inside.products c.args.place c.index-products-place.result =
+    c.index-products-place.is ∙ ap (λ (xs : List Sent). get_or xs c.args.place c.index-products-place.result) c.as_slice-products.ensures in
+    let before : AllPairs IsApart c.index-products-place.result.lines = subst (λ (s : Sent). AllPairs IsApart s.lines) (sym sent_is)
+    (apart_at c.self.inside.products c.args.place c.index-products-place.result (rw (ap (λ (d : Standing). length d.products) c.self.view_is) c.requires.place) c.self.invariant.2) in
+    let kept = c.corrections_keep_what_stands.ensures rows counts sent c.last_of-last.result c.letters_of-letters.result c.args.texts.now c.args.t stands c.self.invariant.1 before c.in_ok-correction.ensures.kept in
+    let after : c.apply.new.self.rows ≡ rows_after rows c.args.t lines =
+    c.apply.ensures.rows ∙ ap (λ (old : List Row). rows_after old c.args.t c.in_ok-correction.correction.lines) c.reserve.ensures.rows ∙ ap (rows_after rows c.args.t) c.in_ok-correction.ensures.plan.lines in
+    let apart : AllPairs IsApart c.in_ok-sent.sent.lines = subst (λ (ls : List Line). AllPairs IsApart ls) (sym (c.in_ok-sent.ensures ∙ c.in_ok-correction.ensures.plan.lines)) (c.corrected_lines_are_distinct.ensures rows c.args.t sent.lines before) in (
+      subst (λ (rs : List Row). Stands rs counts c.args.t) (sym after) kept,
+      subst (λ (rs : List Row). IsStrictlySortedBy by_key rs) (sym after) (c.rows_stay_in_order.ensures rows c.args.t lines c.self.invariant.1),
+      rw c.in_ok-push.ensures.ok (one_more c.self.inside.products c.in_ok-sent.sent c.self.invariant.2 apart),
+    )
