@@ -1,0 +1,13 @@
+pub mod State
+pub mod Requests
+pub mod Writing
+pub mod Rules
+pub mod Making
+pub mod Step
+pub mod Sound
+pub mod Agreement
+pub mod Histories
+pub mod Views
+pub mod Prepared
+pub mod Look
+pub mod Keeping

@@ -1,0 +1,9 @@
+//! What a send, an issue and a correction make.
+use hazard_types::{Event, List, Sent};
+
+/// A product, and the events that it opened, in order of places.
+#[derive(Debug, Drop)]
+pub struct Made {
+    pub sent: Sent,
+    pub opened: List<Event>,
+}
