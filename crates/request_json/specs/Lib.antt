@@ -1,6 +1,7 @@
 pub mod Canonical
 pub mod Fields
 pub mod Form
+pub mod Formed
 pub mod Json
 pub mod Keys
 pub mod Replies
