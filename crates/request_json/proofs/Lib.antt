@@ -1,5 +1,7 @@
 pub mod Asking
 pub mod CanonicalFloats
+pub mod CanonicalPlain
+pub mod CanonicalUtf8
 pub mod CompactReading
 pub mod EachTexts
 pub mod Floats
