@@ -4,7 +4,9 @@ pub mod CanonicalPlain
 pub mod CanonicalUtf8
 pub mod CompactReading
 pub mod EachTexts
+pub mod FieldsBack
 pub mod Floats
 pub mod KeysKnown
 pub mod Putting
 pub mod Reading
+pub mod RequestsBack
