@@ -10,3 +10,4 @@ pub mod KeysKnown
 pub mod Putting
 pub mod Reading
 pub mod RequestsBack
+pub mod ValueTexts
