@@ -7,7 +7,7 @@ ghost use Rattle.request_json.specs.Formed.{HasForm};
 use crate::asked::Asked;
 
 /// The canonical text of each request that has the form reads as that request.
-#[tactic(auto, using(crate::proofs::RequestsBack::text_reads_back, crate::proofs::ValueTexts::view_texts))]
+#[tactic(auto, using(crate::proofs::RequestsBack::text_reads_back))]
 pub fn canonical_texts_read_back()
     ensures { (a : Asked) → HasForm a → asked_of (asked_text a) ≡ Ok a }
 {}
