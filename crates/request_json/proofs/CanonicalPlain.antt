@@ -1,7 +1,6 @@
 -- The canonical text of a request that has the form is one of plain data.
-use Rattle.std.proofs.Common.{◌≡◌, ◌<◌, ◌≤◌, ◌^◌, ℕ, zero, suc, true, List, [], ◌∷◌, map, Option, Some, None, IfSome, IsTrue, IsUtf8, refl, sym, subst, codes, arith}
+use Rattle.std.proofs.Common.{◌≡◌, ℕ, suc, true, List, [], ◌∷◌, map, Option, Some, None, IfSome, IsUtf8, refl, sym, subst, codes, arith}
 use Rattle.std.specs.List.{All, AllByRecursion}
-use Rattle.std.specs.Str.Lossy.{utf8_lossy}
 use Rattle.std.proofs.lemmas.List.Elements.{recursion_from_All}
 use Rattle.std.proofs.lemmas.Str.{utf8_lossy-IsUtf8}
 use Rattle.json.proofs.Printed.Utf8.{are_ascii, IsUtf8-are_ascii}
@@ -26,8 +25,8 @@ use Rattle.hazard_types.specs.declared.request.RoutinePart.{RoutinePart}
 use Rattle.hazard_types.specs.declared.request.Target.{Target}
 use Rattle.hazard_types.specs.declared.request.Target.TheVariants as target
 use Rattle.hazard_types.specs.declared.request.Texts.{Texts}
-use Rattle.request_json.specs.Canonical.{as_text, put_text, put_number, severity_code, status_code, put_source, put_times, put_begin, put_end, zone_data, zone_items, texts_data, flood_data, event_texts_data, event_texts_items, put_flood, put_target, put_zones_texts, put_put, put_event_part, put_routine, put_do, put_draft, put_put_do, put_event_do, put_routine_do, put_request, asked_members}
-use Rattle.request_json.specs.Formed.{IsMinute, IsNumber, IsHazard, IsEvent, AreTexts, AreEventTexts, AreFloodValues, IsBegin, IsEnd, IsTarget, IsPutPart, IsEventPart, IsRoutinePart, HasRequestForm, HasForm}
+use Rattle.request_json.specs.Canonical.{as_text, put_text, put_number, severity_code, status_code, put_source, put_times, put_begin, put_end, zone_data, zone_items, texts_data, flood_data, event_texts_data, event_texts_items, put_flood, put_target, put_zones_texts, put_put, put_event_part, put_routine, put_do, put_draft, put_request, asked_members}
+use Rattle.request_json.specs.Formed.{IsNumber, AreTexts, AreEventTexts, AreFloodValues, IsBegin, IsEnd, IsTarget, IsPutPart, IsEventPart, IsRoutinePart, HasRequestForm, HasForm}
 use Rattle.request_json.specs.declared.asked.Asked.{Asked}
 use Rattle.request_json.proofs.CanonicalUtf8.{stamp_utf8, time_utf8, desk_utf8, location_utf8, hazard_utf8, event_utf8, zone_utf8, category_utf8, severity_utf8, status_utf8, cause_utf8}
 use Rattle.request_json.proofs.CompactReading.{IsPlain, ArePlain, ArePlainMembers, plain_put}

@@ -1,10 +1,9 @@
 -- Data whose texts are UTF-8, whose numbers are whole and whose keys ascend are read back from their compact text.
-use Rattle.std.proofs.Common.{◌≡◌, ◌≤◌, ◌<◌, ◌^◌, max, ℕ, zero, suc, [], ◌∷◌, ◌++◌, List, Bool, true, false, Some, option_map, option_and_then, refl, ap, ap₂, sym, ◌∙◌, append-nil, IsUtf8, arith, subst}
+use Rattle.std.proofs.Common.{◌≡◌, ◌≤◌, ◌<◌, ◌^◌, ℕ, zero, suc, [], ◌∷◌, ◌++◌, List, Bool, true, false, Some, option_map, option_and_then, refl, ap, sym, ◌∙◌, append-nil, IsUtf8, arith}
 use Rattle.std.specs.Bool.{⊤}
 use Rattle.std.specs.declared.cmp.Ordering.{Ordering}
 use Rattle.std.specs.declared.cmp.Ordering.TheVariants.{Less, Equal, Greater}
-use Rattle.std.specs.Ordering.{nat_cmp, match_ordering, ordering_reverse}
-use Rattle.std.specs.Cmp.Lexicographic.{slice_cmp}
+use Rattle.std.specs.Ordering.{match_ordering, ordering_reverse}
 use Rattle.std.proofs.lemmas.Cmp.{nat_list_cmp_total}
 use Rattle.std.proofs.lemmas.Fmt.{IsAscii-decimal}
 use Rattle.std.proofs.lemmas.Str.{IsUtf8-append, IsUtf8-from_ascii}

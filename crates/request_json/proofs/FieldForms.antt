@@ -12,7 +12,7 @@ use Rattle.std.proofs.lemmas.Option.{same_Some}
 use Rattle.std.proofs.lemmas.Slice.Eq.{bytes_eq-Decides}
 use Rattle.std.proofs.lemmas.Str.{IsUtf8-nil}
 use Rattle.serde_json.specs.Data.{Data, null, boolean, number, string, array, object, Items, no_items, item, Members, no_members, member}
-use Rattle.serde_json.specs.Find.{get, get_member, as_str, as_number, as_u64, as_array, as_object}
+use Rattle.serde_json.specs.Find.{get, get_member, as_str, as_number, as_u64, as_object}
 use Rattle.hazard_types.specs.Calendar.{stamp_at, is_digit}
 use Rattle.hazard_types.specs.Characters.{is_location}
 use Rattle.hazard_types.specs.Codes.{value_beside, unfilled}

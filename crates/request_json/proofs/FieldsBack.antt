@@ -1,24 +1,22 @@
 -- Each field's value is read back from its text.
-use Rattle.std.proofs.Common.{◌≡◌, ◌<◌, ◌≤◌, ◌^◌, ◌&&◌, ◌||◌, ℕ, Bool, true, false, cond, List, [], ◌∷◌, map, nat_le, nat_lt, Option, Some, None, option_map, option_and_then, IfSome, IsTrue, IsUtf8, Result, Ok, Err, refl, ap, sym, ◌∙◌, arith, codes}
+use Rattle.std.proofs.Common.{◌≡◌, ◌≤◌, ◌^◌, ℕ, Bool, true, false, cond, List, [], ◌∷◌, nat_le, nat_lt, Option, Some, None, option_and_then, IfSome, IsTrue, IsUtf8, refl, ap, ◌∙◌, arith, codes}
 use Rattle.std.specs.List.{All, AllByRecursion}
 use Rattle.std.specs.Str.{bytes_eq}
 use Rattle.std.proofs.lemmas.Bool.Decides.{nat_tests}
 use Rattle.std.proofs.lemmas.List.Elements.{recursion_from_All}
 use Rattle.std.proofs.lemmas.Slice.Eq.{bytes_eq-Decides}
 use Rattle.std.proofs.lemmas.Str.{utf8_lossy-IsUtf8}
-use Rattle.serde_json.specs.Data.{Data, number, unsigned, string, array, object, Items, no_items, item, Members, no_members, put}
-use Rattle.serde_json.specs.Find.{get, get_member, as_str, as_number, as_u64, as_array, as_object}
-use Rattle.serde_json.specs.View.{items_of}
+use Rattle.serde_json.specs.Data.{Data, number, unsigned, string, object, Members, no_members, put}
+use Rattle.serde_json.specs.Find.{get, as_str, as_number, as_u64, as_object}
 use Rattle.hazard_types.specs.Calendar.{stamp_of, stamp_at, is_civil}
 use Rattle.hazard_types.specs.Characters.{is_location}
 use Rattle.hazard_types.specs.Codes.{value_beside}
 use Rattle.hazard_types.specs.Desks.{is_desk_name}
 use Rattle.hazard_types.specs.Hazards.{hazard_code}
-use Rattle.hazard_types.specs.Names.{category_code, zone_text, zone_at, event_text, event_at, hazard_at}
+use Rattle.hazard_types.specs.Names.{zone_text, zone_at, event_text, event_at, hazard_at}
 use Rattle.hazard_types.specs.Places.{Place, IsPlace}
-use Rattle.hazard_types.specs.Tables.{category_rows, severity_rows, status_rows, cause_rows}
+use Rattle.hazard_types.specs.Tables.{severity_rows, status_rows, cause_rows}
 use Rattle.hazard_types.specs.Times.{time_text}
-use Rattle.hazard_types.specs.declared.codes.Category.{Category}
 use Rattle.hazard_types.specs.declared.codes.Severity.{Severity}
 use Rattle.hazard_types.specs.declared.codes.Severity.TheVariants as severity
 use Rattle.hazard_types.specs.declared.codes.Status.{Status}
@@ -32,7 +30,7 @@ use Rattle.hazard_types.specs.declared.period.End.{End}
 use Rattle.hazard_types.specs.declared.period.End.TheVariants as end
 use Rattle.hazard_types.specs.declared.request.EventTexts.{EventTexts}
 use Rattle.hazard_types.specs.declared.request.Texts.{Texts}
-use Rattle.hazard_types.proofs.NamesBack.{zone_back, hazard_back, event_back, category_back}
+use Rattle.hazard_types.proofs.NamesBack.{zone_back, hazard_back, event_back}
 use Rattle.hazard_types.proofs.Stamps.{stamp_spells}
 use Rattle.request_json.specs.Canonical.{as_text, severity_code, status_code, put_source, put_times, zone_data, zone_items, texts_data, flood_data, event_texts_data, event_texts_items}
 use Rattle.request_json.specs.Fields.{begin_at, end_at, desk_named, if_small, if_counted, number_at, zones_of, location_at, time_at, site_in, severity_in, cause_in, time_in, status_in, values_in, flood_of, text_or_empty, free_text, four_texts, texts_of, event_texts_of, each_event_texts}
@@ -40,7 +38,7 @@ use Rattle.request_json.specs.Formed.{IsMinute, IsNumber, IsHazard, IsEvent, Are
 use Rattle.request_json.specs.Json.{text_at}
 use Rattle.request_json.specs.Keys.{has_key, all_known}
 use Rattle.request_json.specs.declared.keys.Keys.TheVariants as keys
-use Rattle.request_json.proofs.CanonicalUtf8.{stamp_utf8, time_utf8, location_utf8, hazard_utf8, event_utf8, zone_utf8, severity_utf8, status_utf8, cause_utf8}
+use Rattle.request_json.proofs.CanonicalUtf8.{time_utf8, location_utf8, event_utf8, zone_utf8, severity_utf8, status_utf8, cause_utf8}
 
 -- a text that is UTF-8 is written as it is
 pub text_is : (bytes : List ℕ) → IsUtf8 bytes → as_text bytes ≡ string bytes

@@ -1,7 +1,6 @@
 -- What is read has its form.
-use Rattle.std.proofs.Common.{not, ◌≡◌, ◌≤◌, ℕ, Bool, true, false, cond, List, [], Option, Some, None, option_map, option_and_then, IfSome, IfOk, IsTrue, IsUtf8, Result, Ok, Err, refl, ap, sym, subst, ◌∙◌, codes}
-use Rattle.std.specs.List.{All, AllByRecursion}
-use Rattle.std.specs.Option.{ok_or}
+use Rattle.std.proofs.Common.{not, ◌≡◌, ℕ, Bool, true, false, cond, List, [], Option, Some, None, option_and_then, IfSome, IfOk, Result, Ok, Err, refl, ap, subst, ◌∙◌, codes}
+use Rattle.std.specs.List.{All}
 use Rattle.std.proofs.lemmas.List.Elements.{All-from_recursion}
 use Rattle.std.proofs.lemmas.Option.{same_Some}
 use Rattle.std.proofs.lemmas.Str.{IsUtf8-nil}
@@ -10,7 +9,6 @@ use Rattle.serde_json.specs.Find.{get, as_array, as_object}
 use Rattle.serde_json.specs.View.{view}
 use Rattle.serde_json.specs.declared.value.Value.{Value}
 use Rattle.hazard_types.specs.Given.{◌>>=◌, Gives}
-use Rattle.hazard_types.specs.Desks.{is_desk_name}
 use Rattle.hazard_types.specs.Names.{hazard_at, event_at}
 use Rattle.hazard_types.specs.Places.{Place, IsPlace}
 use Rattle.hazard_types.specs.declared.hazard.Event.{Event}
@@ -30,7 +28,7 @@ use Rattle.hazard_types.specs.declared.request.RoutinePart.{RoutinePart}
 use Rattle.hazard_types.specs.declared.request.Target.{Target}
 use Rattle.hazard_types.specs.declared.request.Target.TheVariants as target
 use Rattle.hazard_types.specs.declared.request.Texts.{Texts}
-use Rattle.request_json.specs.Fields.{begin_at, end_at, desk_named, if_small, if_counted, number_at, zones_of, flood_of, texts_of, each_event_texts}
+use Rattle.request_json.specs.Fields.{begin_at, end_at, desk_named, if_counted, number_at, zones_of, flood_of, each_event_texts}
 use Rattle.request_json.specs.Form.{given, desk_field, seq_field, verb_field, category_field, number_field, hazard_field, event_field, zones_field, begin_field, end_field, flood_or_none, flood_field, no_texts, texts_or_empty, texts_field, event_texts_or_none, event_texts_field, target_beside, target_field, put_on, issue_part, put_part, event_part, routine_part, draft_in, draft_request, request_in, asked_in, training_issue_in}
 use Rattle.request_json.specs.Formed.{IsNumber, IsHazard, IsEvent, AreTexts, AreEventTexts, AreFloodValues, IsBegin, IsEnd, IsTarget, IsFresh, IsPutPart, IsIssuePart, IsEventPart, IsRoutinePart, HasRequestForm, HasForm}
 use Rattle.request_json.specs.Json.{text_at}

@@ -1,11 +1,10 @@
 -- The canonical text of a request that has the form is read back as the request.
-use Rattle.std.proofs.Common.{◌≡◌, ◌≤◌, ◌&&◌, ℕ, Bool, true, false, cond, List, [], ◌∷◌, Option, Some, None, option_map, option_and_then, IfSome, IsTrue, IsUtf8, Result, Ok, Err, refl, ap, sym, ◌∙◌, arith, codes}
+use Rattle.std.proofs.Common.{◌≡◌, ℕ, true, false, List, Option, Some, None, option_map, option_and_then, IfSome, IsUtf8, Result, Ok, refl, ap, ◌∙◌, arith, codes}
 use Rattle.std.specs.List.{All}
-use Rattle.std.specs.Option.{ok_or}
 use Rattle.std.specs.Ordering.{is_eq}
 use Rattle.std.proofs.lemmas.Str.{is_utf8-from_IsUtf8}
 use Rattle.serde_json.specs.Data.{Data, number, unsigned, array, object, Members, no_members, put}
-use Rattle.serde_json.specs.Find.{get, get_member, as_array, as_object}
+use Rattle.serde_json.specs.Find.{get, get_member, as_array}
 use Rattle.serde_json.specs.Read.{read}
 use Rattle.serde_json.specs.Written.{compact_text}
 use Rattle.hazard_types.specs.Codes.{value_beside}
@@ -23,7 +22,6 @@ use Rattle.hazard_types.specs.declared.period.Begin.TheVariants as begin
 use Rattle.hazard_types.specs.declared.period.End.{End}
 use Rattle.hazard_types.specs.declared.period.End.TheVariants as end
 use Rattle.hazard_types.specs.declared.refusal.Refusal.{Refusal}
-use Rattle.hazard_types.specs.declared.refusal.Refusal.TheVariants.{NotJson, WrongShape}
 use Rattle.hazard_types.specs.declared.request.EventPart.{EventPart}
 use Rattle.hazard_types.specs.declared.request.EventTexts.{EventTexts}
 use Rattle.hazard_types.specs.declared.request.PutPart.{PutPart}
@@ -34,11 +32,10 @@ use Rattle.hazard_types.specs.declared.request.Target.{Target}
 use Rattle.hazard_types.specs.declared.request.Target.TheVariants as target
 use Rattle.hazard_types.specs.declared.request.Texts.{Texts}
 use Rattle.hazard_types.proofs.NamesBack.{category_back}
-use Rattle.request_json.specs.Canonical.{as_text, put_text, put_number, zone_items, texts_data, flood_data, event_texts_items, put_begin, put_end, put_flood, put_target, put_zones_texts, put_put, put_event_part, put_routine, put_do, put_draft, put_request, asked_members, asked_text}
-use Rattle.request_json.specs.Fields.{begin_at, end_at, desk_named, if_counted, number_at, zones_of, flood_of, texts_of, each_event_texts}
+use Rattle.request_json.specs.Canonical.{as_text, put_text, zone_items, texts_data, flood_data, event_texts_items, put_begin, put_end, put_flood, put_target, put_zones_texts, put_put, put_event_part, put_routine, put_do, put_draft, put_request, asked_members, asked_text}
+use Rattle.request_json.specs.Fields.{begin_at, end_at, desk_named, if_counted, zones_of}
 use Rattle.request_json.specs.Form.{given, desk_field, seq_field, verb_field, category_field, number_field, hazard_field, event_field, zones_field, begin_field, end_field, flood_or_none, flood_field, texts_or_empty, texts_field, event_texts_or_none, event_texts_field, target_beside, target_field, put_on, issue_part, put_part, event_part, routine_part, draft_in, draft_request, request_in, asked_in, asked_of}
 use Rattle.request_json.specs.Formed.{IsNumber, IsHazard, IsEvent, AreTexts, AreEventTexts, AreFloodValues, IsBegin, IsEnd, IsTarget, IsFresh, IsPutPart, IsEventPart, IsRoutinePart, HasRequestForm, HasForm}
-use Rattle.request_json.specs.Json.{json_of, text_at}
 use Rattle.request_json.specs.Keys.{verb_at, keys_of, has_key, all_known}
 use Rattle.request_json.specs.declared.asked.Asked.{Asked}
 use Rattle.request_json.specs.declared.keys.Keys.{Keys}

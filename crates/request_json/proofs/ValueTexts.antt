@@ -1,12 +1,12 @@
 -- The texts of a value are UTF-8.
-use Rattle.std.proofs.Common.{◌≡◌, ℕ, List, [], ◌∷◌, map, Bool, true, false, String, Global, Vec, BTreeMap, string_bytes, IsUtf8, refl, ap, sym, subst, ◌∙◌, Option, Some, None}
+use Rattle.std.proofs.Common.{List, [], ◌∷◌, map, String, Global, IsUtf8, sym, subst}
 use Rattle.std.specs.Bool.{⊤}
 use Rattle.std.proofs.lemmas.Str.{IsUtf8-string_bytes}
 use Rattle.serde_json.specs.Data.{Data, null, boolean, number, string, array, object, Items, no_items, item, Members, no_members, member}
 use Rattle.serde_json.specs.View.{view, view_step, items_of, members_of}
 use Rattle.serde_json.specs.declared.value.Value.{Value, map-Value}
 use Rattle.serde_json.specs.declared.value.Value.TheOpen.{Value-F}
-use Rattle.serde_json.specs.declared.value.Value.TheFolds.{fold-Value, fold-roll-Value, ind-Value}
+use Rattle.serde_json.specs.declared.value.Value.TheFolds.{fold-roll-Value, ind-Value}
 
 abbrev mutual
   pub HasTexts : Data → Type 0

@@ -328,7 +328,7 @@ fn read_json(alloc: Global, bytes: &[u8]) -> Result<Value, Or<Refusal>>
     }
 }
 
-/// Reads a request.
+/// Reads a request. What is read has the form of a request: its values are in their ranges, and its texts are UTF-8.
 ///
 /// # Errors
 ///
