@@ -3,6 +3,7 @@
 
 mod agreement_laws;
 mod heard;
+mod history_laws;
 mod made;
 mod office;
 mod prepared;
@@ -11,6 +12,7 @@ mod soundness_laws;
 
 pub use agreement_laws::{offices_begin_in_agreement, products_keep_the_agreement};
 pub use heard::{Heard, Said};
+pub use history_laws::requests_stand_once;
 pub use made::Made;
 pub use office::Office;
 pub use prepared::{DraftChange, Prepared, Ready};
