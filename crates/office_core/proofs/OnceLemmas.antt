@@ -18,7 +18,7 @@ use Rattle.action_planner.proofs.LawfulPlaced.{given_none}
 use Rattle.office_core.specs.Histories.{IsNext, LeadFrom, IsLegal, StandOnce, numbers_by}
 use Rattle.office_core.specs.Rules.{broken_number, broken_request, first_of_two, is_repeated, number_rules, reused, stale, gap, unknown_desk}
 use Rattle.office_core.specs.State.{State, first_state, in_edition, last_number, last_of, said_in, unheard}
-use Rattle.office_core.specs.Step.{entry_of, heard_after, state_after}
+use Rattle.office_core.specs.Step.{Accepts, entry_of, heard_after, state_after}
 use Rattle.office_core.specs.declared.heard.Heard.{Heard}
 use Rattle.office_core.specs.declared.heard.Said.{Said}
 use Rattle.office_core.specs.declared.made.Made.{Made}
@@ -220,3 +220,33 @@ module _ (fits : List Entry → Entry → Bool) where
   stand_once settings class entries s h =
       let first : Counted settings [] (first_state settings class One) = record { known = refl; desks = desks_unheard settings.desks; last = none_said settings.desks; numbers = λ d. refl } in
       (counted_all settings [] (first_state settings class One) entries s h first).numbers
+
+-- ---- one accepted request
+
+module _ (s : State) (desk : List ℕ) (seq : ℕ) (r : Request) (reading : ℤ) (t : ℕ) (made : Option Made) where
+  pub number_behind : Accepts s desk seq r reading t made → seq ≡ last_number s desk + 1
+  number_behind h =
+      let rules : AllByRecursion (λ x. x ≡ None) (number_rules s desk seq reading) = numbers_unbroken s desk seq r reading h.new h.request in
+      number_next (last_number s desk) seq rules.1.0 rules.1.1.0 rules.1.1.1.0
+
+  is_heard : map (λ (x : Heard). x.desk) s.heard ≡ s.settings.desks → Accepts s desk seq r reading t made → list_any (bytes_eq desk) (map (λ (x : Heard). x.desk) s.heard) ≡ true
+  is_heard desks h =
+      let rules : AllByRecursion (λ x. x ≡ None) (number_rules s desk seq reading) = numbers_unbroken s desk seq r reading h.new h.request in
+      ap (list_any (bytes_eq desk)) desks ∙ desk_known s.settings.desks desk (list_any (bytes_eq desk) s.settings.desks) refl rules.0
+
+  last_then : (d : List ℕ) → map (λ (x : Heard). x.desk) s.heard ≡ s.settings.desks → Accepts s desk seq r reading t made →
+      last_number (state_after s (entry_of s desk seq r t made) made) d ≡ cond (bytes_eq desk d) seq (last_number s d)
+  last_then d desks h =
+      ap (λ x. last_of (said_in x d)) (heard_next s (entry_of s desk seq r t made) made)
+      ∙ last_after s.heard desk d (said_of (entry_of s desk seq r t made)) (is_heard desks h)
+
+  pub last_is : map (λ (x : Heard). x.desk) s.heard ≡ s.settings.desks → Accepts s desk seq r reading t made → last_number (state_after s (entry_of s desk seq r t made) made) desk ≡ seq
+  last_is desks h = last_then desk desks h ∙ ap (λ b. cond b seq (last_number s desk)) (bytes_itself desk)
+
+  pub others_stay : (d : List ℕ) → map (λ (x : Heard). x.desk) s.heard ≡ s.settings.desks → Accepts s desk seq r reading t made → (d ≡ desk → ⊥) →
+      last_number (state_after s (entry_of s desk seq r t made) made) d ≡ last_number s d
+  others_stay d desks h other = last_then d desks h ∙ ap (λ b. cond b seq (last_number s d)) (differs (bytes_eq desk d) refl)
+    where
+      differs : (b : Bool) → bytes_eq desk d ≡ b → b ≡ false
+      differs true is = absurd (other (sym (bytes_one desk d is)))
+      differs false is = refl

@@ -12,7 +12,7 @@ mod soundness_laws;
 
 pub use agreement_laws::{offices_begin_in_agreement, products_keep_the_agreement};
 pub use heard::{Heard, Said};
-pub use history_laws::requests_stand_once;
+pub use history_laws::{accepted_requests_are_numbered_on, requests_stand_once};
 pub use made::Made;
 pub use office::Office;
 pub use prepared::{DraftChange, Prepared, Ready};
