@@ -1,0 +1,6 @@
+pub mod AgreementDecoding
+pub mod AgreementRoutine
+pub mod AgreementReading
+pub mod AgreementNumbers
+pub mod AgreementProducts
+pub mod AgreementLaws
