@@ -1,1 +1,7 @@
 mod OnceLemmas
+pub mod AgreementDecoding
+pub mod AgreementRoutine
+pub mod AgreementReading
+pub mod AgreementNumbers
+pub mod AgreementProducts
+pub mod AgreementLaws
