@@ -15,7 +15,7 @@ use Rattle.desk_settings.specs.declared.settings.Settings.{Settings}
 use Rattle.event_life.specs.Openings.{counted_from}
 use Rattle.action_planner.specs.Offences.{first_given}
 use Rattle.action_planner.proofs.LawfulPlaced.{given_none}
-use Rattle.office_core.specs.Histories.{IsNext, LeadFrom, IsLegal, StandOnce, numbers_by}
+use Rattle.office_core.specs.Histories.{Entered, IsNext, LeadFrom, IsLegal, StandOnce, entries_of, numbers_by}
 use Rattle.office_core.specs.Rules.{broken_number, broken_request, first_of_two, is_repeated, number_rules, reused, stale, gap, unknown_desk}
 use Rattle.office_core.specs.State.{State, first_state, in_edition, last_number, last_of, said_in, unheard}
 use Rattle.office_core.specs.Step.{Accepts, entry_of, heard_after, state_after}
@@ -174,52 +174,58 @@ more_last : (ns : List ℕ) (b : Bool) (n : ℕ) → (b ≡ true → n ≡ lengt
 more_last ns true n next = next refl ∙ sym (length-one ns n)
 more_last ns false n next = sym (length-none ns)
 
-module _ (fits : List Entry → Entry → Bool) where
-  counted_next : (settings : Settings) (earlier : List Entry) (s : State) (e : Entry) (made : Option Made) (next : State) →
-      IsNext fits earlier s e made next → Counted settings earlier s → Counted settings (earlier ++ e ∷ []) next
-  counted_next settings earlier s e made next h c =
+entries-more : (earlier : List Entered) (x : Entered) → entries_of (earlier ++ x ∷ []) ≡ entries_of earlier ++ x.entry ∷ []
+entries-more [] x = refl
+entries-more (y ∷ earlier) x = ap (λ es. y.entry ∷ es) (entries-more earlier x)
+
+append-one : (earlier : List Entered) (x : Entered) (history : List Entered) → (earlier ++ x ∷ []) ++ history ≡ earlier ++ x ∷ history
+append-one [] x history = refl
+append-one (y ∷ earlier) x history = ap (λ xs. y ∷ xs) (append-one earlier x history)
+
+append-none : (earlier : List Entered) → earlier ≡ earlier ++ []
+append-none [] = refl
+append-none (y ∷ earlier) = ap (λ xs. y ∷ xs) (append-none earlier)
+
+module _ (fits : List Entered → Entered → Bool) where
+  counted_next : (settings : Settings) (earlier : List Entered) (s : State) (y : Entered) (next : State) →
+      IsNext fits earlier s y next → Counted settings (entries_of earlier) s → Counted settings (entries_of earlier ++ y.entry ∷ []) next
+  counted_next settings earlier s y next h c =
+      let e : Entry = y.entry in
       let before : State = in_edition e.edition s in
       let rules : AllByRecursion (λ x. x ≡ None) (number_rules before e.desk e.seq (pos e.minute)) = numbers_unbroken before e.desk e.seq e.request (pos e.minute) h.accepted.new h.accepted.request in
       let number : e.seq ≡ last_of (said_in s.heard e.desk) + 1 = number_next (last_of (said_in s.heard e.desk)) e.seq rules.1.0 rules.1.1.0 rules.1.1.1.0 in
       let known : list_any (bytes_eq e.desk) s.settings.desks ≡ true = desk_known s.settings.desks e.desk (list_any (bytes_eq e.desk) s.settings.desks) refl rules.0 in
       let desks : map (λ (x : Heard). x.desk) s.heard ≡ s.settings.desks = c.desks ∙ ap (λ (x : Settings). x.desks) (sym c.known) in
-      let heard : next.heard ≡ heard_after s.heard e.desk (said_of e) = ap (λ (x : State). x.heard) h.after ∙ heard_next before e made in
+      let heard : next.heard ≡ heard_after s.heard e.desk (said_of e) = ap (λ (x : State). x.heard) h.after ∙ heard_next before e y.made in
       let is_heard : list_any (bytes_eq e.desk) (map (λ (x : Heard). x.desk) s.heard) ≡ true = ap (list_any (bytes_eq e.desk)) desks ∙ known in
-      let counts : (d : List ℕ) → bytes_eq e.desk d ≡ true → e.seq ≡ length (numbers_by d earlier) + 1 =
+      let counts : (d : List ℕ) → bytes_eq e.desk d ≡ true → e.seq ≡ length (numbers_by d (entries_of earlier)) + 1 =
         λ d same. number ∙ ap (λ k. k + 1) (ap (λ x. last_of (said_in s.heard x)) (bytes_one e.desk d same) ∙ c.last d) in
       record {
-        known = ap (λ (x : State). x.settings) h.after ∙ settings_next before e made ∙ c.known;
+        known = ap (λ (x : State). x.settings) h.after ∙ settings_next before e y.made ∙ c.known;
         desks = ap (map (λ (x : Heard). x.desk)) heard ∙ desks_after s.heard e.desk (said_of e) ∙ c.desks;
         last = λ d.
             ap (λ x. last_of (said_in x d)) heard ∙ last_after s.heard e.desk d (said_of e) is_heard
             ∙ ap (cond (bytes_eq e.desk d) e.seq) (c.last d)
-            ∙ more_last (numbers_by d earlier) (bytes_eq e.desk d) e.seq (counts d)
-            ∙ ap length (sym (numbers-more d earlier e));
+            ∙ more_last (numbers_by d (entries_of earlier)) (bytes_eq e.desk d) e.seq (counts d)
+            ∙ ap length (sym (numbers-more d (entries_of earlier) e));
         numbers = λ d.
-            numbers-more d earlier e
-            ∙ more_numbers (numbers_by d earlier) (bytes_eq e.desk d) e.seq (counts d) (c.numbers d)
-            ∙ ap (λ ns. counted_from 1 (length ns)) (sym (numbers-more d earlier e));
+            numbers-more d (entries_of earlier) e
+            ∙ more_numbers (numbers_by d (entries_of earlier)) (bytes_eq e.desk d) e.seq (counts d) (c.numbers d)
+            ∙ ap (λ ns. counted_from 1 (length ns)) (sym (numbers-more d (entries_of earlier) e));
       }
 
-  append-one : (earlier : List Entry) (e : Entry) (entries : List Entry) → (earlier ++ e ∷ []) ++ entries ≡ earlier ++ e ∷ entries
-  append-one [] e entries = refl
-  append-one (x ∷ earlier) e entries = ap (λ xs. x ∷ xs) (append-one earlier e entries)
+  counted_all : (settings : Settings) (earlier : List Entered) (s : State) (history : List Entered) (after : State) →
+      LeadFrom fits earlier s history after → Counted settings (entries_of earlier) s → Counted settings (entries_of (earlier ++ history)) after
+  counted_all settings earlier s [] after h c = subst (λ x. Counted settings (entries_of (earlier ++ [])) x) (sym h) (subst (λ xs. Counted settings (entries_of xs) s) (append-none earlier) c)
+  counted_all settings earlier s (x ∷ history) after (next, first, later) c =
+      subst (λ xs. Counted settings (entries_of xs) after) (append-one earlier x history)
+      (counted_all settings (earlier ++ x ∷ []) next history after later
+      (subst (λ es. Counted settings es next) (sym (entries-more earlier x)) (counted_next settings earlier s x next first c)))
 
-  append-none : (earlier : List Entry) → earlier ≡ earlier ++ []
-  append-none [] = refl
-  append-none (x ∷ earlier) = ap (λ xs. x ∷ xs) (append-none earlier)
-
-  counted_all : (settings : Settings) (earlier : List Entry) (s : State) (entries : List Entry) (after : State) →
-      LeadFrom fits earlier s entries after → Counted settings earlier s → Counted settings (earlier ++ entries) after
-  counted_all settings earlier s [] after h c = subst (λ x. Counted settings (earlier ++ []) x) (sym h) (subst (λ xs. Counted settings xs s) (append-none earlier) c)
-  counted_all settings earlier s (e ∷ entries) after (made, next, first, later) c =
-      subst (λ xs. Counted settings xs after) (append-one earlier e entries)
-      (counted_all settings (earlier ++ e ∷ []) next entries after later (counted_next settings earlier s e made next first c))
-
-  pub stand_once : (settings : Settings) (class : Class) (entries : List Entry) (s : State) → IsLegal fits settings class entries s → StandOnce entries
-  stand_once settings class entries s h =
+  pub stand_once : (settings : Settings) (class : Class) (history : List Entered) (s : State) → IsLegal fits settings class history s → StandOnce (entries_of history)
+  stand_once settings class history s h =
       let first : Counted settings [] (first_state settings class One) = record { known = refl; desks = desks_unheard settings.desks; last = none_said settings.desks; numbers = λ d. refl } in
-      (counted_all settings [] (first_state settings class One) entries s h first).numbers
+      (counted_all settings [] (first_state settings class One) history s h first).numbers
 
 -- ---- one accepted request
 

@@ -1,9 +1,8 @@
 //! Laws of legal histories.
 ghost use Rattle.std.specs.Prelude.{◌≡◌, ◌≢◌, ◌+◌, ℕ, ℤ, Bool, List, Option};
 ghost use Rattle.hazard_types.specs.declared.codes.Class.{Class};
-ghost use Rattle.hazard_types.specs.declared.request.Entry.{Entry};
 ghost use Rattle.desk_settings.specs.declared.settings.Settings.{Settings};
-ghost use Rattle.office_core.specs.Histories.{IsLegal, StandOnce};
+ghost use Rattle.office_core.specs.Histories.{Entered, IsLegal, StandOnce, entries_of};
 ghost use Rattle.event_numbers.specs.declared.Count.{Count};
 ghost use Rattle.hazard_types.specs.declared.request.Request.{Request};
 ghost use Rattle.office_core.specs.Sound.{IsSound};
@@ -13,8 +12,8 @@ ghost use Rattle.office_core.specs.declared.made.Made.{Made};
 
 /// In a legal history each request stands once: the numbers of each desk are 1, 2, .., in this order.
 pub fn requests_stand_once()
-    ensures { (fits : List Entry → Entry → Bool) (settings : Settings) (class : Class) (entries : List Entry) (s : State) →
-        IsLegal fits settings class entries s → StandOnce entries }
+    ensures { (fits : List Entered → Entered → Bool) (settings : Settings) (class : Class) (history : List Entered) (s : State) →
+        IsLegal fits settings class history s → StandOnce (entries_of history) }
 {}
 
 /// An accepted request has the number behind its desk's last, and is the desk's last then; that of every other desk stays.
