@@ -1,1 +1,2 @@
 pub mod SoundFirst
+pub mod SoundRequests
