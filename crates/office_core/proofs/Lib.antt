@@ -1,2 +1,3 @@
 pub mod SoundFirst
+pub mod SoundPlans
 pub mod SoundRequests

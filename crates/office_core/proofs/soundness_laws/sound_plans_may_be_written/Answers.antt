@@ -1,0 +1,5 @@
+use Rattle.office_core.proofs.SoundPlans.{may_be_written}
+use Rattle.office_core.proofs.soundness_laws.sound_plans_may_be_written.Goals as goal
+
+pub returns : goal.returns
+returns c = may_be_written
