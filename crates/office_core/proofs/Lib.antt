@@ -1,3 +1,4 @@
 pub mod SoundFirst
 pub mod SoundPlans
 pub mod SoundRequests
+pub mod SoundSteps
