@@ -1,17 +1,15 @@
 -- A sound product may be planned, and its plan may be written.
-use Rattle.std.proofs.Common.{◌≡◌, ◌≢◌, ℕ, ◌∙◌, ◌+◌, ◌<◌, ◌≤◌, Bool, true, false, List, [], ◌∷◌, ◌++◌, Option, Some, None, IfSome, IsSome, IsTrue, refl, sym, ap, subst, arith, cond, length, map, nat_le, is_some}
+use Rattle.std.proofs.Common.{◌≡◌, ◌≢◌, ℕ, ◌∙◌, ◌+◌, ◌<◌, ◌≤◌, Bool, true, false, List, [], ◌∷◌, ◌++◌, Option, Some, None, IfSome, IsSome, IsTrue, refl, sym, ap, subst, arith, cond, length, map, nat_le}
 use Rattle.std.proofs.lemmas.Bool.{and_from, le-leb, leb-false}
 use Rattle.std.proofs.lemmas.List.Elements.{All-contains, All-from_recursion, All-weaker, recursion_from_All}
 use Rattle.std.specs.List.{All, AllByRecursion, Any, Contains}
 use Rattle.std.specs.List.Sorted.{IsStrictlySortedBy}
 use Rattle.std.specs.Option.{option_or}
-use Rattle.hazard_types.specs.Hazards.{facts_of}
 use Rattle.hazard_types.specs.Places.{Place, by_place, is_capital}
 use Rattle.hazard_types.specs.Same.{same_event}
 use Rattle.hazard_types.specs.declared.codes.Action.{Action}
 use Rattle.hazard_types.specs.declared.codes.Action.TheVariants.{Cor, Exp}
 use Rattle.hazard_types.specs.declared.codes.Category.{Category}
-use Rattle.hazard_types.specs.declared.codes.Class.{Class}
 use Rattle.hazard_types.specs.declared.hazard.Event.{Event}
 use Rattle.hazard_types.specs.declared.line.Flood.{Flood}
 use Rattle.hazard_types.specs.declared.line.Line.{Line}
@@ -27,7 +25,6 @@ use Rattle.hazard_types.specs.declared.request.Plan.{Plan}
 use Rattle.hazard_types.specs.declared.request.Sent.{Sent}
 use Rattle.hazard_types.specs.declared.request.Texts.{Texts}
 use Rattle.desk_settings.specs.Looking.{name_beside}
-use Rattle.desk_settings.specs.declared.settings.Settings.{Settings}
 use Rattle.event_numbers.specs.declared.Count.{Count}
 use Rattle.headline_text.specs.Headlines.{is_minute}
 use Rattle.product_frame.specs.LineRules.{HasLocation}
@@ -36,7 +33,7 @@ use Rattle.segmenter.specs.Segments.{AreSegments, Has}
 use Rattle.segmenter.proofs.HasLemmas.{all_at, all_from, has_some}
 use Rattle.segmenter.proofs.LawLemmas.{said}
 use Rattle.action_planner.specs.Conditions.{CanPlan, MayHold}
-use Rattle.action_planner.specs.Corrections.{IsCorrection, broken_correction, corrected_lines, corrected_texts, correction_rules, given_for, texts_or}
+use Rattle.action_planner.specs.Corrections.{broken_correction, corrected_lines, corrected_texts, correction_rules, given_for, texts_or}
 use Rattle.action_planner.specs.Lines.{planned_lines}
 use Rattle.action_planner.specs.Offences.{broken}
 use Rattle.action_planner.specs.Placed.{Placed, placed, placed_from, zones_of}
@@ -45,13 +42,12 @@ use Rattle.action_planner.specs.Standing.{Stands}
 use Rattle.action_planner.specs.Texts.{event_texts, events_of, no_texts, texts_of, texts_on}
 use Rattle.action_planner.specs.Told.{counts_in, flood_of, passes}
 use Rattle.action_planner.proofs.CorrectionLemmas.{from_rows}
-use Rattle.action_planner.proofs.LawfulLists.{all_map, all_has, all_weaker}
+use Rattle.action_planner.proofs.LawfulLists.{all_has, all_weaker}
 use Rattle.action_planner.proofs.LawfulPlaced.{given_none}
 use Rattle.action_planner.proofs.LineLemmas.{IsClosed, corrected_given, corrected_never_expire, expiring_ends, given_values, known_corrected, known_lines, lines_in_zones_given, numbered_corrected, numbered_lines}
 use Rattle.action_planner.proofs.Standing.{later}
 use Rattle.action_planner.proofs.ToldLemmas.{rows_tell_places}
 use Rattle.action_planner.proofs.SourceLemmas.{FromRow}
-use Rattle.product_template.specs.Bodies.{is_training}
 use Rattle.product_template.specs.Conditions.{AreNamed, ArePrintable, CanBeSaid, CanBeSegment, CanBeText, IsLetter}
 use Rattle.office_core.specs.Keeping.{MayBePlanned}
 use Rattle.office_core.specs.Making.{Making, IsPlanOf, broken_lines, last_of_category, letters_of, original_of}

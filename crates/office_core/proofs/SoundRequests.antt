@@ -35,8 +35,8 @@ use Rattle.action_planner.proofs.LawfulPlaced.{given_none, map_none}
 use Rattle.product_template.specs.Bodies.{is_training}
 use Rattle.product_template.specs.Conditions.{ArePrintable}
 use Rattle.request_json.specs.Formed.{AreFloodValues, HasRequestForm, IsFresh}
-use Rattle.office_core.specs.Making.{Making, corrected_by, making_of, opening_of}
-use Rattle.office_core.specs.Requests.{draft_of, hazard_of, hazard_of_target, intent_of, texts_in}
+use Rattle.office_core.specs.Making.{corrected_by, making_of, opening_of}
+use Rattle.office_core.specs.Requests.{draft_of, hazard_of, hazard_of_target, intent_of}
 use Rattle.office_core.specs.Rules.{bad_zones, broken_draft, broken_number, broken_part, broken_request, draft_rules, first_of_two, found_draft, is_of_category, is_of_category_by, is_repeated, is_unknown_zone, minute_of, number_rules, part_rules, unknown_desk, unknown_zone, wrong_kind}
 use Rattle.office_core.specs.Sound.{IsNamed, IsPrintable, IsSound, IsSoundIntent, IsSoundMaking, IsSoundProduct, has_location}
 use Rattle.office_core.specs.State.{State, product_at, product_in}

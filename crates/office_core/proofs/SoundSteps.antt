@@ -1,12 +1,11 @@
 -- After an accepted request the state is sound still.
-use Rattle.std.proofs.Common.{◌≡◌, ◌∙◌, ◌&&◌, ◌||◌, ◌++◌, ◌+◌, ◌<◌, ◌≤◌, ℕ, ℤ, pos, negsuc, Bool, true, false, IsTrue, List, [], ◌∷◌, Option, Some, None, IfSome, refl, sym, ap, subst, arith, cond, drop, filter, find, length, length-append, length-drop, length-take, map, max, nat_abs, nat_le, option_map, int_lt, take}
+use Rattle.std.proofs.Common.{◌≡◌, ◌∙◌, ◌&&◌, ◌++◌, ◌+◌, ◌<◌, ◌≤◌, ℕ, ℤ, pos, negsuc, Bool, true, false, List, [], ◌∷◌, Option, Some, None, refl, sym, ap, subst, arith, cond, drop, find, length, length-append, length-drop, length-take, map, max, nat_abs, nat_le, option_map, int_lt, take}
 use Rattle.std.proofs.lemmas.Bool.{leb-false, ltb-false, or_parts}
 use Rattle.std.proofs.lemmas.List.Elements.{All-append, All-drop, All-from_recursion, All-nil, All-push, All-take, recursion_from_All}
 use Rattle.std.specs.List.{All, AllByRecursion, AllPairs, count_by}
 use Rattle.std.specs.List.Sorted.{IsStrictlySortedBy}
 use Rattle.std.specs.Option.{option_or}
 use Rattle.std.specs.Str.{bytes_eq}
-use Rattle.hazard_types.specs.Places.{Place}
 use Rattle.hazard_types.specs.declared.codes.Action.{Action}
 use Rattle.hazard_types.specs.declared.codes.Action.TheVariants.{Can, Con, Cor, Exp, Ext, Upg}
 use Rattle.hazard_types.specs.declared.codes.Category.{Category}
@@ -36,10 +35,10 @@ use Rattle.event_life.proofs.Puts.{at_key, rows_after-sorted}
 use Rattle.event_numbers.specs.declared.Count.{Count}
 use Rattle.event_numbers.specs.Counts.{DrawsAll, count_of, is_of}
 use Rattle.action_planner.specs.Conditions.{CanPlan}
-use Rattle.action_planner.specs.Corrections.{broken_correction, corrected_lines}
+use Rattle.action_planner.specs.Corrections.{corrected_lines}
 use Rattle.action_planner.specs.Lines.{planned_lines}
 use Rattle.action_planner.specs.Offences.{broken}
-use Rattle.action_planner.specs.Placed.{Placed, opened, placed}
+use Rattle.action_planner.specs.Placed.{Placed, placed}
 use Rattle.action_planner.specs.Plans.{IsPlan}
 use Rattle.action_planner.specs.Standing.{Stands}
 use Rattle.action_planner.specs.Texts.{texts_of}
@@ -51,7 +50,7 @@ use Rattle.action_planner.proofs.LawfulLines.{found_has}
 use Rattle.action_planner.proofs.LawfulLists.{all_both, all_has, all_kept, all_weaker}
 use Rattle.action_planner.proofs.Standing.{later, plans_keep}
 use Rattle.action_planner.proofs.ToldLemmas.{rows_tell_places}
-use Rattle.product_template.specs.Conditions.{ArePrintable, CanBeText}
+use Rattle.product_template.specs.Conditions.{ArePrintable}
 use Rattle.request_json.specs.Formed.{HasRequestForm}
 use Rattle.office_core.specs.Making.{Making, IsPlanOf, broken_lines, broken_product, last_of_category, letters_of, made_of, making_of, original_of, products_full, sent_of, text_too_long}
 use Rattle.office_core.specs.Prepared.{draws}
@@ -200,8 +199,8 @@ module _ (s : State) (counts after : List Count) (t : ℕ) (sound : IsSound s co
         let stands : Stands s.rows counts t = later s.rows counts s.last t le sound.stands in
         let lawful : are_lawful s.rows t lines ≡ true = planned_lawful c s.rows counts intents t can sound.order h in
         let rows : All (IsSoundRow s.settings s.class) (rows_after s.rows t lines) = rows_sound s.settings s.class s.rows (recursion_from_All (IsSoundRow s.settings s.class) s.rows sound.rows) t lines lawful
-                (recursion_from_All (λ (line : Line). IsNamed s.settings s.class line.zone) lines (planned_zones s counts t sound le most c intents own))
-                (recursion_from_All (λ (line : Line). passes has_location line.flood ≡ true) lines (planned_pass s counts t sound le most c intents own)) in
+        (recursion_from_All (λ (line : Line). IsNamed s.settings s.class line.zone) lines (planned_zones s counts t sound le most c intents own))
+        (recursion_from_All (λ (line : Line). passes has_location line.flood ≡ true) lines (planned_pass s counts t sound le most c intents own)) in
         stays_with (Making.drafted c intents) plan none
         (subst (AllPairs (λ (l m : Line). ¬ ((l.event ≡ m.event) × (l.zone ≡ m.zone)))) (sym is.lines) (planned_distinct c s.rows counts intents t can sound.order h))
         texts
@@ -225,8 +224,8 @@ module _ (s : State) (counts after : List Count) (t : ℕ) (sound : IsSound s co
         let stands : Stands s.rows counts t = later s.rows counts s.last t le sound.stands in
         let lawful : are_lawful s.rows t lines ≡ true = corrected_lawful s.rows t sent.lines stands.consistent.ends own.apart in
         let rows : All (IsSoundRow s.settings s.class) (rows_after s.rows t lines) = rows_sound s.settings s.class s.rows (recursion_from_All (IsSoundRow s.settings s.class) s.rows sound.rows) t lines lawful
-                (corrected_zones s counts t sound le most sent given own texts)
-                (recursion_from_All (λ (line : Line). passes has_location line.flood ≡ true) lines (corrected_pass s counts t sound le most sent given own texts)) in
+        (corrected_zones s counts t sound le most sent given own texts)
+        (recursion_from_All (λ (line : Line). passes has_location line.flood ≡ true) lines (corrected_pass s counts t sound le most sent given own texts)) in
         let kept : Stands (rows_after s.rows t lines) counts t = corrections_keep s.rows counts sent (last_of_category s.products sent.category) (letters_of s.products (original_of sent)) given t stands sound.order own.apart h in
         stays_with (Making.corrected sent given) plan none
         (subst (AllPairs (λ (l m : Line). ¬ ((l.event ≡ m.event) × (l.zone ≡ m.zone)))) (sym is.lines) (corrected_distinct s.rows t sent.lines own.apart))
