@@ -5,3 +5,7 @@ pub mod AgreementReading
 pub mod AgreementNumbers
 pub mod AgreementProducts
 pub mod AgreementLaws
+pub mod SoundFirst
+pub mod SoundPlans
+pub mod SoundRequests
+pub mod SoundSteps
