@@ -1,0 +1,5 @@
+pub mod Keeping
+pub mod Telling
+pub mod Answering
+mod Feeding
+mod Running

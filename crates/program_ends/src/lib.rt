@@ -1,0 +1,15 @@
+//! How the programs end, read their input's lines and take their words.
+#![tactic(auto)]
+
+mod ending;
+mod ends;
+mod line;
+mod lines;
+mod reading;
+mod words;
+
+pub use ending::end_run;
+pub use ends::End;
+pub use lines::{Answers, LIMIT, answer_lines};
+pub use reading::Stop;
+pub use words::given_words;
