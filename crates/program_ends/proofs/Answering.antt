@@ -6,7 +6,8 @@ use Rattle.program_ends.specs.declared.reading.Stop.{Stop}
 use Rattle.program_ends.specs.declared.reading.Stop.TheVariants as stop
 use Rattle.program_ends.specs.Ends.{Begins, AddsFront}
 use Rattle.program_ends.specs.Lines.{fit}
-use Rattle.program_ends.specs.Runs.{Answered, SomeAnswered, Lacks, Cuts, Halts, HaltsAt}
+use Rattle.program_ends.specs.Runs.{Answered}
+use Rattle.program_ends.specs.Steps.{Halts, HaltsAt}
 
 pub adds_none : (taken : Option (List ℕ)) → Adds taken taken []
 adds_none None = refl
@@ -20,42 +21,36 @@ module _ {A : Type 0} (answers : A → Option (List ℕ) → List ℕ → A → 
   pub answered_one : (a b : A) (line text : List ℕ) → answers a (fit line) text b → Answered answers a (line ∷ []) text b
   answered_one a b line text h = (text, b, [], h, sym (append-nil text), (refl, refl))
 
-  some_after : (a b c : A) (xs ys : List (List ℕ)) (v w : List ℕ) → Answered answers a xs v b → SomeAnswered answers b ys w c → SomeAnswered answers a (xs ++ ys) (v ++ w) c
-  some_after a b c xs ys v w p some = record {
-    done = xs ++ some.done;
-    left = some.left;
-    parts = ap (λ (l : List (List ℕ)). xs ++ l) some.parts ∙ sym (append_assoc xs some.done some.left);
-    answered = answered_append a b c xs some.done v w p some.answered;
-  }
-
-  some_within : (a b : A) (xs ys : List (List ℕ)) (v : List ℕ) → SomeAnswered answers a xs v b → SomeAnswered answers a (xs ++ ys) v b
-  some_within a b xs ys v some = record {
-    done = some.done;
-    left = some.left ++ ys;
-    parts = ap (λ (l : List (List ℕ)). l ++ ys) some.parts ∙ append_assoc some.done some.left ys;
-    answered = some.answered;
-  }
-
   pub halts_after : (a b z : A) (xs ys : List (List ℕ)) (v : List ℕ) (taken mid taken' : Option (List ℕ)) (why : Stop) → Answered answers a xs v b → Adds taken mid v → Halts answers lacks b z ys mid taken' why → Halts answers lacks a z (xs ++ ys) taken taken' why
   halts_after a b z xs ys v taken mid taken' why p adds halts = record {
-    written = v ++ halts.written;
-    adds = adds_both _ _ _ _ _ _ adds halts.adds refl;
-    no_memory = λ e. let was = halts.no_memory e in record { last = was.last; some = some_after a b was.last xs ys v halts.written p was.some; next = was.next };
-    write_fault = λ e. let was = halts.write_fault e in record {
-      told = v ++ was.told;
-      some = some_after a b z xs ys v was.told p was.some;
-      begins = (was.begins.0, ap (λ (t : List ℕ). v ++ t) was.begins.1 ∙ sym (append_assoc v halts.written was.begins.0));
-    };
+    done = xs ++ halts.done;
     others = halts.others;
+    told = v ++ halts.told;
+    last = halts.last;
+    written = v ++ halts.written;
+    first = ap (λ (l : List (List ℕ)). xs ++ l) halts.first ∙ sym (append_assoc xs halts.done halts.others);
+    answered = answered_append a b halts.last xs halts.done v halts.told p halts.answered;
+    adds = adds_both _ _ _ _ _ _ adds halts.adds refl;
+    begins = (halts.begins.0, ap (λ (t : List ℕ). v ++ t) halts.begins.1 ∙ sym (append_assoc v halts.written halts.begins.0));
+    no_memory = λ e. let was = halts.no_memory e in (ap (λ (t : List ℕ). v ++ t) was.0, was.1);
+    write_fault = halts.write_fault;
+    reasons = halts.reasons;
   }
 
   pub halts_within : (a z : A) (xs ys all : List (List ℕ)) (taken taken' : Option (List ℕ)) (why : Stop) → all ≡ xs ++ ys → Halts answers lacks a z xs taken taken' why → Halts answers lacks a z all taken taken' why
   halts_within a z xs ys all taken taken' why is halts = record {
+    done = halts.done;
+    others = halts.others ++ ys;
+    told = halts.told;
+    last = halts.last;
     written = halts.written;
+    first = is ∙ ap (λ (l : List (List ℕ)). l ++ ys) halts.first ∙ append_assoc halts.done halts.others ys;
+    answered = halts.answered;
     adds = halts.adds;
-    no_memory = λ e. let was = halts.no_memory e in record { last = was.last; some = rw is (some_within a was.last xs ys halts.written was.some); next = was.next };
-    write_fault = λ e. let was = halts.write_fault e in record { told = was.told; some = rw is (some_within a z xs ys was.told was.some); begins = was.begins };
-    others = halts.others;
+    begins = halts.begins;
+    no_memory = halts.no_memory;
+    write_fault = halts.write_fault;
+    reasons = halts.reasons;
   }
 
   -- at the next of the lines
@@ -63,28 +58,49 @@ module _ {A : Type 0} (answers : A → Option (List ℕ) → List ℕ → A → 
   halts_next a z line more taken taken' why at (inl memory) =
       let was = at.no_memory memory in
       record {
+        done = [];
+        others = line ∷ more;
+        told = [];
+        last = a;
         written = [];
+        first = refl;
+        answered = (refl, refl);
         adds = rw was.0 (adds_none taken);
-        no_memory = λ _. record { last = a; some = record { done = []; left = line ∷ more; parts = refl; answered = (refl, refl) }; next = inr (fit line, was.1) };
+        begins = ([], refl);
+        no_memory = λ _. (refl, inr (fit line, was.1));
         write_fault = λ e. absurd (cc);
-        others = inl memory;
+        reasons = inl memory;
       }
   halts_next a z line more taken taken' why at (inr write) =
       let was = at.write_fault write in
       record {
+        done = line ∷ [];
+        others = more;
+        told = was.0;
+        last = z;
         written = was.2.front;
+        first = refl;
+        answered = answered_one a z line was.0 was.1;
         adds = was.2.adds;
+        begins = was.2.begins;
         no_memory = λ e. absurd (cc);
-        write_fault = λ _. record { told = was.0; some = record { done = line ∷ []; left = more; parts = refl; answered = answered_one a z line was.0 was.1 }; begins = was.2.begins };
-        others = inr write;
+        write_fault = λ _. refl;
+        reasons = inr write;
       }
 
   -- before the next of the lines was judged
   pub halts_before : (a : A) (lines : List (List ℕ)) (taken : Option (List ℕ)) (why : Stop) → why ≡ stop.OutOfMemory → Halts answers lacks a a lines taken taken why
   halts_before a lines taken why memory = record {
+    done = [];
+    others = lines;
+    told = [];
+    last = a;
     written = [];
+    first = refl;
+    answered = (refl, refl);
     adds = adds_none taken;
-    no_memory = λ _. record { last = a; some = record { done = []; left = lines; parts = refl; answered = (refl, refl) }; next = inl refl };
+    begins = ([], refl);
+    no_memory = λ _. (refl, inl refl);
     write_fault = λ e. absurd (cc);
-    others = inl memory;
+    reasons = inl memory;
   }

@@ -3,3 +3,4 @@ pub mod Telling
 pub mod Answering
 mod Feeding
 mod Running
+mod Finishing

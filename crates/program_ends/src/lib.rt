@@ -10,6 +10,5 @@ mod words;
 
 pub use ending::end_run;
 pub use ends::End;
-pub use lines::{Answers, LIMIT, answer_lines};
-pub use reading::Stop;
+pub use lines::{Answers, LIMIT, run_lines};
 pub use words::given_words;

@@ -1,8 +1,11 @@
 //! The run over the lines of a source.
 ghost use Rattle.std.specs.Prelude.{◌≡◌, ◌≤◌, ◌<◌, ◌+◌, ◌^◌, [], ℕ, List, Option, length, option_map, IfOk, OnOk, OnErr, IfErr};
 ghost use Rattle.program_ends.specs.Lines.{pending_of, lines_from};
-ghost use Rattle.program_ends.specs.Runs.{LinesRun, Feeds, Halts, Replies, HaltsAt, IsCauseOf};
+ghost use Rattle.program_ends.specs.Runs.{IsLinesRun};
+ghost use Rattle.program_ends.specs.Steps.{Feeds, Halts, Replies, HaltsAt, IsCauseOf, Runs};
 
+use crate::ending::end_run;
+use crate::ends::End;
 use crate::line::Line;
 use crate::reading::{Stop, read_front};
 use desk_traits::{Failed, Sink, Source, write_whole};
@@ -69,15 +72,8 @@ fn feed<K: Sink, A: Answers>(
 /// The most bytes of an input that is answered to its end.
 pub const LIMIT: usize = 1_073_741_824;
 
-/// Reads an input of at most `limit` bytes to its end, and answers each line. All lines that ended in
-/// a piece are answered before the next read, and no more than one line is kept. One byte more than
-/// the limit is read, and the line that it belongs to gets no answer.
-///
-/// # Errors
-///
-/// `TooLong` where there is a byte more than the limit; `Read` and `Write` where a read or a write
-/// failed; `OutOfMemory`.
-pub fn answer_lines<S: Source, K: Sink, A: Answers>(
+// Reads to the input's end, and answers each line.
+fn answer_lines<S: Source, K: Sink, A: Answers>(
     alloc: Global,
     limit: usize,
     answers: &mut A,
@@ -85,7 +81,7 @@ pub fn answer_lines<S: Source, K: Sink, A: Answers>(
     output: &mut K,
 ) -> Result<(), Stop>
     requires { limit + 1 < 2 ^ 64 }
-    ensures run { LinesRun A.answers A.lacks limit answers.old answers.new (S.left input.old) (S.left input.new) (K.taken output.old) (K.taken output.new) result }
+    ensures run { Runs A.answers A.lacks limit answers.old answers.new (S.left input.old) (S.left input.new) (K.taken output.old) (K.taken output.new) result }
     ensures read { IsCauseOf Stop.Read (S.faults input.old) (S.faults input.new) result }
     ensures write { IsCauseOf Stop.Write (K.faults output.old) (K.faults output.new) result }
 {
@@ -110,4 +106,25 @@ pub fn answer_lines<S: Source, K: Sink, A: Answers>(
         total += count;
     }
     unreachable!()
+}
+
+/// Reads an input of at most `limit` bytes to its end, answers each line, and tells the end of the run.
+/// Answers the program's status. All lines that ended in a piece are answered before the next read, and
+/// no more than one line is kept. One byte more than the limit is read, and the line that it belongs to
+/// gets no answer.
+pub fn run_lines<S: Source, K: Sink, A: Answers>(
+    alloc: Global,
+    limit: usize,
+    answers: &mut A,
+    input: &mut S,
+    output: &mut K,
+) -> u8
+    requires { limit + 1 < 2 ^ 64 }
+    ensures { IsLinesRun A.answers A.lacks limit answers.old answers.new (S.left input.old) (S.left input.new) (K.taken output.old) (K.taken output.new)
+        (S.faults input.old) (S.faults input.new) (K.faults output.old) (K.faults output.new) result }
+{
+    match answer_lines(alloc, limit, answers, input, output) {
+        Ok(()) => end_run(output, None),
+        Err(stop) => end_run(output, Some(End::from(stop))),
+    }
 }

@@ -1,7 +1,7 @@
 use Rattle.std.proofs.Common.{◌≡◌, ◌≤◌, ◌+◌, ◌∙◌, [], ap, arith, length, take, List, ℕ, Option, refl, Ok}
 use Rattle.std.proofs.lemmas.List.{length-take}
 use Rattle.program_ends.specs.Lines.{rest_from}
-use Rattle.program_ends.proofs.Running.{stops_by, front_part, ran_next, ends_reply, ends_within, ends_long}
+use Rattle.program_ends.proofs.Running.{stops_by, front_part, ran_next, ends_read, ends_reply, ends_within, ends_long}
 use Rattle.program_ends.proofs.lines.answer_lines.Goals as goal
 
 pub loop-turn-preserved : goal.loop-turn-preserved
@@ -63,3 +63,8 @@ returns-then-within-count-clause-run g c =
     (omega (arith, c.min-within.ensures, c.if-within-count.true, c.loop-turn.invariant.within))
     (omega (arith, c.min-within.ensures, c.if-within-count.true, c.loop-turn.invariant.within, bytes.0, c.min-room.ensures, length-take count buffer))
     (g.S.Source.left c.read_front.new.input) bytes.2 c.feed.new.answers c.feed.new.line (g.K.Sink.taken c.feed.new.output) fed
+
+pub returns-in-Err-clause-run : goal.returns-in-Err-clause-run
+returns-in-Err-clause-run g c =
+    ends_read g.A.Answers.answers g.A.Answers.lacks c.args.limit c.args.answers.now c.loop-turn.answers (g.S.Source.left c.args.input.now) (g.S.Source.left c.loop-turn.input) (g.K.Sink.taken c.args.output.now) (g.K.Sink.taken c.loop-turn.output) c.loop-turn.line c.loop-turn.total c.loop-turn.invariant.ran
+    c.loop-turn.invariant.within (g.S.Source.left c.read_front.new.input) c.in-Err.ensures.failed

@@ -13,5 +13,5 @@ returns-clause-halted g c =
         begins = (drop part.0 text, sym c.as_slice.ensures ∙ sym (take-append-drop part.0 text));
         adds = part.2;
       });
-      others = inr refl;
+      reasons = inr refl;
     }
