@@ -202,7 +202,7 @@ module _ {A : Type 0} (answers : A → Option (List ℕ) → List ℕ → A → 
       let rest = drop n chunk in
       let whole : part ++ rest ≡ chunk = ap (λ (l : List ℕ). l ++ rest) part_is ∙ take-append-drop n chunk in
       let all : lines_from [] (ran.read ++ chunk) ≡ lines_from [] (ran.read ++ part) ++ lines_from (rest_from [] (ran.read ++ part)) rest =
-          ap (λ (l : List ℕ). lines_from [] l) (ap (λ (l : List ℕ). ran.read ++ l) (sym whole) ∙ sym (append_assoc ran.read part rest)) ∙ lines_append [] (ran.read ++ part) rest in
+      ap (λ (l : List ℕ). lines_from [] l) (ap (λ (l : List ℕ). ran.read ++ l) (sym whole) ∙ sym (append_assoc ran.read part rest)) ∙ lines_append [] (ran.read ++ part) rest in
       ap (λ (l : List (List ℕ)). l ++ rest_from [] (ran.read ++ chunk) ∷ []) all ∙ append_assoc (lines_from [] (ran.read ++ part)) _ _
 
   -- a line of a chunk was not answered
@@ -220,7 +220,7 @@ module _ {A : Type 0} (answers : A → Option (List ℕ) → List ℕ → A → 
       → (y : A) (begun : Pending) (taken' : Option (List ℕ)) → Feeds answers z y (rest_from [] ran.read) part begun mid' taken' → Runs {A = A} {T = T} answers lacks limit a y left left' taken taken' (Err stop.TooLong)
   ends_long chunk part n part_is to_limit over left' takes y begun taken' feeds =
       let front : take limit (ran.read ++ chunk) ≡ ran.read ++ part =
-          ap (λ (k : ℕ). take k (ran.read ++ chunk)) (let k : limit ≡ length ran.read + n = omega (arith, ran.total_is) in k) ∙ take-append-add ran.read chunk n ∙ ap (λ (l : List ℕ). ran.read ++ l) (sym part_is) in
+      ap (λ (k : ℕ). take k (ran.read ++ chunk)) (let k : limit ≡ length ran.read + n = omega (arith, ran.total_is) in k) ∙ take-append-add ran.read chunk n ∙ ap (λ (l : List ℕ). ran.read ++ l) (sym part_is) in
       let told = ran.written ++ feeds.written in
       record {
         told = told;

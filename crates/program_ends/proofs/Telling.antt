@@ -44,6 +44,10 @@ is_none end h e =
     let told : is_write_fault end ≡ true = subst (λ (x : End). is_write_fault x ≡ true) (sym same) refl in
     absurd (cc)
 
+-- nothing was written before
+pub has_nothing : (end : End) (before : ℕ) → is_write_fault end ≡ false → HasWritten [] [] before before (Some end)
+has_nothing end before h = record { whole = λ _. (refl, refl); cut = λ e. absurd (is_none end h e) }
+
 pub begins_self : (text : List ℕ) → Begins text text
 begins_self text = ([], sym (append-nil text))
 
@@ -74,14 +78,17 @@ module _ (taken mid : Option (List ℕ)) (before now : ℕ) (defined written : L
         adds = adds_both _ _ _ _ _ _ adds tried.adds refl;
         told = record {
           others = λ no. absurd (no refl);
-          cut = λ _. (rose_later before now after cut.0 tried.later, record {
-            front = written;
-            line = tried.front;
-            some = (cut.1.0, rw none (append-nil defined ∙ cut.1.1));
-            told = tried.begins;
-            parts = refl;
-            once = λ no. tried.whole (λ again. no (twice before now after cut.0 again));
-          });
+          cut = λ _. (
+            rose_later before now after cut.0 tried.later,
+            record {
+              front = written;
+              line = tried.front;
+              some = (cut.1.0, rw none (append-nil defined ∙ cut.1.1));
+              told = tried.begins;
+              parts = refl;
+              once = λ no. tried.whole (λ again. no (twice before now after cut.0 again));
+            },
+          );
         };
       }
 
@@ -107,20 +114,23 @@ module _ (taken mid : Option (List ℕ)) (before now : ℕ) (defined written : L
       let mine = own end is in
       let first : Rose before between = subst (λ (k : ℕ). Rose k between) same.0 rose in
       let whole : defined ++ own_line (Some end) ≡ (written ++ some.front) ++ some.begins.0 =
-          ap (λ (t : List ℕ). defined ++ t) (mine.1 ∙ some.begins.1) ∙ ap (λ (t : List ℕ). t ++ (some.front ++ some.begins.0)) (sym same.1) ∙ sym (append_assoc written some.front some.begins.0) in
+      ap (λ (t : List ℕ). defined ++ t) (mine.1 ∙ some.begins.1) ∙ ap (λ (t : List ℕ). t ++ (some.front ++ some.begins.0)) (sym same.1) ∙ sym (append_assoc written some.front some.begins.0) in
       record {
         written = (written ++ some.front) ++ tried.front;
         adds = adds_both _ _ _ _ _ _ (adds_both _ _ _ _ _ _ adds some.adds refl) tried.adds refl;
         told = record {
           others = λ no. absurd (no refl);
-          cut = λ _. (rose_later before between after first tried.later, record {
-            front = written ++ some.front;
-            line = tried.front;
-            some = (some.begins.0, whole);
-            told = tried.begins;
-            parts = refl;
-            once = λ no. tried.whole (λ again. no (twice before between after first again));
-          });
+          cut = λ _. (
+            rose_later before between after first tried.later,
+            record {
+              front = written ++ some.front;
+              line = tried.front;
+              some = (some.begins.0, whole);
+              told = tried.begins;
+              parts = refl;
+              once = λ no. tried.whole (λ again. no (twice before between after first again));
+            },
+          );
         };
       }
 

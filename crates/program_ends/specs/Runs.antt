@@ -47,8 +47,12 @@ pub record IsLinesRun {A : Type 0} (answers : A → Option (List ℕ) → List �
   -- the input's count rose exactly where a read ended the run
   pub rose : end ≡ Some ReadFault → Rose reads reads'
   pub steady : end ≢ Some ReadFault → reads' ≡ reads
-  -- status 12 comes only where no count rose
+  -- each fault's status comes only where that count rose, and status 12 only where none did
+  pub read_fault : status ≡ 7 → Rose reads reads'
+  pub write_fault : status ≡ 8 → Rose writes writes'
   pub no_memory : status ≡ 12 → (reads' ≡ reads) × (writes' ≡ writes)
+  -- where no count rose the input was read to its end, or memory lacked, or it is too long
+  pub complete : ¬ Rose reads reads' → ¬ Rose writes writes' → (status ≡ 0) ⊎ (status ≡ 12) ⊎ (status ≡ 13)
 
 -- why a run over lines ended
 abbrev pub end_of : Stop → End

@@ -1,8 +1,8 @@
 //! The end of a run: the line of its fault, and its status.
-ghost use Rattle.std.specs.Prelude.{◌≡◌, ◌≤◌, ◌++◌, ℕ, List, Option, Some, None, OnOk, OnErr, codes};
+ghost use Rattle.std.specs.Prelude.{◌≡◌, ◌≤◌, ◌++◌, ℕ, List, Option, Some, None, OnOk, OnErr, codes, false, []};
 ghost use Rattle.desk_traits.specs.Faults.{Rose, HasCause};
 ghost use Rattle.desk_traits.specs.Streams.{Adds};
-ghost use Rattle.program_ends.specs.Ends.{fault_line, write_fault_line, Telling, HasWritten, AddsFront, IsTried};
+ghost use Rattle.program_ends.specs.Ends.{is_write_fault, fault_line, write_fault_line, Telling, HasWritten, AddsFront, IsTried};
 
 use crate::ends::End;
 use desk_traits::{Failed, Sink, write_whole};
@@ -75,4 +75,12 @@ pub fn end_run<K: Sink>(output: &mut K, end: Option<End>) -> u8
         Ok(()) => end.status(),
         Err(_) => tell_write_fault(output),
     }
+}
+
+/// Ends a run that has written nothing, for a reason that is no write fault.
+pub fn end_at_once<K: Sink>(output: &mut K, end: End) -> u8
+    requires { is_write_fault end ≡ false }
+    ensures { Telling [] (K.faults output.old) (K.taken output.old) (K.taken output.new) (K.faults output.new) (Some end) result }
+{
+    end_run(output, Some(end))
 }

@@ -8,7 +8,7 @@ mod lines;
 mod reading;
 mod words;
 
-pub use ending::end_run;
+pub use ending::{end_at_once, end_run};
 pub use ends::End;
 pub use lines::{Answers, LIMIT, run_lines};
-pub use words::given_words;
+pub use words::{command_line, given_words};

@@ -8,10 +8,14 @@ returns-clause-halted g c =
     let part = c.in-Err.ensures.part in
     record {
       no_memory = λ e. absurd (cc);
-      write_fault = λ _. (c.in_ok-text.text, c.in_ok-text.ensures.answered, record {
-        front = take part.0 text;
-        begins = (drop part.0 text, sym c.as_slice.ensures ∙ sym (take-append-drop part.0 text));
-        adds = part.2;
-      });
+      write_fault = λ _. (
+        c.in_ok-text.text,
+        c.in_ok-text.ensures.answered,
+        record {
+          front = take part.0 text;
+          begins = (drop part.0 text, sym c.as_slice.ensures ∙ sym (take-append-drop part.0 text));
+          adds = part.2;
+        },
+      );
       reasons = inr refl;
     }

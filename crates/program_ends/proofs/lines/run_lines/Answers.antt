@@ -11,7 +11,7 @@ returns-in-Ok g c =
     let taken = g.K.Sink.taken c.args.output.now in
     let writes = g.K.Sink.faults c.args.output.now in
     let has = has_written g.A.Answers.answers g.A.Answers.lacks c.args.limit c.args.answers.now c.answer_lines.new.answers (g.S.Source.left c.args.input.now) (g.S.Source.left c.answer_lines.new.input) taken (g.K.Sink.taken c.answer_lines.new.output) (g.K.Sink.taken c.end_run.new.output)
-        (g.S.Source.faults c.args.input.now) (g.S.Source.faults c.answer_lines.new.input) writes (g.K.Sink.faults c.answer_lines.new.output) (g.K.Sink.faults c.end_run.new.output) r c.end_run.result run c.in-Ok.ensures.write in
+    (g.S.Source.faults c.args.input.now) (g.S.Source.faults c.answer_lines.new.input) writes (g.K.Sink.faults c.answer_lines.new.output) (g.K.Sink.faults c.end_run.new.output) r c.end_run.result run c.in-Ok.ensures.write in
     run_told g.A.Answers.answers g.A.Answers.lacks c.args.limit c.args.answers.now c.answer_lines.new.answers (g.S.Source.left c.args.input.now) (g.S.Source.left c.answer_lines.new.input) taken (g.K.Sink.taken c.answer_lines.new.output) (g.K.Sink.taken c.end_run.new.output)
     (g.S.Source.faults c.args.input.now) (g.S.Source.faults c.answer_lines.new.input) writes (g.K.Sink.faults c.answer_lines.new.output) (g.K.Sink.faults c.end_run.new.output) r c.end_run.result run c.in-Ok.ensures.read
     (c.end_run.ensures taken writes run.told run.written run.adds has)
@@ -25,7 +25,7 @@ returns-in-Err g c =
     let between = g.K.Sink.faults c.answer_lines.new.output in
     let after = g.K.Sink.faults c.end_run-in-Err.new.output in
     let has = has_written g.A.Answers.answers g.A.Answers.lacks c.args.limit c.args.answers.now c.answer_lines.new.answers (g.S.Source.left c.args.input.now) (g.S.Source.left c.answer_lines.new.input) taken (g.K.Sink.taken c.answer_lines.new.output) (g.K.Sink.taken c.end_run-in-Err.new.output)
-        (g.S.Source.faults c.args.input.now) (g.S.Source.faults c.answer_lines.new.input) writes between after r c.end_run-in-Err.result run c.in-Err.ensures.write in
+    (g.S.Source.faults c.args.input.now) (g.S.Source.faults c.answer_lines.new.input) writes between after r c.end_run-in-Err.result run c.in-Err.ensures.write in
     let told = c.end_run-in-Err.ensures taken writes run.told run.written run.adds (subst (λ (e : End). HasWritten run.told run.written writes between (Some e)) (sym c.from.ensures) has) in
     run_told g.A.Answers.answers g.A.Answers.lacks c.args.limit c.args.answers.now c.answer_lines.new.answers (g.S.Source.left c.args.input.now) (g.S.Source.left c.answer_lines.new.input) taken (g.K.Sink.taken c.answer_lines.new.output) (g.K.Sink.taken c.end_run-in-Err.new.output)
     (g.S.Source.faults c.args.input.now) (g.S.Source.faults c.answer_lines.new.input) writes between after r c.end_run-in-Err.result run c.in-Err.ensures.read
