@@ -2,8 +2,10 @@
 #![tactic(auto)]
 
 mod agreement_laws;
+mod draft_rules;
 mod heard;
 mod made;
+mod number_rules;
 mod office;
 mod prepared;
 mod rules;

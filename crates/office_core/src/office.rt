@@ -73,4 +73,14 @@ impl Office {
     {
         self.products.len() as u32
     }
+
+    /// The reply to a desk's last accepted request.
+    pub fn kept(&self, desk: Desk) -> Option<&Reply>
+        ensures { option_map (λ r. r.now) result ≡ option_map (λ said. said.reply) (said_by self.now.state desk) }
+    {
+        match self.said_by(&desk) {
+            Some(said) => Some(&said.reply),
+            None => None,
+        }
+    }
 }
