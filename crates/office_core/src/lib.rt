@@ -7,9 +7,11 @@ mod heard;
 mod made;
 mod number_rules;
 mod office;
+mod part_rules;
 mod prepared;
 mod rules;
 mod soundness_laws;
+mod writing;
 
 pub use agreement_laws::{offices_begin_in_agreement, products_keep_the_agreement};
 pub use heard::{Heard, Said};
