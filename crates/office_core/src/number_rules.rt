@@ -1,5 +1,5 @@
 //! The rules on a desk, its number and the clock, each with what the refusal names.
-ghost use Rattle.std.specs.Prelude.{◌≡◌, false, max, nat_abs, option_map};
+ghost use Rattle.std.specs.Prelude.{◌≡◌, IfNone, false, max, nat_abs, option_map};
 ghost use Rattle.office_core.specs.Rules.{unknown_desk, reused, stale, gap, is_out, clock_out, broken_number};
 ghost use Rattle.office_core.specs.State.{said_in, said_by, last_number};
 
@@ -127,7 +127,8 @@ impl Office {
     /// The first rule on the desk, its number and the clock that is broken.
     #[tactic(auto, unfolding(crate::specs::Rules::broken_number))]
     pub(crate) fn broken_number(&self, desk: &Desk, seq: u32, reading: i64) -> Option<Refusal>
-        ensures { result ≡ broken_number self.now.state desk.now seq reading }
+        ensures value { result ≡ broken_number self.now.state desk.now seq reading }
+        ensures within { IfNone result (is_out reading ≡ false) }
     {
         let unknown = self.unknown_desk(desk);
         if unknown.is_some() {

@@ -27,6 +27,7 @@ impl Office {
     }
 
     /// The first rule that is broken, in their order; of a repeated request only the desk is looked at.
+    #[tactic(auto, unfolding(crate::specs::Rules::broken_request))]
     pub(crate) fn broken_request(
         &self,
         alloc: Global,
@@ -37,6 +38,17 @@ impl Office {
     ) -> Result<Option<Refusal>, Oom>
         ensures { IfOk result (λ found. found ≡ broken_request self.now.state desk.now seq r.now reading) }
     {
-        Ok(None)
+        if self.is_repeated(desk, seq, r) {
+            return Ok(self.unknown_desk(desk));
+        }
+        let number = self.broken_number(desk, seq, reading);
+        if number.is_some() {
+            return Ok(number);
+        }
+        let draft = self.broken_draft(desk, r, self.minute_of(reading))?;
+        if draft.is_some() {
+            return Ok(draft);
+        }
+        self.broken_part(alloc, r)
     }
 }
