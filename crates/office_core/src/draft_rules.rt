@@ -107,10 +107,9 @@ fn still_active(
     match found {
         Some(draft) => {
             if comes_early(desk, t, r, draft) {
-                match Minute::new(draft.touched.get() + ACTIVE) {
-                    Some(free_at) => Ok(Some(Refusal::StillActive { free_at })),
-                    None => Err(Oom),
-                }
+                // No draft is touched after minute 52,000,000, so that the minute is there.
+                let free_at = Minute::new(draft.touched.get() + ACTIVE).ok_or(Oom)?;
+                Ok(Some(Refusal::StillActive { free_at }))
             } else {
                 Ok(None)
             }

@@ -4,11 +4,13 @@
 mod agreement_laws;
 mod draft_rules;
 mod heard;
+mod looking;
 mod made;
 mod number_rules;
 mod office;
 mod part_rules;
 mod prepared;
+mod previewing;
 mod rules;
 mod soundness_laws;
 mod writing;

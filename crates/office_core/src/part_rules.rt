@@ -1,11 +1,11 @@
 //! The rules on the parts of a request, each with what the refusal names.
-ghost use Rattle.std.specs.Prelude.{◌≡◌, IfOk, find, option_map, true};
+ghost use Rattle.std.specs.Prelude.{◌≡◌, ◌+◌, IfOk, find, option_map, true};
 ghost use Rattle.std.specs.List.Sorted.{IsStrictlySortedBy};
 ghost use Rattle.std.specs.Map.{keys_of};
 ghost use Rattle.std.specs.Option.{unwrap_or};
 ghost use Rattle.hazard_types.specs.Hazards.{facts_of};
 ghost use Rattle.hazard_types.specs.Places.{by_place};
-ghost use Rattle.action_planner.specs.Fitting.{are_zones, of_other_kind, opens_with};
+ghost use Rattle.action_planner.specs.Fitting.{are_zones, opens_with};
 ghost use Rattle.action_planner.specs.Lines.{follows};
 ghost use Rattle.action_planner.specs.Placed.{zones_of};
 ghost use Rattle.office_core.specs.Requests.{draft_of, hazard_of, hazard_of_target, intent_of};
@@ -16,9 +16,7 @@ use crate::office::Office;
 use crate::writing::{TextRule, first_text};
 use desk_settings::Settings;
 use hazard_types::desk_hazards::facts;
-use hazard_types::{
-    Category, Draft, Hazard, Oom, Refusal, Request, Sent, Target, Zone,
-};
+use hazard_types::{Category, Draft, Hazard, Oom, Refusal, Request, Sent, Target, Zone};
 use std::alloc::Global;
 
 /// The hazard of a target; that of its event counts.
@@ -190,13 +188,13 @@ fn bad_zones(r: &Request) -> Option<Refusal>
 }
 
 /// The product with a number: products count from 1.
-fn product_in(products: &[Sent], number: u32) -> Option<&Sent>
+fn product_in(products: &[Sent], number: usize) -> Option<&Sent>
     ensures { option_map (λ sent. sent.now) result ≡ product_in products.now number }
 {
     if number == 0 {
         None
     } else {
-        products.get(number as usize - 1)
+        products.get(number - 1)
     }
 }
 
@@ -205,7 +203,14 @@ impl Office {
     pub(crate) fn product_at(&self, number: u32) -> Option<&Sent>
         ensures { option_map (λ sent. sent.now) result ≡ product_at self.now.state number }
     {
-        product_in(&self.products, number)
+        product_in(&self.products, number as usize)
+    }
+
+    /// The first product above a number.
+    pub(crate) fn product_after(&self, number: u32) -> Option<&Sent>
+        ensures { option_map (λ sent. sent.now) result ≡ product_at self.now.state (number + 1) }
+    {
+        product_in(&self.products, number as usize + 1)
     }
 
     /// NoProduct: no product has this number.

@@ -1,5 +1,5 @@
 //! The first rule that a request breaks on its desk, its numbers, the clock, its draft and its parts.
-ghost use Rattle.std.specs.Prelude.{◌≡◌, IfOk, false, option_map};
+ghost use Rattle.std.specs.Prelude.{◌≡◌, IfOk, false};
 ghost use Rattle.office_core.specs.Rules.{broken_request, is_out, is_repeated, minute_of};
 
 use crate::number_rules::{later, minute_at};

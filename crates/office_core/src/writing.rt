@@ -69,12 +69,7 @@ fn long_text(alloc: Global, field: &str, text: &[u8]) -> Result<Option<Refusal>,
 }
 
 /// What a field's text is refused with under a rule.
-fn offence(
-    alloc: Global,
-    rule: TextRule,
-    field: &str,
-    text: &Text,
-) -> Result<Option<Refusal>, Oom>
+fn offence(alloc: Global, rule: TextRule, field: &str, text: &Text) -> Result<Option<Refusal>, Oom>
     ensures { IfOk result (λ found. found ≡ under rule field.now text.now) }
 {
     match rule {
@@ -103,11 +98,7 @@ fn first_field(alloc: Global, rule: TextRule, texts: &Texts) -> Result<Option<Re
 }
 
 /// The first of the texts of events that offends against a rule.
-fn first_given(
-    alloc: Global,
-    rule: TextRule,
-    given: &[EventTexts],
-) -> Result<Option<Refusal>, Oom>
+fn first_given(alloc: Global, rule: TextRule, given: &[EventTexts]) -> Result<Option<Refusal>, Oom>
     ensures { IfOk result (λ found. found ≡ first_texts (under rule) (map (λ (x : TextsOn). x.texts) given.now)) }
 {
     for told in given {
@@ -120,11 +111,7 @@ fn first_given(
 }
 
 /// The first text of a request that offends against a rule.
-pub(crate) fn first_text(
-    alloc: Global,
-    rule: TextRule,
-    r: &Request,
-) -> Result<Option<Refusal>, Oom>
+pub(crate) fn first_text(alloc: Global, rule: TextRule, r: &Request) -> Result<Option<Refusal>, Oom>
     ensures { IfOk result (λ found. found ≡ first_texts (under rule) (texts_in r.now)) }
 {
     match r {

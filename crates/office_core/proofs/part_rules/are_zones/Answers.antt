@@ -1,5 +1,4 @@
 -- The planner's test and this one decide the same.
-use Rattle.std.proofs.Common.{◌≡◌}
 use Rattle.action_planner.proofs.FittingLemmas.{zones_Decide}
 use Rattle.office_core.proofs.PartLemmas.{one_test}
 use Rattle.office_core.proofs.part_rules.are_zones.Goals as goal

@@ -1,5 +1,5 @@
 -- A byte that stands well is passed.
-use Rattle.std.proofs.Common.{◌≡◌, ◌<◌, ◌∙◌, sym, length, arith}
+use Rattle.std.proofs.Common.{◌<◌, ◌∙◌, sym, length, arith}
 use Rattle.office_core.proofs.WritingLemmas.{goes_on}
 use Rattle.office_core.proofs.writing.bad_at.Goals as goal
 

@@ -1,5 +1,4 @@
 -- A correction's texts are those that are given.
-use Rattle.std.proofs.Common.{◌≡◌, IfOk}
 use Rattle.office_core.proofs.writing.first_text.Goals as goal
 
 pub returns-in-Correct : goal.returns-in-Correct
