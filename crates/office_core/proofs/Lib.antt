@@ -9,3 +9,6 @@ pub mod SoundFirst
 pub mod SoundPlans
 pub mod SoundRequests
 pub mod SoundSteps
+mod LookLemmas
+mod PartLemmas
+mod WritingLemmas

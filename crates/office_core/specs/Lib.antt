@@ -1,6 +1,7 @@
 pub mod State
 pub mod Requests
 pub mod Writing
+pub mod TextRules
 pub mod Rules
 pub mod Making
 pub mod Step

@@ -2,13 +2,19 @@
 #![tactic(auto)]
 
 mod agreement_laws;
+mod draft_rules;
 mod heard;
 mod history_laws;
+mod looking;
 mod made;
+mod number_rules;
 mod office;
+mod part_rules;
 mod prepared;
+mod previewing;
 mod rules;
 mod soundness_laws;
+mod writing;
 
 pub use agreement_laws::{offices_begin_in_agreement, products_keep_the_agreement};
 pub use heard::{Heard, Said};

@@ -1,5 +1,5 @@
 //! The office.
-ghost use Rattle.std.specs.Prelude.{◌≡◌, ◌≤◌, IfOk, true, length, option_map};
+ghost use Rattle.std.specs.Prelude.{◌≡◌, ◌≤◌, IfOk, true, length, map, option_map};
 ghost use Rattle.desk_settings.specs.AreSettings.{HasForms};
 ghost use Rattle.hazard_types.specs.declared.request.Reply.{Reply as Answered};
 ghost use Rattle.product_template.specs.Bodies.{is_training};
@@ -7,11 +7,13 @@ ghost use Rattle.hazard_board.specs.Consistent.{IsConsistent};
 ghost use Rattle.office_core.specs.Agreement.{ReadsAsTheBoard};
 ghost use Rattle.office_core.specs.Histories.{MayFollow};
 ghost use Rattle.office_core.specs.Prepared.{MayCommit};
-ghost use Rattle.office_core.specs.State.{first_state, in_edition, said_by};
+ghost use Rattle.office_core.specs.State.{first_state, in_edition, said_by, unheard};
 ghost use Rattle.office_core.specs.Step.{state_after};
 
+use crate::agreement_laws::offices_begin_in_agreement;
 use crate::heard::{Heard, Said};
 use crate::prepared::{DraftChange, Prepared};
+use crate::soundness_laws::offices_begin_sound;
 use desk_settings::Settings;
 use event_numbers::Numbers;
 use hazard_board::Board;
@@ -59,7 +61,74 @@ impl Model for Office {
         × (64 ≤ vec_capacity o.drafts) };
 }
 
+/// The minute that counts as the last entry's before there is one.
+fn first_minute() -> Minute
+    ensures { result ≡ 0 }
+{
+    match Minute::new(0) {
+        Some(minute) => minute,
+        None => unreachable!(),
+    }
+}
+
+/// The desks, before any was heard.
+fn unheard(alloc: Global, desks: &[Desk]) -> Result<List<Heard>, Oom>
+    ensures { IfOk result (λ heard. heard ≡ map unheard desks.now) }
+{
+    let mut heard = List::new(alloc);
+    for desk in desks {
+        heard.push(Heard {
+            desk: *desk,
+            said: None,
+        })?;
+    }
+    Ok(heard)
+}
+
 impl Office {
+    /// An office before any request: no row, no product and no draft. It takes the memory for the most drafts.
+    ///
+    /// # Errors
+    ///
+    /// Want of memory.
+    pub fn new(
+        alloc: Global,
+        settings: Settings,
+        class: Class,
+        edition: Edition,
+    ) -> Result<Self, Oom>
+        requires forms { HasForms settings }
+        requires training { settings.any_zone ≡ true → is_training class ≡ true }
+        ensures { IfOk result (λ office. office.state ≡ first_state settings class edition) }
+    {
+        offices_begin_sound();
+        offices_begin_in_agreement();
+        let heard = unheard(alloc, settings.desks.as_slice())?;
+        let drafts = Vec::with_capacity(alloc, MOST_DRAFTS)?;
+        Ok(Office {
+            settings,
+            class,
+            edition,
+            board: Board::new(alloc),
+            numbers: Numbers::new(alloc),
+            products: Vec::new(alloc),
+            drafts,
+            begun: 0,
+            heard,
+            last: first_minute(),
+        })
+    }
+
+    /// Writes the texts from now on in this edition, which never goes from Two to One.
+    pub fn set_edition(&mut self, edition: Edition)
+        requires { MayFollow self.old.state.edition edition }
+        ensures state { self.new.state ≡ in_edition edition self.old.state }
+        ensures counts { self.new.counts ≡ self.old.counts }
+        ensures room { self.new.room ≡ self.old.room }
+    {
+        self.edition = edition;
+    }
+
     /// The edition of the texts that are written from now on.
     pub fn edition(&self) -> Edition
         ensures { result ≡ self.now.state.edition }
@@ -72,5 +141,15 @@ impl Office {
         ensures { result ≡ length self.now.state.products }
     {
         self.products.len() as u32
+    }
+
+    /// The reply to a desk's last accepted request.
+    pub fn kept(&self, desk: Desk) -> Option<&Reply>
+        ensures { option_map (λ r. r.now) result ≡ option_map (λ said. said.reply) (said_by self.now.state desk) }
+    {
+        match self.said_by(&desk) {
+            Some(said) => Some(&said.reply),
+            None => None,
+        }
     }
 }

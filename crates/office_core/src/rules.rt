@@ -1,7 +1,8 @@
 //! The first rule that a request breaks on its desk, its numbers, the clock, its draft and its parts.
-ghost use Rattle.std.specs.Prelude.{◌≡◌, IfOk, false, option_map};
+ghost use Rattle.std.specs.Prelude.{◌≡◌, IfOk, false};
 ghost use Rattle.office_core.specs.Rules.{broken_request, is_out, is_repeated, minute_of};
 
+use crate::number_rules::{later, minute_at};
 use crate::office::Office;
 use hazard_types::{Desk, Minute, Oom, Refusal, Request};
 use std::alloc::Global;
@@ -11,7 +12,10 @@ impl Office {
     pub(crate) fn is_repeated(&self, desk: &Desk, seq: u32, r: &Request) -> bool
         ensures { result ≡ is_repeated self.now.state desk.now seq r.now }
     {
-        false
+        match self.said_by(desk) {
+            Some(said) => said.seq == seq && said.request == *r,
+            None => false,
+        }
     }
 
     /// The entry's minute: the later of the reading and the last entry's minute.
@@ -19,10 +23,11 @@ impl Office {
         requires { is_out reading ≡ false }
         ensures { result ≡ minute_of self.now.state reading }
     {
-        self.last
+        later(minute_at(reading), self.last)
     }
 
     /// The first rule that is broken, in their order; of a repeated request only the desk is looked at.
+    #[tactic(auto, unfolding(crate::specs::Rules::broken_request))]
     pub(crate) fn broken_request(
         &self,
         alloc: Global,
@@ -33,6 +38,17 @@ impl Office {
     ) -> Result<Option<Refusal>, Oom>
         ensures { IfOk result (λ found. found ≡ broken_request self.now.state desk.now seq r.now reading) }
     {
-        Ok(None)
+        if self.is_repeated(desk, seq, r) {
+            return Ok(self.unknown_desk(desk));
+        }
+        let number = self.broken_number(desk, seq, reading);
+        if number.is_some() {
+            return Ok(number);
+        }
+        let draft = self.broken_draft(desk, r, self.minute_of(reading))?;
+        if draft.is_some() {
+            return Ok(draft);
+        }
+        self.broken_part(alloc, r)
     }
 }

@@ -1,0 +1,244 @@
+//! The rules on drafts, each with what the refusal names.
+ghost use Rattle.std.specs.Prelude.{◌≡◌, ◌+◌, ◌&&◌, if◌then◌else◌, IfOk, None, Some, find, is_some, length, nat_le, nat_lt, option_map};
+ghost use Rattle.hazard_types.specs.declared.refusal.Refusal.TheVariants as Refused;
+ghost use Rattle.office_core.specs.Requests.{draft_of, intent_of, takes};
+ghost use Rattle.office_core.specs.Rules.{no_draft, found_draft, is_others, not_owner, still_active, drafts_full, intents_full, no_intent, broken_draft};
+ghost use Rattle.office_core.specs.State.{draft_at, is_draft};
+
+use crate::office::{MOST_DRAFTS, Office};
+use action_planner::MOST_INTENTS;
+use hazard_types::{Desk, Draft, Minute, Oom, Refusal, Request};
+
+/// For how many minutes behind its last touch a draft is its owner's alone.
+const ACTIVE: u32 = 10;
+
+/// The draft that a request is on.
+pub(crate) fn draft_of(r: &Request) -> Option<u32>
+    ensures { result ≡ draft_of r.now }
+{
+    match r {
+        Request::Issue(_) | Request::Begin(_) | Request::Correct(_, _) => None,
+        Request::Put(id, _) => Some(*id),
+        Request::Finish(id, _) => Some(*id),
+        Request::Restate(id, _) => Some(*id),
+        Request::Routine(id, _) => Some(*id),
+        Request::Drop(id, _) => Some(*id),
+        Request::Take(id) => Some(*id),
+        Request::Discard(id) => Some(*id),
+        Request::Send(id) => Some(*id),
+    }
+}
+
+/// Whether the request puts something into a draft.
+fn puts(r: &Request) -> bool
+    ensures { result ≡ is_some (intent_of r.now) }
+{
+    match r {
+        Request::Issue(_) => true,
+        Request::Put(_, _) => true,
+        Request::Finish(_, _) => true,
+        Request::Restate(_, _) => true,
+        Request::Routine(_, _) => true,
+        _ => false,
+    }
+}
+
+/// Whether the request takes a draft over.
+fn takes(r: &Request) -> bool
+    ensures { result ≡ takes r.now }
+{
+    match r {
+        Request::Take(_) => true,
+        _ => false,
+    }
+}
+
+/// The draft with an id.
+fn draft_at(drafts: &[Draft], id: u32) -> Option<&Draft>
+    ensures { option_map (λ d. d.now) result ≡ find (is_draft id) drafts.now }
+{
+    for draft in drafts {
+        if draft.id == id {
+            return Some(draft);
+        }
+    }
+    None
+}
+
+/// Whether the draft is another desk's.
+fn is_others(desk: &Desk, draft: &Draft) -> bool
+    ensures { result ≡ is_others desk.now draft.now }
+{
+    draft.owner.bytes() != desk.bytes()
+}
+
+/// NotOwner: another desk owns it; a take is not asked.
+fn not_owner(desk: &Desk, r: &Request, found: Option<&Draft>) -> Option<Refusal>
+    ensures { result ≡ not_owner desk.now r.now (option_map (λ d. d.now) found.entry) }
+{
+    match found {
+        Some(draft) => {
+            if is_others(desk, draft) && !takes(r) {
+                Some(Refusal::NotOwner { owner: draft.owner })
+            } else {
+                None
+            }
+        }
+        None => None,
+    }
+}
+
+/// Whether the request takes a draft that another desk touched less than ten minutes ago.
+fn comes_early(desk: &Desk, t: Minute, r: &Request, draft: &Draft) -> bool
+    ensures { result ≡ (is_others desk.now draft.now && takes r.now && nat_lt t (draft.now.touched + 10)) }
+{
+    is_others(desk, draft) && takes(r) && t.get() < draft.touched.get() + ACTIVE
+}
+
+/// StillActive: a take by another desk, before ten minutes behind the last touch.
+fn still_active(
+    desk: &Desk,
+    t: Minute,
+    r: &Request,
+    found: Option<&Draft>,
+) -> Result<Option<Refusal>, Oom>
+    ensures { IfOk result (λ refused. refused ≡ still_active desk.now t r.now (option_map (λ d. d.now) found.entry)) }
+{
+    match found {
+        Some(draft) => {
+            if comes_early(desk, t, r, draft) {
+                // No draft is touched after minute 52,000,000, so that the minute is there.
+                let free_at = Minute::new(draft.touched.get() + ACTIVE).ok_or(Oom)?;
+                Ok(Some(Refusal::StillActive { free_at }))
+            } else {
+                Ok(None)
+            }
+        }
+        None => Ok(None),
+    }
+}
+
+/// IntentsFull: an intent is put into a draft that has 64.
+fn intents_full(r: &Request, found: Option<&Draft>) -> Option<Refusal>
+    ensures { result ≡ intents_full (intent_of r.now) (option_map (λ d. d.now) found.entry) }
+{
+    match found {
+        Some(draft) => {
+            if puts(r) && draft.intents.len() >= MOST_INTENTS {
+                Some(Refusal::IntentsFull)
+            } else {
+                None
+            }
+        }
+        None => None,
+    }
+}
+
+/// NoIntent, where the draft has none at the place.
+fn none_at(draft: &Draft, place: u32) -> Option<Refusal>
+    ensures { result ≡ (if nat_le (length draft.now.intents) place then Some (Refused.NoIntent place) else None) }
+{
+    if draft.intents.len() <= place as usize {
+        Some(Refusal::NoIntent { place })
+    } else {
+        None
+    }
+}
+
+/// NoIntent: no intent stands at the place.
+fn no_intent(r: &Request, found: Option<&Draft>) -> Option<Refusal>
+    ensures { result ≡ no_intent r.now (option_map (λ d. d.now) found.entry) }
+{
+    match r {
+        Request::Drop(_, place) => match found {
+            Some(draft) => none_at(draft, *place),
+            None => None,
+        },
+        _ => None,
+    }
+}
+
+impl Office {
+    /// The draft with an id.
+    pub(crate) fn draft_at(&self, id: u32) -> Option<&Draft>
+        ensures { option_map (λ d. d.now) result ≡ draft_at self.now.state id }
+    {
+        draft_at(&self.drafts, id)
+    }
+
+    /// The draft that a request is on.
+    pub(crate) fn found_draft(&self, r: &Request) -> Option<&Draft>
+        ensures { option_map (λ d. d.now) result ≡ found_draft self.now.state (draft_of r.now) }
+    {
+        match draft_of(r) {
+            Some(id) => self.draft_at(id),
+            None => None,
+        }
+    }
+
+    /// NoDraft: no draft has this id.
+    fn no_draft(&self, id: Option<u32>) -> Option<Refusal>
+        ensures { result ≡ no_draft self.now.state id }
+    {
+        match id {
+            Some(id) => {
+                if self.draft_at(id).is_none() {
+                    Some(Refusal::NoDraft)
+                } else {
+                    None
+                }
+            }
+            None => None,
+        }
+    }
+
+    /// DraftsFull: a draft is opened while there are 64.
+    fn drafts_full(&self, r: &Request) -> Option<Refusal>
+        ensures { result ≡ drafts_full self.now.state r.now }
+    {
+        match r {
+            Request::Begin(_) => {
+                if self.drafts.len() >= MOST_DRAFTS {
+                    Some(Refusal::DraftsFull)
+                } else {
+                    None
+                }
+            }
+            _ => None,
+        }
+    }
+
+    /// The first rule on the draft that the request is on that is broken.
+    #[tactic(auto, unfolding(crate::specs::Rules::broken_draft))]
+    pub(crate) fn broken_draft(
+        &self,
+        desk: &Desk,
+        r: &Request,
+        t: Minute,
+    ) -> Result<Option<Refusal>, Oom>
+        ensures { IfOk result (λ refused. refused ≡ broken_draft self.now.state desk.now r.now t (found_draft self.now.state (draft_of r.now))) }
+    {
+        let lacking = self.no_draft(draft_of(r));
+        if lacking.is_some() {
+            return Ok(lacking);
+        }
+        let found = self.found_draft(r);
+        let barred = not_owner(desk, r, found);
+        if barred.is_some() {
+            return Ok(barred);
+        }
+        let active = still_active(desk, t, r, found)?;
+        if active.is_some() {
+            return Ok(active);
+        }
+        let full = self.drafts_full(r);
+        if full.is_some() {
+            return Ok(full);
+        }
+        let filled = intents_full(r, found);
+        if filled.is_some() {
+            return Ok(filled);
+        }
+        Ok(no_intent(r, found))
+    }
+}

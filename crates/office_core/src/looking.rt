@@ -1,0 +1,111 @@
+//! What is looked at: the board, a product, a draft, and the text that a draft would give.
+ghost use Rattle.std.specs.Prelude.{◌≡◌, ◌≤◌, IfOk, IfSome, Some, Err, false, option_map};
+ghost use Rattle.hazard_types.specs.declared.or.Or.TheVariants.{No};
+ghost use Rattle.hazard_types.specs.declared.refusal.Refusal.{Refusal as Refused};
+ghost use Rattle.hazard_types.specs.declared.request.Query.TheVariants as Looked;
+ghost use Rattle.office_core.specs.Look.{LacksDraft, LacksProduct, RefusesLook, Shows, ShowsDraft, ShowsProduct};
+ghost use Rattle.office_core.specs.Making.{drafted_by};
+ghost use Rattle.office_core.specs.Rules.{is_out, minute_of};
+ghost use Rattle.office_core.specs.Sound.{IsSoundMaking};
+ghost use Rattle.office_core.specs.State.{draft_at};
+
+use crate::number_rules::{is_out, minute_at};
+use crate::office::Office;
+use crate::soundness_laws::{entries_come_in_order, open_drafts_are_sound};
+use board_text::put_board;
+use hazard_types::{Draft, List, Minute, Or, Query, Refusal, Sent, Text};
+use request_json::draft_text;
+use std::alloc::Global;
+
+/// The text of a product that was found.
+fn product_text(alloc: Global, found: Option<&Sent>) -> Result<Text, Or<Refusal>>
+    ensures shows { IfOk result (λ text. ShowsProduct (option_map (λ sent. sent.now) found.entry) text) }
+    ensures refused { (x : Refused) → result ≡ Err (No x) → LacksProduct (option_map (λ sent. sent.now) found.entry) x }
+{
+    match found {
+        Some(sent) => Ok(List::from_slice(alloc, sent.text.as_slice())?),
+        None => Err(Or::No(Refusal::NoProduct)),
+    }
+}
+
+/// The text of a draft that was found.
+fn found_text(alloc: Global, found: Option<&Draft>) -> Result<Text, Or<Refusal>>
+    ensures shows { IfOk result (λ text. ShowsDraft (option_map (λ d. d.now) found.entry) text) }
+    ensures refused { (x : Refused) → result ≡ Err (No x) → LacksDraft (option_map (λ d. d.now) found.entry) x }
+{
+    match found {
+        Some(draft) => Ok(draft_text(alloc, draft)?),
+        None => Err(Or::No(Refusal::NoDraft)),
+    }
+}
+
+impl Office {
+    /// The minute at which a product that is previewed would be sent.
+    fn minute_to_come(&self, reading: i64) -> Minute
+        requires { is_out reading ≡ false }
+        ensures value { result ≡ minute_of self.now.state reading }
+        ensures later { self.now.state.last ≤ result }
+        ensures range { result ≤ 52000000 }
+    {
+        entries_come_in_order();
+        let _ = &self.settings;
+        self.minute_of(reading)
+    }
+
+    /// An open draft, of which a product may be made.
+    fn sound_draft_at(&self, id: u32) -> Option<&Draft>
+        ensures value { option_map (λ d. d.now) result ≡ draft_at self.now.state id }
+        ensures sound { IfSome result (λ d. IsSoundMaking self.now.state (drafted_by (Some d.now))) }
+    {
+        open_drafts_are_sound();
+        let _ = &self.settings;
+        self.draft_at(id)
+    }
+
+    /// The rows that are live at the reading, each as a line.
+    fn board_text(&self, alloc: Global, reading: i64) -> Result<Text, Or<Refusal>>
+        ensures shows { IfOk result (λ text. Shows self.now.state Looked.Board reading text) }
+        ensures refused { (x : Refused) → result ≡ Err (No x) → RefusesLook self.now.state Looked.Board reading x }
+    {
+        if is_out(reading) {
+            return Err(Or::No(Refusal::ClockOut { minute: reading }));
+        }
+        let shown = self.board.shown(alloc, minute_at(reading))?;
+        let mut text = List::new(alloc);
+        put_board(alloc, &mut text, shown.as_slice())?;
+        Ok(text)
+    }
+
+    /// The text that a send of the draft with this id would give.
+    fn preview(&self, alloc: Global, id: u32, reading: i64) -> Result<Text, Or<Refusal>>
+        ensures shows { IfOk result (λ text. Shows self.now.state (Looked.Preview id) reading text) }
+        ensures refused { (x : Refused) → result ≡ Err (No x) → RefusesLook self.now.state (Looked.Preview id) reading x }
+    {
+        if is_out(reading) {
+            return Err(Or::No(Refusal::ClockOut { minute: reading }));
+        }
+        let t = self.minute_to_come(reading);
+        match self.sound_draft_at(id) {
+            Some(draft) => self.make_preview(alloc, draft, t),
+            None => Err(Or::No(Refusal::NoDraft)),
+        }
+    }
+
+    /// The text of what is looked at: the board at the reading, a product as it was sent, a draft as JSON, or what a send of a draft would give now.
+    ///
+    /// # Errors
+    ///
+    /// `ClockOut` at the board and a preview, `NoProduct`, `NoDraft`, the first rule that a preview's lines or text break, or want of memory.
+    pub fn look(&self, alloc: Global, q: &Query, reading: i64) -> Result<Text, Or<Refusal>>
+        ensures shows { IfOk result (λ text. Shows self.now.state q.now reading text) }
+        ensures refused { (x : Refused) → result ≡ Err (No x) → RefusesLook self.now.state q.now reading x }
+    {
+        match q {
+            Query::Board => self.board_text(alloc, reading),
+            Query::Product(number) => product_text(alloc, self.product_at(*number)),
+            Query::After(number) => product_text(alloc, self.product_after(*number)),
+            Query::Draft(id) => found_text(alloc, self.draft_at(*id)),
+            Query::Preview(id) => self.preview(alloc, *id, reading),
+        }
+    }
+}

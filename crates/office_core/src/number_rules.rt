@@ -1,0 +1,152 @@
+//! The rules on a desk, its number and the clock, each with what the refusal names.
+ghost use Rattle.std.specs.Prelude.{◌≡◌, IfNone, false, max, nat_abs, option_map};
+ghost use Rattle.office_core.specs.Rules.{unknown_desk, reused, stale, gap, is_out, clock_out, broken_number};
+ghost use Rattle.office_core.specs.State.{said_in, said_by, last_number};
+
+use crate::heard::{Heard, Said};
+use crate::office::Office;
+use hazard_types::{Desk, Minute, Refusal};
+
+/// The last minute that a reading may be.
+const LAST_READING: i64 = 52_000_000;
+
+/// What was kept of a desk.
+fn said_in<'a>(heard: &'a [Heard], desk: &Desk) -> Option<&'a Said>
+    ensures { option_map (λ said. said.now) result ≡ said_in heard.now desk.now }
+{
+    for h in heard {
+        if h.desk.bytes() == desk.bytes() {
+            return h.said.as_ref();
+        }
+    }
+    None
+}
+
+/// Reused: the number is the last, and the request is another than the kept one.
+fn reused(last: u32, seq: u32) -> Option<Refusal>
+    ensures { result ≡ reused last seq }
+{
+    if seq == last {
+        Some(Refusal::Reused { last })
+    } else {
+        None
+    }
+}
+
+/// Stale: the number is below the last.
+fn stale(last: u32, seq: u32) -> Option<Refusal>
+    ensures { result ≡ stale last seq }
+{
+    if seq < last {
+        Some(Refusal::Stale { last })
+    } else {
+        None
+    }
+}
+
+/// Gap: the number is above the one behind the last.
+fn gap(last: u32, seq: u32) -> Option<Refusal>
+    ensures { result ≡ gap last seq }
+{
+    if u64::from(last) + 1 < u64::from(seq) {
+        Some(Refusal::Gap { last })
+    } else {
+        None
+    }
+}
+
+/// Whether a reading of the clock is below 0 or above 52,000,000.
+pub(crate) fn is_out(reading: i64) -> bool
+    ensures { result ≡ is_out reading }
+{
+    reading < 0 || LAST_READING < reading
+}
+
+/// ClockOut: the reading is below 0 or above 52,000,000.
+pub(crate) fn clock_out(reading: i64) -> Option<Refusal>
+    ensures { result ≡ clock_out reading }
+{
+    if is_out(reading) {
+        Some(Refusal::ClockOut { minute: reading })
+    } else {
+        None
+    }
+}
+
+/// The minute of a reading that is not out.
+pub(crate) fn minute_at(reading: i64) -> Minute
+    requires { is_out reading ≡ false }
+    ensures { result ≡ nat_abs reading }
+{
+    match Minute::new(reading as u32) {
+        Some(minute) => minute,
+        None => unreachable!(),
+    }
+}
+
+/// The later of two minutes.
+pub(crate) fn later(first: Minute, second: Minute) -> Minute
+    ensures { result ≡ max first second }
+{
+    if first.get() < second.get() {
+        second
+    } else {
+        first
+    }
+}
+
+impl Office {
+    /// A desk's last accepted request.
+    pub(crate) fn said_by(&self, desk: &Desk) -> Option<&Said>
+        ensures { option_map (λ said. said.now) result ≡ said_by self.now.state desk.now }
+    {
+        said_in(self.heard.as_slice(), desk)
+    }
+
+    /// A desk's last number, 0 where it has none.
+    fn last_number(&self, desk: &Desk) -> u32
+        ensures { result ≡ last_number self.now.state desk.now }
+    {
+        match self.said_by(desk) {
+            Some(said) => said.seq,
+            None => 0,
+        }
+    }
+
+    /// UnknownDesk: the desk is not in the settings.
+    pub(crate) fn unknown_desk(&self, desk: &Desk) -> Option<Refusal>
+        ensures { result ≡ unknown_desk self.now.state desk.now }
+    {
+        if self.settings.has_desk(desk) {
+            None
+        } else {
+            Some(Refusal::UnknownDesk)
+        }
+    }
+
+    /// The first rule on the desk, its number and the clock that is broken.
+    #[tactic(auto, unfolding(crate::specs::Rules::broken_number))]
+    pub(crate) fn broken_number(&self, desk: &Desk, seq: u32, reading: i64) -> Option<Refusal>
+        ensures value { result ≡ broken_number self.now.state desk.now seq reading }
+        ensures within { IfNone result (is_out reading ≡ false) }
+    {
+        let unknown = self.unknown_desk(desk);
+        if unknown.is_some() {
+            return unknown;
+        }
+        let last = self.last_number(desk);
+        let reused = reused(last, seq);
+        if reused.is_some() {
+            return reused;
+        }
+        let stale = stale(last, seq);
+        if stale.is_some() {
+            return stale;
+        }
+        let gap = gap(last, seq);
+        if gap.is_some() {
+            return gap;
+        }
+        clock_out(reading)
+    }
+}

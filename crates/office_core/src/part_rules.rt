@@ -1,0 +1,267 @@
+//! The rules on the parts of a request, each with what the refusal names.
+ghost use Rattle.std.specs.Prelude.{◌≡◌, ◌+◌, IfOk, find, option_map, true};
+ghost use Rattle.std.specs.List.Sorted.{IsStrictlySortedBy};
+ghost use Rattle.std.specs.Map.{keys_of};
+ghost use Rattle.std.specs.Option.{unwrap_or};
+ghost use Rattle.hazard_types.specs.Hazards.{facts_of};
+ghost use Rattle.hazard_types.specs.Places.{by_place};
+ghost use Rattle.action_planner.specs.Fitting.{are_zones, opens_with};
+ghost use Rattle.action_planner.specs.Lines.{follows};
+ghost use Rattle.action_planner.specs.Placed.{zones_of};
+ghost use Rattle.office_core.specs.Requests.{draft_of, hazard_of, hazard_of_target, intent_of};
+ghost use Rattle.office_core.specs.Rules.{is_unknown_zone, unknown_zone, unknown_hazard, wrong_kind, is_of_category_by, is_of_category, wrong_category, bad_zones, no_product, found_draft, broken_part};
+ghost use Rattle.office_core.specs.State.{product_in, product_at};
+
+use crate::office::Office;
+use crate::writing::{TextRule, first_text};
+use desk_settings::Settings;
+use hazard_types::desk_hazards::facts;
+use hazard_types::{Category, Draft, Hazard, Oom, Refusal, Request, Sent, Target, Zone};
+use std::alloc::Global;
+
+/// The hazard of a target; that of its event counts.
+fn hazard_of_target(target: &Target) -> Hazard
+    ensures { result ≡ hazard_of_target target.now }
+{
+    match target {
+        Target::Fresh(hazard) => *hazard,
+        Target::Join(event) => event.hazard,
+    }
+}
+
+/// The hazard of what a request puts into a draft.
+fn hazard_in(r: &Request) -> Option<Hazard>
+    ensures { result ≡ option_map hazard_of (intent_of r.now) }
+{
+    match r {
+        Request::Issue(part) => Some(hazard_of_target(&part.target)),
+        Request::Put(_, part) => Some(hazard_of_target(&part.target)),
+        Request::Finish(_, part) => Some(part.event.hazard),
+        Request::Restate(_, part) => Some(part.event.hazard),
+        Request::Routine(_, part) => Some(part.hazard),
+        _ => None,
+    }
+}
+
+/// The zones of what a request puts into a draft.
+fn zones_in(r: &Request) -> Option<&[Zone]>
+    ensures { option_map (λ zones. zones.now) result ≡ option_map zones_of (intent_of r.now) }
+{
+    match r {
+        Request::Issue(part) => Some(part.zones.as_slice()),
+        Request::Put(_, part) => Some(part.zones.as_slice()),
+        Request::Finish(_, part) => Some(part.zones.as_slice()),
+        Request::Restate(_, part) => Some(part.zones.as_slice()),
+        Request::Routine(_, part) => Some(part.zones.as_slice()),
+        _ => None,
+    }
+}
+
+/// Whether a zone may not be named: the settings lack it, and not every zone may be.
+fn is_unknown_zone(settings: &Settings, zone: &Zone) -> bool
+    requires { IsStrictlySortedBy by_place (keys_of settings.now.zones) }
+    ensures { result ≡ is_unknown_zone settings.now zone.now }
+{
+    !settings.any_zone && settings.zone_name(zone).is_none()
+}
+
+/// The first zone that may not be named.
+fn first_unknown(settings: &Settings, zones: &[Zone]) -> Option<Zone>
+    requires { IsStrictlySortedBy by_place (keys_of settings.now.zones) }
+    ensures { result ≡ find (is_unknown_zone settings.now) zones.now }
+{
+    for zone in zones {
+        if is_unknown_zone(settings, zone) {
+            return Some(*zone);
+        }
+    }
+    None
+}
+
+/// UnknownZone: the settings have no such zone.
+fn unknown_zone(settings: &Settings, r: &Request) -> Option<Refusal>
+    requires { IsStrictlySortedBy by_place (keys_of settings.now.zones) }
+    ensures { result ≡ unknown_zone settings.now (intent_of r.now) }
+{
+    let zone = first_unknown(settings, zones_in(r)?)?;
+    Some(Refusal::UnknownZone { zone })
+}
+
+/// UnknownHazard: the desk issues no such hazard.
+fn unknown_hazard(r: &Request) -> Option<Refusal>
+    ensures { result ≡ unknown_hazard (intent_of r.now) }
+{
+    let hazard = hazard_in(r)?;
+    if facts(hazard).is_none() {
+        Some(Refusal::UnknownHazard)
+    } else {
+        None
+    }
+}
+
+/// WrongZoneKind: a zone is of another kind than the hazard's.
+fn wrong_kind(r: &Request) -> Option<Refusal>
+    ensures { result ≡ wrong_kind (intent_of r.now) }
+{
+    let hazard = hazard_in(r)?;
+    let zone = action_planner::wrong_kind(&hazard, zones_in(r)?)?;
+    Some(Refusal::WrongZoneKind { zone })
+}
+
+/// Whether products of the category open new events of the hazard.
+fn opens_with(category: Category, hazard: &Hazard) -> bool
+    ensures { result ≡ opens_with category (facts_of hazard.now) }
+{
+    match facts(*hazard) {
+        Some(known) => known.opens == category,
+        None => false,
+    }
+}
+
+/// Whether products of the category follow events of the hazard.
+fn follows(category: Category, hazard: &Hazard) -> bool
+    ensures { result ≡ follows category (facts_of hazard.now) }
+{
+    match facts(*hazard) {
+        Some(known) => known.follows == category,
+        None => false,
+    }
+}
+
+/// Whether the hazard of a target is of the category.
+fn is_of_category_by(category: Category, target: &Target) -> bool
+    ensures { result ≡ is_of_category_by category target.now }
+{
+    match target {
+        Target::Fresh(hazard) => opens_with(category, hazard),
+        Target::Join(event) => follows(category, &event.hazard),
+    }
+}
+
+/// Whether the hazard of what a request puts into a draft is of the category.
+fn is_of_category(category: Category, r: &Request) -> bool
+    ensures { result ≡ unwrap_or (option_map (is_of_category category) (intent_of r.now)) true }
+{
+    match r {
+        Request::Issue(part) => is_of_category_by(category, &part.target),
+        Request::Put(_, part) => is_of_category_by(category, &part.target),
+        Request::Finish(_, part) => follows(category, &part.event.hazard),
+        Request::Restate(_, part) => follows(category, &part.event.hazard),
+        Request::Routine(_, part) => follows(category, &part.hazard),
+        _ => true,
+    }
+}
+
+/// WrongCategory: the hazard is not of the draft's category.
+fn wrong_category(r: &Request, found: Option<&Draft>) -> Option<Refusal>
+    ensures { result ≡ wrong_category (intent_of r.now) (option_map (λ d. d.now) found.entry) }
+{
+    match found {
+        Some(draft) => {
+            if is_of_category(draft.category, r) {
+                None
+            } else {
+                Some(Refusal::WrongCategory)
+            }
+        }
+        None => None,
+    }
+}
+
+/// Whether the zones are a list: at least one, at most six hundred, each once.
+fn are_zones(zones: &[Zone]) -> bool
+    ensures { result ≡ are_zones zones.now }
+{
+    action_planner::are_zones(zones)
+}
+
+/// BadZoneList: the list is empty, repeats a zone, or has more than 600.
+fn bad_zones(r: &Request) -> Option<Refusal>
+    ensures { result ≡ bad_zones (intent_of r.now) }
+{
+    let zones = zones_in(r)?;
+    if are_zones(zones) {
+        None
+    } else {
+        Some(Refusal::BadZoneList)
+    }
+}
+
+/// The product with a number: products count from 1.
+fn product_in(products: &[Sent], number: usize) -> Option<&Sent>
+    ensures { option_map (λ sent. sent.now) result ≡ product_in products.now number }
+{
+    if number == 0 {
+        None
+    } else {
+        products.get(number - 1)
+    }
+}
+
+impl Office {
+    /// The product with a number.
+    pub(crate) fn product_at(&self, number: u32) -> Option<&Sent>
+        ensures { option_map (λ sent. sent.now) result ≡ product_at self.now.state number }
+    {
+        product_in(&self.products, number as usize)
+    }
+
+    /// The first product above a number.
+    pub(crate) fn product_after(&self, number: u32) -> Option<&Sent>
+        ensures { option_map (λ sent. sent.now) result ≡ product_at self.now.state (number + 1) }
+    {
+        product_in(&self.products, number as usize + 1)
+    }
+
+    /// NoProduct: no product has this number.
+    fn no_product(&self, r: &Request) -> Option<Refusal>
+        ensures { result ≡ no_product self.now.state r.now }
+    {
+        match r {
+            Request::Correct(number, _) => {
+                if self.product_at(*number).is_none() {
+                    Some(Refusal::NoProduct)
+                } else {
+                    None
+                }
+            }
+            _ => None,
+        }
+    }
+
+    /// The first rule on the parts of a request that is broken.
+    #[tactic(auto, unfolding(crate::specs::Rules::broken_part))]
+    pub(crate) fn broken_part(&self, alloc: Global, r: &Request) -> Result<Option<Refusal>, Oom>
+        ensures { IfOk result (λ refused. refused ≡ broken_part self.now.state r.now (found_draft self.now.state (draft_of r.now))) }
+    {
+        let zone = unknown_zone(&self.settings, r);
+        if zone.is_some() {
+            return Ok(zone);
+        }
+        let hazard = unknown_hazard(r);
+        if hazard.is_some() {
+            return Ok(hazard);
+        }
+        let kind = wrong_kind(r);
+        if kind.is_some() {
+            return Ok(kind);
+        }
+        let category = wrong_category(r, self.found_draft(r));
+        if category.is_some() {
+            return Ok(category);
+        }
+        let bad = first_text(alloc, TextRule::Printable, r)?;
+        if bad.is_some() {
+            return Ok(bad);
+        }
+        let long = first_text(alloc, TextRule::Short, r)?;
+        if long.is_some() {
+            return Ok(long);
+        }
+        let zones = bad_zones(r);
+        if zones.is_some() {
+            return Ok(zones);
+        }
+        Ok(self.no_product(r))
+    }
+}
