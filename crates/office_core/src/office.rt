@@ -136,6 +136,13 @@ impl Office {
         self.edition
     }
 
+    /// How many drafts were opened.
+    pub fn opened_drafts(&self) -> u32
+        ensures { result ≡ self.now.state.begun }
+    {
+        self.begun
+    }
+
     /// How many products were sent.
     pub fn products(&self) -> u32
         ensures { result ≡ length self.now.state.products }
