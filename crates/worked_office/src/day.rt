@@ -1,9 +1,10 @@
 //! The lines of a script, answered by an office.
 use desk_settings::read_settings;
-use hazard_types::{Class, Edition, List, Oom, Or, Query, Reply, Text, read_stamp};
+use hazard_types::{Class, Edition, List, Minute, Oom, Or, Query, Reply, Text, read_stamp, stamp};
 use office_core::{Office, Ready};
 use request_json::{out_of_memory_text, read_request, refusal_text, reply_text};
 use std::alloc::Global;
+use std::str;
 
 /// The answer to a line that is none of the script's.
 const UNREAD: &[u8] = b"unread";
@@ -86,6 +87,22 @@ fn ask(alloc: Global, office: &mut Office, line: &[u8], reading: i64) -> Result<
     }
 }
 
+/// An issue of the desk A under a number, from the reading on for ten minutes.
+fn short_issue(alloc: Global, number: u32, reading: i64) -> Result<Option<String>, Oom> {
+    let Ok(minute) = u32::try_from(reading) else {
+        return Ok(None);
+    };
+    let Some(end) = Minute::new(minute.saturating_add(10)) else {
+        return Ok(None);
+    };
+    let stamp = stamp(end);
+    let end = str::from_utf8(&stamp).unwrap_or("");
+    Ok(Some(format!(
+        in alloc;
+        "{{\"desk\":\"A\",\"seq\":{number},\"do\":\"issue\",\"hazard\":\"FR.Y\",\"zones\":[\"MDZ003\"],\"begin\":\"now\",\"end\":\"{end}\"}}"
+    )?))
+}
+
 /// What is looked at; a draft is shown as a line, all else as it is.
 fn look(alloc: Global, office: &Office, query: &Query, reading: i64) -> Result<Text, Oom> {
     match office.look(alloc, query, reading) {
@@ -123,6 +140,22 @@ impl Day {
         }
     }
 
+    /// Asks for so many issues, the first under number 1, eleven minutes one after another; the last reply is told.
+    fn fill(&mut self, alloc: Global, count: &str) -> Result<Text, Oom> {
+        let (Ok(count), Some(office)) = (count.parse(), &mut self.office) else {
+            return said(alloc, UNREAD);
+        };
+        let mut last = List::new(alloc);
+        for number in 1..=count {
+            self.reading = self.reading.saturating_add(11);
+            let Some(line) = short_issue(alloc, number, self.reading)? else {
+                return said(alloc, UNREAD);
+            };
+            last = ask(alloc, office, line.as_bytes(), self.reading)?;
+        }
+        Ok(last)
+    }
+
     /// Answers a request or a look, where an office is open.
     fn answer(&mut self, alloc: Global, line: &str) -> Result<Text, Oom> {
         let reading = self.reading;
@@ -151,6 +184,9 @@ impl Day {
         }
         if let Some(edition) = line.strip_prefix("open ") {
             return self.open(alloc, edition);
+        }
+        if let Some(count) = line.strip_prefix("fill ") {
+            return self.fill(alloc, count);
         }
         if let Some(word) = line.strip_prefix("at ") {
             return match reading_of(word) {
