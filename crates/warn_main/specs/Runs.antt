@@ -16,6 +16,12 @@ pub record IsUsage (left left' taken taken' : Option (List ℕ)) (reads reads' w
   pub steady : reads' ≡ reads
   pub telling : Telling [] writes taken taken' writes' (Some Usage) status
 
+-- memory lacked for the words: nothing was read or written
+pub record IsUntouched (left left' taken taken' : Option (List ℕ)) (status : ℕ) : Type 0 where
+  pub no_memory : status ≡ 12
+  pub unread : left' ≡ left
+  pub unwritten : taken' ≡ taken
+
 -- A run of `dry` over the lines of an input of at most this many bytes.
 pub record IsDryRun (dry : Dry) (limit : ℕ) (left left' taken taken' : Option (List ℕ)) (reads reads' writes writes' status : ℕ) : Type 0 where
   pub desk : TrainingDesk
