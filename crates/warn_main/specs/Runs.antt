@@ -1,7 +1,6 @@
 -- What a run of the training desk answers.
 use Rattle.std.specs.Prelude.{◌≡◌, ℕ, List, [], Option, Some}
 use Rattle.program_ends.specs.Ends.{Telling}
-use Rattle.program_ends.specs.Lines.{fit}
 use Rattle.program_ends.specs.Runs.{IsLinesRun}
 use Rattle.program_ends.specs.declared.ends.End.TheVariants.{Usage}
 use Rattle.warn_main.specs.declared.training_desk.TrainingDesk.{TrainingDesk}

@@ -70,8 +70,8 @@ pub fn run_program<S: Source, K: Sink>(
 ) -> u8
     ensures { IsUntouched (S.left input.old) (S.left input.new) (K.taken output.old) (K.taken output.new) result
         ⊎ MatchOption (dry_words (words_behind 2 command_line.now))
-            (IsUsage (S.left input.old) (S.left input.new) (K.taken output.old) (K.taken output.new) (S.faults input.old) (S.faults input.new) (K.faults output.old) (K.faults output.new) result)
-            (λ dry. IsDryRun dry 1073741824 (S.left input.old) (S.left input.new) (K.taken output.old) (K.taken output.new) (S.faults input.old) (S.faults input.new) (K.faults output.old) (K.faults output.new) result) }
+        (IsUsage (S.left input.old) (S.left input.new) (K.taken output.old) (K.taken output.new) (S.faults input.old) (S.faults input.new) (K.faults output.old) (K.faults output.new) result)
+        (λ dry. IsDryRun dry 1073741824 (S.left input.old) (S.left input.new) (K.taken output.old) (K.taken output.new) (S.faults input.old) (S.faults input.new) (K.faults output.old) (K.faults output.new) result) }
 {
     match given_words(alloc, command_line, 2) {
         Ok(words) => desk_run(alloc, &words, input, output),
