@@ -4,37 +4,21 @@
 mod answer;
 mod desk;
 mod judge;
-mod line;
-mod run;
+mod training_desk;
 mod words;
 
 use desk_traits::{StdSink, StdSource};
-use hazard_types::{List, Oom, Text};
+use program_ends::{End, command_line};
+use std::io;
 use std::process::ExitCode;
-use std::{env, io};
-
-/// The words after the program's name and the journal's path. Words that can't be read are no words.
-fn given_words(rt: &HostRuntime) -> Result<List<Text>, Oom> {
-    let mut words = List::new(rt.alloc());
-    match env::args(rt) {
-        Ok(args) => {
-            for word in args.skip(2) {
-                words.push(List::from_slice(rt.alloc(), word.as_bytes())?)?;
-            }
-            Ok(words)
-        }
-        Err(error) if error.kind() == io::ErrorKind::OutOfMemory => Err(Oom),
-        Err(_) => Ok(words),
-    }
-}
 
 fn main(rt: HostRuntime) -> ExitCode {
-    let Ok(words) = given_words(&rt) else {
-        return ExitCode::from(12);
+    let Ok(words) = command_line(&rt) else {
+        return ExitCode::from(End::OutOfMemory.status());
     };
     let mut input = StdSource::new(rt.reader());
     let mut output = StdSink::new(io::writer(&rt));
-    let status = desk::desk_run(rt.alloc(), &words, &mut input, &mut output);
+    let status = desk::run_program(rt.alloc(), &words, &mut input, &mut output);
     ExitCode::from(status)
 }
 
