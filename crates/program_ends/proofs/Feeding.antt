@@ -1,7 +1,7 @@
 -- A chunk of bytes, fed byte by byte.
 use Rattle.std.proofs.Common.{ℕ, ◌≡◌, ◌≢◌, ◌<◌, ◌+◌, ◌==◌, List, [], ◌∷◌, ◌++◌, length, get_or, drop, refl, ap, sym, ◌∙◌, append_assoc, append-nil, Option, false, inl, inr}
 use Rattle.std.proofs.lemmas.Bool.Decides.{eqb_tells}
-use Rattle.std.proofs.lemmas.List.{drop_more, drop_all}
+use Rattle.std.proofs.lemmas.List.{drop_more}
 use Rattle.desk_traits.specs.Streams.{Adds}
 use Rattle.desk_traits.proofs.Pieces.{adds_both}
 use Rattle.program_ends.specs.declared.reading.Stop.{Stop}
@@ -9,7 +9,7 @@ use Rattle.program_ends.specs.declared.reading.Stop.TheVariants as stop
 use Rattle.program_ends.specs.Lines.{Pending, pending_of, lines_from, rest_from, without_return, fit}
 use Rattle.program_ends.specs.Runs.{Answered}
 use Rattle.program_ends.specs.Steps.{Feeds, Halts, HaltsAt, Replies}
-use Rattle.program_ends.proofs.Answering.{adds_none, answered_append, answered_one, halts_after, halts_within, halts_next, halts_before}
+use Rattle.program_ends.proofs.Answering.{adds_none, answered_append, answered_one, halts_after, halts_next, halts_before}
 
 -- i bytes of a chunk were fed, and this has come of a line: the lines that ended in them are answered, and the others are those of what is left
 pub record Fed {A : Type 0} (answers : A → Option (List ℕ) → List ℕ → A → Type 0) (a z : A) (begun chunk : List ℕ) (i : ℕ) (line : List ℕ) (taken taken' : Option (List ℕ)) : Type 0 where

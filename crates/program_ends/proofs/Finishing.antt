@@ -1,6 +1,5 @@
 -- A run over lines whose end was told.
-use Rattle.std.proofs.Common.{ℕ, ◌≡◌, ◌≢◌, List, Option, None, Some, Result, Ok, Err, IsErrOf, refl, ◌⊎◌, rules, arith}
-use Rattle.program_ends.specs.declared.ends.End.{End}
+use Rattle.std.proofs.Common.{ℕ, ◌≡◌, ◌≢◌, List, Option, Some, Result, Ok, Err, IsErrOf, refl, ◌⊎◌, rules, arith}
 use Rattle.program_ends.specs.declared.ends.End.TheVariants.{ReadFault, WriteFault}
 use Rattle.program_ends.specs.declared.reading.Stop.{Stop}
 use Rattle.program_ends.specs.declared.reading.Stop.TheVariants as stop

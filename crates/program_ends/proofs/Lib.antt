@@ -4,3 +4,4 @@ pub mod Answering
 mod Feeding
 mod Running
 mod Finishing
+mod Parts

@@ -7,10 +7,10 @@ use Rattle.desk_traits.proofs.Pieces.{adds_both, takes_both}
 use Rattle.program_ends.specs.declared.reading.Stop.{Stop}
 use Rattle.program_ends.specs.declared.reading.Stop.TheVariants as stop
 use Rattle.program_ends.specs.Lines.{Pending, pending_of, lines_from, rest_from, lines_of, ended_lines, without_return, fit}
-use Rattle.program_ends.specs.Runs.{Answered, AnswersUntil, end_in}
+use Rattle.program_ends.specs.Runs.{Answered}
 use Rattle.program_ends.specs.Steps.{Feeds, Halts, HaltsAt, Replies, Runs}
 use Rattle.program_ends.proofs.Telling.{begins_self}
-use Rattle.program_ends.proofs.Answering.{adds_none, answered_append, answered_one, halts_after, halts_within, halts_next}
+use Rattle.program_ends.proofs.Answering.{answered_append, answered_one, halts_after, halts_within, halts_next}
 
 pub lines_append : (line a b : List ℕ) → lines_from line (a ++ b) ≡ lines_from line a ++ lines_from (rest_from line a) b
 lines_append line [] b = refl

@@ -1,11 +1,11 @@
 -- How a run's end is told.
-use Rattle.std.proofs.Common.{ℕ, ◌≡◌, ◌≢◌, ◌≤◌, ◌+◌, ◌-◌, ◌^◌, min, Bool, true, false, List, [], ◌++◌, refl, ap, sym, ◌∙◌, subst, append_assoc, append-nil, Option, None, Some, Result, Ok, Err, OnErr, arith}
+use Rattle.std.proofs.Common.{ℕ, ◌≡◌, ◌≢◌, ◌≤◌, true, false, List, [], ◌++◌, refl, ap, sym, ◌∙◌, subst, append_assoc, append-nil, Option, None, Some, Result, Ok, Err, OnErr, arith}
 use Rattle.desk_traits.specs.Faults.{Rose}
 use Rattle.desk_traits.specs.Streams.{Adds}
 use Rattle.desk_traits.proofs.Pieces.{adds_both}
 use Rattle.program_ends.specs.declared.ends.End.{End}
 use Rattle.program_ends.specs.declared.ends.End.TheVariants.{Usage, SettingsRefused, AlreadyKept, NoJournal, Damaged, ReadFault, WriteFault, DiskFault, PortFault, ClockOut, OutOfMemory, InputTooLong, JournalFull}
-use Rattle.program_ends.specs.Ends.{status_of, is_write_fault, fault_line, write_fault_line, own_status, own_line, Begins, RoseTwice, IsCut, IsTold, HasWritten, Telling, AddsFront, IsTried}
+use Rattle.program_ends.specs.Ends.{status_of, is_write_fault, fault_line, write_fault_line, own_line, Begins, RoseTwice, HasWritten, Telling, AddsFront, IsTried}
 
 -- another end than a write fault has a status and a line of its own
 own : (end : End) → is_write_fault end ≡ false → (status_of end ≢ 8) × (own_line (Some end) ≡ fault_line end)

@@ -1,5 +1,6 @@
 pub mod Ends
 pub mod Lines
+pub mod Parting
 pub mod Runs
 pub mod Steps
 pub mod Words

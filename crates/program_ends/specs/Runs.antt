@@ -1,12 +1,12 @@
 -- What a run over the lines of an input reads, answers and tells.
 use Rattle.std.specs.Prelude.{◌≡◌, ◌≢◌, ◌≤◌, ◌⊎◌, ℕ, ◌+◌, ◌++◌, ◌∷◌, List, [], length, take, Option, None, Some, Result, Ok, Err}
 use Rattle.desk_traits.specs.Faults.{Rose}
-use Rattle.desk_traits.specs.Streams.{Takes, Adds, IsAtEnd}
+use Rattle.desk_traits.specs.Streams.{Takes, IsAtEnd}
 use Rattle.program_ends.specs.declared.ends.End.{End}
 use Rattle.program_ends.specs.declared.ends.End.TheVariants.{ReadFault, WriteFault, InputTooLong, OutOfMemory}
 use Rattle.program_ends.specs.declared.reading.Stop.{Stop}
 use Rattle.program_ends.specs.declared.reading.Stop.TheVariants as stop
-use Rattle.program_ends.specs.Ends.{HasWritten, Telling}
+use Rattle.program_ends.specs.Ends.{Telling}
 use Rattle.program_ends.specs.Lines.{ended_lines, lines_of, fit}
 
 -- The lines were answered one after another, each with a text and a state after it; this is all that was told, and the last state.

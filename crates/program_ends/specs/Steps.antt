@@ -4,7 +4,7 @@ use Rattle.desk_traits.specs.Faults.{Rose}
 use Rattle.desk_traits.specs.Streams.{Adds}
 use Rattle.program_ends.specs.declared.reading.Stop.{Stop}
 use Rattle.program_ends.specs.declared.reading.Stop.TheVariants as stop
-use Rattle.program_ends.specs.Ends.{Begins, AddsFront, HasWritten}
+use Rattle.program_ends.specs.Ends.{Begins, AddsFront}
 use Rattle.program_ends.specs.Lines.{Pending, pending_of, lines_from, rest_from}
 use Rattle.program_ends.specs.Runs.{Answered, LacksNext, AnswersUntil, end_in}
 

@@ -3,6 +3,7 @@
 
 mod ending;
 mod ends;
+mod laws;
 mod line;
 mod lines;
 mod reading;
@@ -10,5 +11,6 @@ mod words;
 
 pub use ending::{end_at_once, end_run};
 pub use ends::End;
+pub use laws::lines_make_up_the_input;
 pub use lines::{Answers, LIMIT, run_lines};
 pub use words::{command_line, given_words};

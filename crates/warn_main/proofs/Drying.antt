@@ -1,5 +1,5 @@
 -- A run of the training desk, by the office and the minute alone.
-use Rattle.std.proofs.Common.{ℕ, ◌≡◌, ◌<◌, IsTrue, List, [], ◌∷◌, ◌++◌, refl, ap, sym, ◌∙◌, subst, Option, arith}
+use Rattle.std.proofs.Common.{ℕ, ◌≡◌, IsTrue, List, [], ◌∷◌, ◌++◌, refl, ap, sym, ◌∙◌, subst, Option}
 use Rattle.hazard_types.specs.Characters.{is_office}
 use Rattle.hazard_types.specs.Places.{Place}
 use Rattle.program_ends.specs.Lines.{fit}

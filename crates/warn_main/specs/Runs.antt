@@ -1,7 +1,6 @@
 -- What a run of the training desk answers.
 use Rattle.std.specs.Prelude.{◌≡◌, ℕ, List, [], Option, Some}
 use Rattle.program_ends.specs.Ends.{Telling}
-use Rattle.program_ends.specs.Lines.{fit}
 use Rattle.program_ends.specs.Runs.{IsLinesRun}
 use Rattle.program_ends.specs.declared.ends.End.TheVariants.{Usage}
 use Rattle.warn_main.specs.declared.training_desk.TrainingDesk.{TrainingDesk}
@@ -15,6 +14,12 @@ pub record IsUsage (left left' taken taken' : Option (List ℕ)) (reads reads' w
   pub unread : left' ≡ left
   pub steady : reads' ≡ reads
   pub telling : Telling [] writes taken taken' writes' (Some Usage) status
+
+-- memory lacked for the words: nothing was read or written
+pub record IsUntouched (left left' taken taken' : Option (List ℕ)) (status : ℕ) : Type 0 where
+  pub no_memory : status ≡ 12
+  pub unread : left' ≡ left
+  pub unwritten : taken' ≡ taken
 
 -- A run of `dry` over the lines of an input of at most this many bytes.
 pub record IsDryRun (dry : Dry) (limit : ℕ) (left left' taken taken' : Option (List ℕ)) (reads reads' writes writes' status : ℕ) : Type 0 where

@@ -8,23 +8,17 @@ mod training_desk;
 mod words;
 
 use desk_traits::{StdSink, StdSource};
-use hazard_types::{List, Oom, Text};
-use program_ends::{command_line, given_words};
+use program_ends::{End, command_line};
 use std::io;
 use std::process::ExitCode;
 
-/// The words behind the program's name and the journal's path.
-fn desk_words(rt: &HostRuntime) -> Result<List<Text>, Oom> {
-    given_words(rt.alloc(), &command_line(rt)?, 2)
-}
-
 fn main(rt: HostRuntime) -> ExitCode {
-    let Ok(words) = desk_words(&rt) else {
-        return ExitCode::from(12);
+    let Ok(words) = command_line(&rt) else {
+        return ExitCode::from(End::OutOfMemory.status());
     };
     let mut input = StdSource::new(rt.reader());
     let mut output = StdSink::new(io::writer(&rt));
-    let status = desk::desk_run(rt.alloc(), &words, &mut input, &mut output);
+    let status = desk::run_program(rt.alloc(), &words, &mut input, &mut output);
     ExitCode::from(status)
 }
 

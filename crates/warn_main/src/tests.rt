@@ -1,5 +1,5 @@
 //! Runs over sources and sinks that give a byte at a time and fail in turn.
-ghost use Rattle.std.specs.Prelude.{Some};
+ghost use Rattle.std.specs.Prelude.{◌<◌, Some};
 
 use crate::desk::desk_within;
 use desk_traits::{Failed, MemSink, MemSource, Sink};

@@ -1,4 +1,4 @@
-use Rattle.std.proofs.Common.{◌≡◌, ◌≤◌, ◌+◌, ◌∙◌, [], ap, arith, length, take, List, ℕ, Option, refl, Ok}
+use Rattle.std.proofs.Common.{◌≡◌, ◌≤◌, ◌+◌, ◌∙◌, [], ap, arith, length, take, ℕ, refl, Ok}
 use Rattle.std.proofs.lemmas.List.{length-take}
 use Rattle.program_ends.specs.Lines.{rest_from}
 use Rattle.program_ends.proofs.Running.{stops_by, front_part, ran_next, ends_read, ends_reply, ends_within, ends_long}

@@ -1,5 +1,4 @@
-use Rattle.std.proofs.Common.{◌≡◌, ◌∙◌, ◌++◌, ◌∷◌, [], List, ℕ, Option, get_or}
-use Rattle.program_ends.specs.Lines.{pending_of}
+use Rattle.std.proofs.Common.{◌∙◌, ◌++◌, ◌∷◌, [], get_or}
 use Rattle.program_ends.proofs.Feeding.{fed_end, fed_byte, fed_halts}
 use Rattle.program_ends.proofs.Running.{stops_by}
 use Rattle.program_ends.proofs.lines.feed.Goals as goal

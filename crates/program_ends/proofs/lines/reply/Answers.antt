@@ -1,4 +1,4 @@
-use Rattle.std.proofs.Common.{◌∙◌, refl, inr, sym, ap, take, drop, List, ℕ}
+use Rattle.std.proofs.Common.{◌∙◌, refl, inr, sym, take, drop}
 use Rattle.std.proofs.lemmas.List.{take-append-drop}
 use Rattle.program_ends.proofs.lines.reply.Goals as goal
 

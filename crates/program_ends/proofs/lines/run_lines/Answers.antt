@@ -1,4 +1,4 @@
-use Rattle.std.proofs.Common.{ap, sym, Ok, Err, Some, subst}
+use Rattle.std.proofs.Common.{sym, Ok, Err, Some, subst}
 use Rattle.program_ends.specs.declared.ends.End.{End}
 use Rattle.program_ends.specs.Ends.{HasWritten, Telling}
 use Rattle.program_ends.proofs.Finishing.{has_written, run_told}
