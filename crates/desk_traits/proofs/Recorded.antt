@@ -1,11 +1,13 @@
 -- The calls of a disk in memory, one more each time.
-use Rattle.std.proofs.Common.{◌≡◌, ◌⊎◌, inl, inr, ⊎_elim, ℕ, ◌+◌, ◌≤◌, ◌<◌, Bool, true, false, cond, leb, List, [], ◌∷◌, ◌++◌, length, take, drop, Some, refl, sym, ◌∙◌, ap, subst, arith, length-append, leb-true, le-leb, ◌-◌, drop-drop, append-nil}
+use Rattle.std.proofs.Common.{◌≡◌, ◌⊎◌, inl, inr, ⊎_elim, ℕ, ◌+◌, ◌≤◌, ◌<◌, Bool, true, false, cond, leb, List, [], ◌∷◌, ◌++◌, length, take, drop, Some, refl, sym, ◌∙◌, ap, subst, arith, length-append, leb-true, le-leb, ◌-◌, ◌/◌, ◌%◌, ◌==◌, replicate, length-take, drop-drop, append-nil, Result, Ok, Err, OnOk, OnErr}
 use borrow.Author.Tests.{leb-false}
-use Rattle.std.proofs.lemmas.List.{take_all, take-append-le}
+use Rattle.std.proofs.lemmas.List.{take_all, take-append-le, length-replicate}
 use Rattle.desk_traits.specs.Crash.{Passes}
 use Rattle.desk_traits.specs.File.{Torn, Same}
-use Rattle.desk_traits.specs.DiskMemory.{written, next, replay, after_call, StepOf, leaves, MayLeave, LeftSince, is_write, is_synced, synced_at, Noted}
+use Rattle.desk_traits.specs.DiskMemory.{written, next, replay, after_call, leaves, MayLeave, LeftSince, is_write, is_synced, synced_at, torn_to, crash_after, crash_by, picked}
+use Rattle.desk_traits.specs.DiskTold.{Comes}
 use Rattle.desk_traits.specs.DiskMemoryLaws.{torn_not, torn_put, seen_left}
+use Rattle.desk_traits.specs.declared.disk_crash.Crashed.{Crashed}
 use Rattle.desk_traits.specs.declared.disk_record.DiskCall.{DiskCall}
 use Rattle.desk_traits.specs.declared.disk_record.DiskCall.TheVariants.{Looked, Read, Wrote, Synced, LookFailed, ReadFailed, WriteFailed, SyncFailed}
 
@@ -92,11 +94,12 @@ pub goes_quiet : (first first' : List ℕ) (calls new : List DiskCall) (call : D
 goes_quiet first first' calls new call quiet e is =
     goes_push Same first first' calls calls new call (λ c. refl) (quiet_steps call (replay first calls) (MayLeave first calls) quiet (seen_left first (λ d. d ≡ first) calls refl)) e refl is
 
--- a call that is no good write, and a failed one
-pub goes_noted : (first first' : List ℕ) (calls new : List DiskCall) (good failed : DiskCall) (b : Bool) → is_write good ≡ false → is_write failed ≡ false → first' ≡ first → Noted calls new good failed b → Goes Same first first' calls new
-goes_noted first first' calls new good failed true quiet quiet' e is = goes_quiet first first' calls new good quiet e is
-goes_noted first first' calls new good failed false quiet quiet' e is =
-    ⊎_elim (λ noted. goes_quiet first first' calls new failed quiet' e noted) (λ not. goes_not Same first first' calls calls new (λ c. refl) e refl not) is
+-- what came of a call that is no good write
+pub goes_noted : (told : Type 0) (first first' : List ℕ) (calls new : List DiskCall) (good failed : DiskCall) (lacked lacked' b : Bool) → is_write good ≡ false → is_write failed ≡ false → first' ≡ first → Comes told calls new good failed lacked lacked' b → Goes Same first first' calls new
+goes_noted told first first' calls new good failed lacked lacked' true quiet quiet' e comes =
+    ⊎_elim (λ is. goes_quiet first first' calls new good quiet e is.noted) (λ not. goes_not Same first first' calls calls new (λ c. refl) e refl not.unnoted) comes
+goes_noted told first first' calls new good failed lacked lacked' false quiet quiet' e comes =
+    ⊎_elim (λ is. goes_quiet first first' calls new failed quiet' e is.noted) (λ not. goes_not Same first first' calls calls new (λ c. refl) e refl not.unnoted) comes
 
 -- what a read gives goes on as the record says
 next_quiet : (call : DiskCall) (file : List ℕ) → is_write call ≡ false → next call file ≡ file
@@ -124,6 +127,12 @@ kept_wrote first old file calls new at b le kept same file_is =
     ∙ sym (ap (λ (t : Bool). cond t (take at old ++ (b ++ drop (at + length b) old)) old) (le-leb at (length old) le))
     ∙ ap (written at b) kept
     ∙ sym (ap (replay first) same ∙ replay-push first calls (Wrote at b))
+
+-- after a write, which may have changed nothing
+pub kept_put : {T E : Type 0} (r : Result T E) (first old file : List ℕ) (calls new : List DiskCall) (at : ℕ) (b : List ℕ) → at ≤ length old → old ≡ replay first calls
+    → OnOk r (file ≡ take at old ++ (b ++ drop (at + length b) old)) → OnOk r (new ≡ calls ++ Wrote at b ∷ []) → OnErr r (file ≡ old) → OnErr r (new ≡ calls) → file ≡ replay first new
+kept_put (Ok x) first old file calls new at b le kept file_is calls_are same same_calls = kept_wrote first old file calls new at b le kept calls_are file_is
+kept_put (Err e) first old file calls new at b le kept file_is calls_are same same_calls = same ∙ kept ∙ sym (ap (replay first) same_calls)
 
 -- a failed write, which may not be noted for want of memory
 pub goes_failed : (first first' : List ℕ) (calls calls' new : List DiskCall) (at : ℕ) (bytes : List ℕ) (noted : Bool) → first' ≡ first → calls' ≡ calls → new ≡ cond noted (calls' ++ WriteFailed at bytes ∷ []) calls'
@@ -164,9 +173,17 @@ synced_other calls calls' new call not e is =
 pub synced_not : (calls calls' new : List DiskCall) → calls' ≡ calls → new ≡ calls' → Some (synced_at 0 new) ≡ Some (synced_at 0 calls)
 synced_not calls calls' new e is = ap (λ (l : List DiskCall). Some (synced_at 0 l)) (is ∙ e)
 
-pub synced_noted : (calls new : List DiskCall) (good failed : DiskCall) (b : Bool) → is_synced good ≡ false → is_synced failed ≡ false → Noted calls new good failed b → Some (synced_at 0 new) ≡ Some (synced_at 0 calls)
-synced_noted calls new good failed true not not' is = synced_other calls calls new good not refl is
-synced_noted calls new good failed false not not' is = ⊎_elim (synced_other calls calls new failed not' refl) (synced_not calls calls new refl) is
+-- of a call that was not good
+pub synced_refused : (told : Type 0) (calls new : List DiskCall) (good failed : DiskCall) (lacked lacked' : Bool) → is_synced failed ≡ false → Comes told calls new good failed lacked lacked' false → Some (synced_at 0 new) ≡ Some (synced_at 0 calls)
+synced_refused told calls new good failed lacked lacked' not comes = ⊎_elim (λ is. synced_other calls calls new failed not refl is.noted) (λ lacking. synced_not calls calls new refl lacking.unnoted) comes
+
+pub synced_noted : (told : Type 0) (calls new : List DiskCall) (good failed : DiskCall) (lacked lacked' b : Bool) → is_synced good ≡ false → is_synced failed ≡ false → Comes told calls new good failed lacked lacked' b → Some (synced_at 0 new) ≡ Some (synced_at 0 calls)
+synced_noted told calls new good failed lacked lacked' true not not' comes = ⊎_elim (λ is. synced_other calls calls new good not refl is.noted) (λ lacking. synced_not calls calls new refl lacking.unnoted) comes
+synced_noted told calls new good failed lacked lacked' false not not' comes = synced_refused told calls new good failed lacked lacked' not' comes
+
+-- a good sync was noted
+pub noted_good : (told : Type 0) (calls new : List DiskCall) (good failed : DiskCall) (lacked lacked' : Bool) → Comes told calls new good failed lacked lacked' true → new ≡ calls ++ good ∷ []
+noted_good told calls new good failed lacked lacked' comes = ⊎_elim (λ is. is.noted) (λ lacking. absurd (let e = lacking.fails in cc)) comes
 
 pub synced_failed : (calls calls' new : List DiskCall) (at : ℕ) (bytes : List ℕ) (noted : Bool) → calls' ≡ calls → new ≡ cond noted (calls' ++ WriteFailed at bytes ∷ []) calls' → Some (synced_at 0 new) ≡ Some (synced_at 0 calls)
 synced_failed calls calls' new at bytes true e is = synced_other calls calls' new (WriteFailed at bytes) refl e is
@@ -183,31 +200,42 @@ torn_less at m n f c le torn =
       no_longer = omega (arith, torn.no_longer);
     }
 
-step_after : (call : DiskCall) (file : List ℕ) (P : List ℕ → Type 0) (d c : List ℕ) → P d → StepOf call file d c → after_call call file P c
-step_after (Wrote at bytes) file P d c p s = (d, p, s)
-step_after (WriteFailed at bytes) file P d c p s = (d, p, s)
-step_after Synced file P d c p s = s
-step_after Looked file P d c p s = subst P (sym s) p
-step_after (Read at count) file P d c p s = subst P (sym s) p
-step_after LookFailed file P d c p s = subst P (sym s) p
-step_after (ReadFailed at count) file P d c p s = subst P (sym s) p
-step_after SyncFailed file P d c p s = subst P (sym s) p
-
-leaves-more : (file : List ℕ) (P : List ℕ → Type 0) (calls : List DiskCall) (call : DiskCall) (c : List ℕ) → after_call call (replay file calls) (leaves file P calls) c → leaves file P (calls ++ call ∷ []) c
-leaves-more file P [] call c left = left
-leaves-more file P (x ∷ calls) call c left = leaves-more (next x file) (after_call x file P) calls call c left
-
-pub step_leaves : (first : List ℕ) (calls all : List DiskCall) (call : DiskCall) (seen d c : List ℕ) → all ≡ calls ++ call ∷ [] → seen ≡ replay first calls → MayLeave first calls d → StepOf call seen d c → MayLeave first all c
-step_leaves first calls all call seen d c same kept left s =
-    subst (λ (l : List DiskCall). MayLeave first l c) (sym same)
-    (leaves-more first (λ d. d ≡ first) calls call c (subst (λ (l : List ℕ). after_call call l (MayLeave first calls) c) kept (step_after call seen (MayLeave first calls) d c left s)))
-
-pub step_seen : (first : List ℕ) (calls all : List DiskCall) (call : DiskCall) (seen new : List ℕ) → all ≡ calls ++ call ∷ [] → seen ≡ replay first calls → new ≡ next call seen → new ≡ replay first all
-step_seen first calls all call seen new same kept is = is ∙ ap (next call) kept ∙ sym (ap (replay first) same ∙ replay-push first calls call)
-
 -- some bytes, no more than a range has, at its begin
 pub torn_part : (at n : ℕ) (part f new : List ℕ) → at ≤ length f → length part ≤ n → new ≡ take at f ++ (part ++ drop (at + length part) f) → Torn at n f new
 torn_part at n part f new within fewer is = torn_less at (length part) n f new fewer (subst (λ (l : List ℕ). Torn at (length part) f l) (sym is) (torn_put at part f within))
+
+torn_by : (at : ℕ) (bytes : List ℕ) (n : ℕ) (f : List ℕ) (b : Bool) → leb at (length f) ≡ b → length bytes ≤ n → Torn at n f (cond b (take at f ++ (bytes ++ drop (at + length bytes) f)) f)
+torn_by at bytes n f true e fewer = torn_part at n bytes f _ (leb-true at (length f) e) fewer refl
+torn_by at bytes n f false e fewer = torn_not at n f
+
+torn_written : (at n : ℕ) (bytes f : List ℕ) → length bytes ≤ n → Torn at n f (written at bytes f)
+torn_written at n bytes f fewer = torn_by at bytes n f (leb at (length f)) refl fewer
+
+torn_choice : (zero one two : Bool) (at n : ℕ) (a b c f : List ℕ) → length a ≤ n → length b ≤ n → length c ≤ n → Torn at n f (cond zero f (cond one (written at a f) (cond two (written at b f) (written at c f))))
+torn_choice true one two at n a b c f p q r = torn_not at n f
+torn_choice false true two at n a b c f p q r = torn_written at n a f p
+torn_choice false false true at n a b c f p q r = torn_written at n b f q
+torn_choice false false false at n a b c f p q r = torn_written at n c f r
+
+torn_chosen : (digit at : ℕ) (bytes f : List ℕ) → Torn at (length bytes) f (torn_to digit at bytes f)
+torn_chosen digit at bytes f =
+    torn_choice (digit == 0) (digit == 1) (digit == 2) at (length bytes) bytes (take (length bytes / 2) bytes) (replicate (length bytes) 71) f
+    (omega arith) (omega (arith, length-take (length bytes / 2) bytes)) (omega (arith, length-replicate {A = ℕ} (length bytes) 71))
+
+-- what the pick leaves is among what a crash may leave
+pub picked_left : (pick : ℕ) (calls : List DiskCall) (c : Crashed) (P : List ℕ → Type 0) → P c.left → leaves c.seen P calls (crash_by pick calls c).left
+picked_left pick [] c P p = p
+picked_left pick (Wrote at bytes ∷ calls) c P p = picked_left pick calls (crash_after pick (Wrote at bytes) c) (after_call (Wrote at bytes) c.seen P) (c.left, p, torn_chosen (c.digits % 4) at bytes c.left)
+picked_left pick (WriteFailed at bytes ∷ calls) c P p = picked_left pick calls (crash_after pick (WriteFailed at bytes) c) (after_call (WriteFailed at bytes) c.seen P) (c.left, p, torn_chosen (c.digits % 4) at bytes c.left)
+picked_left pick (Synced ∷ calls) c P p = picked_left pick calls (crash_after pick Synced c) (after_call Synced c.seen P) refl
+picked_left pick (Looked ∷ calls) c P p = picked_left pick calls c P p
+picked_left pick (Read at count ∷ calls) c P p = picked_left pick calls c P p
+picked_left pick (LookFailed ∷ calls) c P p = picked_left pick calls c P p
+picked_left pick (ReadFailed at count ∷ calls) c P p = picked_left pick calls c P p
+picked_left pick (SyncFailed ∷ calls) c P p = picked_left pick calls c P p
+
+pub picked_may : (first : List ℕ) (pick : ℕ) (calls : List DiskCall) (file : List ℕ) → file ≡ picked first pick calls → MayLeave first calls file
+picked_may first pick calls file is = subst (MayLeave first calls) (sym is) (picked_left pick calls (record { seen = first; left = first; digits = pick }) (λ d. d ≡ first) refl)
 
 -- a write where nothing is told
 pub untold_write : (at n : ℕ) → Passes (Torn at n) 0 0 (λ c. Unit {0}) (λ t c. Unit {0}) (λ t c. Unit {0})

@@ -1,7 +1,8 @@
 -- A disk in memory: what its calls have made of its file, and what a crash may leave.
-use Rattle.std.specs.Prelude.{◌≡◌, ◌⊎◌, ℕ, ◌+◌, ◌≤◌, Bool, true, false, List, [], ◌∷◌, ◌++◌, length, take, drop, cond, leb}
+use Rattle.std.specs.Prelude.{◌≡◌, ℕ, ◌+◌, ◌/◌, ◌%◌, ◌≤◌, ◌==◌, Bool, true, false, List, [], ◌∷◌, ◌++◌, length, take, drop, replicate, cond, leb, if◌then◌else◌}
 use Rattle.desk_traits.specs.File.{Torn}
 use Rattle.desk_traits.specs.declared.disk_record.DiskCall.{DiskCall}
+use Rattle.desk_traits.specs.declared.disk_crash.Crashed.{Crashed}
 use Rattle.desk_traits.specs.declared.disk_record.DiskCall.TheVariants.{Wrote, Synced, WriteFailed}
 
 -- the file with the bytes at this place, if that is in it
@@ -24,13 +25,6 @@ after_call (Wrote at bytes) file P c = (d : List ℕ) × P d × Torn at (length 
 after_call (WriteFailed at bytes) file P c = (d : List ℕ) × P d × Torn at (length bytes) d c
 after_call Synced file P c = c ≡ file
 after_call _ file P c = P c
-
--- what a crash may leave after a call, from one that might have been left before
-abbrev pub StepOf : DiskCall → List ℕ → List ℕ → List ℕ → Type 0
-StepOf (Wrote at bytes) file d c = Torn at (length bytes) d c
-StepOf (WriteFailed at bytes) file d c = Torn at (length bytes) d c
-StepOf Synced file d c = c ≡ file
-StepOf _ file d c = c ≡ d
 
 -- what a crash may leave after the calls
 abbrev pub leaves : List ℕ → (List ℕ → Type 0) → List DiskCall → List ℕ → Type 0
@@ -64,7 +58,22 @@ abbrev pub synced_at : ℕ → List DiskCall → List ℕ
 synced_at before [] = []
 synced_at before (call ∷ calls) = cond (is_synced call) ((before + 1) ∷ synced_at (before + 1) calls) (synced_at (before + 1) calls)
 
--- a good call is noted; a failed one too, where there was memory for the note
-abbrev pub Noted : List DiskCall → List DiskCall → DiskCall → DiskCall → Bool → Type 0
-Noted old new good failed true = new ≡ old ++ good ∷ []
-Noted old new good failed false = (new ≡ old ++ failed ∷ []) ⊎ (new ≡ old)
+-- the file with what a digit chooses of a write: nothing (0), all (1), half (2), or as many bytes `G` (3)
+abbrev pub torn_to : ℕ → ℕ → List ℕ → List ℕ → List ℕ
+torn_to digit at bytes file =
+    if digit == 0 then file else (if digit == 1 then written at bytes file else (if digit == 2 then written at (take (length bytes / 2) bytes) file else written at (replicate (length bytes) 71) file))
+
+-- A call more: each write takes a digit of the pick, from the lowest on. A good sync makes all stable, and the digits begin again.
+abbrev pub crash_after : ℕ → DiskCall → Crashed → Crashed
+crash_after pick (Wrote at bytes) c = record { seen = written at bytes c.seen; left = torn_to (c.digits % 4) at bytes c.left; digits = c.digits / 4 }
+crash_after pick (WriteFailed at bytes) c = record { seen = c.seen; left = torn_to (c.digits % 4) at bytes c.left; digits = c.digits / 4 }
+crash_after pick Synced c = record { seen = c.seen; left = c.seen; digits = pick }
+crash_after pick _ c = c
+
+abbrev pub crash_by : ℕ → List DiskCall → Crashed → Crashed
+crash_by pick [] c = c
+crash_by pick (call ∷ calls) c = crash_by pick calls (crash_after pick call c)
+
+-- what a crash after the calls leaves by the pick, of a file that was stable at first
+abbrev pub picked : List ℕ → ℕ → List DiskCall → List ℕ
+picked first pick calls = (crash_by pick calls (record { seen = first; left = first; digits = pick })).left

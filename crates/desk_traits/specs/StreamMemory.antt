@@ -1,21 +1,22 @@
 -- What sources and sinks in memory hold, and which of their calls fail.
-use Rattle.std.specs.Prelude.{ℕ, ◌+◌, ◌-◌, ◌^◌, List, min}
+use Rattle.std.specs.Prelude.{◌≡◌, ◌⊎◌, ◌↔◌, ℕ, List, Bool, true, Result, IsErr}
 
 -- a source in memory: the bytes left, the most that it gives at once, the calls that fail, how many were made, how many failed
-pub record Spring : Type 0 where
+pub record SourceInMemory : Type 0 where
   pub left : List ℕ
   pub piece : ℕ
   pub failing : List ℕ
   pub calls : ℕ
   pub faults : ℕ
 
--- a sink in memory: the bytes taken, the calls that fail, how many were made, how many failed
-pub record Basin : Type 0 where
+-- a sink in memory: the bytes taken, the calls that fail, how many were made, how many failed, and whether memory has lacked for one
+pub record SinkInMemory : Type 0 where
   pub taken : List ℕ
   pub failing : List ℕ
   pub calls : ℕ
   pub faults : ℕ
+  pub lacked : Bool
 
--- one more, up to the type's end
-abbrev pub next_count : ℕ → ℕ
-next_count n = min (n + 1) (2 ^ 64 - 1)
+-- a call fails exactly where it was told to, or memory lacked for it
+abbrev pub FailsAsTold : {T E : Type 0} → Type 0 → Bool → Bool → Result T E → Type 0
+FailsAsTold told lacked lacked' result = ((lacked' ≡ lacked) × (IsErr result ↔ told)) ⊎ ((lacked' ≡ true) × IsErr result)

@@ -1,31 +1,18 @@
 //! A disk in memory, as a disk.
-ghost use Rattle.std.specs.Prelude.{◌≡◌, ◌⊎◌, ◌≤◌, ◌<◌, ◌+◌, ◌++◌, ◌∷◌, ◌↔◌, [], ℕ, Some, false, Contains, length, take, drop, OnOk, OnErr, IfOk, IsTrue, if◌then◌else◌};
+ghost use Rattle.std.specs.Prelude.{◌≡◌, ◌⊎◌, ◌≤◌, ◌<◌, ◌+◌, ◌++◌, ◌∷◌, ◌↔◌, [], ℕ, Some, true, false, Contains, length, take, drop, OnOk, OnErr, IfOk, IsTrue, if◌then◌else◌};
 ghost use Rattle.desk_traits.specs.Crash.{Passes};
-ghost use Rattle.desk_traits.specs.Faults.{HasCause, Rose};
+ghost use Rattle.desk_traits.specs.Faults.{HasCause, Rose, next_count};
 ghost use Rattle.desk_traits.specs.File.{Torn, Same, IsWithin, Writes, Gives, IsLength, Only, Answers};
-ghost use Rattle.desk_traits.specs.DiskMemory.{next, StepOf, MayLeave, Noted, is_write};
-ghost use Rattle.desk_traits.specs.DiskTold.{told_of, calls_of, following, IsPast, IsToFail, Counts};
+ghost use Rattle.desk_traits.specs.DiskMemory.{MayLeave, is_write, picked};
+ghost use Rattle.desk_traits.specs.DiskTold.{told_of, calls_of, has_lacked, IsPast, IsToFail, Comes, Counts};
 ghost use Rattle.desk_traits.specs.declared.disk_record.DiskCall.TheVariants.{Looked, Read, Wrote, Synced, LookFailed, ReadFailed, WriteFailed, SyncFailed};
 
 use crate::disk::Disk;
+use crate::disk_crash::{picked, splice};
 use crate::disk_record::{DiskCall, MemDisk};
 use crate::faults::Failed;
 use hazard_types::{List, Oom, Text};
 use std::alloc::Global;
-
-// The file with the bytes at a place of it.
-fn splice(alloc: Global, file: &Text, at: usize, bytes: &[u8]) -> Result<Text, Oom>
-    requires { at ≤ length file.now }
-    ensures { IfOk result (λ new. new ≡ take at file.now ++ (bytes.now ++ drop (at + length bytes.now) file.now)) }
-{
-    let file = file.as_slice();
-    let mut next = file[..at].to_vec(alloc)?;
-    next.extend_from_slice(bytes)?;
-    if bytes.len() < file.len() - at {
-        next.extend_from_slice(&file[at + bytes.len()..])?;
-    }
-    Ok(List::from_vec(next))
-}
 
 // Puts the bytes at a place of the file, and notes it.
 fn put(
@@ -46,70 +33,6 @@ fn put(
     calls.push(DiskCall::Wrote { at, bytes })?;
     *file = next;
     Ok(())
-}
-
-// Leaves the file as it is, or puts the bytes there, or half of them, or as many bytes `G`.
-fn tear(alloc: Global, file: Text, at: u64, bytes: &Text, choice: u64) -> Result<Text, Oom>
-    ensures { IfOk result (λ new. Torn at (length bytes.now) file new) }
-{
-    if at > file.len() as u64 || choice == 0 {
-        return Ok(file);
-    }
-    let at = at as usize;
-    let bytes = bytes.as_slice();
-    if choice == 1 {
-        return splice(alloc, &file, at, bytes);
-    }
-    if choice == 2 {
-        return splice(alloc, &file, at, &bytes[..bytes.len() / 2]);
-    }
-    let other = vec![in alloc; b'G'; bytes.len()]?;
-    splice(alloc, &file, at, &other)
-}
-
-// What a read gives after one call.
-fn step_seen(alloc: Global, call: &DiskCall, seen: Text) -> Result<Text, Oom>
-    ensures { IfOk result (λ new. new ≡ next call.now seen) }
-{
-    match call {
-        DiskCall::Wrote { at, bytes } if *at <= seen.len() as u64 => {
-            splice(alloc, &seen, *at as usize, bytes.as_slice())
-        }
-        _ => Ok(seen),
-    }
-}
-
-// One of the files that a crash may leave after one call.
-fn step_left(
-    alloc: Global,
-    call: &DiskCall,
-    seen: &Text,
-    file: Text,
-    choice: u64,
-) -> Result<Text, Oom>
-    ensures { IfOk result (λ new. StepOf call.now seen.now file new) }
-{
-    match call {
-        DiskCall::Wrote { at, bytes } => tear(alloc, file, *at, bytes, choice),
-        DiskCall::WriteFailed { at, bytes } => tear(alloc, file, *at, bytes, choice),
-        DiskCall::Synced => Ok(seen.clone()?),
-        _ => Ok(file),
-    }
-}
-
-// One of the files that a crash after the calls may leave.
-fn replay_torn(alloc: Global, first: &Text, calls: &[DiskCall], pick: u64) -> Result<Text, Oom>
-    ensures { IfOk result (λ file. MayLeave first.now calls.now file) }
-{
-    let mut seen = first.clone()?;
-    let mut file = first.clone()?;
-    let mut pick = pick;
-    for call in calls {
-        file = step_left(alloc, call, &seen, file, pick % 4)?;
-        seen = step_seen(alloc, call, seen)?;
-        pick /= 4;
-    }
-    Ok(file)
 }
 
 // Notes a call, where there is memory for it.
@@ -141,8 +64,10 @@ fn is_to_fail(failing: &List<u64>, stop: Option<u64>, number: u64) -> bool
 
 impl MemDisk {
     /// A disk with this file, all of it stable. Calls count from 1. Those among the failing ones
-    /// fail, and each after the stop. The pick chooses what a crash leaves, in base 4 from the
-    /// first call on: of each write nothing (0), all (1), half (2), or other bytes (3).
+    /// fail, each after the stop, and each for which memory lacks. The pick chooses what a crash
+    /// leaves: read in base 4 from the lowest digit on, a digit for each write since the last good
+    /// sync, it says that nothing of the write is left (0), all (1), half (2), or as many bytes
+    /// `G` (3).
     pub fn new(
         alloc: Global,
         bytes: &[u8],
@@ -153,8 +78,9 @@ impl MemDisk {
         ensures file { IfOk result (λ disk. ⟦<MemDisk as Disk>⟧.seen disk ≡ Some bytes.now) }
         ensures stable { IfOk result (λ disk. (c : _) → ⟦<MemDisk as Disk>⟧.may_leave disk c → c ≡ bytes.now) }
         ensures faults { IfOk result (λ disk. ⟦<MemDisk as Disk>⟧.faults disk ≡ 0) }
-        ensures told { IfOk result (λ disk. told_of disk ≡ record { failing = failing.now; stop = stop; made = 0 }) }
+        ensures told { IfOk result (λ disk. told_of disk ≡ record { first = bytes.now; failing = failing.now; stop = stop; pick = pick; made = 0 }) }
         ensures calls { IfOk result (λ disk. calls_of disk ≡ []) }
+        ensures lacked { IfOk result (λ disk. has_lacked disk ≡ false) }
     {
         let first = List::from_slice(alloc, bytes)?;
         Ok(MemDisk {
@@ -167,6 +93,7 @@ impl MemDisk {
             pick,
             count: 0,
             faults: 0,
+            lacked: false,
         })
     }
 
@@ -177,58 +104,69 @@ impl MemDisk {
         &self.file
     }
 
-    /// The calls that were made, with what came of them.
+    /// The calls that were made, with what came of them, but for those for which memory lacked.
     pub fn calls(&self) -> &[DiskCall]
         ensures { result.now ≡ calls_of self.now }
     {
         &self.calls
     }
 
-    /// One of the files that a crash now may leave, by the pick.
+    /// The file that a crash now leaves by the pick.
     pub fn crashed(self) -> Result<Text, Oom>
-        ensures { IfOk result (λ file. ⟦<MemDisk as Disk>⟧.may_leave self file) }
+        ensures left { IfOk result (λ file. ⟦<MemDisk as Disk>⟧.may_leave self file) }
+        ensures chosen { IfOk result (λ file. file ≡ picked (told_of self).first (told_of self).pick (calls_of self)) }
     {
-        replay_torn(self.alloc, &self.first, &self.calls, self.pick)
+        picked(self.alloc, &self.first, self.pick, &self.calls)
     }
 
-    // Counts a call, and a fault where it is to fail.
-    fn fails(&mut self) -> bool
+    // Counts a call, and says whether it is to fail.
+    fn called(&mut self) -> bool
         ensures first { self.new.first ≡ self.old.first }
         ensures file { self.new.file ≡ self.old.file }
         ensures calls { self.new.calls ≡ self.old.calls }
-        ensures told { told_of self.new ≡ record { failing = self.old.failing; stop = self.old.stop; made = following self.old.count } }
+        ensures told { told_of self.new ≡ record { first = self.old.first; failing = self.old.failing; stop = self.old.stop; pick = self.old.pick; made = next_count self.old.count } }
         ensures fails { IsTrue result ↔ IsToFail (told_of self.old) }
-        ensures later { self.old.faults ≤ self.new.faults }
-        ensures cause { IsTrue result → Rose self.old.faults self.new.faults }
+        ensures faults { self.new.faults ≡ self.old.faults }
+        ensures lacked { self.new.lacked ≡ self.old.lacked }
     {
         self.count = self.count.saturating_add(1);
-        let fails = is_to_fail(&self.failing, self.stop, self.count);
-        if fails {
-            self.faults = self.faults.saturating_add(1);
-        }
-        fails
+        is_to_fail(&self.failing, self.stop, self.count)
     }
 
-    // Counts a call that is no good write, notes what came of it, and says whether it was good.
+    // Counts a fault, and keeps whether memory lacked for the call.
+    fn failed(&mut self, noted: bool)
+        ensures first { self.new.first ≡ self.old.first }
+        ensures file { self.new.file ≡ self.old.file }
+        ensures calls { self.new.calls ≡ self.old.calls }
+        ensures told { told_of self.new ≡ told_of self.old }
+        ensures later { self.old.faults ≤ self.new.faults }
+        ensures rose { Rose self.old.faults self.new.faults }
+        ensures lacked { self.new.lacked ≡ (if noted then self.old.lacked else true) }
+    {
+        self.faults = self.faults.saturating_add(1);
+        self.lacked = self.lacked || !noted;
+    }
+
+    // Counts and notes a call that is no good write, and says whether it was good.
     fn asked(&mut self, good: DiskCall, failed: DiskCall) -> bool
         requires good { is_write good ≡ false }
         requires failed { is_write failed ≡ false }
         ensures first { self.new.first ≡ self.old.first }
         ensures file { self.new.file ≡ self.old.file }
-        ensures calls { Noted self.old.calls.items self.new.calls.items good failed result }
-        ensures told { told_of self.new ≡ record { failing = self.old.failing; stop = self.old.stop; made = following self.old.count } }
-        ensures fails { IsToFail (told_of self.old) → result ≡ false }
+        ensures told { told_of self.new ≡ record { first = self.old.first; failing = self.old.failing; stop = self.old.stop; pick = self.old.pick; made = next_count self.old.count } }
+        ensures comes { Comes (IsToFail (told_of self.old)) self.old.calls.items self.new.calls.items good failed self.old.lacked self.new.lacked result }
         ensures later { self.old.faults ≤ self.new.faults }
         ensures cause { result ≡ false → Rose self.old.faults self.new.faults }
     {
-        if self.fails() {
-            let _ = note(&mut self.calls, failed);
+        if self.called() {
+            let noted = note(&mut self.calls, failed);
+            self.failed(noted);
             return false;
         }
         if note(&mut self.calls, good) {
             return true;
         }
-        self.faults = self.faults.saturating_add(1);
+        self.failed(false);
         false
     }
 }
@@ -301,14 +239,15 @@ impl Disk for MemDisk {
         ensures cause { HasCause (⟦<MemDisk as Disk>⟧.faults self.old) (⟦<MemDisk as Disk>⟧.faults self.new) result }
         ensures counts { Counts self.old self.new (Wrote at bytes.now) (WriteFailed at bytes.now) result }
     {
-        if self.fails() {
-            let _ = note_failed(self.alloc, &mut self.calls, at, bytes);
+        if self.called() {
+            let noted = note_failed(self.alloc, &mut self.calls, at, bytes);
+            self.failed(noted);
             return Err(Failed);
         }
         match put(self.alloc, &mut self.file, &mut self.calls, at, bytes) {
             Ok(()) => Ok(()),
             Err(_) => {
-                self.faults = self.faults.saturating_add(1);
+                self.failed(false);
                 Err(Failed)
             }
         }

@@ -30,5 +30,6 @@ pub struct MemDisk {
     pub(crate) pick: u64,
     pub(crate) count: u64,
     pub(crate) faults: u64,
+    pub(crate) lacked: bool,
     ghost kept: { file ≡ replay first calls.items },
 }

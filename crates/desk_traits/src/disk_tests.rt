@@ -45,6 +45,23 @@ fn each_kind_of_crash_comes(rt: HostRuntime) -> Result<(), Fail> {
     Ok(())
 }
 
+// Each write since the last good sync takes a digit, whatever came before: here all, and then `G`.
+#[test]
+fn digits_begin_again_at_a_sync(rt: HostRuntime) -> Result<(), Fail> {
+    let alloc = rt.alloc();
+    let failing = List::from_slice(alloc, &[])?;
+    let mut disk = MemDisk::new(alloc, b"ab", &failing, None, 13)?;
+    for _ in 0..40 {
+        assert!(rt; disk.len() == Ok(2));
+    }
+    assert!(rt; write_synced(&mut disk, 0, b"xy").is_ok());
+    assert!(rt; disk.write_at(0, b"c").is_ok());
+    assert!(rt; disk.write_at(1, b"d").is_ok());
+    let left = disk.crashed()?;
+    assert_eq!(rt; left.as_slice(), b"cG".as_slice());
+    Ok(())
+}
+
 #[test]
 fn calls_fail_as_told_and_are_kept(rt: HostRuntime) -> Result<(), Fail> {
     let alloc = rt.alloc();
@@ -78,6 +95,7 @@ fn a_sure_disk_keeps_what_fits(rt: HostRuntime) -> Result<(), Fail> {
     let mut disk = SureDisk::new(rt.alloc(), 4)?;
     let mut bytes = [b'-'; 3];
     assert!(rt; disk.write_at(2, b"xyz").is_ok());
+    assert!(rt; disk.write_at(0, b"w").is_ok());
     assert!(rt; disk.sync().is_ok());
     assert!(rt; disk.len() == Ok(4));
     assert!(rt; disk.read_at(2, &mut bytes).is_ok());

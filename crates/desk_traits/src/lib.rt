@@ -3,6 +3,7 @@
 
 mod clocks;
 mod disk;
+mod disk_crash;
 mod disk_memory;
 mod disk_real;
 mod disk_record;

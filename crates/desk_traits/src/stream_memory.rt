@@ -1,8 +1,8 @@
-//! Sources and sinks in memory, which fail at exactly the calls that they are told.
-ghost use Rattle.std.specs.Prelude.{◌≡◌, ◌≤◌, ◌↔◌, length, min, Some, IfOk, IsErr, Contains, []};
-ghost use Rattle.desk_traits.specs.Faults.{HasCause};
+//! Sources and sinks in memory, which fail at exactly the calls that they are told, and a sink where memory lacks.
+ghost use Rattle.std.specs.Prelude.{◌≡◌, ◌≤◌, ◌↔◌, length, min, Some, IfOk, OnOk, IsErr, Contains, [], false};
+ghost use Rattle.desk_traits.specs.Faults.{HasCause, next_count};
 ghost use Rattle.desk_traits.specs.Streams.{Reads, Writes};
-ghost use Rattle.desk_traits.specs.StreamMemory.{next_count};
+ghost use Rattle.desk_traits.specs.StreamMemory.{FailsAsTold};
 
 use crate::faults::Failed;
 use crate::streams::{Sink, Source};
@@ -23,9 +23,9 @@ pub struct MemSource {
 
 impl Model for MemSource {
     ghost use Rattle.std.specs.Prelude.{◌≤◌, length, drop};
-    ghost use Rattle.desk_traits.specs.StreamMemory.{Spring};
+    ghost use Rattle.desk_traits.specs.StreamMemory.{SourceInMemory};
 
-    ghost Value = { Spring };
+    ghost Value = { SourceInMemory };
 
     ghost view = { λ s. record { left = drop s.at s.bytes; piece = s.piece; failing = s.failing; calls = s.calls; faults = s.faults } };
 
@@ -58,6 +58,7 @@ impl Source for MemSource {
     fn read(&mut self, into: &mut [u8]) -> Result<usize, Failed>
         ensures bytes { Reads (Some self.old.left) (Some self.new.left) result into.new }
         ensures cause { HasCause self.old.faults self.new.faults result }
+        ensures steady { OnOk result (self.new.faults ≡ self.old.faults) }
 
         // It fails at exactly the listed calls, and gives all that a piece and the buffer may hold at the others.
         ensures failing { IsErr result ↔ Contains self.old.failing (next_count self.old.calls) }
@@ -85,27 +86,30 @@ pub struct MemSink {
     failing: List<u64>,
     calls: u64,
     faults: u64,
+    lacked: bool,
 }
 
 impl Model for MemSink {
-    ghost use Rattle.desk_traits.specs.StreamMemory.{Basin};
+    ghost use Rattle.desk_traits.specs.StreamMemory.{SinkInMemory};
 
-    ghost Value = { Basin };
+    ghost Value = { SinkInMemory };
 
-    ghost view = { λ s. record { taken = s.taken; failing = s.failing; calls = s.calls; faults = s.faults } };
+    ghost view = { λ s. record { taken = s.taken; failing = s.failing; calls = s.calls; faults = s.faults; lacked = s.lacked } };
 }
 
 impl MemSink {
     /// A sink that has taken nothing.
-    /// The calls whose numbers, counted from 1, are among the failing ones answer `Failed`.
+    /// The calls whose numbers, counted from 1, are among the failing ones answer `Failed`, and each for which
+    /// memory lacks.
     pub fn new(alloc: Global, failing: &List<u64>) -> Result<Self, Oom>
-        ensures { IfOk result (λ s. s ≡ record { taken = []; failing = failing.now; calls = 0; faults = 0 }) }
+        ensures { IfOk result (λ s. s ≡ record { taken = []; failing = failing.now; calls = 0; faults = 0; lacked = false }) }
     {
         Ok(MemSink {
             taken: List::new(alloc),
             failing: failing.clone()?,
             calls: 0,
             faults: 0,
+            lacked: false,
         })
     }
 
@@ -126,16 +130,22 @@ impl Sink for MemSink {
     fn write(&mut self, bytes: &[u8]) -> Result<usize, Failed>
         ensures bytes { Writes (Some self.old.taken) (Some self.new.taken) result bytes.now }
         ensures cause { HasCause self.old.faults self.new.faults result }
+        ensures steady { OnOk result (self.new.faults ≡ self.old.faults) }
 
-        // It fails at the listed calls, and at another where memory lacks.
-        ensures failing { Contains self.old.failing (next_count self.old.calls) → IsErr result }
+        // It fails at exactly the listed calls, and where memory lacks, and takes the whole piece at the others.
+        ensures failing { FailsAsTold (Contains self.old.failing (next_count self.old.calls)) self.old.lacked self.new.lacked result }
         ensures amount { IfOk result (λ n. n ≡ length bytes.now) }
         ensures called { self.new.calls ≡ next_count self.old.calls }
         ensures kept { self.new.failing ≡ self.old.failing }
     {
         self.calls = self.calls.saturating_add(1);
-        if self.failing.as_slice().contains(&self.calls) || self.taken.extend(bytes).is_err() {
+        if self.failing.as_slice().contains(&self.calls) {
             self.faults = self.faults.saturating_add(1);
+            return Err(Failed);
+        }
+        if self.taken.extend(bytes).is_err() {
+            self.faults = self.faults.saturating_add(1);
+            self.lacked = true;
             return Err(Failed);
         }
         Ok(bytes.len())

@@ -20,7 +20,8 @@ pub trait Source {
     /// `Failed` where nothing was read; the count of faults rose.
     fn read(&mut self, into: &mut [u8]) -> Result<usize, Failed>
         ensures bytes { Reads (left self.old) (left self.new) result into.new }
-        ensures cause { HasCause (faults self.old) (faults self.new) result };
+        ensures cause { HasCause (faults self.old) (faults self.new) result }
+        ensures steady { OnOk result (faults self.new ≡ faults self.old) };
 }
 
 /// Bytes that go out.
@@ -38,7 +39,8 @@ pub trait Sink {
     /// `Failed` where nothing was taken; the count of faults rose.
     fn write(&mut self, bytes: &[u8]) -> Result<usize, Failed>
         ensures bytes { Writes (taken self.old) (taken self.new) result bytes.now }
-        ensures cause { HasCause (faults self.old) (faults self.new) result };
+        ensures cause { HasCause (faults self.old) (faults self.new) result }
+        ensures steady { OnOk result (faults self.new ≡ faults self.old) };
 }
 
 /// Writes all the bytes, or a front of them before a fault.
@@ -50,6 +52,7 @@ pub fn write_whole<K: Sink>(sink: &mut K, bytes: &[u8]) -> Result<(), Failed>
     ensures ok { OnOk result (Adds (K.taken sink.old) (K.taken sink.new) bytes.now) }
     ensures part { (n : ℕ) × (n ≤ length bytes.now) × Adds (K.taken sink.old) (K.taken sink.new) (take n bytes.now) }
     ensures cause { HasCause (K.faults sink.old) (K.faults sink.new) result }
+    ensures steady { OnOk result (K.faults sink.new ≡ K.faults sink.old) }
 {
     let mut at = 0;
     while at < bytes.len() {

@@ -68,7 +68,7 @@ fn bodies_in(alloc: Global, file: &[u8]) -> Result<Result<usize, AdoptFault>, Oo
     }
 }
 
-// What each call of a disk chooses, if all choose the same.
+// What each write to a disk chooses, if all choose the same.
 fn every(choice: u64) -> u64
     requires { choice < 4 }
 {

@@ -1,3 +1,14 @@
 mod LookLemmas
 mod PartLemmas
 mod WritingLemmas
+mod OnceLemmas
+pub mod AgreementDecoding
+pub mod AgreementRoutine
+pub mod AgreementReading
+pub mod AgreementNumbers
+pub mod AgreementProducts
+pub mod AgreementLaws
+pub mod SoundFirst
+pub mod SoundPlans
+pub mod SoundRequests
+pub mod SoundSteps

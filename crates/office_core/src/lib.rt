@@ -4,6 +4,7 @@
 mod agreement_laws;
 mod draft_rules;
 mod heard;
+mod history_laws;
 mod looking;
 mod made;
 mod number_rules;
@@ -17,6 +18,7 @@ mod writing;
 
 pub use agreement_laws::{offices_begin_in_agreement, products_keep_the_agreement};
 pub use heard::{Heard, Said};
+pub use history_laws::{accepted_requests_are_numbered_on, requests_stand_once};
 pub use made::Made;
 pub use office::Office;
 pub use prepared::{DraftChange, Prepared, Ready};

@@ -39,23 +39,23 @@ pub unless_ok : {B E : Type 0} (t : Bool) (e : E) (r : Result B E) (b : B) → c
 unless_ok true e r b h = absurd (cc)
 unless_ok false e r b h = (refl, h)
 
-ok_or_ok : {X E : Type 0} (o : Option X) (e : E) (x : X) → ok_or o e ≡ Ok x → o ≡ Some x
+pub ok_or_ok : {X E : Type 0} (o : Option X) (e : E) (x : X) → ok_or o e ≡ Ok x → o ≡ Some x
 ok_or_ok None e x h = absurd (cc)
 ok_or_ok (Some y) e x h = cc
 
-and_then_some : {X Y : Type 0} (o : Option X) (f : X → Option Y) (y : Y) → option_and_then f o ≡ Some y → (x : X) × (o ≡ Some x) × (f x ≡ Some y)
+pub and_then_some : {X Y : Type 0} (o : Option X) (f : X → Option Y) (y : Y) → option_and_then f o ≡ Some y → (x : X) × (o ≡ Some x) × (f x ≡ Some y)
 and_then_some None f y h = absurd (cc)
 and_then_some (Some x) f y h = (x, refl, h)
 
-map_some : {X Y : Type 0} (o : Option X) (f : X → Y) (y : Y) → option_map f o ≡ Some y → (x : X) × (o ≡ Some x) × (f x ≡ y)
+pub map_some : {X Y : Type 0} (o : Option X) (f : X → Y) (y : Y) → option_map f o ≡ Some y → (x : X) × (o ≡ Some x) × (f x ≡ y)
 map_some None f y h = absurd (cc)
 map_some (Some x) f y h = (x, refl, cc)
 
-if_some : {X : Type 0} (t : Bool) (o : Option X) (x : X) → cond t o None ≡ Some x → (t ≡ true) × (o ≡ Some x)
+pub if_some : {X : Type 0} (t : Bool) (o : Option X) (x : X) → cond t o None ≡ Some x → (t ≡ true) × (o ≡ Some x)
 if_some false o x h = absurd (cc)
 if_some true o x h = (refl, h)
 
-digit_most : (c : ℕ) → is_digit c ≡ true → c ≤ 57
+pub digit_most : (c : ℕ) → is_digit c ≡ true → c ≤ 57
 digit_most c h = grind (arith, nat_tests)
 
 above_zero : (n : ℕ) → nat_lt 0 n ≡ true → nat_le 1 n ≡ true
@@ -80,7 +80,7 @@ abbrev place_with : List ℕ → Kind → Place
 place_with bytes kind = record { state = slice_index bytes 0 ∷ slice_index bytes 1 ∷ []; kind = kind; number = three_at bytes 3 }
 
 -- a text of a zone names a place
-zone_ok : (bytes : List ℕ) (p : Place) → zone_at bytes ≡ Some p → IsPlace p
+pub zone_ok : (bytes : List ℕ) (p : Place) → zone_at bytes ≡ Some p → IsPlace p
 unfolding zone_at
 zone_ok bytes p h =
     let t = zone_parts (length bytes == 6) (is_capital (slice_index bytes 0)) (is_capital (slice_index bytes 1)) (is_digit (slice_index bytes 3)) (is_digit (slice_index bytes 4)) (is_digit (slice_index bytes 5)) (nat_lt 0 (three_at bytes 3))
@@ -103,7 +103,7 @@ minute_fits : (c : Civil) → IsCivil c → minute_of c < 52596000
 unfolding minute_of
 minute_fits c is = omega (arith, days_fit c is, is.first_day, is.hour, is.minute)
 
-stamp_fits : (bytes : List ℕ) (m : ℕ) → stamp_at bytes ≡ Some m → m < 52596000
+pub stamp_fits : (bytes : List ℕ) (m : ℕ) → stamp_at bytes ≡ Some m → m < 52596000
 stamp_fits bytes m h =
     let s = (spells_exactly bytes (stamp_at bytes) refl m).0 h in
     omega (arith, minute_fits s.0 s.1, s.2)

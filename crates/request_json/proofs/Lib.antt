@@ -1,6 +1,15 @@
 pub mod Asking
 pub mod CanonicalFloats
+pub mod CanonicalPlain
+pub mod CanonicalUtf8
+pub mod CompactReading
 pub mod EachTexts
+pub mod FieldForms
+pub mod FieldsBack
 pub mod Floats
 pub mod KeysKnown
+pub mod Putting
 pub mod Reading
+pub mod RequestForms
+pub mod RequestsBack
+pub mod ValueTexts

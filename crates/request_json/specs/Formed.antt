@@ -1,5 +1,5 @@
 -- The form of what is read: the ranges of a request's values, and that its texts are UTF-8.
-use Rattle.std.specs.Prelude.{◌≡◌, ◌<◌, ◌≤◌, ◌^◌, ℕ, IsTrue, IsUtf8, List, length, Option, Some, IfSome}
+use Rattle.std.specs.Prelude.{◌≡◌, ◌<◌, ◌≤◌, ◌^◌, ℕ, IsTrue, IsUtf8, length, Some, IfSome}
 use Rattle.std.specs.List.{All}
 use Rattle.hazard_types.specs.Characters.{is_location}
 use Rattle.hazard_types.specs.Codes.{value_beside}
@@ -28,7 +28,7 @@ use Rattle.request_json.specs.declared.asked.Asked.{Asked}
 abbrev pub IsMinute : ℕ → Type 0
 IsMinute m = m < 52596000
 
--- a draft's, a product's or an intent's number
+-- the number of a draft, a product or a place
 abbrev pub IsNumber : ℕ → Type 0
 IsNumber n = n < 2 ^ 32
 

@@ -6,6 +6,7 @@ ghost use Rattle.serde_json.specs.Find.{get};
 ghost use Rattle.serde_json.specs.View.{view};
 ghost use Rattle.request_json.specs.Json.{json_of};
 ghost use Rattle.request_json.specs.Form.{given, desk_field, seq_field, verb_field, category_field, number_field, hazard_field, event_field, zones_field, begin_field, end_field, flood_or_none, flood_field, texts_or_empty, texts_field, event_texts_or_none, event_texts_field, target_field, put_on, issue_part, put_part, event_part, routine_part, draft_in, draft_request, request_in, asked_in, asked_of, training_issue_in, training_issue_of};
+ghost use Rattle.request_json.specs.Formed.{IsIssuePart, HasForm};
 
 use crate::asked::Asked;
 use crate::fields::{
@@ -327,14 +328,15 @@ fn read_json(alloc: Global, bytes: &[u8]) -> Result<Value, Or<Refusal>>
     }
 }
 
-/// Reads a request.
+/// Reads a request. What is read has the form of a request: its values are in their ranges, and its texts are UTF-8.
 ///
 /// # Errors
 ///
 /// `NotJson`, or `WrongShape` with the first field that is missing or wrong (`?` for an unknown key, `.` for a value that is no object), or want of memory.
-#[tactic(auto, unfolding(crate::specs::Form::asked_of))]
+#[tactic(auto, unfolding(crate::specs::Form::asked_of), using(crate::proofs::RequestForms::answers_have_form))]
 pub fn read_request(alloc: Global, bytes: &[u8]) -> Result<Asked, Or<Refusal>>
-    ensures { Gives result (asked_of bytes.now) }
+    ensures exact { Gives result (asked_of bytes.now) }
+    ensures form { IfOk result HasForm }
 {
     let value = read_json(alloc, bytes)?;
     asked_in(alloc, &value)
@@ -363,9 +365,10 @@ fn training_issue_in(alloc: Global, value: &Value) -> Result<PutPart, Or<Refusal
 /// # Errors
 ///
 /// As `read_request`; a line that is no `issue` has a wrong `do`.
-#[tactic(auto, unfolding(crate::specs::Form::training_issue_of))]
+#[tactic(auto, unfolding(crate::specs::Form::training_issue_of), using(crate::proofs::RequestForms::issues_have_form))]
 pub fn read_training_issue(alloc: Global, line: &[u8]) -> Result<PutPart, Or<Refusal>>
-    ensures { Gives result (training_issue_of line.now) }
+    ensures exact { Gives result (training_issue_of line.now) }
+    ensures form { IfOk result IsIssuePart }
 {
     let value = read_json(alloc, line)?;
     training_issue_in(alloc, &value)

@@ -1,9 +1,5 @@
 pub mod Shapes
-pub mod Keeping
-pub mod Feeding
-pub mod Running
-pub mod Ending
 pub mod Expiries
-pub mod Statuses
 pub mod Soundness
 pub mod Telling
+pub mod Drying

@@ -13,7 +13,7 @@ use Rattle.vtec_string.proofs.Laying.{columns_of}
 use Rattle.request_json.specs.declared.training.TrainingRefusal.{TrainingRefusal}
 use Rattle.warn_main.specs.declared.judge.Accepted.{Accepted}
 use Rattle.warn_main.specs.declared.words.Dry.{Dry}
-use Rattle.warn_main.specs.Lines.{fit}
+use Rattle.program_ends.specs.Lines.{fit}
 use Rattle.warn_main.specs.Judging.{verdict}
 use Rattle.warn_main.specs.Answers.{accepted_text, training_vtec, expiry_of, answered, is_empty, line_reply, answers}
 use Rattle.warn_main.specs.Segments.{IsSegment, Segments, none, refused, issued, accepted_in, accepted_lines, told_of, numbered_from}

@@ -16,7 +16,7 @@ use Rattle.request_json.specs.declared.training.TrainingRefusal.{TrainingRefusal
 use Rattle.request_json.specs.declared.training.TrainingRefusal.TheVariants.{LineTooLong, NotJson, WrongShape, NotBuilt, ClockOut, BadPeriod}
 use Rattle.warn_main.specs.declared.judge.Accepted.{Accepted}
 use Rattle.warn_main.specs.declared.words.Dry.{Dry}
-use Rattle.warn_main.specs.Lines.{fit, ended_lines, lines_of}
+use Rattle.program_ends.specs.Lines.{fit}
 use Rattle.warn_main.specs.Judging.{verdict}
 
 abbrev pub field_name : Field → List ℕ
@@ -83,16 +83,3 @@ line_reply dry done line = if is_empty line then ([], done) else answered dry do
 abbrev pub answers : Dry → List Place → List (List ℕ) → List ℕ
 answers dry done [] = []
 answers dry done (line ∷ lines) = (line_reply dry done (fit line)).0 ++ answers dry (line_reply dry done (fit line)).1 lines
-
--- the zones that are accepted after the lines
-abbrev pub zones_after : Dry → List Place → List (List ℕ) → List Place
-zones_after dry done [] = done
-zones_after dry done (line ∷ lines) = zones_after dry (line_reply dry done (fit line)).1 lines
-
--- the answers to all the lines of these bytes
-abbrev pub answers_to : Dry → List ℕ → List ℕ
-answers_to dry bytes = answers dry [] (lines_of bytes)
-
--- the answers to the lines that an LF ends within these bytes
-abbrev pub answers_so_far : Dry → List ℕ → List ℕ
-answers_so_far dry bytes = answers dry [] (ended_lines bytes)

@@ -1,6 +1,6 @@
 pub mod Words
-pub mod Lines
 pub mod Judging
 pub mod Answers
 pub mod Segments
+pub mod Desk
 pub mod Runs

@@ -9,7 +9,7 @@ use Rattle.vtec_string.specs.Columns.{IsVtec}
 use Rattle.request_json.specs.declared.training.TrainingRefusal.{TrainingRefusal}
 use Rattle.warn_main.specs.declared.judge.Accepted.{Accepted}
 use Rattle.warn_main.specs.declared.words.Dry.{Dry}
-use Rattle.warn_main.specs.Lines.{fit}
+use Rattle.program_ends.specs.Lines.{fit}
 use Rattle.warn_main.specs.Judging.{verdict}
 use Rattle.warn_main.specs.Answers.{refusal_text, training_vtec, expiry_of, is_empty, line_reply}
 

@@ -6,10 +6,12 @@ ghost use Rattle.hazard_types.specs.Characters.{is_office};
 ghost use Rattle.warn_main.specs.Answers.{field_name, part_name, refusal_text, accepted_text, expiry_of, is_empty, line_reply};
 
 use crate::judge::{Accepted, verdict};
+use crate::training_desk::TrainingDesk;
 use crate::words::Dry;
 use hazard_types::{
     Action, Class, DayStamp, Hazard, List, Minute, Oom, Or, Phen, Sig, Text, Vtec, Zone, civil_of,
 };
+use program_ends::Answers;
 use request_json::{Field, Part, TrainingRefusal};
 use std::alloc::{AllocError, Global};
 use ugc_codes::write_ugc;
@@ -140,7 +142,7 @@ fn is_empty(line: Option<&[u8]>) -> bool
 
 /// The text that answers a line; an empty line gets none. An accepted line's zone is added.
 #[tactic(auto, unfolding(crate::specs::Answers::line_reply))]
-pub fn line_reply(
+fn line_reply(
     alloc: Global,
     dry: &Dry,
     done: &mut List<Zone>,
@@ -169,5 +171,17 @@ pub fn line_reply(
             let text = refusal_text(alloc, refusal)?;
             List::from_slice(alloc, text.as_bytes())
         }
+    }
+}
+
+impl Answers for TrainingDesk {
+    ghost use Rattle.warn_main.specs.Desk.{Replies, Lacks};
+
+    ghost answers = { Replies };
+
+    ghost lacks = { Lacks };
+
+    fn answer(&mut self, alloc: Global, line: Option<&[u8]>) -> Result<Text, Oom> {
+        line_reply(alloc, &self.dry, &mut self.accepted, line)
     }
 }

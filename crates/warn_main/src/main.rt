@@ -4,32 +4,22 @@
 mod answer;
 mod desk;
 mod judge;
-mod line;
-mod run;
+mod training_desk;
 mod words;
 
 use desk_traits::{StdSink, StdSource};
 use hazard_types::{List, Oom, Text};
+use program_ends::{command_line, given_words};
+use std::io;
 use std::process::ExitCode;
-use std::{env, io};
 
-/// The words after the program's name and the journal's path. Words that can't be read are no words.
-fn given_words(rt: &HostRuntime) -> Result<List<Text>, Oom> {
-    let mut words = List::new(rt.alloc());
-    match env::args(rt) {
-        Ok(args) => {
-            for word in args.skip(2) {
-                words.push(List::from_slice(rt.alloc(), word.as_bytes())?)?;
-            }
-            Ok(words)
-        }
-        Err(error) if error.kind() == io::ErrorKind::OutOfMemory => Err(Oom),
-        Err(_) => Ok(words),
-    }
+/// The words behind the program's name and the journal's path.
+fn desk_words(rt: &HostRuntime) -> Result<List<Text>, Oom> {
+    given_words(rt.alloc(), &command_line(rt)?, 2)
 }
 
 fn main(rt: HostRuntime) -> ExitCode {
-    let Ok(words) = given_words(&rt) else {
+    let Ok(words) = desk_words(&rt) else {
         return ExitCode::from(12);
     };
     let mut input = StdSource::new(rt.reader());

@@ -1,12 +1,17 @@
 //! Runs over sources and sinks that give a byte at a time and fail in turn.
 ghost use Rattle.std.specs.Prelude.{Some};
 
-use crate::desk::desk_run;
+use crate::desk::desk_within;
 use desk_traits::{Failed, MemSink, MemSource, Sink};
 use hazard_types::{List, Oom, Text};
 use std::alloc::Global;
 use std::process::Abort;
 use std::test::Fail;
+
+const STAMP: &[u8] = b"180103T1530Z";
+
+// A limit that no input of these tests reaches.
+const AMPLE: usize = 100_000;
 
 const ISSUE: &[u8] =
     b"{\"do\":\"issue\",\"hazard\":\"WS.W\",\"zones\":[\"MDZ003\"],\"begin\":\"now\",\"end\":\"180104T0000Z\"}";
@@ -43,7 +48,10 @@ fn run_over(
     input: &[u8],
     bad_read: u64,
     bad_write: u64,
-) -> Result<Outcome, Oom> {
+    limit: usize,
+) -> Result<Outcome, Oom>
+    requires { limit < 1000000 }
+{
     let mut words = List::new(alloc);
     words.push(List::from_slice(alloc, b"dry")?)?;
     words.push(List::from_slice(alloc, b"KLWX")?)?;
@@ -51,7 +59,7 @@ fn run_over(
     let mut source = MemSource::new(alloc, input, 1, &List::from_slice(alloc, &[bad_read])?)?;
     let basin = MemSink::new(alloc, &List::from_slice(alloc, &[bad_write])?)?;
     let mut sink = Drip { basin };
-    let status = desk_run(alloc, &words, &mut source, &mut sink);
+    let status = desk_within(alloc, &words, &mut source, &mut sink, limit);
     let text = sink.basin.taken().clone()?;
     Ok(Outcome { status, text })
 }
@@ -60,15 +68,15 @@ fn run_over(
 fn lines_are_answered_a_byte_at_a_time(rt: HostRuntime) -> Result<(), Fail> {
     let alloc = rt.alloc();
     let rows: [(&[u8], &[u8], &[u8]); 6] = [
-        (b"180103T1530Z", ISSUE, TEXT),
-        (b"180103T1530Z", b"\n\r\n\n", b""),
+        (STAMP, ISSUE, TEXT),
+        (STAMP, b"\n\r\n\n", b""),
         (
-            b"180103T1530Z",
+            STAMP,
             b"{\n\r",
             b"{\"no\":\"J1\",\"rule\":\"NotJson\"}\n{\"no\":\"J1\",\"rule\":\"NotJson\"}\n",
         ),
         (
-            b"180103T1530Z",
+            STAMP,
             b"{\"do\":\"send\"}",
             b"{\"field\":\"do\",\"no\":\"J2\",\"rule\":\"WrongShape\"}\n",
         ),
@@ -84,7 +92,7 @@ fn lines_are_answered_a_byte_at_a_time(rt: HostRuntime) -> Result<(), Fail> {
         ),
     ];
     for (stamp, input, wanted) in rows {
-        let end = run_over(alloc, stamp, input, 0, 0)?;
+        let end = run_over(alloc, stamp, input, 0, 0, AMPLE)?;
         assert_eq!(rt; end.status, 0);
         assert_eq!(rt; end.text.as_slice(), wanted);
     }
@@ -101,7 +109,7 @@ fn ends_so(
     answered: usize,
     line: &[u8],
 ) -> Result<(), Fail> {
-    let end = run_over(alloc, b"180103T1530Z", ISSUE, bad_read, bad_write)?;
+    let end = run_over(alloc, STAMP, ISSUE, bad_read, bad_write, AMPLE)?;
     assert_eq!(rt; end.status, status);
     let (answer, rest) = end.text.as_slice().split_at(answered.min(end.text.len()));
     assert_eq!(rt; answer, &TEXT[..answered.min(TEXT.len())]);
@@ -126,11 +134,46 @@ fn faults_are_told(rt: HostRuntime) -> Result<(), Fail> {
             b"fault WriteFault\n",
         )?;
     }
-    let rows: [(u64, u8, &[u8]); 2] = [(0, 2, b"fault Usage\n"), (1, 8, b"")];
+    let rows: [(u64, u8, &[u8]); 2] = [(0, 2, b"fault Usage\n"), (1, 8, b"fault WriteFault\n")];
     for (bad_write, status, wanted) in rows {
-        let end = run_over(rt.alloc(), b"180103", ISSUE, 0, bad_write)?;
+        let end = run_over(rt.alloc(), b"180103", ISSUE, 0, bad_write, AMPLE)?;
         assert_eq!(rt; end.status, status);
         assert_eq!(rt; end.text.as_slice(), wanted);
     }
+    Ok(())
+}
+
+/// One byte more than the limit is too much, and its line gets no answer.
+#[test]
+fn an_input_may_be_too_long(rt: HostRuntime) -> Result<(), Fail> {
+    let alloc = rt.alloc();
+    let whole = run_over(alloc, STAMP, b"{\n{\n", 0, 0, 4)?;
+    assert_eq!(rt; whole.status, 0);
+    let cut = run_over(alloc, STAMP, b"{\n{\n", 0, 0, 3)?;
+    assert_eq!(rt; cut.status, 13);
+    assert_eq!(rt;
+        cut.text.as_slice(),
+        b"{\"no\":\"J1\",\"rule\":\"NotJson\"}\nfault InputTooLong\n".as_slice()
+    );
+    Ok(())
+}
+
+/// A line has at most 65,536 bytes, without its CR and LF.
+#[test]
+fn a_line_may_be_too_long(rt: HostRuntime) -> Result<(), Fail> {
+    let alloc = rt.alloc();
+    let mut input = vec![in alloc; b'a'; 65_536]?;
+    input.extend_from_slice(b"\r\n")?;
+    let fits = run_over(alloc, STAMP, &input, 0, 0, AMPLE)?;
+    assert_eq!(rt;
+        fits.text.as_slice(),
+        b"{\"no\":\"J1\",\"rule\":\"NotJson\"}\n".as_slice()
+    );
+    let longer = vec![in alloc; b'a'; 65_537]?;
+    let long = run_over(alloc, STAMP, &longer, 0, 0, AMPLE)?;
+    assert_eq!(rt;
+        long.text.as_slice(),
+        b"{\"no\":\"J3\",\"rule\":\"LineTooLong\"}\n".as_slice()
+    );
     Ok(())
 }

@@ -1,4 +1,4 @@
-use Rattle.std.proofs.Common.{arith}
+use Rattle.std.proofs.Common.{arith, ◌∙◌}
 use Rattle.desk_traits.proofs.Pieces.{adds_both, next_piece, piece_length}
 use Rattle.desk_traits.proofs.streams.write_whole.Goals as goal
 
@@ -8,5 +8,5 @@ loop-at-preserved g c =
     record {
       within = omega (arith, bytes.0, piece_length c.args.bytes.now c.loop-at.at);
       added = adds_both _ _ _ _ _ _ c.loop-at.invariant.added bytes.1 (next_piece c.args.bytes.now c.loop-at.at c.in_ok-at.field-0);
-      later = omega (arith, c.loop-at.invariant.later, c.in_ok-at.ensures.cause.later);
+      steady = c.in_ok-at.ensures.steady ∙ c.loop-at.invariant.steady;
     }

@@ -1,6 +1,6 @@
 use Rattle.std.proofs.Common.{◌≡◌, length, drop, ◌+◌, arith, ap, List, ℕ, Some, length-drop, length-append, sym, ◌∙◌}
 use Rattle.std.proofs.lemmas.List.{drop_all, length-take}
-use Rattle.desk_traits.specs.StreamMemory.{Spring}
+use Rattle.desk_traits.specs.StreamMemory.{SourceInMemory}
 use Rattle.desk_traits.proofs.Pieces.{read_piece, piece_length}
 use Rattle.desk_traits.proofs.stream_memory.MemSourceSource.read.Goals as goal
 
@@ -14,7 +14,7 @@ returns-clause-bytes c =
     let first : length c.copy_from_slice.new.self ≡ c.min-count.result = omega arith in
     let after = rw whole at c.copy_from_slice.ensures.after in
     let all = ap length whole in
-    let left : c.args.self.now.left ≡ drop at bytes = sym (ap (λ (s : Spring). s.left) c.self.view_is) in (
+    let left : c.args.self.now.left ≡ drop at bytes = sym (ap (λ (s : SourceInMemory). s.left) c.self.view_is) in (
       omega (arith, length-append c.copy_from_slice.new.self (drop c.min-count.result c.args.into.now)),
       ap (λ (t : List ℕ). Some t) (left ∙ read_piece bytes c.copy_from_slice.new.self _ at c.min-count.result first after),
       λ none some. drop_all (at + c.min-count.result) bytes (omega (arith, length-append c.copy_from_slice.new.self (drop c.min-count.result c.args.into.now), length-drop c.min-count.result c.args.into.now)),

@@ -1,0 +1,103 @@
+//! What a crash leaves of a file, chosen by a pick.
+ghost use Rattle.std.specs.Prelude.{◌≡◌, ◌≤◌, ◌<◌, ◌+◌, ◌++◌, length, take, drop, IfOk};
+ghost use Rattle.desk_traits.specs.DiskMemory.{written, torn_to, crash_after, picked};
+
+use crate::disk_record::DiskCall;
+use hazard_types::{List, Oom, Text};
+use std::alloc::Global;
+
+/// A file as a read gives it and as a crash leaves it, and the digits of the pick that are left.
+#[derive(Debug, Drop)]
+pub struct Crashed {
+    pub seen: Text,
+    pub left: Text,
+    pub digits: u64,
+}
+
+/// The file with the bytes at a place of it.
+pub fn splice(alloc: Global, file: &Text, at: usize, bytes: &[u8]) -> Result<Text, Oom>
+    requires { at ≤ length file.now }
+    ensures { IfOk result (λ new. new ≡ take at file.now ++ (bytes.now ++ drop (at + length bytes.now) file.now)) }
+{
+    let file = file.as_slice();
+    let mut next = file[..at].to_vec(alloc)?;
+    next.extend_from_slice(bytes)?;
+    if bytes.len() < file.len() - at {
+        next.extend_from_slice(&file[at + bytes.len()..])?;
+    }
+    Ok(List::from_vec(next))
+}
+
+// The file with the bytes at a place, if that is in it.
+fn written(alloc: Global, file: Text, at: u64, bytes: &[u8]) -> Result<Text, Oom>
+    ensures { IfOk result (λ new. new ≡ written at bytes.now file) }
+{
+    if at <= file.len() as u64 {
+        splice(alloc, &file, at as usize, bytes)
+    } else {
+        Ok(file)
+    }
+}
+
+// The file with what a digit chooses of a write.
+fn torn_to(alloc: Global, digit: u64, at: u64, bytes: &[u8], file: Text) -> Result<Text, Oom>
+    ensures { IfOk result (λ new. new ≡ torn_to digit at bytes.now file) }
+{
+    if digit == 0 {
+        return Ok(file);
+    }
+    if digit == 1 {
+        return written(alloc, file, at, bytes);
+    }
+    if digit == 2 {
+        return written(alloc, file, at, &bytes[..bytes.len() / 2]);
+    }
+    let other = vec![in alloc; b'G'; bytes.len()]?;
+    written(alloc, file, at, &other)
+}
+
+// The same after a call more.
+fn crash_after(alloc: Global, pick: u64, call: &DiskCall, crash: Crashed) -> Result<Crashed, Oom>
+    ensures { IfOk result (λ new. new ≡ crash_after pick call.now crash) }
+{
+    match call {
+        DiskCall::Wrote { at, bytes } => {
+            let Crashed { seen, left, digits } = crash;
+            let bytes = bytes.as_slice();
+            Ok(Crashed {
+                seen: written(alloc, seen, *at, bytes)?,
+                left: torn_to(alloc, digits % 4, *at, bytes, left)?,
+                digits: digits / 4,
+            })
+        }
+        DiskCall::WriteFailed { at, bytes } => {
+            let Crashed { seen, left, digits } = crash;
+            Ok(Crashed {
+                seen,
+                left: torn_to(alloc, digits % 4, *at, bytes.as_slice(), left)?,
+                digits: digits / 4,
+            })
+        }
+        DiskCall::Synced => Ok(Crashed {
+            left: crash.seen.clone()?,
+            seen: crash.seen,
+            digits: pick,
+        }),
+        _ => Ok(crash),
+    }
+}
+
+/// The file that a crash after the calls leaves by the pick.
+pub fn picked(alloc: Global, first: &Text, pick: u64, calls: &[DiskCall]) -> Result<Text, Oom>
+    ensures { IfOk result (λ file. file ≡ picked first.now pick calls.now) }
+{
+    let mut crash = Crashed {
+        seen: first.clone()?,
+        left: first.clone()?,
+        digits: pick,
+    };
+    for call in calls {
+        crash = crash_after(alloc, pick, call, crash)?;
+    }
+    Ok(crash.left)
+}

@@ -1,0 +1,106 @@
+-- Lines that are answered one after another.
+use Rattle.std.proofs.Common.{ℕ, ◌≡◌, ◌⊎◌, inl, inr, List, [], ◌∷◌, ◌++◌, refl, ap, sym, ◌∙◌, subst, append_assoc, append-nil, Option, None, Some, option_map}
+use Rattle.desk_traits.specs.Streams.{Adds}
+use Rattle.desk_traits.proofs.Pieces.{adds_both}
+use Rattle.program_ends.specs.declared.reading.Stop.{Stop}
+use Rattle.program_ends.specs.declared.reading.Stop.TheVariants as stop
+use Rattle.program_ends.specs.Ends.{Begins, AddsFront}
+use Rattle.program_ends.specs.Lines.{fit}
+use Rattle.program_ends.specs.Runs.{Answered}
+use Rattle.program_ends.specs.Steps.{Halts, HaltsAt}
+
+pub adds_none : (taken : Option (List ℕ)) → Adds taken taken []
+adds_none None = refl
+adds_none (Some t) = ap (λ (l : List ℕ). Some l) (sym (append-nil t))
+
+module _ {A : Type 0} (answers : A → Option (List ℕ) → List ℕ → A → Type 0) (lacks : A → Option (List ℕ) → A → Type 0) where
+  pub answered_append : (a b c : A) (xs ys : List (List ℕ)) (v w : List ℕ) → Answered answers a xs v b → Answered answers b ys w c → Answered answers a (xs ++ ys) (v ++ w) c
+  answered_append a b c [] ys v w p q = rw p.0 (subst (λ (s : A). Answered answers s ys w c) p.1 q)
+  answered_append a b c (x ∷ xs) ys v w p q = (p.0, p.1, p.2 ++ w, p.3, ap (λ (t : List ℕ). t ++ w) p.4 ∙ append_assoc p.0 p.2 w, answered_append p.1 b c xs ys p.2 w p.5 q)
+
+  pub answered_one : (a b : A) (line text : List ℕ) → answers a (fit line) text b → Answered answers a (line ∷ []) text b
+  answered_one a b line text h = (text, b, [], h, sym (append-nil text), (refl, refl))
+
+  pub halts_after : (a b z : A) (xs ys : List (List ℕ)) (v : List ℕ) (taken mid taken' : Option (List ℕ)) (why : Stop) → Answered answers a xs v b → Adds taken mid v → Halts answers lacks b z ys mid taken' why → Halts answers lacks a z (xs ++ ys) taken taken' why
+  halts_after a b z xs ys v taken mid taken' why p adds halts = record {
+    done = xs ++ halts.done;
+    others = halts.others;
+    told = v ++ halts.told;
+    last = halts.last;
+    written = v ++ halts.written;
+    first = ap (λ (l : List (List ℕ)). xs ++ l) halts.first ∙ sym (append_assoc xs halts.done halts.others);
+    answered = answered_append a b halts.last xs halts.done v halts.told p halts.answered;
+    adds = adds_both _ _ _ _ _ _ adds halts.adds refl;
+    begins = (halts.begins.0, ap (λ (t : List ℕ). v ++ t) halts.begins.1 ∙ sym (append_assoc v halts.written halts.begins.0));
+    no_memory = λ e. let was = halts.no_memory e in (ap (λ (t : List ℕ). v ++ t) was.0, was.1);
+    write_fault = halts.write_fault;
+    reasons = halts.reasons;
+  }
+
+  pub halts_within : (a z : A) (xs ys all : List (List ℕ)) (taken taken' : Option (List ℕ)) (why : Stop) → all ≡ xs ++ ys → Halts answers lacks a z xs taken taken' why → Halts answers lacks a z all taken taken' why
+  halts_within a z xs ys all taken taken' why is halts = record {
+    done = halts.done;
+    others = halts.others ++ ys;
+    told = halts.told;
+    last = halts.last;
+    written = halts.written;
+    first = is ∙ ap (λ (l : List (List ℕ)). l ++ ys) halts.first ∙ append_assoc halts.done halts.others ys;
+    answered = halts.answered;
+    adds = halts.adds;
+    begins = halts.begins;
+    no_memory = halts.no_memory;
+    write_fault = halts.write_fault;
+    reasons = halts.reasons;
+  }
+
+  -- at the next of the lines
+  pub halts_next : (a z : A) (line : List ℕ) (more : List (List ℕ)) (taken taken' : Option (List ℕ)) (why : Stop) → HaltsAt answers lacks a z (fit line) taken taken' why → ((why ≡ stop.OutOfMemory) ⊎ (why ≡ stop.Write)) → Halts answers lacks a z (line ∷ more) taken taken' why
+  halts_next a z line more taken taken' why at (inl memory) =
+      let was = at.no_memory memory in
+      record {
+        done = [];
+        others = line ∷ more;
+        told = [];
+        last = a;
+        written = [];
+        first = refl;
+        answered = (refl, refl);
+        adds = rw was.0 (adds_none taken);
+        begins = ([], refl);
+        no_memory = λ _. (refl, inr (fit line, was.1));
+        write_fault = λ e. absurd (cc);
+        reasons = inl memory;
+      }
+  halts_next a z line more taken taken' why at (inr write) =
+      let was = at.write_fault write in
+      record {
+        done = line ∷ [];
+        others = more;
+        told = was.0;
+        last = z;
+        written = was.2.front;
+        first = refl;
+        answered = answered_one a z line was.0 was.1;
+        adds = was.2.adds;
+        begins = was.2.begins;
+        no_memory = λ e. absurd (cc);
+        write_fault = λ _. refl;
+        reasons = inr write;
+      }
+
+  -- before the next of the lines was judged
+  pub halts_before : (a : A) (lines : List (List ℕ)) (taken : Option (List ℕ)) (why : Stop) → why ≡ stop.OutOfMemory → Halts answers lacks a a lines taken taken why
+  halts_before a lines taken why memory = record {
+    done = [];
+    others = lines;
+    told = [];
+    last = a;
+    written = [];
+    first = refl;
+    answered = (refl, refl);
+    adds = adds_none taken;
+    begins = ([], refl);
+    no_memory = λ _. (refl, inl refl);
+    write_fault = λ e. absurd (cc);
+    reasons = inl memory;
+  }

@@ -1,0 +1,89 @@
+-- A run over lines whose end was told.
+use Rattle.std.proofs.Common.{ℕ, ◌≡◌, ◌≢◌, List, Option, None, Some, Result, Ok, Err, IsErrOf, refl, ◌⊎◌, rules, arith}
+use Rattle.program_ends.specs.declared.ends.End.{End}
+use Rattle.program_ends.specs.declared.ends.End.TheVariants.{ReadFault, WriteFault}
+use Rattle.program_ends.specs.declared.reading.Stop.{Stop}
+use Rattle.program_ends.specs.declared.reading.Stop.TheVariants as stop
+use Rattle.program_ends.specs.Ends.{own_status, HasWritten, Telling}
+use Rattle.program_ends.specs.Runs.{IsLinesRun, end_in}
+use Rattle.program_ends.specs.Steps.{Runs, IsCauseOf}
+
+is_read : {T : Type 0} (r : Result T Stop) → IsErrOf r stop.Read → end_in r ≡ Some ReadFault
+is_read (Ok x) h = absurd (cc)
+is_read (Err stop.Read) h = refl
+is_read (Err stop.Write) h = absurd (cc)
+is_read (Err stop.TooLong) h = absurd (cc)
+is_read (Err stop.OutOfMemory) h = absurd (cc)
+
+read_is : {T : Type 0} (r : Result T Stop) → end_in r ≡ Some ReadFault → IsErrOf r stop.Read
+read_is (Ok x) h = absurd (cc)
+read_is (Err stop.Read) h = refl
+read_is (Err stop.Write) h = absurd (cc)
+read_is (Err stop.TooLong) h = absurd (cc)
+read_is (Err stop.OutOfMemory) h = absurd (cc)
+
+is_write : {T : Type 0} (r : Result T Stop) → IsErrOf r stop.Write → end_in r ≡ Some WriteFault
+is_write (Ok x) h = absurd (cc)
+is_write (Err stop.Read) h = absurd (cc)
+is_write (Err stop.Write) h = refl
+is_write (Err stop.TooLong) h = absurd (cc)
+is_write (Err stop.OutOfMemory) h = absurd (cc)
+
+write_is : {T : Type 0} (r : Result T Stop) → end_in r ≡ Some WriteFault → IsErrOf r stop.Write
+write_is (Ok x) h = absurd (cc)
+write_is (Err stop.Read) h = absurd (cc)
+write_is (Err stop.Write) h = refl
+write_is (Err stop.TooLong) h = absurd (cc)
+write_is (Err stop.OutOfMemory) h = absurd (cc)
+
+no_read : {T : Type 0} (r : Result T Stop) → 12 ≡ own_status (end_in r) → end_in r ≢ Some ReadFault
+no_read (Ok x) h e = absurd (cc)
+no_read (Err stop.Read) h e = omega (arith, h)
+no_read (Err stop.Write) h e = absurd (cc)
+no_read (Err stop.TooLong) h e = absurd (cc)
+no_read (Err stop.OutOfMemory) h e = absurd (cc)
+
+is_seven : {T : Type 0} (r : Result T Stop) → 7 ≡ own_status (end_in r) → IsErrOf r stop.Read
+is_seven (Ok x) h = absurd (omega (arith, h))
+is_seven (Err stop.Read) h = refl
+is_seven (Err stop.Write) h = absurd (omega (arith, h))
+is_seven (Err stop.TooLong) h = absurd (omega (arith, h))
+is_seven (Err stop.OutOfMemory) h = absurd (omega (arith, h))
+
+ends_so : {T : Type 0} (r : Result T Stop) (status : ℕ) → status ≢ 8 → status ≡ own_status (end_in r) → (IsErrOf r stop.Read → ⊥) → (status ≡ 0) ⊎ (status ≡ 12) ⊎ (status ≡ 13)
+ends_so (Ok x) status not_8 own never = search rules
+ends_so (Err stop.Read) status not_8 own never = absurd (never refl)
+ends_so (Err stop.Write) status not_8 own never = absurd (not_8 own)
+ends_so (Err stop.TooLong) status not_8 own never = search rules
+ends_so (Err stop.OutOfMemory) status not_8 own never = search rules
+
+module _ {A T : Type 0} (answers : A → Option (List ℕ) → List ℕ → A → Type 0) (lacks : A → Option (List ℕ) → A → Type 0) (limit : ℕ) (a z : A) (left left' taken mid taken' : Option (List ℕ)) (reads reads' writes between writes' : ℕ)
+    (r : Result T Stop) (status : ℕ) where
+  pub has_written : (run : Runs answers lacks limit a z left left' taken mid r) → IsCauseOf stop.Write writes between r → HasWritten run.told run.written writes between (end_in r)
+  has_written run cause = record {
+    whole = λ no. (cause.steady (λ is. no (is_write r is)), run.whole (λ is. no (is_write r is)));
+    cut = λ e. (cause.rose (write_is r e), run.begins);
+  }
+
+  pub run_told : (run : Runs answers lacks limit a z left left' taken mid r) → IsCauseOf stop.Read reads reads' r → Telling run.told writes taken taken' writes' (end_in r) status
+      → IsLinesRun answers lacks limit a z left left' taken taken' reads reads' writes writes' status
+  run_told run cause telling = record {
+    end = end_in r;
+    told = run.told;
+    run = run.run;
+    telling = telling;
+    rose = λ e. cause.rose (read_is r e);
+    steady = λ no. cause.steady (λ is. no (is_read r is));
+    read_fault = λ e.
+        let own = telling.told.others (λ q. omega (arith, e, q)) in
+        let seven : 7 ≡ own_status (end_in r) = omega (arith, e, own.0) in
+        cause.rose (is_seven r seven);
+    write_fault = λ e. (telling.told.cut e).0;
+    complete = λ no_read no_write.
+        let not_8 : status ≢ 8 = λ e. no_write (telling.told.cut e).0 in
+        ends_so r status not_8 (telling.told.others not_8).0 (λ is. no_read (cause.rose is));
+    no_memory = λ e.
+        let own = telling.told.others (λ q. omega (arith, e, q)) in
+        let twelve : 12 ≡ own_status (end_in r) = omega (arith, e, own.0) in
+        (cause.steady (λ is. no_read r twelve (is_read r is)), own.1);
+  }

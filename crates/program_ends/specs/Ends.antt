@@ -1,0 +1,113 @@
+-- How a program ends: its status, the line of its fault, and what stands in its output.
+use Rattle.std.specs.Prelude.{◌≡◌, ◌≢◌, ◌≤◌, ℕ, ◌+◌, ◌-◌, ◌^◌, min, Bool, true, false, List, [], ◌++◌, Option, None, Some, codes, decimal}
+use Rattle.desk_traits.specs.Faults.{Rose}
+use Rattle.desk_traits.specs.Streams.{Adds}
+use Rattle.program_ends.specs.declared.ends.End.{End}
+use Rattle.program_ends.specs.declared.ends.End.TheVariants.{Usage, SettingsRefused, AlreadyKept, NoJournal, Damaged, ReadFault, WriteFault, DiskFault, PortFault, ClockOut, OutOfMemory, InputTooLong, JournalFull}
+
+abbrev pub status_of : End → ℕ
+status_of Usage = 2
+status_of (SettingsRefused what) = 3
+status_of AlreadyKept = 4
+status_of NoJournal = 5
+status_of (Damaged at) = 6
+status_of ReadFault = 7
+status_of WriteFault = 8
+status_of DiskFault = 9
+status_of PortFault = 10
+status_of ClockOut = 11
+status_of OutOfMemory = 12
+status_of InputTooLong = 13
+status_of JournalFull = 14
+
+abbrev pub is_write_fault : End → Bool
+is_write_fault WriteFault = true
+is_write_fault _ = false
+
+-- the line of a fault up to its value
+abbrev pub fault_front : End → List ℕ
+fault_front Usage = codes "fault Usage"
+fault_front (SettingsRefused what) = codes "fault SettingsRefused "
+fault_front AlreadyKept = codes "fault AlreadyKept"
+fault_front NoJournal = codes "fault NoJournal"
+fault_front (Damaged at) = codes "fault Damaged "
+fault_front ReadFault = codes "fault ReadFault"
+fault_front WriteFault = codes "fault WriteFault"
+fault_front DiskFault = codes "fault DiskFault"
+fault_front PortFault = codes "fault PortFault"
+fault_front ClockOut = codes "fault ClockOut"
+fault_front OutOfMemory = codes "fault OutOfMemory"
+fault_front InputTooLong = codes "fault InputTooLong"
+fault_front JournalFull = codes "fault JournalFull"
+
+-- its value: the settings' fault and its key, or the damaged byte
+abbrev pub fault_value : End → List ℕ
+fault_value (SettingsRefused what) = what
+fault_value (Damaged at) = decimal at
+fault_value _ = []
+
+-- the line of a fault
+abbrev pub fault_line : End → List ℕ
+fault_line end = fault_front end ++ fault_value end ++ codes "\n"
+
+abbrev pub write_fault_line : List ℕ
+write_fault_line = fault_line WriteFault
+
+-- the status of a run, and the line that belongs behind what it defines; that of a write fault is told apart
+abbrev pub own_status : Option End → ℕ
+own_status None = 0
+own_status (Some end) = status_of end
+
+abbrev pub own_line : Option End → List ℕ
+own_line None = []
+own_line (Some WriteFault) = []
+own_line (Some end) = fault_line end
+
+-- the text begins with this front
+abbrev pub Begins : List ℕ → List ℕ → Type 0
+Begins front text = (rest : List ℕ) × (text ≡ front ++ rest)
+
+-- a count has risen by two, or stands at its type's end
+abbrev pub RoseTwice : ℕ → ℕ → Type 0
+RoseTwice before now = min (before + 2) (2 ^ 64 - 1) ≤ now
+
+-- what was written is a front of this text, and then a front of the line of a write fault; where the count rose by one alone, that line stands whole
+pub record IsCut (text written : List ℕ) (before now : ℕ) : Type 0 where
+  pub front : List ℕ
+  pub line : List ℕ
+  pub some : Begins front text
+  pub told : Begins line write_fault_line
+  pub parts : written ≡ front ++ line
+  pub once : ¬ RoseTwice before now → line ≡ write_fault_line
+
+-- How a run tells its end, over the bytes that are defined for it, what was written, the output's count of faults before and after, why it ended, and its status.
+pub record IsTold (defined written : List ℕ) (before now : ℕ) (end : Option End) (status : ℕ) : Type 0 where
+  -- With another status than 8 the count is as before; the bytes stand, and then exactly the line of the fault.
+  pub others : status ≢ 8 → (status ≡ own_status end) × (now ≡ before) × (written ≡ defined ++ own_line end)
+  -- With 8 the count rose, and the output was cut somewhere.
+  pub cut : status ≡ 8 → Rose before now × IsCut (defined ++ own_line end) written before now
+
+-- what a run has written when it ends: the bytes that are defined, or a front of them before a write fault, the first that was counted
+pub record HasWritten (defined written : List ℕ) (before now : ℕ) (end : Option End) : Type 0 where
+  pub whole : end ≢ Some WriteFault → (now ≡ before) × (written ≡ defined)
+  pub cut : end ≡ Some WriteFault → Rose before now × Begins written defined
+
+-- the output as it was told a run's end
+pub record Telling (defined : List ℕ) (before : ℕ) (taken taken' : Option (List ℕ)) (now : ℕ) (end : Option End) (status : ℕ) : Type 0 where
+  pub written : List ℕ
+  pub adds : Adds taken taken' written
+  pub told : IsTold defined written before now end status
+
+-- a front of the text was added
+pub record AddsFront (taken taken' : Option (List ℕ)) (text : List ℕ) : Type 0 where
+  pub front : List ℕ
+  pub begins : Begins front text
+  pub adds : Adds taken taken' front
+
+-- a line was tried once: all of it was added, or a front of it before a fault
+pub record IsTried (line : List ℕ) (taken taken' : Option (List ℕ)) (before now : ℕ) : Type 0 where
+  pub front : List ℕ
+  pub begins : Begins front line
+  pub adds : Adds taken taken' front
+  pub later : before ≤ now
+  pub whole : ¬ Rose before now → front ≡ line

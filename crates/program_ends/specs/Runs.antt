@@ -1,0 +1,66 @@
+-- What a run over the lines of an input reads, answers and tells.
+use Rattle.std.specs.Prelude.{◌≡◌, ◌≢◌, ◌≤◌, ◌⊎◌, ℕ, ◌+◌, ◌++◌, ◌∷◌, List, [], length, take, Option, None, Some, Result, Ok, Err}
+use Rattle.desk_traits.specs.Faults.{Rose}
+use Rattle.desk_traits.specs.Streams.{Takes, Adds, IsAtEnd}
+use Rattle.program_ends.specs.declared.ends.End.{End}
+use Rattle.program_ends.specs.declared.ends.End.TheVariants.{ReadFault, WriteFault, InputTooLong, OutOfMemory}
+use Rattle.program_ends.specs.declared.reading.Stop.{Stop}
+use Rattle.program_ends.specs.declared.reading.Stop.TheVariants as stop
+use Rattle.program_ends.specs.Ends.{HasWritten, Telling}
+use Rattle.program_ends.specs.Lines.{ended_lines, lines_of, fit}
+
+-- The lines were answered one after another, each with a text and a state after it; this is all that was told, and the last state.
+abbrev pub Answered : {A : Type 0} → (A → Option (List ℕ) → List ℕ → A → Type 0) → A → List (List ℕ) → List ℕ → A → Type 0
+Answered answers a [] told z = (told ≡ []) × (z ≡ a)
+Answered answers a (line ∷ lines) told z = (text : List ℕ) × (b : _) × (rest : List ℕ) × answers a (fit line) text b × (told ≡ text ++ rest) × Answered answers b lines rest z
+
+-- memory lacked for the answer to a line, or before the next line was judged
+abbrev pub LacksNext : {A : Type 0} → (A → Option (List ℕ) → A → Type 0) → A → A → Type 0
+LacksNext lacks last z = (z ≡ last) ⊎ ((line : Option (List ℕ)) × lacks last line z)
+
+-- The first lines of an input of at most this many bytes were answered until a run ended: well, or for a reason. This is all that was told, and the state after it.
+pub record AnswersUntil {A : Type 0} (answers : A → Option (List ℕ) → List ℕ → A → Type 0) (lacks : A → Option (List ℕ) → A → Type 0) (limit : ℕ) (a z : A) (left left' : Option (List ℕ)) (end : Option End) (told : List ℕ) : Type 0 where
+  pub read : List ℕ
+  pub lines : List (List ℕ)
+  pub others : List (List ℕ)
+  pub last : A
+  pub takes : Takes left left' read
+  -- One byte beyond the limit is read, and is no line's.
+  pub within : length read ≤ limit + 1
+  pub first : lines_of read ≡ lines ++ others
+  pub answered : Answered answers a lines told last
+  -- all lines, the last of which has no LF
+  pub ended : end ≡ None → IsAtEnd left' × (length read ≤ limit) × (lines ≡ lines_of read)
+  -- all lines that an LF ends
+  pub read_fault : end ≡ Some ReadFault → (length read ≤ limit) × (lines ≡ ended_lines read)
+  pub too_long : end ≡ Some InputTooLong → (length read ≡ limit + 1) × (lines ≡ ended_lines (take limit read))
+  pub state : end ≢ Some OutOfMemory → z ≡ last
+  pub no_memory : end ≡ Some OutOfMemory → LacksNext lacks last z
+  pub reasons : (end ≡ None) ⊎ (end ≡ Some ReadFault) ⊎ (end ≡ Some WriteFault) ⊎ (end ≡ Some InputTooLong) ⊎ (end ≡ Some OutOfMemory)
+
+-- A whole run over the lines of an input: what was answered, what was told of its end, and the counts of both ends before and after.
+pub record IsLinesRun {A : Type 0} (answers : A → Option (List ℕ) → List ℕ → A → Type 0) (lacks : A → Option (List ℕ) → A → Type 0) (limit : ℕ) (a z : A) (left left' taken taken' : Option (List ℕ)) (reads reads' writes writes' : ℕ) (status : ℕ) : Type 0 where
+  pub end : Option End
+  pub told : List ℕ
+  pub run : AnswersUntil answers lacks limit a z left left' end told
+  pub telling : Telling told writes taken taken' writes' end status
+  -- the input's count rose exactly where a read ended the run
+  pub rose : end ≡ Some ReadFault → Rose reads reads'
+  pub steady : end ≢ Some ReadFault → reads' ≡ reads
+  -- each fault's status comes only where that count rose, and status 12 only where none did
+  pub read_fault : status ≡ 7 → Rose reads reads'
+  pub write_fault : status ≡ 8 → Rose writes writes'
+  pub no_memory : status ≡ 12 → (reads' ≡ reads) × (writes' ≡ writes)
+  -- where no count rose the input was read to its end, or memory lacked, or it is too long
+  pub complete : ¬ Rose reads reads' → ¬ Rose writes writes' → (status ≡ 0) ⊎ (status ≡ 12) ⊎ (status ≡ 13)
+
+-- why a run over lines ended
+abbrev pub end_of : Stop → End
+end_of stop.Read = ReadFault
+end_of stop.Write = WriteFault
+end_of stop.TooLong = InputTooLong
+end_of stop.OutOfMemory = OutOfMemory
+
+abbrev pub end_in : {T : Type 0} → Result T Stop → Option End
+end_in (Ok x) = None
+end_in (Err why) = Some (end_of why)

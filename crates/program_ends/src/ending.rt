@@ -1,0 +1,86 @@
+//! The end of a run: the line of its fault, and its status.
+ghost use Rattle.std.specs.Prelude.{◌≡◌, ◌≤◌, ◌++◌, ℕ, List, Option, Some, None, OnOk, OnErr, codes, false, []};
+ghost use Rattle.desk_traits.specs.Faults.{Rose, HasCause};
+ghost use Rattle.desk_traits.specs.Streams.{Adds};
+ghost use Rattle.program_ends.specs.Ends.{is_write_fault, fault_line, write_fault_line, Telling, HasWritten, AddsFront, IsTried};
+
+use crate::ends::End;
+use desk_traits::{Failed, Sink, write_whole};
+use itoa::Buffer;
+
+// Writes two pieces, or a front of them before a fault.
+fn write_both<K: Sink>(output: &mut K, first: &[u8], second: &[u8]) -> Result<(), Failed>
+    ensures whole { OnOk result (Adds (K.taken output.old) (K.taken output.new) (first.now ++ second.now)) }
+    ensures front { OnErr result (AddsFront (K.taken output.old) (K.taken output.new) (first.now ++ second.now)) }
+    ensures cause { HasCause (K.faults output.old) (K.faults output.new) result }
+    ensures steady { OnOk result (K.faults output.new ≡ K.faults output.old) }
+{
+    write_whole(output, first)?;
+    write_whole(output, second)
+}
+
+// Writes a front, a value and LF.
+fn write_line<K: Sink>(output: &mut K, front: &[u8], value: &[u8]) -> Result<(), Failed>
+    ensures whole { OnOk result (Adds (K.taken output.old) (K.taken output.new) (front.now ++ value.now ++ codes "\n")) }
+    ensures front { OnErr result (AddsFront (K.taken output.old) (K.taken output.new) (front.now ++ value.now ++ codes "\n")) }
+    ensures cause { HasCause (K.faults output.old) (K.faults output.new) result }
+    ensures steady { OnOk result (K.faults output.new ≡ K.faults output.old) }
+{
+    write_both(output, front, value)?;
+    write_whole(output, b"\n")
+}
+
+// Writes the line of a fault, or a front of it. It takes no memory.
+fn write_fault<K: Sink>(output: &mut K, end: &End) -> Result<(), Failed>
+    ensures whole { OnOk result (Adds (K.taken output.old) (K.taken output.new) (fault_line end.now)) }
+    ensures front { OnErr result (AddsFront (K.taken output.old) (K.taken output.new) (fault_line end.now)) }
+    ensures cause { HasCause (K.faults output.old) (K.faults output.new) result }
+    ensures steady { OnOk result (K.faults output.new ≡ K.faults output.old) }
+{
+    let front = end.front().as_bytes();
+    match end {
+        End::SettingsRefused(what) => write_line(output, front, what.as_slice()),
+        End::Damaged(at) => {
+            let mut digits = Buffer::new();
+            write_line(output, front, digits.format(*at).as_bytes())
+        }
+        _ => write_line(output, front, b""),
+    }
+}
+
+// Tries the line of a write fault once.
+fn tell_write_fault<K: Sink>(output: &mut K) -> u8
+    ensures status { result ≡ 8 }
+    ensures tried { IsTried write_fault_line (K.taken output.old) (K.taken output.new) (K.faults output.old) (K.faults output.new) }
+{
+    let _ = write_fault(output, &End::WriteFault);
+    8
+}
+
+/// Ends a run that went well, or for a reason, and answers the program's status. The line of the
+/// reason is tried once. A write fault, of that line too, is told by a line of its own, which is
+/// tried once.
+pub fn end_run<K: Sink>(output: &mut K, end: Option<End>) -> u8
+    ensures { (taken : Option (List ℕ)) (before : ℕ) (defined written : List ℕ) → Adds taken (K.taken output.old) written
+        → HasWritten defined written before (K.faults output.old) end
+        → Telling defined before taken (K.taken output.new) (K.faults output.new) end result }
+{
+    let Some(end) = end else {
+        return 0;
+    };
+    if end.is_write_fault() {
+        return tell_write_fault(output);
+    }
+    match write_fault(output, &end) {
+        Ok(()) => end.status(),
+        Err(_) => tell_write_fault(output),
+    }
+}
+
+/// Ends a run that has written nothing, for a reason that is no write fault.
+pub fn end_at_once<K: Sink>(output: &mut K, end: End) -> u8
+    requires { is_write_fault end ≡ false }
+    ensures { Telling [] (K.faults output.old) (K.taken output.old) (K.taken output.new) (K.faults output.new) (Some end) result }
+{
+    end_run(output, Some(end))
+}

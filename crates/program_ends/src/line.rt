@@ -1,0 +1,102 @@
+//! The line that is being read, of which no more is kept than a line may have.
+ghost use Rattle.std.specs.Prelude.{◌≡◌, ◌++◌, ◌∷◌, [], ℕ, List, option_map, OnOk};
+ghost use Rattle.program_ends.specs.Lines.{without_return, fit, pending_of};
+
+use hazard_types::Oom;
+use std::alloc::Global;
+use std::marker::Model;
+
+/// The most bytes of a line.
+const MOST_BYTES: usize = 65_536;
+
+/// The line that is being read: its first 65,537 bytes, the last of which may be a CR that is dropped, and whether it has more.
+#[derive(Debug, Drop)]
+pub struct Line {
+    kept: Vec<u8>,
+    is_longer: bool,
+}
+
+impl Model for Line {
+    ghost use Rattle.program_ends.specs.Lines.{Pending};
+
+    ghost Value = { Pending };
+
+    ghost view = { λ l. record { kept = l.kept.items; is_longer = l.is_longer } };
+}
+
+/// A line without one CR at its end.
+fn without_return(line: &[u8]) -> &[u8]
+    ensures { result.now ≡ without_return line.now }
+{
+    if !line.is_empty() && line[line.len() - 1] == b'\r' {
+        &line[..line.len() - 1]
+    } else {
+        line
+    }
+}
+
+/// The line, unless it is too long.
+fn fit(line: &[u8]) -> Option<&[u8]>
+    ensures { option_map (λ bytes. bytes.now) result ≡ fit line.now }
+{
+    if line.len() > MOST_BYTES {
+        None
+    } else {
+        Some(line)
+    }
+}
+
+impl Line {
+    #[tactic(auto, unfolding(crate::specs::Lines::pending_of))]
+    pub fn new(alloc: Global) -> Self
+        ensures { result ≡ pending_of [] }
+    {
+        Line {
+            kept: Vec::new(alloc),
+            is_longer: false,
+        }
+    }
+
+    /// One byte more of the line.
+    pub fn push(&mut self, byte: u8) -> Result<(), Oom>
+        ensures { OnOk result ((line : List ℕ) → self.old ≡ pending_of line → self.new ≡ pending_of (line ++ byte ∷ [])) }
+    {
+        if self.kept.len() <= MOST_BYTES {
+            self.kept.push(byte)?;
+        } else {
+            self.is_longer = true;
+        }
+        Ok(())
+    }
+
+    /// The beginning of the next line.
+    #[tactic(auto, unfolding(crate::specs::Lines::pending_of))]
+    pub fn clear(&mut self)
+        ensures { self.new ≡ pending_of [] }
+    {
+        self.kept.clear();
+        self.is_longer = false;
+    }
+
+    /// The line, where an LF ended it, unless it is too long.
+    pub fn ended(&self) -> Option<&[u8]>
+        ensures { (line : List ℕ) → self.now ≡ pending_of line → option_map (λ bytes. bytes.now) result ≡ fit (without_return line) }
+    {
+        if self.is_longer {
+            None
+        } else {
+            fit(without_return(&self.kept))
+        }
+    }
+
+    /// The line, where the input's end ended it, unless it is too long.
+    pub fn unended(&self) -> Option<&[u8]>
+        ensures { (line : List ℕ) → self.now ≡ pending_of line → option_map (λ bytes. bytes.now) result ≡ fit line }
+    {
+        if self.is_longer {
+            None
+        } else {
+            fit(&self.kept)
+        }
+    }
+}

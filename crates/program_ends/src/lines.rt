@@ -1,0 +1,130 @@
+//! The run over the lines of a source.
+ghost use Rattle.std.specs.Prelude.{◌≡◌, ◌≤◌, ◌<◌, ◌+◌, ◌^◌, [], ℕ, List, Option, length, option_map, IfOk, OnOk, OnErr, IfErr};
+ghost use Rattle.program_ends.specs.Lines.{pending_of, lines_from};
+ghost use Rattle.program_ends.specs.Runs.{IsLinesRun};
+ghost use Rattle.program_ends.specs.Steps.{Feeds, Halts, Replies, HaltsAt, IsCauseOf, Runs};
+
+use crate::ending::end_run;
+use crate::ends::End;
+use crate::line::Line;
+use crate::reading::{Stop, read_front};
+use desk_traits::{Failed, Sink, Source, write_whole};
+use hazard_types::{Oom, Text};
+use std::alloc::Global;
+
+/// What answers the lines of an input, one after another.
+pub trait Answers {
+    /// A line is answered with this text, which makes this of the state. A line that is too long is handed on as nothing.
+    ghost answers: { Self → Option (List ℕ) → List ℕ → Self → Type 0 };
+
+    /// Memory lacked for the answer to a line, which made this of the state.
+    ghost lacks: { Self → Option (List ℕ) → Self → Type 0 };
+
+    /// Answers a line. An empty text is written for a line that gets no answer.
+    fn answer(&mut self, alloc: Global, line: Option<&[u8]>) -> Result<Text, Oom>
+        ensures answered { IfOk result (λ text. answers self.old (option_map (λ bytes. bytes.now) line.entry) text self.new) }
+        ensures lacked { OnErr result (lacks self.old (option_map (λ bytes. bytes.now) line.entry) self.new) };
+}
+
+// Answers the line that ended, and writes the text.
+fn reply<K: Sink, A: Answers>(
+    alloc: Global,
+    answers: &mut A,
+    line: Option<&[u8]>,
+    output: &mut K,
+) -> Result<(), Stop>
+    ensures told { OnOk result (Replies A.answers answers.old answers.new (option_map (λ bytes. bytes.now) line.entry) (K.taken output.old) (K.taken output.new)) }
+    ensures halted { IfErr result (λ why. HaltsAt A.answers A.lacks answers.old answers.new (option_map (λ bytes. bytes.now) line.entry) (K.taken output.old) (K.taken output.new) why) }
+    ensures cause { IsCauseOf Stop.Write (K.faults output.old) (K.faults output.new) result }
+{
+    let text = answers.answer(alloc, line)?;
+    match write_whole(output, text.as_slice()) {
+        Ok(()) => Ok(()),
+        Err(Failed) => Err(Stop::Write),
+    }
+}
+
+/// Answers the lines that end in a chunk, and keeps what has come of the next one.
+fn feed<K: Sink, A: Answers>(
+    alloc: Global,
+    answers: &mut A,
+    line: &mut Line,
+    chunk: &[u8],
+    output: &mut K,
+) -> Result<(), Stop>
+    ensures fed { OnOk result ((begun : List ℕ) → line.old ≡ pending_of begun
+        → Feeds A.answers answers.old answers.new begun chunk.now line.new (K.taken output.old) (K.taken output.new)) }
+    ensures halted { IfErr result (λ why. (begun : List ℕ) → line.old ≡ pending_of begun
+        → Halts A.answers A.lacks answers.old answers.new (lines_from begun chunk.now) (K.taken output.old) (K.taken output.new) why) }
+    ensures cause { IsCauseOf Stop.Write (K.faults output.old) (K.faults output.new) result }
+{
+    for byte in chunk {
+        if *byte == b'\n' {
+            reply(alloc, answers, line.ended(), output)?;
+            line.clear();
+        } else {
+            line.push(*byte)?;
+        }
+    }
+    Ok(())
+}
+
+/// The most bytes of an input that is answered to its end.
+pub const LIMIT: usize = 1_073_741_824;
+
+// Reads to the input's end, and answers each line.
+fn answer_lines<S: Source, K: Sink, A: Answers>(
+    alloc: Global,
+    limit: usize,
+    answers: &mut A,
+    input: &mut S,
+    output: &mut K,
+) -> Result<(), Stop>
+    requires { limit + 1 < 2 ^ 64 }
+    ensures run { Runs A.answers A.lacks limit answers.old answers.new (S.left input.old) (S.left input.new) (K.taken output.old) (K.taken output.new) result }
+    ensures read { IsCauseOf Stop.Read (S.faults input.old) (S.faults input.new) result }
+    ensures write { IsCauseOf Stop.Write (K.faults output.old) (K.faults output.new) result }
+{
+    let mut line = Line::new(alloc);
+    let mut buffer = [0u8; 4096];
+    let mut total = 0usize;
+    // Each turn but the last reads a byte or more, so the turns are no more than the bytes.
+    for _turn in 0..limit + 1 {
+        let room = (limit + 1 - total).min(buffer.len());
+        let count = match read_front(input, &mut buffer, room) {
+            Ok(count) => count,
+            Err(Failed) => return Err(Stop::Read),
+        };
+        if count == 0 {
+            return reply(alloc, answers, line.unended(), output);
+        }
+        let within = count.min(limit - total);
+        feed(alloc, answers, &mut line, &buffer[..within], output)?;
+        if within < count {
+            return Err(Stop::TooLong);
+        }
+        total += count;
+    }
+    unreachable!()
+}
+
+/// Reads an input of at most `limit` bytes to its end, answers each line, and tells the end of the run.
+/// Answers the program's status. All lines that ended in a piece are answered before the next read, and
+/// no more than one line is kept. One byte more than the limit is read, and the line that it belongs to
+/// gets no answer.
+pub fn run_lines<S: Source, K: Sink, A: Answers>(
+    alloc: Global,
+    limit: usize,
+    answers: &mut A,
+    input: &mut S,
+    output: &mut K,
+) -> u8
+    requires { limit + 1 < 2 ^ 64 }
+    ensures { IsLinesRun A.answers A.lacks limit answers.old answers.new (S.left input.old) (S.left input.new) (K.taken output.old) (K.taken output.new)
+        (S.faults input.old) (S.faults input.new) (K.faults output.old) (K.faults output.new) result }
+{
+    match answer_lines(alloc, limit, answers, input, output) {
+        Ok(()) => end_run(output, None),
+        Err(stop) => end_run(output, Some(End::from(stop))),
+    }
+}

@@ -1,0 +1,33 @@
+//! The words of a command line.
+ghost use Rattle.std.specs.Prelude.{◌≡◌, IfOk};
+ghost use Rattle.program_ends.specs.Words.{words_behind};
+
+use hazard_types::{List, Oom, Text};
+use std::alloc::Global;
+use std::{env, io};
+
+/// The words of the command line, the program's name first. Words that can't be read are no words.
+pub fn command_line(rt: &HostRuntime) -> Result<Vec<String>, Oom> {
+    let mut words = Vec::new(rt.alloc());
+    match env::args(rt) {
+        Ok(args) => {
+            for word in args {
+                words.push(word)?;
+            }
+            Ok(words)
+        }
+        Err(error) if error.kind() == io::ErrorKind::OutOfMemory => Err(Oom),
+        Err(_) => Ok(words),
+    }
+}
+
+/// The words behind the first ones, byte for byte.
+pub fn given_words(alloc: Global, words: &[String], skipped: usize) -> Result<List<Text>, Oom>
+    ensures { IfOk result (λ given. given ≡ words_behind skipped words.now) }
+{
+    let mut given = List::new(alloc);
+    for word in &words[skipped.min(words.len())..] {
+        given.push(List::from_slice(alloc, word.as_bytes())?)?;
+    }
+    Ok(given)
+}
