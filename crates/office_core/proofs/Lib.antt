@@ -1,3 +1,4 @@
+mod DraftLemmas
 mod LookLemmas
 mod PartLemmas
 mod WritingLemmas
