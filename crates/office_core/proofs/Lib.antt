@@ -1,3 +1,7 @@
+mod DraftLemmas
+mod LookLemmas
+mod PartLemmas
+mod WritingLemmas
 mod OnceLemmas
 pub mod AgreementDecoding
 pub mod AgreementRoutine
@@ -9,6 +13,3 @@ pub mod SoundFirst
 pub mod SoundPlans
 pub mod SoundRequests
 pub mod SoundSteps
-mod LookLemmas
-mod PartLemmas
-mod WritingLemmas

@@ -1,5 +1,5 @@
 -- An office begins sound, and what a draft makes is sound.
-use Rattle.std.proofs.Common.{◌≡◌, inl, inr, ℕ, List, [], ◌∷◌, true, false, Bool, Option, Some, None, refl, ap, arith, find, cond, map}
+use Rattle.std.proofs.Common.{◌≡◌, ◌≤◌, inl, inr, ℕ, List, [], ◌∷◌, true, false, Bool, Option, Some, None, refl, ap, arith, find, cond, map}
 use Rattle.std.proofs.lemmas.List.Elements.{All-nil, recursion_from_All}
 use Rattle.std.specs.List.Sorted.{IsStrictlySortedBy}
 use Rattle.hazard_types.specs.declared.codes.Class.{Class}
@@ -37,6 +37,7 @@ begins settings class edition forms training = record {
   rows = All-nil (IsSoundRow settings class);
   few = omega arith;
   drafts = All-nil (IsSoundDraft settings class);
+  touched = All-nil (λ (d : Draft). d.touched ≤ 0);
   most = omega arith;
   products = All-nil IsSoundProduct;
 }

@@ -344,6 +344,37 @@ module _ (s : State) (counts : List Count) (sound : IsSound s counts) where
   drafts_stay desk (Send id) t u form of_draft of_parts = removed id
   drafts_stay desk (Correct number given) t u form of_draft of_parts = (sound.few, sound.drafts)
 
+-- each accepted request touches its draft at its own minute, which is no earlier
+module _ (s : State) (t : ℕ) (earlier : All (λ (d : Draft). d.touched ≤ s.last) s.drafts) (le : s.last ≤ t) where
+  abbrev WasTouched : Draft → Type 0
+  WasTouched d = d.touched ≤ t
+
+  each_touched : AllByRecursion WasTouched s.drafts
+  each_touched = all_weaker (λ (d : Draft). d.touched ≤ s.last) WasTouched (λ d h. omega (arith, h, le)) s.drafts (recursion_from_All (λ (d : Draft). d.touched ≤ s.last) s.drafts earlier)
+
+  touched_so_far : All WasTouched s.drafts
+  touched_so_far = All-from_recursion WasTouched s.drafts each_touched
+
+  touched_now : (change : Draft → Draft) (id : ℕ) → ((d : Draft) → (change d).touched ≡ t) → All WasTouched (with_draft change id s.drafts)
+  touched_now change id now = All-from_recursion WasTouched (with_draft change id s.drafts) (all_changed WasTouched change id s.drafts each_touched (λ d is own. omega (arith, now d)))
+
+  touched_left : (id : ℕ) → All WasTouched (without_draft id s.drafts)
+  touched_left id = All-from_recursion WasTouched (without_draft id s.drafts) (all_removed WasTouched id s.drafts each_touched)
+
+  touched_stay : (desk : List ℕ) (r : Request) → All WasTouched (drafts_after s desk r t)
+  unfolding drafts_after
+  touched_stay desk (Issue part) = touched_so_far
+  touched_stay desk (Begin category) = All-push WasTouched s.drafts _ touched_so_far (omega arith)
+  touched_stay desk (Put id part) = touched_now (with_intent t (intent.Put part)) id (λ d. refl)
+  touched_stay desk (Finish id part) = touched_now (with_intent t (intent.Finish part)) id (λ d. refl)
+  touched_stay desk (Restate id part) = touched_now (with_intent t (intent.Restate part)) id (λ d. refl)
+  touched_stay desk (Routine id part) = touched_now (with_intent t (intent.Routine part)) id (λ d. refl)
+  touched_stay desk (Drop id place) = touched_now (without_intent t place) id (λ d. refl)
+  touched_stay desk (Take id) = touched_now (taken_by t desk) id (λ d. refl)
+  touched_stay desk (Discard id) = touched_left id
+  touched_stay desk (Send id) = touched_left id
+  touched_stay desk (Correct number given) = touched_so_far
+
 -- ---- all together
 
 pub keeps_sound : (s : State) (counts after : List Count) (desk : List ℕ) (seq : ℕ) (r : Request) (reading : ℤ) (t : ℕ) (made : Option Made) → IsSound s counts → HasRequestForm r → Accepts s desk seq r reading t made → draws counts after made →
@@ -366,6 +397,7 @@ keeps_sound s counts after desk seq r reading t made sound form accepts drawn =
       rows = still.rows;
       few = drafts.0;
       drafts = drafts.1;
+      touched = touched_stay s t sound.touched time.0 desk r;
       most = still.most;
       products = still.products;
     }

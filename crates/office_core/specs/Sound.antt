@@ -86,5 +86,7 @@ pub record IsSound (s : State) (counts : List Count) : Type 0 where
   pub rows : All (IsSoundRow s.settings s.class) s.rows
   pub few : length s.drafts ≤ 64
   pub drafts : All (IsSoundDraft s.settings s.class) s.drafts
+  -- no draft was touched after the last entry
+  pub touched : All (λ (d : Draft). d.touched ≤ s.last) s.drafts
   pub most : length s.products ≤ 8192
   pub products : All IsSoundProduct s.products

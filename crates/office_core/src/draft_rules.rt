@@ -1,5 +1,5 @@
 //! The rules on drafts, each with what the refusal names.
-ghost use Rattle.std.specs.Prelude.{◌≡◌, ◌+◌, ◌&&◌, if◌then◌else◌, IfOk, None, Some, find, is_some, length, nat_le, nat_lt, option_map};
+ghost use Rattle.std.specs.Prelude.{◌≡◌, ◌≤◌, ◌+◌, ◌&&◌, if◌then◌else◌, IfSome, None, Some, find, is_some, length, nat_le, nat_lt, option_map};
 ghost use Rattle.hazard_types.specs.declared.refusal.Refusal.TheVariants as Refused;
 ghost use Rattle.office_core.specs.Requests.{draft_of, intent_of, takes};
 ghost use Rattle.office_core.specs.Rules.{no_draft, found_draft, is_others, not_owner, still_active, drafts_full, intents_full, no_intent, broken_draft};
@@ -7,7 +7,7 @@ ghost use Rattle.office_core.specs.State.{draft_at, is_draft};
 
 use crate::office::{MOST_DRAFTS, Office};
 use action_planner::MOST_INTENTS;
-use hazard_types::{Desk, Draft, Minute, Oom, Refusal, Request};
+use hazard_types::{Desk, Draft, Minute, Refusal, Request};
 
 /// For how many minutes behind its last touch a draft is its owner's alone.
 const ACTIVE: u32 = 10;
@@ -95,26 +95,33 @@ fn comes_early(desk: &Desk, t: Minute, r: &Request, draft: &Draft) -> bool
     is_others(desk, draft) && takes(r) && t.get() < draft.touched.get() + ACTIVE
 }
 
+/// The minute from which any desk may take a draft.
+fn free_at(draft: &Draft) -> Minute
+    requires { draft.now.touched ≤ 52000000 }
+    ensures { result ≡ draft.now.touched + 10 }
+{
+    match Minute::new(draft.touched.get() + ACTIVE) {
+        Some(minute) => minute,
+        None => unreachable!(),
+    }
+}
+
 /// StillActive: a take by another desk, before ten minutes behind the last touch.
-fn still_active(
-    desk: &Desk,
-    t: Minute,
-    r: &Request,
-    found: Option<&Draft>,
-) -> Result<Option<Refusal>, Oom>
-    ensures { IfOk result (λ refused. refused ≡ still_active desk.now t r.now (option_map (λ d. d.now) found.entry)) }
+fn still_active(desk: &Desk, t: Minute, r: &Request, found: Option<&Draft>) -> Option<Refusal>
+    requires { IfSome found (λ d. d.now.touched ≤ 52000000) }
+    ensures { result ≡ still_active desk.now t r.now (option_map (λ d. d.now) found.entry) }
 {
     match found {
         Some(draft) => {
             if comes_early(desk, t, r, draft) {
-                // No draft is touched after minute 52,000,000, so that the minute is there.
-                let free_at = Minute::new(draft.touched.get() + ACTIVE).ok_or(Oom)?;
-                Ok(Some(Refusal::StillActive { free_at }))
+                Some(Refusal::StillActive {
+                    free_at: free_at(draft),
+                })
             } else {
-                Ok(None)
+                None
             }
         }
-        None => Ok(None),
+        None => None,
     }
 }
 
@@ -161,14 +168,16 @@ fn no_intent(r: &Request, found: Option<&Draft>) -> Option<Refusal>
 impl Office {
     /// The draft with an id.
     pub(crate) fn draft_at(&self, id: u32) -> Option<&Draft>
-        ensures { option_map (λ d. d.now) result ≡ draft_at self.now.state id }
+        ensures value { option_map (λ d. d.now) result ≡ draft_at self.now.state id }
+        ensures touched { IfSome result (λ d. d.now.touched ≤ 52000000) }
     {
         draft_at(&self.drafts, id)
     }
 
     /// The draft that a request is on.
     pub(crate) fn found_draft(&self, r: &Request) -> Option<&Draft>
-        ensures { option_map (λ d. d.now) result ≡ found_draft self.now.state (draft_of r.now) }
+        ensures value { option_map (λ d. d.now) result ≡ found_draft self.now.state (draft_of r.now) }
+        ensures touched { IfSome result (λ d. d.now.touched ≤ 52000000) }
     {
         match draft_of(r) {
             Some(id) => self.draft_at(id),
@@ -210,35 +219,30 @@ impl Office {
 
     /// The first rule on the draft that the request is on that is broken.
     #[tactic(auto, unfolding(crate::specs::Rules::broken_draft))]
-    pub(crate) fn broken_draft(
-        &self,
-        desk: &Desk,
-        r: &Request,
-        t: Minute,
-    ) -> Result<Option<Refusal>, Oom>
-        ensures { IfOk result (λ refused. refused ≡ broken_draft self.now.state desk.now r.now t (found_draft self.now.state (draft_of r.now))) }
+    pub(crate) fn broken_draft(&self, desk: &Desk, r: &Request, t: Minute) -> Option<Refusal>
+        ensures { result ≡ broken_draft self.now.state desk.now r.now t (found_draft self.now.state (draft_of r.now)) }
     {
         let lacking = self.no_draft(draft_of(r));
         if lacking.is_some() {
-            return Ok(lacking);
+            return lacking;
         }
         let found = self.found_draft(r);
         let barred = not_owner(desk, r, found);
         if barred.is_some() {
-            return Ok(barred);
+            return barred;
         }
-        let active = still_active(desk, t, r, found)?;
+        let active = still_active(desk, t, r, found);
         if active.is_some() {
-            return Ok(active);
+            return active;
         }
         let full = self.drafts_full(r);
         if full.is_some() {
-            return Ok(full);
+            return full;
         }
         let filled = intents_full(r, found);
         if filled.is_some() {
-            return Ok(filled);
+            return filled;
         }
-        Ok(no_intent(r, found))
+        no_intent(r, found)
     }
 }

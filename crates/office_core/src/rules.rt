@@ -45,7 +45,7 @@ impl Office {
         if number.is_some() {
             return Ok(number);
         }
-        let draft = self.broken_draft(desk, r, self.minute_of(reading))?;
+        let draft = self.broken_draft(desk, r, self.minute_of(reading));
         if draft.is_some() {
             return Ok(draft);
         }

@@ -1,5 +1,5 @@
 -- It is the first state, which is sound and agrees with its texts.
-use Rattle.std.proofs.Common.{◌≡◌, ◌≤◌, List, [], map, arith, rules}
+use Rattle.std.proofs.Common.{◌≡◌, ◌≤◌, [], map, arith, rules}
 use Rattle.std.specs.Vec.{vec_capacity}
 use Rattle.office_core.specs.State.{unheard}
 use Rattle.office_core.proofs.office.Office.new.Goals as goal
