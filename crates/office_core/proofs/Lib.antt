@@ -13,3 +13,4 @@ pub mod SoundFirst
 pub mod SoundPlans
 pub mod SoundRequests
 pub mod SoundSteps
+mod AnswerLemmas

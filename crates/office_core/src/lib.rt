@@ -2,6 +2,7 @@
 #![tactic(auto)]
 
 mod agreement_laws;
+mod answer_laws;
 mod draft_rules;
 mod heard;
 mod history_laws;
@@ -17,6 +18,7 @@ mod soundness_laws;
 mod writing;
 
 pub use agreement_laws::{offices_begin_in_agreement, products_keep_the_agreement};
+pub use answer_laws::a_request_has_one_answer;
 pub use heard::{Heard, Said};
 pub use history_laws::{accepted_requests_are_numbered_on, requests_stand_once};
 pub use made::Made;

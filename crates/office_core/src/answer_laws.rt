@@ -1,0 +1,22 @@
+//! Laws: a request has one answer.
+ghost use Rattle.std.specs.Prelude.{◌≡◌, ℕ, ℤ, List, Option};
+ghost use Rattle.hazard_types.specs.declared.refusal.Refusal.{Refusal};
+ghost use Rattle.hazard_types.specs.declared.request.Reply.{Reply};
+ghost use Rattle.hazard_types.specs.declared.request.Request.{Request};
+ghost use Rattle.office_core.specs.State.{State};
+ghost use Rattle.office_core.specs.Step.{Accepts, Refuses, Repeats};
+ghost use Rattle.office_core.specs.declared.made.Made.{Made};
+
+/// A request that is accepted makes one thing at one minute, and one that is refused breaks one first rule. No request is answered in two of the three ways.
+pub fn a_request_has_one_answer()
+    ensures accepted { (s : State) (desk : List ℕ) (seq : ℕ) (r : Request) (reading : ℤ) (t u : ℕ) (made other : Option Made) →
+        Accepts s desk seq r reading t made → Accepts s desk seq r reading u other → (t ≡ u) × (made ≡ other) }
+    ensures refused { (s : State) (desk : List ℕ) (seq : ℕ) (r : Request) (reading : ℤ) (x y : Refusal) →
+        Refuses s desk seq r reading x → Refuses s desk seq r reading y → x ≡ y }
+    ensures apart { (s : State) (desk : List ℕ) (seq : ℕ) (r : Request) (reading : ℤ) (t : ℕ) (made : Option Made) (x : Refusal) →
+        Accepts s desk seq r reading t made → Refuses s desk seq r reading x → ⊥ }
+    ensures repeated { (s : State) (desk : List ℕ) (seq : ℕ) (r : Request) (reading : ℤ) (t : ℕ) (made : Option Made) (kept : Reply) →
+        Repeats s desk seq r kept → Accepts s desk seq r reading t made → ⊥ }
+    ensures unrefused { (s : State) (desk : List ℕ) (seq : ℕ) (r : Request) (reading : ℤ) (x : Refusal) (kept : Reply) →
+        Repeats s desk seq r kept → Refuses s desk seq r reading x → ⊥ }
+{}
