@@ -2,10 +2,17 @@
 #![tactic(auto)]
 
 mod agreement_laws;
+mod changes;
+mod committing;
+mod copies;
 mod heard;
 mod made;
+mod making;
 mod office;
 mod prepared;
+mod preparing;
+mod previewing;
+mod replies;
 mod rules;
 mod soundness_laws;
 
