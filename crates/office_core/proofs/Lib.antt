@@ -1,1 +1,4 @@
 pub mod DraftLemmas
+pub mod FoundLemmas
+pub mod HeardLemmas
+pub mod UpdateLemmas
