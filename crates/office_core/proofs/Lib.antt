@@ -1,3 +1,4 @@
+pub mod CommitLemmas
 pub mod DraftLemmas
 pub mod FoundLemmas
 pub mod HeardLemmas

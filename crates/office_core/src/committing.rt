@@ -1,13 +1,15 @@
 //! An accepted request becomes part of the state.
-ghost use Rattle.std.specs.Prelude.{◌≡◌, ◌≤◌, ◌<◌, IfSome, IsTrue, length, option_map, position};
+ghost use Rattle.std.specs.Prelude.{◌≡◌, ◌≤◌, ◌<◌, IfSome, IsTrue, Some, length, position};
 ghost use Rattle.std.specs.Vec.{vec_capacity, vec_len};
 ghost use Rattle.std.specs.Str.{bytes_eq};
 ghost use Rattle.hazard_board.specs.Board.{openings};
 ghost use Rattle.event_life.specs.Reordered.{are_lawful};
 ghost use Rattle.event_numbers.specs.Counts.{AreDrawnInOrder};
-ghost use Rattle.office_core.specs.Prepared.{HasPlace, begun_with, changed, draws};
-ghost use Rattle.office_core.specs.State.{said_in};
-ghost use Rattle.office_core.specs.Step.{heard_after, products_with, rows_with_made};
+ghost use Rattle.hazard_board.specs.Consistent.{IsConsistent};
+ghost use Rattle.office_core.specs.Agreement.{ReadsAsTheBoard};
+ghost use Rattle.office_core.specs.Prepared.{HasPlace, MayCommit, begun_with, changed, draws};
+ghost use Rattle.office_core.specs.State.{said_by};
+ghost use Rattle.office_core.specs.Step.{heard_after, products_with, rows_with_made, state_after};
 
 use crate::heard::{Heard, Said};
 use crate::made::Made;
@@ -15,7 +17,7 @@ use crate::office::Office;
 use crate::prepared::{DraftChange, Prepared};
 use event_numbers::Numbers;
 use hazard_board::Board;
-use hazard_types::{Desk, Draft, Minute, Reply, Sent};
+use hazard_types::{Desk, Draft, Entry, Minute, Sent};
 
 /// Changes the open drafts.
 fn change_drafts(drafts: &mut Vec<Draft>, change: DraftChange)
@@ -50,18 +52,6 @@ fn hear(heard: &mut Vec<Heard>, desk: &Desk, said: Said)
     }
 }
 
-/// What is kept of a desk.
-fn said_by<'a>(heard: &'a [Heard], desk: &Desk) -> Option<&'a Said>
-    ensures { option_map (λ said. said.now) result ≡ said_in heard.now desk.now }
-{
-    for h in heard {
-        if h.desk.bytes() == desk.bytes() {
-            return h.said.as_ref();
-        }
-    }
-    None
-}
-
 /// How many drafts were opened, with the change.
 fn begun_with(begun: u32, change: &DraftChange) -> u32
     ensures { result ≡ begun_with begun change.now }
@@ -93,5 +83,46 @@ fn take_made(
         board.apply(&made.sent.lines, t);
         numbers.draw(made.opened.as_slice());
         products.push_reserved(made.sent);
+    }
+}
+
+impl Office {
+    /// Commits what was prepared by this office, where nothing was committed since. It takes no memory and can't fail. The reply is kept as the desk's last.
+    pub fn commit(&mut self, p: Prepared)
+        requires { MayCommit self.old p }
+        ensures state { self.new.state ≡ state_after self.old.state p.entry p.made }
+        ensures kept { said_by self.new.state p.entry.desk ≡ Some (record { seq = p.entry.seq; request = p.entry.request; reply = p.entry.reply }) }
+        ensures reads { ReadsAsTheBoard self.new.state }
+        ensures consistent { IsConsistent self.new.state.rows self.new.state.last }
+    {
+        let Prepared {
+            entry,
+            change,
+            made,
+        } = p;
+        let Entry {
+            minute,
+            desk,
+            seq,
+            request,
+            reply,
+            ..
+        } = entry;
+        self.begun = begun_with(self.begun, &change);
+        change_drafts(&mut self.drafts, change);
+        take_made(
+            &mut self.board,
+            &mut self.numbers,
+            &mut self.products,
+            made,
+            minute,
+        );
+        let said = Said {
+            seq,
+            request,
+            reply,
+        };
+        hear(&mut self.heard, &desk, said);
+        self.last = minute;
     }
 }
