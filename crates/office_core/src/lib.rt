@@ -14,6 +14,7 @@ mod preparing;
 mod previewing;
 mod replies;
 mod rules;
+mod series;
 mod soundness_laws;
 
 pub use agreement_laws::{offices_begin_in_agreement, products_keep_the_agreement};

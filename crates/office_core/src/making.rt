@@ -1,1 +1,69 @@
-//! In work.
+//! The product that a send, an issue or a correction makes, or the first rule that it breaks.
+ghost use Rattle.std.specs.Prelude.{◌≡◌, ◌≤◌, Some, None, Err, IfOk, OnOk};
+ghost use Rattle.hazard_types.specs.Hazards.{facts_of};
+ghost use Rattle.hazard_types.specs.declared.or.Or.TheVariants.{No};
+ghost use Rattle.hazard_types.specs.declared.refusal.Refusal.{Refusal as Refused};
+ghost use Rattle.product_frame.specs.Frame.{FrameOf};
+ghost use Rattle.product_frame.specs.Splitting.{IsOneProduct};
+ghost use Rattle.product_template.specs.Conditions.{CanBeText};
+ghost use Rattle.product_template.specs.Text.{frame_of};
+ghost use Rattle.office_core.specs.Making.{broken_product, corrected_by, drafted_by, issued, making_of};
+ghost use Rattle.office_core.specs.Sound.{IsSoundMaking};
+ghost use Rattle.office_core.specs.Step.{BreaksOnLines};
+ghost use Rattle.office_core.specs.WellMade.{IsWellMade, IsWellMadeIf, made_with};
+
+use crate::made::Made;
+use crate::office::Office;
+use crate::replies::find_draft;
+use crate::series::{last_of_category, letters_of, original_of};
+use crate::soundness_laws::{sound_plans_may_be_written, sound_products_may_be_planned};
+use action_planner::{
+    opened_events_are_drawn_in_order, plan, plan_correction, rows_tell_the_numbers,
+};
+use hazard_types::desk_hazards::facts;
+use hazard_types::{
+    Category, Desk, Draft, EventTexts, Hazard, Intent, List, Minute, Oom, Or, Plan, PutPart,
+    Refusal, Request, Sent, Target,
+};
+use product_template::product_text;
+use std::alloc::Global;
+
+/// The most products.
+const MOST_PRODUCTS: usize = 8192;
+
+impl Office {
+    /// The product of a plan, behind those there are.
+    #[tactic(auto, unfolding(crate::specs::Making::broken_product))]
+    fn write(
+        &self,
+        alloc: Global,
+        plan: Plan,
+        original: Option<u32>,
+        t: Minute,
+    ) -> Result<Made, Or<Refusal>>
+        requires { CanBeText self.now.state.settings self.now.state.class plan t }
+        ensures made { IfOk result (λ made. made ≡ made_with self.now.state t original plan) }
+        ensures kept { OnOk result (broken_product self.now.state t plan ≡ None) }
+        ensures frame { IfOk result (λ made. FrameOf made.sent.text (frame_of self.now.state.settings self.now.state.class plan t)) }
+        ensures one { IfOk result (λ made. IsOneProduct made.sent.text) }
+        ensures refused { (x : Refused) → result ≡ Err (No x) → broken_product self.now.state t plan ≡ Some x }
+    {
+        let text = product_text(alloc, &self.settings, self.class, &plan, t, self.edition)?;
+        let before = self.products.len();
+        if before >= MOST_PRODUCTS {
+            return Err(Or::No(Refusal::ProductsFull));
+        }
+        Ok(Made {
+            sent: Sent {
+                number: before as u32 + 1,
+                category: plan.category,
+                time: t,
+                original,
+                lines: plan.lines,
+                texts: plan.texts,
+                text,
+            },
+            opened: plan.opened,
+        })
+    }
+}
