@@ -66,4 +66,48 @@ impl Office {
             opened: plan.opened,
         })
     }
+
+    /// The product of a draft that is sent at t, or the first rule that it breaks.
+    pub(crate) fn make_drafted(
+        &self,
+        alloc: Global,
+        draft: &Draft,
+        t: Minute,
+    ) -> Result<Made, Or<Refusal>>
+        requires last { self.now.state.last ≤ t }
+        requires minute { t ≤ 52000000 }
+        requires sound { IsSoundMaking self.now.state (drafted_by (Some draft.now)) }
+        ensures made { IfOk result (λ made. IsWellMade self.now.state self.now.counts t (drafted_by (Some draft.now)) made) }
+        ensures refused { (x : Refused) → result ≡ Err (No x) → BreaksOnLines self.now.state t (drafted_by (Some draft.now)) x }
+    {
+        sound_products_may_be_planned();
+        sound_plans_may_be_written();
+        rows_tell_the_numbers();
+        opened_events_are_drawn_in_order();
+        let plan = plan(alloc, &self.board, &self.numbers, draft, t)?;
+        self.write(alloc, plan, None, t)
+    }
+
+    /// The correction of a product at t, or the first rule that it breaks.
+    fn make_corrected(
+        &self,
+        alloc: Global,
+        sent: &Sent,
+        given: &List<EventTexts>,
+        t: Minute,
+    ) -> Result<Made, Or<Refusal>>
+        requires last { self.now.state.last ≤ t }
+        requires minute { t ≤ 52000000 }
+        requires sound { IsSoundMaking self.now.state (corrected_by given.now (Some sent.now)) }
+        ensures made { IfOk result (λ made. IsWellMade self.now.state self.now.counts t (corrected_by given.now (Some sent.now)) made) }
+        ensures refused { (x : Refused) → result ≡ Err (No x) → BreaksOnLines self.now.state t (corrected_by given.now (Some sent.now)) x }
+    {
+        sound_products_may_be_planned();
+        sound_plans_may_be_written();
+        let original = original_of(sent);
+        let last = last_of_category(&self.products, sent.category);
+        let letters = letters_of(&self.products, original);
+        let plan = plan_correction(alloc, &self.board, sent, last, letters, given, t)?;
+        self.write(alloc, plan, Some(original), t)
+    }
 }
