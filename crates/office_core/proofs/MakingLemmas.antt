@@ -97,3 +97,19 @@ pub if_written : {E : Type 0} (s : State) (t : ℕ) (original : Option ℕ) (pla
     ((made : Made) → IsWritten s t original plan made → P made) → IfOk r P
 if_written s t original plan P (Ok made) is kept frame one k = k made (record { is = is; kept = kept; frame = frame; one = one })
 if_written s t original plan P (Err x) is kept frame one k = tt
+
+-- ---- a correction
+
+pub corrected_lines : (s : State) (t : ℕ) (sent : Sent) (given : List EventTexts) (last letters : ℕ) (x : Option Refusal) →
+    last ≡ last_of_category s.products sent.category → letters ≡ letters_of s.products (original_of sent) →
+    broken_correction s.rows t sent last letters given ≡ x → broken_lines s t (Making.corrected sent given) ≡ x
+unfolding broken_lines
+corrected_lines s t sent given last letters x hl hn e =
+    ap (λ (n : ℕ). broken_correction s.rows t sent n (letters_of s.products (original_of sent)) given) (sym hl)
+    ∙ ap (λ (n : ℕ). broken_correction s.rows t sent last n given) (sym hn) ∙ e
+
+-- what the planner says of a correction, where the rows are the office's
+pub record IsCorrectionPlanned (o : OfficeView) (sent : Sent) (given : List EventTexts) (last letters t : ℕ) (plan : Plan) : Type 0 where
+  pub is : IsCorrection o.state.rows t sent letters given plan
+  pub lawful : IsTrue (are_lawful o.state.rows t plan.lines)
+  pub kept : broken_correction o.state.rows t sent last letters given ≡ None
