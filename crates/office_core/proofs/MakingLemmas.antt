@@ -1,5 +1,5 @@
 -- What is planned and written is well made, and the rule that is named is the first that is broken.
-use Rattle.std.proofs.Common.{◌≡◌, ◌∙◌, ◌≤◌, ◌+◌, ℕ, List, [], ◌∷◌, ◌++◌, count_by, Option, Some, None, Result, Ok, Err, IfOk, OnOk, IsTrue, ap, subst, sym, rules}
+use Rattle.std.proofs.Common.{◌≡◌, ◌∙◌, ◌≤◌, ◌+◌, ℕ, List, [], ◌∷◌, ◌++◌, count_by, Option, Some, None, Result, Ok, Err, IfOk, OnOk, IsTrue, ap, refl, subst, sym, rules}
 use Rattle.hazard_types.specs.declared.codes.Category.{Category}
 use Rattle.hazard_types.specs.declared.hazard.Event.{Event}
 use Rattle.hazard_types.specs.declared.refusal.Refusal.{Refusal}
@@ -113,3 +113,9 @@ pub record IsCorrectionPlanned (o : OfficeView) (sent : Sent) (given : List Even
   pub is : IsCorrection o.state.rows t sent letters given plan
   pub lawful : IsTrue (are_lawful o.state.rows t plan.lines)
   pub kept : broken_correction o.state.rows t sent last letters given ≡ None
+
+-- ---- no product
+
+pub nothing_made : (s : State) (t : ℕ) (making : Making) → making ≡ Making.none → (broken_lines s t making ≡ None) × IsMade s t making None
+unfolding broken_lines
+nothing_made s t making e = subst (λ (m : Making). (broken_lines s t m ≡ None) × IsMade s t m None) (sym e) (refl, refl)

@@ -154,6 +154,7 @@ impl Office {
     }
 
     /// What a request makes at t, or the first rule that it breaks.
+    #[tactic(auto, using(crate::proofs::MakingLemmas::nothing_made))]
     pub(crate) fn make(
         &self,
         alloc: Global,
