@@ -4,3 +4,4 @@ pub mod FoundLemmas
 pub mod HeardLemmas
 pub mod MakingLemmas
 pub mod UpdateLemmas
+pub mod RoomLemmas
