@@ -14,3 +14,10 @@ pub mod SoundPlans
 pub mod SoundRequests
 pub mod SoundSteps
 mod AnswerLemmas
+pub mod CommitLemmas
+pub mod FoundLemmas
+pub mod HeardLemmas
+pub mod MakingLemmas
+pub mod UpdateLemmas
+pub mod RoomLemmas
+mod DraftChanges

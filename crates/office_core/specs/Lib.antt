@@ -12,3 +12,4 @@ pub mod Views
 pub mod Prepared
 pub mod Look
 pub mod Keeping
+pub mod WellMade

@@ -8,6 +8,7 @@ use Rattle.event_numbers.specs.Counts.{AreDrawnInOrder, DrawsAll}
 use Rattle.hazard_board.specs.Board.{openings}
 use Rattle.event_life.specs.Reordered.{are_lawful}
 use Rattle.office_core.specs.Agreement.{Agrees}
+use Rattle.office_core.specs.Rules.{unknown_desk}
 use Rattle.office_core.specs.Sound.{IsSound}
 use Rattle.office_core.specs.State.{State}
 use Rattle.office_core.specs.Step.{Accepts, drafts_after, entry_of, state_after}
@@ -28,6 +29,13 @@ changed Keep drafts = drafts
 changed (Open draft) drafts = drafts ++ draft ∷ []
 changed (Replace place draft) drafts = set drafts place draft
 changed (Remove place) drafts = take place drafts ++ drop (place + 1) drafts
+
+-- how many drafts were opened, with the change
+abbrev pub begun_with : ℕ → DraftChange → ℕ
+begun_with begun Keep = begun
+begun_with begun (Open draft) = draft.id
+begun_with begun (Replace place draft) = begun
+begun_with begun (Remove place) = begun
 
 -- a place that the change speaks of has a draft
 abbrev pub HasPlace : DraftChange → List Draft → Type 0
@@ -52,8 +60,9 @@ abbrev pub draws : List Count → List Count → Option Made → Type 0
 draws old new None = new ≡ old
 draws old new (Some made) = DrawsAll old new made.opened
 
--- What was prepared may be committed: the office is the one that prepared it, and nothing was committed since. The state after is sound then, and its texts agree with its board.
+-- What was prepared may be committed: the office is the one that prepared it, and nothing was committed since. The desk is one of its desks. The state after is sound then, and its texts agree with its board.
 pub record MayCommit (o : OfficeView) (p : Readied) : Type 0 where
+  pub desk : unknown_desk o.state p.entry.desk ≡ None
   pub drafts : changed p.change o.state.drafts ≡ drafts_after o.state p.entry.desk p.entry.request p.entry.minute
   pub place : HasPlace p.change o.state.drafts
   pub product : MayTakeMade o p.entry.minute p.made

@@ -3,17 +3,24 @@
 
 mod agreement_laws;
 mod answer_laws;
+mod changes;
+mod committing;
+mod copies;
 mod draft_rules;
 mod heard;
 mod history_laws;
 mod looking;
 mod made;
+mod making;
 mod number_rules;
 mod office;
 mod part_rules;
 mod prepared;
+mod preparing;
 mod previewing;
+mod replies;
 mod rules;
+mod series;
 mod soundness_laws;
 mod writing;
 

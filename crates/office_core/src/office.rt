@@ -35,7 +35,7 @@ pub struct Office {
     pub(crate) products: Vec<Sent>,
     pub(crate) drafts: Vec<Draft>,
     pub(crate) begun: u32,
-    pub(crate) heard: List<Heard>,
+    pub(crate) heard: Vec<Heard>,
     pub(crate) last: Minute,
 }
 
@@ -50,14 +50,14 @@ impl Model for Office {
     ghost Value = { OfficeView };
 
     ghost view = { λ o. record {
-      state = record { settings = o.settings; class = o.class; edition = o.edition; rows = o.board.rows; products = o.products.items; drafts = o.drafts.items; begun = o.begun; heard = o.heard; last = o.last };
+      state = record { settings = o.settings; class = o.class; edition = o.edition; rows = o.board.rows; products = o.products.items; drafts = o.drafts.items; begun = o.begun; heard = o.heard.items; last = o.last };
       counts = o.numbers.counts;
       room = record { rows = o.board.spare; numbers = o.numbers.spare; products = vec_capacity o.products - vec_len o.products };
     } };
 
     ghost invariant = { λ o.
-        IsSound (record { settings = o.settings; class = o.class; edition = o.edition; rows = o.board.rows; products = o.products.items; drafts = o.drafts.items; begun = o.begun; heard = o.heard; last = o.last }) o.numbers.counts
-        × Agrees (record { settings = o.settings; class = o.class; edition = o.edition; rows = o.board.rows; products = o.products.items; drafts = o.drafts.items; begun = o.begun; heard = o.heard; last = o.last }) o.numbers.counts
+        IsSound (record { settings = o.settings; class = o.class; edition = o.edition; rows = o.board.rows; products = o.products.items; drafts = o.drafts.items; begun = o.begun; heard = o.heard.items; last = o.last }) o.numbers.counts
+        × Agrees (record { settings = o.settings; class = o.class; edition = o.edition; rows = o.board.rows; products = o.products.items; drafts = o.drafts.items; begun = o.begun; heard = o.heard.items; last = o.last }) o.numbers.counts
         × (64 ≤ vec_capacity o.drafts) };
 }
 

@@ -1,0 +1,128 @@
+//! An accepted request becomes part of the state.
+ghost use Rattle.std.specs.Prelude.{◌≡◌, ◌≤◌, ◌<◌, IfSome, IsTrue, Some, length, position};
+ghost use Rattle.std.specs.Vec.{vec_capacity, vec_len};
+ghost use Rattle.std.specs.Str.{bytes_eq};
+ghost use Rattle.hazard_board.specs.Board.{openings};
+ghost use Rattle.event_life.specs.Reordered.{are_lawful};
+ghost use Rattle.event_numbers.specs.Counts.{AreDrawnInOrder};
+ghost use Rattle.hazard_board.specs.Consistent.{IsConsistent};
+ghost use Rattle.office_core.specs.Agreement.{ReadsAsTheBoard};
+ghost use Rattle.office_core.specs.Prepared.{HasPlace, MayCommit, begun_with, changed, draws};
+ghost use Rattle.office_core.specs.State.{said_by};
+ghost use Rattle.office_core.specs.Step.{heard_after, products_with, rows_with_made, state_after};
+
+use crate::heard::{Heard, Said};
+use crate::made::Made;
+use crate::office::Office;
+use crate::prepared::{DraftChange, Prepared};
+use event_numbers::Numbers;
+use hazard_board::Board;
+use hazard_types::{Desk, Draft, Entry, Minute, Sent};
+
+/// Changes the open drafts.
+fn change_drafts(drafts: &mut Vec<Draft>, change: DraftChange)
+    requires place { HasPlace change drafts.old.items }
+    requires room { 64 ≤ vec_capacity drafts.old }
+    ensures drafts { drafts.new.items ≡ changed change drafts.old.items }
+    ensures room { 64 ≤ vec_capacity drafts.new }
+{
+    match change {
+        DraftChange::Keep => {}
+        DraftChange::Open(draft) => drafts.push_reserved(draft),
+        DraftChange::Replace(place, draft) => drafts[place] = draft,
+        DraftChange::Remove(place) => {
+            drafts.remove(place);
+        }
+    }
+}
+
+/// The place of a desk.
+fn place_of(heard: &[Heard], desk: &Desk) -> Option<usize>
+    ensures { result ≡ position (λ h. bytes_eq h.desk desk.now) heard.now }
+{
+    heard.iter().position(|h| h.desk.bytes() == desk.bytes())
+}
+
+/// The desk's last request is this one.
+fn hear(heard: &mut Vec<Heard>, desk: &Desk, said: Said)
+    ensures { heard.new.items ≡ heard_after heard.old.items desk.now said }
+{
+    if let Some(place) = place_of(heard, desk) {
+        heard[place].said = Some(said);
+    }
+}
+
+/// How many drafts were opened, with the change.
+fn begun_with(begun: u32, change: &DraftChange) -> u32
+    ensures { result ≡ begun_with begun change.now }
+{
+    match change {
+        DraftChange::Open(draft) => draft.id,
+        DraftChange::Keep | DraftChange::Replace(..) | DraftChange::Remove(_) => begun,
+    }
+}
+
+/// A product becomes part of the board, the numbers and the products.
+fn take_made(
+    board: &mut Board,
+    numbers: &mut Numbers,
+    products: &mut Vec<Sent>,
+    made: Option<Made>,
+    t: Minute,
+)
+    requires lawful { IfSome made (λ made. IsTrue (are_lawful board.old.rows t made.sent.lines)) }
+    requires numbers { IfSome made (λ made. AreDrawnInOrder numbers.old.counts made.opened) }
+    requires rows_room { IfSome made (λ made. openings made.sent.lines ≤ board.old.spare) }
+    requires numbers_room { IfSome made (λ made. length made.opened ≤ numbers.old.spare) }
+    requires products_room { IfSome made (λ made. vec_len products.old < vec_capacity products.old) }
+    ensures rows { board.new.rows ≡ rows_with_made board.old.rows t made }
+    ensures numbers { draws numbers.old.counts numbers.new.counts made }
+    ensures products { products.new.items ≡ products_with products.old.items made }
+{
+    if let Some(made) = made {
+        board.apply(&made.sent.lines, t);
+        numbers.draw(made.opened.as_slice());
+        products.push_reserved(made.sent);
+    }
+}
+
+impl Office {
+    /// Commits what was prepared by this office, where nothing was committed since. It takes no memory and can't fail. The reply is kept as the desk's last.
+    pub fn commit(&mut self, p: Prepared)
+        requires { MayCommit self.old p }
+        ensures state { self.new.state ≡ state_after self.old.state p.entry p.made }
+        ensures kept { said_by self.new.state p.entry.desk ≡ Some (record { seq = p.entry.seq; request = p.entry.request; reply = p.entry.reply }) }
+        ensures reads { ReadsAsTheBoard self.new.state }
+        ensures consistent { IsConsistent self.new.state.rows self.new.state.last }
+    {
+        let Prepared {
+            entry,
+            change,
+            made,
+        } = p;
+        let Entry {
+            minute,
+            desk,
+            seq,
+            request,
+            reply,
+            ..
+        } = entry;
+        self.begun = begun_with(self.begun, &change);
+        change_drafts(&mut self.drafts, change);
+        take_made(
+            &mut self.board,
+            &mut self.numbers,
+            &mut self.products,
+            made,
+            minute,
+        );
+        let said = Said {
+            seq,
+            request,
+            reply,
+        };
+        hear(&mut self.heard, &desk, said);
+        self.last = minute;
+    }
+}

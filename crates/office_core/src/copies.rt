@@ -1,0 +1,68 @@
+//! Copies of requests and of intents.
+ghost use Rattle.std.specs.Prelude.{◌≡◌, IfOk};
+
+use hazard_types::{EventPart, Intent, List, Oom, PutPart, Request, RoutinePart};
+use std::alloc::Global;
+
+/// A copy of a put.
+pub(crate) fn copied_put(part: &PutPart) -> Result<PutPart, Oom>
+    ensures { IfOk result (λ copy. copy ≡ part.now) }
+{
+    Ok(part.clone()?)
+}
+
+/// A copy of an event in zones.
+pub(crate) fn copied_event(part: &EventPart) -> Result<EventPart, Oom>
+    ensures { IfOk result (λ copy. copy ≡ part.now) }
+{
+    Ok(part.clone()?)
+}
+
+/// A copy of a routine line in zones.
+pub(crate) fn copied_routine(part: &RoutinePart) -> Result<RoutinePart, Oom>
+    ensures { IfOk result (λ copy. copy ≡ part.now) }
+{
+    Ok(part.clone()?)
+}
+
+/// A copy of an intent.
+pub(crate) fn copied_intent(intent: &Intent) -> Result<Intent, Oom>
+    ensures { IfOk result (λ copy. copy ≡ intent.now) }
+{
+    match intent {
+        Intent::Put(part) => Ok(Intent::Put(copied_put(part)?)),
+        Intent::Finish(part) => Ok(Intent::Finish(copied_event(part)?)),
+        Intent::Restate(part) => Ok(Intent::Restate(copied_event(part)?)),
+        Intent::Routine(part) => Ok(Intent::Routine(copied_routine(part)?)),
+    }
+}
+
+/// A copy of intents.
+pub(crate) fn copied_intents(alloc: Global, intents: &[Intent]) -> Result<List<Intent>, Oom>
+    ensures { IfOk result (λ copy. copy ≡ intents.now) }
+{
+    let mut copy = List::new(alloc);
+    for intent in intents {
+        copy.push(copied_intent(intent)?)?;
+    }
+    Ok(copy)
+}
+
+/// A copy of a request.
+pub(crate) fn copied_request(r: &Request) -> Result<Request, Oom>
+    ensures { IfOk result (λ copy. copy ≡ r.now) }
+{
+    match r {
+        Request::Issue(part) => Ok(Request::Issue(copied_put(part)?)),
+        Request::Begin(category) => Ok(Request::Begin(*category)),
+        Request::Put(id, part) => Ok(Request::Put(*id, copied_put(part)?)),
+        Request::Finish(id, part) => Ok(Request::Finish(*id, copied_event(part)?)),
+        Request::Restate(id, part) => Ok(Request::Restate(*id, copied_event(part)?)),
+        Request::Routine(id, part) => Ok(Request::Routine(*id, copied_routine(part)?)),
+        Request::Drop(id, place) => Ok(Request::Drop(*id, *place)),
+        Request::Take(id) => Ok(Request::Take(*id)),
+        Request::Discard(id) => Ok(Request::Discard(*id)),
+        Request::Send(id) => Ok(Request::Send(*id)),
+        Request::Correct(number, given) => Ok(Request::Correct(*number, given.clone()?)),
+    }
+}

@@ -1,0 +1,97 @@
+//! The answer to a request, with all the memory that an accepted one needs.
+ghost use Rattle.std.specs.Prelude.{◌≡◌, ◌≤◌, ◌<◌, ◌-◌, Some, None, Ok, Err, IfOk, IfSome, OnOk, length};
+ghost use Rattle.std.specs.Vec.{vec_capacity, vec_len};
+ghost use Rattle.hazard_board.specs.Board.{openings};
+ghost use Rattle.office_core.specs.Prepared.{HasPlace, changed};
+ghost use Rattle.office_core.specs.Rules.{drafts_full};
+ghost use Rattle.office_core.specs.Step.{drafts_after, entry_of};
+ghost use Rattle.office_core.specs.Views.{IsRoomier};
+ghost use Rattle.office_core.specs.WellMade.{HasRoomForIf};
+
+use crate::copies::copied_request;
+use crate::made::Made;
+use crate::office::Office;
+use crate::prepared::{Prepared, Ready};
+use event_numbers::Numbers;
+use hazard_board::Board;
+use hazard_types::{Desk, Entry, Minute, Oom, Or, Refusal, Reply, Request, Sent};
+use std::alloc::Global;
+
+/// Takes memory for a product: a row for each of its lines, a count for each event that it opens, and its own place.
+#[tactic(auto, using(crate::proofs::RoomLemmas::few_openings))]
+fn make_room(
+    board: &mut Board,
+    numbers: &mut Numbers,
+    products: &mut Vec<Sent>,
+    made: &Made,
+) -> Result<(), Oom>
+    ensures rows { board.new.rows ≡ board.old.rows }
+    ensures counts { numbers.new.counts ≡ numbers.old.counts }
+    ensures products { products.new.items ≡ products.old.items }
+    ensures more_rows { board.old.spare ≤ board.new.spare }
+    ensures more_counts { numbers.old.spare ≤ numbers.new.spare }
+    ensures more_products { vec_capacity products.old - vec_len products.old ≤ vec_capacity products.new - vec_len products.new }
+    ensures rows_room { OnOk result (openings made.now.sent.lines ≤ board.new.spare) }
+    ensures counts_room { OnOk result (length made.now.opened ≤ numbers.new.spare) }
+    ensures products_room { OnOk result (1 ≤ vec_capacity products.new - vec_len products.new) }
+{
+    board.reserve(made.sent.lines.len())?;
+    numbers.reserve(made.opened.len())?;
+    products.reserve(1)?;
+    Ok(())
+}
+
+impl Office {
+    /// Takes memory for what a request made. Nothing else changes.
+    fn reserve(&mut self, made: &Option<Made>) -> Result<(), Oom>
+        ensures state { self.new.state ≡ self.old.state }
+        ensures counts { self.new.counts ≡ self.old.counts }
+        ensures room { IsRoomier self.old.room self.new.room }
+        ensures ok { OnOk result (HasRoomForIf self.new.room made.now) }
+    {
+        match made {
+            Some(made) => make_room(
+                &mut self.board,
+                &mut self.numbers,
+                &mut self.products,
+                made,
+            ),
+            None => Ok(()),
+        }
+    }
+
+    /// The entry of an accepted request, with what becomes of the drafts and what was made.
+    fn prepared(
+        &self,
+        alloc: Global,
+        desk: Desk,
+        seq: u32,
+        r: &Request,
+        t: Minute,
+        made: Option<Made>,
+    ) -> Result<Prepared, Oom>
+        requires room { drafts_full self.now.state r.now ≡ None }
+        requires ids { self.now.state.begun < 4294967295 }
+        ensures entry { IfOk result (λ p. p.entry ≡ entry_of self.now.state desk seq r.now t made) }
+        ensures made { IfOk result (λ p. p.made ≡ made) }
+        ensures drafts { IfOk result (λ p. changed p.change self.now.state.drafts ≡ drafts_after self.now.state desk r.now t) }
+        ensures place { IfOk result (λ p. HasPlace p.change self.now.state.drafts) }
+    {
+        let change = self.change_of(alloc, &desk, r, t)?;
+        let reply = self.reply_of(r, &made)?;
+        let request = copied_request(r)?;
+        let entry = Entry {
+            minute: t,
+            desk,
+            seq,
+            request,
+            reply,
+            edition: self.edition,
+        };
+        Ok(Prepared {
+            entry,
+            change,
+            made,
+        })
+    }
+}
