@@ -100,7 +100,7 @@ impl Office {
     pub(crate) fn said_by(&self, desk: &Desk) -> Option<&Said>
         ensures { option_map (λ said. said.now) result ≡ said_by self.now.state desk.now }
     {
-        said_in(self.heard.as_slice(), desk)
+        said_in(&self.heard, desk)
     }
 
     /// A desk's last number, 0 where it has none.

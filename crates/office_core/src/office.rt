@@ -114,7 +114,7 @@ impl Office {
             products: Vec::new(alloc),
             drafts,
             begun: 0,
-            heard,
+            heard: heard.into_vec(),
             last: first_minute(),
         })
     }

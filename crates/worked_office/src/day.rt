@@ -73,7 +73,7 @@ fn ask(alloc: Global, office: &mut Office, line: &[u8], reading: i64) -> Result<
         Err(Or::OutOfMemory) => return Err(Oom),
     };
     if office.opened_drafts() == u32::MAX {
-        return as_line(out_of_memory_text(alloc)?);
+        return said(alloc, out_of_memory_text());
     }
     match office.prepare(alloc, asked.desk, asked.seq, &asked.request, reading) {
         Ok(Ready::New(prepared)) => {
