@@ -10,3 +10,5 @@ pub mod Turns
 pub mod DeadLemmas
 pub mod ZoneLemmas
 pub mod HeldLemmas
+pub mod Runs
+pub mod Places

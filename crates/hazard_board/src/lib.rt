@@ -7,16 +7,17 @@ ghost use Rattle.hazard_types.specs.Same.{same_event};
 ghost use Rattle.event_life.specs.Products.{by_key, row_at, has_rows, going_in, rows_after};
 ghost use Rattle.event_life.specs.Shown.{shown_at};
 ghost use Rattle.event_life.specs.Reordered.{are_lawful};
-ghost use Rattle.hazard_board.specs.Board.{has_period, live_in, by_row_event, openings};
+ghost use Rattle.hazard_board.specs.Board.{has_period, slice_of, live_in, by_row_event, openings};
 ghost use Rattle.hazard_board.specs.Clashes.{clashes, least_clash, by_clash};
 ghost use Rattle.hazard_board.specs.Taken.{rows_taken};
 
 mod conflicts;
 mod laws;
 mod lines;
+mod searches;
 
 use conflicts::first_clash;
-use event_life::{going_in, has_period, has_rows, is_live, row_at};
+use event_life::{going_in, has_period, has_rows, is_live};
 use hazard_types::{Clash, Event, Hazard, Line, List, Minute, Oom, Period, Row, Zone};
 pub use laws::{
     consistent_rows_have_one_open_event, consistent_rows_stay_consistent, lawful_lines_are_taken,
@@ -24,6 +25,7 @@ pub use laws::{
     products_keep_rows_consistent, read_rows_are_consistent,
 };
 use lines::{rows_taken, take_lines};
+use searches::{row_at, slice_of};
 use std::alloc::{AllocError, Global};
 use std::marker::Model;
 
@@ -47,12 +49,12 @@ impl Model for Board {
     ghost invariant = { λ b. IsStrictlySortedBy by_key b.rows.items };
 }
 
-/// The live rows of a zone.
-fn live_in(alloc: Global, rows: &[Row], z: &Zone, t: Minute) -> Result<Vec<Row>, AllocError>
-    ensures { IfOk result (λ live. live.items ≡ live_in z.now t rows.now) }
+/// The live rows among some.
+fn live(alloc: Global, rows: &[Row], t: Minute) -> Result<Vec<Row>, AllocError>
+    ensures { IfOk result (λ live. live.items ≡ shown_at t rows.now) }
 {
     rows.iter()
-        .filter(|row| row.zone == *z && is_live(row, t))
+        .filter(|row| is_live(row, t))
         .copied()
         .collect(alloc)
 }
@@ -98,6 +100,14 @@ impl Board {
         row_at(&self.rows, &e, &z)
     }
 
+    /// All rows of a zone, ended ones among them, by event.
+    pub fn slice_of(&self, z: Zone) -> &[Row]
+        ensures rows { result.now ≡ slice_of z self.now.rows }
+        ensures order { IsStrictlySortedBy by_row_event result.now }
+    {
+        slice_of(&self.rows, &z)
+    }
+
     /// Whether the event has a row, ended or not.
     pub fn has(&self, e: Event) -> bool
         ensures { result ≡ has_rows self.now.rows e }
@@ -131,7 +141,7 @@ impl Board {
         ensures rows { IfOk result (λ live. live ≡ live_in z t self.now.rows) }
         ensures order { IfOk result (λ live. IsStrictlySortedBy by_row_event live) }
     {
-        Ok(List::from_vec(live_in(alloc, &self.rows, &z, t)?))
+        Ok(List::from_vec(live(alloc, slice_of(&self.rows, &z), t)?))
     }
 
     /// The live rows, by zone, then event.
