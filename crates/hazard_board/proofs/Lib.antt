@@ -12,3 +12,8 @@ pub mod ZoneLemmas
 pub mod HeldLemmas
 pub mod Runs
 pub mod Places
+pub mod StandingLemmas
+pub mod SettleLemmas
+pub mod Seats
+pub mod LatestLemmas
+pub mod OpenLemmas

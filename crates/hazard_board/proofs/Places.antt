@@ -30,12 +30,12 @@ event_never_falls a b less g = cc
 
 -- a tie is the test `==`
 
-is_tied : (o : Ordering) → is_eq o ≡ true → o ≡ Equal
+pub is_tied : (o : Ordering) → is_eq o ≡ true → o ≡ Equal
 is_tied Less h = cc
 is_tied Equal h = refl
 is_tied Greater h = cc
 
-alike : (s t : Bool) → (s ≡ true → t ≡ true) → (t ≡ true → s ≡ true) → s ≡ t
+pub alike : (s t : Bool) → (s ≡ true → t ≡ true) → (t ≡ true → s ≡ true) → s ≡ t
 alike true t f g = sym (f refl)
 alike false true f g = g refl
 alike false false f g = refl

@@ -1,10 +1,11 @@
 -- Lists whose items rise against a key: the items at the key are a run, and the first of them is found at its front.
-use Rattle.std.proofs.Common.{◌≡◌, ◌≢◌, ◌∙◌, ℕ, suc, zero, ◌+◌, ◌-◌, ◌<◌, ◌≤◌, List, [], ◌∷◌, Bool, true, false, Option, Some, None, Ordering, Less, Equal, Greater, refl, sym, ap, cond, length, get_or, take, drop, filter, find, is_eq, is_lt, is_le, arith, one-add}
+use Rattle.std.proofs.Common.{◌≡◌, ◌≢◌, ◌∙◌, ℕ, suc, zero, ◌+◌, ◌-◌, ◌<◌, ◌≤◌, List, [], ◌∷◌, Bool, true, false, Option, Some, None, Ordering, Less, Equal, Greater, refl, sym, ap, cond, length, get_or, take, drop, insert, remove, slice_set, filter, find, is_eq, is_lt, is_le, arith, one-add}
 use Rattle.std.specs.List.{AllByRecursion, prefix_len}
 use Rattle.std.specs.List.Sorted.{IsStrictlySortedBy, IsPartitionedBy}
 use Rattle.std.specs.Ordering.{ordering_reverse}
 use Rattle.std.specs.Cmp.{IsTotalOrder}
 use Rattle.std.proofs.lemmas.List.Sums.{prefix_len_is}
+use Rattle.hazard_board.specs.Seats.{placed_at, put_at, left_at, left_out}
 
 -- how an item stands against a key, and how a later one may
 abbrev pub Up : Ordering → Ordering → Type 0
@@ -94,6 +95,85 @@ module _ {X : Type 0} (ord : X → Ordering) where
   pub run : (xs : List X) → Rises ord xs → take (back (drop (front xs) xs)) (drop (front xs) xs) ≡ filter tied xs
   run [] up = refl
   run (x ∷ xs) up = run_step (ord x) x xs refl up.0 up.1 (run xs up.1)
+
+-- an item put at the key, or the items without the one at the key
+module _ {X : Type 0} (ord : X → Ordering) where
+  none_past : (o : Ordering) (x : X) (xs : List X) (i : ℕ) → ord x ≡ o → suc i ≡ front ord (x ∷ xs) → (o ≡ Less) × (i ≡ front ord xs)
+  none_past Less x xs i e place = let next : suc i ≡ 1 + front ord xs = rw e at place in (refl, omega (arith, next))
+  none_past Equal x xs i e place = let none : suc i ≡ 0 = rw e at place in absurd (omega (arith, none))
+  none_past Greater x xs i e place = let none : suc i ≡ 0 = rw e at place in absurd (omega (arith, none))
+
+  not_past : (o : Ordering) (x : X) (xs : List X) → ord x ≡ o → 0 ≡ front ord (x ∷ xs) → o ≢ Less
+  not_past Less x xs e place g = let none : 0 ≡ 1 + front ord xs = rw e at place in omega (arith, none)
+  not_past Equal x xs e place g = cc
+  not_past Greater x xs e place g = cc
+
+  gap_here : (o : Ordering) (y x : X) (xs : List X) → o ≢ Less → is_eq o ≡ false → y ∷ x ∷ xs ≡ placed_at o y x xs (put_at ord y xs)
+  gap_here Less y x xs less other = absurd (less refl)
+  gap_here Equal y x xs less other = cc
+  gap_here Greater y x xs less other = refl
+
+  pub inserted : (y : X) (xs : List X) (i : ℕ) → i ≡ front ord xs → ((d : X) → i < length xs → tied ord (get_or xs i d) ≡ false) → insert xs i y ≡ put_at ord y xs
+  inserted y [] zero place other = refl
+  inserted y [] (suc i) place other = absurd (omega (arith, place))
+  inserted y (x ∷ xs) zero place other = gap_here (ord x) y x xs (not_past (ord x) x xs refl place) (other x (omega arith))
+  inserted y (x ∷ xs) (suc i) place other =
+      let p = none_past (ord x) x xs i refl place in
+      rw (p.0) (ap (λ (ys : List X). x ∷ ys) (inserted y xs i p.1 (λ d lt. other d (omega (arith, lt)))))
+
+  set_here : (o : Ordering) (y x : X) (xs : List X) → is_eq o ≡ true → y ∷ xs ≡ placed_at o y x xs (put_at ord y xs)
+  set_here Less y x xs own = cc
+  set_here Equal y x xs own = refl
+  set_here Greater y x xs own = cc
+
+  pub replaced : (y : X) (xs : List X) (i : ℕ) (x : X) → i ≡ front ord xs → i < length xs → x ≡ get_or xs i x → tied ord x ≡ true → slice_set xs i y ≡ put_at ord y xs
+  replaced y [] i z place within is own = absurd (omega (arith, within))
+  replaced y (x ∷ xs) zero z place within is own = set_here (ord x) y x xs (ap (tied ord) (sym is) ∙ own)
+  replaced y (x ∷ xs) (suc i) z place within is own =
+      let p = none_past (ord x) x xs i refl place in
+      rw (p.0) (ap (λ (ys : List X). x ∷ ys) (replaced y xs i z p.1 (omega (arith, within)) is own))
+
+  left_here : (o : Ordering) (x : X) (xs : List X) → is_eq o ≡ true → xs ≡ left_at o x xs (left_out ord xs)
+  left_here Less x xs own = cc
+  left_here Equal x xs own = refl
+  left_here Greater x xs own = cc
+
+  pub removed : (xs : List X) (i : ℕ) (x : X) → i ≡ front ord xs → i < length xs → x ≡ get_or xs i x → tied ord x ≡ true → remove xs i ≡ left_out ord xs
+  removed [] i z place within is own = absurd (omega (arith, within))
+  removed (x ∷ xs) zero z place within is own = left_here (ord x) x xs (ap (tied ord) (sym is) ∙ own)
+  removed (x ∷ xs) (suc i) z place within is own =
+      let p = none_past (ord x) x xs i refl place in
+      rw (p.0) (ap (λ (ys : List X). x ∷ ys) (removed xs i z p.1 (omega (arith, within)) is own))
+
+  stays_here : (o : Ordering) (x : X) (xs : List X) → o ≢ Less → is_eq o ≡ false → left_at o x xs (left_out ord xs) ≡ x ∷ xs
+  stays_here Less x xs less other = absurd (less refl)
+  stays_here Equal x xs less other = cc
+  stays_here Greater x xs less other = refl
+
+  pub stays : (xs : List X) (i : ℕ) → i ≡ front ord xs → ((d : X) → i < length xs → tied ord (get_or xs i d) ≡ false) → left_out ord xs ≡ xs
+  stays [] i place other = refl
+  stays (x ∷ xs) zero place other = stays_here (ord x) x xs (not_past (ord x) x xs refl place) (other x (omega arith))
+  stays (x ∷ xs) (suc i) place other =
+      let p = none_past (ord x) x xs i refl place in
+      rw (p.0) (ap (λ (ys : List X). x ∷ ys) (stays xs i p.1 (λ d lt. other d (omega (arith, lt)))))
+
+  keeps_placed : (P : X → Type 0) (o : Ordering) (y x : X) (xs behind : List X) → P y → AllByRecursion P (x ∷ xs) → AllByRecursion P behind → AllByRecursion P (placed_at o y x xs behind)
+  keeps_placed P Less y x xs behind p all more = (all.0, more)
+  keeps_placed P Equal y x xs behind p all more = (p, all.1)
+  keeps_placed P Greater y x xs behind p all more = (p, all)
+
+  pub keeps_put : (P : X → Type 0) (y : X) (xs : List X) → P y → AllByRecursion P xs → AllByRecursion P (put_at ord y xs)
+  keeps_put P y [] p all = (p, tt)
+  keeps_put P y (x ∷ xs) p all = keeps_placed P (ord x) y x xs (put_at ord y xs) p all (keeps_put P y xs p all.1)
+
+  keeps_rest : (P : X → Type 0) (o : Ordering) (x : X) (xs behind : List X) → AllByRecursion P (x ∷ xs) → AllByRecursion P behind → AllByRecursion P (left_at o x xs behind)
+  keeps_rest P Less x xs behind all more = (all.0, more)
+  keeps_rest P Equal x xs behind all more = all.1
+  keeps_rest P Greater x xs behind all more = all
+
+  pub keeps_left : (P : X → Type 0) (xs : List X) → AllByRecursion P xs → AllByRecursion P (left_out ord xs)
+  keeps_left P [] all = tt
+  keeps_left P (x ∷ xs) all = keeps_rest P (ord x) x xs (left_out ord xs) all (keeps_left P xs all.1)
 
 -- the place of a partition
 pub at_point : {X : Type 0} (p : X → Bool) (xs : List X) (n : ℕ) → n ≤ length xs →
@@ -185,7 +265,7 @@ module _ {X : Type 0} (ord : X → Ordering) where
   not_there [] i up place none = refl
   not_there (y ∷ xs) i up place none = not_step (ord y) y xs i refl up.0 place none (λ j p h. not_there xs j up.1 p h)
 
-  default_free : (xs : List X) (i : ℕ) (c d : X) → i < length xs → get_or xs i c ≡ get_or xs i d
+  pub default_free : (xs : List X) (i : ℕ) (c d : X) → i < length xs → get_or xs i c ≡ get_or xs i d
   default_free [] i c d within = absurd (omega (arith, within))
   default_free (x ∷ xs) zero c d within = refl
   default_free (x ∷ xs) (suc i) c d within = default_free xs i c d (omega (arith, within))

@@ -14,11 +14,14 @@ ghost use Rattle.hazard_board.specs.Taken.{rows_taken};
 mod conflicts;
 mod laws;
 mod lines;
+mod open_events;
 mod searches;
+mod standing;
 
 use conflicts::first_clash;
 use event_life::{going_in, has_period, has_rows, is_live};
 use hazard_types::{Clash, Event, Hazard, Line, List, Minute, Oom, Period, Row, Zone};
+pub use standing::Standing;
 pub use laws::{
     consistent_rows_have_one_open_event, consistent_rows_stay_consistent, lawful_lines_are_taken,
     lines_on_held_numbers_are_taken, no_event_comes_ahead_of_its_year, no_rows_are_consistent,
@@ -26,6 +29,7 @@ pub use laws::{
 };
 use lines::{rows_taken, take_lines};
 use searches::{row_at, slice_of};
+use standing::settle;
 use std::alloc::{AllocError, Global};
 use std::marker::Model;
 
@@ -33,20 +37,22 @@ use std::marker::Model;
 #[derive(Drop)]
 pub struct Board {
     rows: Vec<Row>,
+    standing: Vec<Standing>,
 }
 
 impl Model for Board {
-    ghost use Rattle.std.specs.Prelude.{◌-◌};
+    ghost use Rattle.std.specs.Prelude.{◌-◌, min};
     ghost use Rattle.std.specs.List.Sorted.{IsStrictlySortedBy};
     ghost use Rattle.std.specs.Vec.{vec_len, vec_capacity};
     ghost use Rattle.event_life.specs.Products.{by_key};
     ghost use Rattle.hazard_board.specs.Board.{Posted};
+    ghost use Rattle.hazard_board.specs.Standing.{AreStanding};
 
     ghost Value = { Posted };
 
-    ghost view = { λ b. record { rows = b.rows.items; spare = vec_capacity b.rows - vec_len b.rows } };
+    ghost view = { λ b. record { rows = b.rows.items; spare = min (vec_capacity b.rows - vec_len b.rows) (vec_capacity b.standing - vec_len b.standing) } };
 
-    ghost invariant = { λ b. IsStrictlySortedBy by_key b.rows.items };
+    ghost invariant = { λ b. IsStrictlySortedBy by_key b.rows.items × AreStanding b.rows.items b.standing.items };
 }
 
 /// The live rows among some.
@@ -78,6 +84,7 @@ impl Board {
     {
         Board {
             rows: Vec::new(alloc),
+            standing: Vec::new(alloc),
         }
     }
 
@@ -89,6 +96,7 @@ impl Board {
         ensures err { OnErr result (self.old.spare < n) }
     {
         self.rows.reserve(n)?;
+        self.standing.reserve(n)?;
         Ok(())
     }
 
@@ -163,6 +171,7 @@ impl Board {
             Ok(()) => {}
             Err(_) => unreachable!(),
         }
+        settle(&mut self.standing, &self.rows, lines.as_slice());
     }
 
     /// The least clash after the lines, with NumberHeld left aside: two live rows of one zone whose events are of one family and whose periods overlap.

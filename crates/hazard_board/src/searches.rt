@@ -6,10 +6,12 @@ ghost use Rattle.std.specs.Ordering.{is_lt, is_le};
 ghost use Rattle.hazard_types.specs.Orders.{by_event};
 ghost use Rattle.hazard_types.specs.Places.{by_place};
 ghost use Rattle.hazard_types.specs.Same.{same_event};
-ghost use Rattle.event_life.specs.Products.{by_key, row_at};
+ghost use Rattle.event_life.specs.Products.{by_key, put, row_at};
+ghost use Rattle.event_life.specs.Seats.{IsSeat, seated};
 ghost use Rattle.hazard_board.specs.Board.{by_row_event, slice_of};
 
 use hazard_types::{Event, Row, Zone};
+use std::cmp::Ordering;
 
 /// How many of the rows are of zones before this one.
 fn rows_before(rows: &[Row], z: &Zone) -> usize
@@ -81,4 +83,42 @@ pub fn row_at(rows: &[Row], e: &Event, z: &Zone) -> Option<Row>
     ensures { result ≡ row_at rows.now e.now z.now }
 {
     row_of_event(slice_of(rows, z), e)
+}
+
+/// How two rows stand in the order by zone, then event.
+fn order(a: &Row, b: &Row) -> Ordering
+    ensures { result ≡ by_key a.now b.now }
+{
+    a.zone.cmp(&b.zone).then(a.event.order(&b.event))
+}
+
+/// How many of the rows come before this one.
+fn rows_below(rows: &[Row], row: &Row) -> usize
+    requires { IsStrictlySortedBy by_key rows.now }
+    ensures value { result ≡ prefix_len (λ other. is_lt (by_key other row.now)) rows.now }
+    ensures bound { result ≤ length rows.now }
+{
+    rows.partition_point(
+        |other: &Row| -> bool
+            ensures { result ≡ is_lt (by_key other.now row.entry.now) }
+        { order(other, row).is_lt() },
+    )
+}
+
+/// The place of the row of this zone and event, or else the place where the row belongs.
+pub fn seat_of(rows: &[Row], row: &Row) -> Result<usize, usize>
+    requires { IsStrictlySortedBy by_key rows.now }
+    ensures seat { IsSeat result rows.now }
+    ensures seated { seated result row.now rows.now ≡ put row.now rows.now }
+{
+    let place = rows_below(rows, row);
+    if place >= rows.len() {
+        return Err(place);
+    }
+    let found = &rows[place];
+    if order(found, row).is_eq() {
+        Ok(place)
+    } else {
+        Err(place)
+    }
 }

@@ -10,7 +10,7 @@ use Rattle.hazard_board.proofs.Turns.{rows_taken-sorted}
 use Rattle.hazard_board.proofs.Board.conflict.Goals as goal
 
 pub returns-in_err-after-clause-order : goal.returns-in_err-after-clause-order
-returns-in_err-after-clause-order c = rw (← c.self.view_is) (clashes_sorted c.args.t (rows_taken c.self.inside.rows.items c.args.t c.args.lines.now) (rows_taken-sorted c.self.inside.rows.items c.args.t c.args.lines.now c.self.invariant))
+returns-in_err-after-clause-order c = rw (← c.self.view_is) (clashes_sorted c.args.t (rows_taken c.self.inside.rows.items c.args.t c.args.lines.now) (rows_taken-sorted c.self.inside.rows.items c.args.t c.args.lines.now c.self.invariant.0))
 
 pub returns-clause-value : goal.returns-clause-value
 returns-clause-value c =
@@ -20,7 +20,7 @@ returns-clause-value c =
     ∙ ap (λ (after : List Row). least_clash c.args.t after) (c.deref-2.ensures.value ∙ c.in_ok-after.ensures ∙ rows ∙ lines)
 
 pub returns-clause-order : goal.returns-clause-order
-returns-clause-order c = rw (← c.self.view_is) (clashes_sorted c.args.t (rows_taken c.self.inside.rows.items c.args.t c.args.lines.now) (rows_taken-sorted c.self.inside.rows.items c.args.t c.args.lines.now c.self.invariant))
+returns-clause-order c = rw (← c.self.view_is) (clashes_sorted c.args.t (rows_taken c.self.inside.rows.items c.args.t c.args.lines.now) (rows_taken-sorted c.self.inside.rows.items c.args.t c.args.lines.now c.self.invariant.0))
 
 pub first_clash-requires : goal.first_clash-requires
-first_clash-requires c = rw (c.deref-2.ensures.value ∙ c.in_ok-after.ensures) (rows_taken-sorted c.deref.result.now c.args.t c.as_slice.result.now (rw c.deref.ensures.value c.self.invariant))
+first_clash-requires c = rw (c.deref-2.ensures.value ∙ c.in_ok-after.ensures) (rows_taken-sorted c.deref.result.now c.args.t c.as_slice.result.now (rw c.deref.ensures.value c.self.invariant.0))

@@ -18,4 +18,4 @@ pub returns-clause-rows : goal.returns-clause-rows
 returns-clause-rows c = kept c ∙ ap (λ (p : Posted). live_in c.args.z c.args.t p.rows) c.self.view_is
 
 pub returns-clause-order : goal.returns-clause-order
-returns-clause-order c = rw (kept c) (zone_by_event c.args.z (is_live c.args.t) c.self.inside.rows.items c.self.invariant)
+returns-clause-order c = rw (kept c) (zone_by_event c.args.z (is_live c.args.t) c.self.inside.rows.items c.self.invariant.0)
