@@ -17,3 +17,4 @@ pub mod SettleLemmas
 pub mod Seats
 pub mod LatestLemmas
 pub mod OpenLemmas
+pub mod GoingLemmas

@@ -67,7 +67,7 @@ first_end : (b : Bool) (s : Standing) (standing : List Standing) (e : Event) →
 first_end true s standing e = refl
 first_end false s standing e = refl
 
-end_cons : (s : Standing) (standing : List Standing) (e : Event) → end_in (s ∷ standing) e ≡ cond (same_event s.event e) (Some s.latest) (end_in standing e)
+pub end_cons : (s : Standing) (standing : List Standing) (e : Event) → end_in (s ∷ standing) e ≡ cond (same_event s.event e) (Some s.latest) (end_in standing e)
 end_cons s standing e = first_end (same_event s.event e) s standing e
 
 either : {X : Type 0} (b c : Bool) (x w y : X) → (b ≡ true → c ≡ false) → cond b x (cond c w y) ≡ cond c w (cond b x y)

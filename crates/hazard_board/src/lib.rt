@@ -9,6 +9,7 @@ ghost use Rattle.event_life.specs.Shown.{shown_at};
 ghost use Rattle.event_life.specs.Reordered.{are_lawful};
 ghost use Rattle.hazard_board.specs.Board.{has_period, slice_of, live_in, by_row_event, openings};
 ghost use Rattle.hazard_board.specs.Clashes.{clashes, least_clash, by_clash};
+ghost use Rattle.hazard_board.specs.Standing.{AreStandingOf};
 ghost use Rattle.hazard_board.specs.Taken.{rows_taken};
 
 mod conflicts;
@@ -19,7 +20,7 @@ mod searches;
 mod standing;
 
 use conflicts::first_clash;
-use event_life::{going_in, has_period, has_rows, is_live};
+use event_life::{has_period, has_rows, is_live};
 use hazard_types::{Clash, Event, Hazard, Line, List, Minute, Oom, Period, Row, Zone};
 pub use standing::Standing;
 pub use laws::{
@@ -28,6 +29,7 @@ pub use laws::{
     products_keep_rows_consistent, read_rows_are_consistent,
 };
 use lines::{rows_taken, take_lines};
+use open_events::{of_hazard, open_event};
 use searches::{row_at, slice_of};
 use standing::settle;
 use std::alloc::{AllocError, Global};
@@ -134,7 +136,14 @@ impl Board {
     pub fn going(&self, h: Hazard, etn: u16, t: Minute) -> Option<Event>
         ensures { result ≡ going_in self.now.rows h etn t }
     {
-        going_in(&self.rows, &h, etn, t)
+        open_event(&self.standing, &h, etn, t)
+    }
+
+    /// The standing events of a hazard, by number, then year: those with a row that no line has ended, each with the greatest end of these rows.
+    pub fn standing(&self, h: Hazard) -> &[Standing]
+        ensures { AreStandingOf h self.now.rows result.now }
+    {
+        of_hazard(&self.standing, &h)
     }
 
     /// Whether a live row of the event has the same period.
