@@ -18,3 +18,4 @@ pub mod Seats
 pub mod LatestLemmas
 pub mod OpenLemmas
 pub mod GoingLemmas
+pub mod SliceLemmas

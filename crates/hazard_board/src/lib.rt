@@ -19,7 +19,7 @@ mod open_events;
 mod searches;
 mod standing;
 
-use conflicts::first_clash;
+use conflicts::{clash_after, still_apart};
 use event_life::{has_period, has_rows, is_live};
 use hazard_types::{Clash, Event, Hazard, Line, List, Minute, Oom, Period, Row, Zone};
 pub use standing::Standing;
@@ -28,7 +28,7 @@ pub use laws::{
     lines_on_held_numbers_are_taken, no_event_comes_ahead_of_its_year, no_rows_are_consistent,
     products_keep_rows_consistent, read_rows_are_consistent,
 };
-use lines::{rows_taken, take_lines};
+use lines::take_lines;
 use open_events::{of_hazard, open_event};
 use searches::{row_at, slice_of};
 use standing::settle;
@@ -40,21 +40,24 @@ use std::marker::Model;
 pub struct Board {
     rows: Vec<Row>,
     standing: Vec<Standing>,
+    // No rows of one zone and family that no line has ended overlap. Then only the zones of a product's lines can come to have a clash.
+    apart: bool,
 }
 
 impl Model for Board {
-    ghost use Rattle.std.specs.Prelude.{◌-◌, min};
+    ghost use Rattle.std.specs.Prelude.{◌≡◌, ◌-◌, min, true};
     ghost use Rattle.std.specs.List.Sorted.{IsStrictlySortedBy};
     ghost use Rattle.std.specs.Vec.{vec_len, vec_capacity};
     ghost use Rattle.event_life.specs.Products.{by_key};
     ghost use Rattle.hazard_board.specs.Board.{Posted};
+    ghost use Rattle.hazard_board.specs.Consistent.{AreApart};
     ghost use Rattle.hazard_board.specs.Standing.{AreStanding};
 
     ghost Value = { Posted };
 
     ghost view = { λ b. record { rows = b.rows.items; spare = min (vec_capacity b.rows - vec_len b.rows) (vec_capacity b.standing - vec_len b.standing) } };
 
-    ghost invariant = { λ b. IsStrictlySortedBy by_key b.rows.items × AreStanding b.rows.items b.standing.items };
+    ghost invariant = { λ b. IsStrictlySortedBy by_key b.rows.items × AreStanding b.rows.items b.standing.items × (b.apart ≡ true → AreApart b.rows.items) };
 }
 
 /// The live rows among some.
@@ -87,6 +90,7 @@ impl Board {
         Board {
             rows: Vec::new(alloc),
             standing: Vec::new(alloc),
+            apart: true,
         }
     }
 
@@ -181,6 +185,7 @@ impl Board {
             Err(_) => unreachable!(),
         }
         settle(&mut self.standing, &self.rows, lines.as_slice());
+        self.apart = still_apart(self.apart, &self.rows, lines.as_slice());
     }
 
     /// The least clash after the lines, with NumberHeld left aside: two live rows of one zone whose events are of one family and whose periods overlap.
@@ -193,7 +198,6 @@ impl Board {
         ensures value { IfOk result (λ found. found ≡ least_clash t (rows_taken self.now.rows t lines.now)) }
         ensures order { IsStrictlySortedBy by_clash (clashes t (rows_taken self.now.rows t lines.now)) }
     {
-        let after = rows_taken(alloc, &self.rows, lines.as_slice(), t)?;
-        Ok(first_clash(&after, t))
+        clash_after(alloc, &self.rows, lines.as_slice(), t, self.apart)
     }
 }

@@ -3,11 +3,12 @@ ghost use Rattle.std.specs.Prelude.{◌≡◌, ◌≤◌, ◌<◌, length, IfOk,
 ghost use Rattle.std.specs.List.Sorted.{IsStrictlySortedBy};
 ghost use Rattle.std.specs.Vec.{vec_capacity};
 ghost use Rattle.event_life.specs.Products.{by_key, put, life_at};
+ghost use Rattle.hazard_board.specs.Board.{slice_of};
 ghost use Rattle.hazard_board.specs.Taken.{wanted, row_left, put_if, rows_taken, taken_in_turn};
 
-use crate::searches::{row_at, seat_of};
+use crate::searches::{row_at, seat_of, slice_of};
 use event_life::{Around, Life, is_routine, life_step, row_of};
-use hazard_types::{Action, Line, Minute, Oom, Row};
+use hazard_types::{Action, Line, Minute, Oom, Row, Zone};
 use std::alloc::Global;
 
 /// What stands around a line, taken as a lawful line of this action has it.
@@ -104,6 +105,28 @@ pub fn rows_taken(alloc: Global, rows: &[Row], lines: &[Line], t: Minute) -> Res
     for line in lines {
         let row = row_left(rows, line, t);
         put_if(&mut after, &row)?;
+    }
+    Ok(after)
+}
+
+/// The rows of a zone after the lines, each of which meets the rows before them.
+pub fn zone_taken(
+    alloc: Global,
+    rows: &[Row],
+    lines: &[Line],
+    t: Minute,
+    z: &Zone,
+) -> Result<Vec<Row>, Oom>
+    requires { IsStrictlySortedBy by_key rows.now }
+    ensures items { IfOk result (λ after. after.items ≡ slice_of z.now (rows_taken rows.now t lines.now)) }
+    ensures order { IfOk result (λ after. IsStrictlySortedBy by_key after.items) }
+{
+    let mut after = Vec::from_slice(alloc, slice_of(rows, z))?;
+    for line in lines {
+        if line.zone == *z {
+            let row = row_left(rows, line, t);
+            put_if(&mut after, &row)?;
+        }
     }
     Ok(after)
 }

@@ -8,6 +8,9 @@ use Rattle.event_life.specs.Products.{by_key, rows_after}
 use Rattle.event_life.proofs.Puts.{rows_after-sorted}
 use Rattle.event_life.specs.Reordered.{are_lawful}
 use Rattle.hazard_board.specs.Board.{Posted, openings}
+use Rattle.std.proofs.lemmas.Bool.{and_parts}
+use Rattle.hazard_board.specs.Consistent.{zones_apart}
+use Rattle.hazard_board.proofs.SliceLemmas.{apart_after}
 use Rattle.hazard_board.specs.Standing.{latest_end, end_in, touched, newly}
 use Rattle.hazard_board.specs.Taken.{taken_in_turn}
 use Rattle.hazard_board.proofs.LatestLemmas.{few_come, kept_or_set}
@@ -31,6 +34,9 @@ unreachable-requires c =
     let spare = ap (λ (p : Posted). p.spare) c.self.view_is in
     omega (arith, long, full, spare, c.requires.spare, c.self.inside.rows.ok.0, c.self.inside.rows.ok.1)
 
+ordered : (c : After-take_lines) → c.take_lines.new.rows.items ≡ taken_in_turn c.args.t c.self.inside.rows.items c.as_slice.result.now → IsStrictlySortedBy by_key c.take_lines.new.rows.items
+ordered c is = rw (is ∙ turned c) (rows_after-sorted c.self.inside.rows.items c.args.t c.args.lines.now c.self.invariant.0)
+
 come : (c : After-take_lines) → newly c.self.inside.standing.items c.args.lines.now ≤ openings c.args.lines.now
 come c = few_come c.self.inside.rows.items c.args.t c.args.lines.now c.self.inside.standing.items c.self.invariant.1.latest (lawful c)
 
@@ -40,19 +46,28 @@ settle-requires-clause-room c =
     let spare = ap (λ (p : Posted). p.spare) c.self.view_is in
     rw (c.as_slice-2.ensures) (omega (arith, few, spare, c.requires.spare, c.self.inside.standing.ok.0, c.self.inside.standing.ok.1))
 
+pub still_apart-self-inside-requires : goal.still_apart-self-inside-requires
+still_apart-self-inside-requires c = rw (c.deref-2.ensures.value) (ordered (goal.at.still_apart-self-inside-requires c).After-take_lines c.in-Ok.ensures.ok)
+
 pub invariant_of-self : goal.invariant_of-self
 invariant_of-self c =
     let rows = c.self.inside.rows.items in
     let lines = c.args.lines.now in
     let turns : c.take_lines.new.rows.items ≡ taken_in_turn c.args.t rows lines = c.in-Ok.ensures.ok ∙ ap (λ (some : List Line). taken_in_turn c.args.t rows some) c.as_slice.ensures in
-    let after = c.in-Ok.ensures.ok ∙ turned (goal.at.invariant_of-self c).After-take_lines in
-    let ordered : IsStrictlySortedBy by_key c.take_lines.new.rows.items = rw after (rows_after-sorted rows c.args.t lines c.self.invariant.0) in
     let ends : (e : Event) → end_in c.settle.new.standing.items e ≡ latest_end c.take_lines.new.rows.items e = λ e.
     c.settle.ensures.ends e
     ∙ ap (λ (some : List Line). cond (touched some e) (latest_end c.deref.result.now e) (end_in c.self.inside.standing.items e)) c.as_slice-2.ensures
     ∙ ap (λ (some : List Row). cond (touched lines e) (latest_end some e) (end_in c.self.inside.standing.items e)) c.deref.ensures.value
     ∙ kept_or_set c.args.t e rows lines c.take_lines.new.rows.items c.self.inside.standing.items turns (c.self.invariant.1.latest e) in
-    (ordered, record { order = c.settle.ensures.order; latest = ends })
+    let still : zones_apart c.deref-2.result.now c.as_slice-3.result.now ≡ zones_apart c.take_lines.new.rows.items lines =
+    ap (λ (some : List Row). zones_apart some c.as_slice-3.result.now) c.deref-2.ensures.value ∙ ap (zones_apart c.take_lines.new.rows.items) c.as_slice-3.ensures in
+    (
+      ordered (goal.at.invariant_of-self c).After-take_lines c.in-Ok.ensures.ok,
+      record { order = c.settle.ensures.order; latest = ends },
+      (λ is.
+        let both = and_parts c.self.inside.apart _ (sym c.still_apart-self-inside.ensures ∙ is) in
+        apart_after c.args.t rows c.take_lines.new.rows.items lines turns (c.self.invariant.2 both.0) (sym still ∙ both.1)),
+    )
 
 pub returns-clause-rows : goal.returns-clause-rows
 returns-clause-rows c = rw (← c.self.view_is) (c.in-Ok.ensures.ok ∙ turned (goal.at.returns-clause-rows c).After-take_lines)
