@@ -118,6 +118,7 @@ impl Board {
     pub fn slice_of(&self, z: Zone) -> &[Row]
         ensures rows { result.now ≡ slice_of z self.now.rows }
         ensures order { IsStrictlySortedBy by_row_event result.now }
+        ensures all_in_order { IsStrictlySortedBy by_key self.now.rows }
     {
         slice_of(&self.rows, &z)
     }
@@ -197,6 +198,7 @@ impl Board {
     ) -> Result<Option<Clash>, Oom>
         ensures value { IfOk result (λ found. found ≡ least_clash t (rows_taken self.now.rows t lines.now)) }
         ensures order { IsStrictlySortedBy by_clash (clashes t (rows_taken self.now.rows t lines.now)) }
+        ensures all_in_order { IsStrictlySortedBy by_key self.now.rows }
     {
         clash_after(alloc, &self.rows, lines.as_slice(), t, self.apart)
     }
