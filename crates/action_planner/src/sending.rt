@@ -1,5 +1,5 @@
 //! A draft that is sent at a minute, and which rows are overlaid after it: another row that it leaves live is of a higher rank of the family and overlaps them.
-ghost use Rattle.std.specs.Prelude.{◌≡◌, ◌&&◌, [], map, IfOk, OnOk};
+ghost use Rattle.std.specs.Prelude.{◌≡◌, ◌&&◌, ◌||◌, [], map, IfOk, OnOk};
 ghost use Rattle.std.specs.List.{list_any};
 ghost use Rattle.event_life.specs.Higher.{outranks};
 ghost use Rattle.action_planner.specs.Lines.{is_left, row_by_put, rows_by_intent, rows_by_puts, overlays, is_overlaid};
@@ -68,6 +68,13 @@ fn any_overlays(t: Minute, row: &Row, others: &[Row]) -> bool
     ensures { result ≡ list_any (overlays t row.now) others.now }
 {
     others.iter().any(|other| overlays(t, row, other))
+}
+
+/// Whether one of some standing rows that is left overlays a row, or one of some rows by puts does.
+fn is_overlaid_by(t: Minute, row: &Row, stand: &[Row], put: &[Row], spoken: &Spoken) -> bool
+    ensures { result ≡ (list_any (λ other. overlays t row.now other && is_left spoken.now other) stand.now || list_any (overlays t row.now) put.now) }
+{
+    any_left_overlays(t, row, stand, spoken) || any_overlays(t, row, put)
 }
 
 /// The rows of a zone.
@@ -207,7 +214,8 @@ impl<'a> Sending<'a> {
     pub fn is_overlaid(&self, row: &Row) -> bool
         ensures { result ≡ is_overlaid self.now.rows self.now.minute self.now.intents row.now }
     {
-        any_left_overlays(self.minute, row, self.board.slice_of(row.zone), self.spoken)
-            || any_overlays(self.minute, row, rows_in(&self.put, &row.zone))
+        let stand = self.board.slice_of(row.zone);
+        let put = rows_in(&self.put, &row.zone);
+        is_overlaid_by(self.minute, row, stand, put, self.spoken)
     }
 }
