@@ -24,14 +24,14 @@ fn later(a: &End, b: &End) -> End
     ensures { result ≡ later a.now b.now }
 {
     match a {
-        End::Ufn => End::Ufn,
+        End::Ufn => *a,
         End::At(m) => match b {
-            End::Ufn => End::Ufn,
+            End::Ufn => *b,
             End::At(n) => {
                 if m.get() < n.get() {
-                    End::At(*n)
+                    *b
                 } else {
-                    End::At(*m)
+                    *a
                 }
             }
         },
