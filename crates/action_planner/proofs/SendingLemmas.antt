@@ -1,4 +1,4 @@
--- The rows that a draft leaves live, found by their zones.
+-- The rows that a draft leaves, found by their zones.
 use Rattle.std.proofs.Common.{◌≡◌, ◌∙◌, ◌&&◌, ◌||◌, ℕ, Bool, true, false, List, [], ◌∷◌, ◌++◌, filter, Option, Some, cond, unwrap_or, refl, sym, ap, if◌then◌else◌}
 use Rattle.std.specs.BTreeMap.{is_at}
 use Rattle.std.specs.List.{list_any}
@@ -10,10 +10,10 @@ use Rattle.hazard_types.specs.declared.line.Row.{Row}
 use Rattle.hazard_types.proofs.OrderLaws.{by_place_total, by_place_ties}
 use Rattle.event_life.specs.Higher.{outranks}
 use Rattle.event_life.specs.Periods.{is_live, overlaps}
-use Rattle.event_life.specs.Shown.{shown_at}
+use Rattle.hazard_board.specs.Board.{slice_of}
 use Rattle.action_planner.specs.Placed.{Placed}
 use Rattle.action_planner.specs.Lines.{is_left, rows_by_intent, rows_by_puts, overlays, is_overlaid}
-use Rattle.action_planner.specs.Sending.{Sending, Zones, rows_in, add_row, add_rows, add_by_puts, live_left}
+use Rattle.action_planner.specs.Sending.{Zones, rows_in, add_row, add_rows, add_by_puts}
 use Rattle.action_planner.proofs.SpokenLemmas.{at_one, found_after, zone_at}
 
 added_in_turn : (zones : Zones) (xs ys : List Row) → add_rows (add_rows zones xs) ys ≡ add_rows zones (xs ++ ys)
@@ -26,10 +26,8 @@ put_in_turn zones rows t (p ∷ ps) =
     put_in_turn (add_rows zones (rows_by_intent rows t p p.intent)) rows t ps
     ∙ added_in_turn zones (rows_by_intent rows t p p.intent) (rows_by_puts rows t ps)
 
-pub all_added : (rows : List Row) (t : ℕ) (ps : List Placed) → add_by_puts (add_rows [] (filter (is_left ps) (shown_at t rows))) rows t ps ≡ add_rows [] (live_left (record { rows = rows; minute = t; intents = ps }))
-all_added rows t ps =
-    let left = filter (is_left ps) (shown_at t rows) in
-    put_in_turn (add_rows [] left) rows t ps ∙ added_in_turn [] left (rows_by_puts rows t ps)
+pub all_put : (rows : List Row) (t : ℕ) (ps : List Placed) → add_by_puts [] rows t ps ≡ add_rows [] (rows_by_puts rows t ps)
+all_put rows t ps = put_in_turn [] rows t ps
 
 -- a zone's rows are those of all rows that are in it
 
@@ -80,28 +78,32 @@ in_its_zone t row rows =
     ∙ any_same (λ (r : Row). same_zone r.zone row.zone && overlays t row r) (overlays t row)
     (λ r. asked_twice (same_zone r.zone row.zone) (is_live t r) (outranks r.event.hazard row.event.hazard) (overlaps r.period row.period)) rows
 
-live_twice : (left live here rank over : Bool) → (live && (left && (((here && live) && rank) && over))) ≡ (left && (((here && live) && rank) && over))
-live_twice left true here rank over = refl
-live_twice true false true rank over = refl
-live_twice true false false rank over = refl
-live_twice false false here rank over = refl
+asked_apart : (here live rank over left : Bool) → (here && ((((here && live) && rank) && over) && left)) ≡ (left && (((here && live) && rank) && over))
+asked_apart true true true true true = refl
+asked_apart true true true true false = refl
+asked_apart true true true false true = refl
+asked_apart true true true false false = refl
+asked_apart true true false over true = refl
+asked_apart true true false over false = refl
+asked_apart true false rank over true = refl
+asked_apart true false rank over false = refl
+asked_apart false live rank over true = refl
+asked_apart false live rank over false = refl
 
-among_live : (t : ℕ) (ps : List Placed) (row : Row) (rows : List Row) → list_any (overlays t row) (filter (is_left ps) (shown_at t rows)) ≡ list_any (overlays t row) (filter (is_left ps) rows)
-among_live t ps row rows =
-    any_of_filter (is_left ps) (overlays t row) (shown_at t rows)
-    ∙ any_of_filter (is_live t) (λ (r : Row). is_left ps r && overlays t row r) rows
-    ∙ any_same (λ (r : Row). is_live t r && (is_left ps r && overlays t row r)) (λ (r : Row). is_left ps r && overlays t row r)
-    (λ r. live_twice (is_left ps r) (is_live t r) (same_zone r.zone row.zone) (outranks r.event.hazard row.event.hazard) (overlaps r.period row.period)) rows
+left_in_zone : (t : ℕ) (ps : List Placed) (row : Row) (rows : List Row) → list_any (λ (r : Row). overlays t row r && is_left ps r) (slice_of row.zone rows) ≡ list_any (overlays t row) (filter (is_left ps) rows)
+left_in_zone t ps row rows =
+    any_of_filter (λ (r : Row). same_zone r.zone row.zone) (λ (r : Row). overlays t row r && is_left ps r) rows
+    ∙ any_same (λ (r : Row). same_zone r.zone row.zone && (overlays t row r && is_left ps r)) (λ (r : Row). is_left ps r && overlays t row r)
+    (λ r. asked_apart (same_zone r.zone row.zone) (is_live t r) (outranks r.event.hazard row.event.hazard) (overlaps r.period row.period) (is_left ps r)) rows
     ∙ sym (any_of_filter (is_left ps) (overlays t row) rows)
 
--- a row is overlaid where one that is left in its zone overlays it
-pub overlaid_in_zone : (s : Sending) (row : Row) (zones : Zones) → zones ≡ add_rows [] (live_left s) → list_any (overlays s.minute row) (rows_in zones row.zone) ≡ is_overlaid s.rows s.minute s.intents row
-overlaid_in_zone s row zones is =
-    let left = filter (is_left s.intents) (shown_at s.minute s.rows) in
-    let puts = rows_by_puts s.rows s.minute s.intents in
-    ap (λ (zs : Zones). list_any (overlays s.minute row) (rows_in zs row.zone)) is
-    ∙ ap (list_any (overlays s.minute row)) (rows_added [] (live_left s) row.zone)
-    ∙ in_its_zone s.minute row (live_left s)
-    ∙ list_any-append (overlays s.minute row) left puts
-    ∙ ap (λ b. b || list_any (overlays s.minute row) puts) (among_live s.minute s.intents row s.rows)
-    ∙ sym (list_any-append (overlays s.minute row) (filter (is_left s.intents) s.rows) puts)
+-- a row is overlaid where one that is left in its zone overlays it, or one that a put leaves there
+pub overlaid_in_zone : (rows : List Row) (t : ℕ) (ps : List Placed) (row : Row) (zones : Zones) → zones ≡ add_rows [] (rows_by_puts rows t ps) →
+    (list_any (λ (r : Row). overlays t row r && is_left ps r) (slice_of row.zone rows) || list_any (overlays t row) (rows_in zones row.zone)) ≡ is_overlaid rows t ps row
+overlaid_in_zone rows t ps row zones is =
+    let puts = rows_by_puts rows t ps in
+    let by_put : list_any (overlays t row) (rows_in zones row.zone) ≡ list_any (overlays t row) puts =
+    ap (λ (zs : Zones). list_any (overlays t row) (rows_in zs row.zone)) is ∙ ap (list_any (overlays t row)) (rows_added [] puts row.zone) ∙ in_its_zone t row puts in
+    ap (λ b. b || list_any (overlays t row) (rows_in zones row.zone)) (left_in_zone t ps row rows)
+    ∙ ap (λ b. list_any (overlays t row) (filter (is_left ps) rows) || b) by_put
+    ∙ sym (list_any-append (overlays t row) (filter (is_left ps) rows) puts)

@@ -157,6 +157,14 @@ zones_of_all q held (p ∷ ps) =
 pub zone_touched : (q : Place) (zones : List Place) (ps : List Placed) → zones ≡ zones_from [] ps → has_zone q zones ≡ list_any (touches q) ps
 zone_touched q zones ps is = ap (has_zone q) is ∙ zones_of_all q [] ps
 
+zone_alike : (q : Place) (zones : List Place) → list_any (λ (y : Place). same_zone y q) zones ≡ has_zone q zones
+zone_alike q [] = refl
+zone_alike q (z ∷ zones) = ap (λ (b : Bool). b || list_any (λ (y : Place). same_zone y q) zones) (sym (zone_at q z)) ∙ ap (λ (b : Bool). is_at (by_place q) z || b) (zone_alike q zones)
+
+-- told by the test of zones
+pub zone_listed : (q : Place) (zones : List Place) (ps : List Placed) → zones ≡ zones_from [] ps → list_any (λ (y : Place). same_zone y q) zones ≡ list_any (touches q) ps
+zone_listed q zones ps is = zone_alike q zones ∙ zone_touched q zones ps is
+
 -- what is asked of the intents on a spot, where each adds its own answer
 
 and_true : (b : Bool) → (b && true) ≡ b

@@ -27,7 +27,7 @@ use Rattle.hazard_types.specs.declared.request.Target.TheVariants.{Fresh, Join}
 use Rattle.event_life.specs.Higher.{outranks}
 use Rattle.event_life.specs.Periods.{ends_after, is_live, overlaps, same_at}
 use Rattle.event_life.specs.Products.{row_at}
-use Rattle.hazard_board.specs.Board.{has_period}
+use Rattle.hazard_board.specs.Board.{has_period, slice_of}
 use Rattle.action_planner.specs.Placed.{Placed, zones_of, touches, speaks}
 
 abbrev pub minute_of : Begin → ℕ → ℕ
@@ -172,6 +172,11 @@ goes_on_beside c t ps row = is_live t row && goes_on c ps row
 
 abbrev pub added_lines : Category → List Row → ℕ → List Placed → List Line
 added_lines c rows t ps = map (line_on Con t) (filter (goes_on_beside c t ps) rows)
+
+-- those of the rows of some zones, zone by zone
+abbrev pub added_in : Category → List Row → ℕ → List Placed → List Place → List Line
+added_in c rows t ps [] = []
+added_in c rows t ps (z ∷ zones) = map (line_on Con t) (filter (goes_on_beside c t ps) (slice_of z rows)) ++ added_in c rows t ps zones
 
 -- all lines of a draft
 abbrev pub planned_lines : Category → List Row → ℕ → List Placed → List Line

@@ -1,12 +1,11 @@
--- A draft that is sent at a minute, and the rows that it leaves live, zone by zone.
-use Rattle.std.specs.Prelude.{◌++◌, ℕ, List, [], ◌∷◌, filter, unwrap_or}
+-- A draft that is sent at a minute, and the rows that its puts leave, zone by zone.
+use Rattle.std.specs.Prelude.{◌++◌, ℕ, List, [], ◌∷◌, unwrap_or}
 use Rattle.std.specs.BTreeMap.{insert_entry, is_at}
 use Rattle.std.specs.Map.{lookup}
 use Rattle.hazard_types.specs.Places.{Place, by_place}
 use Rattle.hazard_types.specs.declared.line.Row.{Row}
-use Rattle.event_life.specs.Shown.{shown_at}
 use Rattle.action_planner.specs.Placed.{Placed}
-use Rattle.action_planner.specs.Lines.{is_left, rows_by_intent, rows_by_puts}
+use Rattle.action_planner.specs.Lines.{rows_by_intent}
 
 -- the intents of a draft, over the rows of a board
 pub record Sending : Type 0 where
@@ -33,7 +32,3 @@ add_rows zones (row ∷ rows) = add_rows (add_row zones row) rows
 abbrev pub add_by_puts : Zones → List Row → ℕ → List Placed → Zones
 add_by_puts zones rows t [] = zones
 add_by_puts zones rows t (p ∷ ps) = add_by_puts (add_rows zones (rows_by_intent rows t p p.intent)) rows t ps
-
--- the live rows that no put and no finish is on, and the rows by puts
-abbrev pub live_left : Sending → List Row
-live_left s = filter (is_left s.intents) (shown_at s.minute s.rows) ++ rows_by_puts s.rows s.minute s.intents

@@ -1,19 +1,18 @@
 //! The lines of a draft: what each intent says of each of its zones, and the rows that go on beside them.
-ghost use Rattle.std.specs.Prelude.{◌≡◌, ◌∷◌, [], ◌++◌, map, filter, IfOk, OnOk};
+ghost use Rattle.std.specs.Prelude.{◌≡◌, ◌<◌, ◌∷◌, [], ◌++◌, length, map, filter, IfOk, OnOk};
 ghost use Rattle.std.specs.List.{list_any};
 ghost use Rattle.std.specs.List.Sorted.{IsStrictlySortedBy};
 ghost use Rattle.hazard_types.specs.Hazards.{facts_of};
 ghost use Rattle.hazard_types.specs.declared.codes.Action.TheVariants.{Con};
 ghost use Rattle.event_life.specs.Products.{by_key};
-ghost use Rattle.event_life.specs.Shown.{shown_at};
 ghost use Rattle.action_planner.specs.Placed.{zones_of, touches, speaks};
-ghost use Rattle.action_planner.specs.Lines.{line_on, is_near_end, finishing_action, finish_lines, restate_lines, lines_in, lines_in_zones, lines_from, routine_line, follows, goes_on, goes_on_beside, added_lines, planned_lines};
+ghost use Rattle.action_planner.specs.Lines.{line_on, is_near_end, finishing_action, finish_lines, restate_lines, lines_in, lines_in_zones, lines_from, routine_line, follows, goes_on, goes_on_beside, added_in, added_lines, planned_lines};
 
 use crate::placed::{Placed, zones_of};
 use crate::puts::{printed_begin, put_line};
 use crate::sending::Sending;
 use crate::spoken::Spoken;
-use event_life::ends_after;
+use event_life::{ends_after, is_live};
 use hazard_types::desk_hazards::facts;
 use hazard_types::{
     Action, Category, End, Event, Hazard, Intent, Line, List, Minute, Oom, Row, Zone, is_flood,
@@ -161,6 +160,13 @@ fn goes_on(category: Category, spoken: &Spoken, row: &Row) -> bool
         && !spoken.speaks(&row.event, &row.zone)
 }
 
+/// Whether a row is live, and goes on beside the intents.
+fn goes_on_beside(category: Category, t: Minute, spoken: &Spoken, row: &Row) -> bool
+    ensures { result ≡ goes_on_beside category t spoken.now row.now }
+{
+    is_live(row, t) && goes_on(category, spoken, row)
+}
+
 /// Adds CON for each of these rows that goes on beside the intents.
 fn add_going_on(
     lines: &mut List<Line>,
@@ -169,30 +175,45 @@ fn add_going_on(
     spoken: &Spoken,
     rows: &[Row],
 ) -> Result<(), Oom>
-    ensures { OnOk result (lines.new ≡ lines.old ++ map (line_on Con t) (filter (goes_on category spoken.now) rows.now)) }
+    ensures { OnOk result (lines.new ≡ lines.old ++ map (line_on Con t) (filter (goes_on_beside category t spoken.now) rows.now)) }
 {
     for row in rows {
-        if goes_on(category, spoken, row) {
+        if goes_on_beside(category, t, spoken, row) {
             add_line(lines, &line_on(Action::Con, t, row))?;
         }
     }
     Ok(())
 }
 
-/// Adds CON for each row that goes on beside the intents.
-#[tactic(auto, using(crate::proofs::AddedLemmas::added_of_shown))]
+/// Adds CON for each row of these zones that goes on beside the intents.
+fn add_in_zones(
+    lines: &mut List<Line>,
+    sending: &Sending,
+    category: Category,
+    zones: &[Zone],
+) -> Result<(), Oom>
+    ensures lines { OnOk result (lines.new ≡ lines.old ++ added_in category sending.now.rows sending.now.minute sending.now.intents zones.now) }
+    ensures order { OnOk result (0 < length zones.now → IsStrictlySortedBy by_key sending.now.rows) }
+{
+    let board = sending.board();
+    let t = sending.minute();
+    for zone in zones {
+        add_going_on(lines, category, t, sending.spoken(), board.slice_of(*zone))?;
+    }
+    Ok(())
+}
+
+/// Adds CON for each row that goes on beside the intents: only the zones that they touch are looked at.
 fn add_beside(
     alloc: Global,
     lines: &mut List<Line>,
     sending: &Sending,
     category: Category,
 ) -> Result<(), Oom>
-    ensures lines { OnOk result (lines.new ≡ lines.old ++ added_lines category sending.now.rows sending.now.minute sending.now.intents) }
-    ensures order { IsStrictlySortedBy by_key sending.now.rows }
+    ensures { OnOk result (lines.new ≡ lines.old ++ added_lines category sending.now.rows sending.now.minute sending.now.intents) }
 {
-    let t = sending.minute();
-    let shown = sending.board().shown(alloc, t)?;
-    add_going_on(lines, category, t, sending.spoken(), shown.as_slice())
+    let zones = sending.spoken().zones(alloc)?;
+    add_in_zones(lines, sending, category, zones.as_slice())
 }
 
 /// The lines of a draft: what its intents say by place, then by zone as it was written, and the rows that go on beside them.
@@ -201,8 +222,7 @@ pub fn planned_lines(
     sending: &Sending,
     category: Category,
 ) -> Result<List<Line>, Oom>
-    ensures lines { IfOk result (λ lines. lines ≡ planned_lines category sending.now.rows sending.now.minute sending.now.intents) }
-    ensures order { OnOk result (IsStrictlySortedBy by_key sending.now.rows) }
+    ensures { IfOk result (λ lines. lines ≡ planned_lines category sending.now.rows sending.now.minute sending.now.intents) }
 {
     let mut lines = List::new(alloc);
     add_spoken(&mut lines, sending)?;

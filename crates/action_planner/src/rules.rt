@@ -1,6 +1,8 @@
 //! The first rule that a draft breaks.
 ghost use Rattle.std.specs.Prelude.{◌≡◌, ◌<◌, IfOk, option_map};
 ghost use Rattle.std.specs.List.{All};
+ghost use Rattle.std.specs.List.Sorted.{IsStrictlySortedBy};
+ghost use Rattle.event_life.specs.Products.{by_key};
 ghost use Rattle.hazard_board.specs.Clashes.{least_clash};
 ghost use Rattle.hazard_board.specs.Taken.{rows_taken};
 ghost use Rattle.hazard_board.specs.Consistent.{IsConsistent};
@@ -111,7 +113,8 @@ pub fn conflict(
     t: Minute,
     lines: &List<Line>,
 ) -> Result<Option<Refusal>, Oom>
-    ensures { IfOk result (λ found. found ≡ option_map refused_clash (least_clash t (rows_taken board.now.rows t lines.now))) }
+    ensures clash { IfOk result (λ found. found ≡ option_map refused_clash (least_clash t (rows_taken board.now.rows t lines.now))) }
+    ensures order { IsStrictlySortedBy by_key board.now.rows }
 {
     let clash = board.conflict(alloc, lines, t)?;
     Ok(clash.map(|clash| Refusal::Conflict {
@@ -156,7 +159,8 @@ pub fn broken_late(
 ) -> Result<Option<Refusal>, Oom>
     requires consistent { IsConsistent board.now.rows t }
     requires places { All (λ (p : PlacedIntent). p.place < 64) spoken.now }
-    ensures { IfOk result (λ found. found ≡ broken_late board.now.rows t spoken.now lines.now) }
+    ensures broken { IfOk result (λ found. found ≡ broken_late board.now.rows t spoken.now lines.now) }
+    ensures order { IsStrictlySortedBy by_key board.now.rows }
 {
     let overlap = conflict(alloc, board, t, lines)?;
     if overlap.is_some() {

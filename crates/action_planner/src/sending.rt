@@ -1,10 +1,9 @@
 //! A draft that is sent at a minute, and which rows are overlaid after it: another row that it leaves live is of a higher rank of the family and overlaps them.
-ghost use Rattle.std.specs.Prelude.{◌≡◌, [], map, filter, IfOk, OnOk};
+ghost use Rattle.std.specs.Prelude.{◌≡◌, ◌&&◌, ◌||◌, [], map, IfOk, OnOk};
 ghost use Rattle.std.specs.List.{list_any};
 ghost use Rattle.event_life.specs.Higher.{outranks};
-ghost use Rattle.event_life.specs.Shown.{shown_at};
-ghost use Rattle.action_planner.specs.Lines.{is_left, row_by_put, rows_by_intent, overlays, is_overlaid};
-ghost use Rattle.action_planner.specs.Sending.{Sending as Sent, rows_in, add_row, add_rows, add_by_puts, live_left};
+ghost use Rattle.action_planner.specs.Lines.{is_left, row_by_put, rows_by_intent, rows_by_puts, overlays, is_overlaid};
+ghost use Rattle.action_planner.specs.Sending.{Sending as Sent, rows_in, add_row, add_rows, add_by_puts};
 
 use crate::placed::Placed;
 use crate::puts::row_by_put;
@@ -26,18 +25,19 @@ pub struct Sending<'a> {
     board: &'a Board,
     minute: Minute,
     spoken: &'a Spoken<'a>,
-    live: Zones,
+    put: Zones,
 }
 
 impl<'a> Model for Sending<'a> {
     ghost use Rattle.std.specs.Prelude.{◌≡◌, []};
-    ghost use Rattle.action_planner.specs.Sending.{Sending as Sent, add_rows, live_left};
+    ghost use Rattle.action_planner.specs.Lines.{rows_by_puts};
+    ghost use Rattle.action_planner.specs.Sending.{Sending as Sent, add_rows};
 
     ghost Value = { Sent };
 
     ghost view = { λ s. record { rows = s.board.now.rows; minute = s.minute; intents = s.spoken.now } };
 
-    ghost invariant = { λ s. s.live.entries ≡ add_rows [] (live_left (record { rows = s.board.now.rows; minute = s.minute; intents = s.spoken.now })) };
+    ghost invariant = { λ s. s.put.entries ≡ add_rows [] (rows_by_puts s.board.now.rows s.minute s.spoken.now) };
 }
 
 /// Whether the first hazard is of a higher rank of the second's family.
@@ -70,6 +70,13 @@ fn any_overlays(t: Minute, row: &Row, others: &[Row]) -> bool
     others.iter().any(|other| overlays(t, row, other))
 }
 
+/// Whether one of some standing rows that is left overlays a row, or one of some rows by puts does.
+fn is_overlaid_by(t: Minute, row: &Row, stand: &[Row], put: &[Row], spoken: &Spoken) -> bool
+    ensures { result ≡ (list_any (λ other. overlays t row.now other && is_left spoken.now other) stand.now || list_any (overlays t row.now) put.now) }
+{
+    any_left_overlays(t, row, stand, spoken) || any_overlays(t, row, put)
+}
+
 /// The rows of a zone.
 fn rows_in<'a>(zones: &'a Zones, zone: &Zone) -> &'a [Row]
     ensures { result.now ≡ rows_in zones.now.entries zone.now }
@@ -95,16 +102,13 @@ fn is_left(spoken: &Spoken, row: &Row) -> bool
     !spoken.is_taken(&row.event, &row.zone)
 }
 
-/// Adds those of some rows on which no put and no finish is.
-fn add_left(alloc: Global, zones: &mut Zones, spoken: &Spoken, rows: &[Row]) -> Result<(), Oom>
-    ensures { OnOk result (zones.new.entries ≡ add_rows zones.old.entries (filter (is_left spoken.now) rows.now)) }
+/// Whether a row that no put and no finish is on overlays a row.
+fn any_left_overlays(t: Minute, row: &Row, others: &[Row], spoken: &Spoken) -> bool
+    ensures { result ≡ list_any (λ other. overlays t row.now other && is_left spoken.now other) others.now }
 {
-    for row in rows {
-        if is_left(spoken, row) {
-            add_row(alloc, zones, row)?;
-        }
-    }
-    Ok(())
+    others
+        .iter()
+        .any(|other| overlays(t, row, other) && is_left(spoken, other))
 }
 
 /// Adds the rows that a put leaves.
@@ -156,14 +160,12 @@ fn add_by_puts(
     Ok(())
 }
 
-/// The live rows that the draft leaves, by their zones.
-#[tactic(auto, using(crate::proofs::SendingLemmas::all_added))]
-fn live_left(alloc: Global, board: &Board, t: Minute, spoken: &Spoken) -> Result<Zones, Oom>
-    ensures { IfOk result (λ zones. zones.entries ≡ add_rows [] (live_left (record { rows = board.now.rows; minute = t; intents = spoken.now }))) }
+/// The rows that the puts leave, by their zones.
+#[tactic(auto, using(crate::proofs::SendingLemmas::all_put))]
+fn put_rows(alloc: Global, board: &Board, t: Minute, spoken: &Spoken) -> Result<Zones, Oom>
+    ensures { IfOk result (λ zones. zones.entries ≡ add_rows [] (rows_by_puts board.now.rows t spoken.now)) }
 {
     let mut zones = BTreeMap::new(alloc);
-    let shown = board.shown(alloc, t)?;
-    add_left(alloc, &mut zones, spoken, shown.as_slice())?;
     add_by_puts(alloc, &mut zones, board, t, spoken.intents())?;
     Ok(zones)
 }
@@ -178,12 +180,12 @@ impl<'a> Sending<'a> {
     ) -> Result<Self, Oom>
         ensures { IfOk result (λ sending. sending ≡ record { rows = board.now.rows; minute = minute; intents = spoken.now }) }
     {
-        let live = live_left(alloc, board, minute, spoken)?;
+        let put = put_rows(alloc, board, minute, spoken)?;
         Ok(Sending {
             board,
             minute,
             spoken,
-            live,
+            put,
         })
     }
 
@@ -212,6 +214,8 @@ impl<'a> Sending<'a> {
     pub fn is_overlaid(&self, row: &Row) -> bool
         ensures { result ≡ is_overlaid self.now.rows self.now.minute self.now.intents row.now }
     {
-        any_overlays(self.minute, row, rows_in(&self.live, &row.zone))
+        let stand = self.board.slice_of(row.zone);
+        let put = rows_in(&self.put, &row.zone);
+        is_overlaid_by(self.minute, row, stand, put, self.spoken)
     }
 }

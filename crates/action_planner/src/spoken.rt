@@ -1,13 +1,16 @@
 //! Look-ups over the intents of a draft: which of them are on an event in a zone, and which zones they touch. They are made once, and asked often.
 ghost use Rattle.std.specs.Prelude.{◌≡◌, ◌&&◌, ◌==◌, not, ℕ, [], is_some, IfOk, OnOk};
 ghost use Rattle.std.specs.List.{list_any};
+ghost use Rattle.std.specs.List.Sorted.{IsStrictlySortedBy};
+ghost use Rattle.hazard_types.specs.Places.{Place, by_place};
+ghost use Rattle.hazard_types.specs.Same.{same_zone};
 ghost use Rattle.action_planner.specs.Lines.{puts_or_finishes};
 ghost use Rattle.action_planner.specs.Offences.{is_shared};
 ghost use Rattle.action_planner.specs.Placed.{zones_of, touches, speaks};
 ghost use Rattle.action_planner.specs.Spoken.{speakers_with, add_spot, add_spots, spots_from, add_zones, zones_from, is_taken, has_other};
 
 use crate::placed::{Placed, zones_of};
-use hazard_types::{Event, Intent, Oom, Zone};
+use hazard_types::{Event, Intent, List, Oom, Zone};
 use std::alloc::Global;
 use std::collections::{BTreeMap, BTreeSet};
 use std::marker::Model;
@@ -144,6 +147,18 @@ fn zones_touched(alloc: Global, ps: &[Placed]) -> Result<BTreeSet<Zone>, Oom>
     Ok(zones)
 }
 
+/// The zones of a set, in order.
+fn listed(alloc: Global, zones: &BTreeSet<Zone>) -> Result<List<Zone>, Oom>
+    ensures zones { IfOk result (λ list. list ≡ zones.now.keys) }
+    ensures order { IfOk result (λ list. IsStrictlySortedBy by_place list) }
+{
+    let mut list = List::new(alloc);
+    for zone in zones {
+        list.push(*zone)?;
+    }
+    Ok(list)
+}
+
 impl<'a> Spoken<'a> {
     /// The look-ups over these intents. The error is want of memory.
     pub fn new(alloc: Global, ps: &'a [Placed<'a>]) -> Result<Self, Oom>
@@ -203,5 +218,13 @@ impl<'a> Spoken<'a> {
         ensures { result ≡ list_any (touches zone.now) self.now }
     {
         self.zones.contains(zone)
+    }
+
+    /// The zones that the intents touch, in order.
+    pub fn zones(&self, alloc: Global) -> Result<List<Zone>, Oom>
+        ensures touched { IfOk result (λ zones. (z : Place) → list_any (λ (y : Place). same_zone y z) zones ≡ list_any (touches z) self.now) }
+        ensures order { IfOk result (λ zones. IsStrictlySortedBy by_place zones) }
+    {
+        listed(alloc, &self.zones)
     }
 }

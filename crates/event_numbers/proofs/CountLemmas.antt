@@ -1,15 +1,14 @@
--- One more at the place of a count, or a count of one behind the others, draws one number.
-use Rattle.std.proofs.Common.{◌≡◌, ◌∙◌, ◌==◌, ◌&&◌, ℕ, zero, suc, ◌+◌, ◌<◌, ◌≤◌, Bool, true, false, List, [], ◌∷◌, ◌++◌, Some, None, length, get_or, slice_set, refl, ap, sym, arith, position, if◌then◌else◌, nat_lt, cond, subst}
-use Rattle.std.specs.List.{position_or_len}
+-- One more at the place of a count, or a count of one at its own place, draws one number.
+use Rattle.std.proofs.Common.{◌≡◌, ◌∙◌, ◌==◌, ◌&&◌, ℕ, zero, suc, ◌+◌, ◌<◌, ◌≤◌, Bool, true, false, List, [], ◌∷◌, length, get_or, insert, slice_set, refl, ap, sym, arith, if◌then◌else◌, subst}
 use Rattle.std.proofs.lemmas.Bool.{and_parts}
 use Rattle.std.proofs.lemmas.Bool.Decides.{nat_tests}
-use Rattle.std.proofs.lemmas.List.Quantifiers.{position-Some}
-use Rattle.std.proofs.lemmas.List.Sums.{fails_before_first}
 use Rattle.hazard_types.specs.Same.{same_hazard}
 use Rattle.hazard_types.specs.declared.hazard.Hazard.{Hazard}
+use Rattle.hazard_types.proofs.Equality.{hazard_one}
 use Rattle.hazard_types.specs.contracts.hazard.HazardEq.TheImpl.Laws as hazard_laws
 use Rattle.event_numbers.specs.declared.Count.{Count}
-use Rattle.event_numbers.specs.Counts.{count_of, is_count_of, DrawsOne, AreNumbers}
+use Rattle.event_numbers.specs.Counts.{count_of, is_count_of, DrawsOne, AreNumbers, IsPlaceOf, IsGapFor}
+use Rattle.event_numbers.proofs.PlaceLemmas.{none_in_gap}
 
 abbrev raised : Count → Count
 raised c = record { hazard = c.hazard; year = c.year; count = c.count + 1 }
@@ -55,7 +54,7 @@ turned h g y z =
 not_other : (c : Count) (h g : Hazard) (y z : ℕ) → is_count_of h y c ≡ false → is_count_of g z c ≡ true → (same_hazard g h && (z == y)) ≡ false
 not_other c h g y z other found = sym (turned h g y z) ∙ sym (alike c g h z y found) ∙ other
 
-one_more_at : (h : Hazard) (y : ℕ) (cs : List Count) (i : ℕ) (d : Count) → i < length cs → is_count_of h y (get_or cs i d) ≡ true → ((k : ℕ) → k < i → is_count_of h y (get_or cs k d) ≡ false) → DrawsOne cs (slice_set cs i (raised (get_or cs i d))) h y
+pub one_more_at : (h : Hazard) (y : ℕ) (cs : List Count) (i : ℕ) (d : Count) → i < length cs → is_count_of h y (get_or cs i d) ≡ true → ((k : ℕ) → k < i → is_count_of h y (get_or cs k d) ≡ false) → DrawsOne cs (slice_set cs i (raised (get_or cs i d))) h y
 one_more_at h y [] i d within is before = absurd (omega arith)
 one_more_at h y (c ∷ cs) zero d within is before = λ g z. more_here (is_count_of g z c) (same_hazard g h && (z == y)) c.count (count_of cs g z) (alike c h g y z is)
 one_more_at h y (c ∷ cs) (suc i) d within is before = λ g z.
@@ -63,46 +62,64 @@ one_more_at h y (c ∷ cs) (suc i) d within is before = λ g z.
     (one_more_at h y cs i d (omega arith) is (λ k lt. before (suc k) (omega arith)) g z)
 
 -- the count at the place of a hazard and year
-held_at : (h : Hazard) (y : ℕ) (cs : List Count) (i : ℕ) (d : Count) → i < length cs → is_count_of h y (get_or cs i d) ≡ true → ((k : ℕ) → k < i → is_count_of h y (get_or cs k d) ≡ false) → count_of cs h y ≡ (get_or cs i d).count
+pub held_at : (h : Hazard) (y : ℕ) (cs : List Count) (i : ℕ) (d : Count) → i < length cs → is_count_of h y (get_or cs i d) ≡ true → ((k : ℕ) → k < i → is_count_of h y (get_or cs k d) ≡ false) → count_of cs h y ≡ (get_or cs i d).count
 held_at h y [] i d within is before = absurd (omega arith)
 held_at h y (c ∷ cs) zero d within is before = rw is refl
 held_at h y (c ∷ cs) (suc i) d within is before = rw (before 0 (omega arith)) (held_at h y cs i d (omega arith) is (λ k lt. before (suc k) (omega arith)))
 
-pub held : (h : Hazard) (y : ℕ) (cs : List Count) (i : ℕ) (x : Count) → position (is_count_of h y) cs ≡ Some i → x ≡ get_or cs i x → count_of cs h y ≡ x.count
-held h y cs i x e at = let p = position-Some (is_count_of h y) cs i x e in held_at h y cs i x p.0 p.1 p.2 ∙ ap (λ (w : Count). w.count) (sym at)
+first_one : (b d : Bool) (n : ℕ) → b ≡ d → (d ≡ true → n ≡ 0) → (if b then 1 else n) ≡ n + (if d then 1 else 0)
+first_one true true n e none = let zero_is = none refl in omega (arith, zero_is)
+first_one false false n e none = omega arith
+first_one _ _ n e none = cc
 
-pub one_more : (h : Hazard) (y : ℕ) (cs : List Count) (i : ℕ) (x : Count) → position (is_count_of h y) cs ≡ Some i → x ≡ get_or cs i x → DrawsOne cs (slice_set cs i (record { hazard = x.hazard; year = x.year; count = x.count + 1 })) h y
-one_more h y cs i x e at =
-    let p = position-Some (is_count_of h y) cs i x e in
-    subst (λ w. DrawsOne cs (slice_set cs i (raised w)) h y) (sym at) (one_more_at h y cs i x p.0 p.1 p.2)
+either_zero : (b : Bool) (n m : ℕ) → b ≡ false → m ≡ 0 → (if b then n else m) ≡ 0
+either_zero true n m h z = cc
+either_zero false n m h z = z
 
-none_from : (b : Bool) (n m : ℕ) → nat_lt n m ≡ b → cond b (Some n) None ≡ None → m ≤ n
-none_from true n m e h = cc
-none_from false n m e h = grind (arith, nat_tests)
+pub absent_count : (h : Hazard) (y : ℕ) (cs : List Count) → ((k : ℕ) (d : Count) → k < length cs → is_count_of h y (get_or cs k d) ≡ false) → count_of cs h y ≡ 0
+absent_count h y [] none = refl
+absent_count h y (c ∷ cs) none = either_zero (is_count_of h y c) c.count (count_of cs h y) (none 0 c (omega arith)) (absent_count h y cs (λ k d lt. none (suc k) d (omega (arith, lt))))
 
-absent : (h : Hazard) (y : ℕ) (cs : List Count) (d : Count) → position (is_count_of h y) cs ≡ None → (k : ℕ) → k < length cs → is_count_of h y (get_or cs k d) ≡ false
-absent h y cs d e k within =
-    let past : length cs ≤ position_or_len (is_count_of h y) cs = none_from _ _ _ refl e in
-    fails_before_first (is_count_of h y) cs k d (omega arith)
+same_number : (a b : ℕ) → (a == b) ≡ true → a ≡ b
+same_number a b h = grind (arith, nat_tests)
 
-opened_at : (h : Hazard) (y : ℕ) (cs : List Count) (d : Count) → ((k : ℕ) → k < length cs → is_count_of h y (get_or cs k d) ≡ false) → DrawsOne cs (cs ++ record { hazard = h; year = y; count = 1 } ∷ []) h y
-opened_at h y [] d none = λ g z.
+none_there : (h g : Hazard) (y z : ℕ) (cs : List Count) → (same_hazard g h && (z == y)) ≡ true → ((k : ℕ) (d : Count) → k < length cs → is_count_of h y (get_or cs k d) ≡ false) → count_of cs g z ≡ 0
+none_there h g y z cs same none =
+    let p = and_parts (same_hazard g h) (z == y) same in
+    subst (λ (f : Hazard). count_of cs f z ≡ 0) (sym (hazard_one g h p.0)) (subst (λ (n : ℕ). count_of cs h n ≡ 0) (sym (same_number z y p.1)) (absent_count h y cs none))
+
+inserted_at : (h : Hazard) (y : ℕ) (cs : List Count) (i : ℕ) → ((k : ℕ) (d : Count) → k < length cs → is_count_of h y (get_or cs k d) ≡ false) → DrawsOne cs (insert cs i (record { hazard = h; year = y; count = 1 })) h y
+inserted_at h y [] zero none = λ g z.
     one_here (is_count_of g z (record { hazard = h; year = y; count = 1 })) (same_hazard g h && (z == y)) (alike (record { hazard = h; year = y; count = 1 }) h g y z (both_true _ _ (hazard_laws.laws-law.refl h) (grind (arith, nat_tests))))
-opened_at h y (c ∷ cs) d none = λ g z.
-    more_later (is_count_of g z c) (same_hazard g h && (z == y)) c.count _ (count_of cs g z) (not_other c h g y z (none 0 (omega arith)))
-    (opened_at h y cs d (λ k lt. none (suc k) (omega arith)) g z)
+inserted_at h y [] (suc i) none = λ g z.
+    one_here (is_count_of g z (record { hazard = h; year = y; count = 1 })) (same_hazard g h && (z == y)) (alike (record { hazard = h; year = y; count = 1 }) h g y z (both_true _ _ (hazard_laws.laws-law.refl h) (grind (arith, nat_tests))))
+inserted_at h y (c ∷ cs) zero none = λ g z.
+    let one : Count = record { hazard = h; year = y; count = 1 } in
+    first_one (is_count_of g z one) (same_hazard g h && (z == y)) (count_of (c ∷ cs) g z) (alike one h g y z (both_true _ _ (hazard_laws.laws-law.refl h) (grind (arith, nat_tests)))) (λ same. none_there h g y z (c ∷ cs) same none)
+inserted_at h y (c ∷ cs) (suc i) none = λ g z.
+    more_later (is_count_of g z c) (same_hazard g h && (z == y)) c.count _ (count_of cs g z) (not_other c h g y z (none 0 c (omega arith)))
+    (inserted_at h y cs i (λ k d lt. none (suc k) d (omega (arith, lt))) g z)
 
-pub opened : (h : Hazard) (y : ℕ) (cs : List Count) → position (is_count_of h y) cs ≡ None → DrawsOne cs (cs ++ record { hazard = h; year = y; count = 1 } ∷ []) h y
-opened h y cs e = let d : Count = record { hazard = h; year = y; count = 0 } in opened_at h y cs d (absent h y cs d e)
+pub opened : (h : Hazard) (y : ℕ) (cs : List Count) (i : ℕ) → IsGapFor h y cs i → DrawsOne cs (insert cs i (record { hazard = h; year = y; count = 1 })) h y
+opened h y cs i gap = inserted_at h y cs i (none_in_gap h y cs i gap)
+
+-- the count at the place of a hazard and year
+pub held : (h : Hazard) (y : ℕ) (cs : List Count) (i : ℕ) (x : Count) → IsPlaceOf h y cs i → x ≡ get_or cs i x → count_of cs h y ≡ x.count
+held h y cs i x place at = held_at h y cs i x place.within (place.found x) (λ k lt. place.before k x lt) ∙ ap (λ (w : Count). w.count) (sym at)
+
+pub one_more : (h : Hazard) (y : ℕ) (cs : List Count) (i : ℕ) (x : Count) → IsPlaceOf h y cs i → x ≡ get_or cs i x → DrawsOne cs (slice_set cs i (record { hazard = x.hazard; year = x.year; count = x.count + 1 })) h y
+one_more h y cs i x place at = subst (λ w. DrawsOne cs (slice_set cs i (raised w)) h y) (sym at) (one_more_at h y cs i x place.within (place.found x) (λ k lt. place.before k x lt))
 
 pub numbers_set : (cs : List Count) (i : ℕ) (c : Count) → AreNumbers cs → c.count ≤ 9999 → AreNumbers (slice_set cs i c)
 numbers_set [] i c all one = all
 numbers_set (b ∷ cs) zero c all one = (one, all.1)
 numbers_set (b ∷ cs) (suc i) c all one = (all.0, numbers_set cs i c all.1 one)
 
-pub numbers_push : (cs : List Count) (c : Count) → AreNumbers cs → c.count ≤ 9999 → AreNumbers (cs ++ c ∷ [])
-numbers_push [] c all one = (one, tt)
-numbers_push (b ∷ cs) c all one = (all.0, numbers_push cs c all.1 one)
+pub numbers_insert : (cs : List Count) (i : ℕ) (c : Count) → AreNumbers cs → c.count ≤ 9999 → AreNumbers (insert cs i c)
+numbers_insert [] zero c all one = (one, tt)
+numbers_insert [] (suc i) c all one = (one, tt)
+numbers_insert (b ∷ cs) zero c all one = (one, all)
+numbers_insert (b ∷ cs) (suc i) c all one = (all.0, numbers_insert cs i c all.1 one)
 
 pub numbers_held : (cs : List Count) (h : Hazard) (y : ℕ) → AreNumbers cs → count_of cs h y ≤ 9999
 numbers_held [] h y all = omega arith

@@ -1,5 +1,9 @@
 -- How many numbers of each hazard and year were drawn.
-use Rattle.std.specs.Prelude.{◌≡◌, ◌==◌, ◌&&◌, ℕ, ◌+◌, ◌≤◌, Bool, List, [], ◌∷◌, ◌++◌, count_by, if◌then◌else◌}
+use Rattle.std.specs.Prelude.{◌≡◌, ◌==◌, ◌&&◌, ℕ, ◌+◌, ◌≤◌, ◌<◌, Bool, true, false, List, [], ◌∷◌, ◌++◌, length, slice_index_or, count_by, if◌then◌else◌}
+use Rattle.std.specs.declared.cmp.Ordering.{Ordering}
+use Rattle.std.specs.declared.cmp.Ordering.TheVariants.{Less, Greater}
+use Rattle.std.specs.Ordering.{on, then_cmp, nat_cmp, ordering_then}
+use Rattle.hazard_types.specs.Orders.{by_hazard}
 use Rattle.hazard_types.specs.Same.{same_hazard}
 use Rattle.hazard_types.specs.declared.hazard.Event.{Event}
 use Rattle.hazard_types.specs.declared.hazard.Hazard.{Hazard}
@@ -38,3 +42,23 @@ AreDrawnInOrder counts events = (earlier later : List Event) (e : Event) → eve
 abbrev pub AreNumbers : List Count → Type 0
 AreNumbers [] = Unit {0}
 AreNumbers (c ∷ counts) = (c.count ≤ 9999) × AreNumbers counts
+
+-- counts by hazard, then year
+abbrev pub by_count : Count → Count → Ordering
+by_count = then_cmp (on (λ (c : Count). c.hazard) by_hazard) (on (λ (c : Count). c.year) nat_cmp)
+
+-- how a count stands against a hazard and year
+abbrev pub against : Hazard → ℕ → Count → Ordering
+against h year c = ordering_then (by_hazard c.hazard h) (nat_cmp c.year year)
+
+-- the count of a hazard and year stands at the place
+pub record IsPlaceOf (h : Hazard) (year : ℕ) (counts : List Count) (i : ℕ) : Type 0 where
+  pub within : i < length counts
+  pub found : (d : Count) → is_count_of h year (slice_index_or counts i d) ≡ true
+  pub before : (k : ℕ) (d : Count) → k < i → is_count_of h year (slice_index_or counts k d) ≡ false
+
+-- there is none, and it belongs at the place
+pub record IsGapFor (h : Hazard) (year : ℕ) (counts : List Count) (i : ℕ) : Type 0 where
+  pub within : i ≤ length counts
+  pub below : (k : ℕ) (d : Count) → k < i → against h year (slice_index_or counts k d) ≡ Less
+  pub above : (k : ℕ) (d : Count) → i ≤ k → k < length counts → against h year (slice_index_or counts k d) ≡ Greater

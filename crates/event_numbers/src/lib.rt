@@ -1,11 +1,14 @@
 //! The numbers (ETN) of events: for each hazard and year they count from 1.
 #![tactic(auto)]
 
-ghost use Rattle.std.specs.Prelude.{◌≡◌, ◌+◌, ◌<◌, ◌≤◌, [], length, OnOk, OnErr, position};
-ghost use Rattle.event_numbers.specs.Counts.{count_of, is_count_of, DrawsOne, DrawsAll, AreDrawnInOrder, AreNumbers};
+ghost use Rattle.std.specs.Prelude.{◌≡◌, ◌+◌, ◌<◌, ◌≤◌, [], length, true, false, IfOk, IfErr, OnOk, OnErr};
+ghost use Rattle.std.specs.List.Sorted.{IsStrictlySortedBy, IsPartitionPoint};
+ghost use Rattle.std.specs.Ordering.{is_lt};
+ghost use Rattle.event_numbers.specs.Counts.{count_of, by_count, against, IsPlaceOf, IsGapFor, DrawsOne, DrawsAll, AreDrawnInOrder, AreNumbers};
 
 use hazard_types::{Event, Hazard, Oom};
 use std::alloc::Global;
+use std::cmp::Ordering;
 use std::marker::Model;
 
 /// How many numbers of a hazard were drawn in a year.
@@ -16,7 +19,7 @@ struct Count {
     count: u16,
 }
 
-/// The numbers drawn so far, by hazard and year.
+/// The numbers drawn so far, by hazard, then year.
 #[derive(Drop)]
 pub struct Numbers {
     counted: Vec<Count>,
@@ -24,35 +27,64 @@ pub struct Numbers {
 
 impl Model for Numbers {
     ghost use Rattle.std.specs.Prelude.{◌-◌};
+    ghost use Rattle.std.specs.List.Sorted.{IsStrictlySortedBy};
     ghost use Rattle.std.specs.Vec.{vec_len, vec_capacity};
-    ghost use Rattle.event_numbers.specs.Counts.{Drawn, AreNumbers};
+    ghost use Rattle.event_numbers.specs.Counts.{Drawn, AreNumbers, by_count};
 
     ghost Value = { Drawn };
 
     ghost view = { λ n. record { counts = n.counted.items; spare = vec_capacity n.counted - vec_len n.counted } };
 
-    ghost invariant = { λ n. AreNumbers n.counted.items };
+    ghost invariant = { λ n. IsStrictlySortedBy by_count n.counted.items × AreNumbers n.counted.items };
+}
+
+/// How a count stands against a hazard and year.
+fn against(count: &Count, h: &Hazard, year: u16) -> Ordering
+    ensures { result ≡ against h.now year count.now }
+{
+    count.hazard.cmp(h).then(count.year.cmp(&year))
+}
+
+/// How many of the counts come before a hazard and year.
+fn counts_before(counted: &[Count], h: &Hazard, year: u16) -> usize
+    requires { IsStrictlySortedBy by_count counted.now }
+    ensures bound { result ≤ length counted.now }
+    ensures point { IsPartitionPoint (λ c. is_lt (against h.now year c) ≡ true) (λ c. is_lt (against h.now year c) ≡ false) counted.now result }
+{
+    counted.partition_point(
+        |count: &Count| -> bool
+            ensures { result ≡ is_lt (against h.entry.now year count.now) }
+        { against(count, h, year).is_lt() },
+    )
+}
+
+/// The place of the count of a hazard and year, or else the place where it belongs.
+fn place_of(counted: &[Count], h: &Hazard, year: u16) -> Result<usize, usize>
+    requires { IsStrictlySortedBy by_count counted.now }
+    ensures found { IfOk result (IsPlaceOf h.now year counted.now) }
+    ensures absent { IfErr result (IsGapFor h.now year counted.now) }
+{
+    let place = counts_before(counted, h, year);
+    if place >= counted.len() {
+        return Err(place);
+    }
+    let found = &counted[place];
+    if against(found, h, year).is_eq() {
+        Ok(place)
+    } else {
+        Err(place)
+    }
 }
 
 /// The numbers drawn of a hazard in a year.
 fn count_of(counted: &[Count], h: &Hazard, year: u16) -> u16
+    requires { IsStrictlySortedBy by_count counted.now }
     ensures { result ≡ count_of counted.now h.now year }
 {
-    for count in counted {
-        if count.hazard == *h && count.year == year {
-            return count.count;
-        }
+    match place_of(counted, h, year) {
+        Ok(place) => counted[place].count,
+        Err(_) => 0,
     }
-    0
-}
-
-/// The place of the count of a hazard and year.
-fn place_of(counted: &[Count], h: &Hazard, year: u16) -> Option<usize>
-    ensures { result ≡ position (is_count_of h.now year) counted.now }
-{
-    counted
-        .iter()
-        .position(|count| count.hazard == *h && count.year == year)
 }
 
 impl Numbers {
@@ -92,15 +124,21 @@ impl Numbers {
         ensures spare { self.old.spare ≤ self.new.spare + 1 }
     {
         match place_of(&self.counted, &h, year) {
-            Some(place) => {
+            Ok(place) => {
                 let count = &mut self.counted[place];
                 count.count += 1;
             }
-            None => self.counted.push_reserved(Count {
-                hazard: h,
-                year,
-                count: 1,
-            }),
+            Err(place) => {
+                let first = Count {
+                    hazard: h,
+                    year,
+                    count: 1,
+                };
+                match self.counted.insert(place, first) {
+                    Ok(()) => {}
+                    Err(_) => unreachable!(),
+                }
+            }
         }
     }
 

@@ -10,3 +10,12 @@ pub mod Turns
 pub mod DeadLemmas
 pub mod ZoneLemmas
 pub mod HeldLemmas
+pub mod Runs
+pub mod Places
+pub mod StandingLemmas
+pub mod SettleLemmas
+pub mod Seats
+pub mod LatestLemmas
+pub mod OpenLemmas
+pub mod GoingLemmas
+pub mod SliceLemmas

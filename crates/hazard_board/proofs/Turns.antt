@@ -80,7 +80,7 @@ no_breach true second o own h = cc
 no_breach false true o own h = cc
 no_breach false false o own h = (refl, none_of o h)
 
-lawful_parts : (rows : List Row) (t : ℕ) (all earlier : List Line) (line : Line) → is_routine line.action ≡ false → is_none (breach_in rows t all earlier line) ≡ true →
+pub lawful_parts : (rows : List Row) (t : ℕ) (all earlier : List Line) (line : Line) → is_routine line.action ≡ false → is_none (breach_in rows t all earlier line) ≡ true →
     (is_second earlier line ≡ false) × (breach_of_line (life_at rows line) line t (around_of rows t all line) ≡ None)
 unfolding breach_in
 lawful_parts rows t all earlier line own h = no_breach (is_routine line.action) (is_second earlier line) _ own h
@@ -206,17 +206,16 @@ pub lawful_taken : (rows : List Row) (t : ℕ) (lines : List Line) → are_lawfu
 unfolding rows_after
 lawful_taken rows t lines h = taken rows t lines [] lines rows h
 
--- a line that leaves a row makes the rows no longer than all the lines do
-pub grown_at : (t : ℕ) (start now : List Row) (lines : List Line) (i : ℕ) (line : Line) (row : Row) → i < length lines → line ≡ get_or lines i line → row_left now t line ≡ Some row →
-    taken_in_turn t now (drop i lines) ≡ taken_in_turn t start lines → length (put row now) ≤ length (taken_in_turn t start lines)
-grown_at t start now lines i line row within is left e =
+-- a line makes the rows no longer than all the lines do
+pub grown_at : (t : ℕ) (start now : List Row) (lines : List Line) (i : ℕ) (line : Line) → i < length lines → line ≡ get_or lines i line →
+    taken_in_turn t now (drop i lines) ≡ taken_in_turn t start lines → length (put_if (row_left now t line) now) ≤ length (taken_in_turn t start lines)
+grown_at t start now lines i line within is e =
     let cut : drop i lines ≡ line ∷ drop (suc i) lines = drop-cons lines i line within ∙ ap (λ (l : Line). l ∷ drop (suc i) lines) (sym is) in
-    let first : taken_in_turn t now (line ∷ drop (suc i) lines) ≡ taken_in_turn t (put row now) (drop (suc i) lines) = ap (λ (o : Option Row). taken_in_turn t (put_if o now) (drop (suc i) lines)) left in
-    let whole : taken_in_turn t start lines ≡ taken_in_turn t (put row now) (drop (suc i) lines) = sym e ∙ ap (taken_in_turn t now) cut ∙ first in
-    rw whole (turns_longer t (put row now) (drop (suc i) lines))
+    let whole : taken_in_turn t start lines ≡ taken_in_turn t (put_if (row_left now t line) now) (drop (suc i) lines) = sym e ∙ ap (taken_in_turn t now) cut in
+    rw whole (turns_longer t (put_if (row_left now t line) now) (drop (suc i) lines))
 
 -- rows stay in order where lines are taken
-put_if-sorted : (o : Option Row) (rows : List Row) → IsStrictlySortedBy by_key rows → IsStrictlySortedBy by_key (put_if o rows)
+pub put_if-sorted : (o : Option Row) (rows : List Row) → IsStrictlySortedBy by_key rows → IsStrictlySortedBy by_key (put_if o rows)
 put_if-sorted None rows up = up
 put_if-sorted (Some row) rows up = put-sorted row rows up
 

@@ -22,6 +22,10 @@ pub record Posted : Type 0 where
 abbrev pub has_period : List Row → Event → Period → ℕ → Bool
 has_period rows e p t = list_any (λ (r : Row). same_event r.event e && is_live t r && same_at t r.period p) rows
 
+-- the rows of a zone
+abbrev pub slice_of : Place → List Row → List Row
+slice_of z rows = filter (λ (r : Row). same_zone r.zone z) rows
+
 -- the live rows of a zone
 abbrev pub live_in : Place → ℕ → List Row → List Row
 live_in z t rows = filter (λ (r : Row). same_zone r.zone z && is_live t r) rows

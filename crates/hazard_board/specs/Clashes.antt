@@ -1,12 +1,14 @@
 -- Clashes: events of one family that are live in one zone at overlapping periods.
-use Rattle.std.specs.Prelude.{◌&&◌, not, ℕ, Bool, List, [], ◌∷◌, ◌++◌, map, filter, find, Option, Some, None, option_map}
+use Rattle.std.specs.Prelude.{◌&&◌, not, ℕ, Bool, List, [], ◌∷◌, ◌++◌, map, filter, find, Option, Some, None, option_map, if◌then◌else◌}
 use Rattle.std.specs.declared.cmp.Ordering.{Ordering}
+use Rattle.std.specs.List.{list_any}
 use Rattle.std.specs.Option.{option_or}
-use Rattle.std.specs.Ordering.{on, then_cmp}
+use Rattle.std.specs.Ordering.{on, then_cmp, is_lt}
 use Rattle.hazard_types.specs.Orders.{by_event}
-use Rattle.hazard_types.specs.Places.{by_place}
+use Rattle.hazard_types.specs.Places.{Place, by_place}
 use Rattle.hazard_types.specs.Same.{same_zone, same_event}
 use Rattle.hazard_types.specs.declared.line.Clash.{Clash}
+use Rattle.hazard_types.specs.declared.line.Line.{Line}
 use Rattle.hazard_types.specs.declared.line.Row.{Row}
 use Rattle.event_life.specs.Higher.{are_kin}
 use Rattle.event_life.specs.Periods.{is_live, overlaps}
@@ -39,3 +41,13 @@ by_clash = then_cmp (on (λ (c : Clash). c.zone) by_place) (then_cmp (on (λ (c 
 abbrev pub first_clash : ℕ → List Row → Option Clash
 first_clash t [] = None
 first_clash t (row ∷ rows) = option_or (option_map (clash_of row) (find (clash t row) rows)) (first_clash t rows)
+
+-- the lines speak of the zone
+abbrev pub names_zone : Place → List Line → Bool
+names_zone z lines = list_any (λ (line : Line). same_zone line.zone z) lines
+
+-- of two clashes the one in the earlier zone
+abbrev pub earlier_clash : Option Clash → Option Clash → Option Clash
+earlier_clash None found = found
+earlier_clash (Some best) None = Some best
+earlier_clash (Some best) (Some found) = if is_lt (by_place found.zone best.zone) then Some found else Some best

@@ -3,3 +3,5 @@ pub mod Clashes
 pub mod Consistent
 pub mod Held
 pub mod Taken
+pub mod Standing
+pub mod Seats

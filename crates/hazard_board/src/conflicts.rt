@@ -1,14 +1,21 @@
 //! Clashes of rows.
-ghost use Rattle.std.specs.Prelude.{◌≡◌, ◌∷◌, find, option_map};
+ghost use Rattle.std.specs.Prelude.{◌≡◌, ◌∷◌, ◌&&◌, find, option_map, true, IfOk};
+ghost use Rattle.std.specs.List.{list_any};
 ghost use Rattle.std.specs.List.Sorted.{IsStrictlySortedBy};
 ghost use Rattle.event_life.specs.Products.{by_key};
 ghost use Rattle.event_life.specs.Higher.{family_of, are_kin};
 ghost use Rattle.hazard_types.specs.Hazards.{facts_of};
-ghost use Rattle.hazard_board.specs.Clashes.{clash, clash_of, first_clash};
+ghost use Rattle.hazard_board.specs.Board.{slice_of};
+ghost use Rattle.hazard_board.specs.Clashes.{clash, clash_of, first_clash, earlier_clash, names_zone};
+ghost use Rattle.hazard_board.specs.Consistent.{collide, none_collide, zones_apart, AreApart};
+ghost use Rattle.hazard_board.specs.Taken.{rows_taken};
 
 use event_life::{is_live, overlaps};
 use hazard_types::desk_hazards::facts;
-use hazard_types::{Clash, Hazard, Minute, Row};
+use crate::lines::{rows_taken, zone_taken};
+use crate::searches::slice_of;
+use hazard_types::{Clash, Hazard, Line, Minute, Oom, Row, Zone};
+use std::alloc::Global;
 
 /// Whether two hazards are of one family.
 fn are_kin(g: &Hazard, h: &Hazard) -> bool
@@ -59,7 +66,7 @@ fn clash_with(first: &Row, others: &[Row], t: Minute) -> Option<Clash>
 }
 
 /// The first row that clashes with a later one, with the first that it clashes with.
-pub fn first_clash(rows: &[Row], t: Minute) -> Option<Clash>
+fn first_clash(rows: &[Row], t: Minute) -> Option<Clash>
     requires { IsStrictlySortedBy by_key rows.now }
     ensures { result ≡ first_clash t rows.now }
 {
@@ -70,4 +77,142 @@ pub fn first_clash(rows: &[Row], t: Minute) -> Option<Clash>
         }
     }
     None
+}
+
+/// Whether both rows stand in one zone, ended by no line, with events of one family whose periods overlap.
+fn collide(a: &Row, b: &Row) -> bool
+    ensures { result ≡ collide a.now b.now }
+{
+    a.zone == b.zone
+        && !a.ended
+        && !b.ended
+        && are_kin(&a.event.hazard, &b.event.hazard)
+        && overlaps(&a.period, &b.period)
+}
+
+/// Whether the row collides with one of the others. A row that a line has ended does not.
+fn collides(row: &Row, others: &[Row]) -> bool
+    ensures { result ≡ list_any (collide row.now) others.now }
+{
+    if row.ended {
+        return false;
+    }
+    others.iter().any(|other| collide(row, other))
+}
+
+/// Whether no row collides with a later one.
+fn none_collide(rows: &[Row]) -> bool
+    ensures { result ≡ none_collide rows.now }
+{
+    for (place, row) in rows.iter().enumerate() {
+        if collides(row, &rows[place + 1..]) {
+            return false;
+        }
+    }
+    true
+}
+
+/// Whether no rows collide in the zones of the lines.
+fn zones_apart(rows: &[Row], lines: &[Line]) -> bool
+    requires { IsStrictlySortedBy by_key rows.now }
+    ensures { result ≡ zones_apart rows.now lines.now }
+{
+    for line in lines {
+        if !none_collide(slice_of(rows, &line.zone)) {
+            return false;
+        }
+    }
+    true
+}
+
+/// Whether no rows collide in the zones of the lines, where none did anywhere before them.
+pub fn still_apart(apart: bool, rows: &[Row], lines: &[Line]) -> bool
+    requires { IsStrictlySortedBy by_key rows.now }
+    ensures { result ≡ (apart && zones_apart rows.now lines.now) }
+{
+    apart && zones_apart(rows, lines)
+}
+
+/// Of two clashes the one in the earlier zone.
+fn earlier_clash(best: Option<Clash>, found: Option<Clash>) -> Option<Clash>
+    ensures { result ≡ earlier_clash best found }
+{
+    match best {
+        None => found,
+        Some(best) => match found {
+            None => Some(best),
+            Some(found) => {
+                if found.zone.cmp(&best.zone).is_lt() {
+                    Some(found)
+                } else {
+                    Some(best)
+                }
+            }
+        },
+    }
+}
+
+/// Whether one of the lines is of the zone.
+fn names_zone(z: &Zone, lines: &[Line]) -> bool
+    ensures { result ≡ names_zone z.now lines.now }
+{
+    lines.iter().any(|line| line.zone == *z)
+}
+
+/// The first clash in a zone after the lines.
+fn clash_in(alloc: Global, rows: &[Row], lines: &[Line], t: Minute, z: &Zone) -> Result<Option<Clash>, Oom>
+    requires { IsStrictlySortedBy by_key rows.now }
+    ensures { IfOk result (λ found. found ≡ first_clash t (slice_of z.now (rows_taken rows.now t lines.now))) }
+{
+    let after = zone_taken(alloc, rows, lines, t, z)?;
+    Ok(first_clash(&after, t))
+}
+
+/// The first clash after the lines, of rows of which none collide before them: only the zones of the lines are looked at.
+fn clash_in_zones(alloc: Global, rows: &[Row], lines: &[Line], t: Minute) -> Result<Option<Clash>, Oom>
+    requires order { IsStrictlySortedBy by_key rows.now }
+    requires apart { AreApart rows.now }
+    ensures { IfOk result (λ found. found ≡ first_clash t (rows_taken rows.now t lines.now)) }
+{
+    let mut best = None;
+    for (place, line) in lines.iter().enumerate() {
+        if !names_zone(&line.zone, &lines[..place]) {
+            let found = clash_in(alloc, rows, lines, t, &line.zone)?;
+            best = earlier_clash(best, found);
+        }
+    }
+    Ok(best)
+}
+
+/// The first clash after the lines, in whatever zone it is.
+fn clash_anywhere(
+    alloc: Global,
+    rows: &[Row],
+    lines: &[Line],
+    t: Minute,
+) -> Result<Option<Clash>, Oom>
+    requires { IsStrictlySortedBy by_key rows.now }
+    ensures { IfOk result (λ found. found ≡ first_clash t (rows_taken rows.now t lines.now)) }
+{
+    let after = rows_taken(alloc, rows, lines, t)?;
+    Ok(first_clash(&after, t))
+}
+
+/// The first clash after the lines. Where no rows collide before them, only the zones of the lines are looked at.
+pub fn clash_after(
+    alloc: Global,
+    rows: &[Row],
+    lines: &[Line],
+    t: Minute,
+    apart: bool,
+) -> Result<Option<Clash>, Oom>
+    requires order { IsStrictlySortedBy by_key rows.now }
+    requires apart { apart ≡ true → AreApart rows.now }
+    ensures { IfOk result (λ found. found ≡ first_clash t (rows_taken rows.now t lines.now)) }
+{
+    if apart {
+        clash_in_zones(alloc, rows, lines, t)
+    } else {
+        clash_anywhere(alloc, rows, lines, t)
+    }
 }

@@ -7,23 +7,31 @@ ghost use Rattle.hazard_types.specs.Same.{same_event};
 ghost use Rattle.event_life.specs.Products.{by_key, row_at, has_rows, going_in, rows_after};
 ghost use Rattle.event_life.specs.Shown.{shown_at};
 ghost use Rattle.event_life.specs.Reordered.{are_lawful};
-ghost use Rattle.hazard_board.specs.Board.{has_period, live_in, by_row_event, openings};
+ghost use Rattle.hazard_board.specs.Board.{has_period, slice_of, live_in, by_row_event, openings};
 ghost use Rattle.hazard_board.specs.Clashes.{clashes, least_clash, by_clash};
+ghost use Rattle.hazard_board.specs.Standing.{AreStandingOf};
 ghost use Rattle.hazard_board.specs.Taken.{rows_taken};
 
 mod conflicts;
 mod laws;
 mod lines;
+mod open_events;
+mod searches;
+mod standing;
 
-use conflicts::first_clash;
-use event_life::{going_in, has_period, has_rows, is_live, row_at};
+use conflicts::{clash_after, still_apart};
+use event_life::{has_period, has_rows, is_live};
 use hazard_types::{Clash, Event, Hazard, Line, List, Minute, Oom, Period, Row, Zone};
+pub use standing::Standing;
 pub use laws::{
     consistent_rows_have_one_open_event, consistent_rows_stay_consistent, lawful_lines_are_taken,
     lines_on_held_numbers_are_taken, no_event_comes_ahead_of_its_year, no_rows_are_consistent,
     products_keep_rows_consistent, read_rows_are_consistent,
 };
-use lines::{rows_taken, take_lines};
+use lines::take_lines;
+use open_events::{of_hazard, open_event};
+use searches::{row_at, slice_of};
+use standing::settle;
 use std::alloc::{AllocError, Global};
 use std::marker::Model;
 
@@ -31,28 +39,33 @@ use std::marker::Model;
 #[derive(Drop)]
 pub struct Board {
     rows: Vec<Row>,
+    standing: Vec<Standing>,
+    // No rows of one zone and family that no line has ended overlap. Then only the zones of a product's lines can come to have a clash.
+    apart: bool,
 }
 
 impl Model for Board {
-    ghost use Rattle.std.specs.Prelude.{◌-◌};
+    ghost use Rattle.std.specs.Prelude.{◌≡◌, ◌-◌, min, true};
     ghost use Rattle.std.specs.List.Sorted.{IsStrictlySortedBy};
     ghost use Rattle.std.specs.Vec.{vec_len, vec_capacity};
     ghost use Rattle.event_life.specs.Products.{by_key};
     ghost use Rattle.hazard_board.specs.Board.{Posted};
+    ghost use Rattle.hazard_board.specs.Consistent.{AreApart};
+    ghost use Rattle.hazard_board.specs.Standing.{AreStanding};
 
     ghost Value = { Posted };
 
-    ghost view = { λ b. record { rows = b.rows.items; spare = vec_capacity b.rows - vec_len b.rows } };
+    ghost view = { λ b. record { rows = b.rows.items; spare = min (vec_capacity b.rows - vec_len b.rows) (vec_capacity b.standing - vec_len b.standing) } };
 
-    ghost invariant = { λ b. IsStrictlySortedBy by_key b.rows.items };
+    ghost invariant = { λ b. IsStrictlySortedBy by_key b.rows.items × AreStanding b.rows.items b.standing.items × (b.apart ≡ true → AreApart b.rows.items) };
 }
 
-/// The live rows of a zone.
-fn live_in(alloc: Global, rows: &[Row], z: &Zone, t: Minute) -> Result<Vec<Row>, AllocError>
-    ensures { IfOk result (λ live. live.items ≡ live_in z.now t rows.now) }
+/// The live rows among some.
+fn live(alloc: Global, rows: &[Row], t: Minute) -> Result<Vec<Row>, AllocError>
+    ensures { IfOk result (λ live. live.items ≡ shown_at t rows.now) }
 {
     rows.iter()
-        .filter(|row| row.zone == *z && is_live(row, t))
+        .filter(|row| is_live(row, t))
         .copied()
         .collect(alloc)
 }
@@ -76,6 +89,8 @@ impl Board {
     {
         Board {
             rows: Vec::new(alloc),
+            standing: Vec::new(alloc),
+            apart: true,
         }
     }
 
@@ -87,6 +102,7 @@ impl Board {
         ensures err { OnErr result (self.old.spare < n) }
     {
         self.rows.reserve(n)?;
+        self.standing.reserve(n)?;
         Ok(())
     }
 
@@ -96,6 +112,15 @@ impl Board {
         ensures order { IsStrictlySortedBy by_key self.now.rows }
     {
         row_at(&self.rows, &e, &z)
+    }
+
+    /// All rows of a zone, ended ones among them, by event.
+    pub fn slice_of(&self, z: Zone) -> &[Row]
+        ensures rows { result.now ≡ slice_of z self.now.rows }
+        ensures order { IsStrictlySortedBy by_row_event result.now }
+        ensures all_in_order { IsStrictlySortedBy by_key self.now.rows }
+    {
+        slice_of(&self.rows, &z)
     }
 
     /// Whether the event has a row, ended or not.
@@ -116,7 +141,14 @@ impl Board {
     pub fn going(&self, h: Hazard, etn: u16, t: Minute) -> Option<Event>
         ensures { result ≡ going_in self.now.rows h etn t }
     {
-        going_in(&self.rows, &h, etn, t)
+        open_event(&self.standing, &h, etn, t)
+    }
+
+    /// The standing events of a hazard, by number, then year: those with a row that no line has ended, each with the greatest end of these rows.
+    pub fn standing(&self, h: Hazard) -> &[Standing]
+        ensures { AreStandingOf h self.now.rows result.now }
+    {
+        of_hazard(&self.standing, &h)
     }
 
     /// Whether a live row of the event has the same period.
@@ -131,7 +163,7 @@ impl Board {
         ensures rows { IfOk result (λ live. live ≡ live_in z t self.now.rows) }
         ensures order { IfOk result (λ live. IsStrictlySortedBy by_row_event live) }
     {
-        Ok(List::from_vec(live_in(alloc, &self.rows, &z, t)?))
+        Ok(List::from_vec(live(alloc, slice_of(&self.rows, &z), t)?))
     }
 
     /// The live rows, by zone, then event.
@@ -153,6 +185,8 @@ impl Board {
             Ok(()) => {}
             Err(_) => unreachable!(),
         }
+        settle(&mut self.standing, &self.rows, lines.as_slice());
+        self.apart = still_apart(self.apart, &self.rows, lines.as_slice());
     }
 
     /// The least clash after the lines, with NumberHeld left aside: two live rows of one zone whose events are of one family and whose periods overlap.
@@ -164,8 +198,8 @@ impl Board {
     ) -> Result<Option<Clash>, Oom>
         ensures value { IfOk result (λ found. found ≡ least_clash t (rows_taken self.now.rows t lines.now)) }
         ensures order { IsStrictlySortedBy by_clash (clashes t (rows_taken self.now.rows t lines.now)) }
+        ensures all_in_order { IsStrictlySortedBy by_key self.now.rows }
     {
-        let after = rows_taken(alloc, &self.rows, lines.as_slice(), t)?;
-        Ok(first_clash(&after, t))
+        clash_after(alloc, &self.rows, lines.as_slice(), t, self.apart)
     }
 }

@@ -6,6 +6,7 @@ ghost use Rattle.hazard_types.specs.Digits.{is_day_stamp};
 ghost use Rattle.hazard_types.specs.declared.line.SegLine.{SegLine as SaidLine};
 ghost use Rattle.worked_rows.specs.Written.{CanBeWritten};
 
+use hazard_board::Standing;
 use hazard_types::{
     Class, DayStamp, End, Event, Hazard, Minute, Oom, Plan, Refusal, Row, SegLine, Segment, Vtec,
     Zone, civil_of, end_text, hazard_text, stamp, zone_text,
@@ -246,6 +247,23 @@ pub fn board_text(alloc: Global, rows: &[Row]) -> Result<String, AllocError> {
     let mut out = String::new(alloc);
     for row in rows {
         push_row(alloc, &mut out, row)?;
+    }
+    Ok(out)
+}
+
+/// The line of a standing event, with its latest end.
+fn push_standing(alloc: Global, out: &mut String, standing: &Standing) -> Result<(), AllocError> {
+    let event = event_text(alloc, &standing.event)?;
+    let end = end_text(&standing.latest);
+    let end = text_of(&end);
+    writeln!(out, "{event} {end}")
+}
+
+/// Standing events, a line each.
+pub fn standing_text(alloc: Global, standing: &[Standing]) -> Result<String, AllocError> {
+    let mut out = String::new(alloc);
+    for event in standing {
+        push_standing(alloc, &mut out, event)?;
     }
     Ok(out)
 }

@@ -6,6 +6,7 @@ ghost use Rattle.hazard_types.specs.declared.refusal.Refusal.{Refusal as Refused
 ghost use Rattle.event_life.specs.Products.{rows_after};
 ghost use Rattle.event_life.specs.Shown.{shown_at};
 ghost use Rattle.event_numbers.specs.Counts.{DrawsAll};
+ghost use Rattle.hazard_board.specs.Standing.{AreStandingOf};
 ghost use Rattle.action_planner.specs.Offences.{broken};
 ghost use Rattle.action_planner.specs.Placed.{placed, opened};
 ghost use Rattle.action_planner.specs.Plans.{IsPlan};
@@ -20,8 +21,8 @@ use action_planner::{
 };
 use event_life::rows_stay_in_order;
 use event_numbers::Numbers;
-use hazard_board::Board;
-use hazard_types::{Draft, EventTexts, List, Minute, Oom, Or, Plan, Refusal, Row, Sent};
+use hazard_board::{Board, Standing};
+use hazard_types::{Draft, EventTexts, Hazard, List, Minute, Oom, Or, Plan, Refusal, Row, Sent};
 use std::alloc::Global;
 use std::marker::Model;
 
@@ -186,5 +187,12 @@ impl Day {
         ensures { IfOk result (λ rows. rows ≡ shown_at t self.now.rows) }
     {
         self.board.shown(alloc, t)
+    }
+
+    /// The standing events of a hazard, by number, then year.
+    pub fn standing(&self, h: Hazard) -> &[Standing]
+        ensures { AreStandingOf h self.now.rows result.now }
+    {
+        self.board.standing(h)
     }
 }

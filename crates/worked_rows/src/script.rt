@@ -2,7 +2,7 @@
 ghost use Rattle.std.specs.Prelude.{IsTrue};
 ghost use Rattle.worked_rows.specs.Days.{MaySend};
 
-use crate::answers::{board_text, plan_text, refusal_text, told_text};
+use crate::answers::{board_text, plan_text, refusal_text, standing_text, told_text};
 use crate::days::Day;
 use crate::steps::{Step, step_of};
 use crate::words::Unread;
@@ -265,6 +265,7 @@ impl Script {
                 corrected(alloc, &mut self.day, number, &texts, minute)
             }
             Step::Board(minute) => self.board(alloc, minute),
+            Step::Standing(hazard) => Ok(standing_text(alloc, self.day.standing(hazard))?),
             Step::Fill(hazard, count, from) => self.fill(alloc, &hazard, count, from),
         }
     }

@@ -30,6 +30,8 @@ pub enum Step {
     Correct(Minute, u16, List<EventTexts>),
     /// The rows that are shown at a minute.
     Board(Minute),
+    /// The standing events of a hazard.
+    Standing(Hazard),
     /// So many events of a hazard, sixty-four a draft and a draft an hour from a minute on, each over at once.
     Fill(Hazard, u16, Minute),
 }
@@ -179,6 +181,7 @@ fn read_step(alloc: Global, words: &mut SplitWhitespace<'_>) -> Result<Step, Or<
         "plan" => Ok(Step::Plan),
         "correct" => correct_of(alloc, words),
         "board" => Ok(Step::Board(known(minute_of(next_word(words)?))?)),
+        "standing" => Ok(Step::Standing(known(hazard_of(next_word(words)?))?)),
         "fill" => fill_of(words),
         _ => Err(Or::No(Unread)),
     }

@@ -41,13 +41,13 @@ returns-clause-kept = kept_of
 pub returns-clause-cases : goal.returns-clause-cases
 returns-clause-cases c =
     let rows = c.args.board.now.rows in
-    let sorted = subst (λ (rs : List Row). IsStrictlySortedBy by_key rs) (ap (λ (s : Sending). s.rows) c.in_ok-sending.ensures) c.in_ok-lines.ensures.order in
+    let sorted : IsStrictlySortedBy by_key rows = c.broken_late.ensures.order in
     let planned : c.in_ok-plan_of.field-0.lines ≡ planned_lines c.args.draft.now.category c.args.board.now.rows c.args.t (placed c.args.numbers.now.counts c.args.t c.args.draft.now.intents) = search rules in
     cases_of_plan c.args.draft.now.category rows c.args.numbers.now.counts c.args.draft.now.intents c.args.t c.in_ok-plan_of.field-0.lines c.requires sorted (kept_of c) planned
 
 pub returns-clause-lawful : goal.returns-clause-lawful
 returns-clause-lawful c =
     let rows = c.args.board.now.rows in
-    let sorted = subst (λ (rs : List Row). IsStrictlySortedBy by_key rs) (ap (λ (s : Sending). s.rows) c.in_ok-sending.ensures) c.in_ok-lines.ensures.order in
+    let sorted : IsStrictlySortedBy by_key rows = c.broken_late.ensures.order in
     let planned : c.in_ok-plan_of.field-0.lines ≡ planned_lines c.args.draft.now.category c.args.board.now.rows c.args.t (placed c.args.numbers.now.counts c.args.t c.args.draft.now.intents) = search rules in
     lawful_plan c.args.draft.now.category rows c.args.numbers.now.counts c.args.draft.now.intents c.args.t c.in_ok-plan_of.field-0.lines c.requires sorted (kept_of c) planned

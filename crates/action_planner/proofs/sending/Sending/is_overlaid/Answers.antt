@@ -1,15 +1,21 @@
 -- the rows of its zone decide whether a row is overlaid
-use Rattle.std.proofs.Common.{◌≡◌, ◌∙◌, ap}
+use Rattle.std.proofs.Common.{◌≡◌, ◌∙◌, ◌&&◌, ◌||◌, List, ap}
 use Rattle.std.specs.List.{list_any}
-use Rattle.action_planner.specs.Lines.{overlays, is_overlaid}
-use Rattle.action_planner.specs.Sending.{Sending, rows_in}
+use Rattle.hazard_types.specs.declared.line.Row.{Row}
+use Rattle.hazard_board.specs.Board.{slice_of}
+use Rattle.action_planner.specs.Lines.{overlays, is_left, is_overlaid}
+use Rattle.action_planner.specs.Sending.{Sending}
 use Rattle.action_planner.proofs.SendingLemmas.{overlaid_in_zone}
 use Rattle.action_planner.proofs.sending.Sending.is_overlaid.Goals as goal
 
 pub returns : goal.returns
 returns c =
     let row = c.args.row.now in
-    let s : Sending = record { rows = c.self.inside.board.now.rows; minute = c.self.inside.minute; intents = c.self.inside.spoken.now } in
-    let zones = c.self.inside.live.entries in
-    let any : c.any_overlays.result ≡ list_any (overlays s.minute row) (rows_in zones row.zone) = c.any_overlays.ensures ∙ ap (list_any (overlays s.minute row)) c.rows_in.ensures in
-    any ∙ overlaid_in_zone s row zones c.self.invariant ∙ ap (λ (x : Sending). is_overlaid x.rows x.minute x.intents row) c.self.view_is
+    let t = c.self.inside.minute in
+    let ps = c.self.inside.spoken.now in
+    let rows = c.self.inside.board.now.rows in
+    c.is_overlaid_by.ensures
+    ∙ ap (λ (stand : List Row). list_any (λ (r : Row). overlays t row r && is_left ps r) stand || list_any (overlays t row) c.rows_in-put.result.now) c.slice_of-stand.ensures.rows
+    ∙ ap (λ (put : List Row). list_any (λ (r : Row). overlays t row r && is_left ps r) (slice_of row.zone rows) || list_any (overlays t row) put) c.rows_in-put.ensures
+    ∙ overlaid_in_zone rows t ps row c.self.inside.put.entries c.self.invariant
+    ∙ ap (λ (x : Sending). is_overlaid x.rows x.minute x.intents row) c.self.view_is

@@ -1,0 +1,7 @@
+-- No counts are in order.
+use Rattle.std.specs.List.Sorted.{IsStrictlySortedBy}
+use Rattle.event_numbers.proofs.Numbers.new.Goals as goal
+
+pub invariant_of-result : goal.invariant_of-result
+unfolding IsStrictlySortedBy
+invariant_of-result c = rw (c.new.ensures.items) (tt, tt)

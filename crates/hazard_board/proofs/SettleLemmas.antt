@@ -1,0 +1,111 @@
+-- Events that lines touch, line by line.
+use Rattle.std.proofs.Common.{◌≡◌, ◌∙◌, ◌||◌, ◌&&◌, not, ℕ, ◌+◌, ◌<◌, ◌≤◌, List, [], ◌∷◌, ◌++◌, Bool, true, false, Option, Some, None, is_none, refl, sym, ap, subst, cond, count_by, length, get_or, take, drop, take-append-drop, if◌then◌else◌, arith}
+use Rattle.std.specs.List.{list_any}
+use Rattle.std.proofs.lemmas.Bool.{and_parts, not-true}
+use Rattle.std.proofs.lemmas.List.{take_more}
+use Rattle.std.proofs.lemmas.List.Folds.{list_any-append}
+use Rattle.std.proofs.lemmas.List.Sums.{sum_by-append}
+use Rattle.hazard_types.specs.Same.{same_event}
+use Rattle.hazard_types.specs.declared.hazard.Event.{Event}
+use Rattle.hazard_types.specs.declared.line.Line.{Line}
+use Rattle.hazard_types.specs.declared.line.Row.{Row}
+use Rattle.hazard_types.specs.declared.period.End.{End}
+use Rattle.hazard_types.proofs.Equality.{event_one, event_itself}
+use Rattle.event_life.specs.Products.{is_routine}
+use Rattle.hazard_board.specs.Standing.{latest_end, end_in, touched, touches_anew, newly}
+use Rattle.hazard_board.specs.declared.standing.Standing.{Standing}
+
+touches : Event → Line → Bool
+touches e line = not (is_routine line.action) && same_event line.event e
+
+last : (a b : Bool) → (a || (b || false)) ≡ (a || b)
+last true b = refl
+last false true = refl
+last false false = refl
+
+grown : (lines : List Line) (i : ℕ) (line : Line) (e : Event) → i < length lines → line ≡ get_or lines i line → touched (take (i + 1) lines) e ≡ (touched (take i lines) e || (not (is_routine line.action) && same_event line.event e))
+grown lines i line e within is =
+    ap (λ (some : List Line). touched some e) (take_more lines i line within ∙ ap (λ (x : Line). take i lines ++ x ∷ []) (sym is))
+    ∙ list_any-append (λ (l : Line). not (is_routine l.action) && same_event l.event e) (take i lines) (line ∷ [])
+    ∙ last (touched (take i lines) e) _
+
+counted : (p : Line → Bool) (lines : List Line) (i : ℕ) (line : Line) → i < length lines → line ≡ get_or lines i line → count_by p (take (i + 1) lines) ≡ count_by p (take i lines) + cond (p line) 1 0
+counted p lines i line within is =
+    ap (count_by p) (take_more lines i line within ∙ ap (λ (x : Line). take i lines ++ x ∷ []) (sym is))
+    ∙ sum_by-append (λ (l : Line). cond (p l) 1 0) (take i lines) (line ∷ [])
+    ∙ (omega arith)
+
+front_counts : (p : Line → Bool) (lines : List Line) (i : ℕ) → count_by p (take i lines) ≤ count_by p lines
+front_counts p lines i =
+    let whole : count_by p lines ≡ count_by p (take i lines) + count_by p (drop i lines) = ap (count_by p) (sym (take-append-drop i lines)) ∙ sum_by-append (λ (l : Line). cond (p l) 1 0) (take i lines) (drop i lines) in
+    omega (arith, whole)
+
+-- the ends after the first line of an event
+anew_step : (own routine same before : Bool) (e d : Event) (new : Option End) (old was latest : Option End) → routine ≡ false → (same ≡ true → new ≡ latest) →
+    old ≡ cond before latest was → cond same new old ≡ cond (before || (not routine && same)) latest was
+anew_step own routine true true e d new old was latest r h o = h refl
+anew_step own routine true false e d new old was latest r h o = rw r (h refl)
+anew_step own routine false true e d new old was latest r h o = o
+anew_step own routine false false e d new old was latest r h o = rw r o
+
+-- the ends behind another line
+still_step : (routine same before : Bool) (old was latest : Option End) → (same ≡ true → routine ≡ false → before ≡ true) →
+    old ≡ cond before latest was → old ≡ cond (before || (not routine && same)) latest was
+still_step true same true old was latest h o = o
+still_step true same false old was latest h o = o
+still_step false true true old was latest h o = o
+still_step false true false old was latest h o = let never = h refl refl in cc
+still_step false false true old was latest h o = o
+still_step false false false old was latest h o = o
+
+not_anew : (a b : Bool) → (not a && not b) ≡ false → a ≡ false → b ≡ true
+not_anew true b h e = cc
+not_anew false true h e = refl
+not_anew false false h e = cc
+
+module _ (rows : List Row) (lines : List Line) (was now : List Standing) (i : ℕ) (line : Line) (within : i < length lines) (is : line ≡ get_or lines i line)
+    (so_far : (e : Event) → end_in now e ≡ cond (touched (take i lines) e) (latest_end rows e) (end_in was e)) where
+  pub settled_anew : (after : List Standing) → touches_anew (take i lines) line ≡ true → ((d : Event) → end_in after d ≡ cond (same_event line.event d) (latest_end rows line.event) (end_in now d)) →
+      (e : Event) → end_in after e ≡ cond (touched (take (i + 1) lines) e) (latest_end rows e) (end_in was e)
+  settled_anew after anew set e =
+      let p = and_parts (not (is_routine line.action)) _ anew in
+      set e ∙ anew_step true (is_routine line.action) (same_event line.event e) (touched (take i lines) e) line.event e (latest_end rows line.event) (end_in now e) (end_in was e) (latest_end rows e) (not-true _ p.0)
+      (λ h. ap (latest_end rows) (event_one line.event e h)) (so_far e)
+      ∙ ap (λ (b : Bool). cond b (latest_end rows e) (end_in was e)) (sym (grown lines i line e within is))
+
+  pub settled_still : touches_anew (take i lines) line ≡ false → (e : Event) → end_in now e ≡ cond (touched (take (i + 1) lines) e) (latest_end rows e) (end_in was e)
+  settled_still other e =
+      still_step (is_routine line.action) (same_event line.event e) (touched (take i lines) e) (end_in now e) (end_in was e) (latest_end rows e)
+      (λ h own. ap (λ (d : Event). touched (take i lines) d) (sym (event_one line.event e h)) ∙ not_anew (is_routine line.action) (touched (take i lines) line.event) other own) (so_far e)
+      ∙ ap (λ (b : Bool). cond b (latest_end rows e) (end_in was e)) (sym (grown lines i line e within is))
+
+  -- the event of the line has the end of before
+  end_unset : touches_anew (take i lines) line ≡ true → end_in now line.event ≡ end_in was line.event
+  end_unset anew =
+      let p = and_parts (not (is_routine line.action)) _ anew in
+      so_far line.event ∙ ap (λ (b : Bool). cond b (latest_end rows line.event) (end_in was line.event)) (not-true _ p.1)
+
+  abbrev comes : Line → Bool
+  comes l = not (is_routine l.action) && is_none (end_in was l.event)
+
+  counts_one : touches_anew (take i lines) line ≡ true → comes line ≡ is_none (end_in now line.event)
+  counts_one anew =
+      let p = and_parts (not (is_routine line.action)) _ anew in
+      ap (λ (b : Bool). b && is_none (end_in was line.event)) p.0 ∙ ap is_none (sym (end_unset anew))
+
+  -- there is room for an event that comes
+  pub room_left : (length_was length_now capacity : ℕ) → touches_anew (take i lines) line ≡ true → end_in now line.event ≡ None → length_now ≤ length_was + newly was (take i lines) → length_was + newly was lines ≤ capacity → length_now < capacity
+  room_left length_was length_now capacity anew none so room =
+      let more = counted comes lines i line within is in
+      let one : ◌≡◌ {A = ℕ} (cond (comes line) 1 0) 1 = ap (λ (b : Bool). cond {A = ℕ} b 1 0) (counts_one anew ∙ ap is_none none) in
+      let front = front_counts comes lines (i + 1) in
+      omega (arith, more, one, front, so, room)
+
+  pub grown_anew : (length_was length_now length_after : ℕ) → touches_anew (take i lines) line ≡ true → length_now ≤ length_was + newly was (take i lines) → length_after ≤ length_now + cond (is_none (end_in now line.event)) 1 0 → length_after ≤ length_was + newly was (take (i + 1) lines)
+  grown_anew length_was length_now length_after anew so more =
+      let next = counted comes lines i line within is in
+      let one : ◌≡◌ {A = ℕ} (cond (comes line) 1 0) (cond (is_none (end_in now line.event)) 1 0) = ap (λ (b : Bool). cond {A = ℕ} b 1 0) (counts_one anew) in
+      omega (arith, next, one, so, more)
+
+  pub grown_still : (length_was length_now : ℕ) → length_now ≤ length_was + newly was (take i lines) → length_now ≤ length_was + newly was (take (i + 1) lines)
+  grown_still length_was length_now so = let next = counted comes lines i line within is in omega (arith, next, so)

@@ -1,0 +1,13 @@
+-- Before the first line the zone's rows are there.
+use Rattle.std.proofs.Common.{◌≡◌, ◌∙◌, List, ap}
+use Rattle.std.specs.List.Sorted.{IsStrictlySortedBy}
+use Rattle.hazard_types.specs.declared.line.Row.{Row}
+use Rattle.event_life.specs.Products.{by_key}
+use Rattle.hazard_board.specs.Board.{slice_of}
+use Rattle.hazard_board.proofs.SliceLemmas.{taken_in, taken_slice, slice_in_order}
+use Rattle.hazard_board.proofs.lines.zone_taken.Goals as goal
+
+pub loop-line-init : goal.loop-line-init
+loop-line-init c =
+    let rows : c.in_ok-after.after.items ≡ slice_of c.args.z.now c.args.rows.now = c.in_ok-after.ensures.items ∙ c.slice_of.ensures.rows in
+    (ap (λ (after : List Row). taken_in c.args.z.now c.args.rows.now c.args.t after c.args.lines.now) rows ∙ taken_slice c.args.z.now c.args.rows.now c.args.t c.args.lines.now c.requires, rw rows (slice_in_order c.args.z.now c.args.rows.now c.requires))

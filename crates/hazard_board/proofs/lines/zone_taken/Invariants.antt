@@ -1,0 +1,11 @@
+-- the lines that are left leave in the zone what all of them do, and the rows stand in order
+use Rattle.std.proofs.Common.{◌≡◌, drop}
+use Rattle.std.specs.List.Sorted.{IsStrictlySortedBy}
+use Rattle.event_life.specs.Products.{by_key}
+use Rattle.hazard_board.specs.Board.{slice_of}
+use Rattle.hazard_board.specs.Taken.{rows_taken}
+use Rattle.hazard_board.proofs.SliceLemmas.{taken_in}
+use Rattle.hazard_board.proofs.lines.zone_taken.Given as goal
+
+abbrev pub invariant-loop-line : goal.invariant-loop-line
+invariant-loop-line l = (taken_in l.z l.rows l.t l.after.items (drop l.line-index l.lines) ≡ slice_of l.z (rows_taken l.rows l.t l.lines)) × IsStrictlySortedBy by_key l.after.items

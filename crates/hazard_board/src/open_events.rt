@@ -1,0 +1,125 @@
+//! The standing events of a hazard, and which of a number is open.
+ghost use Rattle.std.specs.Prelude.{◌≡◌, ◌≤◌, length};
+ghost use Rattle.std.specs.List.{AllByRecursion, prefix_len};
+ghost use Rattle.std.specs.List.Sorted.{IsStrictlySortedBy};
+ghost use Rattle.std.specs.Ordering.{is_lt, is_le, nat_cmp};
+ghost use Rattle.hazard_types.specs.Orders.{by_hazard};
+ghost use Rattle.event_life.specs.Products.{later_event};
+ghost use Rattle.hazard_board.specs.declared.standing.Standing.{Standing as AnyStanding};
+ghost use Rattle.hazard_board.specs.Standing.{by_standing, by_number, of_hazard, of_number, last_open};
+
+use crate::standing::Standing;
+use event_life::ends_within;
+use hazard_types::{Event, Hazard, Minute};
+
+/// How many of the standing events are of hazards before this one.
+fn hazards_before(standing: &[Standing], h: &Hazard) -> usize
+    requires { IsStrictlySortedBy by_standing standing.now }
+    ensures value { result ≡ prefix_len (λ s. is_lt (by_hazard s.event.hazard h.now)) standing.now }
+    ensures bound { result ≤ length standing.now }
+{
+    standing.partition_point(
+        |s: &Standing| -> bool
+            ensures { result ≡ is_lt (by_hazard s.now.event.hazard h.entry.now) }
+        { s.event.hazard.cmp(h).is_lt() },
+    )
+}
+
+/// How many of the standing events are of this hazard or of hazards before it.
+fn hazards_through(standing: &[Standing], h: &Hazard) -> usize
+    requires { IsStrictlySortedBy by_standing standing.now }
+    ensures value { result ≡ prefix_len (λ s. is_le (by_hazard s.event.hazard h.now)) standing.now }
+    ensures bound { result ≤ length standing.now }
+{
+    standing.partition_point(
+        |s: &Standing| -> bool
+            ensures { result ≡ is_le (by_hazard s.now.event.hazard h.entry.now) }
+        { s.event.hazard.cmp(h).is_le() },
+    )
+}
+
+/// The standing events of a hazard, by number, then year.
+pub fn of_hazard<'a>(standing: &'a [Standing], h: &Hazard) -> &'a [Standing]
+    requires { IsStrictlySortedBy by_standing standing.now }
+    ensures events { result.now ≡ of_hazard h.now standing.now }
+    ensures order { IsStrictlySortedBy by_number result.now }
+{
+    let start = hazards_before(standing, h);
+    let rest = &standing[start..];
+    let count = hazards_through(rest, h);
+    &rest[..count]
+}
+
+/// How many of the standing events of a hazard have numbers before this one.
+fn numbers_before(standing: &[Standing], etn: u16) -> usize
+    requires { IsStrictlySortedBy by_number standing.now }
+    ensures value { result ≡ prefix_len (λ s. is_lt (nat_cmp s.event.etn etn)) standing.now }
+    ensures bound { result ≤ length standing.now }
+{
+    standing.partition_point(
+        |s: &Standing| -> bool
+            ensures { result ≡ is_lt (nat_cmp s.now.event.etn etn) }
+        { s.event.etn.cmp(&etn).is_lt() },
+    )
+}
+
+/// How many of the standing events of a hazard have this number or numbers before it.
+fn numbers_through(standing: &[Standing], etn: u16) -> usize
+    requires { IsStrictlySortedBy by_number standing.now }
+    ensures value { result ≡ prefix_len (λ s. is_le (nat_cmp s.event.etn etn)) standing.now }
+    ensures bound { result ≤ length standing.now }
+{
+    standing.partition_point(
+        |s: &Standing| -> bool
+            ensures { result ≡ is_le (nat_cmp s.now.event.etn etn) }
+        { s.event.etn.cmp(&etn).is_le() },
+    )
+}
+
+/// The standing events of a number among those of a hazard.
+fn of_number(standing: &[Standing], etn: u16) -> &[Standing]
+    requires { IsStrictlySortedBy by_number standing.now }
+    ensures { result.now ≡ of_number etn standing.now }
+{
+    let start = numbers_before(standing, etn);
+    let rest = &standing[start..];
+    let count = numbers_through(rest, etn);
+    &rest[..count]
+}
+
+/// Of two events the one of the later year.
+fn later_event(best: &Option<Event>, event: &Event) -> Option<Event>
+    ensures { result ≡ later_event best.now event.now }
+{
+    match best {
+        Some(best) => {
+            if best.year < event.year {
+                Some(*event)
+            } else {
+                Some(*best)
+            }
+        }
+        None => Some(*event),
+    }
+}
+
+/// Of the events whose end is at most half an hour past the one of the greatest year.
+fn last_open(standing: &[Standing], t: Minute) -> Option<Event>
+    ensures { result ≡ last_open t standing.now }
+{
+    let mut best = None;
+    for s in standing {
+        if ends_within(&s.latest, t) {
+            best = later_event(&best, &s.event);
+        }
+    }
+    best
+}
+
+/// The open event of a hazard and number, of the greatest year where there are several.
+pub fn open_event(standing: &[Standing], h: &Hazard, etn: u16, t: Minute) -> Option<Event>
+    requires { IsStrictlySortedBy by_standing standing.now }
+    ensures { result ≡ last_open t (of_number etn (of_hazard h.now standing.now)) }
+{
+    last_open(of_number(of_hazard(standing, h), etn), t)
+}

@@ -1,0 +1,124 @@
+//! Rows and their places in lists that stand in order, by binary search.
+ghost use Rattle.std.specs.Prelude.{◌≡◌, ◌≤◌, length, filter, find};
+ghost use Rattle.std.specs.List.{prefix_len};
+ghost use Rattle.std.specs.List.Sorted.{IsStrictlySortedBy};
+ghost use Rattle.std.specs.Ordering.{is_lt, is_le};
+ghost use Rattle.hazard_types.specs.Orders.{by_event};
+ghost use Rattle.hazard_types.specs.Places.{by_place};
+ghost use Rattle.hazard_types.specs.Same.{same_event};
+ghost use Rattle.event_life.specs.Products.{by_key, put, row_at};
+ghost use Rattle.event_life.specs.Seats.{IsSeat, seated};
+ghost use Rattle.hazard_board.specs.Board.{by_row_event, slice_of};
+
+use hazard_types::{Event, Row, Zone};
+use std::cmp::Ordering;
+
+/// How many of the rows are of zones before this one.
+fn rows_before(rows: &[Row], z: &Zone) -> usize
+    requires { IsStrictlySortedBy by_key rows.now }
+    ensures value { result ≡ prefix_len (λ row. is_lt (by_place row.zone z.now)) rows.now }
+    ensures bound { result ≤ length rows.now }
+{
+    rows.partition_point(
+        |row: &Row| -> bool
+            ensures { result ≡ is_lt (by_place row.now.zone z.entry.now) }
+        { row.zone.cmp(z).is_lt() },
+    )
+}
+
+/// How many of the rows are of this zone or of zones before it.
+fn rows_through(rows: &[Row], z: &Zone) -> usize
+    requires { IsStrictlySortedBy by_key rows.now }
+    ensures value { result ≡ prefix_len (λ row. is_le (by_place row.zone z.now)) rows.now }
+    ensures bound { result ≤ length rows.now }
+{
+    rows.partition_point(
+        |row: &Row| -> bool
+            ensures { result ≡ is_le (by_place row.now.zone z.entry.now) }
+        { row.zone.cmp(z).is_le() },
+    )
+}
+
+/// The rows of a zone, by event.
+pub fn slice_of<'a>(rows: &'a [Row], z: &Zone) -> &'a [Row]
+    requires { IsStrictlySortedBy by_key rows.now }
+    ensures rows { result.now ≡ slice_of z.now rows.now }
+    ensures order { IsStrictlySortedBy by_row_event result.now }
+{
+    let start = rows_before(rows, z);
+    let rest = &rows[start..];
+    let count = rows_through(rest, z);
+    &rest[..count]
+}
+
+/// How many rows of a zone are of events before this one.
+fn events_before(rows: &[Row], e: &Event) -> usize
+    requires { IsStrictlySortedBy by_row_event rows.now }
+    ensures value { result ≡ prefix_len (λ row. is_lt (by_event row.event e.now)) rows.now }
+    ensures bound { result ≤ length rows.now }
+{
+    rows.partition_point(
+        |row: &Row| -> bool
+            ensures { result ≡ is_lt (by_event row.now.event e.entry.now) }
+        { row.event.order(e).is_lt() },
+    )
+}
+
+/// The row of an event among the rows of one zone.
+fn row_of_event(rows: &[Row], e: &Event) -> Option<Row>
+    requires { IsStrictlySortedBy by_row_event rows.now }
+    ensures { result ≡ find (λ row. same_event row.event e.now) rows.now }
+{
+    let place = events_before(rows, e);
+    if place >= rows.len() {
+        return None;
+    }
+    let row = &rows[place];
+    if row.event == *e { Some(*row) } else { None }
+}
+
+/// The row of an event in a zone.
+pub fn row_at(rows: &[Row], e: &Event, z: &Zone) -> Option<Row>
+    requires { IsStrictlySortedBy by_key rows.now }
+    ensures { result ≡ row_at rows.now e.now z.now }
+{
+    row_of_event(slice_of(rows, z), e)
+}
+
+/// How two rows stand in the order by zone, then event.
+fn order(a: &Row, b: &Row) -> Ordering
+    ensures { result ≡ by_key a.now b.now }
+{
+    a.zone.cmp(&b.zone).then(a.event.order(&b.event))
+}
+
+/// How many of the rows come before this one.
+fn rows_below(rows: &[Row], row: &Row) -> usize
+    requires { IsStrictlySortedBy by_key rows.now }
+    ensures value { result ≡ prefix_len (λ other. is_lt (by_key other row.now)) rows.now }
+    ensures bound { result ≤ length rows.now }
+{
+    rows.partition_point(
+        |other: &Row| -> bool
+            ensures { result ≡ is_lt (by_key other.now row.entry.now) }
+        { order(other, row).is_lt() },
+    )
+}
+
+/// The place of the row of this zone and event, or else the place where the row belongs.
+pub fn seat_of(rows: &[Row], row: &Row) -> Result<usize, usize>
+    requires { IsStrictlySortedBy by_key rows.now }
+    ensures seat { IsSeat result rows.now }
+    ensures seated { seated result row.now rows.now ≡ put row.now rows.now }
+{
+    let place = rows_below(rows, row);
+    if place >= rows.len() {
+        return Err(place);
+    }
+    let found = &rows[place];
+    if order(found, row).is_eq() {
+        Ok(place)
+    } else {
+        Err(place)
+    }
+}
