@@ -5,3 +5,5 @@ pub mod HeardLemmas
 pub mod MakingLemmas
 pub mod UpdateLemmas
 pub mod RoomLemmas
+pub mod BrokenLemmas
+pub mod ReadyLemmas
