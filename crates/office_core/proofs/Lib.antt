@@ -21,3 +21,5 @@ pub mod MakingLemmas
 pub mod UpdateLemmas
 pub mod RoomLemmas
 mod DraftChanges
+pub mod BrokenLemmas
+pub mod ReadyLemmas

@@ -2,19 +2,31 @@
 ghost use Rattle.std.specs.Prelude.{◌≡◌, ◌≤◌, ◌<◌, ◌-◌, Some, None, Ok, Err, IfOk, IfSome, OnOk, length};
 ghost use Rattle.std.specs.Vec.{vec_capacity, vec_len};
 ghost use Rattle.hazard_board.specs.Board.{openings};
-ghost use Rattle.office_core.specs.Prepared.{HasPlace, changed};
+ghost use Rattle.hazard_types.specs.declared.or.Or.TheVariants.{No};
+ghost use Rattle.hazard_types.specs.declared.refusal.Refusal.{Refusal as Refused};
+ghost use Rattle.hazard_types.specs.declared.request.Reply.{Reply as Answered};
+ghost use Rattle.request_json.specs.Formed.{HasRequestForm};
+ghost use Rattle.office_core.specs.Prepared.{HasPlace, IsReady, Readied, changed};
 ghost use Rattle.office_core.specs.Rules.{drafts_full};
-ghost use Rattle.office_core.specs.Step.{drafts_after, entry_of};
+ghost use Rattle.office_core.specs.Step.{Refuses, Repeats, drafts_after, entry_of};
 ghost use Rattle.office_core.specs.Views.{IsRoomier};
 ghost use Rattle.office_core.specs.WellMade.{HasRoomForIf};
+ghost use Rattle.office_core.specs.declared.prepared.Ready.TheVariants.{Again, New};
 
+use crate::agreement_laws::products_keep_the_agreement;
 use crate::copies::copied_request;
 use crate::made::Made;
 use crate::office::Office;
 use crate::prepared::{Prepared, Ready};
+use crate::soundness_laws::{
+    accepted_requests_keep_soundness, entries_come_in_order, requests_make_sound_products,
+    sound_products_may_be_planned,
+};
 use event_numbers::Numbers;
 use hazard_board::Board;
-use hazard_types::{Desk, Entry, Minute, Oom, Or, Refusal, Reply, Request, Sent};
+use hazard_types::{
+    Desk, Entry, Minute, Oom, Or, Refusal, Request, Sent, equality_is_identity,
+};
 use std::alloc::Global;
 
 /// Takes memory for a product: a row for each of its lines, a count for each event that it opens, and its own place.
@@ -93,5 +105,45 @@ impl Office {
             change,
             made,
         })
+    }
+
+    /// The answer to a request of a desk under its number, at a reading of the clock: what is to be committed, or that the request is a repetition. Or the first rule that it breaks, in their order.
+    ///
+    /// All memory that a commit needs is taken before anything is answered. The state stays as it was, whatever the answer.
+    pub fn prepare(
+        &mut self,
+        alloc: Global,
+        desk: Desk,
+        seq: u32,
+        r: &Request,
+        reading: i64,
+    ) -> Result<Ready, Or<Refusal>>
+        requires form { HasRequestForm r.now }
+        requires ids { self.old.state.begun < 4294967295 }
+        ensures state { self.new.state ≡ self.old.state }
+        ensures counts { self.new.counts ≡ self.old.counts }
+        ensures room { IsRoomier self.old.room self.new.room }
+        ensures ready { (p : Readied) → result ≡ Ok (New p) → IsReady self.new desk seq r.now reading p }
+        ensures again { result ≡ Ok Again → (kept : Answered) × Repeats self.old.state desk seq r.now kept }
+        ensures refused { (x : Refused) → result ≡ Err (No x) → Refuses self.old.state desk seq r.now reading x }
+    {
+        let _ = &self.settings;
+        equality_is_identity();
+        requests_make_sound_products();
+        entries_come_in_order();
+        sound_products_may_be_planned();
+        accepted_requests_keep_soundness();
+        products_keep_the_agreement();
+        if let Some(refusal) = self.broken_request(alloc, &desk, seq, r, reading)? {
+            return Err(Or::No(refusal));
+        }
+        if self.is_repeated(&desk, seq, r) {
+            return Ok(Ready::Again);
+        }
+        let t = self.minute_of(reading);
+        let made = self.make(alloc, &desk, r, t)?;
+        self.reserve(&made)?;
+        let p = self.prepared(alloc, desk, seq, r, t, made)?;
+        Ok(Ready::New(p))
     }
 }
