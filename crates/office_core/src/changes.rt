@@ -176,7 +176,13 @@ impl Office {
                 put_in(alloc, drafts, *id, t, Intent::Restate(copied_event(part)?))
             }
             Request::Routine(id, part) => {
-                put_in(alloc, drafts, *id, t, Intent::Routine(copied_routine(part)?))
+                put_in(
+                    alloc,
+                    drafts,
+                    *id,
+                    t,
+                    Intent::Routine(copied_routine(part)?),
+                )
             }
             Request::Drop(id, place) => drop_from(alloc, drafts, *id, t, *place as usize),
             Request::Take(id) => take_over(alloc, drafts, *id, t, desk),

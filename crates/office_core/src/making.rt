@@ -25,8 +25,8 @@ use action_planner::{
 };
 use hazard_types::desk_hazards::facts;
 use hazard_types::{
-    Category, Desk, Draft, EventTexts, Intent, List, Minute, Oom, Or, Plan, PutPart,
-    Refusal, Request, Sent, Target,
+    Category, Desk, Draft, EventTexts, Intent, List, Minute, Oom, Or, Plan, PutPart, Refusal,
+    Request, Sent, Target,
 };
 use product_template::product_text;
 use std::alloc::Global;

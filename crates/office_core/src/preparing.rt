@@ -1,5 +1,5 @@
 //! The answer to a request, with all the memory that an accepted one needs.
-ghost use Rattle.std.specs.Prelude.{◌≡◌, ◌≤◌, ◌<◌, ◌-◌, Some, None, Ok, Err, IfOk, IfSome, OnOk, length};
+ghost use Rattle.std.specs.Prelude.{◌≡◌, ◌≤◌, ◌<◌, ◌-◌, Some, None, Ok, Err, IfOk, OnOk, length};
 ghost use Rattle.std.specs.Vec.{vec_capacity, vec_len};
 ghost use Rattle.hazard_board.specs.Board.{openings};
 ghost use Rattle.hazard_types.specs.declared.or.Or.TheVariants.{No};
@@ -24,9 +24,7 @@ use crate::soundness_laws::{
 };
 use event_numbers::Numbers;
 use hazard_board::Board;
-use hazard_types::{
-    Desk, Entry, Minute, Oom, Or, Refusal, Request, Sent, equality_is_identity,
-};
+use hazard_types::{Desk, Entry, Minute, Oom, Or, Refusal, Request, Sent, equality_is_identity};
 use std::alloc::Global;
 
 /// Takes memory for a product: a row for each of its lines, a count for each event that it opens, and its own place.
@@ -62,12 +60,7 @@ impl Office {
         ensures ok { OnOk result (HasRoomForIf self.new.room made.now) }
     {
         match made {
-            Some(made) => make_room(
-                &mut self.board,
-                &mut self.numbers,
-                &mut self.products,
-                made,
-            ),
+            Some(made) => make_room(&mut self.board, &mut self.numbers, &mut self.products, made),
             None => Ok(()),
         }
     }
@@ -127,6 +120,7 @@ impl Office {
         ensures again { result ≡ Ok Again → (kept : Answered) × Repeats self.old.state desk seq r.now kept }
         ensures refused { (x : Refused) → result ≡ Err (No x) → Refuses self.old.state desk seq r.now reading x }
     {
+        // What holds of every office is known from here on.
         let _ = &self.settings;
         equality_is_identity();
         requests_make_sound_products();

@@ -1,5 +1,5 @@
 //! The reply to a request.
-ghost use Rattle.std.specs.Prelude.{◌≡◌, ◌≤◌, ◌<◌, IfOk, MatchOption, None, Some, find, length, option_map};
+ghost use Rattle.std.specs.Prelude.{◌≡◌, ◌≤◌, ◌<◌, IfOk, find, length, option_map};
 ghost use Rattle.std.specs.List.{All};
 ghost use Rattle.hazard_types.specs.declared.request.Draft.{Draft as OpenDraft};
 ghost use Rattle.office_core.specs.State.{is_draft};
