@@ -1,13 +1,19 @@
 #!/bin/sh
 # Runs the archive's report on a sample: three products of one office as they came over the wire.
-# The first run proves and builds the program and the libraries below it, which takes some minutes.
+# It answers in about a minute, since it runs the program before its proofs are made (`rt try`). With the word `proved`
+# it proves and builds the program and the libraries below it first (`rt run`), which takes some minutes the first time.
 top=$(cd "$(dirname "$0")" && pwd)
+case "${1-}" in
+  "") how=try; told="not proved in this run; sh archive_demo.sh proved proves it first" ;;
+  proved) how=run; told="proving and building first" ;;
+  *) echo "usage: sh archive_demo.sh [proved]" >&2; exit 2 ;;
+esac
 log=$(mktemp)
 echo "== input: samples/archive.txt (an office's products of one day, without their carriage returns)"
 tr -d '\r' < "$top/samples/archive.txt"
-echo "== output of: warn_archive KLWX O 180103T1900Z (proving and building first)"
+echo "== output of: warn_archive KLWX O 180103T1900Z ($told)"
 cd "$top/crates/warn_archive" || exit 1
-rt run -- KLWX O 180103T1900Z < "$top/samples/archive.txt" 2> "$log"
+rt "$how" -- KLWX O 180103T1900Z < "$top/samples/archive.txt" 2> "$log"
 status=$?
 # Status 3 says that something is listed against the texts.
 if [ "$status" = 0 ] || [ "$status" = 3 ]; then

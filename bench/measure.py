@@ -37,5 +37,5 @@ def program(name):
     path = os.path.join(os.path.dirname(os.path.abspath(__file__)), "..", "crates", name, "out", name)
     path = os.environ.get("PROGRAM", path)
     if not os.path.exists(path):
-        raise SystemExit("no program at %s: build it with `rt run` in crates/%s, or run sh demo.sh" % (path, name))
+        raise SystemExit("no program at %s: build it with `rt run` in crates/%s" % (path, name))
     return path

@@ -9,7 +9,7 @@ use std::io::{Read, Write};
 #[derive(Drop)]
 pub struct StdSource<R> {
     inner: R,
-    faults: u64,
+    pub(crate) faults: u64,
 }
 
 impl<R: Read> StdSource<R> {
@@ -38,7 +38,7 @@ impl<R: Read> Source for StdSource<R> {
 #[derive(Drop)]
 pub struct StdSink<W> {
     inner: W,
-    faults: u64,
+    pub(crate) faults: u64,
 }
 
 impl<W: Write> StdSink<W> {

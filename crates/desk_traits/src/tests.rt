@@ -1,7 +1,7 @@
 //! Streams in memory that fail at the listed calls, and the real ones.
 use crate::{Failed, MemSink, MemSource, Sink, Source, StdSink, StdSource, write_whole};
 use hazard_types::List;
-use std::io;
+use std::io::{self, ErrorKind, Read, Write};
 use std::test::Fail;
 
 #[test]
@@ -38,5 +38,37 @@ fn real_ends_read_and_write(rt: HostRuntime) -> Result<(), Fail> {
     assert_eq!(rt; source.read(&mut buffer), Ok(0));
     let mut sink = StdSink::new(io::sink());
     assert_eq!(rt; write_whole(&mut sink, b"abc"), Ok(()));
+    Ok(())
+}
+
+/// Gives an error at each read, and takes nothing at each write.
+#[derive(Drop)]
+struct Broken {}
+
+impl Read for Broken {
+    fn read(&mut self, _into: &mut [u8]) -> io::Result<usize> {
+        Err(io::Error::from(ErrorKind::Other))
+    }
+}
+
+impl Write for Broken {
+    fn write(&mut self, _bytes: &[u8]) -> io::Result<usize> {
+        Ok(0)
+    }
+
+    fn flush(&mut self) -> io::Result<()> {
+        Ok(())
+    }
+}
+
+#[test]
+fn real_ends_count_their_faults(rt: HostRuntime) -> Result<(), Fail> {
+    let mut source = StdSource::new(Broken {});
+    assert_eq!(rt; source.read(&mut [0; 2]), Err(Failed));
+    assert_eq!(rt; source.read(&mut [0; 2]), Err(Failed));
+    assert_eq!(rt; source.faults, 2);
+    let mut sink = StdSink::new(Broken {});
+    assert_eq!(rt; write_whole(&mut sink, b"abc"), Err(Failed));
+    assert_eq!(rt; sink.faults, 1);
     Ok(())
 }

@@ -22,6 +22,9 @@ pub(crate) const SERVING: usize = 1;
 /// The word with the number of entries.
 pub(crate) const COUNT: usize = 2;
 
+/// How often a waiting turn looks again before it sleeps.
+const LOOKS: u32 = 64;
+
 impl<T: Storied> TurnLock<T> {
     /// Draws the next ticket.
     pub(crate) fn draw<R: Wait>(
@@ -65,9 +68,25 @@ impl<T: Storied> TurnLock<T> {
                 let count = shared.load::<Learn>(seat, COUNT);
                 return (value, count);
             }
-            thread::yield_now();
+            self.wait_for(rt, ticket);
         }
         unreachable!()
+    }
+
+    /// Looks for the ticket for a short while, and then sleeps until a turn is passed on. It may also return before.
+    fn wait_for<R: Wait>(&self, rt: &R, ticket: u64) {
+        let shared = &self.table.shared;
+        for _ in 0..LOOKS {
+            if shared.peek(SERVING) == ticket {
+                return;
+            }
+            thread::yield_now();
+        }
+        let served = shared.peek(SERVING);
+        if served != ticket {
+            // Whoever passes the turn on in between changes the word, and then this does not sleep.
+            shared.park(rt, SERVING, (served & 0xffff_ffff) as u32);
+        }
     }
 
     /// Puts the value back into the slot, and counts its last entry where it has one more.
@@ -92,12 +111,13 @@ impl<T: Storied> TurnLock<T> {
         }
     }
 
-    /// Passes the turn on.
+    /// Passes the turn on, and wakes the turns that wait.
     pub(crate) fn pass_on(&self, seat: &mut Seat<Option<T>, View<T::Base, T::Entry>>)
         requires seat { (seat.old.table_id ≡ self.now) × ((ticket : ℕ) × (seat.old.me.0.stage ≡ Learnt ticket)) }
         requires value { (x : T) × (seat.old.me.1 ≡ (0, Some x) ∷ []) × (seat.old.me.0.base ≡ Some (T.base x)) × (T.story x ≡ seat.old.me.0.seen) }
         ensures { (seat.new.table_id ≡ seat.old.table_id) × (seat.new.id ≡ seat.old.id) × (seat.new.me ≡ (staged Idle seat.old.me.0, [])) }
     {
         self.table.shared.fetch_add::<PassOn>(seat, SERVING, 1);
+        self.table.shared.wake_all(SERVING);
     }
 }

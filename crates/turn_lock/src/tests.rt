@@ -115,20 +115,40 @@ fn add_side_by_side<R: Threads + Wait + Sync>(
     Some(whole.close(ours_pass))
 }
 
-/// A pass that was split off after three entries; `None` where memory ran out.
-fn split_after_three<R: Wait>(rt: &R, alloc: Global) -> Option<Pass<Numbers>>
-    ensures { IfSome result (λ pass. (length pass.seen ≡ 3) × (pass.mine ≡ [])) }
-{
-    let empty = Numbers {
+/// Answers how many numbers there are, and adds none.
+#[derive(Drop)]
+struct Size;
+
+impl Job<Numbers> for Size {
+    ghost use Rattle.std.specs.Prelude.{◌≡◌, length};
+
+    type Out = u64;
+
+    ghost may_run = { λ _. Unit {0} };
+
+    ghost meets = { λ job base before after answer. (after ≡ before) × (answer ≡ length before) };
+
+    fn run(self, value: &mut Numbers) -> u64 {
+        value.items.len() as u64
+    }
+}
+
+/// A list that began with 5, 6 and 7, to which two passes added 8 and 9, and its size between these turns; `None` where memory ran out.
+fn add_behind_three<R: Wait>(rt: &R, alloc: Global) -> Option<(u64, Numbers)> {
+    let three = Numbers {
         label: 7,
-        items: Vec::new(alloc),
+        items: vec![in alloc; 5, 6, 7].ok()?,
     };
-    let Ok((lock, pass)) = TurnLock::start(alloc, empty) else {
+    let Ok((lock, mut pass)) = TurnLock::start(alloc, three) else {
         return None;
     };
     cross(&lock, &pass);
-    let mut after = add_each(rt, &lock, pass, &[5, 6, 7])?;
-    lock.split(&mut after).ok()
+    let mut other = lock.split(&mut pass).ok()?;
+    lock.turn(rt, &mut pass, Push { number: 8 })?;
+    let size = lock.turn(rt, &mut other, Size);
+    lock.turn(rt, &mut other, Push { number: 9 })?;
+    lock.join(&mut pass, other);
+    Some((size, lock.close(pass)))
 }
 
 fn may_cross<X: Send>(_value: &X) {}
@@ -167,6 +187,9 @@ fn two_threads_add_a_hundred_numbers_each(rt: HostRuntime) -> Result<(), Fail> {
 }
 
 #[test]
-fn a_pass_is_split_off_after_three_entries(rt: HostRuntime) {
-    assert!(rt; split_after_three(&rt, rt.alloc()).is_some());
+fn two_passes_add_to_a_list_with_entries(rt: HostRuntime) -> Result<(), Fail> {
+    let (size, numbers) = add_behind_three(&rt, rt.alloc()).ok_or("memory")?;
+    assert_eq!(rt; size, 4);
+    assert_eq!(rt; numbers.items.as_slice(), [5, 6, 7, 8, 9].as_slice());
+    Ok(())
 }
