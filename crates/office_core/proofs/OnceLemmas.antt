@@ -167,6 +167,7 @@ more_numbers ns false n next counted = nothing_more ns counted
     append-nothing : (ms : List ℕ) → ms ++ [] ≡ ms
     append-nothing [] = refl
     append-nothing (m ∷ ms) = ap (λ xs. m ∷ xs) (append-nothing ms)
+
     nothing_more : (ms : List ℕ) → ms ≡ counted_from 1 (length ms) → ms ++ [] ≡ counted_from 1 (length (ms ++ []))
     nothing_more ms c = append-nothing ms ∙ c ∙ ap (λ k. counted_from 1 k) (sym (length-none ms))
 
@@ -199,7 +200,7 @@ module _ (fits : List Entered → Entered → Bool) where
       let heard : next.heard ≡ heard_after s.heard e.desk (said_of e) = ap (λ (x : State). x.heard) h.after ∙ heard_next before e y.made in
       let is_heard : list_any (bytes_eq e.desk) (map (λ (x : Heard). x.desk) s.heard) ≡ true = ap (list_any (bytes_eq e.desk)) desks ∙ known in
       let counts : (d : List ℕ) → bytes_eq e.desk d ≡ true → e.seq ≡ length (numbers_by d (entries_of earlier)) + 1 =
-        λ d same. number ∙ ap (λ k. k + 1) (ap (λ x. last_of (said_in s.heard x)) (bytes_one e.desk d same) ∙ c.last d) in
+      λ d same. number ∙ ap (λ k. k + 1) (ap (λ x. last_of (said_in s.heard x)) (bytes_one e.desk d same) ∙ c.last d) in
       record {
         known = ap (λ (x : State). x.settings) h.after ∙ settings_next before e y.made ∙ c.known;
         desks = ap (map (λ (x : Heard). x.desk)) heard ∙ desks_after s.heard e.desk (said_of e) ∙ c.desks;

@@ -97,8 +97,7 @@ fn short_issue(alloc: Global, number: u32, reading: i64) -> Result<Option<String
     };
     let stamp = stamp(end);
     let end = str::from_utf8(&stamp).unwrap_or("");
-    Ok(Some(format!(
-        in alloc;
+    Ok(Some(format!(in alloc;
         "{{\"desk\":\"A\",\"seq\":{number},\"do\":\"issue\",\"hazard\":\"FR.Y\",\"zones\":[\"MDZ003\"],\"begin\":\"now\",\"end\":\"{end}\"}}"
     )?))
 }

@@ -5,9 +5,8 @@ mod day;
 
 use crate::day::Day;
 use hazard_types::Oom;
-use std::io;
 use std::process::ExitCode;
-use std::str;
+use std::{io, str};
 
 /// Why a script is not worked to its end.
 #[derive(Debug, Drop)]

@@ -33,7 +33,7 @@ now c = record { settings = c.self.inside.settings; class = c.self.inside.class;
 after : (c : After-hear) → now c ≡ state_after (before c) (prepared c).entry (prepared c).made
 after c =
     fields_after (before c) (prepared c) c.take_made.new.board.rows c.take_made.new.products.items c.change_drafts.new.drafts.items c.begun_with-self-inside.result c.hear.new.heard.items
-        c.take_made.ensures.rows c.take_made.ensures.products c.change_drafts.ensures.drafts c.begun_with-self-inside.ensures c.hear.ensures (may c).drafts
+    c.take_made.ensures.rows c.take_made.ensures.products c.change_drafts.ensures.drafts c.begun_with-self-inside.ensures c.hear.ensures (may c).drafts
 
 sound : (c : After-hear) → IsSound (now c) c.take_made.new.numbers.counts
 sound c = subst (λ (s : State). IsSound s c.take_made.new.numbers.counts) (sym (after c)) ((may c).sound c.take_made.new.numbers.counts c.take_made.ensures.numbers)

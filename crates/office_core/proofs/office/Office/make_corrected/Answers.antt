@@ -71,9 +71,9 @@ returns-clause-made c =
     let p = planned (goal.at.returns-clause-made c).In_ok-plan in
     let numbers = subst (λ (events : List Event). AreDrawnInOrder o.counts events) (sym p.is.opened) (none_drawn o.counts) in
     if_written o.state c.args.t (Some c.original_of-original.result) c.in_ok-plan.plan (λ (made : Made). IsWellMade o.state o.counts c.args.t (making d) made) c.write.result
-        c.write.ensures.made c.write.ensures.kept c.write.ensures.frame c.write.ensures.one
-        (λ made written. corrected_well o.state o.counts c.args.t c.args.sent.now c.args.given.now c.in_ok-plan.plan made (named d None p.kept) (is_plan d c.in_ok-plan.plan p.is) p.lawful numbers
-            (subst (λ (n : ℕ). IsWritten o.state c.args.t (Some n) c.in_ok-plan.plan made) c.original_of-original.ensures written))
+    c.write.ensures.made c.write.ensures.kept c.write.ensures.frame c.write.ensures.one
+    (λ made written. corrected_well o.state o.counts c.args.t c.args.sent.now c.args.given.now c.in_ok-plan.plan made (named d None p.kept) (is_plan d c.in_ok-plan.plan p.is) p.lawful numbers
+    (subst (λ (n : ℕ). IsWritten o.state c.args.t (Some n) c.in_ok-plan.plan made) c.original_of-original.ensures written))
 
 pub returns-clause-refused : goal.returns-clause-refused
 returns-clause-refused c x e =

@@ -42,7 +42,7 @@ numbers : (c : In_ok-plan) → AreDrawnInOrder c.args.self.now.counts c.in_ok-pl
 numbers c =
     let o = c.args.self.now in
     let next : AreNext o.counts (opened (placed o.counts c.args.t c.args.draft.now.intents)) =
-        λ earlier later e. c.opened_events_are_drawn_in_order.ensures c.args.draft.now.category o.state.rows o.counts c.args.draft.now.intents c.args.t earlier later e (planned c).kept in
+    λ earlier later e. c.opened_events_are_drawn_in_order.ensures c.args.draft.now.category o.state.rows o.counts c.args.draft.now.intents c.args.t earlier later e (planned c).kept in
     subst (λ (events : List Event). AreDrawnInOrder o.counts events) (sym (planned c).is.opened) (next_drawn o.counts (opened (placed o.counts c.args.t c.args.draft.now.intents)) next)
 
 pub plan-requires : goal.plan-requires
@@ -71,8 +71,8 @@ returns-clause-made c =
     let o = c.args.self.now in
     let d = (goal.at.returns-clause-made c).In_ok-plan in
     if_written o.state c.args.t None c.in_ok-plan.plan (λ (made : Made). IsWellMade o.state o.counts c.args.t (making d) made) c.write.result
-        c.write.ensures.made c.write.ensures.kept c.write.ensures.frame c.write.ensures.one
-        (λ made written. drafted_well o.state o.counts c.args.t c.args.draft.now.category c.args.draft.now.intents c.in_ok-plan.plan made (kept d) (is_plan d) (planned d).lawful (numbers d) written)
+    c.write.ensures.made c.write.ensures.kept c.write.ensures.frame c.write.ensures.one
+    (λ made written. drafted_well o.state o.counts c.args.t c.args.draft.now.category c.args.draft.now.intents c.in_ok-plan.plan made (kept d) (is_plan d) (planned d).lawful (numbers d) written)
 
 pub returns-clause-refused : goal.returns-clause-refused
 returns-clause-refused c x e =

@@ -74,22 +74,22 @@ returns-clause-ready c p e =
     let order = in_order d t (minute g.After-minute_of-t) in
     let same : c.in_ok-p.p ≡ p = search rules in
     let checked : IsChecked s c.args.self.now.counts c.reserve.new.self.room c.args.desk c.args.seq c.args.r.now c.args.reading t c.in_ok-made.made c.in_ok-p.p =
-        record {
-          sound = sound d;
-          agrees = subst (λ (o : OfficeView). Agrees o.state o.counts) c.self.view_is c.self.invariant.1;
-          form = c.requires.form;
-          new = new d;
-          request = kept d;
-          minute = minute g.After-minute_of-t;
-          later = order.0;
-          plan = c.sound_products_may_be_planned.ensures s c.args.self.now.counts t (making_of s c.args.r.now) (sound d) order.0 order.1 (making_sound d);
-          well = c.in_ok-made.ensures.made;
-          fits = c.in_ok-reserve.ensures.ok;
-          entry = subst (λ (v : State). c.in_ok-p.p.entry ≡ entry_of v c.args.desk c.args.seq c.args.r.now t c.in_ok-made.made) c.reserve.ensures.state c.in_ok-p.ensures.entry;
-          same = c.in_ok-p.ensures.made;
-          drafts = subst (λ (v : State). changed c.in_ok-p.p.change v.drafts ≡ drafts_after v c.args.desk c.args.r.now t) c.reserve.ensures.state c.in_ok-p.ensures.drafts;
-          place = subst (λ (v : State). HasPlace c.in_ok-p.p.change v.drafts) c.reserve.ensures.state c.in_ok-p.ensures.place;
-        } in
+    record {
+      sound = sound d;
+      agrees = subst (λ (o : OfficeView). Agrees o.state o.counts) c.self.view_is c.self.invariant.1;
+      form = c.requires.form;
+      new = new d;
+      request = kept d;
+      minute = minute g.After-minute_of-t;
+      later = order.0;
+      plan = c.sound_products_may_be_planned.ensures s c.args.self.now.counts t (making_of s c.args.r.now) (sound d) order.0 order.1 (making_sound d);
+      well = c.in_ok-made.ensures.made;
+      fits = c.in_ok-reserve.ensures.ok;
+      entry = subst (λ (v : State). c.in_ok-p.p.entry ≡ entry_of v c.args.desk c.args.seq c.args.r.now t c.in_ok-made.made) c.reserve.ensures.state c.in_ok-p.ensures.entry;
+      same = c.in_ok-p.ensures.made;
+      drafts = subst (λ (v : State). changed c.in_ok-p.p.change v.drafts ≡ drafts_after v c.args.desk c.args.r.now t) c.reserve.ensures.state c.in_ok-p.ensures.drafts;
+      place = subst (λ (v : State). HasPlace c.in_ok-p.p.change v.drafts) c.reserve.ensures.state c.in_ok-p.ensures.place;
+    } in
     subst (λ (q : Readied). IsReady c.reserve.new.self c.args.desk c.args.seq c.args.r.now c.args.reading q) same
-        (ready c.reserve.new.self s c.args.self.now.counts c.args.desk c.args.seq c.args.r.now c.args.reading t c.in_ok-made.made c.in_ok-p.p c.reserve.ensures.state c.reserve.ensures.counts
-            c.accepted_requests_keep_soundness.ensures c.products_keep_the_agreement.ensures checked)
+    (ready c.reserve.new.self s c.args.self.now.counts c.args.desk c.args.seq c.args.r.now c.args.reading t c.in_ok-made.made c.in_ok-p.p c.reserve.ensures.state c.reserve.ensures.counts
+    c.accepted_requests_keep_soundness.ensures c.products_keep_the_agreement.ensures checked)
