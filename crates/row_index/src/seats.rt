@@ -1,14 +1,15 @@
 //! The rows of an office's class, each at its seat: found by zone and event.
-ghost use Rattle.std.specs.Prelude.{◌≡◌, filter, IfOk, OnOk};
+ghost use Rattle.std.specs.Prelude.{◌≡◌, filter, if◌then◌else◌, IfOk, OnOk};
 ghost use Rattle.std.specs.BTreeMap.{insert_entry};
 ghost use Rattle.std.specs.Map.{values_of};
-ghost use Rattle.event_life.specs.Products.{put};
-ghost use Rattle.row_index.specs.Shelves.{is_in_zone};
-ghost use Rattle.row_index.specs.Seating.{AreSeated};
+ghost use Rattle.event_life.specs.Products.{put, row_at};
+ghost use Rattle.row_index.specs.Numbers.{is_in_zone};
+ghost use Rattle.row_index.specs.Seating.{AreSeated, seat_at, has_seat, seats_with};
 
-use hazard_types::{Event, List, Oom, Row, Zone};
+use crate::keys::add_key;
+use hazard_types::{Event, Line, Oom, Row, Zone};
 use std::alloc::{AllocError, Global};
-use std::collections::BTreeMap;
+use std::collections::{BTreeMap, BTreeSet};
 
 /// A spot in a zone: in front of all events, at an event, or behind them all.
 #[derive(Clone, Copy, PartialEq, Eq, PartialOrd, Ord)]
@@ -27,6 +28,51 @@ pub struct Seat {
 
 /// The rows, each at its seat.
 pub type Seated = BTreeMap<Seat, Row>;
+
+/// The seats that lines speak of.
+pub type Seats = BTreeSet<Seat>;
+
+fn seat_at(event: &Event, zone: &Zone) -> Seat
+    ensures { result ≡ seat_at event.now zone.now }
+{
+    Seat {
+        zone: *zone,
+        spot: Spot::At(*event),
+    }
+}
+
+/// Whether the seat of an event in a zone is among these.
+pub fn has_seat(seats: &Seats, event: &Event, zone: &Zone) -> bool
+    ensures { result ≡ has_seat seats.now.keys (seat_at event.now zone.now) }
+{
+    seats.contains(&seat_at(event, zone))
+}
+
+/// Adds the seat that a line speaks of, where it counts.
+pub fn add_seat(seats: &mut Seats, counts: bool, line: &Line) -> Result<(), Oom>
+    ensures { OnOk result (seats.new.keys ≡ seats_with counts line.now seats.old.keys) }
+{
+    if counts {
+        let spot = Spot::At(line.event);
+        let seat = Seat {
+            zone: line.zone,
+            spot,
+        };
+        add_key(seats, seat)?;
+    }
+    Ok(())
+}
+
+/// The row of an event in a zone.
+pub fn row_in(seated: &Seated, event: &Event, zone: &Zone) -> Option<Row>
+    requires { AreSeated seated.now.entries }
+    ensures { result ≡ row_at (values_of seated.now.entries) event.now zone.now }
+{
+    match seated.get(&seat_at(event, zone)) {
+        Some(row) => Some(*row),
+        None => None,
+    }
+}
 
 /// Sets the value at a key.
 fn set<K: Ord + Drop, V: Copy>(map: &mut BTreeMap<K, V>, key: K, value: &V) -> Result<(), Oom>
@@ -48,6 +94,18 @@ pub fn put_seated(seated: &mut Seated, row: &Row) -> Result<(), Oom>
         spot,
     };
     set(seated, seat, row)
+}
+
+/// Puts a row that counts.
+pub fn count_row(seated: &mut Seated, counts: bool, row: &Row) -> Result<(), Oom>
+    requires { AreSeated seated.old.entries }
+    ensures rows { OnOk result (values_of seated.new.entries ≡ (if counts then put row.now (values_of seated.old.entries) else values_of seated.old.entries)) }
+    ensures seated { OnOk result (AreSeated seated.new.entries) }
+{
+    if counts {
+        put_seated(seated, row)?;
+    }
+    Ok(())
 }
 
 /// The rows of a zone, in order.
