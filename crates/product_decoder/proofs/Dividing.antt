@@ -29,8 +29,8 @@ one_more true p at c v headings q here t =
     let size : first_or (length p) headings - at ≡ 1 + length q.lead = omega arith in
     record {
       texts = (let own : slice_range p at (first_or (length p) headings) ≡ c ∷ q.lead = ap (λ (n : ℕ). take n (drop at p)) size ∙ ap (take (1 + length q.lead)) here ∙ longer c v (length q.lead) ∙ ap (λ (xs : List ℕ). c ∷ xs) t.front in
-      let later = t.texts in
-      λ i. own i ∷ later i);
+          let later = t.texts in
+          λ i. own i ∷ later i);
       first = omega arith;
       front = refl;
     }

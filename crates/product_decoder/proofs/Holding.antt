@@ -78,6 +78,7 @@ line_part b (c ∷ v) h is = by_byte (c == 10) refl h
     whole : (b : Bool) → onto b c (record { lead = v ++ 10 ∷ []; texts = [] }) ≡ onto_line b (c ∷ (v ++ 10 ∷ []))
     whole true = refl
     whole false = refl
+
     by_byte : (k : Bool) → (c == 10) ≡ k → (k || list_any (λ c. c == 10) v) ≡ false → onto (has_heading (c ∷ (v ++ 10 ∷ []))) c (part (c == 10) (v ++ 10 ∷ [])) ≡ onto_line b (c ∷ (v ++ 10 ∷ []))
     by_byte true e g = cc
     by_byte false e g = rw (is, e, quiet_end v g) (whole b)
@@ -217,17 +218,18 @@ split_lines (c ∷ bytes) = let s = split_lines bytes in split_by c bytes s (c =
 
 pub waits_quiet : (lead rest : List ℕ) → IsPlain lead → IsQuiet rest → TakesWhole (lead ++ rest) None rest
 waits_quiet lead rest p quiet =
-    let none : products_in lead ≡ [] = ap (λ (q : Parts). q.texts) p.none in
-    (record {
-       lines = lead;
-       line = rest;
-       parts = refl;
-       whole = p.ended;
-       quiet = quiet;
-       one = rw none (omega arith);
-       kept = ap (λ (texts : List (List ℕ)). concat texts ++ rest) (sym none);
-     },
-     trimmed_keeps lead rest p)
+    let none : products_in lead ≡ [] = ap (λ (q : Parts). q.texts) p.none in (
+      record {
+        lines = lead;
+        line = rest;
+        parts = refl;
+        whole = p.ended;
+        quiet = quiet;
+        one = rw none (omega arith);
+        kept = ap (λ (texts : List (List ℕ)). concat texts ++ rest) (sym none);
+      },
+      trimmed_keeps lead rest p,
+    )
 
 headed_products : (lead lines : List ℕ) → IsPlain lead → IsHeaded lines → products_in (lead ++ lines) ≡ lines ∷ []
 headed_products lead lines p h = ap (λ (q : Parts). q.texts) (part_behind lead lines p.ended) ∙ (λ i. (grafted (p.none i) (h.one i)).texts)
@@ -236,17 +238,18 @@ pub waits_one : (lead rest : List ℕ) → IsPlain lead → IsOne rest → Takes
 waits_one lead rest p one =
     let lines = one.0 in
     let line = one.1 in
-    let texts = headed_products lead lines p one.2 in
-    (record {
-       lines = lead ++ lines;
-       line = line;
-       parts = ap (λ (xs : List ℕ). lead ++ xs) one.4 ∙ sym (append_assoc lead lines line);
-       whole = ends_append 10 lead lines p.ended (one.2).ended;
-       quiet = one.3;
-       one = rw texts (omega arith);
-       kept = one.4 ∙ ap (λ (xs : List ℕ). xs ++ line) (sym (append-nil lines)) ∙ ap (λ (all : List (List ℕ)). concat all ++ line) (sym texts);
-     },
-     trimmed_keeps lead rest p)
+    let texts = headed_products lead lines p one.2 in (
+      record {
+        lines = lead ++ lines;
+        line = line;
+        parts = ap (λ (xs : List ℕ). lead ++ xs) one.4 ∙ sym (append_assoc lead lines line);
+        whole = ends_append 10 lead lines p.ended (one.2).ended;
+        quiet = one.3;
+        one = rw texts (omega arith);
+        kept = one.4 ∙ ap (λ (xs : List ℕ). xs ++ line) (sym (append-nil lines)) ∙ ap (λ (all : List (List ℕ)). concat all ++ line) (sym texts);
+      },
+      trimmed_keeps lead rest p,
+    )
 
 two_of : (x : List ℕ) (xs ys : List (List ℕ)) (l : List ℕ) → xs ≡ x ∷ ys → 1 ≤ length ys → 2 ≤ length xs
 two_of x xs ys l is le = rw is (omega arith)
@@ -267,17 +270,18 @@ gives_whole lead text rest p h b =
     let all : products_in (lead ++ (text ++ lines)) ≡ text ∷ products_in lines =
     ap (λ (q : Parts). q.texts) (part_behind lead (text ++ lines) p.ended) ∙ ap (λ (q : Parts). (grafted q (part true (text ++ lines))).texts) p.none
     ∙ given text lines h (ap (λ (xs : List ℕ). (part true xs).lead) (sym (append-nil lines)) ∙ begun_none lines [] begun) in
-    let ended : are_ended (text ++ lines) ≡ true = ends_append 10 text lines h.ended (ends_append 10 b.0 s.lines (b.2).ended s.whole) in
-    (record {
-       lines = lead ++ (text ++ lines);
-       line = s.line;
-       parts = ap (λ (xs : List ℕ). lead ++ (text ++ xs)) (b.3 ∙ ap (λ (xs : List ℕ). b.0 ++ xs) s.parts ∙ sym (append_assoc b.0 s.lines s.line)) ∙ ap (λ (xs : List ℕ). lead ++ xs) (sym (append_assoc text lines s.line)) ∙ sym (append_assoc lead (text ++ lines) s.line);
-       whole = ends_append 10 lead (text ++ lines) p.ended ended;
-       quiet = s.quiet;
-       two = rw (all, later) (omega arith);
-     },
-     (λ more. trimmed_keeps lead (text ++ rest) p more ∙ comes_first text rest h b more),
-     behind_less lead text rest (headed_full text h))
+    let ended : are_ended (text ++ lines) ≡ true = ends_append 10 text lines h.ended (ends_append 10 b.0 s.lines (b.2).ended s.whole) in (
+      record {
+        lines = lead ++ (text ++ lines);
+        line = s.line;
+        parts = ap (λ (xs : List ℕ). lead ++ (text ++ xs)) (b.3 ∙ ap (λ (xs : List ℕ). b.0 ++ xs) s.parts ∙ sym (append_assoc b.0 s.lines s.line)) ∙ ap (λ (xs : List ℕ). lead ++ xs) (sym (append_assoc text lines s.line)) ∙ sym (append_assoc lead (text ++ lines) s.line);
+        whole = ends_append 10 lead (text ++ lines) p.ended ended;
+        quiet = s.quiet;
+        two = rw (all, later) (omega arith);
+      },
+      (λ more. trimmed_keeps lead (text ++ rest) p more ∙ comes_first text rest h b more),
+      behind_less lead text rest (headed_full text h),
+    )
 
 -- what is taken at the end
 
@@ -434,9 +438,10 @@ ok_last (Ok text) old mid new t h = last_so old mid new text t h
 ok_last (Err e) old mid new t h = tt
 
 pub moved_last : (old mid new text : List ℕ) → IsTrimmed old mid → Moves mid (Some text) new → TakesLast old (Some text) new
-moved_last old mid new text t m =
-    (products_same old mid t ∙ ap products_in (m.2 ∙ sym (append-nil (text ++ new))) ∙ comes_first text new m.0 m.1 [] ∙ ap (λ (xs : List ℕ). text ∷ products_in xs) (append-nil new),
-     trimmed_less old mid new t (front_less mid text new m.2 m.0))
+moved_last old mid new text t m = (
+  products_same old mid t ∙ ap products_in (m.2 ∙ sym (append-nil (text ++ new))) ∙ comes_first text new m.0 m.1 [] ∙ ap (λ (xs : List ℕ). text ∷ products_in xs) (append-nil new),
+  trimmed_less old mid new t (front_less mid text new m.2 m.0),
+)
 
 -- a state that kept its rest
 pub trimmed_same : (old mid same : List ℕ) → IsTrimmed old mid → same ≡ mid → IsTrimmed old same

@@ -4,6 +4,7 @@ use Rattle.std.specs.BTreeMap.{is_at}
 use Rattle.std.specs.BTreeSet.{insert_key}
 use Rattle.std.specs.Set.{remove_key}
 use Rattle.hazard_types.specs.Places.{Place}
+use Rattle.hazard_types.specs.contracts.period.PeriodPartialEq.TheImpl as period
 use Rattle.hazard_types.specs.declared.codes.Action.{Action}
 use Rattle.hazard_types.specs.declared.codes.Action.TheVariants as action
 use Rattle.hazard_types.specs.declared.hazard.Event.{Event}
@@ -67,8 +68,13 @@ stood_without (Some old) keys = remove_key (is_at (by_standing (standing_of old)
 abbrev pub stood_with : Row → List Standing → List Standing
 stood_with row keys = if row.ended then keys else insert_key by_standing keys (standing_of row)
 
+-- no line has ended the row or the one before, which had the same period
+abbrev pub stays : Option Row → Row → Bool
+stays None row = false
+stays (Some old) row = period.eq-value.it old.period row.period && not old.ended && not row.ended
+
 abbrev pub restood : Option Row → Row → List Standing → List Standing
-restood before row keys = stood_with row (stood_without before keys)
+restood before row keys = if stays before row then keys else stood_with row (stood_without before keys)
 
 -- What a product changes where a higher row is looked for: the rows that its lawful lines other than UPG leave, each put in turn,
 -- and the seats that its UPG lines speak of.

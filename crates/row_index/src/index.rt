@@ -13,7 +13,7 @@ ghost use Rattle.row_index.specs.Seating.{AreSeated, upgrades};
 ghost use Rattle.row_index.specs.Steps.{IsChanged, around_new, around_joining, asked_around, latest_open, event_going, rows_left, put_each};
 
 use crate::higher::{Changed, any_upgrades, rivals, upgraded_by};
-use crate::look::{later_event, life_of, nothing_around, of_event};
+use crate::look::{is_new, later_event, life_of, nothing_around, of_event, opens};
 use crate::numbers::{Events, Number, events_at, has_event, number_of, put_event};
 use crate::seats::{Seated, add_seat, all_rows, count_row, has_seat, put_seated, row_in};
 use crate::standing::{Standings, has_same_among, is_open_among, restand};
@@ -75,6 +75,16 @@ impl RowIndex {
         ensures { result ≡ is_open self.now t event.now }
     {
         is_open_among(&self.standing, t, event)
+    }
+
+    /// The row of a line's event in its zone. A NEW line's event mostly has none.
+    fn own_row(&self, line: &Line) -> Option<Row>
+        ensures { result ≡ row_at self.now line.now.event line.now.zone }
+    {
+        if is_new(&line.action) && !self.has_rows(&line.event) {
+            return None;
+        }
+        self.row_at(&line.event, &line.zone)
     }
 
     /// Whether one of the events is of an earlier year and open.
@@ -194,7 +204,7 @@ impl RowIndex {
         requires { is_routine line.now.action ≡ false }
         ensures { result ≡ breach_of_line (life_at self.now line.now) line.now t (around_but_higher self.now t line.now higher) }
     {
-        let life = life_of(&self.row_at(&line.event, &line.zone));
+        let life = life_of(&self.own_row(line));
         match life_step(life, line, t, self.around(t, line, higher)) {
             Ok(_life) => None,
             Err(breach) => Some(breach),
@@ -218,6 +228,9 @@ impl RowIndex {
     fn row_after(&self, t: Minute, line: &Line) -> Row
         ensures { result ≡ row_after self.now t line.now }
     {
+        if opens(&line.action) {
+            return event_life::row_after(&[], t, line);
+        }
         match self.row_at(&line.event, &line.zone) {
             Some(own) => event_life::row_after(&[own], t, line),
             None => event_life::row_after(&[], t, line),
@@ -333,8 +346,8 @@ impl RowIndex {
             mut events,
             mut standing,
         } = self;
-        let before = row_in(&seated, &row.event, &row.zone);
-        put_seated(&mut seated, row)?;
+        let mut before = None;
+        put_seated(&mut seated, row, &mut before)?;
         put_event(alloc, &mut events, &row.event)?;
         restand(&mut standing, &before, row)?;
         Ok(RowIndex {

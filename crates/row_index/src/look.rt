@@ -1,10 +1,11 @@
 //! What is read off a row or two, without a walk.
 ghost use Rattle.std.specs.Prelude.{◌≡◌, option_map};
-ghost use Rattle.event_life.specs.Products.{life_of, later_event};
+ghost use Rattle.event_life.specs.Lives.{opens};
+ghost use Rattle.event_life.specs.Products.{life_of, later_event, is_new};
 ghost use Rattle.row_index.specs.Steps.{nothing_around, of_event};
 
 use event_life::{Around, Life};
-use hazard_types::{Event, Line, Row};
+use hazard_types::{Action, Event, Line, Row};
 
 /// The life of a row.
 pub fn life_of(row: &Option<Row>) -> Option<Life>
@@ -47,6 +48,20 @@ pub fn nothing_around(higher: bool) -> Around
         same: false,
         higher,
     }
+}
+
+/// Whether a line opens an event of its own.
+pub fn is_new(action: &Action) -> bool
+    ensures { result ≡ is_new action.now }
+{
+    matches!(action, Action::New)
+}
+
+/// Whether a line opens a spell, and so leaves nothing of the one before.
+pub fn opens(action: &Action) -> bool
+    ensures { result ≡ opens action.now }
+{
+    matches!(action, Action::New | Action::Exa | Action::Exb)
 }
 
 /// The line, of another event.

@@ -1,7 +1,7 @@
 //! The rows of an office's class, each at its seat: found by zone and event.
 ghost use Rattle.std.specs.Prelude.{◌≡◌, filter, if◌then◌else◌, IfOk, OnOk};
-ghost use Rattle.std.specs.BTreeMap.{insert_entry};
-ghost use Rattle.std.specs.Map.{values_of};
+ghost use Rattle.std.specs.BTreeMap.{insert_entry, is_at};
+ghost use Rattle.std.specs.Map.{lookup, values_of};
 ghost use Rattle.event_life.specs.Products.{put, row_at};
 ghost use Rattle.row_index.specs.Numbers.{is_in_zone};
 ghost use Rattle.row_index.specs.Seating.{AreSeated, seat_at, has_seat, seats_with};
@@ -74,17 +74,24 @@ pub fn row_in(seated: &Seated, event: &Event, zone: &Zone) -> Option<Row>
     }
 }
 
-/// Sets the value at a key.
-fn set<K: Ord + Drop, V: Copy>(map: &mut BTreeMap<K, V>, key: K, value: &V) -> Result<(), Oom>
-    ensures { OnOk result (map.new.entries ≡ insert_entry K.cmp map.old.entries key value.now) }
+/// Sets the value at a key. `before` becomes the one that was there.
+fn set<K: Ord + Drop, V: Copy>(
+    map: &mut BTreeMap<K, V>,
+    key: K,
+    value: &V,
+    before: &mut Option<V>,
+) -> Result<(), Oom>
+    ensures set { OnOk result (map.new.entries ≡ insert_entry K.cmp map.old.entries key value.now) }
+    ensures before { OnOk result (before.new ≡ lookup (is_at (K.cmp key)) map.old.entries) }
 {
-    map.insert(key, *value)?;
+    *before = map.insert(key, *value)?;
     Ok(())
 }
 
-/// Puts a row in the place of the one of its zone and event, or in its own place.
-pub fn put_seated(seated: &mut Seated, row: &Row) -> Result<(), Oom>
+/// Puts a row in the place of the one of its zone and event, or in its own place. `before` becomes the one that was there.
+pub fn put_seated(seated: &mut Seated, row: &Row, before: &mut Option<Row>) -> Result<(), Oom>
     requires { AreSeated seated.old.entries }
+    ensures before { OnOk result (before.new ≡ row_at (values_of seated.old.entries) row.now.event row.now.zone) }
     ensures rows { OnOk result (values_of seated.new.entries ≡ put row.now (values_of seated.old.entries)) }
     ensures seated { OnOk result (AreSeated seated.new.entries) }
 {
@@ -93,7 +100,7 @@ pub fn put_seated(seated: &mut Seated, row: &Row) -> Result<(), Oom>
         zone: row.zone,
         spot,
     };
-    set(seated, seat, row)
+    set(seated, seat, row, before)
 }
 
 /// Puts a row that counts.
@@ -103,7 +110,8 @@ pub fn count_row(seated: &mut Seated, counts: bool, row: &Row) -> Result<(), Oom
     ensures seated { OnOk result (AreSeated seated.new.entries) }
 {
     if counts {
-        put_seated(seated, row)?;
+        let mut before = None;
+        put_seated(seated, row, &mut before)?;
     }
     Ok(())
 }
