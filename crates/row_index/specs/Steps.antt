@@ -13,6 +13,7 @@ use Rattle.hazard_types.specs.declared.line.Vtec.{Vtec}
 use Rattle.hazard_types.specs.declared.line.Row.{Row}
 use Rattle.event_life.specs.declared.life.Around.{Around}
 use Rattle.event_life.specs.Products.{put, row_at, row_after, put_but_upgrades, has_rows, is_open, is_held, has_same, is_new, later_event, going_in}
+use Rattle.event_life.specs.Shown.{shown_at}
 use Rattle.row_index.specs.declared.seats.Seat.{Seat}
 use Rattle.row_index.specs.declared.standing.Standing.{Standing}
 use Rattle.row_index.specs.Numbers.{is_in_zone}
@@ -90,6 +91,6 @@ not_upgraded seats rows = filter (λ (r : Row). not (has_seat seats (seat_of r))
 abbrev pub not_counted : List Row → List Row → List Row
 not_counted counted rows = filter (λ (r : Row). is_none (row_at counted r.event r.zone)) rows
 
--- a zone's rows after a product that no line of it has ended as a higher row's, in whatever order
-abbrev pub rivals : Place → List Row → List Seat → List Row → List Row
-rivals z counted upgraded rows = not_upgraded upgraded (filter (is_in_zone z) counted) ++ not_counted counted (not_upgraded upgraded (filter (is_in_zone z) rows))
+-- a zone's rows after a product that no UPG line of it has ended, in whatever order, without those before it that are not live
+abbrev pub rivals : Place → ℕ → List Row → List Seat → List Row → List Row
+rivals z t counted upgraded rows = not_upgraded upgraded (filter (is_in_zone z) counted) ++ not_counted counted (not_upgraded upgraded (shown_at t (filter (is_in_zone z) rows)))

@@ -8,8 +8,8 @@ ghost use Rattle.row_index.specs.Steps.{not_upgraded, not_counted, rivals};
 ghost use Rattle.row_index.specs.Telling.{Tells};
 
 use crate::seats::{Seated, Seats, add_seat, has_seat, row_in, rows_in};
-use event_life::is_upgrade;
-use hazard_types::{Line, Oom, Row, Zone};
+use event_life::{is_upgrade, shown};
+use hazard_types::{Line, Minute, Oom, Row, Zone};
 use std::alloc::{AllocError, Global};
 use std::collections::BTreeSet;
 
@@ -62,21 +62,23 @@ fn not_counted(alloc: Global, counted: &Seated, rows: &[Row]) -> Result<Vec<Row>
     Ok(kept)
 }
 
-/// A zone's rows after the product that no line of it has ended as a higher row's.
+/// A zone's rows after the product that no UPG line of it has ended, without those before it that are not live.
 pub fn rivals(
     alloc: Global,
     seated: &Seated,
+    t: Minute,
     changed: &Changed,
     zone: &Zone,
 ) -> Result<Vec<Row>, Oom>
     requires seated { AreSeated seated.now.entries }
     requires counted { AreSeated changed.now.counted.entries }
-    ensures { IfOk result (λ rows. rows.items ≡ rivals zone.now (values_of changed.now.counted.entries) changed.now.upgraded.keys (values_of seated.now.entries)) }
+    ensures { IfOk result (λ rows. rows.items ≡ rivals zone.now t (values_of changed.now.counted.entries) changed.now.upgraded.keys (values_of seated.now.entries)) }
 {
     let counted = rows_in(alloc, &changed.counted, zone)?;
     let mut rows = not_upgraded(alloc, &changed.upgraded, &counted)?;
     let before = rows_in(alloc, seated, zone)?;
-    let before = not_upgraded(alloc, &changed.upgraded, &before)?;
+    let before = shown(alloc, &before, t)?;
+    let before = not_upgraded(alloc, &changed.upgraded, before.as_slice())?;
     let before = not_counted(alloc, &changed.counted, &before)?;
     rows.extend_from_slice(&before)?;
     Ok(rows)

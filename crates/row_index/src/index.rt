@@ -288,7 +288,7 @@ impl RowIndex {
         requires seated { AreSeated changed.now.counted.entries }
         ensures { (lines : Seq LineValue) → IsChanged self.now t lines (values_of changed.now.counted.entries) changed.now.upgraded.keys → IfOk result (λ higher. higher ≡ has_higher self.now t lines line.now) }
     {
-        let rows = rivals(alloc, &self.seated, changed, &line.zone)?;
+        let rows = rivals(alloc, &self.seated, t, changed, &line.zone)?;
         match self.row_at(&line.event, &line.zone) {
             Some(own) => Ok(event_life::has_higher(&[own], t, &rows, line)),
             None => Ok(event_life::has_higher(&[], t, &rows, line)),

@@ -14,7 +14,7 @@ returns-in-Some c = λ lines changed.
     let rows = c.args.self.now in
     let line = c.args.line.now in
     let up : IsStrictlySortedBy by_key rows = subst (λ (all : List Row). IsStrictlySortedBy by_key all) c.self.view_is c.self.invariant.in_order in
-    let rivals_are = c.deref.ensures.value ∙ c.in_ok-rows.ensures ∙ ap (λ (all : List Row). rivals line.zone (values_of c.args.changed.now.counted.entries) c.args.changed.now.upgraded.keys all) c.self.view_is in
+    let rivals_are = c.deref.ensures.value ∙ c.in_ok-rows.ensures ∙ ap (λ (all : List Row). rivals line.zone c.args.t (values_of c.args.changed.now.counted.entries) c.args.changed.now.upgraded.keys all) c.self.view_is in
     c.has_higher.ensures
     ∙ ap (λ (all : List Row). not (may_yield line.event.hazard) || is_overlapped all c.args.t (row_at (c.in-Some.own ∷ []) line.event line.zone)) rivals_are
     ∙ higher_own rows c.args.t lines (values_of c.args.changed.now.counted.entries) c.args.changed.now.upgraded.keys changed up line c.in-Some.own (sym c.row_at.ensures ∙ c.in-Some.is)
