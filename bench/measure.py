@@ -39,3 +39,21 @@ def program(name):
     if not os.path.exists(path):
         raise SystemExit("no program at %s: build it with `rt run` in crates/%s" % (path, name))
     return path
+
+
+def beside(words):
+    """The words without `--beside FOLDER`, and the folder, which has other programs of the same names, or None."""
+    if "--beside" in words:
+        at = words.index("--beside")
+        return words[:at] + words[at + 2:], words[at + 1]
+    return words, None
+
+
+def ratio(mine, folder, words, path):
+    """What the other program of that name takes on the same file, as ratios, or nothing where there is none."""
+    if folder is None:
+        return ""
+    seconds, written, memory, status = run([os.path.join(folder, os.path.basename(words[0]))] + words[1:], path)
+    same = "" if (written, status) == (mine[1], mine[3]) else ", ANOTHER ANSWER"
+    return ", %.1f times the other's %.3f s, %.1f times its memory%s" % (
+        mine[0] / max(seconds, 0.001), seconds, mine[2] / max(memory, 1), same)

@@ -1,3 +1,6 @@
 pub mod TakingLemmas
 pub mod LawLemmas
 pub mod StepLemmas
+pub mod Parting
+pub mod Holding
+pub mod Dividing

@@ -3,3 +3,5 @@ pub mod Lives
 pub mod ReaderModel
 pub mod Steps
 pub mod Takings
+pub mod Feeding
+pub mod Holding

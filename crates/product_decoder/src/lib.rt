@@ -1,13 +1,16 @@
 //! What the products of an office say: read, taken in order, and judged.
 #![tactic(auto)]
 
+mod feed;
 mod findings;
+mod held;
 mod read;
 mod reader;
 mod taken;
 mod tracks;
 mod types;
 
+pub use feed::{Feed, lines_tell_the_products, products_of};
 pub use product_frame::split_products;
 pub use read::decode;
 pub use reader::Reader;

@@ -12,5 +12,5 @@ mod write;
 
 pub use frame::{Frame, FrameFault, FrameSegment, Heading, Pair};
 pub use read::{frame_or_fault, read_frame};
-pub use split::{split_products, texts_are_split_apart};
+pub use split::{is_heading, split_products, texts_are_split_apart};
 pub use write::{Block, Body, frame_text};

@@ -1,7 +1,8 @@
 //! Texts are split into products.
-ghost use Rattle.std.specs.Prelude.{◌≡◌, ◌≤◌, ℕ, List as Seq, length, IfOk};
+ghost use Rattle.std.specs.Prelude.{◌≡◌, ◌≤◌, ℕ, List as Seq, length, is_some, IfOk};
 ghost use Rattle.std.specs.List.{All, concat};
-ghost use Rattle.product_frame.specs.Text.{starts};
+ghost use Rattle.product_frame.specs.Text.{starts, line_of};
+ghost use Rattle.product_frame.specs.Parts.{heading_of};
 ghost use Rattle.product_frame.specs.Splitting.{headings_in, first_or, spans_to, spans_of, laid, from_first, IsOneProduct, spans_from};
 
 use crate::read::heading_of;
@@ -22,6 +23,13 @@ fn headings_in(alloc: Global, bytes: &[u8], places: &[usize]) -> Result<List<usi
         }
     }
     Ok(list)
+}
+
+/// Whether the first line of these bytes is a heading line.
+pub fn is_heading(bytes: &[u8]) -> bool
+    ensures { result ≡ is_some (heading_of (line_of bytes.now)) }
+{
+    heading_of(line_of(bytes)).is_some()
 }
 
 fn first_or(end: usize, places: &[usize]) -> usize

@@ -1,7 +1,9 @@
-pub mod Filters
-pub mod HigherLemmas
-pub mod LeftLemmas
-pub mod Lists
-pub mod Lookups
-pub mod Seated
-pub mod Shelved
+mod Tests
+mod Seated
+mod LeftLemmas
+mod Opened
+mod Stood
+mod Indexed
+mod Asked
+mod Changing
+mod Alone

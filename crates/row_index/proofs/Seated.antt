@@ -1,32 +1,40 @@
 -- Rows at their seats: where a row is put, and those from the front of a zone to its back.
-use Rattle.std.proofs.Common.{◌≡◌, ◌∙◌, List, [], ◌∷◌, ◌&&◌, not, Bool, true, false, cond, Ordering, Less, Equal, Greater, refl, ap, sym, subst}
+use Rattle.std.proofs.Common.{◌≡◌, ◌∙◌, ℕ, zero, suc, drop, drop-cons, arith, ◌<◌, ◌+◌, get_or, length, take, List, [], ◌∷◌, ◌++◌, ◌&&◌, ◌||◌, not, Bool, true, false, cond, Option, Some, Ordering, Less, Equal, Greater, refl, ap, sym, subst}
 use Rattle.std.proofs.lemmas.Bool.{false_from_ne_true}
 use Rattle.std.proofs.lemmas.Cmp.{tied_itself}
-use Rattle.std.specs.BTreeMap.{insert_entry}
+use Rattle.std.proofs.lemmas.List.Folds.{list_any-append}
+use Rattle.std.specs.BTreeMap.{insert_entry, is_at}
+use Rattle.std.specs.Cmp.{IsTotalOrder}
 use Rattle.std.specs.BTreeMap.Range.{entries_between, range_contains, IsLeBy}
-use Rattle.std.specs.List.{filter}
-use Rattle.std.specs.Map.{values_of}
+use Rattle.std.specs.List.{filter, list_any}
+use Rattle.std.specs.Map.{lookup, values_of}
 use Rattle.std.specs.Ordering.{match_ordering, ordering_then, is_eq, is_le, is_gt}
 use Rattle.std.specs.declared.ops.Bound.TheVariants.{Included, Excluded}
 use Rattle.hazard_types.specs.Places.{Place, by_place}
-use Rattle.hazard_types.specs.Same.{same_zone}
+use Rattle.hazard_types.specs.Same.{same_zone, same_event}
+use Rattle.hazard_types.specs.declared.hazard.Event.{Event}
+use Rattle.hazard_types.specs.declared.line.Line.{Line}
 use Rattle.hazard_types.specs.declared.line.Row.{Row}
-use Rattle.hazard_types.proofs.Equality.{zone_one, zone_itself}
-use Rattle.hazard_types.proofs.OrderLaws.{by_place_total, by_place_ties}
-use Rattle.event_life.specs.Products.{by_key, placed, put}
-use Rattle.event_life.proofs.Keys.{key_exact}
+use Rattle.hazard_types.proofs.Equality.{zone_one, zone_itself, event_one, event_itself}
+use Rattle.hazard_types.proofs.OrderLaws.{by_place_total, by_place_ties, by_event_total, by_event_ties}
+use Rattle.hazard_types.specs.Orders.{by_event}
+use Rattle.event_life.specs.Products.{by_key, placed, put, row_at, speaks_of, is_second}
+use Rattle.event_life.proofs.Keys.{key_exact, then_parts}
+use Rattle.event_life.proofs.Puts.{at_key}
 use Rattle.row_index.specs.declared.seats.Seat.{Seat}
-use Rattle.row_index.specs.declared.seats.Spot.TheVariants.{Front, Back}
-use Rattle.row_index.specs.contracts.seats.SeatOrd.TheImpl as seat
-use Rattle.row_index.specs.Shelves.{is_in_zone}
-use Rattle.row_index.specs.Seating.{seat_of, AreSeated}
+use Rattle.row_index.specs.declared.seats.Spot.{Spot}
+use Rattle.row_index.specs.declared.seats.Spot.TheVariants.{Front, At, Back}
+use Rattle.row_index.specs.contracts.seats.SpotOrd.TheImpl as spot
+use Rattle.row_index.specs.contracts.seats.SeatOrd.TheImpl.Laws as seat_laws
+use Rattle.row_index.specs.Numbers.{is_in_zone}
+use Rattle.row_index.specs.Seating.{by_seat, seat_at, seat_of, AreSeated, seat_said, seats_with, speaks}
+use Rattle.row_index.specs.Telling.{Tells}
+use Rattle.row_index.proofs.Tests.{and_false, any_insert, any_same}
 
 abbrev Seats : Type 0
 Seats = List (Seat × Row)
 
 -- rows stand by their seats
-abbrev pub by_seat : Seat → Seat → Ordering
-by_seat = seat.cmp-value.it
 
 seats_by_key : (a b : Row) → by_seat (seat_of a) (seat_of b) ≡ by_key a b
 seats_by_key a b = refl
@@ -100,3 +108,114 @@ between-in z [] at = refl
 between-in z (e ∷ es) at =
     between_by (range_contains by_seat (Included (front z)) (Excluded (back z)) e.0) (is_in_zone z e.1) e
     (entries_between by_seat (Included (front z)) (Excluded (back z)) es) (filter (is_in_zone z) (values_of es)) (within_zone z e at.0) (between-in z es at.1)
+
+-- look-ups by event and zone
+
+pub event_by : (o : Ordering) (e d : Event) → by_event e d ≡ o → is_eq o ≡ same_event d e
+event_by Equal e d h = let i = by_event_ties e d h in sym (subst (λ (x : Event). same_event x e ≡ true) i (event_itself e))
+event_by Less e d h = sym (false_from_ne_true _ (λ g. let i = event_one d e g in let f : Less ≡ Equal = sym h ∙ ap (by_event e) i ∙ tied_itself by_event_total e in cc))
+event_by Greater e d h = sym (false_from_ne_true _ (λ g. let i = event_one d e g in let f : Greater ≡ Equal = sym h ∙ ap (by_event e) i ∙ tied_itself by_event_total e in cc))
+
+tied_both : (o p : Ordering) → is_eq (ordering_then o p) ≡ (is_eq p && is_eq o)
+tied_both Less p = sym (and_false (is_eq p))
+tied_both Greater p = sym (and_false (is_eq p))
+tied_both Equal p = both_true (is_eq p)
+  where
+    both_true : (b : Bool) → b ≡ (b && true)
+    both_true true = refl
+    both_true false = refl
+
+pub seat_tied : (e d : Event) (z y : Place) → is_at (by_seat (seat_at e z)) (seat_at d y) ≡ (same_event d e && same_zone y z)
+seat_tied e d z y =
+    let event_is = event_by (by_event e d) e d refl in
+    let zone_is = same_by (by_place z y) z y refl in
+    tied_both (by_place z y) (by_event e d) ∙ (λ i. event_is i && zone_is i)
+
+found_by : (b c : Bool) (r : Row) (o p : Option Row) → b ≡ c → o ≡ p → cond b (Some r) o ≡ cond c (Some r) p
+found_by b c r o p h later = λ i. cond (h i) (Some r) (later i)
+
+pub looked_up : (es : Seats) → AreSeated es → (e : Event) (z : Place) → lookup (is_at (by_seat (seat_at e z))) es ≡ row_at (values_of es) e z
+looked_up [] at e z = refl
+looked_up (x ∷ es) at e z =
+    found_by (is_at (by_seat (seat_at e z)) x.0) (at_key e z x.1) x.1 (lookup (is_at (by_seat (seat_at e z))) es) (row_at (values_of es) e z)
+    (ap (is_at (by_seat (seat_at e z))) at.0 ∙ seat_tied e x.1.event z x.1.zone) (looked_up es at.1 e z)
+
+-- seats of lines
+
+pub by_seat_total : IsTotalOrder by_seat
+by_seat_total = seat_laws.total-law
+
+spot_ties : (a b : Spot) → spot.cmp-value.it a b ≡ Equal → a ≡ b
+spot_ties Front Front h = refl
+spot_ties Front (At e) h = cc
+spot_ties Front Back h = cc
+spot_ties (At e) Front h = cc
+spot_ties (At e) (At d) h = ap At (by_event_ties e d h)
+spot_ties (At e) Back h = cc
+spot_ties Back Front h = cc
+spot_ties Back (At e) h = cc
+spot_ties Back Back h = refl
+
+pub by_seat_ties : (a b : Seat) → by_seat a b ≡ Equal → a ≡ b
+by_seat_ties a b h =
+    let p = then_parts (by_place a.zone b.zone) _ h in
+    let zone_is = by_place_ties a.zone b.zone p.0 in
+    let spot_is = spot_ties a.spot b.spot p.1 in
+    λ i. record { zone = zone_is i; spot = spot_is i }
+
+abbrev counts_at : (Line → Bool) → (Seat → Bool) → Line → Bool
+counts_at counts q line = counts line && q (seat_said line)
+
+with_by : (b : Bool) (counts : Line → Bool) (q : Seat → Bool) (line : Line) (seats : List Seat) (lines : List Line) → counts line ≡ b → list_any q seats ≡ list_any (counts_at counts q) lines
+    → list_any q (seats_with b line seats) ≡ (list_any (counts_at counts q) lines || ((b && q (seat_said line)) || false))
+with_by true counts q line seats lines h tells = any_insert by_seat by_seat_total by_seat_ties q (seat_said line) seats ∙ ap (λ (b : Bool). q (seat_said line) || b) tells ∙ turned (q (seat_said line)) (list_any (counts_at counts q) lines)
+  where
+    turned : (a b : Bool) → (a || b) ≡ (b || (a || false))
+    turned true true = refl
+    turned true false = refl
+    turned false true = refl
+    turned false false = refl
+with_by false counts q line seats lines h tells = tells ∙ same (list_any (counts_at counts q) lines)
+  where
+    same : (a : Bool) → a ≡ (a || false)
+    same true = refl
+    same false = refl
+
+-- one line more
+pub tells_more : (counts : Line → Bool) (line : Line) (seats : List Seat) (lines : List Line) → Tells counts seat_said seats lines → Tells counts seat_said (seats_with (counts line) line seats) (lines ++ line ∷ [])
+tells_more counts line seats lines tells q =
+    with_by (counts line) counts q line seats lines refl (tells q) ∙ sym (list_any-append (counts_at counts q) lines (line ∷ []))
+
+and_assoc : (a b c : Bool) → (a && (b && c)) ≡ ((a && b) && c)
+and_assoc true b c = refl
+and_assoc false b c = refl
+
+-- a second line's seat is among those of the lines before it
+pub second_told : (seats : List Seat) (earlier : List Line) (line : Line) → Tells speaks seat_said seats earlier → list_any (is_at (by_seat (seat_said line))) seats ≡ is_second earlier line
+second_told seats earlier line tells =
+    tells (is_at (by_seat (seat_said line)))
+    ∙ any_same (counts_at speaks (is_at (by_seat (seat_said line)))) (speaks_of line.event line.zone) earlier
+    (λ l. ap (λ (b : Bool). speaks l && b) (seat_tied line.event l.event line.zone l.zone) ∙ and_assoc (speaks l) (same_event l.event line.event) (same_zone l.zone line.zone))
+
+longer_by : (i : ℕ) (lines : List Line) (line : Line) → i < length lines → line ≡ get_or lines i line → take (suc i) lines ≡ take i lines ++ line ∷ []
+longer_by i [] line within is = absurd (omega (arith, within))
+longer_by zero (d ∷ lines) line within is = ap (λ (x : Line). x ∷ []) (sym is)
+longer_by (suc i) (d ∷ lines) line within is = ap (λ (xs : List Line). d ∷ xs) (longer_by i lines line (omega (arith, within)) is)
+
+pub one_longer : (lines : List Line) (i : ℕ) (line : Line) → i < length lines → line ≡ get_or lines i line → take (i + 1) lines ≡ take i lines ++ line ∷ []
+one_longer lines i line within is =
+    let next : i + 1 ≡ suc i = omega arith in
+    ap (λ (k : ℕ). take k lines) next ∙ longer_by i lines line within is
+
+-- what is left from a line on
+pub cut_at : (lines : List Line) (i : ℕ) (line : Line) → i < length lines → line ≡ get_or lines i line → drop i lines ≡ line ∷ drop (i + 1) lines
+cut_at lines i line within is =
+    let next : suc i ≡ i + 1 = omega arith in
+    drop-cons lines i line within ∙ ap (λ (x : Line). x ∷ drop (suc i) lines) (sym is) ∙ ap (λ (k : ℕ). line ∷ drop k lines) next
+
+-- one line more of a list
+pub tells_next : (counts : Line → Bool) (seats next : List Seat) (lines : List Line) (i : ℕ) (line : Line) (counted : Bool) → i < length lines → line ≡ get_or lines i line → counted ≡ counts line → next ≡ seats_with counted line seats
+    → Tells counts seat_said seats (take i lines) → Tells counts seat_said next (take (i + 1) lines)
+tells_next counts seats next lines i line counted lt is counted_is next_is tells =
+    subst (λ (all : List Line). Tells counts seat_said next all) (sym (one_longer lines i line lt is))
+    (subst (λ (all : List Seat). Tells counts seat_said all (take i lines ++ line ∷ [])) (sym (next_is ∙ ap (λ (b : Bool). seats_with b line seats) counted_is)) (tells_more counts line seats (take i lines) tells))

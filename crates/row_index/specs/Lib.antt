@@ -1,3 +1,5 @@
+pub mod Telling
 pub mod Seating
-pub mod Shelves
+pub mod Standings
+pub mod Numbers
 pub mod Steps

@@ -1,17 +1,55 @@
--- What the code of an index does on the way: the rows that lines leave, and those of one zone by which a higher row is looked for there.
-use Rattle.std.specs.Prelude.{◌&&◌, ◌∷◌, ◌++◌, ℕ, List, [], fold, if◌then◌else◌}
+-- What the code of an index does on the way: the rows that lines leave, and those by which a higher row is looked for in a zone.
+use Rattle.std.specs.Prelude.{◌≡◌, ◌&&◌, ◌∷◌, ◌++◌, not, ℕ, Bool, false, List, [], filter, fold, if◌then◌else◌, Option, Some, None, is_none}
+use Rattle.std.specs.BTreeMap.{is_at}
+use Rattle.std.specs.BTreeSet.{insert_key}
+use Rattle.std.specs.Set.{remove_key}
 use Rattle.hazard_types.specs.Places.{Place}
-use Rattle.hazard_types.specs.Same.{same_zone}
+use Rattle.hazard_types.specs.contracts.period.PeriodPartialEq.TheImpl as period
+use Rattle.hazard_types.specs.declared.codes.Action.{Action}
+use Rattle.hazard_types.specs.declared.codes.Action.TheVariants as action
+use Rattle.hazard_types.specs.declared.hazard.Event.{Event}
 use Rattle.hazard_types.specs.declared.line.Line.{Line}
+use Rattle.hazard_types.specs.declared.line.Vtec.{Vtec}
 use Rattle.hazard_types.specs.declared.line.Row.{Row}
-use Rattle.event_life.specs.Products.{put, row_after}
-use Rattle.event_life.specs.Seats.{may_count}
+use Rattle.event_life.specs.declared.life.Around.{Around}
+use Rattle.event_life.specs.Products.{put, row_at, row_after, put_but_upgrades, has_rows, is_open, is_held, has_same, is_new, later_event, going_in}
+use Rattle.event_life.specs.Shown.{shown_at}
+use Rattle.row_index.specs.declared.seats.Seat.{Seat}
+use Rattle.row_index.specs.declared.standing.Standing.{Standing}
+use Rattle.row_index.specs.Numbers.{is_in_zone}
+use Rattle.row_index.specs.Seating.{seat_of, seat_said, has_seat, upgrades}
+use Rattle.row_index.specs.Standings.{by_standing, standing_of}
+use Rattle.row_index.specs.Telling.{Tells}
 
--- a zone's rows after the lawful lines of the zone other than UPG, each judged by the rows before
-abbrev pub put_in_zone : Place → List Row → ℕ → List Line → List Line → List Row → List Row
-put_in_zone z rows t earlier [] after = after
-put_in_zone z rows t earlier (line ∷ lines) after = put_in_zone z rows t (earlier ++ line ∷ []) lines
-    (if same_zone line.zone z && may_count rows t earlier line then put (row_after rows t line) after else after)
+-- of the events that are open the one of the latest year
+abbrev pub latest_open : List Row → ℕ → List Event → Option Event
+latest_open rows t events = fold (λ (best : Option Event) (e : Event). if is_open rows t e then later_event best e else best) None events
+
+-- the open event that a line of a text is of, where it opens none
+abbrev pub event_going : List Row → ℕ → Vtec → Option Event
+event_going rows t vtec = if is_new vtec.action then None else going_in rows vtec.hazard vtec.etn t
+
+-- the line, of another event
+abbrev pub of_event : Line → Event → Line
+of_event line e = record { action = line.action; event = e; zone = line.zone; begin = line.begin; end = line.end; flood = line.flood }
+
+-- What stands around a line, as far as its action asks for it: a NEW line of an event with rows does not ask for an earlier year's,
+-- and an EXA or EXB line of an event that is not open asks for no period.
+
+abbrev pub nothing_around : Bool → Around
+nothing_around higher = record { opened = false; going = false; held = false; same = false; higher = higher }
+
+abbrev pub around_new : List Row → ℕ → Line → Bool → Around
+around_new rows t line higher = record { opened = has_rows rows line.event; going = false; held = not (has_rows rows line.event) && is_held rows t line.event; same = false; higher = higher }
+
+abbrev pub around_joining : List Row → ℕ → Line → Bool → Around
+around_joining rows t line higher = record { opened = false; going = is_open rows t line.event; held = false; same = is_open rows t line.event && has_same rows t line; higher = higher }
+
+abbrev pub asked_around : Action → List Row → ℕ → Line → Bool → Around
+asked_around action.New rows t line higher = around_new rows t line higher
+asked_around action.Exa rows t line higher = around_joining rows t line higher
+asked_around action.Exb rows t line higher = around_joining rows t line higher
+asked_around _ rows t line higher = nothing_around higher
 
 -- the row that each of the lines leaves
 abbrev pub rows_left : List Row → ℕ → List Line → List Row
@@ -21,3 +59,38 @@ rows_left rows t (line ∷ lines) = row_after rows t line ∷ rows_left rows t l
 -- each of the rows is put in turn
 abbrev pub put_each : List Row → List Row → List Row
 put_each left after = fold (λ (rows : List Row) (row : Row). put row rows) after left
+
+-- the keys without that of the row before
+abbrev pub stood_without : Option Row → List Standing → List Standing
+stood_without None keys = keys
+stood_without (Some old) keys = remove_key (is_at (by_standing (standing_of old))) keys
+
+-- and with that of a row that no line has ended
+abbrev pub stood_with : Row → List Standing → List Standing
+stood_with row keys = if row.ended then keys else insert_key by_standing keys (standing_of row)
+
+-- no line has ended the row or the one before, which had the same period
+abbrev pub stays : Option Row → Row → Bool
+stays None row = false
+stays (Some old) row = period.eq-value.it old.period row.period && not old.ended && not row.ended
+
+abbrev pub restood : Option Row → Row → List Standing → List Standing
+restood before row keys = if stays before row then keys else stood_with row (stood_without before keys)
+
+-- What a product changes where a higher row is looked for: the rows that its lawful lines other than UPG leave, each put in turn,
+-- and the seats that its UPG lines speak of.
+pub record IsChanged (rows : List Row) (t : ℕ) (lines : List Line) (counted : List Row) (upgraded : List Seat) : Type 0 where
+  pub put : counted ≡ put_but_upgrades rows t [] lines []
+  pub said : Tells upgrades seat_said upgraded lines
+
+-- rows that no UPG line speaks of
+abbrev pub not_upgraded : List Seat → List Row → List Row
+not_upgraded seats rows = filter (λ (r : Row). not (has_seat seats (seat_of r))) rows
+
+-- rows in whose place there is none among these
+abbrev pub not_counted : List Row → List Row → List Row
+not_counted counted rows = filter (λ (r : Row). is_none (row_at counted r.event r.zone)) rows
+
+-- a zone's rows after a product that no UPG line of it has ended, in whatever order, without those before it that are not live
+abbrev pub rivals : Place → ℕ → List Row → List Seat → List Row → List Row
+rivals z t counted upgraded rows = not_upgraded upgraded (filter (is_in_zone z) counted) ++ not_counted counted (not_upgraded upgraded (shown_at t (filter (is_in_zone z) rows)))

@@ -1,39 +1,47 @@
 //! The rows of an office's class, as the judging of its lines needs them.
-ghost use Rattle.std.specs.Prelude.{◌≡◌, ◌||◌, not, [], filter, Some, None, if◌then◌else◌, IfOk};
+ghost use Rattle.std.specs.Prelude.{◌≡◌, ◌&&◌, not, true, false, nat_lt, [], List as Seq, Some, None, Option, if◌then◌else◌, is_none, IfOk};
+ghost use Rattle.std.specs.List.{list_any};
+ghost use Rattle.hazard_types.specs.declared.line.Line.{Line as LineValue};
+ghost use Rattle.std.specs.Map.{values_of};
 ghost use Rattle.event_life.specs.declared.life.Breach.TheVariants.{Twice};
-ghost use Rattle.event_life.specs.Products.{put, line_of, row_after, is_routine, is_upgrade, is_second, life_at, around_but_higher, rows_for_higher, has_higher, breach_in, judged, lawful_of, put_all};
+ghost use Rattle.event_life.specs.declared.life.Life.{Life as LifeValue};
+ghost use Rattle.event_life.specs.Products.{put, line_of, row_at, row_after, is_open, going_in, has_rows, is_held, has_same, is_routine, is_upgrade, is_second, life_at, around_but_higher, has_higher, breach_in, judged, lawful_of, put_all, put_but_upgrades};
 ghost use Rattle.event_life.specs.Seats.{may_count};
 ghost use Rattle.event_life.specs.Shown.{shown_at};
 ghost use Rattle.event_life.specs.Table.{breach_of_line};
-ghost use Rattle.row_index.specs.Shelves.{number_of, has_number, is_in_zone};
-ghost use Rattle.row_index.specs.Steps.{put_in_zone, rows_left, put_each};
+ghost use Rattle.row_index.specs.Seating.{AreSeated, upgrades};
+ghost use Rattle.row_index.specs.Steps.{IsChanged, around_new, around_joining, asked_around, latest_open, event_going, rows_left, put_each};
 
-use crate::seats::{Seated, all_rows, put_seated, rows_in};
-use crate::shelves::{Number, Shelves, number_of, put_at, rows_at};
-use event_life::{Breach, end_upgraded, is_lawful, is_upgrade};
-use hazard_types::{Event, Flood, Line, List, Minute, Oom, Row, Vtec, Zone};
+use crate::higher::{Changed, any_upgrades, rivals, upgraded_by};
+use crate::look::{is_new, later_event, life_of, nothing_around, of_event, opens};
+use crate::numbers::{Events, Number, events_at, has_event, number_of, put_event};
+use crate::seats::{Seated, add_seat, all_rows, count_row, has_seat, put_seated, row_in};
+use crate::standing::{Standings, has_same_among, is_open_among, restand};
+use event_life::{Around, Breach, is_lawful, is_routine, is_upgrade, life_step, opened_period};
+use hazard_types::{Action, Event, Flood, Line, List, Minute, Oom, Row, Vtec, Zone};
 use std::alloc::Global;
-use std::collections::BTreeMap;
+use std::collections::{BTreeMap, BTreeSet};
 use std::marker::Model;
 
 /// Rows in order by zone, then event, each pair once.
 #[derive(Drop)]
 pub struct RowIndex {
     seated: Seated,
-    shelves: Shelves,
+    events: Events,
+    standing: Standings,
 }
 
 impl Model for RowIndex {
     ghost use Rattle.std.specs.Prelude.{List};
     ghost use Rattle.hazard_types.specs.declared.line.Row.{Row};
     ghost use Rattle.std.specs.Map.{values_of};
-    ghost use Rattle.row_index.specs.Shelves.{lists_of, IsIndex};
+    ghost use Rattle.row_index.specs.Numbers.{lists_of, IsIndex};
 
     ghost Value = { List Row };
 
     ghost view = { λ x. values_of x.seated.entries };
 
-    ghost invariant = { λ x. IsIndex x.seated.entries (lists_of x.shelves.entries) };
+    ghost invariant = { λ x. IsIndex x.seated.entries (lists_of x.events.entries) x.standing.keys };
 }
 
 impl RowIndex {
@@ -43,117 +51,268 @@ impl RowIndex {
     {
         RowIndex {
             seated: BTreeMap::new(alloc),
-            shelves: BTreeMap::new(alloc),
+            events: BTreeMap::new(alloc),
+            standing: BTreeSet::new(alloc),
         }
     }
 
-    /// The rows of a hazard and number.
-    fn shelf(&self, number: &Number) -> &[Row]
-        ensures { result.now ≡ filter (has_number number.now) self.now }
+    /// The row of an event in a zone.
+    fn row_at(&self, event: &Event, zone: &Zone) -> Option<Row>
+        ensures { result ≡ row_at self.now event.now zone.now }
     {
-        rows_at(&self.shelves, number)
+        row_in(&self.seated, event, zone)
     }
 
-    /// The rows of the hazard and number of an event.
-    fn shelf_of(&self, event: &Event) -> &[Row]
-        ensures { result.now ≡ filter (has_number (number_of event.now)) self.now }
+    /// Whether the event has rows, ended ones among them.
+    fn has_rows(&self, event: &Event) -> bool
+        ensures { result ≡ has_rows self.now event.now }
     {
-        self.shelf(&number_of(event))
+        has_event(events_at(&self.events, &number_of(event)), event)
     }
 
-    /// The rows of a zone.
-    fn in_zone(&self, alloc: Global, zone: &Zone) -> Result<Vec<Row>, Oom>
-        ensures { IfOk result (λ rows. rows.items ≡ filter (is_in_zone zone.now) self.now) }
+    /// Whether the event has a row that no line has ended and whose end is at most half an hour past.
+    fn is_open(&self, t: Minute, event: &Event) -> bool
+        ensures { result ≡ is_open self.now t event.now }
     {
-        Ok(rows_in(alloc, &self.seated, zone)?)
+        is_open_among(&self.standing, t, event)
+    }
+
+    /// The row of a line's event in its zone. A NEW line's event mostly has none.
+    fn own_row(&self, line: &Line) -> Option<Row>
+        ensures { result ≡ row_at self.now line.now.event line.now.zone }
+    {
+        if is_new(&line.action) && !self.has_rows(&line.event) {
+            return None;
+        }
+        self.row_at(&line.event, &line.zone)
+    }
+
+    /// Whether one of the events is of an earlier year and open.
+    fn any_held(&self, t: Minute, events: &[Event], event: &Event) -> bool
+        ensures { result ≡ list_any (λ d. nat_lt d.year event.now.year && is_open self.now t d) events.now }
+    {
+        for other in events {
+            if other.year < event.year && self.is_open(t, other) {
+                return true;
+            }
+        }
+        false
+    }
+
+    /// Whether an open event of an earlier year has this hazard and number.
+    fn is_held(&self, t: Minute, event: &Event) -> bool
+        ensures { result ≡ is_held self.now t event.now }
+    {
+        self.any_held(t, events_at(&self.events, &number_of(event)), event)
+    }
+
+    /// Whether a live row of the line's event has the period that the line would open.
+    fn has_same(&self, t: Minute, line: &Line) -> bool
+        ensures { result ≡ has_same self.now t line.now }
+    {
+        has_same_among(&self.standing, t, &line.event, &opened_period(line, t))
+    }
+
+    /// Of the events that are open the one of the greatest year.
+    fn latest_open(&self, t: Minute, events: &[Event]) -> Option<Event>
+        ensures { result ≡ latest_open self.now t events.now }
+    {
+        let mut best = None;
+        for event in events {
+            if self.is_open(t, event) {
+                best = later_event(best, event);
+            }
+        }
+        best
+    }
+
+    /// Of the open events of a hazard and number the one of the greatest year.
+    fn going_in(&self, t: Minute, number: &Number) -> Option<Event>
+        ensures { result ≡ going_in self.now number.now.hazard number.now.etn t }
+    {
+        self.latest_open(t, events_at(&self.events, number))
+    }
+
+    /// The open event that a line of a text is of, where it opens none.
+    fn event_going(&self, t: Minute, vtec: &Vtec) -> Option<Event>
+        ensures { result ≡ event_going self.now t vtec.now }
+    {
+        let number = Number {
+            hazard: vtec.hazard,
+            etn: vtec.etn,
+        };
+        match vtec.action {
+            Action::New => None,
+            _ => self.going_in(t, &number),
+        }
     }
 
     /// What a line of a text says of its event in a zone. The rows are those just before its product, `t` is the product's issue minute.
     pub fn line_of(&self, t: Minute, zone: &Zone, vtec: &Vtec, flood: &Option<Flood>) -> Line
         ensures { result ≡ line_of self.now t (record { zone = zone.now; vtec = vtec.now; flood = flood.now }) }
     {
-        let number = Number {
-            hazard: vtec.hazard,
-            etn: vtec.etn,
-        };
-        event_life::line_of(self.shelf(&number), t, zone, vtec, flood)
+        let line = event_life::line_of(&[], t, zone, vtec, flood);
+        match self.event_going(t, vtec) {
+            Some(event) => of_event(&line, &event),
+            None => line,
+        }
+    }
+
+    /// What stands around a NEW line.
+    fn around_new(&self, t: Minute, line: &Line, higher: bool) -> Around
+        ensures { result ≡ around_new self.now t line.now higher }
+    {
+        let opened = self.has_rows(&line.event);
+        let held = !opened && self.is_held(t, &line.event);
+        Around {
+            opened,
+            going: false,
+            held,
+            same: false,
+            higher,
+        }
+    }
+
+    /// What stands around an EXA or EXB line.
+    fn around_joining(&self, t: Minute, line: &Line, higher: bool) -> Around
+        ensures { result ≡ around_joining self.now t line.now higher }
+    {
+        let going = self.is_open(t, &line.event);
+        let same = going && self.has_same(t, line);
+        Around {
+            opened: false,
+            going,
+            held: false,
+            same,
+            higher,
+        }
+    }
+
+    /// What stands around a line, as far as its action asks for it.
+    fn around(&self, t: Minute, line: &Line, higher: bool) -> Around
+        ensures { result ≡ asked_around line.now.action self.now t line.now higher }
+    {
+        match line.action {
+            Action::New => self.around_new(t, line, higher),
+            Action::Exa | Action::Exb => self.around_joining(t, line, higher),
+            _ => nothing_around(higher),
+        }
+    }
+
+    /// The first breach of a line on the life of its event in its zone, where its row is overlapped or not.
+    fn step_breach(&self, t: Minute, line: &Line, higher: bool) -> Option<Breach>
+        requires { is_routine line.now.action ≡ false }
+        ensures { result ≡ breach_of_line (life_at self.now line.now) line.now t (around_but_higher self.now t line.now higher) }
+    {
+        let life = life_of(&self.own_row(line));
+        match life_step(life, line, t, self.around(t, line, higher)) {
+            Ok(_life) => None,
+            Err(breach) => Some(breach),
+        }
+    }
+
+    /// The first breach of a line, which is a second one of its event and zone or not, where its row is overlapped or not.
+    fn first_breach(&self, t: Minute, line: &Line, second: bool, higher: bool) -> Option<Breach>
+        ensures { result ≡ (if is_routine line.now.action then None else (if second then Some Twice else breach_of_line (life_at self.now line.now) line.now t (around_but_higher self.now t line.now higher))) }
+    {
+        if is_routine(&line.action) {
+            return None;
+        }
+        if second {
+            return Some(Breach::Twice);
+        }
+        self.step_breach(t, line, higher)
     }
 
     /// The row that a lawful line leaves.
     fn row_after(&self, t: Minute, line: &Line) -> Row
         ensures { result ≡ row_after self.now t line.now }
     {
-        event_life::row_after(self.shelf_of(&line.event), t, line)
+        if opens(&line.action) {
+            return event_life::row_after(&[], t, line);
+        }
+        match self.row_at(&line.event, &line.zone) {
+            Some(own) => event_life::row_after(&[own], t, line),
+            None => event_life::row_after(&[], t, line),
+        }
     }
 
     /// Whether a line is lawful and no UPG, so that its row counts where a higher row is looked for.
-    fn may_count(&self, t: Minute, earlier: &[Line], line: &Line) -> bool
-        ensures { result ≡ may_count self.now t earlier.now line.now }
+    fn may_count(&self, t: Minute, line: &Line, second: bool) -> bool
+        ensures { result ≡ (not (is_routine line.now.action) && not (is_upgrade line.now.action) && not second && is_none (breach_of_line (life_at self.now line.now) line.now t (around_but_higher self.now t line.now true))) }
     {
-        event_life::may_count(self.shelf_of(&line.event), t, earlier, line)
+        let breach = self.first_breach(t, line, second, true);
+        !is_routine(&line.action) && !is_upgrade(&line.action) && !second && breach.is_none()
     }
 
-    /// A zone's rows after the lawful lines other than UPG.
-    fn put_in_zone(
+    /// The rows that the lawful lines other than UPG leave.
+    fn counted(&self, alloc: Global, t: Minute, lines: &[Line]) -> Result<Seated, Oom>
+        ensures rows { IfOk result (λ counted. values_of counted.entries ≡ put_but_upgrades self.now t [] lines.now []) }
+        ensures seated { IfOk result (λ counted. AreSeated counted.entries) }
+    {
+        let mut counted = BTreeMap::new(alloc);
+        let mut spoken = BTreeSet::new(alloc);
+        for line in lines {
+            let second = has_seat(&spoken, &line.event, &line.zone);
+            let counts = self.may_count(t, line, second);
+            count_row(&mut counted, counts, &self.row_after(t, line))?;
+            add_seat(&mut spoken, !is_routine(&line.action), line)?;
+        }
+        Ok(counted)
+    }
+
+    /// What a product changes where a higher row is looked for, as far as a UPG line asks for it.
+    fn changed(&self, alloc: Global, t: Minute, lines: &[Line]) -> Result<Changed, Oom>
+        ensures changed { list_any upgrades lines.now ≡ true → IfOk result (λ c. IsChanged self.now t lines.now (values_of c.counted.entries) c.upgraded.keys) }
+        ensures seated { IfOk result (λ c. AreSeated c.counted.entries) }
+    {
+        if !any_upgrades(lines) {
+            return Ok(Changed {
+                counted: BTreeMap::new(alloc),
+                upgraded: BTreeSet::new(alloc),
+            });
+        }
+        let counted = self.counted(alloc, t, lines)?;
+        let upgraded = upgraded_by(alloc, lines)?;
+        Ok(Changed { counted, upgraded })
+    }
+
+    /// Whether the row of a UPG line is overlapped by a higher one after the product.
+    fn has_higher(
         &self,
         alloc: Global,
         t: Minute,
-        lines: &[Line],
-        zone: &Zone,
-    ) -> Result<Vec<Row>, Oom>
-        ensures { IfOk result (λ after. after.items ≡ put_in_zone zone.now self.now t [] lines.now (filter (is_in_zone zone.now) self.now)) }
+        changed: &Changed,
+        line: &Line,
+    ) -> Result<bool, Oom>
+        requires seated { AreSeated changed.now.counted.entries }
+        ensures { (lines : Seq LineValue) → IsChanged self.now t lines (values_of changed.now.counted.entries) changed.now.upgraded.keys → IfOk result (λ higher. higher ≡ has_higher self.now t lines line.now) }
     {
-        let mut after = self.in_zone(alloc, zone)?;
-        for (place, line) in lines.iter().enumerate() {
-            if line.zone == *zone && self.may_count(t, &lines[..place], line) {
-                event_life::put(&mut after, &self.row_after(t, line))?;
-            }
+        let rows = rivals(alloc, &self.seated, t, changed, &line.zone)?;
+        match self.row_at(&line.event, &line.zone) {
+            Some(own) => Ok(event_life::has_higher(&[own], t, &rows, line)),
+            None => Ok(event_life::has_higher(&[], t, &rows, line)),
         }
-        Ok(after)
     }
 
-    /// The rows of a zone by which UPG's higher row is judged there.
-    fn rows_for_higher(
-        &self,
-        alloc: Global,
-        t: Minute,
-        lines: &[Line],
-        zone: &Zone,
-    ) -> Result<Vec<Row>, Oom>
-        ensures { IfOk result (λ after. after.items ≡ filter (is_in_zone zone.now) (rows_for_higher self.now t lines.now)) }
-    {
-        // A look at a part brings the invariant into the proof: rows in order.
-        let _ = &self.seated;
-        let after = self.put_in_zone(alloc, t, lines, zone)?;
-        Ok(end_upgraded(alloc, lines, &after)?)
-    }
-
-    /// Whether the row of a UPG line is overlapped by a higher one after the product. Other lines do not ask for it, and get true.
-    fn has_higher(&self, alloc: Global, t: Minute, lines: &[Line], line: &Line) -> Result<bool, Oom>
-        ensures { IfOk result (λ higher. higher ≡ (not (is_upgrade line.now.action) || has_higher self.now t lines.now line.now)) }
-    {
-        if !is_upgrade(&line.action) {
-            return Ok(true);
-        }
-        let after = self.rows_for_higher(alloc, t, lines, &line.zone)?;
-        let shelf = self.shelf_of(&line.event);
-        Ok(event_life::has_higher(shelf, t, &after, line))
-    }
-
-    /// The first breach of a line that stands behind these earlier lines of its product.
+    /// The first breach of a line of a product.
     fn breach_in(
         &self,
         alloc: Global,
         t: Minute,
-        lines: &[Line],
-        earlier: &[Line],
+        changed: &Changed,
         line: &Line,
+        second: bool,
     ) -> Result<Option<Breach>, Oom>
-        ensures { IfOk result (λ breach. breach ≡ breach_in self.now t lines.now earlier.now line.now) }
+        requires seated { AreSeated changed.now.counted.entries }
+        ensures { (lines earlier : Seq LineValue) → (is_upgrade line.now.action ≡ true → IsChanged self.now t lines (values_of changed.now.counted.entries) changed.now.upgraded.keys)
+            → second ≡ is_second earlier line.now → IfOk result (λ breach. breach ≡ breach_in self.now t lines earlier line.now) }
     {
-        let higher = self.has_higher(alloc, t, lines, line)?;
-        let shelf = self.shelf_of(&line.event);
-        Ok(event_life::breach_in(shelf, t, earlier, line, higher))
+        if !is_upgrade(&line.action) {
+            return Ok(self.first_breach(t, line, second, true));
+        }
+        let higher = self.has_higher(alloc, t, changed, line)?;
+        Ok(self.first_breach(t, line, second, higher))
     }
 
     /// The lines of a product, each with its first breach, or None where it is lawful. The rows are those just before the product,
@@ -166,10 +325,14 @@ impl RowIndex {
     ) -> Result<List<(Line, Option<Breach>)>, Oom>
         ensures { IfOk result (λ found. found ≡ judged self.now t lines.now) }
     {
+        let changed = self.changed(alloc, t, lines)?;
+        let mut spoken = BTreeSet::new(alloc);
         let mut found = Vec::with_capacity(alloc, lines.len())?;
-        for (place, line) in lines.iter().enumerate() {
-            let breach = self.breach_in(alloc, t, lines, &lines[..place], line)?;
+        for line in lines {
+            let second = has_seat(&spoken, &line.event, &line.zone);
+            let breach = self.breach_in(alloc, t, &changed, line, second)?;
             found.push((*line, breach))?;
+            add_seat(&mut spoken, !is_routine(&line.action), line)?;
         }
         Ok(List::from_vec(found))
     }
@@ -180,11 +343,18 @@ impl RowIndex {
     {
         let RowIndex {
             mut seated,
-            mut shelves,
+            mut events,
+            mut standing,
         } = self;
-        put_seated(&mut seated, row)?;
-        put_at(alloc, &mut shelves, number_of(&row.event), row)?;
-        Ok(RowIndex { seated, shelves })
+        let mut before = None;
+        put_seated(&mut seated, row, &mut before)?;
+        put_event(alloc, &mut events, &row.event)?;
+        restand(&mut standing, &before, row)?;
+        Ok(RowIndex {
+            seated,
+            events,
+            standing,
+        })
     }
 
     /// The rows that the lawful lines of a product leave.

@@ -1,8 +1,12 @@
-//! The rows of a long history, found by hazard and number, and by zone, without a walk over all of them.
+//! The rows of a long history, found by zone and event, and by hazard and number, without a walk over other rows.
 #![tactic(auto)]
 
+mod higher;
 mod index;
+mod keys;
+mod look;
+mod numbers;
 mod seats;
-mod shelves;
+mod standing;
 
 pub use index::RowIndex;

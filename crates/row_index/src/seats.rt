@@ -1,14 +1,15 @@
 //! The rows of an office's class, each at its seat: found by zone and event.
-ghost use Rattle.std.specs.Prelude.{◌≡◌, filter, IfOk, OnOk};
-ghost use Rattle.std.specs.BTreeMap.{insert_entry};
-ghost use Rattle.std.specs.Map.{values_of};
-ghost use Rattle.event_life.specs.Products.{put};
-ghost use Rattle.row_index.specs.Shelves.{is_in_zone};
-ghost use Rattle.row_index.specs.Seating.{AreSeated};
+ghost use Rattle.std.specs.Prelude.{◌≡◌, filter, if◌then◌else◌, IfOk, OnOk};
+ghost use Rattle.std.specs.BTreeMap.{insert_entry, is_at};
+ghost use Rattle.std.specs.Map.{lookup, values_of};
+ghost use Rattle.event_life.specs.Products.{put, row_at};
+ghost use Rattle.row_index.specs.Numbers.{is_in_zone};
+ghost use Rattle.row_index.specs.Seating.{AreSeated, seat_at, has_seat, seats_with};
 
-use hazard_types::{Event, List, Oom, Row, Zone};
+use crate::keys::add_key;
+use hazard_types::{Event, Line, Oom, Row, Zone};
 use std::alloc::{AllocError, Global};
-use std::collections::BTreeMap;
+use std::collections::{BTreeMap, BTreeSet};
 
 /// A spot in a zone: in front of all events, at an event, or behind them all.
 #[derive(Clone, Copy, PartialEq, Eq, PartialOrd, Ord)]
@@ -28,17 +29,69 @@ pub struct Seat {
 /// The rows, each at its seat.
 pub type Seated = BTreeMap<Seat, Row>;
 
-/// Sets the value at a key.
-fn set<K: Ord + Drop, V: Copy>(map: &mut BTreeMap<K, V>, key: K, value: &V) -> Result<(), Oom>
-    ensures { OnOk result (map.new.entries ≡ insert_entry K.cmp map.old.entries key value.now) }
+/// The seats that lines speak of.
+pub type Seats = BTreeSet<Seat>;
+
+fn seat_at(event: &Event, zone: &Zone) -> Seat
+    ensures { result ≡ seat_at event.now zone.now }
 {
-    map.insert(key, *value)?;
+    Seat {
+        zone: *zone,
+        spot: Spot::At(*event),
+    }
+}
+
+/// Whether the seat of an event in a zone is among these.
+pub fn has_seat(seats: &Seats, event: &Event, zone: &Zone) -> bool
+    ensures { result ≡ has_seat seats.now.keys (seat_at event.now zone.now) }
+{
+    seats.contains(&seat_at(event, zone))
+}
+
+/// Adds the seat that a line speaks of, where it counts.
+pub fn add_seat(seats: &mut Seats, counts: bool, line: &Line) -> Result<(), Oom>
+    ensures { OnOk result (seats.new.keys ≡ seats_with counts line.now seats.old.keys) }
+{
+    if counts {
+        let spot = Spot::At(line.event);
+        let seat = Seat {
+            zone: line.zone,
+            spot,
+        };
+        add_key(seats, seat)?;
+    }
     Ok(())
 }
 
-/// Puts a row in the place of the one of its zone and event, or in its own place.
-pub fn put_seated(seated: &mut Seated, row: &Row) -> Result<(), Oom>
+/// The row of an event in a zone.
+pub fn row_in(seated: &Seated, event: &Event, zone: &Zone) -> Option<Row>
+    requires { AreSeated seated.now.entries }
+    ensures { result ≡ row_at (values_of seated.now.entries) event.now zone.now }
+{
+    match seated.get(&seat_at(event, zone)) {
+        Some(row) => Some(*row),
+        None => None,
+    }
+}
+
+/// Sets the value at a key. `before` becomes the one that was there.
+fn set<K: Ord + Drop, V: Copy>(
+    map: &mut BTreeMap<K, V>,
+    key: K,
+    value: &V,
+    before: &mut Option<V>,
+) -> Result<(), Oom>
+    ensures set { OnOk result (map.new.entries ≡ insert_entry K.cmp map.old.entries key value.now) }
+    ensures before { OnOk result (before.new ≡ lookup (is_at (K.cmp key)) map.old.entries) }
+{
+    *before = map.insert(key, *value)?;
+    Ok(())
+}
+
+/// Puts a row in the place of the one of its zone and event, or in its own place. `before` becomes the one that was there.
+pub fn put_seated(seated: &mut Seated, row: &Row, before: &mut Option<Row>) -> Result<(), Oom>
     requires { AreSeated seated.old.entries }
+    ensures before { OnOk result (before.new ≡ row_at (values_of seated.old.entries) row.now.event row.now.zone) }
     ensures rows { OnOk result (values_of seated.new.entries ≡ put row.now (values_of seated.old.entries)) }
     ensures seated { OnOk result (AreSeated seated.new.entries) }
 {
@@ -47,7 +100,20 @@ pub fn put_seated(seated: &mut Seated, row: &Row) -> Result<(), Oom>
         zone: row.zone,
         spot,
     };
-    set(seated, seat, row)
+    set(seated, seat, row, before)
+}
+
+/// Puts a row that counts.
+pub fn count_row(seated: &mut Seated, counts: bool, row: &Row) -> Result<(), Oom>
+    requires { AreSeated seated.old.entries }
+    ensures rows { OnOk result (values_of seated.new.entries ≡ (if counts then put row.now (values_of seated.old.entries) else values_of seated.old.entries)) }
+    ensures seated { OnOk result (AreSeated seated.new.entries) }
+{
+    if counts {
+        let mut before = None;
+        put_seated(seated, row, &mut before)?;
+    }
+    Ok(())
 }
 
 /// The rows of a zone, in order.

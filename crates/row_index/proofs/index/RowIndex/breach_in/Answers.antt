@@ -1,9 +1,12 @@
--- A line's shelf and its zone say as much of the line as all rows.
-use Rattle.std.proofs.Common.{◌∙◌}
-use Rattle.row_index.proofs.HigherLemmas.{breach-made}
+-- A UPG line asks for a higher row, and no other line does.
+use Rattle.std.proofs.Common.{◌∙◌, rules}
+use Rattle.row_index.proofs.Asked.{other_made, upgrade_made}
 use Rattle.row_index.proofs.index.RowIndex.breach_in.Goals as goal
 
+pub returns-then-not-is_upgrade : goal.returns-then-not-is_upgrade
+returns-then-not-is_upgrade c = λ lines earlier changed second_is.
+    c.first_breach.ensures ∙ other_made c.args.self.now c.args.t lines earlier c.args.line.now c.args.second (search rules) second_is
+
 pub returns : goal.returns
-returns c =
-    c.breach_in.ensures
-    ∙ breach-made c.args.self.now c.args.t c.args.lines.now c.args.earlier.now c.args.line.now c.shelf_of-shelf.result.now _ c.shelf_of-shelf.ensures c.in_ok-higher.ensures
+returns c = λ lines earlier changed second_is.
+    c.first_breach-2.ensures ∙ upgrade_made c.args.self.now c.args.t lines earlier c.args.line.now c.args.second c.in_ok-higher.higher (c.in_ok-higher.ensures lines (changed (search rules))) second_is

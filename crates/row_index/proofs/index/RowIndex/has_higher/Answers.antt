@@ -1,11 +1,20 @@
--- A UPG line's row is looked for on its shelf, and the higher row in its zone.
-use Rattle.std.proofs.Common.{◌≡◌, ◌∙◌, true, rules}
-use Rattle.event_life.specs.Products.{is_upgrade, has_higher}
-use Rattle.row_index.proofs.HigherLemmas.{higher-made, upgrade_asks}
+-- The rows of the zone tell whether a higher one overlaps the line's.
+use Rattle.std.proofs.Common.{◌∙◌, ◌||◌, not, List, [], ◌∷◌, ap, sym, subst}
+use Rattle.std.specs.List.Sorted.{IsStrictlySortedBy}
+use Rattle.std.specs.Map.{values_of}
+use Rattle.hazard_types.specs.declared.line.Row.{Row}
+use Rattle.event_life.specs.Higher.{may_yield}
+use Rattle.event_life.specs.Products.{by_key, row_at, is_overlapped}
+use Rattle.row_index.specs.Steps.{rivals}
+use Rattle.row_index.proofs.Changing.{higher_own}
 use Rattle.row_index.proofs.index.RowIndex.has_higher.Goals as goal
 
-pub returns : goal.returns
-returns c =
-    let asks : is_upgrade c.args.line.now.action ≡ true = search rules in
-    upgrade_asks (is_upgrade c.args.line.now.action) c.has_higher.result (has_higher c.args.self.now c.args.t c.args.lines.now c.args.line.now) asks
-    (c.has_higher.ensures ∙ higher-made c.args.self.now c.args.t c.args.lines.now c.args.line.now c.deref.result.now c.shelf_of-shelf.result.now (c.deref.ensures.value ∙ c.in_ok-after.ensures) c.shelf_of-shelf.ensures)
+pub returns-in-Some : goal.returns-in-Some
+returns-in-Some c = λ lines changed.
+    let rows = c.args.self.now in
+    let line = c.args.line.now in
+    let up : IsStrictlySortedBy by_key rows = subst (λ (all : List Row). IsStrictlySortedBy by_key all) c.self.view_is c.self.invariant.in_order in
+    let rivals_are = c.deref.ensures.value ∙ c.in_ok-rows.ensures ∙ ap (λ (all : List Row). rivals line.zone c.args.t (values_of c.args.changed.now.counted.entries) c.args.changed.now.upgraded.keys all) c.self.view_is in
+    c.has_higher.ensures
+    ∙ ap (λ (all : List Row). not (may_yield line.event.hazard) || is_overlapped all c.args.t (row_at (c.in-Some.own ∷ []) line.event line.zone)) rivals_are
+    ∙ higher_own rows c.args.t lines (values_of c.args.changed.now.counted.entries) c.args.changed.now.upgraded.keys changed up line c.in-Some.own (sym c.row_at.ensures ∙ c.in-Some.is)

@@ -1,7 +1,12 @@
--- what was found so far, with what will be, is what is found of all lines
+-- what was found so far, with what will be, is what is found of all lines, and the seats so far are those of the lines so far
 use Rattle.std.proofs.Common.{◌≡◌, ◌++◌, take, drop}
 use Rattle.event_life.specs.Products.{judged, judged_from}
+use Rattle.row_index.specs.Seating.{seat_said, speaks}
+use Rattle.row_index.specs.Telling.{Tells}
 use Rattle.row_index.proofs.index.RowIndex.judge.Given as goal
 
-abbrev pub invariant-loop-place : goal.invariant-loop-place
-invariant-loop-place l = l.found.items ++ judged_from l.self l.t l.lines (take l.place l.lines) (drop l.place l.lines) ≡ judged l.self l.t l.lines
+abbrev pub invariant-loop-line : goal.invariant-loop-line
+invariant-loop-line l = record {
+  found : l.found.items ++ judged_from l.self l.t l.lines (take l.line-index l.lines) (drop l.line-index l.lines) ≡ judged l.self l.t l.lines;
+  spoken : Tells speaks seat_said l.spoken.keys (take l.line-index l.lines);
+}

@@ -1,12 +1,10 @@
--- The rows of the hazard and number have the line's row.
-use Rattle.std.proofs.Common.{◌∙◌, List, ap}
-use Rattle.hazard_types.specs.declared.line.Row.{Row}
-use Rattle.event_life.specs.Products.{row_after}
-use Rattle.row_index.proofs.Lookups.{row_after-shelf}
+-- The row of the event in the zone says all that is asked of the rows.
+use Rattle.std.proofs.Common.{◌∙◌, sym}
+use Rattle.row_index.proofs.Alone.{row_after-own, row_after-opened}
 use Rattle.row_index.proofs.index.RowIndex.row_after.Goals as goal
 
-pub returns : goal.returns
-returns c =
-    c.row_after.ensures
-    ∙ ap (λ (rows : List Row). row_after rows c.args.t c.args.line.now) c.shelf_of.ensures
-    ∙ row_after-shelf c.args.self.now c.args.t c.args.line.now
+pub returns-in-Some : goal.returns-in-Some
+returns-in-Some c = c.row_after-in-Some.ensures ∙ row_after-own c.args.self.now c.args.t c.args.line.now c.in-Some.own (sym c.row_at.ensures ∙ c.in-Some.is)
+
+pub returns-then-opens : goal.returns-then-opens
+returns-then-opens c = c.row_after.ensures ∙ row_after-opened c.args.self.now c.args.t c.args.line.now (sym c.opens.ensures ∙ c.if-opens.true)

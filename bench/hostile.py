@@ -1,0 +1,71 @@
+"""Measures the archive report, outside the gate, on small inputs that name very much: two products whose UGC names so many states of
+999 zones each; a UGC that names one state's zones again and again; very many products of an event each; and one event of very many
+zones of which very many products name one each. Seconds are of processor time; the exponent is that of the growth of time.
+With `--beside FOLDER` the program of the same name in that folder runs over the same files, and the ratios are printed.
+
+    python3 bench/hostile.py [--beside FOLDER]
+"""
+import math
+import os
+import sys
+import tempfile
+
+from measure import beside, kilobytes, program, ratio, run
+
+LETTERS = "ABCDEFGHIJKLMNOPQRSTUVWXYZ"
+HAZARDS = ["WW.Y", "WI.Y", "FG.Y", "WS.W", "HW.W", "FZ.W", "SC.Y", "GL.W", "DS.W", "DU.Y", "EH.W"]
+
+
+def ugc(groups):
+    """Lines of at most 66 columns."""
+    lines, line = [], ""
+    for group in groups + ["032300"]:
+        if len(line) + len(group) + 1 > 66:
+            lines.append(line)
+            line = ""
+        line += group + "-"
+    return lines + [line]
+
+
+def product(groups, action, hazard, number, begin="180103T1800Z"):
+    return "\r\n".join(["WWUS43 KDMX 031630", "WSWDMX", "1030 AM CST Wed Jan 3 2018"] + ugc(groups)
+                        + ["/O.%s.KDMX.%s.%04d.%s-180104T0600Z/" % (action, hazard, number, begin), "$$", ""])
+
+
+def states(count):
+    groups = [LETTERS[k // 26] + LETTERS[k % 26] + "Z001>999" for k in range(count)]
+    return product(groups, "NEW", "WW.Y", 3) + product(groups, "CON", "WW.Y", 3)
+
+
+def repeated(count):
+    groups = ["IAZ001>999"] + ["001>999"] * (count - 1)
+    return product(groups, "NEW", "WW.Y", 3) + product(groups, "CON", "WW.Y", 3)
+
+
+def tiny(count):
+    return "".join(product(["IAZ%03d" % (k % 999 + 1)], "NEW", HAZARDS[k // 9999], k % 9999 + 1) for k in range(count))
+
+
+def named_again(count):
+    groups = [LETTERS[k // 26] + LETTERS[k % 26] + "Z001>999" for k in range(26)]
+    return product(groups, "NEW", "WW.Y", 3) + "".join(product(["AAZ%03d" % (k % 999 + 1)], "CON", "WW.Y", 3) for k in range(count))
+
+
+words, folder = beside(sys.argv[1:])
+report = [program("warn_archive"), "KDMX", "O", "180103T1700Z"]
+with tempfile.TemporaryDirectory() as place:
+    path = os.path.join(place, "archive")
+    for name, make, sizes in (("states of 999 zones, twice", states, (16, 64, 676)), ("runs 001>999 of one state, twice", repeated, (16, 64, 676)),
+                              ("products of an event each", tiny, (10000, 100000)), ("products of a zone each of one great event", named_again, (1000, 10000))):
+        before = None
+        for size in sizes:
+            with open(path, "w", newline="") as out:
+                out.write(make(size))
+            seconds, written, memory, status = run(report, path)
+            growth = ""
+            if before:
+                growth = ", exponent %.2f" % (math.log(max(seconds, 0.001) / before[1]) / math.log(size / before[0]))
+            print("%d %s, %d bytes: %.3f s%s, peak %s, status %d%s"
+                  % (size, name, os.path.getsize(path), seconds, growth, kilobytes(memory), status,
+                     ratio((seconds, written, memory, status), folder, report, path)))
+            before = size, max(seconds, 0.001)

@@ -1,0 +1,134 @@
+//! Products come of a stream in pieces.
+ghost use Rattle.std.specs.Prelude.{◌≡◌, ◌<◌, ◌++◌, ℕ, false, true, Ok, [], length, IfOk, OnOk, OnErr, List as Seq};
+ghost use Rattle.std.specs.List.{concat};
+ghost use Rattle.product_decoder.specs.Feeding.{texts_of, products_in, Keeps, Takes};
+
+use crate::held::Held;
+use hazard_types::{List, Oom, Text};
+use std::alloc::Global;
+use std::marker::Model;
+
+/// The bytes of a stream from the first product on that was not given.
+#[derive(Drop)]
+pub struct Feed {
+    held: Held,
+    ended: bool,
+}
+
+impl Model for Feed {
+    ghost use Rattle.std.specs.Prelude.{drop};
+    ghost use Rattle.product_decoder.specs.Feeding.{Fed, IsHeld};
+
+    ghost Value = { Fed };
+
+    ghost view = { λ f. record { rest = drop f.held.from f.held.bytes.items; ended = f.ended } };
+
+    ghost invariant = { λ f. IsHeld f.held.bytes.items f.held.from f.held.seen f.held.looked f.held.headed };
+}
+
+impl Feed {
+    /// No bytes are taken yet.
+    pub fn new(alloc: Global) -> Self
+        ensures rest { result.rest ≡ [] }
+        ensures going { result.ended ≡ false }
+    {
+        Feed {
+            held: Held::new(alloc),
+            ended: false,
+        }
+    }
+
+    /// Takes a piece behind what was taken before. Want of memory changes nothing.
+    pub fn push(&mut self, alloc: Global, piece: &[u8]) -> Result<(), Oom>
+        requires { self.old.ended ≡ false }
+        ensures ok { OnOk result (self.new.rest ≡ self.old.rest ++ piece.now) }
+        ensures going { self.new.ended ≡ false }
+        ensures err { OnErr result (self.new.rest ≡ self.old.rest) }
+    {
+        self.held.push(alloc, piece)
+    }
+
+    /// Marks the end of the stream. The last line counts, whether it has its end or not.
+    pub fn end(&mut self)
+        ensures rest { self.new.rest ≡ self.old.rest }
+        ensures ended { self.new.ended ≡ true }
+    {
+        self.ended = true;
+    }
+
+    /// The next product. Before the end was marked there is none exactly where the whole lines have no second heading line, and then
+    /// exactly where nothing is left.
+    ///
+    /// # Errors
+    ///
+    /// Want of memory. No product is lost then.
+    pub fn take(&mut self, alloc: Global) -> Result<Option<Text>, Oom>
+        ensures ended { self.new.ended ≡ self.old.ended }
+        ensures taken { IfOk result (λ text. Takes self.old text self.new) }
+        ensures err { OnErr result (Keeps self.old.rest self.new.rest) }
+    {
+        if self.ended {
+            self.held.take_last(alloc)
+        } else {
+            self.held.take_whole(alloc)
+        }
+    }
+
+    /// How many bytes are kept.
+    pub fn held(&self) -> usize
+        ensures { result ≡ length self.now.rest }
+    {
+        self.held.len()
+    }
+}
+
+/// Adds the next product, if there is one.
+fn take_one(alloc: Global, feed: &mut Feed, out: &mut List<Text>) -> Result<bool, Oom>
+    ensures ended { feed.new.ended ≡ feed.old.ended }
+    ensures going { OnOk result (feed.old.ended ≡ false → (more : Seq ℕ) → out.old ++ products_in (feed.old.rest ++ more) ≡ out.new ++ products_in (feed.new.rest ++ more)) }
+    ensures last { OnOk result (feed.old.ended ≡ true → out.old ++ products_in feed.old.rest ≡ out.new ++ products_in feed.new.rest) }
+    ensures less { result ≡ Ok true → length feed.new.rest < length feed.old.rest }
+    ensures none { result ≡ Ok false → feed.old.ended ≡ true → products_in feed.new.rest ≡ [] }
+{
+    match feed.take(alloc)? {
+        Some(text) => {
+            out.push(text)?;
+            Ok(true)
+        }
+        None => Ok(false),
+    }
+}
+
+/// Adds the products that are finished, or all where the stream's end was marked.
+fn take_each(alloc: Global, feed: &mut Feed, out: &mut List<Text>) -> Result<(), Oom>
+    ensures ended { feed.new.ended ≡ feed.old.ended }
+    ensures going { OnOk result (feed.old.ended ≡ false → (more : Seq ℕ) → out.old ++ products_in (feed.old.rest ++ more) ≡ out.new ++ products_in (feed.new.rest ++ more)) }
+    ensures last { OnOk result (feed.old.ended ≡ true → out.old ++ products_in feed.old.rest ≡ out.new) }
+{
+    let mut more = true;
+    while more {
+        more = take_one(alloc, feed, out)?;
+    }
+    Ok(())
+}
+
+/// The products of a stream that comes in these pieces, whichever they are.
+pub fn products_of(alloc: Global, pieces: &[Text]) -> Result<List<Text>, Oom>
+    ensures { IfOk result (λ texts. texts ≡ texts_of (concat pieces.now)) }
+{
+    let mut feed = Feed::new(alloc);
+    let mut out = List::new(alloc);
+    for piece in pieces {
+        feed.push(alloc, piece.as_slice())?;
+        take_each(alloc, &mut feed, &mut out)?;
+    }
+    feed.end();
+    take_each(alloc, &mut feed, &mut out)?;
+    Ok(out)
+}
+
+/// The products of the lines of a text are those that it is split into.
+#[tactic(auto, using(crate::proofs::Dividing::products_told))]
+pub fn lines_tell_the_products()
+    ensures { (bytes : Seq ℕ) → texts_of bytes ≡ products_in bytes }
+{}

@@ -1,0 +1,382 @@
+-- Rows that no line has ended, by event and term.
+use Rattle.std.proofs.Common.{◌≡◌, ◌∙◌, ◌≤◌, ◌+◌, ◌-◌, ◌==◌, ℕ, List, [], ◌∷◌, ◌&&◌, ◌||◌, not, Bool, true, false, cond, Ordering, Less, Equal, Greater, Option, Some, None, refl, ap, sym, subst, arith}
+use Rattle.std.specs.Prelude.{nat_le}
+use Rattle.std.proofs.lemmas.Bool.{and_parts, false_from_ne_true}
+use Rattle.std.proofs.lemmas.Bool.Decides.{nat_tests}
+use Rattle.std.proofs.lemmas.Cmp.{tied_itself}
+use Rattle.std.specs.BTreeMap.{is_at}
+use Rattle.std.specs.BTreeMap.Range.{IsLeBy}
+use Rattle.std.specs.BTreeSet.{insert_key}
+use Rattle.std.specs.Cmp.{IsTotalOrder}
+use Rattle.std.specs.List.{list_any}
+use Rattle.std.specs.List.Sorted.{IsStrictlySortedBy}
+use Rattle.std.specs.Ordering.{ordering_then, is_eq, is_le, is_lt, is_gt, nat_cmp}
+use Rattle.std.specs.Set.{remove_key}
+use Rattle.hazard_types.specs.Orders.{by_event}
+use Rattle.hazard_types.specs.Places.{Place}
+use Rattle.hazard_types.specs.Same.{same_event}
+use Rattle.hazard_types.specs.declared.hazard.Event.{Event}
+use Rattle.hazard_types.specs.declared.line.Line.{Line}
+use Rattle.hazard_types.specs.declared.line.Row.{Row}
+use Rattle.hazard_types.specs.declared.period.End.{End}
+use Rattle.hazard_types.specs.declared.period.End.TheVariants as end
+use Rattle.hazard_types.specs.declared.period.Period.{Period}
+use Rattle.hazard_types.proofs.OrderLaws.{by_event_total, by_event_ties, by_end_total, by_end_ties, by_place_ties, numbers_tied}
+use Rattle.event_life.specs.Periods.{ends_after, ends_within, same_end, same_at, is_live, keeps_open}
+use Rattle.event_life.specs.Products.{by_key, put, row_at, is_open, has_same}
+use Rattle.event_life.specs.Table.{opened_period}
+use Rattle.event_life.proofs.Keys.{then_parts}
+use Rattle.event_life.proofs.Members.{IsIn, any_in, in_any, one_way, find_in, none_in}
+use Rattle.event_life.proofs.Puts.{at_key, at_key-parts}
+use Rattle.row_index.specs.declared.standing.Corner.{Corner}
+use Rattle.row_index.specs.declared.standing.Corner.TheVariants as corner
+use Rattle.row_index.specs.declared.standing.Stay.{Stay}
+use Rattle.row_index.specs.declared.standing.Term.{Term}
+use Rattle.row_index.specs.declared.standing.Term.TheVariants.{At, Back}
+use Rattle.row_index.specs.declared.standing.Standing.{Standing}
+use Rattle.hazard_types.specs.contracts.period.EndOrd.TheImpl as end_order
+use Rattle.hazard_types.specs.contracts.period.PeriodPartialEq.TheImpl as period_eq
+use Rattle.hazard_types.proofs.Equality.{period_one}
+use Rattle.row_index.specs.contracts.standing.CornerOrd.TheImpl as corner_order
+use Rattle.row_index.specs.contracts.standing.StayOrd.TheImpl as stay_order
+use Rattle.row_index.specs.contracts.standing.TermOrd.TheImpl as term_order
+use Rattle.row_index.specs.contracts.standing.StandingOrd.TheImpl.Laws as standing_laws
+use Rattle.row_index.specs.Numbers.{stands}
+use Rattle.row_index.specs.Standings.{by_standing, place_of, standing_of, lies, open_from, behind, first_same, last_same, same_from, same_to}
+use Rattle.row_index.specs.Steps.{stood_without, stood_with, stays, restood}
+use Rattle.row_index.specs.Telling.{Tells}
+use Rattle.row_index.proofs.Seated.{event_by}
+use Rattle.row_index.proofs.Tests.{any_alike, any_same, any_none, any_put, any_insert, any_removed, insert-sorted, remove-sorted, at_one, at_own, at_itself, found_own, and_not, and_false, but}
+
+pub by_standing_total : IsTotalOrder by_standing
+by_standing_total = standing_laws.total-law
+
+corner_ties : (a b : Corner) → corner_order.cmp-value.it a b ≡ Equal → a ≡ b
+corner_ties corner.Front corner.Front h = refl
+corner_ties corner.Front (corner.At z) h = cc
+corner_ties corner.Front corner.Back h = cc
+corner_ties (corner.At z) corner.Front h = cc
+corner_ties (corner.At z) (corner.At y) h = ap corner.At (by_place_ties z y h)
+corner_ties (corner.At z) corner.Back h = cc
+corner_ties corner.Back corner.Front h = cc
+corner_ties corner.Back (corner.At z) h = cc
+corner_ties corner.Back corner.Back h = refl
+
+stay_ties : (a b : Stay) → stay_order.cmp-value.it a b ≡ Equal → a ≡ b
+stay_ties a b h =
+    let p = then_parts (end_order.cmp-value.it a.end b.end) _ h in
+    let q = then_parts (nat_cmp a.begin b.begin) _ p.1 in
+    let end_is = by_end_ties a.end b.end p.0 in
+    let begin_is = numbers_tied a.begin b.begin q.0 in
+    let corner_is = corner_ties a.corner b.corner q.1 in
+    λ i. record { end = end_is i; begin = begin_is i; corner = corner_is i }
+
+term_ties : (a b : Term) → term_order.cmp-value.it a b ≡ Equal → a ≡ b
+term_ties (At a) (At b) h = ap At (stay_ties a b h)
+term_ties (At a) Back h = cc
+term_ties Back (At b) h = cc
+term_ties Back Back h = refl
+
+pub by_standing_ties : (a b : Standing) → by_standing a b ≡ Equal → a ≡ b
+by_standing_ties a b h =
+    let p = then_parts (by_event a.event b.event) _ h in
+    let event_is = by_event_ties a.event b.event p.0 in
+    let term_is = term_ties a.term b.term p.1 in
+    λ i. record { event = event_is i; term = term_is i }
+
+-- a row in the place of another
+
+-- what a key tells of its row's zone
+abbrev corner_in : Term → Corner
+corner_in (At s) = s.corner
+corner_in Back = corner.Front
+
+abbrev zone_in : Place → Corner → Place
+zone_in d (corner.At z) = z
+zone_in d _ = d
+
+apart_key : (old r : Row) → at_key old.event old.zone r ≡ false → is_at (by_standing (standing_of old)) (standing_of r) ≡ false
+apart_key old r h = false_from_ne_true _ (λ g.
+    let same : standing_of old ≡ standing_of r = at_one by_standing by_standing_total by_standing_ties (standing_of old) (standing_of r) g in
+    let event_is : old.event ≡ r.event = ap (λ (k : Standing). k.event) same in
+    let zone_is : old.zone ≡ r.zone = ap (λ (k : Standing). zone_in old.zone (corner_in k.term)) same in
+    let here : at_key old.event old.zone r ≡ true = rw (event_is, zone_is) (at_itself r) in
+    let e : true ≡ false = sym here ∙ h in cc)
+
+abbrev counted : (Standing → Bool) → Row → Bool
+counted q r = stands r && q (standing_of r)
+
+pulled : (a b c : Bool) → (a && (b && not c)) ≡ ((a && b) && not c)
+pulled true b c = refl
+pulled false b c = refl
+
+without_old : (q : Standing → Bool) (rows : List Row) (keys : List Standing) (row old : Row) → IsStrictlySortedBy by_key rows → IsStrictlySortedBy by_standing keys → Tells stands standing_of keys rows
+    → row_at rows row.event row.zone ≡ Some old
+    → list_any q (remove_key (is_at (by_standing (standing_of old))) keys) ≡ list_any (but (counted q) row) rows
+without_old q rows keys row old up ascending tells found =
+    any_removed by_standing by_standing_total by_standing_ties q (standing_of old) keys ascending
+    ∙ tells (λ k. q k && not (is_at (by_standing (standing_of old)) k))
+    ∙ any_alike (λ r. stands r && (q (standing_of r) && not (is_at (by_standing (standing_of old)) (standing_of r)))) (but (counted q) row) rows
+    (λ r is. pulled (stands r) (q (standing_of r)) (is_at (by_standing (standing_of old)) (standing_of r)) ∙ ap (λ (b : Bool). counted q r && not b) (at_alike r is (at_key row.event row.zone r) refl))
+  where
+    own : at_key row.event row.zone old ≡ true
+    own = (find_in (at_key row.event row.zone) rows old found).1
+
+    at_alike : (r : Row) → IsIn r rows → (b : Bool) → at_key row.event row.zone r ≡ b → is_at (by_standing (standing_of old)) (standing_of r) ≡ at_key row.event row.zone r
+    at_alike r is true here =
+        let k = at_key-parts row.event row.zone r here in
+        let first : row_at rows row.event row.zone ≡ Some r = subst (λ (e : Event). row_at rows e row.zone ≡ Some r) k.0 (subst (λ (z : Place). row_at rows r.event z ≡ Some r) k.1 (found_own rows r up is)) in
+        let some : ◌≡◌ {A = Option Row} (Some old) (Some r) = sym found ∙ first in
+        let one : old ≡ r = cc in
+        subst (λ (x : Row). is_at (by_standing (standing_of old)) (standing_of x) ≡ true) one (at_own by_standing by_standing_total by_standing_ties (standing_of old)) ∙ sym here
+    at_alike r is false here =
+        let k = at_key-parts row.event row.zone old own in
+        apart_key old r (rw (k.0, k.1) here) ∙ sym here
+
+without_none : (q : Standing → Bool) (rows : List Row) (keys : List Standing) (row : Row) → Tells stands standing_of keys rows → row_at rows row.event row.zone ≡ None
+    → list_any q keys ≡ list_any (but (counted q) row) rows
+without_none q rows keys row tells found =
+    tells q ∙ any_alike (counted q) (but (counted q) row) rows
+    (λ r is. sym (and_not (counted q r) (at_key row.event row.zone r) (any_none (at_key row.event row.zone) rows r (none_in (at_key row.event row.zone) rows found) is)))
+
+without : (q : Standing → Bool) (rows : List Row) (keys : List Standing) (row : Row) (before : Option Row) → IsStrictlySortedBy by_key rows → IsStrictlySortedBy by_standing keys → Tells stands standing_of keys rows
+    → row_at rows row.event row.zone ≡ before → list_any q (stood_without before keys) ≡ list_any (but (counted q) row) rows
+without q rows keys row None up ascending tells found = without_none q rows keys row tells found
+without q rows keys row (Some old) up ascending tells found = without_old q rows keys row old up ascending tells found
+
+with_row : (q : Standing → Bool) (keys : List Standing) (row : Row) (ended others : Bool) → list_any q keys ≡ others
+    → list_any q (cond ended keys (insert_key by_standing keys (standing_of row))) ≡ ((not ended && q (standing_of row)) || others)
+with_row q keys row true others h = h
+with_row q keys row false others h = any_insert by_standing by_standing_total by_standing_ties q (standing_of row) keys ∙ ap (λ (b : Bool). q (standing_of row) || b) h
+
+-- the rows that no line has ended, after one was put
+stood_anew : (rows : List Row) (keys : List Standing) (row : Row) (before : Option Row) → IsStrictlySortedBy by_key rows → IsStrictlySortedBy by_standing keys → Tells stands standing_of keys rows
+    → before ≡ row_at rows row.event row.zone → Tells stands standing_of (stood_with row (stood_without before keys)) (put row rows)
+stood_anew rows keys row before up ascending tells found q =
+    with_row q (stood_without before keys) row row.ended (list_any (but (counted q) row) rows) (without q rows keys row before up ascending tells (sym found))
+    ∙ sym (any_put (counted q) row rows up)
+
+-- one of the rows passes exactly where the one found at a zone and event does, or another
+split_found : (p : Row → Bool) (row old : Row) (rows : List Row) → IsStrictlySortedBy by_key rows → row_at rows row.event row.zone ≡ Some old → list_any p rows ≡ (p old || list_any (but p row) rows)
+split_found p row old rows up found =
+    one_way (list_any p rows) (p old || list_any (but p row) rows)
+    (λ h. let w = any_in p rows h in by_place w.0 w.1 w.2 (at_key row.event row.zone w.0) refl)
+    (λ h. by_first (p old) refl h)
+  where
+    own : IsIn old rows × (at_key row.event row.zone old ≡ true)
+    own = find_in (at_key row.event row.zone) rows old found
+
+    or_later : (a b : Bool) → b ≡ true → (a || b) ≡ true
+    or_later true b h = refl
+    or_later false b h = h
+
+    by_place : (r : Row) → IsIn r rows → p r ≡ true → (b : Bool) → at_key row.event row.zone r ≡ b → (p old || list_any (but p row) rows) ≡ true
+    by_place r is h true here =
+        let k = at_key-parts row.event row.zone r here in
+        let first : row_at rows row.event row.zone ≡ Some r = subst (λ (e : Event). row_at rows e row.zone ≡ Some r) k.0 (subst (λ (z : Place). row_at rows r.event z ≡ Some r) k.1 (found_own rows r up is)) in
+        let some : ◌≡◌ {A = Option Row} (Some r) (Some old) = sym first ∙ found in
+        let one : r ≡ old = cc in
+        let passes : p old ≡ true = subst (λ (x : Row). p x ≡ true) one h in
+        rw passes refl
+    by_place r is h false here = or_later (p old) (list_any (but p row) rows) (in_any (but p row) rows r is (rw (h, here) refl))
+
+    by_first : (b : Bool) → p old ≡ b → (b || list_any (but p row) rows) ≡ true → list_any p rows ≡ true
+    by_first true h g = in_any p rows old own.0 h
+    by_first false h g = let w = any_in (but p row) rows g in in_any p rows w.0 w.1 (and_parts (p w.0) _ w.2).0
+
+stays_alike : (q : Standing → Bool) (rows : List Row) (row old : Row) → row_at rows row.event row.zone ≡ Some old → stays (Some old) row ≡ true → counted q old ≡ counted q row
+stays_alike q rows row old found h =
+    let k = at_key-parts row.event row.zone old (find_in (at_key row.event row.zone) rows old found).1 in
+    let p = and_parts (period_eq.eq-value.it old.period row.period && not old.ended) _ h in
+    let r = and_parts (period_eq.eq-value.it old.period row.period) _ p.0 in
+    let period_is = period_one old.period row.period r.0 in
+    let event_is = k.0 in
+    let zone_is = k.1 in
+    let key : standing_of old ≡ standing_of row = λ i. place_of (event_is i) (period_is i).end (period_is i).begin (corner.At (zone_is i)) in
+    rw (r.1, p.1, key) refl
+
+stood_same : (rows : List Row) (keys : List Standing) (row old : Row) → IsStrictlySortedBy by_key rows → Tells stands standing_of keys rows → row_at rows row.event row.zone ≡ Some old → stays (Some old) row ≡ true
+    → Tells stands standing_of keys (put row rows)
+stood_same rows keys row old up tells found h q =
+    tells q ∙ split_found (counted q) row old rows up found ∙ ap (λ (b : Bool). b || list_any (but (counted q) row) rows) (stays_alike q rows row old found h) ∙ sym (any_put (counted q) row rows up)
+
+pub stood-put : (rows : List Row) (keys : List Standing) (row : Row) (before : Option Row) → IsStrictlySortedBy by_key rows → IsStrictlySortedBy by_standing keys → Tells stands standing_of keys rows
+    → before ≡ row_at rows row.event row.zone → Tells stands standing_of (restood before row keys) (put row rows)
+stood-put rows keys row None up ascending tells found = stood_anew rows keys row None up ascending tells found
+stood-put rows keys row (Some old) up ascending tells found = by_stay (stays (Some old) row) refl
+  where
+    by_stay : (b : Bool) → stays (Some old) row ≡ b → Tells stands standing_of (cond b keys (stood_with row (stood_without (Some old) keys))) (put row rows)
+    by_stay true h = stood_same rows keys row old up tells (sym found) h
+    by_stay false h = stood_anew rows keys row (Some old) up ascending tells found
+
+pub stood-sorted : (before : Option Row) (row : Row) (keys : List Standing) → IsStrictlySortedBy by_standing keys → IsStrictlySortedBy by_standing (restood before row keys)
+stood-sorted before row keys up = or_kept (stays before row) (with_sorted row.ended (without_sorted before))
+  where
+    or_kept : (b : Bool) → IsStrictlySortedBy by_standing (stood_with row (stood_without before keys)) → IsStrictlySortedBy by_standing (cond b keys (stood_with row (stood_without before keys)))
+    or_kept true h = up
+    or_kept false h = h
+
+    without_sorted : (o : Option Row) → IsStrictlySortedBy by_standing (stood_without o keys)
+    without_sorted None = up
+    without_sorted (Some old) = remove-sorted by_standing by_standing_total by_standing_ties (is_at (by_standing (standing_of old))) keys up
+
+    with_sorted : (b : Bool) → IsStrictlySortedBy by_standing (stood_without before keys) → IsStrictlySortedBy by_standing (cond b (stood_without before keys) (insert_key by_standing (stood_without before keys) (standing_of row)))
+    with_sorted true h = h
+    with_sorted false h = insert-sorted by_standing by_standing_total by_standing_ties (standing_of row) (stood_without before keys) h
+
+-- what is asked of an event
+
+within : (o x y : Ordering) → (is_le (ordering_then o x) && not (is_le (ordering_then o y))) ≡ (is_eq o && (is_le x && not (is_le y)))
+within Less x y = refl
+within Equal x y = refl
+within Greater x y = refl
+
+le_less : (o : Ordering) → is_le (ordering_then o Less) ≡ is_le o
+le_less Less = refl
+le_less Equal = refl
+le_less Greater = refl
+
+lt_greater : (o : Ordering) → not (is_le (ordering_then o Greater)) ≡ not (is_lt o)
+lt_greater Less = refl
+lt_greater Equal = refl
+lt_greater Greater = refl
+
+le_is : (a b : ℕ) → is_le (nat_cmp a b) ≡ nat_le a b
+le_is a b = grind (arith, nat_tests)
+
+lt_is : (a b : ℕ) → not (is_lt (nat_cmp a b)) ≡ nat_le b a
+lt_is a b = grind (arith, nat_tests)
+
+zero_less : (b : ℕ) → ordering_then (nat_cmp 0 b) Less ≡ Less
+zero_less b = by_order (nat_cmp 0 b) (le_is 0 b)
+  where
+    by_order : (o : Ordering) → is_le o ≡ nat_le 0 b → ordering_then o Less ≡ Less
+    by_order Less h = refl
+    by_order Equal h = refl
+    by_order Greater h = let e : nat_le 0 b ≡ true = grind (arith, nat_tests) in let f : false ≡ true = h ∙ e in cc
+
+abbrev end_cmp : End → End → Ordering
+end_cmp = end_order.cmp-value.it
+
+open_end : (t : ℕ) (a : End) → is_le (end_cmp (end.At (t - 30)) a) ≡ ends_within a t
+open_end t (end.At m) = le_is (t - 30) m ∙ early
+  where
+    early : nat_le (t - 30) m ≡ nat_le t (m + 30)
+    early = grind (arith, nat_tests)
+open_end t end.Ufn = refl
+
+open_lies : (t : ℕ) (e : Event) (r : Row) → lies (open_from t e) (behind e) (standing_of r) ≡ (same_event r.event e && ends_within r.period.end t)
+open_lies t e r =
+    let event_is = event_by (by_event e r.event) e r.event refl in
+    let stay : Ordering = ordering_then (end_cmp (end.At (t - 30)) r.period.end) (ordering_then (nat_cmp 0 r.period.begin) Less) in
+    let end_is : (is_le stay && true) ≡ ends_within r.period.end t =
+    and_plain (is_le stay) ∙ ap (λ (o : Ordering). is_le (ordering_then (end_cmp (end.At (t - 30)) r.period.end) o)) (zero_less r.period.begin) ∙ le_less (end_cmp (end.At (t - 30)) r.period.end) ∙ open_end t r.period.end in
+    within (by_event e r.event) stay Greater ∙ (λ i. event_is i && end_is i)
+  where
+    and_plain : (a : Bool) → (a && true) ≡ a
+    and_plain true = refl
+    and_plain false = refl
+
+and_moved : (a b c : Bool) → (a && (b && c)) ≡ (b && (a && c))
+and_moved true true c = refl
+and_moved true false c = refl
+and_moved false true c = refl
+and_moved false false c = refl
+
+pub open-told : (rows : List Row) (keys : List Standing) (t : ℕ) (e : Event) → Tells stands standing_of keys rows → list_any (lies (open_from t e) (behind e)) keys ≡ is_open rows t e
+open-told rows keys t e tells =
+    tells (lies (open_from t e) (behind e))
+    ∙ any_same (counted (lies (open_from t e) (behind e))) (λ (r : Row). same_event r.event e && keeps_open t r) rows
+    (λ r. ap (λ (b : Bool). stands r && b) (open_lies t e r) ∙ and_moved (stands r) (same_event r.event e) (ends_within r.period.end t))
+
+same_end_is : (a b : End) → is_eq (end_cmp a b) ≡ same_end b a
+same_end_is (end.At m) (end.At n) = equal
+  where
+    equal : is_eq (nat_cmp m n) ≡ (n == m)
+    equal = grind (arith, nat_tests)
+same_end_is (end.At m) end.Ufn = refl
+same_end_is end.Ufn (end.At n) = refl
+same_end_is end.Ufn end.Ufn = refl
+
+same_begin : (t b m : ℕ) → (nat_le (first_same t b) m && nat_le m (last_same t b)) ≡ ((m == b) || (nat_le m t && nat_le b t))
+same_begin t b m = by_case (nat_le b t) refl
+  where
+    by_case : (c : Bool) → nat_le b t ≡ c → (nat_le (cond c 0 b) m && nat_le m (cond c t b)) ≡ ((m == b) || (nat_le m t && c))
+    by_case true h = grind (arith, nat_tests)
+    by_case false h = grind (arith, nat_tests)
+
+same_lies : (t : ℕ) (e : Event) (p : Period) (r : Row) → lies (same_from t e p) (same_to t e p) (standing_of r)
+    ≡ (same_event r.event e && (same_end r.period.end p.end && ((r.period.begin == p.begin) || (nat_le r.period.begin t && nat_le p.begin t))))
+same_lies t e p r =
+    let event_is = event_by (by_event e r.event) e r.event refl in
+    let end_is = same_end_is p.end r.period.end in
+    let first : Ordering = ordering_then (nat_cmp (first_same t p.begin) r.period.begin) Less in
+    let last : Ordering = ordering_then (nat_cmp (last_same t p.begin) r.period.begin) Greater in
+    let first_is = le_less (nat_cmp (first_same t p.begin) r.period.begin) ∙ le_is (first_same t p.begin) r.period.begin in
+    let last_is = lt_greater (nat_cmp (last_same t p.begin) r.period.begin) ∙ lt_is (last_same t p.begin) r.period.begin in
+    within (by_event e r.event) (ordering_then (end_cmp p.end r.period.end) first) (ordering_then (end_cmp p.end r.period.end) last)
+    ∙ ap (λ (b : Bool). is_eq (by_event e r.event) && b) (within (end_cmp p.end r.period.end) first last)
+    ∙ (λ i. event_is i && (end_is i && (first_is i && last_is i)))
+    ∙ ap (λ (b : Bool). same_event r.event e && (same_end r.period.end p.end && b)) (same_begin t p.begin r.period.begin)
+
+ends_alike : (a b : End) (t : ℕ) → same_end a b ≡ true → ends_after a t ≡ ends_after b t
+ends_alike (end.At m) (end.At n) t h = let e : m ≡ n = grind (arith, nat_tests) in rw e refl
+ends_alike (end.At m) end.Ufn t h = cc
+ends_alike end.Ufn (end.At n) t h = cc
+ends_alike end.Ufn end.Ufn t h = refl
+
+gathered : (e a v s d f : Bool) → (s ≡ true → f ≡ e) → (e && (a && (v && (s && d)))) ≡ ((v && (a && f)) && (s && d))
+gathered e a v false d f h =
+    ap (λ (b : Bool). e && (a && b)) (and_false v) ∙ ap (λ (b : Bool). e && b) (and_false a) ∙ and_false e ∙ sym (and_false (v && (a && f)))
+gathered e a v true d f h = subst (λ (b : Bool). (e && (a && (v && d))) ≡ ((v && (a && b)) && d)) (sym (h refl)) (turned e a v d)
+  where
+    turned : (e a v d : Bool) → (e && (a && (v && d))) ≡ ((v && (a && e)) && d)
+    turned true true true d = refl
+    turned true true false d = refl
+    turned true false true d = refl
+    turned true false false d = refl
+    turned false true true d = refl
+    turned false true false d = refl
+    turned false false true d = refl
+    turned false false false d = refl
+
+and_any : (a : Bool) (p : Row → Bool) (rows : List Row) → (a && list_any p rows) ≡ list_any (λ r. a && p r) rows
+and_any true p rows = refl
+and_any false p [] = refl
+and_any false p (r ∷ rows) = and_any false p rows
+
+pub same-told : (rows : List Row) (keys : List Standing) (t : ℕ) (line : Line) → Tells stands standing_of keys rows
+    → (ends_after (opened_period line t).end t && list_any (lies (same_from t line.event (opened_period line t)) (same_to t line.event (opened_period line t))) keys) ≡ has_same rows t line
+same-told rows keys t line tells =
+    let p = opened_period line t in
+    let between = lies (same_from t line.event p) (same_to t line.event p) in
+    ap (λ (b : Bool). ends_after p.end t && b) (tells between)
+    ∙ and_any (ends_after p.end t) (counted between) rows
+    ∙ any_same (λ r. ends_after p.end t && counted between r) (λ r. same_event r.event line.event && is_live t r && same_at t r.period p) rows
+    (λ r. ap (λ (b : Bool). ends_after p.end t && (stands r && b)) (same_lies t line.event p r)
+    ∙ gathered (ends_after p.end t) (stands r) (same_event r.event line.event) (same_end r.period.end p.end) ((r.period.begin == p.begin) || (nat_le r.period.begin t && nat_le p.begin t)) (ends_after r.period.end t) (ends_alike r.period.end p.end t))
+
+-- the places asked about stand in order
+
+tied_event : (e : Event) → by_event e e ≡ Equal
+tied_event e = tied_itself by_event_total e
+
+pub open_forward : (t : ℕ) (e : Event) → IsLeBy by_standing (open_from t e) (behind e)
+open_forward t e = ap (λ (o : Ordering). is_gt (ordering_then o Less)) (tied_event e)
+
+end_itself : (a : End) → end_cmp a a ≡ Equal
+end_itself a = tied_itself by_end_total a
+
+pub with_forward : (e : Event) (a : End) (first last : ℕ) → first ≤ last → IsLeBy by_standing (place_of e a first corner.Front) (place_of e a last corner.Back)
+with_forward e a first last le =
+    ap (λ (o : Ordering). is_gt (ordering_then o (ordering_then (end_cmp a a) (ordering_then (nat_cmp first last) Less)))) (tied_event e)
+    ∙ ap (λ (o : Ordering). is_gt (ordering_then o (ordering_then (nat_cmp first last) Less))) (end_itself a)
+    ∙ forward (nat_cmp first last) (le_is first last ∙ rises)
+  where
+    rises : nat_le first last ≡ true
+    rises = grind (arith, nat_tests)
+
+    forward : (o : Ordering) → is_le o ≡ true → is_gt (ordering_then o Less) ≡ false
+    forward Less h = refl
+    forward Equal h = refl
+    forward Greater h = cc

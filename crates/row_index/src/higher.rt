@@ -1,0 +1,85 @@
+//! What a product changes where a higher row is looked for.
+ghost use Rattle.std.specs.Prelude.{◌≡◌, ◌++◌, not, is_none, IfOk, filter};
+ghost use Rattle.std.specs.List.{list_any};
+ghost use Rattle.std.specs.Map.{values_of};
+ghost use Rattle.row_index.specs.Numbers.{is_in_zone};
+ghost use Rattle.row_index.specs.Seating.{AreSeated, seat_said, upgrades};
+ghost use Rattle.row_index.specs.Steps.{not_upgraded, not_counted, rivals};
+ghost use Rattle.row_index.specs.Telling.{Tells};
+
+use crate::seats::{Seated, Seats, add_seat, has_seat, row_in, rows_in};
+use event_life::{is_upgrade, shown};
+use hazard_types::{Line, Minute, Oom, Row, Zone};
+use std::alloc::{AllocError, Global};
+use std::collections::BTreeSet;
+
+/// The rows that a product's lawful lines other than UPG leave, and the seats that its UPG lines speak of.
+#[derive(Drop)]
+pub struct Changed {
+    pub counted: Seated,
+    pub upgraded: Seats,
+}
+
+/// Whether one of the lines says that a higher row takes a zone over.
+pub fn any_upgrades(lines: &[Line]) -> bool
+    ensures { result ≡ list_any upgrades lines.now }
+{
+    lines.iter().any(|line| is_upgrade(&line.action))
+}
+
+/// The seats that UPG lines speak of.
+pub fn upgraded_by(alloc: Global, lines: &[Line]) -> Result<Seats, Oom>
+    ensures { IfOk result (λ seats. Tells upgrades seat_said seats.keys lines.now) }
+{
+    let mut seats = BTreeSet::new(alloc);
+    for line in lines {
+        add_seat(&mut seats, is_upgrade(&line.action), line)?;
+    }
+    Ok(seats)
+}
+
+/// Those of the rows that no UPG line speaks of.
+fn not_upgraded(alloc: Global, upgraded: &Seats, rows: &[Row]) -> Result<Vec<Row>, AllocError>
+    ensures { IfOk result (λ kept. kept.items ≡ not_upgraded upgraded.now.keys rows.now) }
+{
+    rows.iter()
+        .filter(|row| !has_seat(upgraded, &row.event, &row.zone))
+        .copied()
+        .collect(alloc)
+}
+
+/// Those of the rows in whose place none is counted.
+fn not_counted(alloc: Global, counted: &Seated, rows: &[Row]) -> Result<Vec<Row>, AllocError>
+    requires { AreSeated counted.now.entries }
+    ensures { IfOk result (λ kept. kept.items ≡ not_counted (values_of counted.now.entries) rows.now) }
+{
+    let mut kept = Vec::new(alloc);
+    for row in rows {
+        if row_in(counted, &row.event, &row.zone).is_none() {
+            kept.push(*row)?;
+        }
+    }
+    Ok(kept)
+}
+
+/// A zone's rows after the product that no UPG line of it has ended, without those before it that are not live.
+pub fn rivals(
+    alloc: Global,
+    seated: &Seated,
+    t: Minute,
+    changed: &Changed,
+    zone: &Zone,
+) -> Result<Vec<Row>, Oom>
+    requires seated { AreSeated seated.now.entries }
+    requires counted { AreSeated changed.now.counted.entries }
+    ensures { IfOk result (λ rows. rows.items ≡ rivals zone.now t (values_of changed.now.counted.entries) changed.now.upgraded.keys (values_of seated.now.entries)) }
+{
+    let counted = rows_in(alloc, &changed.counted, zone)?;
+    let mut rows = not_upgraded(alloc, &changed.upgraded, &counted)?;
+    let before = rows_in(alloc, seated, zone)?;
+    let before = shown(alloc, &before, t)?;
+    let before = not_upgraded(alloc, &changed.upgraded, before.as_slice())?;
+    let before = not_counted(alloc, &changed.counted, &before)?;
+    rows.extend_from_slice(&before)?;
+    Ok(rows)
+}

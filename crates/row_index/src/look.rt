@@ -1,0 +1,79 @@
+//! What is read off a row or two, without a walk.
+ghost use Rattle.std.specs.Prelude.{◌≡◌, option_map};
+ghost use Rattle.event_life.specs.Lives.{opens};
+ghost use Rattle.event_life.specs.Products.{life_of, later_event, is_new};
+ghost use Rattle.row_index.specs.Steps.{nothing_around, of_event};
+
+use event_life::{Around, Life};
+use hazard_types::{Action, Event, Line, Row};
+
+/// The life of a row.
+pub fn life_of(row: &Option<Row>) -> Option<Life>
+    ensures { result ≡ option_map life_of row.now }
+{
+    match row {
+        Some(row) => Some(Life {
+            period: row.period,
+            flood: row.flood,
+            ended: row.ended,
+        }),
+        None => None,
+    }
+}
+
+/// Of two events the one of the later year.
+pub fn later_event(best: Option<Event>, event: &Event) -> Option<Event>
+    ensures { result ≡ later_event best event.now }
+{
+    match best {
+        Some(best) => {
+            if best.year < event.year {
+                Some(*event)
+            } else {
+                Some(best)
+            }
+        }
+        None => Some(*event),
+    }
+}
+
+/// What stands around a line that asks for nothing but a higher row.
+pub fn nothing_around(higher: bool) -> Around
+    ensures { result ≡ nothing_around higher }
+{
+    Around {
+        opened: false,
+        going: false,
+        held: false,
+        same: false,
+        higher,
+    }
+}
+
+/// Whether a line opens an event of its own.
+pub fn is_new(action: &Action) -> bool
+    ensures { result ≡ is_new action.now }
+{
+    matches!(action, Action::New)
+}
+
+/// Whether a line opens a spell, and so leaves nothing of the one before.
+pub fn opens(action: &Action) -> bool
+    ensures { result ≡ opens action.now }
+{
+    matches!(action, Action::New | Action::Exa | Action::Exb)
+}
+
+/// The line, of another event.
+pub fn of_event(line: &Line, event: &Event) -> Line
+    ensures { result ≡ of_event line.now event.now }
+{
+    Line {
+        action: line.action,
+        event: *event,
+        zone: line.zone,
+        begin: line.begin,
+        end: line.end,
+        flood: line.flood,
+    }
+}

@@ -1,0 +1,65 @@
+//! The events of each hazard and number, one for each year in which it was opened.
+ghost use Rattle.std.specs.Prelude.{◌≡◌, ◌++◌, ◌∷◌, [], OnOk};
+ghost use Rattle.std.specs.BTreeMap.{insert_entry};
+ghost use Rattle.std.specs.List.{list_any};
+ghost use Rattle.hazard_types.specs.Same.{same_event};
+ghost use Rattle.row_index.specs.Numbers.{number_of, by_number, lists_of, list_at, with_event};
+
+use hazard_types::{Event, Hazard, Oom};
+use std::alloc::Global;
+use std::collections::BTreeMap;
+
+/// A hazard and a number, which events of several years may have.
+#[derive(Clone, Copy, PartialEq, Eq, PartialOrd, Ord)]
+pub struct Number {
+    pub hazard: Hazard,
+    pub etn: u16,
+}
+
+/// The events of each hazard and number.
+pub type Events = BTreeMap<Number, Vec<Event>>;
+
+/// The hazard and number of an event.
+pub fn number_of(event: &Event) -> Number
+    ensures { result ≡ number_of event.now }
+{
+    Number {
+        hazard: event.hazard,
+        etn: event.etn,
+    }
+}
+
+/// Whether an event is among these.
+pub fn has_event(events: &[Event], event: &Event) -> bool
+    ensures { result ≡ list_any (λ d. same_event d event.now) events.now }
+{
+    events.iter().any(|other| *other == *event)
+}
+
+/// Adds an event, unless it is among these.
+fn add_event(events: &mut Vec<Event>, event: &Event) -> Result<(), Oom>
+    ensures { OnOk result (events.new.items ≡ with_event event.now events.old.items) }
+{
+    if !has_event(events, event) {
+        events.push(*event)?;
+    }
+    Ok(())
+}
+
+/// Puts an event among those of its hazard and number.
+pub fn put_event(alloc: Global, events: &mut Events, event: &Event) -> Result<(), Oom>
+    ensures { OnOk result (lists_of events.new.entries ≡ insert_entry by_number (lists_of events.old.entries) (number_of event.now) (with_event event.now (list_at by_number (lists_of events.old.entries) (number_of event.now)))) }
+{
+    let known = events.entry(number_of(event))?.or_insert(Vec::new(alloc));
+    add_event(known, event)
+}
+
+/// The events of a hazard and number.
+pub fn events_at<'a>(events: &'a Events, number: &Number) -> &'a [Event]
+    ensures { result.now ≡ list_at by_number (lists_of events.now.entries) number.now }
+{
+    match events.get(number) {
+        Some(events) => events.as_slice(),
+        None => &[],
+    }
+}

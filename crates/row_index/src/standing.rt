@@ -1,0 +1,193 @@
+//! Rows that no line has ended, in the order in which what is asked of an event stands together.
+ghost use Rattle.std.specs.Prelude.{◌≡◌, ◌≤◌, ◌&&◌, ◌-◌, OnOk};
+ghost use Rattle.std.specs.BTreeSet.{insert_key};
+ghost use Rattle.std.specs.List.{list_any};
+ghost use Rattle.event_life.specs.Periods.{ends_after};
+ghost use Rattle.row_index.specs.Standings.{by_standing, place_of, standing_of, lies, open_from, behind, same_from, same_to};
+ghost use Rattle.row_index.specs.Steps.{stays, restood};
+ghost use Rattle.row_index.specs.declared.standing.Corner.TheVariants as corner;
+
+use crate::keys::{add_key, any_between, take_key};
+use event_life::ends_after;
+use hazard_types::{End, Event, Minute, Oom, Period, Row, Zone};
+use std::collections::BTreeSet;
+
+/// A place among the rows of an event with one period: in front of all zones, at a zone, or behind them all.
+#[derive(Clone, Copy, PartialEq, Eq, PartialOrd, Ord)]
+pub enum Corner {
+    Front,
+    At(Zone),
+    Back,
+}
+
+/// A place among the rows of an event, which are in order by end, then begin, then zone.
+#[derive(Clone, Copy, PartialEq, Eq, PartialOrd, Ord)]
+pub struct Stay {
+    pub end: End,
+    pub begin: Minute,
+    pub corner: Corner,
+}
+
+/// A place among the rows of an event, or behind them all.
+#[derive(Clone, Copy, PartialEq, Eq, PartialOrd, Ord)]
+pub enum Term {
+    At(Stay),
+    Back,
+}
+
+/// Where a row stands among all rows, which are in order by event, then term.
+#[derive(Clone, Copy, PartialEq, Eq, PartialOrd, Ord)]
+pub struct Standing {
+    pub event: Event,
+    pub term: Term,
+}
+
+/// The rows that no line has ended.
+pub type Standings = BTreeSet<Standing>;
+
+fn place_of(event: &Event, end: End, begin: Minute, corner: Corner) -> Standing
+    ensures { result ≡ place_of event.now end begin corner }
+{
+    let stay = Stay { end, begin, corner };
+    Standing {
+        event: *event,
+        term: Term::At(stay),
+    }
+}
+
+fn standing_of(row: &Row) -> Standing
+    ensures { result ≡ standing_of row.now }
+{
+    place_of(
+        &row.event,
+        row.period.end,
+        row.period.begin,
+        Corner::At(row.zone),
+    )
+}
+
+/// The minute so many before this one, or the first of all.
+fn minutes_before(t: Minute, count: u32) -> Minute
+    ensures { result ≡ t - count }
+{
+    match Minute::new(t.get().saturating_sub(count)) {
+        Some(minute) => minute,
+        None => unreachable!(),
+    }
+}
+
+/// Whether a row of the event stands whose end is at most half an hour past.
+pub fn is_open_among(standings: &Standings, t: Minute, event: &Event) -> bool
+    ensures { result ≡ list_any (lies (open_from t event.now) (behind event.now)) standings.now.keys }
+{
+    let end = End::At(minutes_before(t, 30));
+    let begin = minutes_before(t, u32::MAX);
+    let corner = Corner::Front;
+    let stay = Stay { end, begin, corner };
+    let first = Term::At(stay);
+    let from = Standing {
+        event: *event,
+        term: first,
+    };
+    let behind = Term::Back;
+    let to = Standing {
+        event: *event,
+        term: behind,
+    };
+    any_between(standings, from, to)
+}
+
+/// Whether a row of the event stands with the end of a period, and with a begin between two minutes.
+fn any_with(
+    standings: &Standings,
+    event: &Event,
+    period: &Period,
+    first: Minute,
+    last: Minute,
+) -> bool
+    requires { first ≤ last }
+    ensures { result ≡ list_any (lies (place_of event.now period.now.end first corner.Front) (place_of event.now period.now.end last corner.Back)) standings.now.keys }
+{
+    let front = Corner::Front;
+    let low = Stay {
+        end: period.end,
+        begin: first,
+        corner: front,
+    };
+    let low = Term::At(low);
+    let from = Standing {
+        event: *event,
+        term: low,
+    };
+    let back = Corner::Back;
+    let high = Stay {
+        end: period.end,
+        begin: last,
+        corner: back,
+    };
+    let high = Term::At(high);
+    let to = Standing {
+        event: *event,
+        term: high,
+    };
+    any_between(standings, from, to)
+}
+
+/// Whether a live row of the event has this period.
+pub fn has_same_among(standings: &Standings, t: Minute, event: &Event, period: &Period) -> bool
+    ensures { result ≡ (ends_after period.now.end t && list_any (lies (same_from t event.now period.now) (same_to t event.now period.now)) standings.now.keys) }
+{
+    if !ends_after(&period.end, t) {
+        return false;
+    }
+    if period.begin.get() <= t.get() {
+        any_with(standings, event, period, minutes_before(t, u32::MAX), t)
+    } else {
+        any_with(standings, event, period, period.begin, period.begin)
+    }
+}
+
+/// Adds the place of a row.
+fn stand(standings: &mut Standings, row: &Row) -> Result<(), Oom>
+    ensures { OnOk result (standings.new.keys ≡ insert_key by_standing standings.old.keys (standing_of row.now)) }
+{
+    let end = row.period.end;
+    let corner = Corner::At(row.zone);
+    let stay = Stay {
+        end,
+        begin: row.period.begin,
+        corner,
+    };
+    let term = Term::At(stay);
+    let standing = Standing {
+        event: row.event,
+        term,
+    };
+    add_key(standings, standing)
+}
+
+/// Whether a row stands as the one before did: no line has ended either, and they have one period.
+fn stays(before: &Option<Row>, row: &Row) -> bool
+    ensures { result ≡ stays before.now row.now }
+{
+    match before {
+        Some(old) => old.period == row.period && !old.ended && !row.ended,
+        None => false,
+    }
+}
+
+/// A row stands in the place of the one before, unless a line has ended it.
+pub fn restand(standings: &mut Standings, before: &Option<Row>, row: &Row) -> Result<(), Oom>
+    ensures { OnOk result (standings.new.keys ≡ restood before.now row.now standings.old.keys) }
+{
+    if stays(before, row) {
+        return Ok(());
+    }
+    if let Some(old) = before {
+        take_key(standings, &standing_of(old));
+    }
+    if !row.ended {
+        stand(standings, row)?;
+    }
+    Ok(())
+}
