@@ -20,7 +20,7 @@ mod searches;
 mod standing;
 
 use conflicts::{clash_after, still_apart};
-use event_life::{has_period, has_rows, is_live};
+use event_life::is_live;
 use hazard_types::{Clash, Event, Hazard, Line, List, Minute, Oom, Period, Row, Zone};
 pub use standing::Standing;
 pub use laws::{
@@ -31,7 +31,7 @@ pub use laws::{
 use lines::bring_lines;
 use open_events::{of_hazard, open_event};
 use searches::{row_at, slice_of};
-use standing::settle;
+use standing::{has_period, has_rows, settle};
 use std::alloc::{AllocError, Global};
 use std::marker::Model;
 
@@ -131,7 +131,7 @@ impl Board {
     pub fn has(&self, e: Event) -> bool
         ensures { result ≡ has_rows self.now.rows e }
     {
-        has_rows(&self.rows, &e)
+        has_rows(&self.standing, &self.rows, &e)
     }
 
     /// The first row of an event, by zone, ended or not.
@@ -159,7 +159,7 @@ impl Board {
     pub fn same_period(&self, e: Event, p: Period, t: Minute) -> bool
         ensures { result ≡ has_period self.now.rows e p t }
     {
-        has_period(&self.rows, t, &e, &p)
+        has_period(&self.standing, &self.rows, t, &e, &p)
     }
 
     /// The live rows of a zone, by event.
