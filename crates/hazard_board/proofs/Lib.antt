@@ -19,3 +19,4 @@ pub mod LatestLemmas
 pub mod OpenLemmas
 pub mod GoingLemmas
 pub mod SliceLemmas
+pub mod MergeLemmas

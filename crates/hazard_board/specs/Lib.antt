@@ -5,3 +5,4 @@ pub mod Held
 pub mod Taken
 pub mod Standing
 pub mod Seats
+pub mod Merged

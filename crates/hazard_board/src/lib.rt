@@ -20,18 +20,18 @@ mod searches;
 mod standing;
 
 use conflicts::{clash_after, still_apart};
-use event_life::{has_period, has_rows, is_live};
+use event_life::is_live;
 use hazard_types::{Clash, Event, Hazard, Line, List, Minute, Oom, Period, Row, Zone};
+pub use standing::Standing;
 pub use laws::{
     consistent_rows_have_one_open_event, consistent_rows_stay_consistent, lawful_lines_are_taken,
     lines_on_held_numbers_are_taken, no_event_comes_ahead_of_its_year, no_rows_are_consistent,
     products_keep_rows_consistent, read_rows_are_consistent,
 };
-use lines::take_lines;
+use lines::bring_lines;
 use open_events::{of_hazard, open_event};
 use searches::{row_at, slice_of};
-pub use standing::Standing;
-use standing::settle;
+use standing::{has_period, has_rows, settle};
 use std::alloc::{AllocError, Global};
 use std::marker::Model;
 
@@ -40,12 +40,14 @@ use std::marker::Model;
 pub struct Board {
     rows: Vec<Row>,
     standing: Vec<Standing>,
+    // Room for the new rows of a product, until they are merged into the rows.
+    fresh: Vec<Row>,
     // No rows of one zone and family that no line has ended overlap. Then only the zones of a product's lines can come to have a clash.
     apart: bool,
 }
 
 impl Model for Board {
-    ghost use Rattle.std.specs.Prelude.{◌≡◌, ◌-◌, min, true};
+    ghost use Rattle.std.specs.Prelude.{◌≡◌, ◌-◌, [], min, true};
     ghost use Rattle.std.specs.List.Sorted.{IsStrictlySortedBy};
     ghost use Rattle.std.specs.Vec.{vec_len, vec_capacity};
     ghost use Rattle.event_life.specs.Products.{by_key};
@@ -55,9 +57,9 @@ impl Model for Board {
 
     ghost Value = { Posted };
 
-    ghost view = { λ b. record { rows = b.rows.items; spare = min (vec_capacity b.rows - vec_len b.rows) (vec_capacity b.standing - vec_len b.standing) } };
+    ghost view = { λ b. record { rows = b.rows.items; spare = min (vec_capacity b.rows - vec_len b.rows) (min (vec_capacity b.standing - vec_len b.standing) (vec_capacity b.fresh)) } };
 
-    ghost invariant = { λ b. IsStrictlySortedBy by_key b.rows.items × AreStanding b.rows.items b.standing.items × (b.apart ≡ true → AreApart b.rows.items) };
+    ghost invariant = { λ b. IsStrictlySortedBy by_key b.rows.items × AreStanding b.rows.items b.standing.items × (b.apart ≡ true → AreApart b.rows.items) × (b.fresh.items ≡ []) };
 }
 
 /// The live rows among some.
@@ -90,6 +92,7 @@ impl Board {
         Board {
             rows: Vec::new(alloc),
             standing: Vec::new(alloc),
+            fresh: Vec::new(alloc),
             apart: true,
         }
     }
@@ -103,6 +106,7 @@ impl Board {
     {
         self.rows.reserve(n)?;
         self.standing.reserve(n)?;
+        self.fresh.reserve(n)?;
         Ok(())
     }
 
@@ -127,7 +131,7 @@ impl Board {
     pub fn has(&self, e: Event) -> bool
         ensures { result ≡ has_rows self.now.rows e }
     {
-        has_rows(&self.rows, &e)
+        has_rows(&self.standing, &self.rows, &e)
     }
 
     /// The first row of an event, by zone, ended or not.
@@ -155,7 +159,7 @@ impl Board {
     pub fn same_period(&self, e: Event, p: Period, t: Minute) -> bool
         ensures { result ≡ has_period self.now.rows e p t }
     {
-        has_period(&self.rows, t, &e, &p)
+        has_period(&self.standing, &self.rows, t, &e, &p)
     }
 
     /// The live rows of a zone, by event.
@@ -181,7 +185,7 @@ impl Board {
         ensures rows { self.new.rows ≡ rows_after self.old.rows t lines.now }
         ensures spare { self.old.spare ≤ self.new.spare + openings lines.now }
     {
-        match take_lines(&mut self.rows, lines.as_slice(), t) {
+        match bring_lines(&mut self.rows, &mut self.fresh, lines.as_slice(), t) {
             Ok(()) => {}
             Err(_) => unreachable!(),
         }

@@ -1,12 +1,13 @@
 //! The rows that lines leave.
-ghost use Rattle.std.specs.Prelude.{◌≡◌, ◌≤◌, ◌<◌, length, IfOk, OnOk, OnErr};
+ghost use Rattle.std.specs.Prelude.{◌≡◌, ◌≤◌, ◌<◌, ◌+◌, [], ◌∷◌, ◌++◌, length, min, take, drop, option_map, IfOk, OnOk, OnErr};
 ghost use Rattle.std.specs.List.Sorted.{IsStrictlySortedBy};
-ghost use Rattle.std.specs.Vec.{vec_capacity};
-ghost use Rattle.event_life.specs.Products.{by_key, put, life_at};
+ghost use Rattle.std.specs.Vec.{vec_len, vec_capacity};
+ghost use Rattle.event_life.specs.Products.{by_key, put, row_at, life_of};
 ghost use Rattle.hazard_board.specs.Board.{slice_of};
-ghost use Rattle.hazard_board.specs.Taken.{wanted, row_left, put_if, rows_taken, taken_in_turn};
+ghost use Rattle.hazard_board.specs.Merged.{merged, AreParted};
+ghost use Rattle.hazard_board.specs.Taken.{wanted, left_on, row_left, put_if, rows_taken, taken_in_turn};
 
-use crate::searches::{row_at, seat_of, slice_of};
+use crate::searches::{row_at, rows_below, seat_of, slice_of};
 use event_life::{Around, Life, is_routine, life_step, row_of};
 use hazard_types::{Action, Line, Minute, Oom, Row, Zone};
 use std::alloc::Global;
@@ -21,21 +22,6 @@ fn wanted(action: &Action) -> Around
         held: false,
         same: matches!(action, Action::Exa),
         higher: true,
-    }
-}
-
-/// The life of a line's event in its zone.
-fn life_at(rows: &[Row], line: &Line) -> Option<Life>
-    requires { IsStrictlySortedBy by_key rows.now }
-    ensures { result ≡ life_at rows.now line.now }
-{
-    match row_at(rows, &line.event, &line.zone) {
-        Some(row) => Some(Life {
-            period: row.period,
-            flood: row.flood,
-            ended: row.ended,
-        }),
-        None => None,
     }
 }
 
@@ -54,18 +40,39 @@ fn put(rows: &mut Vec<Row>, row: &Row) -> Result<(), Oom>
     Ok(())
 }
 
-/// The row that a line leaves. None for a routine line, and where the life that the line meets does not allow it.
-fn row_left(rows: &[Row], line: &Line, t: Minute) -> Option<Row>
-    requires { IsStrictlySortedBy by_key rows.now }
-    ensures { result ≡ row_left rows.now t line.now }
+/// The life of a row.
+fn life_of(row: &Option<Row>) -> Option<Life>
+    ensures { result ≡ option_map life_of row.now }
+{
+    match row {
+        Some(row) => Some(Life {
+            period: row.period,
+            flood: row.flood,
+            ended: row.ended,
+        }),
+        None => None,
+    }
+}
+
+/// The row that a line leaves of a life. None for a routine line, and where the life does not allow the line.
+fn left_on(life: Option<Life>, line: &Line, t: Minute) -> Option<Row>
+    ensures { result ≡ left_on life t line.now }
 {
     if is_routine(&line.action) {
         return None;
     }
-    match life_step(life_at(rows, line), line, t, wanted(&line.action)) {
+    match life_step(life, line, t, wanted(&line.action)) {
         Ok(life) => Some(row_of(line, &life)),
         Err(_) => None,
     }
+}
+
+/// The row that a line leaves of the life that it meets.
+fn row_left(rows: &[Row], line: &Line, t: Minute) -> Option<Row>
+    requires { IsStrictlySortedBy by_key rows.now }
+    ensures { result ≡ row_left rows.now t line.now }
+{
+    left_on(life_of(&row_at(rows, &line.event, &line.zone)), line, t)
 }
 
 /// Puts a row, if there is one.
@@ -82,17 +89,131 @@ fn put_if(rows: &mut Vec<Row>, row: &Option<Row>) -> Result<(), Oom>
     }
 }
 
-/// Puts the row that each line leaves, where each line meets the rows that the lines before it left.
-pub fn take_lines(rows: &mut Vec<Row>, lines: &[Line], t: Minute) -> Result<(), Oom>
-    requires { IsStrictlySortedBy by_key rows.old.items }
-    ensures ok { OnOk result (rows.new.items ≡ taken_in_turn t rows.old.items lines.now) }
-    ensures capacity { vec_capacity rows.old ≤ vec_capacity rows.new }
-    ensures err { OnErr result (vec_capacity rows.old < length (taken_in_turn t rows.old.items lines.now)) }
+/// The row of a line's event in its zone, among the rows that stood and the new ones.
+fn row_in(rows: &[Row], fresh: &[Row], line: &Line) -> Option<Row>
+    requires { AreParted rows.now fresh.now }
+    ensures { result ≡ row_at (merged rows.now fresh.now) line.now.event line.now.zone }
+{
+    match row_at(rows, &line.event, &line.zone) {
+        Some(row) => Some(row),
+        None => row_at(fresh, &line.event, &line.zone),
+    }
+}
+
+/// Puts a row in the place of the one of its zone and event that stood, or else among the new ones.
+fn seat(rows: &mut Vec<Row>, fresh: &mut Vec<Row>, row: &Row) -> Result<(), Oom>
+    requires { AreParted rows.old.items fresh.old.items }
+    ensures ok { OnOk result (merged rows.new.items fresh.new.items ≡ put row.now (merged rows.old.items fresh.old.items)) }
+    ensures parted { OnOk result (AreParted rows.new.items fresh.new.items) }
+    ensures stood { vec_len rows.new ≡ vec_len rows.old }
+    ensures room { vec_capacity rows.old ≤ vec_capacity rows.new }
+    ensures capacity { vec_capacity fresh.old ≤ vec_capacity fresh.new }
+    ensures err { OnErr result (vec_len rows.old + vec_capacity fresh.old < length (put row.now (merged rows.old.items fresh.old.items))) }
+{
+    match seat_of(rows, row) {
+        Ok(place) => {
+            rows[place] = *row;
+            Ok(())
+        }
+        Err(_) => put(fresh, row),
+    }
+}
+
+/// The row that a line leaves of the life that it meets, among the rows that stood and the new ones.
+fn row_left_in(rows: &[Row], fresh: &[Row], line: &Line, t: Minute) -> Option<Row>
+    requires { AreParted rows.now fresh.now }
+    ensures { result ≡ row_left (merged rows.now fresh.now) t line.now }
+{
+    left_on(life_of(&row_in(rows, fresh, line)), line, t)
+}
+
+/// Seats a row, if there is one.
+fn seat_if(rows: &mut Vec<Row>, fresh: &mut Vec<Row>, row: &Option<Row>) -> Result<(), Oom>
+    requires { AreParted rows.old.items fresh.old.items }
+    ensures ok { OnOk result (merged rows.new.items fresh.new.items ≡ put_if row.now (merged rows.old.items fresh.old.items)) }
+    ensures parted { OnOk result (AreParted rows.new.items fresh.new.items) }
+    ensures stood { vec_len rows.new ≡ vec_len rows.old }
+    ensures room { vec_capacity rows.old ≤ vec_capacity rows.new }
+    ensures capacity { vec_capacity fresh.old ≤ vec_capacity fresh.new }
+    ensures err { OnErr result (vec_len rows.old + vec_capacity fresh.old < length (put_if row.now (merged rows.old.items fresh.old.items))) }
+{
+    match row {
+        Some(row) => seat(rows, fresh, row),
+        None => Ok(()),
+    }
+}
+
+/// Takes the lines, each of which meets the rows that the lines before it left. A new zone of an event gets its row among the new ones.
+fn take_lines(
+    rows: &mut Vec<Row>,
+    fresh: &mut Vec<Row>,
+    lines: &[Line],
+    t: Minute,
+) -> Result<(), Oom>
+    requires { AreParted rows.old.items fresh.old.items }
+    ensures ok { OnOk result (merged rows.new.items fresh.new.items ≡ taken_in_turn t (merged rows.old.items fresh.old.items) lines.now) }
+    ensures parted { OnOk result (AreParted rows.new.items fresh.new.items) }
+    ensures stood { vec_len rows.new ≡ vec_len rows.old }
+    ensures room { vec_capacity rows.old ≤ vec_capacity rows.new }
+    ensures capacity { vec_capacity fresh.old ≤ vec_capacity fresh.new }
+    ensures err { OnErr result (vec_len rows.old + vec_capacity fresh.old < length (taken_in_turn t (merged rows.old.items fresh.old.items) lines.now)) }
 {
     for line in lines {
-        let row = row_left(rows, line, t);
-        put_if(rows, &row)?;
+        let row = row_left_in(rows, fresh, line, t);
+        seat_if(rows, fresh, &row)?;
     }
+    Ok(())
+}
+
+/// Moves the rows from a place on, up to the last that is not yet in its place, by so many places, and puts a row in front of them.
+fn make_room(rows: &mut Vec<Row>, place: usize, front: usize, left: usize, row: &Row)
+    requires order { place ≤ front }
+    requires within { front + left + 1 ≤ vec_len rows.old }
+    ensures front { take place rows.new.items ≡ take place rows.old.items }
+    ensures back { drop (place + left) rows.new.items ≡ row.now ∷ (drop place (take front rows.old.items) ++ drop (front + left + 1) rows.old.items) }
+    ensures len { vec_len rows.new ≡ vec_len rows.old }
+    ensures room { vec_capacity rows.old ≤ vec_capacity rows.new }
+{
+    rows.copy_within(place..front, place + left + 1);
+    rows[place + left] = *row;
+}
+
+/// Merges new rows into the rows, from the last on: each row behind the first new one moves once, and no memory is taken beyond that for the new ones.
+fn merge(rows: &mut Vec<Row>, fresh: &[Row]) -> Result<(), Oom>
+    requires { AreParted rows.old.items fresh.now }
+    ensures ok { OnOk result (rows.new.items ≡ merged rows.old.items fresh.now) }
+    ensures room { vec_capacity rows.old ≤ vec_capacity rows.new }
+    ensures err { OnErr result (vec_capacity rows.old < vec_len rows.old + length fresh.now) }
+{
+    let mut front = rows.len();
+    rows.extend_from_slice(fresh)?;
+    for left in (0..fresh.len()).rev() {
+        let row = &fresh[left];
+        let place = rows_below(&rows[..front], row);
+        make_room(rows, place, front, left, row);
+        front = place;
+    }
+    Ok(())
+}
+
+/// Brings the rows that lines leave among the rows, where each line meets the rows that the lines before it left. `fresh` has room for new rows, and stands empty before and after.
+pub fn bring_lines(
+    rows: &mut Vec<Row>,
+    fresh: &mut Vec<Row>,
+    lines: &[Line],
+    t: Minute,
+) -> Result<(), Oom>
+    requires order { IsStrictlySortedBy by_key rows.old.items }
+    requires empty { fresh.old.items ≡ [] }
+    ensures ok { OnOk result (rows.new.items ≡ taken_in_turn t rows.old.items lines.now) }
+    ensures empty { OnOk result (fresh.new.items ≡ []) }
+    ensures room { vec_capacity rows.old ≤ vec_capacity rows.new }
+    ensures capacity { vec_capacity fresh.old ≤ vec_capacity fresh.new }
+    ensures err { OnErr result (min (vec_capacity rows.old) (vec_len rows.old + vec_capacity fresh.old) < length (taken_in_turn t rows.old.items lines.now)) }
+{
+    take_lines(rows, fresh, lines, t)?;
+    merge(rows, fresh)?;
+    fresh.clear();
     Ok(())
 }
 

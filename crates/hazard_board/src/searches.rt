@@ -1,5 +1,5 @@
 //! Rows and their places in lists that stand in order, by binary search.
-ghost use Rattle.std.specs.Prelude.{◌≡◌, ◌≤◌, length, filter, find};
+ghost use Rattle.std.specs.Prelude.{◌≡◌, ◌≢◌, ◌≤◌, length, filter, find, None, IfOk, IfErr};
 ghost use Rattle.std.specs.List.{prefix_len};
 ghost use Rattle.std.specs.List.Sorted.{IsStrictlySortedBy};
 ghost use Rattle.std.specs.Ordering.{is_lt, is_le};
@@ -93,7 +93,7 @@ fn order(a: &Row, b: &Row) -> Ordering
 }
 
 /// How many of the rows come before this one.
-fn rows_below(rows: &[Row], row: &Row) -> usize
+pub fn rows_below(rows: &[Row], row: &Row) -> usize
     requires { IsStrictlySortedBy by_key rows.now }
     ensures value { result ≡ prefix_len (λ other. is_lt (by_key other row.now)) rows.now }
     ensures bound { result ≤ length rows.now }
@@ -110,6 +110,8 @@ pub fn seat_of(rows: &[Row], row: &Row) -> Result<usize, usize>
     requires { IsStrictlySortedBy by_key rows.now }
     ensures seat { IsSeat result rows.now }
     ensures seated { seated result row.now rows.now ≡ put row.now rows.now }
+    ensures found { IfOk result (λ i. row_at rows.now row.now.event row.now.zone ≢ None) }
+    ensures absent { IfErr result (λ i. row_at rows.now row.now.event row.now.zone ≡ None) }
 {
     let place = rows_below(rows, row);
     if place >= rows.len() {

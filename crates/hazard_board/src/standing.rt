@@ -7,10 +7,12 @@ ghost use Rattle.std.specs.Vec.{vec_len, vec_capacity};
 ghost use Rattle.hazard_types.specs.Orders.{by_event};
 ghost use Rattle.hazard_types.specs.Same.{same_event};
 ghost use Rattle.hazard_types.specs.declared.hazard.Event.{Event as AnyEvent};
-ghost use Rattle.hazard_board.specs.Standing.{later, later_than, stands_for, latest_end, by_standing, end_in, put_standing, without, IsPlaceOf, IsGapFor, touched, touches_anew, newly};
+ghost use Rattle.event_life.specs.Products.{has_rows};
+ghost use Rattle.hazard_board.specs.Board.{has_period};
+ghost use Rattle.hazard_board.specs.Standing.{AreStanding, later, later_than, stands_for, latest_end, by_standing, end_in, put_standing, without, IsPlaceOf, IsGapFor, touched, touches_anew, newly};
 
 use event_life::is_routine;
-use hazard_types::{End, Event, Line, Row};
+use hazard_types::{End, Event, Line, Minute, Period, Row};
 
 /// An event with a row that no line has ended, and the greatest end of its rows that no line has ended. Until further notice is the greatest.
 #[derive(Clone, Copy, Debug, PartialEq, Eq)]
@@ -27,7 +29,13 @@ fn later(a: &End, b: &End) -> End
         End::Ufn => *a,
         End::At(m) => match b {
             End::Ufn => *b,
-            End::At(n) => { if m.get() < n.get() { *b } else { *a } }
+            End::At(n) => {
+                if m.get() < n.get() {
+                    *b
+                } else {
+                    *a
+                }
+            }
         },
     }
 }
@@ -103,11 +111,7 @@ pub fn end_in(standing: &[Standing], e: &Event) -> Option<End>
         return None;
     }
     let found = &standing[place];
-    if found.event == *e {
-        Some(found.latest)
-    } else {
-        None
-    }
+    if found.event == *e { Some(found.latest) } else { None }
 }
 
 /// Puts a standing event into its place.
@@ -164,9 +168,7 @@ fn set_end(standing: &mut Vec<Standing>, e: &Event, latest: &Option<End>)
 fn touched(lines: &[Line], e: &Event) -> bool
     ensures { result ≡ touched lines.now e.now }
 {
-    lines
-        .iter()
-        .any(|line| !is_routine(&line.action) && line.event == *e)
+    lines.iter().any(|line| !is_routine(&line.action) && line.event == *e)
 }
 
 /// Whether the line touches a life, and is the first that does of its event.
@@ -191,4 +193,20 @@ pub fn settle(standing: &mut Vec<Standing>, rows: &[Row], lines: &[Line])
             set_end(standing, &line.event, &latest);
         }
     }
+}
+
+/// Whether the event has a row, ended or not. Only where it does not stand are the rows looked through.
+pub fn has_rows(standing: &[Standing], rows: &[Row], e: &Event) -> bool
+    requires { AreStanding rows.now standing.now }
+    ensures { result ≡ has_rows rows.now e.now }
+{
+    end_in(standing, e).is_some() || event_life::has_rows(rows, e)
+}
+
+/// Whether a live row of the event has the same period. Only where the event stands are the rows looked through.
+pub fn has_period(standing: &[Standing], rows: &[Row], t: Minute, e: &Event, p: &Period) -> bool
+    requires { AreStanding rows.now standing.now }
+    ensures { result ≡ has_period rows.now e.now p.now t }
+{
+    end_in(standing, e).is_some() && event_life::has_period(rows, t, e, p)
 }

@@ -6,4 +6,4 @@ use Rattle.hazard_board.proofs.Board.new.Goals as goal
 
 pub invariant_of-result : goal.invariant_of-result
 unfolding IsStrictlySortedBy
-invariant_of-result c = rw (c.new.ensures.items, c.new-2.ensures.items) (tt, none_standing, (λ is z. refl))
+invariant_of-result c = rw (c.new.ensures.items, c.new-2.ensures.items, c.new-3.ensures.items) (tt, none_standing, (λ is z. refl), refl)

@@ -1,10 +1,15 @@
--- the lines that are left leave what all of them do, memory is kept, and the rows stand in order
+-- the lines that are left leave what all of them do, and memory is kept
 use Rattle.std.proofs.Common.{◌≡◌, ◌≤◌, drop}
-use Rattle.std.specs.List.Sorted.{IsStrictlySortedBy}
-use Rattle.event_life.specs.Products.{by_key}
-use Rattle.std.specs.Vec.{vec_capacity}
+use Rattle.std.specs.Vec.{vec_len, vec_capacity}
+use Rattle.hazard_board.specs.Merged.{merged, AreParted}
 use Rattle.hazard_board.specs.Taken.{taken_in_turn}
 use Rattle.hazard_board.proofs.lines.take_lines.Given as goal
 
 abbrev pub invariant-loop-line : goal.invariant-loop-line
-invariant-loop-line l = (taken_in_turn l.t l.rows.items (drop l.line-index l.lines) ≡ taken_in_turn l.t l.initial.rows.items l.lines) × IsStrictlySortedBy by_key l.rows.items × (vec_capacity l.initial.rows ≤ vec_capacity l.rows)
+invariant-loop-line l = record {
+  turns : taken_in_turn l.t (merged l.rows.items l.fresh.items) (drop l.line-index l.lines) ≡ taken_in_turn l.t (merged l.initial.rows.items l.initial.fresh.items) l.lines;
+  parted : AreParted l.rows.items l.fresh.items;
+  stood : vec_len l.rows ≡ vec_len l.initial.rows;
+  room : vec_capacity l.initial.rows ≤ vec_capacity l.rows;
+  capacity : vec_capacity l.initial.fresh ≤ vec_capacity l.fresh;
+}
