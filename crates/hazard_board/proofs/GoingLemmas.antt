@@ -132,14 +132,19 @@ top_more best x y es (Some m) n top =
     elim top.0 [
       | inl h ↦ inl (held_later x m es h)
       | inr same ↦ (let one = same_one y m same in elim n.from [
-          | inl new ↦ inl (held_first x m es (sym new ∙ one))
-          | inr old ↦ inr (old ∙ ap (λ (e : Event). Some e) one)
-        ])
-    ] in
-    (from, ((λ e h. elim (either_way x e es (same_event x e) refl h) [
-        | inl same ↦ years_up e.year y.year m.year (subst (λ (d : Event). d.year ≤ y.year) same n.above) up
-        | inr later ↦ top.1.0 e later
-      ]), (λ b g. years_up b.year y.year m.year (n.before b g) up)))
+        | inl new ↦ inl (held_first x m es (sym new ∙ one))
+        | inr old ↦ inr (old ∙ ap (λ (e : Event). Some e) one)
+      ])
+    ] in (
+      from,
+      (
+        (λ e h. elim (either_way x e es (same_event x e) refl h) [
+          | inl same ↦ years_up e.year y.year m.year (subst (λ (d : Event). d.year ≤ y.year) same n.above) up
+          | inr later ↦ top.1.0 e later
+        ]),
+        (λ b g. years_up b.year y.year m.year (n.before b g) up),
+      ),
+    )
 
 top_is : (best : Option Event) (es : List Event) → IsTop best es (fold later_event best es)
 top_is best [] = top_none best

@@ -121,7 +121,7 @@ parted_over row rows fresh parted there = record {
   stood = put-sorted row rows parted.stood;
   new = parted.new;
   apart = all_of (λ (r : Row). row_at (put row rows) r.event r.zone ≡ None) fresh (λ r among.
-  row_at-put row rows r.event r.zone ∙ over_apart (at_key r.event r.zone row) row r rows refl there (of_all (λ (r : Row). row_at rows r.event r.zone ≡ None) fresh r parted.apart among));
+      row_at-put row rows r.event r.zone ∙ over_apart (at_key r.event r.zone row) row r rows refl there (of_all (λ (r : Row). row_at rows r.event r.zone ≡ None) fresh r parted.apart among));
 }
 
 none_there : (row : Row) (rows fresh : List Row) (o : Option Row) → row_at fresh row.event row.zone ≡ o → AreParted rows fresh → row_at rows row.event row.zone ≢ None → o ≡ None

@@ -368,17 +368,21 @@ module _ (t : ℕ) where
 
     less_first : (b : Bool) (c d : Clash) → is_lt (by_place d.zone c.zone) ≡ b → at_zone line.zone ≡ Some d → IsFirstIn t after earlier (Some c) → IsFirstIn t after further_lines (if b then Some d else Some c)
     less_first true c d h found first =
-        let own : d.zone ≡ line.zone = zone_of_first line.zone (slice_of line.zone after) d (all_of_zone line.zone after) found in
-        (subst (λ (y : Place). at_zone y ≡ Some d) (sym own) found, (λ z named less. elim (named_now z named) [
-          | inl old ↦ first.1 z old (by_place_total.trans z d.zone c.zone less (is_less (by_place d.zone c.zone) h))
-          | inr same ↦ absurd (itself_not_less d.zone z (own ∙ same) less)
-        ]))
+        let own : d.zone ≡ line.zone = zone_of_first line.zone (slice_of line.zone after) d (all_of_zone line.zone after) found in (
+          subst (λ (y : Place). at_zone y ≡ Some d) (sym own) found,
+          (λ z named less. elim (named_now z named) [
+            | inl old ↦ first.1 z old (by_place_total.trans z d.zone c.zone less (is_less (by_place d.zone c.zone) h))
+            | inr same ↦ absurd (itself_not_less d.zone z (own ∙ same) less)
+          ]),
+        )
     less_first false c d h found first =
-        let own : d.zone ≡ line.zone = zone_of_first line.zone (slice_of line.zone after) d (all_of_zone line.zone after) found in
-        (first.0, (λ z named less. elim (named_now z named) [
-          | inl old ↦ first.1 z old less
-          | inr same ↦ absurd (not_less (by_place d.zone c.zone) d.zone c.zone refl h (subst (λ (y : Place). by_place y c.zone ≡ Less) (sym (own ∙ same)) less))
-        ]))
+        let own : d.zone ≡ line.zone = zone_of_first line.zone (slice_of line.zone after) d (all_of_zone line.zone after) found in (
+          first.0,
+          (λ z named less. elim (named_now z named) [
+            | inl old ↦ first.1 z old less
+            | inr same ↦ absurd (not_less (by_place d.zone c.zone) d.zone c.zone refl h (subst (λ (y : Place). by_place y c.zone ≡ Less) (sym (own ∙ same)) less))
+          ]),
+        )
 
     -- a zone that is new
     pub first_new : (best found : Option Clash) → found ≡ at_zone line.zone → IsFirstIn t after earlier best → IsFirstIn t after further_lines (earlier_clash best found)
@@ -387,15 +391,20 @@ module _ (t : ℕ) where
       | inr same ↦ subst (λ (y : Place). at_zone y ≡ None) same (sym here)
     ]
     first_new None (Some d) here first =
-        let own : d.zone ≡ line.zone = zone_of_first line.zone (slice_of line.zone after) d (all_of_zone line.zone after) (sym here) in
-        (subst (λ (y : Place). at_zone y ≡ Some d) (sym own) (sym here), (λ z named less. elim (named_now z named) [
-          | inl old ↦ first z old
-          | inr same ↦ absurd (itself_not_less d.zone z (own ∙ same) less)
-        ]))
-    first_new (Some c) None here first = (first.0, (λ z named less. elim (named_now z named) [
+        let own : d.zone ≡ line.zone = zone_of_first line.zone (slice_of line.zone after) d (all_of_zone line.zone after) (sym here) in (
+          subst (λ (y : Place). at_zone y ≡ Some d) (sym own) (sym here),
+          (λ z named less. elim (named_now z named) [
+            | inl old ↦ first z old
+            | inr same ↦ absurd (itself_not_less d.zone z (own ∙ same) less)
+          ]),
+        )
+    first_new (Some c) None here first = (
+      first.0,
+      (λ z named less. elim (named_now z named) [
         | inl old ↦ first.1 z old less
         | inr same ↦ subst (λ (y : Place). at_zone y ≡ None) same (sym here)
-      ]))
+      ]),
+    )
     first_new (Some c) (Some d) here first = less_first (is_lt (by_place d.zone c.zone)) c d refl (sym here) first
 
 -- no zone is named by no lines

@@ -10,10 +10,10 @@ ghost use Rattle.hazard_board.specs.Clashes.{clash, clash_of, first_clash, earli
 ghost use Rattle.hazard_board.specs.Consistent.{collide, none_collide, zones_apart, AreApart};
 ghost use Rattle.hazard_board.specs.Taken.{rows_taken};
 
-use event_life::{is_live, overlaps};
-use hazard_types::desk_hazards::facts;
 use crate::lines::{rows_taken, zone_taken};
 use crate::searches::slice_of;
+use event_life::{is_live, overlaps};
+use hazard_types::desk_hazards::facts;
 use hazard_types::{Clash, Hazard, Line, Minute, Oom, Row, Zone};
 use std::alloc::Global;
 
@@ -160,7 +160,13 @@ fn names_zone(z: &Zone, lines: &[Line]) -> bool
 }
 
 /// The first clash in a zone after the lines.
-fn clash_in(alloc: Global, rows: &[Row], lines: &[Line], t: Minute, z: &Zone) -> Result<Option<Clash>, Oom>
+fn clash_in(
+    alloc: Global,
+    rows: &[Row],
+    lines: &[Line],
+    t: Minute,
+    z: &Zone,
+) -> Result<Option<Clash>, Oom>
     requires { IsStrictlySortedBy by_key rows.now }
     ensures { IfOk result (λ found. found ≡ first_clash t (slice_of z.now (rows_taken rows.now t lines.now))) }
 {
@@ -169,7 +175,12 @@ fn clash_in(alloc: Global, rows: &[Row], lines: &[Line], t: Minute, z: &Zone) ->
 }
 
 /// The first clash after the lines, of rows of which none collide before them: only the zones of the lines are looked at.
-fn clash_in_zones(alloc: Global, rows: &[Row], lines: &[Line], t: Minute) -> Result<Option<Clash>, Oom>
+fn clash_in_zones(
+    alloc: Global,
+    rows: &[Row],
+    lines: &[Line],
+    t: Minute,
+) -> Result<Option<Clash>, Oom>
     requires order { IsStrictlySortedBy by_key rows.now }
     requires apart { AreApart rows.now }
     ensures { IfOk result (λ found. found ≡ first_clash t (rows_taken rows.now t lines.now)) }

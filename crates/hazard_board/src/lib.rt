@@ -22,7 +22,6 @@ mod standing;
 use conflicts::{clash_after, still_apart};
 use event_life::is_live;
 use hazard_types::{Clash, Event, Hazard, Line, List, Minute, Oom, Period, Row, Zone};
-pub use standing::Standing;
 pub use laws::{
     consistent_rows_have_one_open_event, consistent_rows_stay_consistent, lawful_lines_are_taken,
     lines_on_held_numbers_are_taken, no_event_comes_ahead_of_its_year, no_rows_are_consistent,
@@ -31,6 +30,7 @@ pub use laws::{
 use lines::bring_lines;
 use open_events::{of_hazard, open_event};
 use searches::{row_at, slice_of};
+pub use standing::Standing;
 use standing::{has_period, has_rows, settle};
 use std::alloc::{AllocError, Global};
 use std::marker::Model;

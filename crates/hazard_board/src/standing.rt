@@ -29,13 +29,7 @@ fn later(a: &End, b: &End) -> End
         End::Ufn => *a,
         End::At(m) => match b {
             End::Ufn => *b,
-            End::At(n) => {
-                if m.get() < n.get() {
-                    *b
-                } else {
-                    *a
-                }
-            }
+            End::At(n) => { if m.get() < n.get() { *b } else { *a } }
         },
     }
 }
@@ -111,7 +105,11 @@ pub fn end_in(standing: &[Standing], e: &Event) -> Option<End>
         return None;
     }
     let found = &standing[place];
-    if found.event == *e { Some(found.latest) } else { None }
+    if found.event == *e {
+        Some(found.latest)
+    } else {
+        None
+    }
 }
 
 /// Puts a standing event into its place.
@@ -168,7 +166,9 @@ fn set_end(standing: &mut Vec<Standing>, e: &Event, latest: &Option<End>)
 fn touched(lines: &[Line], e: &Event) -> bool
     ensures { result ≡ touched lines.now e.now }
 {
-    lines.iter().any(|line| !is_routine(&line.action) && line.event == *e)
+    lines
+        .iter()
+        .any(|line| !is_routine(&line.action) && line.event == *e)
 }
 
 /// Whether the line touches a life, and is the first that does of its event.

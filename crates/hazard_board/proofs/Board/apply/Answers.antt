@@ -60,13 +60,12 @@ invariant_of-self c =
     ∙ ap (λ (some : List Row). cond (touched lines e) (latest_end some e) (end_in c.self.inside.standing.items e)) c.deref.ensures.value
     ∙ kept_or_set c.args.t e rows lines c.bring_lines.new.rows.items c.self.inside.standing.items turns (c.self.invariant.1.latest e) in
     let still : zones_apart c.deref-2.result.now c.as_slice-3.result.now ≡ zones_apart c.bring_lines.new.rows.items lines =
-    ap (λ (some : List Row). zones_apart some c.as_slice-3.result.now) c.deref-2.ensures.value ∙ ap (zones_apart c.bring_lines.new.rows.items) c.as_slice-3.ensures in
-    (
+    ap (λ (some : List Row). zones_apart some c.as_slice-3.result.now) c.deref-2.ensures.value ∙ ap (zones_apart c.bring_lines.new.rows.items) c.as_slice-3.ensures in (
       ordered (goal.at.invariant_of-self c).After-bring_lines c.in-Ok.ensures.ok,
       record { order = c.settle.ensures.order; latest = ends },
       (λ is.
-        let both = and_parts c.self.inside.apart _ (sym c.still_apart-self-inside.ensures ∙ is) in
-        apart_after c.args.t rows c.bring_lines.new.rows.items lines turns (c.self.invariant.2 both.0) (sym still ∙ both.1)),
+          let both = and_parts c.self.inside.apart _ (sym c.still_apart-self-inside.ensures ∙ is) in
+          apart_after c.args.t rows c.bring_lines.new.rows.items lines turns (c.self.invariant.2 both.0) (sym still ∙ both.1)),
       c.in-Ok.ensures.empty,
     )
 

@@ -38,7 +38,7 @@ loop-left-preserved c =
       low = omega (arith, below, c.loop-left.invariant.low);
       count = omega (arith, c.loop-left.invariant.count, c.make_room.ensures.len);
       whole = merge_turn rows fresh now c.make_room.new.rows.items (merged rows fresh) was left place c.index-fresh-left.result c.requires within c.index-fresh-left.is c.loop-left.invariant.fronts placed below c.make_room.ensures.back
-      (subst (λ (n : ℕ). merged (take was rows) (take n fresh) ++ drop (was + n) now ≡ merged rows fresh) (sym next) c.loop-left.invariant.whole);
+          (subst (λ (n : ℕ). merged (take was rows) (take n fresh) ++ drop (was + n) now ≡ merged rows fresh) (sym next) c.loop-left.invariant.whole);
       room = omega (arith, c.loop-left.invariant.room, c.make_room.ensures.room);
     }
 
