@@ -14,5 +14,5 @@ mod tests;
 
 pub use faults::{AdoptFault, AppendFault, CreateFault};
 pub use journal::Journal;
-pub use laws::read_in_one_way;
+pub use laws::{a_crash_leaves_the_bodies, read_in_one_way};
 pub use packet::Packet;

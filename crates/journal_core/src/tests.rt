@@ -134,6 +134,33 @@ fn a_failing_call_is_made_good(rt: HostRuntime) -> Result<(), Fail> {
 }
 
 #[test]
+fn a_failing_repair_is_made_good(rt: HostRuntime) -> Result<(), Fail> {
+    let alloc = rt.alloc();
+    // the first append fails at the sync of its gate, the second as it closes that gate again
+    let failing = [12, 13];
+    let failed = run(alloc, &failing, None, 0, 2)?;
+    assert!(rt; failed.last == Some(AppendFault::DiskFault));
+    let again = run(alloc, &failing, None, 0, 3)?;
+    assert!(rt; again.last.is_none());
+    let wanted = run(alloc, NONE, None, 0, 1)?;
+    assert_eq!(rt; again.disk.file().as_slice(), wanted.disk.file().as_slice());
+    Ok(())
+}
+
+#[test]
+fn a_body_above_a_mebibyte_is_adopted(rt: HostRuntime) -> Result<(), Fail> {
+    let alloc = rt.alloc();
+    let mut file = Vec::new(alloc);
+    // 1,100,000 is 0x10c8e0
+    file.extend_from_slice(b"G\0\x10\xc8\xe0")?;
+    file.resize(1_100_005, b'x')?;
+    file.push(b'.')?;
+    let found = bodies_in(alloc, file.as_slice())?;
+    assert!(rt; found == Ok(1));
+    Ok(())
+}
+
+#[test]
 fn a_stopped_making_is_fresh_whole_or_unopened(rt: HostRuntime) -> Result<(), Fail> {
     let alloc = rt.alloc();
     let fresh = Err(AdoptFault::Fresh);
