@@ -73,8 +73,7 @@ fn short_of(alloc: Global, a: Abbreviation, shown: u32) -> Result<Text, Oom>
     Ok(text)
 }
 
-/// The local line of a minute, as `1030 AM EST Wed Jan 3 2018`. It has the zone's daylight abbreviation exactly where
-/// jiff's zone of the rule text has that offset in the minute (`offsets_are_jiffs`, `rules_are_read`).
+/// The local line of a minute, as `1030 AM EST Wed Jan 3 2018`.
 #[tactic(auto, unfolding(crate::specs::LocalText::local_line_of, crate::specs::LocalText::line_of))]
 pub fn local_line(alloc: Global, z: LocalZone, m: Minute) -> Result<Text, Oom>
     ensures { IfOk result (λ text. text ≡ local_line_of z m) }
@@ -93,7 +92,7 @@ pub fn local_line(alloc: Global, z: LocalZone, m: Minute) -> Result<Text, Oom>
     Ok(text)
 }
 
-/// The local line of a minute without its year, as `1030 AM EST Wed Jan 3`. The abbreviation is chosen as in `local_line`.
+/// The local line of a minute without its year, as `1030 AM EST Wed Jan 3`.
 #[tactic(auto, unfolding(crate::specs::LocalText::local_short_of))]
 pub fn local_short(alloc: Global, z: LocalZone, m: Minute) -> Result<Text, Oom>
     ensures { IfOk result (λ text. text ≡ local_short_of z m) }

@@ -1,9 +1,6 @@
 //! The zones of offices: their rules, and the abbreviation of a minute.
-ghost use Rattle.std.specs.Prelude.{◌≡◌, ◌<◌, ℕ, ℤ, List, IsSome};
-ghost use Rattle.jiff.specs.Placed.{IsPosixZone};
+ghost use Rattle.std.specs.Prelude.{◌≡◌, ◌<◌, ℕ, IsSome};
 ghost use Rattle.jiff_tz.specs.PosixReader.{read_whole};
-ghost use Rattle.jiff_tz.specs.Zone.{offset_at as offset_in};
-ghost use Rattle.jiff_tz.specs.declared.timezone.TimeZone.{TimeZone as JiffZone};
 ghost use Rattle.desk_clock.specs.Rules.{text_offset};
 ghost use Rattle.desk_clock.specs.Zones.{rule_text, standard, daylight, offset_of, abbreviation_at};
 ghost use Rattle.hazard_types.specs.declared.codes.LocalZone.{LocalZone as Zone};
@@ -94,9 +91,4 @@ pub fn abbreviation_at(zone: LocalZone, m: Minute) -> Abbreviation
 /// The text of each zone is a rule, so no offset is one of a text that can't be read.
 pub fn rules_are_read()
     ensures { (z : Zone) → IsSome (read_whole (rule_text z)) }
-{}
-
-/// Where jiff reads a rule text as a zone, that zone's offset at an instant, in nanoseconds from 1970 on, is the text's by the definition.
-pub fn offsets_are_jiffs()
-    ensures { (text : List ℕ) (zone : JiffZone) (instant : ℤ) → IsPosixZone text zone → offset_in zone instant ≡ text_offset text instant }
 {}
