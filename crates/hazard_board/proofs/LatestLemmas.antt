@@ -1,7 +1,7 @@
 -- The greatest ends of events after lines, and how many events come to stand by them.
-use Rattle.std.proofs.Common.{◌≡◌, ◌≢◌, ◌∙◌, ◌||◌, ◌&&◌, not, ℕ, ◌+◌, ◌≤◌, List, [], ◌∷◌, ◌++◌, Bool, true, false, Option, Some, None, Result, Ok, Err, Ordering, Less, Equal, Greater, is_some, is_none, refl, sym, ap, subst, cond, count_by, fold, option_map, if◌then◌else◌, nat_le, arith}
-use Rattle.std.specs.List.{AllByRecursion, list_any}
-use Rattle.std.proofs.lemmas.Bool.{and_parts, false_from_ne_true, not-true}
+use Rattle.std.proofs.Common.{◌≡◌, ◌∙◌, ◌||◌, ◌&&◌, not, ℕ, ◌≤◌, List, [], ◌∷◌, ◌++◌, Bool, true, false, Option, Some, None, Result, Ok, Err, Ordering, Less, Equal, Greater, is_none, refl, sym, ap, cond, fold, option_map, if◌then◌else◌, nat_le, arith}
+use Rattle.std.specs.List.{AllByRecursion}
+use Rattle.std.proofs.lemmas.Bool.{and_parts, not-true}
 use Rattle.std.proofs.lemmas.List.Sums.{sum_by-cons}
 use Rattle.event_life.proofs.LivesLemmas.{find-passes}
 use Rattle.hazard_types.specs.Places.{Place}
@@ -12,25 +12,23 @@ use Rattle.hazard_types.specs.declared.hazard.Event.{Event}
 use Rattle.hazard_types.specs.declared.line.Line.{Line}
 use Rattle.hazard_types.specs.declared.line.Row.{Row}
 use Rattle.hazard_types.specs.declared.period.End.{End}
-use Rattle.hazard_types.specs.declared.period.Period.{Period}
-use Rattle.hazard_types.proofs.Equality.{event_one, event_itself}
 use Rattle.event_life.specs.declared.life.Around.{Around}
 use Rattle.event_life.specs.declared.life.Breach.{Breach}
 use Rattle.event_life.specs.declared.life.Life.{Life}
 use Rattle.event_life.specs.Lives.{opens}
-use Rattle.event_life.specs.Products.{by_key, placed, put, row_at, has_rows, life_at, life_of, row_of, is_routine, is_second, around_of, breach_in}
+use Rattle.event_life.specs.Products.{by_key, placed, put, row_at, life_at, life_of, row_of, is_routine, around_of, breach_in}
 use Rattle.event_life.specs.Reordered.{are_lawful}
 use Rattle.event_life.specs.declared.life.Breach.TheVariants.{ZeroBegin, BegunMoved, NoLength, PeriodMoved, PeriodSame, NotLive, TooEarly, TooLate, NoHigher}
-use Rattle.event_life.specs.Periods.{ends_after, same_end, same_at}
+use Rattle.event_life.specs.Periods.{ends_after, same_end}
 use Rattle.event_life.specs.Table.{first_of, on_life, on_continuing, on_ending, continued_period, stays, prints_past, prints_later, prints_begin, moves_begin, cancels_late, expires_early, expires_late, breach_of_line, step}
 use Rattle.event_life.proofs.Keys.{key_exact}
-use Rattle.event_life.proofs.Puts.{at_key, at_key-parts}
-use Rattle.hazard_board.specs.Board.{openings, has_period}
+use Rattle.event_life.proofs.Puts.{at_key}
+use Rattle.hazard_board.specs.Board.{openings}
 use Rattle.hazard_board.specs.Standing.{later_than, stands_for, latest_end, end_in, touched, newly}
 use Rattle.hazard_board.specs.Taken.{wanted, row_if, row_left, put_if, taken_in_turn}
 use Rattle.hazard_board.specs.declared.standing.Standing.{Standing}
 use Rattle.hazard_board.proofs.Alone.{none_first, meets_life}
-use Rattle.hazard_board.proofs.Among.{IsAmong, of_all, found_among}
+use Rattle.hazard_board.proofs.Among.{of_all, found_among}
 use Rattle.hazard_board.proofs.Turns.{lawful_parts, have_none}
 
 abbrev longer : Event → Option End → Row → Option End
@@ -188,39 +186,3 @@ either_end false same = same refl
 pub kept_or_set : (t : ℕ) (e : Event) (rows : List Row) (lines : List Line) (after : List Row) (standing : List Standing) → after ≡ taken_in_turn t rows lines → end_in standing e ≡ latest_end rows e →
     cond (touched lines e) (latest_end after e) (end_in standing e) ≡ latest_end after e
 kept_or_set t e rows lines after standing turns same = either_end (touched lines e) (λ h. same ∙ sym (latest_untouched t e rows lines h) ∙ ap (λ (some : List Row). latest_end some e) (sym turns))
-
--- an event that stands has rows, and one with a live row stands
-
-unseen : (e : Event) (rows : List Row) (best : Option End) → has_rows rows e ≡ false → fold (longer e) best rows ≡ best
-unseen e [] best h = refl
-unseen e (r ∷ rows) best h =
-    let p = either_false (same_event r.event e) (has_rows rows e) h in
-    ap (λ (b : Option End). fold (longer e) b rows) (skipped e best r p.0) ∙ unseen e rows best p.1
-
-or_known : (a b : Bool) → (b ≡ false → a ≡ false) → (a || b) ≡ b
-or_known true true h = refl
-or_known true false h = h refl
-or_known false b h = refl
-
-pub stands_or_has : (e : Event) (rows : List Row) (standing : List Standing) → end_in standing e ≡ latest_end rows e → (is_some (end_in standing e) || has_rows rows e) ≡ has_rows rows e
-stands_or_has e rows standing same = or_known (is_some (end_in standing e)) (has_rows rows e) (λ h. ap is_some (same ∙ unseen e rows None h))
-
-and_known : (a b : Bool) → (a ≡ false → b ≡ false) → (a && b) ≡ b
-and_known true b h = refl
-and_known false b h = sym (h refl)
-
-no_period : (same ended later here : Bool) → (same && not ended) ≡ false → (same && (not ended && later) && here) ≡ false
-no_period true true later here h = refl
-no_period true false later here h = cc
-no_period false ended later here h = refl
-
-none_live : (e : Event) (p : Period) (t : ℕ) (rows : List Row) → AllByRecursion (λ r. stands_for e r ≡ false) rows → has_period rows e p t ≡ false
-none_live e p t [] all = refl
-none_live e p t (r ∷ rows) all = rw (no_period (same_event r.event e) r.ended (ends_after r.period.end t) (same_at t r.period p) all.0) (none_live e p t rows all.1)
-
-gone_end : (o : Option End) → is_some o ≡ false → o ≡ None
-gone_end None h = refl
-gone_end (Some x) h = cc
-
-pub stands_and_has : (e : Event) (p : Period) (t : ℕ) (rows : List Row) (standing : List Standing) → end_in standing e ≡ latest_end rows e → (is_some (end_in standing e) && has_period rows e p t) ≡ has_period rows e p t
-stands_and_has e p t rows standing same = and_known (is_some (end_in standing e)) (has_period rows e p t) (λ h. none_live e p t rows (none_so_far e rows None (sym same ∙ gone_end (end_in standing e) h)).1)

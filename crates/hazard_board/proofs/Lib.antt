@@ -20,3 +20,5 @@ pub mod OpenLemmas
 pub mod GoingLemmas
 pub mod SliceLemmas
 pub mod MergeLemmas
+pub mod SpotLemmas
+pub mod EventRows

@@ -1,5 +1,5 @@
 -- Rows in two parts that stand in order, with no zone and event in both: what they are once merged.
-use Rattle.std.proofs.Common.{◌≡◌, ◌≢◌, ◌∙◌, ◌&&◌, ℕ, zero, suc, ◌+◌, ◌<◌, ◌≤◌, List, [], ◌∷◌, ◌++◌, Bool, true, false, Option, Some, None, Ordering, Less, Equal, Greater, refl, sym, ap, subst, cond, fold, find, is_eq, length, take, drop, get_or, arith, ◌-◌, one-add, take-append-drop, take-take, append_assoc, length-append, length-take-le, slice_set, drop_at}
+use Rattle.std.proofs.Common.{◌≡◌, ◌≢◌, ◌∙◌, ℕ, zero, suc, ◌+◌, ◌<◌, ◌≤◌, List, [], ◌∷◌, ◌++◌, Bool, true, false, Option, Some, None, Ordering, Less, Equal, Greater, refl, sym, ap, subst, cond, find, length, take, drop, get_or, arith, ◌-◌, one-add, take-append-drop, take-take, append_assoc, length-append, length-take-le, slice_set, drop_at}
 use Rattle.std.specs.List.{AllByRecursion}
 use Rattle.std.specs.List.Sorted.{IsStrictlySortedBy}
 use Rattle.std.specs.Option.{option_or}
@@ -153,7 +153,7 @@ fresh_step Greater row r rows h none more =
     let rest = more (none_behind (at_key row.event row.zone r) row r rows refl none) in
     omega (arith, rest)
 
-fresh_longer : (row : Row) (rows : List Row) → row_at rows row.event row.zone ≡ None → length (put row rows) ≡ length rows + 1
+pub fresh_longer : (row : Row) (rows : List Row) → row_at rows row.event row.zone ≡ None → length (put row rows) ≡ length rows + 1
 fresh_longer row [] none = omega arith
 fresh_longer row (r ∷ rows) none = fresh_step (by_key row r) row r rows refl none (fresh_longer row rows)
 

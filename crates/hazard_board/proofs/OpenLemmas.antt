@@ -1,12 +1,12 @@
 -- Standing events by hazard and number.
-use Rattle.std.proofs.Common.{◌≡◌, ◌≢◌, ◌∙◌, ◌==◌, ℕ, zero, suc, List, [], ◌∷◌, Bool, true, false, Ordering, Less, Equal, Greater, refl, sym, ap, subst, cond, filter, take, drop, is_eq, arith}
+use Rattle.std.proofs.Common.{◌≡◌, ◌≢◌, ◌∙◌, ◌==◌, ℕ, zero, suc, List, [], ◌∷◌, Bool, true, false, Ordering, Less, Equal, Greater, refl, sym, ap, cond, take, drop, is_eq, arith}
 use Rattle.std.specs.List.{AllByRecursion}
 use Rattle.std.specs.List.Sorted.{IsStrictlySortedBy}
 use Rattle.std.specs.Ordering.{nat_cmp, ordering_then}
 use Rattle.std.proofs.lemmas.Bool.Decides.{nat_tests}
 use Rattle.std.proofs.lemmas.Cmp.{nat_cmp_total, tied_itself}
 use Rattle.std.proofs.lemmas.List.Elements.{filter_agree}
-use Rattle.hazard_types.specs.Orders.{by_hazard, by_event}
+use Rattle.hazard_types.specs.Orders.{by_hazard}
 use Rattle.hazard_types.specs.Same.{same_hazard}
 use Rattle.hazard_types.specs.declared.hazard.Hazard.{Hazard}
 use Rattle.hazard_types.proofs.Equality.{hazard_one, hazard_itself}
@@ -45,7 +45,7 @@ number_run etn standing up =
     ∙ filter_agree (λ s. is_eq (nat_cmp s.event.etn etn)) (λ s. s.event.etn == etn) (λ s. number_tied s.event.etn etn) standing
 
 -- what is left of a list in order is in order
-left_sorted : {X : Type 0} (R : X → X → Ordering) (xs : List X) (i : ℕ) → IsStrictlySortedBy R xs → IsStrictlySortedBy R (drop i xs)
+pub left_sorted : {X : Type 0} (R : X → X → Ordering) (xs : List X) (i : ℕ) → IsStrictlySortedBy R xs → IsStrictlySortedBy R (drop i xs)
 unfolding IsStrictlySortedBy
 left_sorted R xs zero up = up
 left_sorted R [] (suc i) up = tt

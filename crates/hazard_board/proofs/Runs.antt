@@ -1,5 +1,5 @@
 -- Lists whose items rise against a key: the items at the key are a run, and the first of them is found at its front.
-use Rattle.std.proofs.Common.{◌≡◌, ◌≢◌, ◌∙◌, ℕ, suc, zero, ◌+◌, ◌-◌, ◌<◌, ◌≤◌, List, [], ◌∷◌, Bool, true, false, Option, Some, None, Ordering, Less, Equal, Greater, refl, sym, ap, cond, length, get_or, take, drop, insert, remove, slice_set, filter, find, is_eq, is_lt, is_le, arith, one-add}
+use Rattle.std.proofs.Common.{◌≡◌, ◌≢◌, ◌∙◌, ℕ, suc, zero, ◌+◌, ◌<◌, ◌≤◌, List, [], ◌∷◌, Bool, true, false, Some, None, Ordering, Less, Equal, Greater, refl, sym, ap, length, get_or, take, drop, insert, remove, slice_set, filter, find, is_eq, is_lt, is_le, arith, one-add}
 use Rattle.std.specs.List.{AllByRecursion, prefix_len}
 use Rattle.std.specs.List.Sorted.{IsStrictlySortedBy, IsPartitionedBy}
 use Rattle.std.specs.Ordering.{ordering_reverse}

@@ -1,6 +1,5 @@
 -- Events that lines touch, line by line.
-use Rattle.std.proofs.Common.{◌≡◌, ◌∙◌, ◌||◌, ◌&&◌, not, ℕ, ◌+◌, ◌<◌, ◌≤◌, List, [], ◌∷◌, ◌++◌, Bool, true, false, Option, Some, None, is_none, refl, sym, ap, subst, cond, count_by, length, get_or, take, drop, take-append-drop, if◌then◌else◌, arith}
-use Rattle.std.specs.List.{list_any}
+use Rattle.std.proofs.Common.{◌≡◌, ◌∙◌, ◌||◌, ◌&&◌, not, ℕ, ◌+◌, ◌<◌, ◌≤◌, List, [], ◌∷◌, ◌++◌, Bool, true, false, Option, None, is_none, refl, sym, ap, cond, count_by, length, get_or, take, drop, take-append-drop, arith}
 use Rattle.std.proofs.lemmas.Bool.{and_parts, not-true}
 use Rattle.std.proofs.lemmas.List.{take_more}
 use Rattle.std.proofs.lemmas.List.Folds.{list_any-append}
@@ -10,7 +9,7 @@ use Rattle.hazard_types.specs.declared.hazard.Event.{Event}
 use Rattle.hazard_types.specs.declared.line.Line.{Line}
 use Rattle.hazard_types.specs.declared.line.Row.{Row}
 use Rattle.hazard_types.specs.declared.period.End.{End}
-use Rattle.hazard_types.proofs.Equality.{event_one, event_itself}
+use Rattle.hazard_types.proofs.Equality.{event_one}
 use Rattle.event_life.specs.Products.{is_routine}
 use Rattle.hazard_board.specs.Standing.{latest_end, end_in, touched, touches_anew, newly}
 use Rattle.hazard_board.specs.declared.standing.Standing.{Standing}

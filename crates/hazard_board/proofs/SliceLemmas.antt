@@ -1,6 +1,6 @@
 -- Rows and clashes zone by zone.
-use Rattle.std.proofs.Common.{◌≡◌, ◌≢◌, ◌⊎◌, inl, inr, ◌∙◌, ◌&&◌, ◌||◌, not, ℕ, ◌+◌, ◌<◌, List, [], ◌∷◌, ◌++◌, Bool, true, false, Option, Some, None, Result, Ok, Err, Ordering, Less, Equal, Greater, refl, sym, ap, subst, cond, fold, filter, find, is_lt, length, get_or, take, option_map, if◌then◌else◌, arith}
-use Rattle.std.specs.List.{AllByRecursion, list_any, list_all}
+use Rattle.std.proofs.Common.{◌≡◌, ◌≢◌, ◌⊎◌, inl, inr, ◌∙◌, ◌&&◌, ◌||◌, not, ℕ, ◌+◌, ◌<◌, List, [], ◌∷◌, ◌++◌, Bool, true, false, Option, Some, None, Result, Ok, Err, Ordering, Less, Equal, Greater, refl, sym, ap, subst, cond, fold, find, is_lt, length, get_or, take, option_map, if◌then◌else◌}
+use Rattle.std.specs.List.{AllByRecursion, list_any}
 use Rattle.std.specs.List.Sorted.{IsStrictlySortedBy}
 use Rattle.std.specs.Option.{option_or}
 use Rattle.std.specs.Ordering.{ordering_reverse}
@@ -21,7 +21,7 @@ use Rattle.event_life.specs.declared.life.Breach.{Breach}
 use Rattle.event_life.specs.declared.life.Life.{Life}
 use Rattle.event_life.specs.Table.{step}
 use Rattle.event_life.specs.Products.{by_key, placed, put, row_of, life_at, is_routine}
-use Rattle.event_life.proofs.Puts.{all_above, put-sorted}
+use Rattle.event_life.proofs.Puts.{all_above}
 use Rattle.event_life.proofs.Keys.{key_exact}
 use Rattle.hazard_board.specs.Board.{slice_of}
 use Rattle.hazard_board.specs.Clashes.{clash, clash_of, first_clash, names_zone, earlier_clash}

@@ -9,9 +9,9 @@ use Rattle.hazard_types.specs.Orders.{by_event}
 use Rattle.hazard_types.specs.Same.{same_event}
 use Rattle.hazard_types.specs.declared.hazard.Event.{Event}
 use Rattle.hazard_types.specs.declared.period.End.{End}
-use Rattle.hazard_types.proofs.Equality.{event_one, event_itself}
+use Rattle.hazard_types.proofs.Equality.{event_one}
 use Rattle.hazard_types.proofs.OrderLaws.{by_event_total, by_event_ties}
-use Rattle.hazard_board.specs.Seats.{placed_at, put_at, left_at, left_out}
+use Rattle.hazard_board.specs.Seats.{placed_at, put_at, left_at}
 use Rattle.hazard_board.specs.Standing.{by_standing, end_in, against, put_standing, without, IsPlaceOf, IsGapFor, AreStanding}
 use Rattle.hazard_board.specs.declared.standing.Standing.{Standing}
 use Rattle.hazard_board.proofs.Runs.{Rises, front, rises, found_there, not_there, inserted, replaced, removed, stays, keeps_put, keeps_left, default_free}
@@ -174,13 +174,6 @@ pub left_in_order : (e : Event) (standing : List Standing) → IsStrictlySortedB
 unfolding IsStrictlySortedBy
 left_in_order e [] up = tt
 left_in_order e (x ∷ standing) up = left_order_step (by_event x.event e) e x standing up (left_in_order e standing up.1)
-
--- the end that is found for an event
-pub end_behind : (e : Event) (standing : List Standing) (i : ℕ) → i ≡ front (against e) standing → IsStrictlySortedBy by_standing standing → i ≤ length standing → length standing ≤ i → end_in standing e ≡ None
-end_behind e standing i place up within past = (gap_behind e standing i place up within past).found
-
-pub end_before : (e : Event) (standing : List Standing) (i : ℕ) → i ≡ front (against e) standing → IsStrictlySortedBy by_standing standing → (s : Standing) → i < length standing → s ≡ get_or standing i s → same_event s.event e ≡ false → end_in standing e ≡ None
-end_before e standing i place up s within is other = (gap_before e standing i place up s within is other).found
 
 -- of no rows none stands
 pub none_standing : AreStanding [] []

@@ -4,5 +4,6 @@ pub mod Consistent
 pub mod Held
 pub mod Taken
 pub mod Standing
+pub mod Spots
 pub mod Seats
 pub mod Merged

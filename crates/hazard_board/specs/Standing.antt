@@ -35,6 +35,14 @@ stands_for e r = same_event r.event e && not r.ended
 abbrev pub latest_end : List Row → Event → Option End
 latest_end rows e = fold (λ (best : Option End) (r : Row). if stands_for e r then Some (later_than best r.period.end) else best) None rows
 
+-- the greatest end so far, with that of a further row
+abbrev pub latest_with : Event → Option End → Row → Option End
+latest_with e best r = if stands_for e r then Some (later_than best r.period.end) else best
+
+abbrev pub latest_with_if : Event → Option End → Option Row → Option End
+latest_with_if e best None = best
+latest_with_if e best (Some r) = latest_with e best r
+
 -- by phenomenon, letter, number, year of the event
 abbrev pub by_standing : Standing → Standing → Ordering
 by_standing = on (λ (s : Standing). s.event) by_event

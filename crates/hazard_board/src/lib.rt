@@ -17,6 +17,7 @@ mod laws;
 mod lines;
 mod open_events;
 mod searches;
+mod spots;
 mod standing;
 
 use conflicts::{clash_after, still_apart};
@@ -30,8 +31,9 @@ pub use laws::{
 use lines::bring_lines;
 use open_events::{of_hazard, open_event};
 use searches::{row_at, slice_of};
+use spots::{Spot, first_row, has_period};
 pub use standing::Standing;
-use standing::{has_period, has_rows, settle};
+use standing::settle;
 use std::alloc::{AllocError, Global};
 use std::marker::Model;
 
@@ -40,6 +42,8 @@ use std::marker::Model;
 pub struct Board {
     rows: Vec<Row>,
     standing: Vec<Standing>,
+    // Where the events have rows, ended ones among them: the event and zone of each row, by event.
+    spots: Vec<Spot>,
     // Room for the new rows of a product, until they are merged into the rows.
     fresh: Vec<Row>,
     // No rows of one zone and family that no line has ended overlap. Then only the zones of a product's lines can come to have a clash.
@@ -53,13 +57,14 @@ impl Model for Board {
     ghost use Rattle.event_life.specs.Products.{by_key};
     ghost use Rattle.hazard_board.specs.Board.{Posted};
     ghost use Rattle.hazard_board.specs.Consistent.{AreApart};
+    ghost use Rattle.hazard_board.specs.Spots.{AreSpots};
     ghost use Rattle.hazard_board.specs.Standing.{AreStanding};
 
     ghost Value = { Posted };
 
-    ghost view = { λ b. record { rows = b.rows.items; spare = min (vec_capacity b.rows - vec_len b.rows) (min (vec_capacity b.standing - vec_len b.standing) (vec_capacity b.fresh)) } };
+    ghost view = { λ b. record { rows = b.rows.items; spare = min (vec_capacity b.rows - vec_len b.rows) (min (vec_capacity b.standing - vec_len b.standing) (min (vec_capacity b.spots - vec_len b.spots) (vec_capacity b.fresh))) } };
 
-    ghost invariant = { λ b. IsStrictlySortedBy by_key b.rows.items × AreStanding b.rows.items b.standing.items × (b.apart ≡ true → AreApart b.rows.items) × (b.fresh.items ≡ []) };
+    ghost invariant = { λ b. IsStrictlySortedBy by_key b.rows.items × AreStanding b.rows.items b.standing.items × (b.apart ≡ true → AreApart b.rows.items) × (b.fresh.items ≡ []) × AreSpots b.rows.items b.spots.items };
 }
 
 /// The live rows among some.
@@ -72,18 +77,6 @@ fn live(alloc: Global, rows: &[Row], t: Minute) -> Result<Vec<Row>, AllocError>
         .collect(alloc)
 }
 
-/// The first row of an event.
-fn first_row(rows: &[Row], event: &Event) -> Option<Row>
-    ensures { result ≡ find (λ r. same_event r.event event.now) rows.now }
-{
-    for row in rows {
-        if row.event == *event {
-            return Some(*row);
-        }
-    }
-    None
-}
-
 impl Board {
     /// No row stands, and there is no memory for any.
     pub fn new(alloc: Global) -> Self
@@ -92,6 +85,7 @@ impl Board {
         Board {
             rows: Vec::new(alloc),
             standing: Vec::new(alloc),
+            spots: Vec::new(alloc),
             fresh: Vec::new(alloc),
             apart: true,
         }
@@ -106,6 +100,7 @@ impl Board {
     {
         self.rows.reserve(n)?;
         self.standing.reserve(n)?;
+        self.spots.reserve(n)?;
         self.fresh.reserve(n)?;
         Ok(())
     }
@@ -131,14 +126,14 @@ impl Board {
     pub fn has(&self, e: Event) -> bool
         ensures { result ≡ has_rows self.now.rows e }
     {
-        has_rows(&self.standing, &self.rows, &e)
+        first_row(&self.rows, &self.spots, &e).is_some()
     }
 
     /// The first row of an event, by zone, ended or not.
     pub fn first(&self, e: Event) -> Option<Row>
         ensures { result ≡ find (λ r. same_event r.event e) self.now.rows }
     {
-        first_row(&self.rows, &e)
+        first_row(&self.rows, &self.spots, &e)
     }
 
     /// The open event of a hazard and number, of the greatest year where there are several.
@@ -159,7 +154,7 @@ impl Board {
     pub fn same_period(&self, e: Event, p: Period, t: Minute) -> bool
         ensures { result ≡ has_period self.now.rows e p t }
     {
-        has_period(&self.standing, &self.rows, t, &e, &p)
+        has_period(&self.rows, &self.spots, t, &e, &p)
     }
 
     /// The live rows of a zone, by event.
@@ -185,11 +180,22 @@ impl Board {
         ensures rows { self.new.rows ≡ rows_after self.old.rows t lines.now }
         ensures spare { self.old.spare ≤ self.new.spare + openings lines.now }
     {
-        match bring_lines(&mut self.rows, &mut self.fresh, lines.as_slice(), t) {
+        match bring_lines(
+            &mut self.rows,
+            &mut self.fresh,
+            &mut self.spots,
+            lines.as_slice(),
+            t,
+        ) {
             Ok(()) => {}
             Err(_) => unreachable!(),
         }
-        settle(&mut self.standing, &self.rows, lines.as_slice());
+        settle(
+            &mut self.standing,
+            &self.rows,
+            &self.spots,
+            lines.as_slice(),
+        );
         self.apart = still_apart(self.apart, &self.rows, lines.as_slice());
     }
 

@@ -5,9 +5,11 @@ ghost use Rattle.std.specs.Vec.{vec_len, vec_capacity};
 ghost use Rattle.event_life.specs.Products.{by_key, put, row_at, life_of};
 ghost use Rattle.hazard_board.specs.Board.{slice_of};
 ghost use Rattle.hazard_board.specs.Merged.{merged, AreParted};
+ghost use Rattle.hazard_board.specs.Spots.{AreSpots};
 ghost use Rattle.hazard_board.specs.Taken.{wanted, left_on, row_left, put_if, rows_taken, taken_in_turn};
 
 use crate::searches::{row_at, rows_below, seat_of, slice_of};
+use crate::spots::{Spot, put_spot_if};
 use event_life::{Around, Life, is_routine, life_step, row_of};
 use hazard_types::{Action, Line, Minute, Oom, Row, Zone};
 use std::alloc::Global;
@@ -143,23 +145,28 @@ fn seat_if(rows: &mut Vec<Row>, fresh: &mut Vec<Row>, row: &Option<Row>) -> Resu
     }
 }
 
-/// Takes the lines, each of which meets the rows that the lines before it left. A new zone of an event gets its row among the new ones.
+/// Takes the lines, each of which meets the rows that the lines before it left. A new zone of an event gets its row among the new ones, and its spot.
 fn take_lines(
     rows: &mut Vec<Row>,
     fresh: &mut Vec<Row>,
+    spots: &mut Vec<Spot>,
     lines: &[Line],
     t: Minute,
 ) -> Result<(), Oom>
-    requires { AreParted rows.old.items fresh.old.items }
+    requires parted { AreParted rows.old.items fresh.old.items }
+    requires spots { AreSpots (merged rows.old.items fresh.old.items) spots.old.items }
     ensures ok { OnOk result (merged rows.new.items fresh.new.items ≡ taken_in_turn t (merged rows.old.items fresh.old.items) lines.now) }
     ensures parted { OnOk result (AreParted rows.new.items fresh.new.items) }
+    ensures spots { OnOk result (AreSpots (merged rows.new.items fresh.new.items) spots.new.items) }
     ensures stood { vec_len rows.new ≡ vec_len rows.old }
     ensures room { vec_capacity rows.old ≤ vec_capacity rows.new }
     ensures capacity { vec_capacity fresh.old ≤ vec_capacity fresh.new }
-    ensures err { OnErr result (vec_len rows.old + vec_capacity fresh.old < length (taken_in_turn t (merged rows.old.items fresh.old.items) lines.now)) }
+    ensures places { vec_capacity spots.old ≤ vec_capacity spots.new }
+    ensures err { OnErr result (min (vec_len rows.old + vec_capacity fresh.old) (vec_capacity spots.old) < length (taken_in_turn t (merged rows.old.items fresh.old.items) lines.now)) }
 {
     for line in lines {
         let row = row_left_in(rows, fresh, line, t);
+        put_spot_if(spots, &row)?;
         seat_if(rows, fresh, &row)?;
     }
     Ok(())
@@ -200,18 +207,22 @@ fn merge(rows: &mut Vec<Row>, fresh: &[Row]) -> Result<(), Oom>
 pub fn bring_lines(
     rows: &mut Vec<Row>,
     fresh: &mut Vec<Row>,
+    spots: &mut Vec<Spot>,
     lines: &[Line],
     t: Minute,
 ) -> Result<(), Oom>
     requires order { IsStrictlySortedBy by_key rows.old.items }
     requires empty { fresh.old.items ≡ [] }
+    requires spots { AreSpots rows.old.items spots.old.items }
     ensures ok { OnOk result (rows.new.items ≡ taken_in_turn t rows.old.items lines.now) }
     ensures empty { OnOk result (fresh.new.items ≡ []) }
+    ensures spots { OnOk result (AreSpots rows.new.items spots.new.items) }
     ensures room { vec_capacity rows.old ≤ vec_capacity rows.new }
     ensures capacity { vec_capacity fresh.old ≤ vec_capacity fresh.new }
-    ensures err { OnErr result (min (vec_capacity rows.old) (vec_len rows.old + vec_capacity fresh.old) < length (taken_in_turn t rows.old.items lines.now)) }
+    ensures places { vec_capacity spots.old ≤ vec_capacity spots.new }
+    ensures err { OnErr result (min (vec_capacity rows.old) (min (vec_len rows.old + vec_capacity fresh.old) (vec_capacity spots.old)) < length (taken_in_turn t rows.old.items lines.now)) }
 {
-    take_lines(rows, fresh, lines, t)?;
+    take_lines(rows, fresh, spots, lines, t)?;
     merge(rows, fresh)?;
     fresh.clear();
     Ok(())

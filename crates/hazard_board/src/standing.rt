@@ -1,5 +1,5 @@
 //! The events that stand: those with a row that no line has ended.
-ghost use Rattle.std.specs.Prelude.{◌≡◌, ◌≤◌, ◌<◌, ◌+◌, not, ◌&&◌, length, Some, None, is_none, IfOk, IfErr, IsSome, if◌then◌else◌};
+ghost use Rattle.std.specs.Prelude.{◌≡◌, ◌≤◌, ◌<◌, ◌+◌, not, ◌&&◌, fold, length, Some, None, is_none, IfOk, IfErr, IsSome, if◌then◌else◌};
 ghost use Rattle.std.specs.List.{prefix_len};
 ghost use Rattle.std.specs.List.Sorted.{IsStrictlySortedBy};
 ghost use Rattle.std.specs.Ordering.{is_lt};
@@ -7,12 +7,14 @@ ghost use Rattle.std.specs.Vec.{vec_len, vec_capacity};
 ghost use Rattle.hazard_types.specs.Orders.{by_event};
 ghost use Rattle.hazard_types.specs.Same.{same_event};
 ghost use Rattle.hazard_types.specs.declared.hazard.Event.{Event as AnyEvent};
-ghost use Rattle.event_life.specs.Products.{has_rows};
-ghost use Rattle.hazard_board.specs.Board.{has_period};
-ghost use Rattle.hazard_board.specs.Standing.{AreStanding, later, later_than, stands_for, latest_end, by_standing, end_in, put_standing, without, IsPlaceOf, IsGapFor, touched, touches_anew, newly};
+ghost use Rattle.event_life.specs.Products.{by_key};
+ghost use Rattle.hazard_board.specs.Spots.{rows_on, AreSpots};
+ghost use Rattle.hazard_board.specs.Standing.{later, later_than, stands_for, latest_with, latest_with_if, latest_end, by_standing, end_in, put_standing, without, IsPlaceOf, IsGapFor, touched, touches_anew, newly};
 
+use crate::searches::row_at;
+use crate::spots::{Spot, spots_of};
 use event_life::is_routine;
-use hazard_types::{End, Event, Line, Minute, Period, Row};
+use hazard_types::{End, Event, Line, Row};
 
 /// An event with a row that no line has ended, and the greatest end of its rows that no line has ended. Until further notice is the greatest.
 #[derive(Clone, Copy, Debug, PartialEq, Eq)]
@@ -51,17 +53,42 @@ fn stands_for(event: &Event, row: &Row) -> bool
     row.event == *event && !row.ended
 }
 
-/// The greatest end of the rows of an event that no line has ended.
-pub fn latest_end(rows: &[Row], event: &Event) -> Option<End>
-    ensures { result ≡ latest_end rows.now event.now }
+/// The greatest end so far, with that of a further row, if there is one.
+fn latest_with(event: &Event, best: &Option<End>, row: &Option<Row>) -> Option<End>
+    ensures { result ≡ latest_with_if event.now best.now row.now }
+{
+    match row {
+        Some(row) => {
+            if stands_for(event, row) {
+                Some(later_than(best, &row.period.end))
+            } else {
+                *best
+            }
+        }
+        None => *best,
+    }
+}
+
+/// The greatest end of the rows at the spots, of those of the event that no line has ended.
+fn latest_on(rows: &[Row], spots: &[Spot], event: &Event) -> Option<End>
+    requires { IsStrictlySortedBy by_key rows.now }
+    ensures { result ≡ fold (latest_with event.now) None (rows_on rows.now spots.now) }
 {
     let mut best = None;
-    for row in rows {
-        if stands_for(event, row) {
-            best = Some(later_than(&best, &row.period.end));
-        }
+    for spot in spots {
+        let row = row_at(rows, &spot.event, &spot.zone);
+        best = latest_with(event, &best, &row);
     }
     best
+}
+
+/// The greatest end of the rows of an event that no line has ended. Only its own rows are looked at.
+fn latest_end(rows: &[Row], spots: &[Spot], event: &Event) -> Option<End>
+    requires order { IsStrictlySortedBy by_key rows.now }
+    requires spots { AreSpots rows.now spots.now }
+    ensures { result ≡ latest_end rows.now event.now }
+{
+    latest_on(rows, spots_of(spots, event), event)
 }
 
 /// How many of the standing events come before this one.
@@ -92,23 +119,6 @@ fn place_of(standing: &[Standing], e: &Event) -> Result<usize, usize>
         Ok(place)
     } else {
         Err(place)
-    }
-}
-
-/// The end that the list has for an event.
-pub fn end_in(standing: &[Standing], e: &Event) -> Option<End>
-    requires { IsStrictlySortedBy by_standing standing.now }
-    ensures { result ≡ end_in standing.now e.now }
-{
-    let place = events_before(standing, e);
-    if place >= standing.len() {
-        return None;
-    }
-    let found = &standing[place];
-    if found.event == *e {
-        Some(found.latest)
-    } else {
-        None
     }
 }
 
@@ -179,7 +189,9 @@ fn touches_anew(earlier: &[Line], line: &Line) -> bool
 }
 
 /// Sets the ends of the events of the lines as the rows have them.
-pub fn settle(standing: &mut Vec<Standing>, rows: &[Row], lines: &[Line])
+pub fn settle(standing: &mut Vec<Standing>, rows: &[Row], spots: &[Spot], lines: &[Line])
+    requires rows { IsStrictlySortedBy by_key rows.now }
+    requires spots { AreSpots rows.now spots.now }
     requires order { IsStrictlySortedBy by_standing standing.old.items }
     requires room { vec_len standing.old + newly standing.old.items lines.now ≤ vec_capacity standing.old }
     ensures order { IsStrictlySortedBy by_standing standing.new.items }
@@ -189,24 +201,8 @@ pub fn settle(standing: &mut Vec<Standing>, rows: &[Row], lines: &[Line])
 {
     for (place, line) in lines.iter().enumerate() {
         if touches_anew(&lines[..place], line) {
-            let latest = latest_end(rows, &line.event);
+            let latest = latest_end(rows, spots, &line.event);
             set_end(standing, &line.event, &latest);
         }
     }
-}
-
-/// Whether the event has a row, ended or not. Only where it does not stand are the rows looked through.
-pub fn has_rows(standing: &[Standing], rows: &[Row], e: &Event) -> bool
-    requires { AreStanding rows.now standing.now }
-    ensures { result ≡ has_rows rows.now e.now }
-{
-    end_in(standing, e).is_some() || event_life::has_rows(rows, e)
-}
-
-/// Whether a live row of the event has the same period. Only where the event stands are the rows looked through.
-pub fn has_period(standing: &[Standing], rows: &[Row], t: Minute, e: &Event, p: &Period) -> bool
-    requires { AreStanding rows.now standing.now }
-    ensures { result ≡ has_period rows.now e.now p.now t }
-{
-    end_in(standing, e).is_some() && event_life::has_period(rows, t, e, p)
 }

@@ -32,13 +32,16 @@ unreachable-requires c =
     let long = grown (goal.at.unreachable-requires c).After-bring_lines in
     let full = c.in-Err.ensures.err in
     let spare = ap (λ (p : Posted). p.spare) c.self.view_is in
-    omega (arith, long, full, spare, c.requires.spare, c.self.inside.rows.ok.0, c.self.inside.rows.ok.1)
+    omega (arith, long, full, spare, c.requires.spare, c.self.invariant.4.count, c.self.inside.rows.ok.0, c.self.inside.rows.ok.1, c.self.inside.spots.ok.0)
 
 ordered : (c : After-bring_lines) → c.bring_lines.new.rows.items ≡ taken_in_turn c.args.t c.self.inside.rows.items c.as_slice.result.now → IsStrictlySortedBy by_key c.bring_lines.new.rows.items
 ordered c is = rw (is ∙ turned c) (rows_after-sorted c.self.inside.rows.items c.args.t c.args.lines.now c.self.invariant.0)
 
 come : (c : After-bring_lines) → newly c.self.inside.standing.items c.args.lines.now ≤ openings c.args.lines.now
 come c = few_come c.self.inside.rows.items c.args.t c.args.lines.now c.self.inside.standing.items c.self.invariant.1.latest (lawful c)
+
+pub settle-requires-clause-rows : goal.settle-requires-clause-rows
+settle-requires-clause-rows c = rw (c.deref.ensures.value) (ordered (goal.at.settle-requires-clause-rows c).After-bring_lines c.in-Ok.ensures.ok)
 
 pub settle-requires-clause-room : goal.settle-requires-clause-room
 settle-requires-clause-room c =
@@ -47,7 +50,7 @@ settle-requires-clause-room c =
     rw (c.as_slice-2.ensures) (omega (arith, few, spare, c.requires.spare, c.self.inside.standing.ok.0, c.self.inside.standing.ok.1))
 
 pub still_apart-self-inside-requires : goal.still_apart-self-inside-requires
-still_apart-self-inside-requires c = rw (c.deref-2.ensures.value) (ordered (goal.at.still_apart-self-inside-requires c).After-bring_lines c.in-Ok.ensures.ok)
+still_apart-self-inside-requires c = rw (c.deref-3.ensures.value) (ordered (goal.at.still_apart-self-inside-requires c).After-bring_lines c.in-Ok.ensures.ok)
 
 pub invariant_of-self : goal.invariant_of-self
 invariant_of-self c =
@@ -59,14 +62,15 @@ invariant_of-self c =
     ∙ ap (λ (some : List Line). cond (touched some e) (latest_end c.deref.result.now e) (end_in c.self.inside.standing.items e)) c.as_slice-2.ensures
     ∙ ap (λ (some : List Row). cond (touched lines e) (latest_end some e) (end_in c.self.inside.standing.items e)) c.deref.ensures.value
     ∙ kept_or_set c.args.t e rows lines c.bring_lines.new.rows.items c.self.inside.standing.items turns (c.self.invariant.1.latest e) in
-    let still : zones_apart c.deref-2.result.now c.as_slice-3.result.now ≡ zones_apart c.bring_lines.new.rows.items lines =
-    ap (λ (some : List Row). zones_apart some c.as_slice-3.result.now) c.deref-2.ensures.value ∙ ap (zones_apart c.bring_lines.new.rows.items) c.as_slice-3.ensures in (
+    let still : zones_apart c.deref-3.result.now c.as_slice-3.result.now ≡ zones_apart c.bring_lines.new.rows.items lines =
+    ap (λ (some : List Row). zones_apart some c.as_slice-3.result.now) c.deref-3.ensures.value ∙ ap (zones_apart c.bring_lines.new.rows.items) c.as_slice-3.ensures in (
       ordered (goal.at.invariant_of-self c).After-bring_lines c.in-Ok.ensures.ok,
       record { order = c.settle.ensures.order; latest = ends },
       (λ is.
           let both = and_parts c.self.inside.apart _ (sym c.still_apart-self-inside.ensures ∙ is) in
           apart_after c.args.t rows c.bring_lines.new.rows.items lines turns (c.self.invariant.2 both.0) (sym still ∙ both.1)),
       c.in-Ok.ensures.empty,
+      c.in-Ok.ensures.spots,
     )
 
 pub returns-clause-rows : goal.returns-clause-rows
@@ -78,5 +82,6 @@ returns-clause-spare c =
     let few = come (goal.at.returns-clause-spare c).After-bring_lines in
     let items = ap length c.in-Ok.ensures.ok in
     let spare = ap (λ (p : Posted). p.spare) c.self.view_is in
+    let count = c.in-Ok.ensures.spots.count in
     let counted = ap (newly c.self.inside.standing.items) c.as_slice-2.ensures in
-    omega (arith, long, few, items, spare, counted, c.in-Ok.ensures.capacity, c.settle.ensures.capacity, c.settle.ensures.length, c.self.inside.rows.ok.0, c.bring_lines.new.rows.ok.0)
+    omega (arith, long, few, items, spare, count, counted, c.self.invariant.4.count, c.in-Ok.ensures.places, c.in-Ok.ensures.capacity, c.settle.ensures.capacity, c.settle.ensures.length, c.self.inside.rows.ok.0, c.bring_lines.new.rows.ok.0)

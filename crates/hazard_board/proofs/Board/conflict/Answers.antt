@@ -4,7 +4,7 @@ use Rattle.hazard_types.specs.declared.line.Clash.{Clash}
 use Rattle.hazard_types.specs.declared.line.Line.{Line}
 use Rattle.hazard_types.specs.declared.line.Row.{Row}
 use Rattle.hazard_board.specs.Board.{Posted}
-use Rattle.hazard_board.specs.Clashes.{first_clash, least_clash}
+use Rattle.hazard_board.specs.Clashes.{first_clash}
 use Rattle.hazard_board.specs.Taken.{rows_taken}
 use Rattle.hazard_board.proofs.ClashLemmas.{first_is_least, clashes_sorted}
 use Rattle.hazard_board.proofs.Turns.{rows_taken-sorted}

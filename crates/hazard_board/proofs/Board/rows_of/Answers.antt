@@ -1,5 +1,5 @@
 -- The live rows among those of one zone, which stand by event.
-use Rattle.std.proofs.Common.{◌≡◌, ◌∙◌, List, ap, sym, filter}
+use Rattle.std.proofs.Common.{◌≡◌, ◌∙◌, List, ap, filter}
 use Rattle.hazard_types.specs.declared.line.Row.{Row}
 use Rattle.event_life.specs.Periods.{is_live}
 use Rattle.hazard_board.specs.Board.{Posted, slice_of, live_in}

@@ -1,7 +1,6 @@
 -- Those of one hazard among all that stand.
-use Rattle.std.proofs.Common.{◌∙◌, List, ap, subst}
-use Rattle.hazard_board.specs.Board.{Posted}
-use Rattle.hazard_board.specs.Standing.{of_hazard, AreStandingOf}
+use Rattle.std.proofs.Common.{◌∙◌, List, ap}
+use Rattle.hazard_board.specs.Standing.{of_hazard}
 use Rattle.hazard_board.specs.declared.standing.Standing.{Standing}
 use Rattle.hazard_board.proofs.GoingLemmas.{standing_of}
 use Rattle.hazard_board.proofs.Board.standing.Goals as goal

@@ -1,9 +1,6 @@
 -- Each zone gives its first clash, and the earliest zone with one decides.
-use Rattle.std.proofs.Common.{◌≡◌, ◌∙◌, ◌+◌, ℕ, length, drop, take_all, Option, List, ap, sym, subst, true, false, take, arith}
-use Rattle.std.proofs.lemmas.Bool.{not-true}
-use Rattle.hazard_types.specs.declared.line.Clash.{Clash}
+use Rattle.std.proofs.Common.{◌∙◌, ◌+◌, take_all, List, sym, subst, take}
 use Rattle.hazard_types.specs.declared.line.Line.{Line}
-use Rattle.hazard_board.specs.Clashes.{names_zone}
 use Rattle.hazard_board.specs.Taken.{rows_taken}
 use Rattle.hazard_board.proofs.Turns.{rows_taken-sorted}
 use Rattle.hazard_board.proofs.SliceLemmas.{IsFirstIn, first_still, first_new, first_in_all, quiet_elsewhere}

@@ -1,8 +1,8 @@
 -- Without new rows the parts are the rows; merged, they are what the lines leave.
-use Rattle.std.proofs.Common.{◌≡◌, ◌∙◌, Result, Ok, Err, OnErr, List, length, ap, sym, arith}
+use Rattle.std.proofs.Common.{◌∙◌, Result, Ok, Err, OnErr, List, length, ap, arith}
 use Rattle.std.specs.List.Sorted.{IsStrictlySortedBy}
 use Rattle.hazard_types.specs.declared.line.Row.{Row}
-use Rattle.hazard_board.specs.Merged.{merged, AreParted}
+use Rattle.hazard_board.specs.Merged.{merged}
 use Rattle.hazard_board.specs.Taken.{taken_in_turn}
 use Rattle.hazard_board.proofs.MergeLemmas.{merged_length}
 use Rattle.hazard_board.proofs.lines.bring_lines.Goals as goal
@@ -11,9 +11,12 @@ on_err : {A E : Type 0} (r : Result A E) (P : Type 0) → P → OnErr r P
 on_err (Ok x) P p = tt
 on_err (Err e) P p = p
 
-pub take_lines-requires : goal.take_lines-requires
+pub take_lines-requires-clause-parted : goal.take_lines-requires-clause-parted
 unfolding IsStrictlySortedBy
-take_lines-requires c = rw (c.requires.empty) (record { stood = c.requires.order; new = tt; apart = tt })
+take_lines-requires-clause-parted c = rw (c.requires.empty) (record { stood = c.requires.order; new = tt; apart = tt })
+
+pub take_lines-requires-clause-spots : goal.take_lines-requires-clause-spots
+take_lines-requires-clause-spots c = rw (c.requires.empty) c.requires.spots
 
 pub returns-in_err-merge-clause-err : goal.returns-in_err-merge-clause-err
 returns-in_err-merge-clause-err c =

@@ -1,6 +1,5 @@
 -- From the last of the new rows on, each turn puts one in its place.
 use Rattle.std.proofs.Common.{◌≡◌, ◌∙◌, ◌+◌, ◌-◌, ◌++◌, ◌<◌, ◌≤◌, ℕ, List, length, length-take-le, take, drop, take-take, ap, sym, subst, arith}
-use Rattle.std.specs.List.Sorted.{IsStrictlySortedBy}
 use Rattle.hazard_types.specs.declared.line.Row.{Row}
 use Rattle.event_life.specs.Products.{by_key}
 use Rattle.hazard_board.specs.Merged.{merged}

@@ -1,5 +1,5 @@
 -- A row that stood is looked for first: it is none of the new ones.
-use Rattle.std.proofs.Common.{◌≡◌, ◌∙◌, List, Some, None, ap, sym}
+use Rattle.std.proofs.Common.{◌∙◌, ap, sym}
 use Rattle.std.specs.Option.{option_or}
 use Rattle.event_life.specs.Products.{row_at}
 use Rattle.hazard_board.proofs.MergeLemmas.{found_stood_first}

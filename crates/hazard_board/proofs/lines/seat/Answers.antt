@@ -1,5 +1,5 @@
 -- A row takes the place of one that stood, or stands among the new ones.
-use Rattle.std.proofs.Common.{◌≡◌, ◌≢◌, ◌∙◌, ◌+◌, ◌<◌, List, Result, Ok, Err, OnOk, OnErr, None, length, slice_set, ap, sym, subst, arith}
+use Rattle.std.proofs.Common.{◌≡◌, ◌≢◌, ◌∙◌, List, Result, Ok, Err, OnOk, OnErr, None, length, slice_set, ap, sym, subst, arith}
 use Rattle.hazard_types.specs.declared.line.Row.{Row}
 use Rattle.event_life.specs.Products.{put, row_at}
 use Rattle.hazard_board.specs.Merged.{merged, AreParted}

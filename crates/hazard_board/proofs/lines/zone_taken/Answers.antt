@@ -1,8 +1,6 @@
 -- Before the first line the zone's rows are there.
 use Rattle.std.proofs.Common.{◌≡◌, ◌∙◌, List, ap}
-use Rattle.std.specs.List.Sorted.{IsStrictlySortedBy}
 use Rattle.hazard_types.specs.declared.line.Row.{Row}
-use Rattle.event_life.specs.Products.{by_key}
 use Rattle.hazard_board.specs.Board.{slice_of}
 use Rattle.hazard_board.proofs.SliceLemmas.{taken_in, taken_slice, slice_in_order}
 use Rattle.hazard_board.proofs.lines.zone_taken.Goals as goal

@@ -1,8 +1,6 @@
 -- The row of an event is the first that is not of an event before it, if any.
 use Rattle.std.proofs.Common.{◌∙◌, sym, arith}
-use Rattle.std.proofs.lemmas.Bool.{not-true}
 use Rattle.hazard_types.specs.Orders.{by_event}
-use Rattle.hazard_types.specs.Same.{same_event}
 use Rattle.hazard_types.specs.declared.line.Row.{Row}
 use Rattle.hazard_types.proofs.OrderLaws.{by_event_total}
 use Rattle.hazard_board.specs.Board.{by_row_event}

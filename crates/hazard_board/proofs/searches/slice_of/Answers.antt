@@ -1,9 +1,7 @@
 -- The rows of a zone stand between those of zones before it and those behind it, by event.
-use Rattle.std.proofs.Common.{◌≡◌, ◌∙◌, ℕ, ◌-◌, List, ap, sym, subst, length, take, drop, take_all, arith, length-drop}
-use Rattle.std.specs.List.Sorted.{IsStrictlySortedBy}
+use Rattle.std.proofs.Common.{◌≡◌, ℕ, ◌-◌, List, length, take, drop, take_all, arith, length-drop}
 use Rattle.hazard_types.specs.declared.line.Row.{Row}
-use Rattle.event_life.specs.Products.{by_key}
-use Rattle.hazard_board.specs.Board.{slice_of, by_row_event}
+use Rattle.hazard_board.specs.Board.{slice_of}
 use Rattle.hazard_board.proofs.ZoneLemmas.{sorted_left}
 use Rattle.hazard_board.proofs.Places.{zone_run, zone_in_order}
 use Rattle.hazard_board.proofs.searches.slice_of.Goals as goal

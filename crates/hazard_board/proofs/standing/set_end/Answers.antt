@@ -1,8 +1,4 @@
 -- An end that is put or left out is that of its event alone.
-use Rattle.std.proofs.Common.{◌≡◌, ◌∙◌, Option, ap, sym, cond}
-use Rattle.hazard_types.specs.Same.{same_event}
-use Rattle.hazard_types.specs.declared.period.End.{End}
-use Rattle.hazard_board.specs.Standing.{end_in}
 use Rattle.hazard_board.proofs.StandingLemmas.{end_put, end_left, put_in_order, left_in_order}
 use Rattle.hazard_board.proofs.standing.set_end.Goals as goal
 

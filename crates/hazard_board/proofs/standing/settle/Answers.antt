@@ -1,5 +1,5 @@
 -- The first line of an event sets its end, and no other line does.
-use Rattle.std.proofs.Common.{◌≡◌, ◌∙◌, Option, ap, sym, cond, arith}
+use Rattle.std.proofs.Common.{◌∙◌, Option, ap, sym, cond, arith}
 use Rattle.hazard_types.specs.Same.{same_event}
 use Rattle.hazard_types.specs.declared.period.End.{End}
 use Rattle.hazard_board.specs.Standing.{end_in}

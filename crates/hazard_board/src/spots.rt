@@ -1,0 +1,193 @@
+//! The spots of the rows: the event and zone of each, by which the rows of one event are found without the others.
+ghost use Rattle.std.specs.Prelude.{◌≡◌, ◌≤◌, ◌<◌, length, filter, find, IfOk, OnOk, OnErr};
+ghost use Rattle.std.specs.List.{prefix_len, list_any};
+ghost use Rattle.std.specs.List.Sorted.{IsStrictlySortedBy};
+ghost use Rattle.std.specs.Ordering.{is_lt, is_le};
+ghost use Rattle.std.specs.Vec.{vec_capacity};
+ghost use Rattle.hazard_types.specs.Same.{same_event};
+ghost use Rattle.event_life.specs.Products.{by_key};
+ghost use Rattle.hazard_board.specs.Board.{has_period};
+ghost use Rattle.hazard_board.specs.Spots.{by_year, by_spot, spots_of, put_spot, put_spot_if, spot_seated, IsSpotSeat, first_of, rows_on, has_same, has_same_if, AreSpots};
+
+use crate::searches::row_at;
+use event_life::{is_live, same_at};
+use hazard_types::{Event, Minute, Oom, Period, Row, Zone};
+use std::cmp::Ordering;
+
+/// The event and zone of a row.
+#[derive(Clone, Copy, Debug, PartialEq, Eq)]
+pub struct Spot {
+    pub event: Event,
+    pub zone: Zone,
+}
+
+/// How two events stand in the order by year, then hazard and number.
+fn order_by_year(a: &Event, b: &Event) -> Ordering
+    ensures { result ≡ by_year a.now b.now }
+{
+    a.year.cmp(&b.year).then(a.order(b))
+}
+
+/// How two spots stand in the order by event, then zone.
+fn order(a: &Spot, b: &Spot) -> Ordering
+    ensures { result ≡ by_spot a.now b.now }
+{
+    order_by_year(&a.event, &b.event).then(a.zone.cmp(&b.zone))
+}
+
+/// How many of the spots come before this one.
+fn spots_below(spots: &[Spot], spot: &Spot) -> usize
+    requires { IsStrictlySortedBy by_spot spots.now }
+    ensures value { result ≡ prefix_len (λ other. is_lt (by_spot other spot.now)) spots.now }
+    ensures bound { result ≤ length spots.now }
+{
+    spots.partition_point(
+        |other: &Spot| -> bool
+            ensures { result ≡ is_lt (by_spot other.now spot.entry.now) }
+        { order(other, spot).is_lt() },
+    )
+}
+
+/// The place of the spot, or else the place where it belongs.
+fn seat_of(spots: &[Spot], spot: &Spot) -> Result<usize, usize>
+    requires { IsStrictlySortedBy by_spot spots.now }
+    ensures seat { IsSpotSeat result spots.now }
+    ensures seated { spot_seated result spot.now spots.now ≡ put_spot spot.now spots.now }
+{
+    let place = spots_below(spots, spot);
+    if place >= spots.len() {
+        return Err(place);
+    }
+    let found = &spots[place];
+    if order(found, spot).is_eq() {
+        Ok(place)
+    } else {
+        Err(place)
+    }
+}
+
+/// Puts a spot into its place, if it is not there. Memory is wanted only where the spots outgrow their capacity.
+fn put(spots: &mut Vec<Spot>, spot: &Spot) -> Result<(), Oom>
+    requires { IsStrictlySortedBy by_spot spots.old.items }
+    ensures ok { OnOk result (spots.new.items ≡ put_spot spot.now spots.old.items) }
+    ensures capacity { vec_capacity spots.old ≤ vec_capacity spots.new }
+    ensures err { OnErr result (vec_capacity spots.old < length (put_spot spot.now spots.old.items)) }
+{
+    match seat_of(spots, spot) {
+        Ok(place) => spots[place] = *spot,
+        Err(place) => spots.insert(place, *spot)?,
+    }
+    Ok(())
+}
+
+/// Puts the spot of a row into its place, if there is a row.
+pub fn put_spot_if(spots: &mut Vec<Spot>, row: &Option<Row>) -> Result<(), Oom>
+    requires { IsStrictlySortedBy by_spot spots.old.items }
+    ensures ok { OnOk result (spots.new.items ≡ put_spot_if row.now spots.old.items) }
+    ensures capacity { vec_capacity spots.old ≤ vec_capacity spots.new }
+    ensures err { OnErr result (vec_capacity spots.old < length (put_spot_if row.now spots.old.items)) }
+{
+    match row {
+        Some(row) => put(
+            spots,
+            &Spot {
+                event: row.event,
+                zone: row.zone,
+            },
+        ),
+        None => Ok(()),
+    }
+}
+
+/// How many of the spots are of events before this one.
+fn events_before(spots: &[Spot], e: &Event) -> usize
+    requires { IsStrictlySortedBy by_spot spots.now }
+    ensures value { result ≡ prefix_len (λ s. is_lt (by_year s.event e.now)) spots.now }
+    ensures bound { result ≤ length spots.now }
+{
+    spots.partition_point(
+        |s: &Spot| -> bool
+            ensures { result ≡ is_lt (by_year s.now.event e.entry.now) }
+        { order_by_year(&s.event, e).is_lt() },
+    )
+}
+
+/// How many of the spots are of this event or of events before it.
+fn events_through(spots: &[Spot], e: &Event) -> usize
+    requires { IsStrictlySortedBy by_spot spots.now }
+    ensures value { result ≡ prefix_len (λ s. is_le (by_year s.event e.now)) spots.now }
+    ensures bound { result ≤ length spots.now }
+{
+    spots.partition_point(
+        |s: &Spot| -> bool
+            ensures { result ≡ is_le (by_year s.now.event e.entry.now) }
+        { order_by_year(&s.event, e).is_le() },
+    )
+}
+
+/// The spots of an event, by zone.
+pub fn spots_of<'a>(spots: &'a [Spot], e: &Event) -> &'a [Spot]
+    requires { IsStrictlySortedBy by_spot spots.now }
+    ensures { result.now ≡ spots_of e.now spots.now }
+{
+    let start = events_before(spots, e);
+    let rest = &spots[start..];
+    let count = events_through(rest, e);
+    &rest[..count]
+}
+
+/// The first row at the spots.
+fn first_on(rows: &[Row], spots: &[Spot]) -> Option<Row>
+    requires { IsStrictlySortedBy by_key rows.now }
+    ensures { result ≡ first_of (rows_on rows.now spots.now) }
+{
+    for spot in spots {
+        let row = row_at(rows, &spot.event, &spot.zone);
+        if row.is_some() {
+            return row;
+        }
+    }
+    None
+}
+
+/// The first row of an event, by zone. Only its own rows are looked at.
+pub fn first_row(rows: &[Row], spots: &[Spot], e: &Event) -> Option<Row>
+    requires order { IsStrictlySortedBy by_key rows.now }
+    requires spots { AreSpots rows.now spots.now }
+    ensures { result ≡ find (λ r. same_event r.event e.now) rows.now }
+{
+    first_on(rows, spots_of(spots, e))
+}
+
+/// Whether there is a row, live and with the same period.
+fn has_same(row: &Option<Row>, t: Minute, p: &Period) -> bool
+    ensures { result ≡ has_same_if p.now t row.now }
+{
+    match row {
+        Some(row) => is_live(row, t) && same_at(t, &row.period, p),
+        None => false,
+    }
+}
+
+/// Whether a row at one of the spots is live and has the same period.
+fn same_on(rows: &[Row], spots: &[Spot], t: Minute, p: &Period) -> bool
+    requires { IsStrictlySortedBy by_key rows.now }
+    ensures { result ≡ list_any (has_same p.now t) (rows_on rows.now spots.now) }
+{
+    for spot in spots {
+        let row = row_at(rows, &spot.event, &spot.zone);
+        if has_same(&row, t, p) {
+            return true;
+        }
+    }
+    false
+}
+
+/// Whether a live row of the event has the same period. Only its own rows are looked at.
+pub fn has_period(rows: &[Row], spots: &[Spot], t: Minute, e: &Event, p: &Period) -> bool
+    requires order { IsStrictlySortedBy by_key rows.now }
+    requires spots { AreSpots rows.now spots.now }
+    ensures { result ≡ has_period rows.now e.now p.now t }
+{
+    same_on(rows, spots_of(spots, e), t, p)
+}
