@@ -13,17 +13,19 @@ use Rattle.hazard_types.specs.declared.codes.Action.TheVariants.{New, Con, Exa, 
 use Rattle.hazard_types.specs.declared.line.Line.{Line}
 use Rattle.hazard_types.specs.declared.line.Row.{Row}
 use Rattle.event_life.specs.Higher.{may_yield, outranks}
-use Rattle.event_life.specs.Periods.{is_live, overlaps}
+use Rattle.event_life.specs.Periods.{ends_after, is_live, overlaps}
 use Rattle.event_life.specs.Products.{by_key, put, row_at, row_after, is_routine, is_upgrade, speaks_of, put_but_upgrades, end_upgraded, rows_for_higher, is_overlapped, has_higher}
 use Rattle.event_life.specs.Seats.{may_count, is_upgraded}
-use Rattle.event_life.specs.Shown.{shown_at}
 use Rattle.event_life.proofs.Members.{find_in}
 use Rattle.event_life.proofs.Puts.{at_key, at_key-parts, row_at-put, put-sorted}
+use Rattle.row_index.specs.declared.lasting.Lasting.{Lasting}
 use Rattle.row_index.specs.declared.seats.Seat.{Seat}
-use Rattle.row_index.specs.Numbers.{is_in_zone}
+use Rattle.row_index.specs.Lastings.{lasting_of, lasts, bare_row, lasting_rows}
+use Rattle.row_index.specs.Numbers.{is_in_zone, stands}
 use Rattle.row_index.specs.Seating.{by_seat, seat_of, seat_said, has_seat, upgrades}
 use Rattle.row_index.specs.Steps.{IsChanged, not_upgraded, not_counted, rivals}
 use Rattle.row_index.specs.Telling.{Tells}
+use Rattle.row_index.proofs.Lasted.{ends_from, after_from, lasts_is, lasting_told}
 use Rattle.row_index.proofs.Seated.{seat_tied}
 use Rattle.row_index.proofs.Tests.{and_true, and_false, any_same, any_filtered, any_put, at_itself, but}
 
@@ -138,13 +140,25 @@ overlaps_own t own r = same_zone r.zone own.zone && is_live t r && outranks r.ev
 none_ended : (t : ℕ) (own r : Row) → overlaps_own t own (as_ended r) ≡ false
 none_ended t own r = rw (and_false (same_zone r.zone own.zone)) refl
 
-gathered : (z l u p c : Bool) → (p ≡ true → z ≡ true) → (p ≡ true → l ≡ true) → (z && (l && (not u && (c && p)))) ≡ ((p && not u) && c)
-gathered z l u false c h g = ap (λ (b : Bool). z && (l && (not u && b))) (and_false c) ∙ ap (λ (b : Bool). z && (l && b)) (and_false (not u)) ∙ ap (λ (b : Bool). z && b) (and_false l) ∙ and_false z
-gathered z l u true c h g = rw (h refl, g refl) (turned (not u) c)
-  where
-    turned : (a c : Bool) → (a && (c && true)) ≡ (a && c)
-    turned true c = and_true c
-    turned false c = refl
+-- of a row that stands, is in the zone and lasts, whose place was neither spoken of nor counted
+gathered : (n z e o v u c f : Bool) → (e ≡ true → f ≡ true) → (n && ((z && (f && true)) && ((not u && (c && (((z && e) && o) && v))) || false))) ≡ (((((z && (n && e)) && o) && v) && not u) && c)
+gathered false true e o v u c f h = refl
+gathered false false e o v u c f h = refl
+gathered true false e o v u c f h = refl
+gathered true true false o v u c false h = refl
+gathered true true false o v true c true h = refl
+gathered true true false o v false true true h = refl
+gathered true true false o v false false true h = refl
+gathered true true true o v u c false h = absurd (let e : false ≡ true = h refl in cc)
+gathered true true true false v true c true h = refl
+gathered true true true false v false true true h = refl
+gathered true true true false v false false true h = refl
+gathered true true true true false true c true h = refl
+gathered true true true true false false true true h = refl
+gathered true true true true false false false true h = refl
+gathered true true true true true true c true h = refl
+gathered true true true true true false true true h = refl
+gathered true true true true true false false true h = refl
 
 gathered_plain : (z u p : Bool) → (p ≡ true → z ≡ true) → (z && (not u && p)) ≡ (p && not u)
 gathered_plain z u false h = ap (λ (b : Bool). z && b) (and_false (not u)) ∙ and_false z
@@ -156,14 +170,8 @@ own_zone t own r h =
     let q = and_parts (same_zone r.zone own.zone && is_live t r) _ p.0 in
     (and_parts (same_zone r.zone own.zone) _ q.0).0
 
-own_live : (t : ℕ) (own r : Row) → overlaps_own t own r ≡ true → is_live t r ≡ true
-own_live t own r h =
-    let p = and_parts (same_zone r.zone own.zone && is_live t r && outranks r.event.hazard own.event.hazard) _ h in
-    let q = and_parts (same_zone r.zone own.zone && is_live t r) _ p.0 in
-    (and_parts (same_zone r.zone own.zone) _ q.0).1
-
-module _ (rows : List Row) (t : ℕ) (lines : List Line) (counted : List Row) (seats : List Seat) (changed : IsChanged rows t lines counted seats) (up : IsStrictlySortedBy by_key rows) where
-  rivals_told : (own : Row) → is_overlapped (rivals own.zone t counted seats rows) t (Some own) ≡ is_overlapped (rows_for_higher rows t lines) t (Some own)
+module _ (rows : List Row) (t : ℕ) (lines : List Line) (counted : List Row) (seats : List Seat) (keys : List Lasting) (changed : IsChanged rows t lines counted seats) (lasting : Tells stands lasting_of keys rows) (up : IsStrictlySortedBy by_key rows) where
+  rivals_told : (own : Row) → is_overlapped (rivals own.zone t counted seats keys) t (Some own) ≡ is_overlapped (rows_for_higher rows t lines) t (Some own)
   rivals_told own =
       let p = overlaps_own t own in
       let kept : Row → Bool = λ r. p r && not (is_upgraded lines r) in
@@ -173,28 +181,31 @@ module _ (rows : List Row) (t : ℕ) (lines : List Line) (counted : List Row) (s
       ∙ any_filtered (λ r. not (has_seat seats (seat_of r)) && p r) (is_in_zone own.zone) counted
       ∙ any_same (λ r. is_in_zone own.zone r && (not (has_seat seats (seat_of r)) && p r)) kept counted
       (λ r. ap (λ (b : Bool). is_in_zone own.zone r && (not b && p r)) (upgraded_told seats lines r changed.said) ∙ gathered_plain (is_in_zone own.zone r) (is_upgraded lines r) (p r) (own_zone t own r)) in
-      let later : list_any p (not_counted counted (not_upgraded seats (shown_at t (filter (is_in_zone own.zone) rows)))) ≡ list_any (λ r. kept r && in_place counted r) rows =
-      any_filtered p (in_place counted) (not_upgraded seats (shown_at t (filter (is_in_zone own.zone) rows)))
-      ∙ any_filtered (λ r. in_place counted r && p r) (λ r. not (has_seat seats (seat_of r))) (shown_at t (filter (is_in_zone own.zone) rows))
-      ∙ any_filtered (λ r. not (has_seat seats (seat_of r)) && (in_place counted r && p r)) (is_live t) (filter (is_in_zone own.zone) rows)
-      ∙ any_filtered (λ r. is_live t r && (not (has_seat seats (seat_of r)) && (in_place counted r && p r))) (is_in_zone own.zone) rows
-      ∙ any_same (λ r. is_in_zone own.zone r && (is_live t r && (not (has_seat seats (seat_of r)) && (in_place counted r && p r)))) (λ r. kept r && in_place counted r) rows
-      (λ r. ap (λ (b : Bool). is_in_zone own.zone r && (is_live t r && (not b && (in_place counted r && p r)))) (upgraded_told seats lines r changed.said) ∙ gathered (is_in_zone own.zone r) (is_live t r) (is_upgraded lines r) (p r) (in_place counted r) (own_zone t own r) (own_live t own r)) in
-      list_any-append p (not_upgraded seats (filter (is_in_zone own.zone) counted)) (not_counted counted (not_upgraded seats (shown_at t (filter (is_in_zone own.zone) rows))))
+      let bare : Row → Row = λ r. bare_row r.event (lasting_of r) in
+      let zone_lasts : Row → Bool = λ r. same_zone r.zone own.zone && (ends_from r.period.end t && true) in
+      let later : list_any p (not_counted counted (not_upgraded seats (lasting_rows t own.zone keys))) ≡ list_any (λ r. kept r && in_place counted r) rows =
+      any_filtered p (in_place counted) (not_upgraded seats (lasting_rows t own.zone keys))
+      ∙ any_filtered (λ r. in_place counted r && p r) (λ r. not (has_seat seats (seat_of r))) (lasting_rows t own.zone keys)
+      ∙ lasting_told (λ r. not (has_seat seats (seat_of r)) && (in_place counted r && p r)) rows keys t own.zone lasting
+      ∙ any_same (λ r. stands r && (lasts t own.zone (lasting_of r) && ((not (has_seat seats (seat_of r)) && (in_place counted r && p (bare r))) || false))) (λ r. kept r && in_place counted r) rows
+      (λ r. ap (λ (b : Bool). stands r && (b && ((not (has_seat seats (seat_of r)) && (in_place counted r && p (bare r))) || false))) (lasts_is t own.zone r)
+      ∙ ap (λ (b : Bool). stands r && (zone_lasts r && ((not b && (in_place counted r && p (bare r))) || false))) (upgraded_told seats lines r changed.said)
+      ∙ gathered (stands r) (same_zone r.zone own.zone) (ends_after r.period.end t) (outranks r.event.hazard own.event.hazard) (overlaps r.period own.period) (is_upgraded lines r) (in_place counted r) (ends_from r.period.end t) (after_from r.period.end t)) in
+      list_any-append p (not_upgraded seats (filter (is_in_zone own.zone) counted)) (not_counted counted (not_upgraded seats (lasting_rows t own.zone keys)))
       ∙ (λ i. first i || later i)
       ∙ sym (over kept)
       ∙ sym (any_ended p lines (put_but_upgrades rows t [] lines rows) (none_ended t own))
 
   pub higher_own : (line : Line) (own : Row) → row_at rows line.event line.zone ≡ Some own
-      → (not (may_yield line.event.hazard) || is_overlapped (rivals line.zone t counted seats rows) t (row_at (own ∷ []) line.event line.zone)) ≡ has_higher rows t lines line
+      → (not (may_yield line.event.hazard) || is_overlapped (rivals line.zone t counted seats keys) t (row_at (own ∷ []) line.event line.zone)) ≡ has_higher rows t lines line
   higher_own line own found =
       let own_at = (find_in (at_key line.event line.zone) rows own found).1 in
       let zone_is = (at_key-parts line.event line.zone own own_at).1 in
       let one : row_at (own ∷ []) line.event line.zone ≡ Some own = rw own_at refl in
-      let told : is_overlapped (rivals line.zone t counted seats rows) t (Some own) ≡ is_overlapped (rows_for_higher rows t lines) t (Some own) =
-      subst (λ (z : Place). is_overlapped (rivals z t counted seats rows) t (Some own) ≡ is_overlapped (rows_for_higher rows t lines) t (Some own)) zone_is (rivals_told own) in
+      let told : is_overlapped (rivals line.zone t counted seats keys) t (Some own) ≡ is_overlapped (rows_for_higher rows t lines) t (Some own) =
+      subst (λ (z : Place). is_overlapped (rivals z t counted seats keys) t (Some own) ≡ is_overlapped (rows_for_higher rows t lines) t (Some own)) zone_is (rivals_told own) in
       ap (λ (b : Bool). not (may_yield line.event.hazard) || b)
-      (ap (λ (o : Option Row). is_overlapped (rivals line.zone t counted seats rows) t o) one ∙ told ∙ ap (λ (o : Option Row). is_overlapped (rows_for_higher rows t lines) t o) (sym found))
+      (ap (λ (o : Option Row). is_overlapped (rivals line.zone t counted seats keys) t o) one ∙ told ∙ ap (λ (o : Option Row). is_overlapped (rows_for_higher rows t lines) t o) (sym found))
 
   pub higher_none : (line : Line) → row_at rows line.event line.zone ≡ None
       → (not (may_yield line.event.hazard) || false) ≡ has_higher rows t lines line

@@ -88,7 +88,7 @@ within_by Less = refl
 within_by Equal = refl
 within_by Greater = refl
 
-same_by : (o : Ordering) (z y : Place) → by_place z y ≡ o → is_eq o ≡ same_zone y z
+pub same_by : (o : Ordering) (z y : Place) → by_place z y ≡ o → is_eq o ≡ same_zone y z
 same_by Equal z y h = let e = by_place_ties z y h in sym (subst (λ (x : Place). same_zone x z ≡ true) e (zone_itself z))
 same_by Less z y h = sym (false_from_ne_true _ (λ g. let e = zone_one y z g in let f : Less ≡ Equal = sym h ∙ ap (by_place z) e ∙ tied_itself by_place_total z in cc))
 same_by Greater z y h = sym (false_from_ne_true _ (λ g. let e = zone_one y z g in let f : Greater ≡ Equal = sym h ∙ ap (by_place z) e ∙ tied_itself by_place_total z in cc))
@@ -145,7 +145,7 @@ looked_up (x ∷ es) at e z =
 pub by_seat_total : IsTotalOrder by_seat
 by_seat_total = seat_laws.total-law
 
-spot_ties : (a b : Spot) → spot.cmp-value.it a b ≡ Equal → a ≡ b
+pub spot_ties : (a b : Spot) → spot.cmp-value.it a b ≡ Equal → a ≡ b
 spot_ties Front Front h = refl
 spot_ties Front (At e) h = cc
 spot_ties Front Back h = cc

@@ -1,17 +1,13 @@
 -- Rows that no line has ended, by event and term.
 use Rattle.std.proofs.Common.{◌≡◌, ◌∙◌, ◌≤◌, ◌+◌, ◌-◌, ◌==◌, ℕ, List, [], ◌∷◌, ◌&&◌, ◌||◌, not, Bool, true, false, cond, Ordering, Less, Equal, Greater, Option, Some, None, refl, ap, sym, subst, arith}
 use Rattle.std.specs.Prelude.{nat_le}
-use Rattle.std.proofs.lemmas.Bool.{and_parts, false_from_ne_true}
 use Rattle.std.proofs.lemmas.Bool.Decides.{nat_tests}
 use Rattle.std.proofs.lemmas.Cmp.{tied_itself}
-use Rattle.std.specs.BTreeMap.{is_at}
 use Rattle.std.specs.BTreeMap.Range.{IsLeBy}
-use Rattle.std.specs.BTreeSet.{insert_key}
 use Rattle.std.specs.Cmp.{IsTotalOrder}
 use Rattle.std.specs.List.{list_any}
 use Rattle.std.specs.List.Sorted.{IsStrictlySortedBy}
 use Rattle.std.specs.Ordering.{ordering_then, is_eq, is_le, is_lt, is_gt, nat_cmp}
-use Rattle.std.specs.Set.{remove_key}
 use Rattle.hazard_types.specs.Orders.{by_event}
 use Rattle.hazard_types.specs.Places.{Place}
 use Rattle.hazard_types.specs.Same.{same_event}
@@ -26,8 +22,6 @@ use Rattle.event_life.specs.Periods.{ends_after, ends_within, same_end, same_at,
 use Rattle.event_life.specs.Products.{by_key, put, row_at, is_open, has_same}
 use Rattle.event_life.specs.Table.{opened_period}
 use Rattle.event_life.proofs.Keys.{then_parts}
-use Rattle.event_life.proofs.Members.{IsIn, any_in, in_any, one_way, find_in, none_in}
-use Rattle.event_life.proofs.Puts.{at_key, at_key-parts}
 use Rattle.row_index.specs.declared.standing.Corner.{Corner}
 use Rattle.row_index.specs.declared.standing.Corner.TheVariants as corner
 use Rattle.row_index.specs.declared.standing.Stay.{Stay}
@@ -35,18 +29,17 @@ use Rattle.row_index.specs.declared.standing.Term.{Term}
 use Rattle.row_index.specs.declared.standing.Term.TheVariants.{At, Back}
 use Rattle.row_index.specs.declared.standing.Standing.{Standing}
 use Rattle.hazard_types.specs.contracts.period.EndOrd.TheImpl as end_order
-use Rattle.hazard_types.specs.contracts.period.PeriodPartialEq.TheImpl as period_eq
-use Rattle.hazard_types.proofs.Equality.{period_one}
 use Rattle.row_index.specs.contracts.standing.CornerOrd.TheImpl as corner_order
 use Rattle.row_index.specs.contracts.standing.StayOrd.TheImpl as stay_order
 use Rattle.row_index.specs.contracts.standing.TermOrd.TheImpl as term_order
 use Rattle.row_index.specs.contracts.standing.StandingOrd.TheImpl.Laws as standing_laws
 use Rattle.row_index.specs.Numbers.{stands}
 use Rattle.row_index.specs.Standings.{by_standing, place_of, standing_of, lies, open_from, behind, first_same, last_same, same_from, same_to}
-use Rattle.row_index.specs.Steps.{stood_without, stood_with, stays, restood}
+use Rattle.row_index.specs.Steps.{restood}
 use Rattle.row_index.specs.Telling.{Tells}
+use Rattle.row_index.proofs.Kept.{kept-put, kept-sorted}
 use Rattle.row_index.proofs.Seated.{event_by}
-use Rattle.row_index.proofs.Tests.{any_alike, any_same, any_none, any_put, any_insert, any_removed, insert-sorted, remove-sorted, at_one, at_own, at_itself, found_own, and_not, and_false, but}
+use Rattle.row_index.proofs.Tests.{any_same, and_false}
 
 pub by_standing_total : IsTotalOrder by_standing
 by_standing_total = standing_laws.total-law
@@ -84,8 +77,6 @@ by_standing_ties a b h =
     let term_is = term_ties a.term b.term p.1 in
     λ i. record { event = event_is i; term = term_is i }
 
--- a row in the place of another
-
 -- what a key tells of its row's zone
 abbrev corner_in : Term → Corner
 corner_in (At s) = s.corner
@@ -95,143 +86,30 @@ abbrev zone_in : Place → Corner → Place
 zone_in d (corner.At z) = z
 zone_in d _ = d
 
-apart_key : (old r : Row) → at_key old.event old.zone r ≡ false → is_at (by_standing (standing_of old)) (standing_of r) ≡ false
-apart_key old r h = false_from_ne_true _ (λ g.
-    let same : standing_of old ≡ standing_of r = at_one by_standing by_standing_total by_standing_ties (standing_of old) (standing_of r) g in
-    let event_is : old.event ≡ r.event = ap (λ (k : Standing). k.event) same in
-    let zone_is : old.zone ≡ r.zone = ap (λ (k : Standing). zone_in old.zone (corner_in k.term)) same in
-    let here : at_key old.event old.zone r ≡ true = rw (event_is, zone_is) (at_itself r) in
-    let e : true ≡ false = sym here ∙ h in cc)
+standing_one : (a b : Row) → standing_of a ≡ standing_of b → (a.event ≡ b.event) × (a.zone ≡ b.zone)
+standing_one a b same = (ap (λ (k : Standing). k.event) same, ap (λ (k : Standing). zone_in a.zone (corner_in k.term)) same)
+
+standing_alike : (a b : Row) → a.event ≡ b.event → a.zone ≡ b.zone → a.period ≡ b.period → standing_of a ≡ standing_of b
+standing_alike a b event_is zone_is period_is = λ i. place_of (event_is i) (period_is i).end (period_is i).begin (corner.At (zone_is i))
+
+pub stood-put : (rows : List Row) (keys : List Standing) (row : Row) (before : Option Row) → IsStrictlySortedBy by_key rows → IsStrictlySortedBy by_standing keys → Tells stands standing_of keys rows
+    → before ≡ row_at rows row.event row.zone → Tells stands standing_of (restood by_standing standing_of before row keys) (put row rows)
+stood-put = kept-put by_standing by_standing_total by_standing_ties standing_of standing_one standing_alike
+
+pub stood-sorted : (before : Option Row) (row : Row) (keys : List Standing) → IsStrictlySortedBy by_standing keys → IsStrictlySortedBy by_standing (restood by_standing standing_of before row keys)
+stood-sorted = kept-sorted by_standing by_standing_total by_standing_ties standing_of standing_one standing_alike
 
 abbrev counted : (Standing → Bool) → Row → Bool
 counted q r = stands r && q (standing_of r)
 
-pulled : (a b c : Bool) → (a && (b && not c)) ≡ ((a && b) && not c)
-pulled true b c = refl
-pulled false b c = refl
-
-without_old : (q : Standing → Bool) (rows : List Row) (keys : List Standing) (row old : Row) → IsStrictlySortedBy by_key rows → IsStrictlySortedBy by_standing keys → Tells stands standing_of keys rows
-    → row_at rows row.event row.zone ≡ Some old
-    → list_any q (remove_key (is_at (by_standing (standing_of old))) keys) ≡ list_any (but (counted q) row) rows
-without_old q rows keys row old up ascending tells found =
-    any_removed by_standing by_standing_total by_standing_ties q (standing_of old) keys ascending
-    ∙ tells (λ k. q k && not (is_at (by_standing (standing_of old)) k))
-    ∙ any_alike (λ r. stands r && (q (standing_of r) && not (is_at (by_standing (standing_of old)) (standing_of r)))) (but (counted q) row) rows
-    (λ r is. pulled (stands r) (q (standing_of r)) (is_at (by_standing (standing_of old)) (standing_of r)) ∙ ap (λ (b : Bool). counted q r && not b) (at_alike r is (at_key row.event row.zone r) refl))
-  where
-    own : at_key row.event row.zone old ≡ true
-    own = (find_in (at_key row.event row.zone) rows old found).1
-
-    at_alike : (r : Row) → IsIn r rows → (b : Bool) → at_key row.event row.zone r ≡ b → is_at (by_standing (standing_of old)) (standing_of r) ≡ at_key row.event row.zone r
-    at_alike r is true here =
-        let k = at_key-parts row.event row.zone r here in
-        let first : row_at rows row.event row.zone ≡ Some r = subst (λ (e : Event). row_at rows e row.zone ≡ Some r) k.0 (subst (λ (z : Place). row_at rows r.event z ≡ Some r) k.1 (found_own rows r up is)) in
-        let some : ◌≡◌ {A = Option Row} (Some old) (Some r) = sym found ∙ first in
-        let one : old ≡ r = cc in
-        subst (λ (x : Row). is_at (by_standing (standing_of old)) (standing_of x) ≡ true) one (at_own by_standing by_standing_total by_standing_ties (standing_of old)) ∙ sym here
-    at_alike r is false here =
-        let k = at_key-parts row.event row.zone old own in
-        apart_key old r (rw (k.0, k.1) here) ∙ sym here
-
-without_none : (q : Standing → Bool) (rows : List Row) (keys : List Standing) (row : Row) → Tells stands standing_of keys rows → row_at rows row.event row.zone ≡ None
-    → list_any q keys ≡ list_any (but (counted q) row) rows
-without_none q rows keys row tells found =
-    tells q ∙ any_alike (counted q) (but (counted q) row) rows
-    (λ r is. sym (and_not (counted q r) (at_key row.event row.zone r) (any_none (at_key row.event row.zone) rows r (none_in (at_key row.event row.zone) rows found) is)))
-
-without : (q : Standing → Bool) (rows : List Row) (keys : List Standing) (row : Row) (before : Option Row) → IsStrictlySortedBy by_key rows → IsStrictlySortedBy by_standing keys → Tells stands standing_of keys rows
-    → row_at rows row.event row.zone ≡ before → list_any q (stood_without before keys) ≡ list_any (but (counted q) row) rows
-without q rows keys row None up ascending tells found = without_none q rows keys row tells found
-without q rows keys row (Some old) up ascending tells found = without_old q rows keys row old up ascending tells found
-
-with_row : (q : Standing → Bool) (keys : List Standing) (row : Row) (ended others : Bool) → list_any q keys ≡ others
-    → list_any q (cond ended keys (insert_key by_standing keys (standing_of row))) ≡ ((not ended && q (standing_of row)) || others)
-with_row q keys row true others h = h
-with_row q keys row false others h = any_insert by_standing by_standing_total by_standing_ties q (standing_of row) keys ∙ ap (λ (b : Bool). q (standing_of row) || b) h
-
--- the rows that no line has ended, after one was put
-stood_anew : (rows : List Row) (keys : List Standing) (row : Row) (before : Option Row) → IsStrictlySortedBy by_key rows → IsStrictlySortedBy by_standing keys → Tells stands standing_of keys rows
-    → before ≡ row_at rows row.event row.zone → Tells stands standing_of (stood_with row (stood_without before keys)) (put row rows)
-stood_anew rows keys row before up ascending tells found q =
-    with_row q (stood_without before keys) row row.ended (list_any (but (counted q) row) rows) (without q rows keys row before up ascending tells (sym found))
-    ∙ sym (any_put (counted q) row rows up)
-
--- one of the rows passes exactly where the one found at a zone and event does, or another
-split_found : (p : Row → Bool) (row old : Row) (rows : List Row) → IsStrictlySortedBy by_key rows → row_at rows row.event row.zone ≡ Some old → list_any p rows ≡ (p old || list_any (but p row) rows)
-split_found p row old rows up found =
-    one_way (list_any p rows) (p old || list_any (but p row) rows)
-    (λ h. let w = any_in p rows h in by_place w.0 w.1 w.2 (at_key row.event row.zone w.0) refl)
-    (λ h. by_first (p old) refl h)
-  where
-    own : IsIn old rows × (at_key row.event row.zone old ≡ true)
-    own = find_in (at_key row.event row.zone) rows old found
-
-    or_later : (a b : Bool) → b ≡ true → (a || b) ≡ true
-    or_later true b h = refl
-    or_later false b h = h
-
-    by_place : (r : Row) → IsIn r rows → p r ≡ true → (b : Bool) → at_key row.event row.zone r ≡ b → (p old || list_any (but p row) rows) ≡ true
-    by_place r is h true here =
-        let k = at_key-parts row.event row.zone r here in
-        let first : row_at rows row.event row.zone ≡ Some r = subst (λ (e : Event). row_at rows e row.zone ≡ Some r) k.0 (subst (λ (z : Place). row_at rows r.event z ≡ Some r) k.1 (found_own rows r up is)) in
-        let some : ◌≡◌ {A = Option Row} (Some r) (Some old) = sym first ∙ found in
-        let one : r ≡ old = cc in
-        let passes : p old ≡ true = subst (λ (x : Row). p x ≡ true) one h in
-        rw passes refl
-    by_place r is h false here = or_later (p old) (list_any (but p row) rows) (in_any (but p row) rows r is (rw (h, here) refl))
-
-    by_first : (b : Bool) → p old ≡ b → (b || list_any (but p row) rows) ≡ true → list_any p rows ≡ true
-    by_first true h g = in_any p rows old own.0 h
-    by_first false h g = let w = any_in (but p row) rows g in in_any p rows w.0 w.1 (and_parts (p w.0) _ w.2).0
-
-stays_alike : (q : Standing → Bool) (rows : List Row) (row old : Row) → row_at rows row.event row.zone ≡ Some old → stays (Some old) row ≡ true → counted q old ≡ counted q row
-stays_alike q rows row old found h =
-    let k = at_key-parts row.event row.zone old (find_in (at_key row.event row.zone) rows old found).1 in
-    let p = and_parts (period_eq.eq-value.it old.period row.period && not old.ended) _ h in
-    let r = and_parts (period_eq.eq-value.it old.period row.period) _ p.0 in
-    let period_is = period_one old.period row.period r.0 in
-    let event_is = k.0 in
-    let zone_is = k.1 in
-    let key : standing_of old ≡ standing_of row = λ i. place_of (event_is i) (period_is i).end (period_is i).begin (corner.At (zone_is i)) in
-    rw (r.1, p.1, key) refl
-
-stood_same : (rows : List Row) (keys : List Standing) (row old : Row) → IsStrictlySortedBy by_key rows → Tells stands standing_of keys rows → row_at rows row.event row.zone ≡ Some old → stays (Some old) row ≡ true
-    → Tells stands standing_of keys (put row rows)
-stood_same rows keys row old up tells found h q =
-    tells q ∙ split_found (counted q) row old rows up found ∙ ap (λ (b : Bool). b || list_any (but (counted q) row) rows) (stays_alike q rows row old found h) ∙ sym (any_put (counted q) row rows up)
-
-pub stood-put : (rows : List Row) (keys : List Standing) (row : Row) (before : Option Row) → IsStrictlySortedBy by_key rows → IsStrictlySortedBy by_standing keys → Tells stands standing_of keys rows
-    → before ≡ row_at rows row.event row.zone → Tells stands standing_of (restood before row keys) (put row rows)
-stood-put rows keys row None up ascending tells found = stood_anew rows keys row None up ascending tells found
-stood-put rows keys row (Some old) up ascending tells found = by_stay (stays (Some old) row) refl
-  where
-    by_stay : (b : Bool) → stays (Some old) row ≡ b → Tells stands standing_of (cond b keys (stood_with row (stood_without (Some old) keys))) (put row rows)
-    by_stay true h = stood_same rows keys row old up tells (sym found) h
-    by_stay false h = stood_anew rows keys row (Some old) up ascending tells found
-
-pub stood-sorted : (before : Option Row) (row : Row) (keys : List Standing) → IsStrictlySortedBy by_standing keys → IsStrictlySortedBy by_standing (restood before row keys)
-stood-sorted before row keys up = or_kept (stays before row) (with_sorted row.ended (without_sorted before))
-  where
-    or_kept : (b : Bool) → IsStrictlySortedBy by_standing (stood_with row (stood_without before keys)) → IsStrictlySortedBy by_standing (cond b keys (stood_with row (stood_without before keys)))
-    or_kept true h = up
-    or_kept false h = h
-
-    without_sorted : (o : Option Row) → IsStrictlySortedBy by_standing (stood_without o keys)
-    without_sorted None = up
-    without_sorted (Some old) = remove-sorted by_standing by_standing_total by_standing_ties (is_at (by_standing (standing_of old))) keys up
-
-    with_sorted : (b : Bool) → IsStrictlySortedBy by_standing (stood_without before keys) → IsStrictlySortedBy by_standing (cond b (stood_without before keys) (insert_key by_standing (stood_without before keys) (standing_of row)))
-    with_sorted true h = h
-    with_sorted false h = insert-sorted by_standing by_standing_total by_standing_ties (standing_of row) (stood_without before keys) h
-
 -- what is asked of an event
 
-within : (o x y : Ordering) → (is_le (ordering_then o x) && not (is_le (ordering_then o y))) ≡ (is_eq o && (is_le x && not (is_le y)))
+pub within : (o x y : Ordering) → (is_le (ordering_then o x) && not (is_le (ordering_then o y))) ≡ (is_eq o && (is_le x && not (is_le y)))
 within Less x y = refl
 within Equal x y = refl
 within Greater x y = refl
 
-le_less : (o : Ordering) → is_le (ordering_then o Less) ≡ is_le o
+pub le_less : (o : Ordering) → is_le (ordering_then o Less) ≡ is_le o
 le_less Less = refl
 le_less Equal = refl
 le_less Greater = refl
@@ -241,7 +119,7 @@ lt_greater Less = refl
 lt_greater Equal = refl
 lt_greater Greater = refl
 
-le_is : (a b : ℕ) → is_le (nat_cmp a b) ≡ nat_le a b
+pub le_is : (a b : ℕ) → is_le (nat_cmp a b) ≡ nat_le a b
 le_is a b = grind (arith, nat_tests)
 
 lt_is : (a b : ℕ) → not (is_lt (nat_cmp a b)) ≡ nat_le b a
@@ -255,7 +133,7 @@ zero_less b = by_order (nat_cmp 0 b) (le_is 0 b)
     by_order Equal h = refl
     by_order Greater h = let e : nat_le 0 b ≡ true = grind (arith, nat_tests) in let f : false ≡ true = h ∙ e in cc
 
-abbrev end_cmp : End → End → Ordering
+abbrev pub end_cmp : End → End → Ordering
 end_cmp = end_order.cmp-value.it
 
 open_end : (t : ℕ) (a : End) → is_le (end_cmp (end.At (t - 30)) a) ≡ ends_within a t

@@ -13,9 +13,11 @@ use Rattle.hazard_types.specs.Same.{same_zone, same_hazard, same_event}
 use Rattle.hazard_types.specs.declared.hazard.Event.{Event}
 use Rattle.hazard_types.specs.declared.line.Row.{Row}
 use Rattle.event_life.specs.Products.{by_key}
+use Rattle.row_index.specs.declared.lasting.Lasting.{Lasting}
 use Rattle.row_index.specs.declared.numbers.Number.{Number}
 use Rattle.row_index.specs.declared.seats.Seat.{Seat}
 use Rattle.row_index.specs.declared.standing.Standing.{Standing}
+use Rattle.row_index.specs.Lastings.{by_lasting, lasting_of}
 use Rattle.row_index.specs.Seating.{AreSeated}
 use Rattle.row_index.specs.Standings.{by_standing, standing_of}
 use Rattle.row_index.specs.Telling.{Tells}
@@ -54,10 +56,12 @@ AreOpened events rows = (k : Number) → Tells (has_number k) (λ (r : Row). r.e
 abbrev pub stands : Row → Bool
 stands r = not r.ended
 
--- each row is at its own seat, the rows are in order, their events stand by hazard and number, and the rows that no line has ended by event and end
-pub record IsIndex (seats : List (Seat × Row)) (events : List (Number × List Event)) (keys : List Standing) : Type 0 where
+-- each row is at its own seat, the rows are in order, their events stand by hazard and number, and the rows that no line has ended by event and end, and by zone and end
+pub record IsIndex (seats : List (Seat × Row)) (events : List (Number × List Event)) (keys : List Standing) (lastings : List Lasting) : Type 0 where
   pub in_order : IsStrictlySortedBy by_key (values_of seats)
   pub seated : AreSeated seats
   pub opened : AreOpened events (values_of seats)
   pub ascending : IsStrictlySortedBy by_standing keys
   pub standing : Tells stands standing_of keys (values_of seats)
+  pub lasting_ascending : IsStrictlySortedBy by_lasting lastings
+  pub lasting : Tells stands lasting_of lastings (values_of seats)

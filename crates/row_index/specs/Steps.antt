@@ -3,6 +3,7 @@ use Rattle.std.specs.Prelude.{◌≡◌, ◌&&◌, ◌∷◌, ◌++◌, not, ℕ
 use Rattle.std.specs.BTreeMap.{is_at}
 use Rattle.std.specs.BTreeSet.{insert_key}
 use Rattle.std.specs.Set.{remove_key}
+use Rattle.std.specs.declared.cmp.Ordering.{Ordering}
 use Rattle.hazard_types.specs.Places.{Place}
 use Rattle.hazard_types.specs.contracts.period.PeriodPartialEq.TheImpl as period
 use Rattle.hazard_types.specs.declared.codes.Action.{Action}
@@ -13,12 +14,11 @@ use Rattle.hazard_types.specs.declared.line.Vtec.{Vtec}
 use Rattle.hazard_types.specs.declared.line.Row.{Row}
 use Rattle.event_life.specs.declared.life.Around.{Around}
 use Rattle.event_life.specs.Products.{put, row_at, row_after, put_but_upgrades, has_rows, is_open, is_held, has_same, is_new, later_event, going_in}
-use Rattle.event_life.specs.Shown.{shown_at}
 use Rattle.row_index.specs.declared.seats.Seat.{Seat}
-use Rattle.row_index.specs.declared.standing.Standing.{Standing}
+use Rattle.row_index.specs.declared.lasting.Lasting.{Lasting}
 use Rattle.row_index.specs.Numbers.{is_in_zone}
 use Rattle.row_index.specs.Seating.{seat_of, seat_said, has_seat, upgrades}
-use Rattle.row_index.specs.Standings.{by_standing, standing_of}
+use Rattle.row_index.specs.Lastings.{lasting_rows}
 use Rattle.row_index.specs.Telling.{Tells}
 
 -- of the events that are open the one of the latest year
@@ -61,21 +61,21 @@ abbrev pub put_each : List Row → List Row → List Row
 put_each left after = fold (λ (rows : List Row) (row : Row). put row rows) after left
 
 -- the keys without that of the row before
-abbrev pub stood_without : Option Row → List Standing → List Standing
-stood_without None keys = keys
-stood_without (Some old) keys = remove_key (is_at (by_standing (standing_of old))) keys
+abbrev pub stood_without : {K : Type 0} → (K → K → Ordering) → (Row → K) → Option Row → List K → List K
+stood_without cmp key None keys = keys
+stood_without cmp key (Some old) keys = remove_key (is_at (cmp (key old))) keys
 
 -- and with that of a row that no line has ended
-abbrev pub stood_with : Row → List Standing → List Standing
-stood_with row keys = if row.ended then keys else insert_key by_standing keys (standing_of row)
+abbrev pub stood_with : {K : Type 0} → (K → K → Ordering) → (Row → K) → Row → List K → List K
+stood_with cmp key row keys = if row.ended then keys else insert_key cmp keys (key row)
 
 -- no line has ended the row or the one before, which had the same period
 abbrev pub stays : Option Row → Row → Bool
 stays None row = false
 stays (Some old) row = period.eq-value.it old.period row.period && not old.ended && not row.ended
 
-abbrev pub restood : Option Row → Row → List Standing → List Standing
-restood before row keys = if stays before row then keys else stood_with row (stood_without before keys)
+abbrev pub restood : {K : Type 0} → (K → K → Ordering) → (Row → K) → Option Row → Row → List K → List K
+restood cmp key before row keys = if stays before row then keys else stood_with cmp key row (stood_without cmp key before keys)
 
 -- What a product changes where a higher row is looked for: the rows that its lawful lines other than UPG leave, each put in turn,
 -- and the seats that its UPG lines speak of.
@@ -91,6 +91,6 @@ not_upgraded seats rows = filter (λ (r : Row). not (has_seat seats (seat_of r))
 abbrev pub not_counted : List Row → List Row → List Row
 not_counted counted rows = filter (λ (r : Row). is_none (row_at counted r.event r.zone)) rows
 
--- a zone's rows after a product that no UPG line of it has ended, in whatever order, without those before it that are not live
-abbrev pub rivals : Place → ℕ → List Row → List Seat → List Row → List Row
-rivals z t counted upgraded rows = not_upgraded upgraded (filter (is_in_zone z) counted) ++ not_counted counted (not_upgraded upgraded (shown_at t (filter (is_in_zone z) rows)))
+-- a zone's rows after a product that no UPG line of it has ended, in whatever order, without those before it that have ended by then
+abbrev pub rivals : Place → ℕ → List Row → List Seat → List Lasting → List Row
+rivals z t counted upgraded keys = not_upgraded upgraded (filter (is_in_zone z) counted) ++ not_counted counted (not_upgraded upgraded (lasting_rows t z keys))

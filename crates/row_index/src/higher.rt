@@ -2,13 +2,13 @@
 ghost use Rattle.std.specs.Prelude.{◌≡◌, ◌++◌, not, is_none, IfOk, filter};
 ghost use Rattle.std.specs.List.{list_any};
 ghost use Rattle.std.specs.Map.{values_of};
-ghost use Rattle.row_index.specs.Numbers.{is_in_zone};
 ghost use Rattle.row_index.specs.Seating.{AreSeated, seat_said, upgrades};
 ghost use Rattle.row_index.specs.Steps.{not_upgraded, not_counted, rivals};
 ghost use Rattle.row_index.specs.Telling.{Tells};
 
+use crate::lasting::{Lastings, lasting_rows};
 use crate::seats::{Seated, Seats, add_seat, has_seat, row_in, rows_in};
-use event_life::{is_upgrade, shown};
+use event_life::is_upgrade;
 use hazard_types::{Line, Minute, Oom, Row, Zone};
 use std::alloc::{AllocError, Global};
 use std::collections::BTreeSet;
@@ -62,23 +62,22 @@ fn not_counted(alloc: Global, counted: &Seated, rows: &[Row]) -> Result<Vec<Row>
     Ok(kept)
 }
 
-/// A zone's rows after the product that no UPG line of it has ended, without those before it that are not live.
+/// A zone's rows after the product that no UPG line of it has ended, without those before it that have ended by then.
+/// These are without their flood values.
 pub fn rivals(
     alloc: Global,
-    seated: &Seated,
+    lastings: &Lastings,
     t: Minute,
     changed: &Changed,
     zone: &Zone,
 ) -> Result<Vec<Row>, Oom>
-    requires seated { AreSeated seated.now.entries }
-    requires counted { AreSeated changed.now.counted.entries }
-    ensures { IfOk result (λ rows. rows.items ≡ rivals zone.now t (values_of changed.now.counted.entries) changed.now.upgraded.keys (values_of seated.now.entries)) }
+    requires { AreSeated changed.now.counted.entries }
+    ensures { IfOk result (λ rows. rows.items ≡ rivals zone.now t (values_of changed.now.counted.entries) changed.now.upgraded.keys lastings.now.keys) }
 {
     let counted = rows_in(alloc, &changed.counted, zone)?;
     let mut rows = not_upgraded(alloc, &changed.upgraded, &counted)?;
-    let before = rows_in(alloc, seated, zone)?;
-    let before = shown(alloc, &before, t)?;
-    let before = not_upgraded(alloc, &changed.upgraded, before.as_slice())?;
+    let before = lasting_rows(alloc, lastings, t, zone)?;
+    let before = not_upgraded(alloc, &changed.upgraded, &before)?;
     let before = not_counted(alloc, &changed.counted, &before)?;
     rows.extend_from_slice(&before)?;
     Ok(rows)

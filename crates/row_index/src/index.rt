@@ -13,6 +13,7 @@ ghost use Rattle.row_index.specs.Seating.{AreSeated, upgrades};
 ghost use Rattle.row_index.specs.Steps.{IsChanged, around_new, around_joining, asked_around, latest_open, event_going, rows_left, put_each};
 
 use crate::higher::{Changed, any_upgrades, rivals, upgraded_by};
+use crate::lasting::{Lastings, relast};
 use crate::look::{is_new, later_event, life_of, nothing_around, of_event, opens};
 use crate::numbers::{Events, Number, events_at, has_event, number_of, put_event};
 use crate::seats::{Seated, add_seat, all_rows, count_row, has_seat, put_seated, row_in};
@@ -29,6 +30,7 @@ pub struct RowIndex {
     seated: Seated,
     events: Events,
     standing: Standings,
+    lasting: Lastings,
 }
 
 impl Model for RowIndex {
@@ -41,7 +43,7 @@ impl Model for RowIndex {
 
     ghost view = { λ x. values_of x.seated.entries };
 
-    ghost invariant = { λ x. IsIndex x.seated.entries (lists_of x.events.entries) x.standing.keys };
+    ghost invariant = { λ x. IsIndex x.seated.entries (lists_of x.events.entries) x.standing.keys x.lasting.keys };
 }
 
 impl RowIndex {
@@ -53,6 +55,7 @@ impl RowIndex {
             seated: BTreeMap::new(alloc),
             events: BTreeMap::new(alloc),
             standing: BTreeSet::new(alloc),
+            lasting: BTreeSet::new(alloc),
         }
     }
 
@@ -288,7 +291,7 @@ impl RowIndex {
         requires seated { AreSeated changed.now.counted.entries }
         ensures { (lines : Seq LineValue) → IsChanged self.now t lines (values_of changed.now.counted.entries) changed.now.upgraded.keys → IfOk result (λ higher. higher ≡ has_higher self.now t lines line.now) }
     {
-        let rows = rivals(alloc, &self.seated, t, changed, &line.zone)?;
+        let rows = rivals(alloc, &self.lasting, t, changed, &line.zone)?;
         match self.row_at(&line.event, &line.zone) {
             Some(own) => Ok(event_life::has_higher(&[own], t, &rows, line)),
             None => Ok(event_life::has_higher(&[], t, &rows, line)),
@@ -345,15 +348,18 @@ impl RowIndex {
             mut seated,
             mut events,
             mut standing,
+            mut lasting,
         } = self;
         let mut before = None;
         put_seated(&mut seated, row, &mut before)?;
         put_event(alloc, &mut events, &row.event)?;
         restand(&mut standing, &before, row)?;
+        relast(&mut lasting, &before, row)?;
         Ok(RowIndex {
             seated,
             events,
             standing,
+            lasting,
         })
     }
 

@@ -4,6 +4,7 @@
 mod higher;
 mod index;
 mod keys;
+mod lasting;
 mod look;
 mod numbers;
 mod seats;

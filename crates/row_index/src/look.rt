@@ -2,7 +2,7 @@
 ghost use Rattle.std.specs.Prelude.{◌≡◌, option_map};
 ghost use Rattle.event_life.specs.Lives.{opens};
 ghost use Rattle.event_life.specs.Products.{life_of, later_event, is_new};
-ghost use Rattle.row_index.specs.Steps.{nothing_around, of_event};
+ghost use Rattle.row_index.specs.Steps.{nothing_around, of_event, stays};
 
 use event_life::{Around, Life};
 use hazard_types::{Action, Event, Line, Row};
@@ -75,5 +75,15 @@ pub fn of_event(line: &Line, event: &Event) -> Line
         begin: line.begin,
         end: line.end,
         flood: line.flood,
+    }
+}
+
+/// Whether a row stands as the one before did: no line has ended either, and they have one period.
+pub fn stays(before: &Option<Row>, row: &Row) -> bool
+    ensures { result ≡ stays before.now row.now }
+{
+    match before {
+        Some(old) => old.period == row.period && !old.ended && !row.ended,
+        None => false,
     }
 }

@@ -4,10 +4,11 @@ ghost use Rattle.std.specs.BTreeSet.{insert_key};
 ghost use Rattle.std.specs.List.{list_any};
 ghost use Rattle.event_life.specs.Periods.{ends_after};
 ghost use Rattle.row_index.specs.Standings.{by_standing, place_of, standing_of, lies, open_from, behind, same_from, same_to};
-ghost use Rattle.row_index.specs.Steps.{stays, restood};
+ghost use Rattle.row_index.specs.Steps.{restood};
 ghost use Rattle.row_index.specs.declared.standing.Corner.TheVariants as corner;
 
 use crate::keys::{add_key, any_between, take_key};
+use crate::look::stays;
 use event_life::ends_after;
 use hazard_types::{End, Event, Minute, Oom, Period, Row, Zone};
 use std::collections::BTreeSet;
@@ -166,19 +167,9 @@ fn stand(standings: &mut Standings, row: &Row) -> Result<(), Oom>
     add_key(standings, standing)
 }
 
-/// Whether a row stands as the one before did: no line has ended either, and they have one period.
-fn stays(before: &Option<Row>, row: &Row) -> bool
-    ensures { result ≡ stays before.now row.now }
-{
-    match before {
-        Some(old) => old.period == row.period && !old.ended && !row.ended,
-        None => false,
-    }
-}
-
 /// A row stands in the place of the one before, unless a line has ended it.
 pub fn restand(standings: &mut Standings, before: &Option<Row>, row: &Row) -> Result<(), Oom>
-    ensures { OnOk result (standings.new.keys ≡ restood before.now row.now standings.old.keys) }
+    ensures { OnOk result (standings.new.keys ≡ restood by_standing standing_of before.now row.now standings.old.keys) }
 {
     if stays(before, row) {
         return Ok(());
