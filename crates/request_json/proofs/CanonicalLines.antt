@@ -1,5 +1,5 @@
 -- A compact text has no line feed: strings escape it, and no other part has one.
-use Rattle.std.proofs.Common.{◌≡◌, ◌≢◌, ◌+◌, ◌/◌, ◌%◌, ◌==◌, ◌||◌, ℕ, ℤ, pos, negsuc, zero, suc, Bool, true, false, cond, nat_lt, List, [], ◌∷◌, ◌++◌, refl, arith}
+use Rattle.std.proofs.Common.{◌≡◌, ◌≢◌, ◌+◌, ◌/◌, ◌%◌, ◌==◌, ◌||◌, ℕ, pos, negsuc, zero, suc, Bool, true, false, cond, nat_lt, List, [], ◌∷◌, ◌++◌, refl, arith}
 use Rattle.std.proofs.lemmas.Bool.Decides.{nat_tests}
 use Rattle.std.proofs.lemmas.List.Elements.{All-from_recursion}
 use Rattle.std.specs.Char.{digit_char}
