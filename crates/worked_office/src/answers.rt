@@ -1,7 +1,7 @@
 //! What an office answers, as text.
 ghost use Rattle.request_json.specs.Formed.{HasForm};
 
-use hazard_types::{List, Oom, Or, Query, Refusal, Text};
+use hazard_types::{Edition, List, Oom, Or, Query, Refusal, Text};
 use office_core::{Office, Ready};
 use request_json::{Asked, draft_text, read_request, refusal_text, reply_text};
 use std::alloc::Global;
@@ -33,7 +33,7 @@ fn submit(alloc: Global, office: &mut Office, asked: &Asked, reading: i64) -> Re
     requires { HasForm asked.now }
 {
     if office.opened_drafts() == u32::MAX {
-        return Ok(List::from_slice(alloc, b"no more drafts\n")?);
+        return List::from_slice(alloc, b"no more drafts\n");
     }
     match office.prepare(alloc, asked.desk, asked.seq, &asked.request, reading) {
         Ok(Ready::New(prepared)) => {
@@ -56,6 +56,17 @@ pub fn request_answer(
     match read_request(alloc, text.as_bytes()) {
         Ok(asked) => submit(alloc, office, &asked, reading),
         Err(stop) => refused(alloc, stop),
+    }
+}
+
+/// Sets the edition of the texts from now on. There is no way back from Two to One.
+pub fn turn_answer(alloc: Global, office: &mut Office, edition: Edition) -> Result<Text, Oom> {
+    match (office.edition(), edition) {
+        (Edition::Two, Edition::One) => List::from_slice(alloc, b"no way back\n"),
+        (Edition::One, _) | (Edition::Two, Edition::Two) => {
+            office.set_edition(edition);
+            Ok(List::new(alloc))
+        }
     }
 }
 

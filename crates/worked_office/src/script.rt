@@ -1,5 +1,5 @@
 //! The script of an office's days: each line's step is worked, and answered by text.
-use crate::answers::{look_answer, request_answer};
+use crate::answers::{look_answer, request_answer, turn_answer};
 use crate::steps::{Step, step_of};
 use desk_settings::read_settings;
 use hazard_types::{Class, Edition, List, Minute, Oom, Or, Query, Text, stamp};
@@ -16,10 +16,11 @@ const LASTING: i64 = 10;
 /// What is answered where no office is open.
 const NO_OFFICE: &[u8] = b"no office\n";
 
-/// The settings, the office that is open, and the reading of its clock in minutes.
+/// The settings, and whether an office was opened with them; the office that is open, and the reading of its clock in minutes.
 #[derive(Drop)]
 pub struct Script {
     settings: String,
+    used: bool,
     office: Option<Office>,
     reading: i64,
 }
@@ -52,18 +53,25 @@ impl Script {
     pub fn new(alloc: Global) -> Self {
         Script {
             settings: String::new(alloc),
+            used: false,
             office: None,
             reading: 0,
         }
     }
 
+    /// Adds a line to the settings. The first one behind an office begins new settings.
     fn add_setting(&mut self, alloc: Global, line: &str) -> Result<Text, Oom> {
+        if self.used {
+            self.settings = String::new(alloc);
+            self.used = false;
+        }
         self.settings.push_str(line)?;
         self.settings.push('\n')?;
         note(alloc, b"")
     }
 
     fn open(&mut self, alloc: Global, edition: Edition) -> Result<Text, Oom> {
+        self.used = true;
         match read_settings(alloc, self.settings.as_bytes()) {
             Ok(settings) => {
                 let office = Office::new(alloc, settings, Class::O, edition)?;
@@ -72,6 +80,13 @@ impl Script {
             }
             Err(Or::No(_fault)) => note(alloc, b"no settings\n"),
             Err(Or::OutOfMemory) => Err(Oom),
+        }
+    }
+
+    fn turn(&mut self, alloc: Global, edition: Edition) -> Result<Text, Oom> {
+        match &mut self.office {
+            Some(office) => turn_answer(alloc, office, edition),
+            None => note(alloc, NO_OFFICE),
         }
     }
 
@@ -119,6 +134,7 @@ impl Script {
             }
             Step::Setting(setting) => self.add_setting(alloc, setting),
             Step::Open(edition) => self.open(alloc, *edition),
+            Step::Turn(edition) => self.turn(alloc, *edition),
             Step::At(reading) => {
                 self.reading = *reading;
                 note(alloc, b"")

@@ -6,10 +6,12 @@ use hazard_types::{Edition, Query, read_stamp};
 pub enum Step<'a> {
     /// A line that is answered by itself.
     Remark,
-    /// A line of the settings of the offices that are opened from now on.
+    /// A line of settings.
     Setting(&'a str),
     /// A new office in this edition.
     Open(Edition),
+    /// The edition of the texts from now on.
+    Turn(Edition),
     /// The reading of the clock from now on, in minutes.
     At(i64),
     /// What is looked at.
@@ -62,6 +64,7 @@ fn worded_step(line: &str) -> Option<Step<'_>> {
     match word {
         ">" => Some(Step::Setting(rest)),
         "open" => edition_of(rest).map(Step::Open),
+        "edition" => edition_of(rest).map(Step::Turn),
         "at" => reading_of(rest).map(Step::At),
         "fill" => number_of(rest).map(Step::Fill),
         _ => query_of(word, rest).map(Step::Look),
