@@ -1,0 +1,82 @@
+//! What an office answers, as text.
+ghost use Rattle.request_json.specs.Formed.{HasForm};
+
+use hazard_types::{Edition, List, Oom, Or, Query, Refusal, Text};
+use office_core::{Office, Ready};
+use request_json::{Asked, draft_text, read_request, refusal_text, reply_text};
+use std::alloc::Global;
+
+/// A text with LF behind it.
+fn line_of(mut text: Text) -> Result<Text, Oom> {
+    text.push(b'\n')?;
+    Ok(text)
+}
+
+/// The line of a refusal. Want of memory ends the script.
+fn refused(alloc: Global, stop: Or<Refusal>) -> Result<Text, Oom> {
+    match stop {
+        Or::No(refusal) => line_of(refusal_text(alloc, &refusal)?),
+        Or::OutOfMemory => Err(Oom),
+    }
+}
+
+/// The reply to a desk's last request, which was repeated.
+fn kept_answer(alloc: Global, office: &Office, asked: &Asked) -> Result<Text, Oom> {
+    match office.kept(asked.desk) {
+        Some(reply) => line_of(reply_text(alloc, reply)?),
+        None => Ok(List::new(alloc)),
+    }
+}
+
+/// Hands a request to the office, and commits it where it is accepted.
+fn submit(alloc: Global, office: &mut Office, asked: &Asked, reading: i64) -> Result<Text, Oom>
+    requires { HasForm asked.now }
+{
+    if office.opened_drafts() == u32::MAX {
+        return List::from_slice(alloc, b"no more drafts\n");
+    }
+    match office.prepare(alloc, asked.desk, asked.seq, &asked.request, reading) {
+        Ok(Ready::New(prepared)) => {
+            let text = line_of(reply_text(alloc, prepared.reply())?)?;
+            office.commit(prepared);
+            Ok(text)
+        }
+        Ok(Ready::Again) => kept_answer(alloc, office, asked),
+        Err(stop) => refused(alloc, stop),
+    }
+}
+
+/// The reply to a request as JSON, or the refusal.
+pub fn request_answer(
+    alloc: Global,
+    office: &mut Office,
+    text: &str,
+    reading: i64,
+) -> Result<Text, Oom> {
+    match read_request(alloc, text.as_bytes()) {
+        Ok(asked) => submit(alloc, office, &asked, reading),
+        Err(stop) => refused(alloc, stop),
+    }
+}
+
+/// Sets the edition of the texts from now on. There is no way back from Two to One.
+pub fn turn_answer(alloc: Global, office: &mut Office, edition: Edition) -> Result<Text, Oom> {
+    match (office.edition(), edition) {
+        (Edition::Two, Edition::One) => List::from_slice(alloc, b"no way back\n"),
+        (Edition::One, _) | (Edition::Two, Edition::Two) => {
+            office.set_edition(edition);
+            Ok(List::new(alloc))
+        }
+    }
+}
+
+/// What is looked at. A draft is a line, and all else as it is.
+pub fn look_answer(alloc: Global, office: &Office, q: &Query, reading: i64) -> Result<Text, Oom> {
+    match office.look(alloc, q, reading) {
+        Ok(text) => match q {
+            Query::Draft(_id) => line_of(text),
+            Query::Board | Query::Product(_) | Query::After(_) | Query::Preview(_) => Ok(text),
+        },
+        Err(stop) => refused(alloc, stop),
+    }
+}
