@@ -22,4 +22,5 @@ pub mod UpdateLemmas
 pub mod RoomLemmas
 mod DraftChanges
 pub mod BrokenLemmas
+pub mod ReadingLemmas
 pub mod ReadyLemmas

@@ -1,5 +1,5 @@
-//! Laws: a request has one answer.
-ghost use Rattle.std.specs.Prelude.{◌≡◌, ℕ, ℤ, List, Option};
+//! Laws: a request has one answer, and its minute serves as its reading.
+ghost use Rattle.std.specs.Prelude.{◌≡◌, ◌≤◌, ℕ, ℤ, pos, List, Option};
 ghost use Rattle.hazard_types.specs.declared.refusal.Refusal.{Refusal};
 ghost use Rattle.hazard_types.specs.declared.request.Reply.{Reply};
 ghost use Rattle.hazard_types.specs.declared.request.Request.{Request};
@@ -19,4 +19,11 @@ pub fn a_request_has_one_answer()
         Repeats s desk seq r kept → Accepts s desk seq r reading t made → ⊥ }
     ensures unrefused { (s : State) (desk : List ℕ) (seq : ℕ) (r : Request) (reading : ℤ) (x : Refusal) (kept : Reply) →
         Repeats s desk seq r kept → Refuses s desk seq r reading x → ⊥ }
+{}
+
+/// A request that is accepted at a reading is accepted at its own minute as the reading, and makes the same. The last entry's minute is at most 52,000,000, as that of each sound state.
+#[tactic(auto, using(crate::proofs::ReadingLemmas::at_own_minute))]
+pub fn accepted_requests_are_accepted_at_their_minute()
+    ensures { (s : State) (desk : List ℕ) (seq : ℕ) (r : Request) (reading : ℤ) (t : ℕ) (made : Option Made) →
+        s.last ≤ 52000000 → Accepts s desk seq r reading t made → Accepts s desk seq r (pos t) t made }
 {}

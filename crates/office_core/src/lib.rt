@@ -25,7 +25,7 @@ mod soundness_laws;
 mod writing;
 
 pub use agreement_laws::{offices_begin_in_agreement, products_keep_the_agreement};
-pub use answer_laws::a_request_has_one_answer;
+pub use answer_laws::{a_request_has_one_answer, accepted_requests_are_accepted_at_their_minute};
 pub use heard::{Heard, Said};
 pub use history_laws::{accepted_requests_are_numbered_on, requests_stand_once};
 pub use made::Made;
