@@ -14,7 +14,7 @@ mod request;
 mod training;
 
 pub use asked::Asked;
-pub use canonical::{intent_text, request_text};
+pub use canonical::{intent_text, request_text, text_of_request};
 pub use drafts::draft_text;
 pub use laws::canonical_texts_read_back;
 pub use refusals::refusal_text;
