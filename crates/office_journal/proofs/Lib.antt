@@ -1,1 +1,4 @@
 mod Growing
+mod Carrying
+mod InTime
+mod Entering

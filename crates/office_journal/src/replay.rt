@@ -1,5 +1,5 @@
 //! How an office is read from the bodies of a journal.
-ghost use Rattle.std.specs.Prelude.{◌≡◌, ◌×◌, ◌+◌, ◌≤◌, ◌<◌, ◌++◌, ◌∷◌, [], ℕ, List, Err, IfOk, OnOk, length, map};
+ghost use Rattle.std.specs.Prelude.{◌≡◌, ◌+◌, ◌≤◌, ◌<◌, ◌++◌, ◌∷◌, [], ℕ, List, Err, IfOk, OnOk, length, map};
 ghost use Rattle.hazard_types.specs.declared.or.Or.TheVariants.{No};
 ghost use Rattle.journal_core.specs.Image.{records};
 ghost use Rattle.office_journal.specs.Damage.{AreBodies, FailsAt};
@@ -58,7 +58,7 @@ impl Replayed {
 
     /// Takes the next body, or tells its place.
     fn take(&mut self, alloc: Global, body: &[u8]) -> Result<(), Or<u64>> {
-        if body == b"edition 2" && self.office.edition() == Edition::One {
+        if body == b"edition 2".as_slice() && self.office.edition() == Edition::One {
             self.office.set_edition(Edition::Two);
         } else {
             self.take_entry(alloc, body)?;
