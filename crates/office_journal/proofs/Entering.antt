@@ -1,5 +1,5 @@
 -- The entry of what was prepared may follow a history.
-use Rattle.std.proofs.Common.{◌≡◌, ◌≤◌, ◌+◌, ℕ, pos, Bool, true, List, [], ◌∷◌, ◌++◌, length, Option, refl, sym, ◌∙◌, ap, subst, arith}
+use Rattle.std.proofs.Common.{◌≡◌, ◌≤◌, ◌+◌, ℕ, ℤ, pos, Bool, true, List, [], ◌∷◌, ◌++◌, length, Option, refl, sym, ◌∙◌, ap, subst, arith}
 use Rattle.std.proofs.lemmas.Bool.{le-leb}
 use Rattle.hazard_types.specs.declared.request.Edition.{Edition}
 use Rattle.hazard_types.specs.declared.request.Entry.{Entry}
@@ -8,13 +8,17 @@ use Rattle.hazard_types.specs.declared.request.Request.TheVariants.{Issue, Begin
 use Rattle.journal_core.specs.Image.{records}
 use Rattle.request_json.specs.Formed.{HasForm}
 use Rattle.office_core.specs.Histories.{Entered, IsNext}
+use Rattle.office_core.specs.Prepared.{IsReady, Readied}
 use Rattle.office_core.specs.State.{State, in_edition}
 use Rattle.office_core.specs.Step.{Accepts, begun_after, entry_of, state_after}
+use Rattle.office_core.specs.Views.{OfficeView}
 use Rattle.office_core.specs.declared.made.Made.{Made}
 use Rattle.office_journal.specs.Bodies.{bodies_of, entry_body}
 use Rattle.office_journal.specs.Changes.{Change, IsNextEntry, changed}
 use Rattle.office_journal.specs.Histories.{History, IsHistory, bodies, fits}
+use Rattle.office_journal.specs.Submitting.{entered}
 use Rattle.office_journal.proofs.Growing.{follows_itself, history_grows}
+use Rattle.office_journal.proofs.InTime.{in_time}
 
 begun_by : (s : State) (r : Request) → begun_after s r ≤ s.begun + 1
 begun_by s (Issue part) = omega arith
@@ -66,3 +70,19 @@ module _ (file : List ℕ) (h : History) (s : State) (is : IsHistory file h s) (
     pub history_then : IsHistory file (changed h (Change.entry (as_entered e made))) (state_after s e made)
     history_then = subst (λ (z : Entry). IsHistory file (changed h (Change.entry (as_entered z made))) (state_after s z made)) (sym entry)
         (history_grows file h s is (as_entered (entry_of s desk seq r t made) made) (state_after s (entry_of s desk seq r t made) made) edition_now here)
+
+-- what was prepared may follow the history, which has the state behind it then
+pub record Follows (file : List ℕ) (h : History) (s : State) (p : Readied) : Type 0 where
+  pub may : IsNextEntry file h (entered p)
+  pub after : IsHistory file (changed h (Change.entry (entered p))) (state_after s p.entry p.made)
+
+pub follows : (file : List ℕ) (h : History) (o : OfficeView) (is : IsHistory file h o.state) (desk : List ℕ) (seq : ℕ) (r : Request) (reading : ℤ) (p : Readied) → HasForm (record { desk = desk; seq = seq; request = r })
+    → IsReady o desk seq r reading p
+    → (o.state.last ≤ 52000000 → Accepts o.state desk seq r reading p.entry.minute p.made → Accepts o.state desk seq r (pos p.entry.minute) p.entry.minute p.made)
+    → (gate : ℕ) → gate ≡ length (records (bodies file h)) → (body : List ℕ) → body ≡ entry_body (entered p) → gate + 6 + length body ≤ 268435456 → Follows file h o.state p
+follows file h o is desk seq r reading p form ready law gate place body written room =
+    let accepted = law (in_time file h o.state is) ready.accepted in
+    record {
+      may = may_follow file h o.state is desk seq r p.entry.minute p.made form accepted gate place p.entry ready.entry body written room;
+      after = history_then file h o.state is desk seq r p.entry.minute p.made form accepted gate place p.entry ready.entry body written room;
+    }

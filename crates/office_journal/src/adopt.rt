@@ -3,7 +3,7 @@ ghost use Rattle.std.specs.Prelude.{◌≡◌, ◌⊎◌, ◌≤◌, ℕ, List, 
 ghost use Rattle.desk_traits.specs.Crash.{LeavesOnly};
 ghost use Rattle.desk_traits.specs.Faults.{Rose};
 ghost use Rattle.desk_traits.specs.File.{Only};
-ghost use Rattle.desk_settings.specs.declared.keep.SettingsFault.{SettingsFault as Fault};
+ghost use Rattle.desk_settings.specs.declared.fault.SettingsFault.{SettingsFault as Fault};
 ghost use Rattle.journal_core.specs.Adopt.{Settles};
 ghost use Rattle.journal_core.specs.Image.{Fresh};
 ghost use Rattle.office_core.specs.Agreement.{ReadsAsTheBoard};
