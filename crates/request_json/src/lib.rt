@@ -13,7 +13,7 @@ mod replies;
 mod request;
 
 pub use asked::Asked;
-pub use canonical::{intent_text, request_text};
+pub use canonical::{intent_text, request_text, text_of_request};
 pub use drafts::draft_text;
 pub use laws::{canonical_texts_are_lines, canonical_texts_read_back};
 pub use refusals::refusal_text;

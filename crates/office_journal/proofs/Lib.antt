@@ -1,0 +1,6 @@
+mod Growing
+mod Carrying
+mod Beginning
+mod InTime
+mod Entering
+mod Writing

@@ -1,0 +1,14 @@
+-- What was read from the bodies of a journal.
+use Rattle.std.specs.Prelude.{◌≡◌, ◌<◌, ◌≤◌, ℕ, List, length}
+use Rattle.journal_core.specs.Image.{records}
+use Rattle.office_journal.specs.Histories.{History, IsHistory, bodies}
+use Rattle.office_journal.specs.declared.replay.Replayed.{Replayed}
+
+-- the office of this history, its entries counted, and the bytes of its records
+pub record IsReplayed (file : List ℕ) (h : History) (found : Replayed) : Type 0 where
+  pub history : IsHistory file h found.office.state
+  pub entries : found.entries ≡ length h.entries
+  pub begun : found.office.state.begun ≤ found.entries
+  pub recorded : found.entries ≤ found.size
+  pub size : found.size ≡ length (records (bodies file h))
+  pub within : found.size < 4294967295

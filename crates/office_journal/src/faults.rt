@@ -1,0 +1,29 @@
+//! Why an office was not opened.
+use desk_settings::SettingsFault;
+use journal_core::AdoptFault;
+
+/// Why a kept office was not made or not opened.
+#[derive(Debug, Drop, PartialEq, Eq)]
+pub enum KeepFault {
+    /// The first fault of the settings.
+    Settings(SettingsFault),
+    /// The file is not fresh, so nothing is made.
+    NotFresh,
+    /// The file is fresh, so there is nothing to open.
+    Fresh,
+    /// The place of the gate from which on the file is no journal of an office.
+    Damaged { at: u64 },
+    DiskFault,
+    OutOfMemory,
+}
+
+impl From<AdoptFault> for KeepFault {
+    fn from(fault: AdoptFault) -> Self {
+        match fault {
+            AdoptFault::Fresh => KeepFault::Fresh,
+            AdoptFault::Damaged { at } => KeepFault::Damaged { at },
+            AdoptFault::DiskFault => KeepFault::DiskFault,
+            AdoptFault::OutOfMemory => KeepFault::OutOfMemory,
+        }
+    }
+}
