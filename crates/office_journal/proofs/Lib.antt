@@ -1,1 +1,4 @@
 mod Growing
+mod Parting
+mod Telling
+mod Replays

@@ -4,5 +4,6 @@ pub mod Damage
 pub mod Histories
 pub mod Kept
 pub mod Making
+pub mod Parts
 pub mod Replaying
 pub mod Submitting
