@@ -59,7 +59,7 @@ pub(crate) enum Found {
 }
 
 ghost use Rattle.journal_core.specs.Image.{Fresh};
-ghost use Rattle.journal_core.specs.Adopt.{Steps, Ends, IsFound, Settles};
+ghost use Rattle.journal_core.specs.Adopt.{Steps, Ends, IsFound, IsGated, Settles};
 
 // The number that four bytes spell, most significant first.
 fn size_of(head: [u8; 4]) -> u32
@@ -106,6 +106,7 @@ fn scan<D: Disk>(alloc: Global, disk: &mut D, n: u64) -> Result<Found, ReadFault
     ensures seen { D.seen disk.new ≡ D.seen disk.old }
     ensures syncs { D.syncs disk.new ≡ D.syncs disk.old }
     ensures found { (file : List ℕ) → D.seen disk.old ≡ Some file → (Fresh file → ⊥) → IfOk result (λ found. IsFound found file) }
+    ensures gate { IfOk result IsGated }
     ensures crash { Passes Same (D.moment disk.old) (D.moment disk.new) (D.may_leave disk.old) (D.left_since disk.old) (D.left_since disk.new) }
     ensures later { D.faults disk.old ≤ D.faults disk.new }
     ensures cause { IsErrOf result ReadFault.Failing → Rose (D.faults disk.old) (D.faults disk.new) }
@@ -134,6 +135,7 @@ fn scan<D: Disk>(alloc: Global, disk: &mut D, n: u64) -> Result<Found, ReadFault
 pub(crate) fn find<D: Disk>(alloc: Global, disk: &mut D) -> Result<Found, ReadFault>
     ensures seen { D.seen disk.new ≡ D.seen disk.old }
     ensures found { (file : List ℕ) → D.seen disk.old ≡ Some file → IfOk result (λ found. IsFound found file) }
+    ensures gate { IfOk result IsGated }
     ensures durable { (file : List ℕ) → D.seen disk.old ≡ Some file → OnOk result ((c : List ℕ) → D.may_leave disk.new c → c ≡ file) }
     ensures settled { (file before : List ℕ) → D.seen disk.old ≡ Some file → D.syncs disk.old ≡ Some before → OnOk result (Settles D.moment D.left_since D.syncs before file disk.new) }
     ensures crash { Passes Same (D.moment disk.old) (D.moment disk.new) (D.may_leave disk.old) (D.left_since disk.old) (D.left_since disk.new) }

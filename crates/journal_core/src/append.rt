@@ -41,6 +41,9 @@ impl<D: Disk> Journal<D> {
         ensures full { IsErrOf result AppendFault.Full ↔ (268435456 < gate_of self.old + 6 + length body.now) }
         ensures unchanged { IsErrOf result AppendFault.Full → self.new ≡ self.old }
 
+        // The last gate moves behind the body's record, or stays where it is.
+        ensures gate { MatchResult result (λ _. gate_of self.new ≡ gate_of self.old + (length body.now + 5)) (λ _. gate_of self.new ≡ gate_of self.old) }
+
         // The disk failed in this call.
         ensures later { D.faults (disk_of self.old) ≤ D.faults (disk_of self.new) }
         ensures cause { IsErrOf result AppendFault.DiskFault → Rose (D.faults (disk_of self.old)) (D.faults (disk_of self.new)) }
@@ -112,6 +115,7 @@ impl<D: Disk> Journal<D> {
         requires within { IsWithin (self.old.gate + 6 + length body.now) (D.seen (disk_of self.old)) }
         requires room { self.old.gate + 6 + length body.now ≤ 268435456 }
         ensures put { OnOk result (D.seen self.new.disk ≡ option_map (put self.old.gate (71 ∷ [])) (D.seen self.old.disk)) }
+        ensures gate { MatchResult result (λ _. self.new.gate ≡ self.old.gate + (length body.now + 5)) (λ _. self.new.gate ≡ self.old.gate) }
         ensures ok { (bodies : List (List ℕ)) → IsStaged D.seen D.may_leave self.old.disk self.old.gate bodies body.now
             → OnOk result (Keeps D.seen D.may_leave self.new (bodies ++ body.now ∷ []) None × Only (D.seen (disk_of self.new)) (D.may_leave (disk_of self.new))) }
         ensures err { (bodies : List (List ℕ)) → IsStaged D.seen D.may_leave self.old.disk self.old.gate bodies body.now

@@ -3,7 +3,7 @@ ghost use Rattle.std.specs.Prelude.{◌≡◌, ◌⊎◌, ◌+◌, ◌<◌, ◌�
 ghost use Rattle.desk_traits.specs.Crash.{LeavesOnly};
 ghost use Rattle.desk_traits.specs.Faults.{HasCause, Rose};
 ghost use Rattle.desk_traits.specs.File.{IsWithin, Only};
-ghost use Rattle.journal_core.specs.Image.{Image, Half, IsOneOf, Fresh};
+ghost use Rattle.journal_core.specs.Image.{records, Image, Half, IsOneOf, Fresh};
 ghost use Rattle.journal_core.specs.Journal.{StandsFor, IsStaged, MayPend, Rests};
 ghost use Rattle.journal_core.specs.Written.{with_record};
 ghost use Rattle.journal_core.specs.Kept.{disk_of, gate_of, Keeps};
@@ -11,15 +11,32 @@ ghost use Rattle.journal_core.specs.Create.{IsMaking};
 ghost use Rattle.journal_core.specs.Adopt.{DamagedAt, Settles};
 
 use crate::adopt::{Found, ReadFault, find};
-use crate::create::make;
+use crate::create::{Start, look, make};
 use crate::faults::{AdoptFault, CreateFault};
 use crate::journal::Journal;
 use crate::packet::Packet;
-use desk_traits::Disk;
+use desk_traits::{Disk, Failed};
 use hazard_types::{List, Text};
 use std::alloc::Global;
 
 impl<D: Disk> Journal<D> {
+    /// Whether a journal may be made in the file: it has no byte or one, or is only being made. Nothing is changed.
+    pub fn is_fresh(disk: &mut D) -> Result<bool, Failed>
+        ensures seen { D.seen disk.new ≡ D.seen disk.old }
+        ensures told { (file : List ℕ) → D.seen disk.old ≡ Some file → IfOk result (λ fresh. IsTrue fresh ↔ Fresh file) }
+
+        // A crash since its start leaves what one at its start might have left.
+        ensures untouched { LeavesOnly D.moment D.left_since disk.old disk.new (D.may_leave disk.old) }
+
+        // The disk failed in this call.
+        ensures cause { HasCause (D.faults disk.old) (D.faults disk.new) result }
+    {
+        match look(disk)? {
+            Start::Other => Ok(false),
+            Start::Begun | Start::Short => Ok(true),
+        }
+    }
+
     /// Makes a journal of one body on a fresh disk.
     pub fn create(mut disk: D, body: &Packet) -> Result<Journal<D>, (D, CreateFault)>
 
@@ -30,6 +47,9 @@ impl<D: Disk> Journal<D> {
 
         // Its record stands at the begin of the file, with a closed gate behind it, and no other byte is changed.
         ensures written { (file : List ℕ) → D.seen disk ≡ Some file → IfOk result (λ journal. D.seen (disk_of journal) ≡ Some (with_record 0 body.now file)) }
+
+        // The last gate stands behind that record.
+        ensures gate { IfOk result (λ journal. gate_of journal ≡ length body.now + 5) }
 
         // The file was not fresh, and is as before.
         ensures not_fresh { (file : List ℕ) → D.seen disk ≡ Some file → IfErr result (λ e. e.1 ≡ CreateFault.NotFresh → (Fresh file → ⊥)) }
@@ -65,6 +85,9 @@ impl<D: Disk> Journal<D> {
         // The file is an image of exactly these bodies, all of it is stable, and nothing is pending.
         ensures ok { (file : List ℕ) → D.seen disk ≡ Some file
             → IfOk result (λ r. Image file r.1 × Keeps D.seen D.may_leave r.0 r.1 None × Only (D.seen (disk_of r.0)) (D.may_leave (disk_of r.0))) }
+
+        // The last gate stands behind the records of these bodies, of which there is one at least.
+        ensures gate { IfOk result (λ r. (gate_of r.0 ≡ length (records r.1)) × (0 < length r.1)) }
 
         ensures fresh { (file : List ℕ) → D.seen disk ≡ Some file → IfErr result (λ e. e.1 ≡ AdoptFault.Fresh → Fresh file) }
         ensures damaged { (file : List ℕ) → D.seen disk ≡ Some file → IfErr result (λ e. (at : ℕ) → e.1 ≡ AdoptFault.Damaged at → DamagedAt file at) }

@@ -1,5 +1,6 @@
 pub mod Asking
 pub mod CanonicalFloats
+pub mod CanonicalLines
 pub mod CanonicalPlain
 pub mod CanonicalUtf8
 pub mod CompactReading

@@ -1,5 +1,5 @@
-//! Laws of requests, for the crates above. The function does nothing; its contract is the law.
-ghost use Rattle.std.specs.Prelude.{◌≡◌, Ok};
+//! Laws of requests, for the crates above. Each function does nothing; its contract is the law.
+ghost use Rattle.std.specs.Prelude.{◌≡◌, ◌≢◌, ℕ, Ok, All};
 ghost use Rattle.request_json.specs.Canonical.{asked_text};
 ghost use Rattle.request_json.specs.Form.{asked_of};
 ghost use Rattle.request_json.specs.Formed.{HasForm};
@@ -10,4 +10,10 @@ use crate::asked::Asked;
 #[tactic(auto, using(crate::proofs::RequestsBack::text_reads_back))]
 pub fn canonical_texts_read_back()
     ensures { (a : Asked) → HasForm a → asked_of (asked_text a) ≡ Ok a }
+{}
+
+/// The canonical text of any request is one line.
+#[tactic(auto, using(crate::proofs::CanonicalLines::asked_line))]
+pub fn canonical_texts_are_lines()
+    ensures { (a : Asked) → All (λ (b : ℕ). b ≢ 10) (asked_text a) }
 {}

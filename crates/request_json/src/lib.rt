@@ -16,7 +16,7 @@ mod training;
 pub use asked::Asked;
 pub use canonical::{intent_text, request_text, text_of_request};
 pub use drafts::draft_text;
-pub use laws::canonical_texts_read_back;
+pub use laws::{canonical_texts_are_lines, canonical_texts_read_back};
 pub use refusals::refusal_text;
 pub use replies::{disk_fault_text, out_of_memory_text, reply_text};
 pub use request::{read_request, read_training_issue};

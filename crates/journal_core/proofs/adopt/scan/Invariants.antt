@@ -1,7 +1,7 @@
-use Rattle.std.proofs.Common.{◌≡◌, ℕ, ◌-◌, ◌≤◌, List, Some}
+use Rattle.std.proofs.Common.{◌≡◌, ℕ, ◌-◌, ◌≤◌, List, Some, length}
 use Rattle.desk_traits.specs.Crash.{Passes}
 use Rattle.desk_traits.specs.File.{Same}
-use Rattle.journal_core.specs.Image.{Fresh}
+use Rattle.journal_core.specs.Image.{records, Fresh}
 use Rattle.journal_core.specs.Adopt.{Reads}
 use Rattle.journal_core.proofs.adopt.scan.Given as goal
 
@@ -13,6 +13,7 @@ invariant-loop-at g l =
       syncs : d.syncs l.disk ≡ d.syncs l.fn.disk;
       crash : Passes Same (d.moment l.fn.disk) (d.moment l.disk) (d.may_leave l.fn.disk) (d.left_since l.fn.disk) (d.left_since l.disk);
       later : d.faults l.fn.disk ≤ d.faults l.disk;
+      place : l.at ≡ length (records l.bodies);
       read : (f : List ℕ) → d.seen l.fn.disk ≡ Some f → (Fresh f → ⊥) → Reads l.at l.bodies f;
     }
 
