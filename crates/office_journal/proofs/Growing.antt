@@ -11,11 +11,11 @@ use Rattle.office_journal.specs.Changes.{Change, MayChange, body_of, changed}
 use Rattle.office_journal.specs.Histories.{History, IsHistory, bodies, fits}
 
 -- the edition of the last of entries that follow an edition
-abbrev pub last_edition : Edition → List Entered → Edition
+pub last_edition : Edition → List Entered → Edition
 last_edition before [] = before
 last_edition before (x ∷ entries) = last_edition x.entry.edition entries
 
-pub unmarked : (e : Edition) → marks e e ≡ []
+unmarked : (e : Edition) → marks e e ≡ []
 unmarked One = refl
 unmarked Two = refl
 
@@ -35,9 +35,8 @@ mark_behind before (y ∷ entries) e =
     ap (λ (l : List (List ℕ)). marks before y.entry.edition ++ (entry_body y ∷ l)) (mark_behind y.entry.edition entries e)
     ∙ sym (append_assoc (marks before y.entry.edition) (entry_body y ∷ bodies_from y.entry.edition entries One) (mark ∷ []))
 
-pub edition_after : (s : State) (x : Entered) → (state_after (in_edition x.entry.edition s) x.entry x.made).edition ≡ x.entry.edition
-unfolding state_after
-edition_after s x = refl
+edition_after : (s : State) (x : Entered) → (state_after (in_edition x.entry.edition s) x.entry x.made).edition ≡ x.entry.edition
+edition_after s x = unfolding (state_after) refl
 
 pub edition_led : (fits : List Entered → Entered → Bool) (earlier : List Entered) (s : State) (history : List Entered) (after : State) → LeadFrom fits earlier s history after → after.edition ≡ last_edition s.edition history
 edition_led fits earlier s [] after led = ap (λ (z : State). z.edition) led
@@ -53,7 +52,7 @@ led_on fits earlier s [] after next x led is =
 led_on fits earlier s (y ∷ history) after next x (n, first, rest) is =
     (n, first, led_on fits (earlier ++ y ∷ []) n history after next x rest (subst (λ (l : List Entered). IsNext fits l after x next) (sym (append_assoc earlier (y ∷ []) history)) is))
 
-pub follows_itself : (e : Edition) → MayFollow e e
+follows_itself : (e : Edition) → MayFollow e e
 follows_itself One = tt
 follows_itself Two = tt
 
@@ -65,7 +64,7 @@ one_before : (e : Edition) → MayFollow e One → e ≡ One
 one_before One may = refl
 one_before Two may = absurd may
 
-pub in_own : (e : Edition) (s : State) → s.edition ≡ e → s ≡ in_edition e s
+in_own : (e : Edition) (s : State) → s.edition ≡ e → s ≡ in_edition e s
 in_own e s is = subst (λ (e : Edition). s ≡ in_edition e s) is refl
 
 -- the bodies of a history that grows are those before and one more

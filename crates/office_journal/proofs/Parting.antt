@@ -1,7 +1,7 @@
 -- The parts of an entry's body tell the entry.
 use Rattle.std.proofs.Common.{◌≡◌, ◌≢◌, ◌<◌, ◌≤◌, ◌==◌, ℕ, ℤ, pos, ◌+◌, Bool, true, false, List, [], ◌∷◌, ◌++◌, Option, None, Some, Result, Ok, length, take, drop, refl, sym, ◌∙◌, ap, subst, arith, length-append, nat_lt, int_lt, append_assoc, All, cond}
 use Rattle.std.proofs.lemmas.Bool.{ne_eqb, ltb-false, or_parts}
-use Rattle.std.proofs.lemmas.List.{append_nil, get_or_append_left}
+use Rattle.std.proofs.lemmas.List.{append-nil, get_or_append_left}
 use Rattle.std.proofs.lemmas.List.Sums.{position_or_len_is}
 use Rattle.std.proofs.Math.Seq.{get_or-append_seam, take-append_seam, take-length}
 use Rattle.std.specs.List.{position_or_len}
@@ -53,8 +53,8 @@ no_feed : (xs : List ℕ) → All (λ (b : ℕ). b ≢ 10) xs → position_or_le
 no_feed xs line = position_or_len_is is_line_feed xs (length xs) 0 (omega arith) (λ k less. not_feed _ (line k 0 less)) (λ less. absurd (omega (arith, less)))
 
 pub line_before : (xs : List ℕ) (e : Edition) (made : Option Made) → All (λ (b : ℕ). b ≢ 10) xs → line_of (xs ++ carried e made) ≡ xs
-line_before xs One made line = ap line_of (append_nil xs) ∙ ap (λ (n : ℕ). take n xs) (no_feed xs line) ∙ take-length xs
-line_before xs Two None line = ap line_of (append_nil xs) ∙ ap (λ (n : ℕ). take n xs) (no_feed xs line) ∙ take-length xs
+line_before xs One made line = ap line_of (append-nil xs) ∙ ap (λ (n : ℕ). take n xs) (no_feed xs line) ∙ take-length xs
+line_before xs Two None line = ap line_of (append-nil xs) ∙ ap (λ (n : ℕ). take n xs) (no_feed xs line) ∙ take-length xs
 line_before xs Two (Some made) line =
     ap (λ (n : ℕ). take n (xs ++ 10 ∷ made.sent.text)) (before_feed xs made.sent.text line) ∙ take-append_seam xs (10 ∷ made.sent.text)
 

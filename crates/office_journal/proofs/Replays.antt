@@ -1,5 +1,6 @@
 -- An office that is read from bodies, one after another.
-use Rattle.std.proofs.Common.{◌≡◌, ◌≢◌, ◌≤◌, ◌<◌, ℕ, ℤ, pos, ◌+◌, Bool, true, false, List, [], ◌∷◌, ◌++◌, Option, None, Some, Result, Ok, Err, length, take, drop, refl, sym, ◌∙◌, ap, subst, arith, length-append, append_assoc, inr, leb, leb-true, le-leb}
+use Rattle.std.proofs.Common.{if◌then◌else◌, ltb, inl, ◌≡◌, ◌≢◌, ◌≤◌, ◌<◌, ℕ, ℤ, pos, ◌+◌, Bool, true, false, List, [], ◌∷◌, ◌++◌, Option, None, Some, Result, Ok, Err, length, take, drop, refl, sym, ◌∙◌, ap, subst, arith, length-append, append_assoc, inr, leb}
+use Rattle.std.proofs.lemmas.Bool.{leb-true, le-leb, ltb-false}
 use Rattle.std.specs.Int.{w32, to_be_bytes}
 use Rattle.hazard_types.specs.declared.codes.Class.TheVariants.{O}
 use Rattle.hazard_types.specs.declared.refusal.Refusal.{Refusal}
@@ -9,6 +10,9 @@ use Rattle.hazard_types.specs.declared.request.Entry.{Entry}
 use Rattle.hazard_types.specs.declared.request.Reply.{Reply}
 use Rattle.hazard_types.specs.declared.request.Request.{Request}
 use Rattle.hazard_types.specs.declared.request.Request.TheVariants as request
+use Rattle.desk_settings.specs.Reading.{settings_of}
+use Rattle.desk_settings.specs.declared.fault.SettingsFault.{SettingsFault}
+use Rattle.desk_settings.specs.declared.fault.SettingsFault.TheVariants.{TooLong}
 use Rattle.desk_settings.specs.declared.settings.Settings.{Settings}
 use Rattle.journal_core.specs.Image.{records, spelled}
 use Rattle.request_json.proofs.RequestsBack.{text_reads_back}
@@ -24,11 +28,12 @@ use Rattle.office_core.specs.declared.made.Made.{Made}
 use Rattle.office_journal.specs.Bodies.{asked_by, bodies_of, entry_body, mark}
 use Rattle.office_journal.specs.Changes.{Change, IsNextEntry, MayChange, body_of, changed}
 use Rattle.office_journal.specs.Damage.{AreBodies, FailsAt}
-use Rattle.office_journal.specs.Histories.{History, IsHistory, bodies, fits}
+use Rattle.office_journal.specs.Histories.{History, IsHistory, bodies, empty, fits}
 use Rattle.office_journal.specs.Parts.{Enters, entered, minute_in, request_in}
 use Rattle.office_journal.specs.Replaying.{most}
 use Rattle.office_journal.proofs.Growing.{bodies_grow, follows_itself, history_grows, history_marked, in_own}
 use Rattle.office_journal.proofs.Parting.{AreLines, AreOnce, entered_is, minute_of_body, minute_small, ok_is, request_of_body, some_is}
+use Rattle.office_journal.proofs.Telling.{bodies_grew}
 
 -- ---- sizes
 
@@ -98,10 +103,10 @@ module _ (lines : AreLines) (s : State) (x : Entered) (is : Enters s x) (body : 
 -- ---- entries of histories
 
 -- entries lead to one state
-led_once : (fits : List Entered → Entered → Bool) (earlier hs : List Entered) (s a b : State) → LeadFrom fits earlier s hs a → LeadFrom fits earlier s hs b → a ≡ b
-led_once fits earlier [] s a b p q = p ∙ sym q
-led_once fits earlier (x ∷ hs) s a b (m, f, p) (n, g, q) =
-    led_once fits (earlier ++ x ∷ []) hs m a b p (subst (λ (z : State). LeadFrom fits (earlier ++ x ∷ []) z hs b) (g.after ∙ sym f.after) q)
+led_once : (fit : List Entered → Entered → Bool) (earlier hs : List Entered) (s a b : State) → LeadFrom fit earlier s hs a → LeadFrom fit earlier s hs b → a ≡ b
+led_once fit earlier [] s a b p q = p ∙ sym q
+led_once fit earlier (x ∷ hs) s a b (m, f, p) (n, g, q) =
+    led_once fit (earlier ++ x ∷ []) hs m a b p (subst (λ (z : State). LeadFrom fit (earlier ++ x ∷ []) z hs b) (g.after ∙ sym f.after) q)
 
 -- a history has one state
 pub state_once : (file : List ℕ) (h : History) (s t : State) → IsHistory file h s → IsHistory file h t → s ≡ t
@@ -182,3 +187,46 @@ edition_stays s e made = refl
 -- the mark goes over to edition Two
 pub marked_size : (file : List ℕ) (h : History) (s : State) (size : ℕ) → IsHistory file h s → h.edition ≡ One → size ≡ length (records (bodies file h)) → size + 14 ≡ length (records (bodies file (changed h Change.marked)))
 marked_size file h s size is one now = omega (arith, now, records_push (bodies file h) mark, ap (λ (l : List (List ℕ)). length (records l)) (bodies_grow file h Change.marked s is one))
+
+-- ---- the settings' file
+
+not_long : (b : Bool) (r : Result Settings SettingsFault) (settings : Settings) → (if b then Err TooLong else r) ≡ Ok settings → b ≡ false
+not_long true r settings e = cc
+not_long false r settings e = refl
+
+pub settings_short : (file : List ℕ) (settings : Settings) → settings_of file ≡ Ok settings → length file ≤ 1048576
+unfolding settings_of
+settings_short file settings e = ltb-false 1048576 (length file) (not_long (ltb 1048576 (length file)) _ settings e)
+
+pub first_history : (file : List ℕ) (settings : Settings) → settings_of file ≡ Ok settings → IsHistory file (empty One) (first_state settings O One)
+first_history file settings read = record { settings = settings; read = read; last = first_state settings O One; legal = refl; edition = tt; state = refl }
+
+pub first_size : (file : List ℕ) → 5 + length file ≡ length (records (bodies file (empty One)))
+first_size file = omega (arith, records_push [] file)
+
+-- ---- the first body that fails
+
+pub no_settings : (file : List ℕ) (others : List (List ℕ)) → ((settings : Settings) → settings_of file ≢ Ok settings) → FailsAt (file ∷ others) 0
+no_settings file others none = record {
+  before = [];
+  body = file;
+  behind = others;
+  are = refl;
+  place = refl;
+  good = inl refl;
+  bad = λ all.
+      let both : file ≡ all.file = cc (all.are) in
+      none all.legal.settings (ap settings_of both ∙ all.legal.read);
+}
+
+pub fails_here : (lines : AreLines) (once : AreOnce) (file : List ℕ) (h : History) (s : State) (all before behind : List (List ℕ)) (body : List ℕ) (size : ℕ) → IsHistory file h s → size ≡ length (records (bodies file h))
+    → before ≡ bodies file h → all ≡ before ++ body ∷ behind → ((c : Change) → MayChange file h c → body_of c ≢ body) → FailsAt all size
+fails_here lines once file h s all before behind body size is now same are none = record {
+  before = bodies file h;
+  body = body;
+  behind = behind;
+  are = are ∙ ap (λ (l : List (List ℕ)). l ++ body ∷ behind) same;
+  place = now;
+  good = inr (record { file = file; history = h; state = s; legal = is; are = refl });
+  bad = λ grown. let g = bodies_grew lines once file h s body is grown in none g.change g.may g.is;
+}

@@ -1,6 +1,6 @@
 -- The bodies of a history tell the history.
 use Rattle.std.proofs.Common.{◌≡◌, ◌≢◌, ◌⊎◌, inl, inr, ℕ, Bool, List, [], ◌∷◌, ◌++◌, Result, Ok, Err, length, refl, sym, ◌∙◌, ap, subst, append_assoc}
-use Rattle.std.proofs.lemmas.List.{append_nil}
+use Rattle.std.proofs.lemmas.List.{append-nil}
 use Rattle.hazard_types.specs.declared.codes.Class.TheVariants.{O}
 use Rattle.hazard_types.specs.declared.request.Edition.{Edition}
 use Rattle.hazard_types.specs.declared.request.Edition.TheVariants.{One, Two}
@@ -59,36 +59,36 @@ no_front Two Two Two b bs p same = not_empty b bs (sym same)
 
 -- ---- entries at one state
 
-module _ (fits : List Entered → Entered → Bool) where
-  enters_of : (earlier : List Entered) (s next : State) (x : Entered) → IsNext fits earlier s x next → Enters (in_edition x.entry.edition s) x
+module _ (fit : List Entered → Entered → Bool) where
+  enters_of : (earlier : List Entered) (s next : State) (x : Entered) → IsNext fit earlier s x next → Enters (in_edition x.entry.edition s) x
   enters_of earlier s next x is = record { form = is.form; accepted = is.accepted; entry = is.entry }
 
   -- What is left of one list of entries behind another one, where the bodies of the one begin with those of the other.
   record Beyond (earlier hs gs : List Entered) (after last : State) (now final : Edition) (rest : List (List ℕ)) : Type 0 where
     tail : List Entered
     are : gs ≡ hs ++ tail
-    led : LeadFrom fits (earlier ++ hs) after tail last
+    led : LeadFrom fit (earlier ++ hs) after tail last
     may : MayFollow now (first_edition tail final)
     left : bodies_from now tail final ≡ rest
 
-  first_may : (earlier gs : List Entered) (s last : State) (before final : Edition) → s.edition ≡ before → LeadFrom fits earlier s gs last → MayFollow last.edition final → MayFollow before (first_edition gs final)
+  first_may : (earlier gs : List Entered) (s last : State) (before final : Edition) → s.edition ≡ before → LeadFrom fit earlier s gs last → MayFollow last.edition final → MayFollow before (first_edition gs final)
   first_may earlier [] s last before final at led may = subst (λ (e : Edition). MayFollow e final) (ap (λ (z : State). z.edition) led ∙ at) may
   first_may earlier (x ∷ gs) s last before final at (next, is, rest) may = subst (λ (e : Edition). MayFollow e x.entry.edition) at is.edition
 
   -- nothing stands before: all is left
   all_left : (earlier gs : List Entered) (s after last : State) (before final : Edition) (rest : List (List ℕ)) → s.edition ≡ before → after ≡ s
-      → LeadFrom fits earlier s gs last → MayFollow last.edition final → bodies_from before gs final ≡ rest → Beyond earlier [] gs after last before final rest
+      → LeadFrom fit earlier s gs last → MayFollow last.edition final → bodies_from before gs final ≡ rest → Beyond earlier [] gs after last before final rest
   all_left earlier gs s after last before final rest at from led may same = record {
     tail = gs;
     are = refl;
-    led = subst (λ (l : List Entered). LeadFrom fits l after gs last) (sym (append_nil earlier)) (subst (λ (z : State). LeadFrom fits earlier z gs last) (sym from) led);
+    led = subst (λ (l : List Entered). LeadFrom fit l after gs last) (sym (append-nil earlier)) (subst (λ (z : State). LeadFrom fit earlier z gs last) (sym from) led);
     may = first_may earlier gs s last before final at led may;
     left = same;
   }
 
   -- only the mark stands before
   behind_mark : (earlier gs : List Entered) (s after last : State) (final : Edition) (rest : List (List ℕ)) → s.edition ≡ One → after ≡ s
-      → LeadFrom fits earlier s gs last → MayFollow last.edition final → bodies_from One gs final ≡ mark ∷ rest → Beyond earlier [] gs after last Two final rest
+      → LeadFrom fit earlier s gs last → MayFollow last.edition final → bodies_from One gs final ≡ mark ∷ rest → Beyond earlier [] gs after last Two final rest
   behind_mark earlier [] s after last One rest at from led may same = absurd (not_empty mark rest (sym same))
   behind_mark earlier [] s after last Two rest at from led may same = record {
     tail = [];
@@ -104,7 +104,7 @@ module _ (fits : List Entered → Entered → Bool) where
     by Two is = record {
       tail = x ∷ gs;
       are = refl;
-      led = subst (λ (l : List Entered). LeadFrom fits l after (x ∷ gs) last) (sym (append_nil earlier)) (subst (λ (z : State). LeadFrom fits earlier z (x ∷ gs) last) (sym from) led);
+      led = subst (λ (l : List Entered). LeadFrom fit l after (x ∷ gs) last) (sym (append-nil earlier)) (subst (λ (z : State). LeadFrom fit earlier z (x ∷ gs) last) (sym from) led);
       may = subst (λ (e : Edition). MayFollow Two e) (sym is) tt;
       left =
         ap (λ (e : Edition). marks Two e ++ (entry_body x ∷ bodies_from x.entry.edition gs final)) is
@@ -114,7 +114,7 @@ module _ (fits : List Entered → Entered → Bool) where
   module _ (lines : AreLines) (once : AreOnce) where
     -- entries whose bodies begin with those of other entries begin with these
     pub beyond : (before : Edition) (earlier hs gs : List Entered) (s after last : State) (now final : Edition) (rest : List (List ℕ)) → s.edition ≡ before
-        → LeadFrom fits earlier s hs after → MayFollow after.edition now → LeadFrom fits earlier s gs last → MayFollow last.edition final
+        → LeadFrom fit earlier s hs after → MayFollow after.edition now → LeadFrom fit earlier s gs last → MayFollow last.edition final
         → bodies_from before gs final ≡ bodies_from before hs now ++ rest → Beyond earlier hs gs after last now final rest
     beyond One earlier [] gs s after last One final rest at led may its last_may same = all_left earlier gs s after last One final rest at led its last_may same
     beyond One earlier [] gs s after last Two final rest at led may its last_may same = behind_mark earlier gs s after last final rest at led its last_may same
@@ -129,16 +129,16 @@ module _ (fits : List Entered → Entered → Bool) where
           (same ∙ append_assoc (marks before y.entry.edition) (entry_body y ∷ bodies_from y.entry.edition hs now) rest) in
         let enters : Enters (in_edition y.entry.edition s) x = subst (λ (e : Edition). Enters (in_edition e s) x) front.0 (enters_of earlier s m x head) in
         let one : x ≡ y = entered_once lines once (in_edition y.entry.edition s) x y enters (enters_of earlier s n y first) front.1 in
-        let from : LeadFrom fits (earlier ++ x ∷ []) (state_after (in_edition x.entry.edition s) x.entry x.made) gs last = subst (λ (z : State). LeadFrom fits (earlier ++ x ∷ []) z gs last) head.after its in
-        let goes : LeadFrom fits (earlier ++ y ∷ []) n gs last =
-          subst (λ (z : State). LeadFrom fits (earlier ++ y ∷ []) z gs last) (sym first.after)
-          (subst (λ (z : Entered). LeadFrom fits (earlier ++ z ∷ []) (state_after (in_edition z.entry.edition s) z.entry z.made) gs last) one from) in
+        let from : LeadFrom fit (earlier ++ x ∷ []) (state_after (in_edition x.entry.edition s) x.entry x.made) gs last = subst (λ (z : State). LeadFrom fit (earlier ++ x ∷ []) z gs last) head.after its in
+        let goes : LeadFrom fit (earlier ++ y ∷ []) n gs last =
+          subst (λ (z : State). LeadFrom fit (earlier ++ y ∷ []) z gs last) (sym first.after)
+          (subst (λ (z : Entered). LeadFrom fit (earlier ++ z ∷ []) (state_after (in_edition z.entry.edition s) z.entry z.made) gs last) one from) in
         let more = beyond y.entry.edition (earlier ++ y ∷ []) hs gs n after last now final rest (ap (λ (z : State). z.edition) first.after ∙ edition_after s y)
           led may goes last_may (ap (λ (e : Edition). bodies_from e gs final) (sym front.0) ∙ front.2) in
         record {
           tail = more.tail;
           are = ap (λ (z : Entered). z ∷ gs) one ∙ ap (λ (l : List Entered). y ∷ l) more.are;
-          led = subst (λ (l : List Entered). LeadFrom fits l after more.tail last) (append_assoc earlier (y ∷ []) hs) more.led;
+          led = subst (λ (l : List Entered). LeadFrom fit l after more.tail last) (append_assoc earlier (y ∷ []) hs) more.led;
           may = more.may;
           left = more.left;
         }
@@ -235,10 +235,10 @@ module _ (lines : AreLines) (once : AreOnce) where
 
   one_history : (file : List ℕ) (h g : History) (s t : State) → IsHistory file h s → IsHistory file g t → bodies_from One h.entries h.edition ≡ bodies_from One g.entries g.edition → h ≡ g
   one_history file h g s t is its same =
-      let all : bodies_from One g.entries g.edition ≡ bodies_from One h.entries h.edition ++ [] = sym same ∙ sym (append_nil _) in
+      let all : bodies_from One g.entries g.edition ≡ bodies_from One h.entries h.edition ++ [] = sym same ∙ sym (append-nil _) in
       let far = history_beyond file h g s t [] is its all in
       let none = nothing_left h.edition g.edition far.tail far.may far.left in
-      history_is h g (sym (far.are ∙ ap (λ (l : List Entered). h.entries ++ l) none.0 ∙ append_nil h.entries)) none.1
+      history_is h g (sym (far.are ∙ ap (λ (l : List Entered). h.entries ++ l) none.0 ∙ append-nil h.entries)) none.1
 
   pub histories_once : (file other : List ℕ) (h g : History) (s t : State) → IsHistory file h s → IsHistory other g t → bodies file h ≡ bodies other g → (file ≡ other) × (h ≡ g)
   histories_once file other h g s t is its same =
@@ -255,13 +255,13 @@ module _ (lines : AreLines) (once : AreOnce) where
 
 -- ---- the first bodies of a history
 
-module _ (fits : List Entered → Entered → Bool) where
+module _ (fit : List Entered → Entered → Bool) where
   -- entries with these bodies
   record Front (earlier : List Entered) (s : State) (before : Edition) (front : List (List ℕ)) : Type 0 where
     entries : List Entered
     last : State
     now : Edition
-    led : LeadFrom fits earlier s entries last
+    led : LeadFrom fit earlier s entries last
     may : MayFollow last.edition now
     are : bodies_from before entries now ≡ front
 
@@ -271,7 +271,7 @@ module _ (fits : List Entered → Entered → Bool) where
   mark_alone : (earlier : List Entered) (s : State) → s.edition ≡ One → Front earlier s One (mark ∷ [])
   mark_alone earlier s at = record { entries = []; last = s; now = Two; led = refl; may = subst (λ (e : Edition). MayFollow e Two) (sym at) tt; are = refl }
 
-  entry_first : (earlier : List Entered) (s next : State) (before : Edition) (x : Entered) (front : List (List ℕ)) → IsNext fits earlier s x next
+  entry_first : (earlier : List Entered) (s next : State) (before : Edition) (x : Entered) (front : List (List ℕ)) → IsNext fit earlier s x next
       → Front (earlier ++ x ∷ []) next x.entry.edition front → Front earlier s before (marks before x.entry.edition ++ (entry_body x ∷ front))
   entry_first earlier s next before x front first f = record {
     entries = x ∷ f.entries;
@@ -282,7 +282,7 @@ module _ (fits : List Entered → Entered → Bool) where
     are = ap (λ (l : List (List ℕ)). marks before x.entry.edition ++ (entry_body x ∷ l)) f.are;
   }
 
-  module _ (earlier : List Entered) (s next : State) (x : Entered) (first : IsNext fits earlier s x next) (more behind : List (List ℕ))
+  module _ (earlier : List Entered) (s next : State) (x : Entered) (first : IsNext fit earlier s x next) (more behind : List (List ℕ))
       (rec : (front : List (List ℕ)) → more ≡ front ++ behind → Front (earlier ++ x ∷ []) next x.entry.edition front) where
     -- the body of the entry comes first
     body_first : (before e : Edition) (f : List ℕ) (front : List (List ℕ)) → x.entry.edition ≡ e → marks before e ≡ [] → entry_body x ∷ more ≡ f ∷ (front ++ behind) → Front earlier s before (f ∷ front)
@@ -324,7 +324,7 @@ module _ (fits : List Entered → Entered → Bool) where
   mark_only earlier s Two Two f front behind at same = absurd (not_empty f (front ++ behind) (sym same))
 
   fronts : (before : Edition) (earlier hs : List Entered) (s after : State) (now : Edition) (front behind : List (List ℕ)) → s.edition ≡ before
-      → LeadFrom fits earlier s hs after → MayFollow after.edition now → bodies_from before hs now ≡ front ++ behind → Front earlier s before front
+      → LeadFrom fit earlier s hs after → MayFollow after.edition now → bodies_from before hs now ≡ front ++ behind → Front earlier s before front
   fronts before earlier hs s after now [] behind at led may same = no_entries earlier s before at
   fronts before earlier [] s after now (f ∷ front) behind at led may same = mark_only earlier s before now f front behind at same
   fronts before earlier (x ∷ hs) s after now (f ∷ front) behind at (next, first, led) may same =

@@ -1,6 +1,7 @@
 pub mod Bodies
 pub mod Changes
 pub mod Damage
+pub mod Faults
 pub mod Histories
 pub mod Kept
 pub mod Making
