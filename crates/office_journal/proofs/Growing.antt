@@ -1,6 +1,6 @@
 -- Histories that grow by one change, and their bodies.
 use Rattle.std.proofs.Common.{◌≡◌, ℕ, ◌+◌, Bool, true, List, [], ◌∷◌, ◌++◌, refl, sym, ◌∙◌, ap, subst, append_assoc}
-use Rattle.std.proofs.lemmas.List.{append_nil}
+use Rattle.std.proofs.lemmas.List.{append-nil}
 use Rattle.hazard_types.specs.declared.request.Edition.{Edition}
 use Rattle.hazard_types.specs.declared.request.Edition.TheVariants.{One, Two}
 use Rattle.office_core.specs.Histories.{Entered, IsNext, LeadFrom, MayFollow}
@@ -30,29 +30,32 @@ entry_behind before (y ∷ entries) x now e =
     ∙ sym (append_assoc (marks before y.entry.edition) (entry_body y ∷ bodies_from y.entry.edition entries now) (entry_body x ∷ []))
 
 pub mark_behind : (before : Edition) (entries : List Entered) → last_edition before entries ≡ One → bodies_from before entries Two ≡ bodies_from before entries One ++ mark ∷ []
+unfolding last_edition
 mark_behind before [] e = subst (λ (b : Edition). marks b Two ≡ marks b One ++ mark ∷ []) (sym e) refl
 mark_behind before (y ∷ entries) e =
     ap (λ (l : List (List ℕ)). marks before y.entry.edition ++ (entry_body y ∷ l)) (mark_behind y.entry.edition entries e)
     ∙ sym (append_assoc (marks before y.entry.edition) (entry_body y ∷ bodies_from y.entry.edition entries One) (mark ∷ []))
 
 edition_after : (s : State) (x : Entered) → (state_after (in_edition x.entry.edition s) x.entry x.made).edition ≡ x.entry.edition
-edition_after s x = unfolding (state_after) refl
+unfolding state_after
+edition_after s x = refl
 
-pub edition_led : (fits : List Entered → Entered → Bool) (earlier : List Entered) (s : State) (history : List Entered) (after : State) → LeadFrom fits earlier s history after → after.edition ≡ last_edition s.edition history
-edition_led fits earlier s [] after led = ap (λ (z : State). z.edition) led
-edition_led fits earlier s (x ∷ history) after (next, is, rest) =
+pub edition_led : (fit : List Entered → Entered → Bool) (earlier : List Entered) (s : State) (history : List Entered) (after : State) → LeadFrom fit earlier s history after → after.edition ≡ last_edition s.edition history
+unfolding last_edition
+edition_led fit earlier s [] after led = ap (λ (z : State). z.edition) led
+edition_led fit earlier s (x ∷ history) after (next, is, rest) =
     let one : next.edition ≡ x.entry.edition = ap (λ (z : State). z.edition) is.after ∙ edition_after s x in
-    edition_led fits (earlier ++ x ∷ []) next history after rest ∙ ap (λ (e : Edition). last_edition e history) one
+    edition_led fit (earlier ++ x ∷ []) next history after rest ∙ ap (λ (e : Edition). last_edition e history) one
 
-pub led_on : (fits : List Entered → Entered → Bool) (earlier : List Entered) (s : State) (history : List Entered) (after next : State) (x : Entered) → LeadFrom fits earlier s history after → IsNext fits (earlier ++ history) after x next
-    → LeadFrom fits earlier s (history ++ x ∷ []) next
-led_on fits earlier s [] after next x led is =
-    let at : IsNext fits earlier after x next = subst (λ (l : List Entered). IsNext fits l after x next) (append_nil earlier) is in
-    (next, subst (λ (z : State). IsNext fits earlier z x next) led at, refl)
-led_on fits earlier s (y ∷ history) after next x (n, first, rest) is =
-    (n, first, led_on fits (earlier ++ y ∷ []) n history after next x rest (subst (λ (l : List Entered). IsNext fits l after x next) (sym (append_assoc earlier (y ∷ []) history)) is))
+pub led_on : (fit : List Entered → Entered → Bool) (earlier : List Entered) (s : State) (history : List Entered) (after next : State) (x : Entered) → LeadFrom fit earlier s history after → IsNext fit (earlier ++ history) after x next
+    → LeadFrom fit earlier s (history ++ x ∷ []) next
+led_on fit earlier s [] after next x led is =
+    let at : IsNext fit earlier after x next = subst (λ (l : List Entered). IsNext fit l after x next) (append-nil earlier) is in
+    (next, subst (λ (z : State). IsNext fit earlier z x next) led at, refl)
+led_on fit earlier s (y ∷ history) after next x (n, first, rest) is =
+    (n, first, led_on fit (earlier ++ y ∷ []) n history after next x rest (subst (λ (l : List Entered). IsNext fit l after x next) (sym (append_assoc earlier (y ∷ []) history)) is))
 
-follows_itself : (e : Edition) → MayFollow e e
+pub follows_itself : (e : Edition) → MayFollow e e
 follows_itself One = tt
 follows_itself Two = tt
 
@@ -64,7 +67,7 @@ one_before : (e : Edition) → MayFollow e One → e ≡ One
 one_before One may = refl
 one_before Two may = absurd may
 
-in_own : (e : Edition) (s : State) → s.edition ≡ e → s ≡ in_edition e s
+pub in_own : (e : Edition) (s : State) → s.edition ≡ e → s ≡ in_edition e s
 in_own e s is = subst (λ (e : Edition). s ≡ in_edition e s) is refl
 
 -- the bodies of a history that grows are those before and one more

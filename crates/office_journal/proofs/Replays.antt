@@ -29,7 +29,8 @@ use Rattle.office_journal.specs.Bodies.{asked_by, bodies_of, entry_body, mark}
 use Rattle.office_journal.specs.Changes.{Change, IsNextEntry, MayChange, body_of, changed}
 use Rattle.office_journal.specs.Damage.{AreBodies, FailsAt}
 use Rattle.office_journal.specs.Histories.{History, IsHistory, bodies, empty, fits}
-use Rattle.office_journal.specs.Parts.{Enters, entered, minute_in, request_in}
+use Rattle.office_journal.specs.Parts.{Enters, minute_in, request_in}
+use Rattle.office_journal.specs.Submitting.{entered}
 use Rattle.office_journal.specs.Replaying.{most}
 use Rattle.office_journal.proofs.Growing.{bodies_grow, follows_itself, history_grows, history_marked, in_own}
 use Rattle.office_journal.proofs.Parting.{AreLines, AreOnce, entered_is, minute_of_body, minute_small, ok_is, request_of_body, some_is}

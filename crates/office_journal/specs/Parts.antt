@@ -4,7 +4,6 @@ use Rattle.std.specs.List.{position_or_len}
 use Rattle.hazard_types.specs.Calendar.{stamp_at}
 use Rattle.request_json.specs.Formed.{HasForm}
 use Rattle.office_core.specs.Histories.{Entered}
-use Rattle.office_core.specs.Prepared.{Readied}
 use Rattle.office_core.specs.State.{State}
 use Rattle.office_core.specs.Step.{Accepts, entry_of}
 use Rattle.office_journal.specs.Bodies.{asked_by}
@@ -29,6 +28,3 @@ pub record Enters (s : State) (x : Entered) : Type 0 where
   pub form : HasForm (asked_by x.entry)
   pub accepted : Accepts s x.entry.desk x.entry.seq x.entry.request (pos x.entry.minute) x.entry.minute x.made
   pub entry : x.entry ≡ entry_of s x.entry.desk x.entry.seq x.entry.request x.entry.minute x.made
-
-abbrev pub entered : Readied → Entered
-entered p = record { entry = p.entry; made = p.made }

@@ -1,7 +1,8 @@
 -- What becomes of a request that is submitted.
-use Rattle.std.specs.Prelude.{◌≡◌, ◌+◌, ◌<◌, ℕ, ℤ, List, length}
+use Rattle.std.specs.Prelude.{◌≡◌, ◌⊎◌, ◌+◌, ◌<◌, ℕ, ℤ, List, length, Option, None, Some}
 use Rattle.hazard_types.specs.declared.request.Request.{Request}
 use Rattle.office_core.specs.Histories.{Entered}
+use Rattle.office_core.specs.Prepared.{Readied}
 use Rattle.office_core.specs.State.{State}
 use Rattle.office_core.specs.Step.{Accepts, entry_of, state_after}
 use Rattle.office_journal.specs.Bodies.{entry_body}
@@ -24,3 +25,7 @@ IsAsked s desk seq r reading change = (x : Entered) × IsOffered s desk seq r re
 abbrev pub MayTouch : Option Change → Change → Option Change → Type 0
 MayTouch pending this None = Unit {0}
 MayTouch pending this (Some change) = (pending ≡ Some change) ⊎ (change ≡ this)
+
+-- what was prepared, as an entry of the history
+abbrev pub entered : Readied → Entered
+entered p = record { entry = p.entry; made = p.made }

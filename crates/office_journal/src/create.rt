@@ -1,5 +1,5 @@
 //! How the journal of an office is made.
-ghost use Rattle.std.specs.Prelude.{◌≡◌, ◌⊎◌, ◌×◌, ◌≤◌, ℕ, List, Some, None, Err, IfOk, IfErr, OnOk, MatchResult, ⊥};
+ghost use Rattle.std.specs.Prelude.{◌≡◌, ◌⊎◌, ◌≤◌, ℕ, List, Some, None, Err, IfOk, IfErr, OnOk, MatchResult};
 ghost use Rattle.desk_traits.specs.Crash.{LeavesOnly};
 ghost use Rattle.desk_traits.specs.Faults.{Rose};
 ghost use Rattle.desk_traits.specs.File.{Only};

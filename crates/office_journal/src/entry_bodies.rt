@@ -1,5 +1,5 @@
 //! The bodies of entries.
-ghost use Rattle.std.specs.Prelude.{◌≡◌, ◌++◌, ◌∷◌, IfOk, IfSome, MatchOption, option_map, ⊥};
+ghost use Rattle.std.specs.Prelude.{◌≡◌, ◌++◌, ◌∷◌, IfOk, IfSome, MatchOption, option_map};
 ghost use Rattle.hazard_types.specs.Calendar.{stamp_of};
 ghost use Rattle.request_json.specs.Canonical.{asked_text};
 ghost use Rattle.request_json.specs.Formed.{HasForm};

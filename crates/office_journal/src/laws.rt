@@ -1,5 +1,5 @@
 //! Laws of journals and histories. The functions do nothing; their contracts are the laws.
-ghost use Rattle.std.specs.Prelude.{◌≡◌, ℕ, List, Option, Some, ⊥};
+ghost use Rattle.std.specs.Prelude.{◌≡◌, ℕ, List, Option, Some};
 ghost use Rattle.journal_core.specs.Image.{Fresh};
 ghost use Rattle.office_journal.specs.Changes.{Change, Leaves};
 ghost use Rattle.office_journal.specs.Damage.{IsDamagedAt};
@@ -8,7 +8,7 @@ ghost use Rattle.office_journal.specs.Kept.{Holds, disk_of};
 
 use crate::kept::KeptOffice;
 use desk_traits::Disk;
-use journal_core::read_in_one_way;
+use journal_core::{a_crash_leaves_the_bodies, read_in_one_way};
 use office_core::a_request_has_one_answer;
 use request_json::canonical_texts_are_lines;
 
@@ -28,5 +28,7 @@ impl<D: Disk> KeptOffice<D> {
     pub fn a_crash_leaves_the_history(&self)
         ensures { (file : List ℕ) (h : History) (pending : Option Change) (c : List ℕ) → Holds D.seen D.may_leave self.now file h pending
             → D.may_leave (disk_of self.now) c → Leaves file h (λ change. pending ≡ Some change) c }
-    {}
+    {
+        a_crash_leaves_the_bodies();
+    }
 }

@@ -10,8 +10,9 @@ ghost use Rattle.office_journal.specs.Bodies.{entry_body};
 ghost use Rattle.office_journal.specs.Changes.{Change, MayChange, body_of, changed};
 ghost use Rattle.office_journal.specs.Damage.{AreBodies, FailsAt};
 ghost use Rattle.office_journal.specs.Histories.{History, IsHistory, bodies, empty};
-ghost use Rattle.office_journal.specs.Parts.{Enters, entered};
+ghost use Rattle.office_journal.specs.Parts.{Enters};
 ghost use Rattle.office_journal.specs.Replaying.{IsReplayed, most};
+ghost use Rattle.office_journal.specs.Submitting.{entered};
 
 use crate::entry_bodies::entry_body;
 use crate::parts::{asked_in, minute_in, record_length};

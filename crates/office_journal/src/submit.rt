@@ -1,5 +1,5 @@
 //! How a request is submitted to a kept office.
-ghost use Rattle.std.specs.Prelude.{◌≡◌, ◌≢◌, ◌⊎◌, ◌+◌, ◌-◌, ◌^◌, ◌≤◌, ℕ, List, Option, Some, None, min};
+ghost use Rattle.std.specs.Prelude.{◌≡◌, ◌≢◌, ◌⊎◌, ◌+◌, ◌-◌, ◌^◌, ◌≤◌, ℕ, ℤ, List, Option, Some, None, IfOk, IfSome, is_some, true, min};
 ghost use Rattle.desk_traits.specs.Crash.{LeavesOnly};
 ghost use Rattle.desk_traits.specs.Faults.{Rose};
 ghost use Rattle.desk_traits.specs.File.{Only};
@@ -11,11 +11,12 @@ ghost use Rattle.request_json.specs.Replies.{reply_text};
 ghost use Rattle.office_core.specs.Agreement.{ReadsAsTheBoard};
 ghost use Rattle.office_core.specs.Histories.{Entered};
 ghost use Rattle.office_core.specs.Prepared.{IsReady, Readied};
-ghost use Rattle.office_core.specs.Step.{Refuses, Repeats, state_after};
-ghost use Rattle.office_journal.specs.Changes.{Change, Leaves, changed};
+ghost use Rattle.office_core.specs.State.{said_by};
+ghost use Rattle.office_core.specs.Step.{Refuses, Repeats, entry_of, state_after};
+ghost use Rattle.office_journal.specs.Changes.{Change, Leaves, body_of, changed};
 ghost use Rattle.office_journal.specs.Histories.{History};
 ghost use Rattle.office_journal.specs.Kept.{Holds, disk_of, entries_of, gate_of, notes_of, state_of};
-ghost use Rattle.office_journal.specs.Submitting.{IsAsked, IsOffered, IsTooLong, MayTouch};
+ghost use Rattle.office_journal.specs.Submitting.{IsAsked, IsOffered, IsTooLong, MayTouch, entered};
 
 use crate::answers::Answer;
 use crate::entry_bodies::entry_body;
@@ -23,7 +24,7 @@ use crate::kept::KeptOffice;
 use desk_traits::Disk;
 use hazard_types::{Desk, Oom, Or, Refusal, Request, Text};
 use journal_core::{AppendFault, Packet};
-use office_core::{Prepared, Ready};
+use office_core::{Prepared, Ready, accepted_requests_are_accepted_at_their_minute};
 use request_json::reply_text;
 use std::alloc::Global;
 
@@ -77,22 +78,26 @@ impl<D: Disk> KeptOffice<D> {
             → LeavesOnly D.moment D.left_since (disk_of self.old) (disk_of self.new)
                 (Leaves file h (λ change. (pending ≡ Some change) ⊎ IsAsked (state_of self.old) desk seq r.now reading change)) }
     {
+        self.a_crash_leaves_the_history();
         match self.office.prepare(alloc, desk, seq, r, reading) {
             Ok(Ready::New(p)) => self.keep(alloc, desk, seq, r, p),
-            Ok(Ready::Again) => self.repeat(alloc, desk),
+            Ok(Ready::Again) => match self.kept_reply(alloc, desk) {
+                Ok(text) => Answer::Repeated(text),
+                Err(_) => Answer::OutOfMemory,
+            },
             Err(Or::No(refusal)) => Answer::Refused(refusal),
             Err(Or::OutOfMemory) => Answer::OutOfMemory,
         }
     }
 
-    /// The kept reply of a desk.
-    fn repeat(&self, alloc: Global, desk: Desk) -> Answer {
-        let Some(reply) = self.office.kept(desk) else {
-            unreachable!()
-        };
-        match reply_text(alloc, reply) {
-            Ok(text) => Answer::Repeated(text),
-            Err(_) => Answer::OutOfMemory,
+    /// The text of a desk's kept reply.
+    fn kept_reply(&self, alloc: Global, desk: Desk) -> Result<Text, Oom>
+        requires { is_some (said_by (state_of self.now) desk) ≡ true }
+        ensures { IfOk result (λ text. IfSome (said_by (state_of self.now) desk) (λ said. text ≡ reply_text said.reply)) }
+    {
+        match self.office.kept(desk) {
+            Some(reply) => reply_text(alloc, reply),
+            None => unreachable!(),
         }
     }
 
@@ -104,7 +109,11 @@ impl<D: Disk> KeptOffice<D> {
         seq: u32,
         r: &Request,
         p: &Prepared,
-    ) -> Result<(Text, Text), Oom> {
+    ) -> Result<(Text, Text), Oom>
+        requires { p.now.entry ≡ entry_of (state_of self.now) desk.now seq r.now p.now.entry.minute p.now.made }
+        ensures reply { IfOk result (λ texts. texts.0 ≡ reply_text p.now.entry.reply) }
+        ensures body { IfOk result (λ texts. texts.1 ≡ body_of (Change.entry (entered p.now))) }
+    {
         let reply = reply_text(alloc, p.reply())?;
         let body = entry_body(alloc, desk, seq, r, self.office.edition(), p)?;
         Ok((reply, body))
@@ -118,7 +127,31 @@ impl<D: Disk> KeptOffice<D> {
         seq: u32,
         r: &Request,
         p: Prepared,
-    ) -> Answer {
+    ) -> Answer
+        requires form { HasForm (record { desk = desk; seq = seq; request = r.now }) }
+        requires ready { (reading : ℤ) × IsReady self.old.office desk seq r.now reading p }
+        ensures accepted { (text : List ℕ) → result ≡ Answer.Accepted text → (text ≡ reply_text p.entry.reply) × (state_of self.new ≡ state_after (state_of self.old) p.entry p.made)
+            × (entries_of self.new ≡ entries_of self.old + 1) }
+        ensures held { (text : List ℕ) → result ≡ Answer.Accepted text → (file : List ℕ) (h : History) (pending : Option Change) → Holds D.seen D.may_leave self.old file h pending
+            → Holds D.seen D.may_leave self.new file (changed h (Change.entry (entered p))) None × Only (D.seen (disk_of self.new)) (D.may_leave (disk_of self.new)) }
+        ensures reads { (text : List ℕ) → result ≡ Answer.Accepted text → ReadsAsTheBoard (state_of self.new) }
+        ensures repeated { (text : List ℕ) → result ≡ Answer.Repeated text → ⊥ }
+        ensures refused { (x : Refused) → result ≡ Answer.Refused x → (x ≡ JournalFull) × IsTooLong (gate_of self.old) (entered p) }
+        ensures cause { result ≡ Answer.DiskFault → Rose (D.faults (disk_of self.old)) (D.faults (disk_of self.new)) }
+        ensures room { result ≡ Answer.DiskFault → IsTooLong (gate_of self.old) (entered p) → ⊥ }
+        ensures failed { result ≡ Answer.DiskFault → (file : List ℕ) (h : History) (pending : Option Change) → Holds D.seen D.may_leave self.old file h pending
+            → (next : Option Change) × MayTouch pending (Change.entry (entered p)) next × Holds D.seen D.may_leave self.new file h next }
+        ensures noted { result ≡ Answer.DiskFault → notes_of self.new ≡ min (notes_of self.old + 1) (2 ^ 64 - 1) }
+        ensures unnoted { result ≢ Answer.DiskFault → notes_of self.new ≡ notes_of self.old }
+        ensures state { ((text : List ℕ) → result ≢ Answer.Accepted text) → (state_of self.new ≡ state_of self.old) × (entries_of self.new ≡ entries_of self.old) }
+        ensures untouched { ((text : List ℕ) → result ≢ Answer.Accepted text) → result ≢ Answer.DiskFault → (disk_of self.new ≡ disk_of self.old)
+            × ((file : List ℕ) (h : History) (pending : Option Change) → Holds D.seen D.may_leave self.old file h pending → Holds D.seen D.may_leave self.new file h pending) }
+        ensures later { D.faults (disk_of self.old) ≤ D.faults (disk_of self.new) }
+        ensures any_moment { (file : List ℕ) (h : History) (pending : Option Change) → Holds D.seen D.may_leave self.old file h pending
+            → LeavesOnly D.moment D.left_since (disk_of self.old) (disk_of self.new) (Leaves file h (λ change. (pending ≡ Some change) ⊎ (change ≡ Change.entry (entered p)))) }
+    {
+        self.a_crash_leaves_the_history();
+        accepted_requests_are_accepted_at_their_minute();
         let Ok((reply, body)) = self.texts(alloc, &desk, seq, r, &p) else {
             return Answer::OutOfMemory;
         };

@@ -1,5 +1,5 @@
 //! How an office goes over to edition Two.
-ghost use Rattle.std.specs.Prelude.{◌≡◌, ◌≢◌, ◌⊎◌, ◌↔◌, ◌×◌, ◌+◌, ◌≤◌, ◌<◌, ℕ, List, Option, Some, None};
+ghost use Rattle.std.specs.Prelude.{◌≡◌, ◌≢◌, ◌⊎◌, ◌↔◌, ◌+◌, ◌≤◌, ◌<◌, ℕ, List, Option, Some, None};
 ghost use Rattle.desk_traits.specs.Crash.{LeavesOnly};
 ghost use Rattle.desk_traits.specs.Faults.{Rose};
 ghost use Rattle.desk_traits.specs.File.{Only};
@@ -46,6 +46,7 @@ impl<D: Disk> KeptOffice<D> {
             → LeavesOnly D.moment D.left_since (disk_of self.old) (disk_of self.new)
                 (Leaves file h (λ change. (pending ≡ Some change) ⊎ ((change ≡ Change.marked) × (h.edition ≡ One)))) }
     {
+        self.a_crash_leaves_the_history();
         if self.office.edition() == Edition::Two {
             return Upgrade::Already;
         }
