@@ -9,7 +9,6 @@ use Rattle.hazard_types.specs.declared.request.Edition.TheVariants.{One, Two}
 use Rattle.hazard_types.specs.declared.request.Entry.{Entry}
 use Rattle.hazard_types.specs.declared.request.Reply.{Reply}
 use Rattle.hazard_types.specs.declared.request.Request.{Request}
-use Rattle.hazard_types.specs.declared.request.Request.TheVariants as request
 use Rattle.desk_settings.specs.Reading.{settings_of}
 use Rattle.desk_settings.specs.declared.fault.SettingsFault.{SettingsFault}
 use Rattle.desk_settings.specs.declared.fault.SettingsFault.TheVariants.{TooLong}
@@ -22,7 +21,7 @@ use Rattle.request_json.specs.declared.asked.Asked.{Asked}
 use Rattle.office_core.specs.Histories.{Entered, IsNext, LeadFrom, IsLegal, MayFollow}
 use Rattle.office_core.specs.Prepared.{IsReady, Readied}
 use Rattle.office_core.specs.State.{State, first_state, in_edition}
-use Rattle.office_core.specs.Step.{Accepts, Refuses, Repeats, begun_after, entry_of, state_after}
+use Rattle.office_core.specs.Step.{Accepts, Refuses, Repeats, entry_of, state_after}
 use Rattle.office_core.specs.Views.{OfficeView}
 use Rattle.office_core.specs.declared.made.Made.{Made}
 use Rattle.office_journal.specs.Bodies.{asked_by, bodies_of, entry_body, mark}
@@ -162,24 +161,6 @@ module _ (file : List ℕ) (h : History) (s : State) (is : IsHistory file h s) (
 
   pub entry_size : size + (5 + length (entry_body x)) ≡ length (records (bodies file (changed h (Change.entry x))))
   entry_size = omega (arith, now, records_push (bodies file h) (entry_body x), ap (λ (l : List (List ℕ)). length (records l)) (bodies_grow file h (Change.entry x) s is entry_may))
-
-begun_step : (s : State) (r : Request) → begun_after s r ≤ s.begun + 1
-begun_step s (request.Begin category) = omega arith
-begun_step s (request.Issue part) = omega arith
-begun_step s (request.Put id part) = omega arith
-begun_step s (request.Finish id part) = omega arith
-begun_step s (request.Restate id part) = omega arith
-begun_step s (request.Routine id part) = omega arith
-begun_step s (request.Drop id place) = omega arith
-begun_step s (request.Take id) = omega arith
-begun_step s (request.Discard id) = omega arith
-begun_step s (request.Send id) = omega arith
-begun_step s (request.Correct number given) = omega arith
-
--- an entry opens one draft at most
-pub begun_once : (s : State) (e : Entry) (made : Option Made) → (state_after s e made).begun ≤ s.begun + 1
-unfolding state_after
-begun_once s e made = begun_step s e.request
 
 pub edition_stays : (s : State) (e : Entry) (made : Option Made) → (state_after s e made).edition ≡ s.edition
 unfolding state_after

@@ -113,7 +113,7 @@ module _ (fit : List Entered → Entered → Bool) where
 
   module _ (lines : AreLines) (once : AreOnce) where
     -- entries whose bodies begin with those of other entries begin with these
-    pub beyond : (before : Edition) (earlier hs gs : List Entered) (s after last : State) (now final : Edition) (rest : List (List ℕ)) → s.edition ≡ before
+    beyond : (before : Edition) (earlier hs gs : List Entered) (s after last : State) (now final : Edition) (rest : List (List ℕ)) → s.edition ≡ before
         → LeadFrom fit earlier s hs after → MayFollow after.edition now → LeadFrom fit earlier s gs last → MayFollow last.edition final
         → bodies_from before gs final ≡ bodies_from before hs now ++ rest → Beyond earlier hs gs after last now final rest
     beyond One earlier [] gs s after last One final rest at led may its last_may same = all_left earlier gs s after last One final rest at led its last_may same
