@@ -15,7 +15,7 @@ pub last_edition : Edition → List Entered → Edition
 last_edition before [] = before
 last_edition before (x ∷ entries) = last_edition x.entry.edition entries
 
-unmarked : (e : Edition) → marks e e ≡ []
+pub unmarked : (e : Edition) → marks e e ≡ []
 unmarked One = refl
 unmarked Two = refl
 
@@ -36,7 +36,7 @@ mark_behind before (y ∷ entries) e =
     ap (λ (l : List (List ℕ)). marks before y.entry.edition ++ (entry_body y ∷ l)) (mark_behind y.entry.edition entries e)
     ∙ sym (append_assoc (marks before y.entry.edition) (entry_body y ∷ bodies_from y.entry.edition entries One) (mark ∷ []))
 
-edition_after : (s : State) (x : Entered) → (state_after (in_edition x.entry.edition s) x.entry x.made).edition ≡ x.entry.edition
+pub edition_after : (s : State) (x : Entered) → (state_after (in_edition x.entry.edition s) x.entry x.made).edition ≡ x.entry.edition
 unfolding state_after
 edition_after s x = refl
 

@@ -1,4 +1,7 @@
 mod Growing
+mod Parting
+mod Telling
+mod Replays
 mod Carrying
 mod Beginning
 mod InTime

@@ -1,8 +1,10 @@
 pub mod Bodies
 pub mod Changes
 pub mod Damage
+pub mod Faults
 pub mod Histories
 pub mod Kept
 pub mod Making
+pub mod Parts
 pub mod Replaying
 pub mod Submitting

@@ -1,4 +1,7 @@
 //! Why an office was not opened.
+ghost use Rattle.std.specs.Prelude.{◌≡◌};
+ghost use Rattle.office_journal.specs.Faults.{told_as};
+
 use desk_settings::SettingsFault;
 use journal_core::AdoptFault;
 
@@ -18,6 +21,8 @@ pub enum KeepFault {
 }
 
 impl From<AdoptFault> for KeepFault {
+    ghost from_gives = { λ fault e. e ≡ told_as fault };
+
     fn from(fault: AdoptFault) -> Self {
         match fault {
             AdoptFault::Fresh => KeepFault::Fresh,

@@ -8,14 +8,20 @@ ghost use Rattle.office_journal.specs.Kept.{Holds, disk_of};
 
 use crate::kept::KeptOffice;
 use desk_traits::Disk;
-use journal_core::a_crash_leaves_the_bodies;
+use journal_core::{a_crash_leaves_the_bodies, read_in_one_way};
+use office_core::a_request_has_one_answer;
+use request_json::canonical_texts_are_lines;
 
 /// A file stands for one settings' file and one history, and is then neither damaged nor fresh.
 pub fn files_hold_one_history()
     ensures one { (bytes file other : List ℕ) (h g : History) → ImageOf bytes file h → ImageOf bytes other g → (file ≡ other) × (h ≡ g) }
     ensures damaged { (bytes file : List ℕ) (h : History) (at : ℕ) → ImageOf bytes file h → IsDamagedAt bytes at → ⊥ }
     ensures fresh { (bytes file : List ℕ) (h : History) → ImageOf bytes file h → Fresh bytes → ⊥ }
-{}
+{
+    a_request_has_one_answer();
+    canonical_texts_are_lines();
+    read_in_one_way();
+}
 
 impl<D: Disk> KeptOffice<D> {
     /// A crash now leaves an image of the history, or of it with the pending change.

@@ -8,6 +8,7 @@ mod entry_bodies;
 mod faults;
 mod kept;
 mod laws;
+mod parts;
 mod reading;
 mod replay;
 mod submit;
