@@ -1,3 +1,4 @@
+pub mod Said
 pub mod TakingLemmas
 pub mod LawLemmas
 pub mod StepLemmas

@@ -1,9 +1,15 @@
 -- What was taken, product by product, and what it comes to.
 use Rattle.std.specs.Prelude.{◌≡◌, ◌<◌, ◌+◌, ℕ, List, [], ◌∷◌, ◌++◌, length, map, fold, Option, Some, None}
 use Rattle.hazard_types.specs.Places.{Place}
+use Rattle.hazard_types.specs.ZoneLines.{ZoneLine}
 use Rattle.hazard_types.specs.declared.codes.Action.{Action}
+use Rattle.hazard_types.specs.declared.codes.Class.{Class}
 use Rattle.hazard_types.specs.declared.hazard.Event.{Event}
+use Rattle.hazard_types.specs.declared.line.Line.{Line}
 use Rattle.hazard_types.specs.declared.line.Row.{Row}
+use Rattle.hazard_types.specs.declared.period.End.{End}
+use Rattle.hazard_types.specs.declared.period.End.TheVariants.{At, Ufn}
+use Rattle.event_life.specs.declared.life.Breach.{Breach}
 use Rattle.event_life.specs.Lives.{judged_product, steps_of}
 use Rattle.event_life.specs.Openings.{opened_by}
 use Rattle.event_life.specs.Products.{Product, lawful_of, put_all, rows_with, rows_of}
@@ -11,18 +17,32 @@ use Rattle.product_decoder.specs.declared.taken.Taken.{Taken}
 use Rattle.product_decoder.specs.declared.tracks.Living.{Living}
 use Rattle.product_decoder.specs.declared.types.Found.{Found}
 use Rattle.product_decoder.specs.declared.types.Track.{Track}
-use Rattle.product_decoder.specs.ReaderModel.{line_said, found_in}
+use Rattle.product_decoder.specs.ReaderModel.{found_in}
 
-abbrev pub product_taken : Taken → Product
-product_taken t = record { issue = t.issue; said = map line_said t.said }
+-- the end that a text has: none is until further notice
+abbrev pub minute_of : End → Option ℕ
+minute_of (At m) = Some m
+minute_of Ufn = None
 
-abbrev pub products_taken : List Taken → List Product
-products_taken taken = map product_taken taken
+-- what the text said of a zone, where it is of an office and class and this line was read of it
+abbrev pub said_in : List ℕ → Class → Line → ZoneLine
+said_in office class line = record {
+  zone = line.zone;
+  vtec = record { class = class; action = line.action; office = office; hazard = line.event.hazard; etn = line.event.etn; begin = line.begin; end = minute_of line.end };
+  flood = line.flood;
+}
+
+-- a product of an office and class
+abbrev pub product_taken : List ℕ → Class → Taken → Product
+product_taken office class t = record { issue = t.issue; said = map (λ (l : Line × Option Breach). said_in office class l.0) t.judged }
+
+abbrev pub products_taken : List ℕ → Class → List Taken → List Product
+products_taken office class taken = map (product_taken office class) taken
 
 -- the lines of each product are judged by the rows before it
-abbrev pub AreJudged : List Row → List Taken → Type 0
-AreJudged rows [] = Unit {0}
-AreJudged rows (t ∷ taken) = (t.judged ≡ judged_product rows (product_taken t)) × AreJudged (rows_with rows (product_taken t)) taken
+abbrev pub AreJudged : List ℕ → Class → List Row → List Taken → Type 0
+AreJudged office class rows [] = Unit {0}
+AreJudged office class rows (t ∷ taken) = (t.judged ≡ judged_product rows (product_taken office class t)) × AreJudged office class (rows_with rows (product_taken office class t)) taken
 
 -- the rows after a product that was judged by these: each lawful line leaves its row
 abbrev pub rows_with_taken : List Row → Taken → List Row
@@ -38,9 +58,9 @@ AreLeft None products = Unit {0}
 AreLeft (Some rows) products = rows ≡ rows_of products
 
 -- the rows, where they are held, are those after the products, which are judged and few
-pub record IsRead (held : Option (List Row)) (taken : List Taken) : Type 0 where
-  pub left : AreLeft held (products_taken taken)
-  pub judged : AreJudged [] taken
+pub record IsRead (office : List ℕ) (class : Class) (held : Option (List Row)) (taken : List Taken) : Type 0 where
+  pub left : AreLeft held (products_taken office class taken)
+  pub judged : AreJudged office class [] taken
   pub few : length taken < 4294967296
 
 abbrev pub steps_in : Event → Place → List Taken → List (Action × ℕ)

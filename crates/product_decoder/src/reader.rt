@@ -37,9 +37,9 @@ impl Model for Reader {
 
     ghost Value = { Reading };
 
-    ghost view = { λ r. record { office = r.office; class = r.class; products = products_taken r.taken } };
+    ghost view = { λ r. record { office = r.office; class = r.class; products = products_taken r.office r.class r.taken } };
 
-    ghost invariant = { λ r. IsRead r.rows r.taken };
+    ghost invariant = { λ r. IsRead r.office r.class r.rows r.taken };
 }
 
 impl Reader {

@@ -1,21 +1,20 @@
 //! What is taken of a product: its lines of an office and class, judged by the rows before it.
-ghost use Rattle.std.specs.Prelude.{◌≡◌, map, filter, IfOk};
+ghost use Rattle.std.specs.Prelude.{◌≡◌, IfOk};
 ghost use Rattle.event_life.specs.Lives.{judged_product};
 ghost use Rattle.event_life.specs.Products.{lines_of};
-ghost use Rattle.product_decoder.specs.ReaderModel.{is_by, line_said, product_of};
+ghost use Rattle.product_decoder.specs.ReaderModel.{is_by, said_by, product_of};
 ghost use Rattle.product_decoder.specs.Takings.{product_taken, rows_taken};
 
 use crate::types::{Decoded, ZonePair};
 use event_life::Breach;
 use hazard_types::{Class, Line, List, Minute, Oom};
 use row_index::RowIndex;
-use std::alloc::{AllocError, Global};
+use std::alloc::Global;
 
-/// What was taken of a product: its issue minute, its lines of the office and class, and what these say of their events, each with its breach.
+/// What was taken of a product: its issue minute, and what its lines of the office and class say of their events, each with its breach.
 #[derive(Drop)]
 pub struct Taken {
     pub issue: Minute,
-    pub said: List<ZonePair>,
     pub judged: List<(Line, Option<Breach>)>,
 }
 
@@ -26,29 +25,22 @@ fn is_by(office: &[u8; 4], class: &Class, pair: &ZonePair) -> bool
     pair.vtec.office == *office && pair.vtec.class == *class
 }
 
-/// Those of the lines that are of an office and class.
-fn said_by(
+/// What the lines of an office and class say of their events.
+fn lines_by(
     alloc: Global,
     office: &[u8; 4],
     class: &Class,
+    rows: &RowIndex,
+    t: Minute,
     pairs: &[ZonePair],
-) -> Result<Vec<ZonePair>, AllocError>
-    ensures { IfOk result (λ said. said.items ≡ filter (is_by office.now class.now) pairs.now) }
-{
-    pairs
-        .iter()
-        .filter(|pair| is_by(office, class, pair))
-        .copied()
-        .collect(alloc)
-}
-
-/// What lines say of their events.
-fn lines_of(alloc: Global, rows: &RowIndex, t: Minute, said: &[ZonePair]) -> Result<List<Line>, Oom>
-    ensures { IfOk result (λ lines. lines ≡ lines_of rows.now t (map line_said said.now)) }
+) -> Result<List<Line>, Oom>
+    ensures { IfOk result (λ lines. lines ≡ lines_of rows.now t (said_by office.now class.now pairs.now)) }
 {
     let mut lines = List::new(alloc);
-    for pair in said {
-        lines.extend(&[rows.line_of(t, &pair.zone, &pair.vtec, &pair.flood)])?;
+    for pair in pairs {
+        if is_by(office, class, pair) {
+            lines.extend(&[rows.line_of(t, &pair.zone, &pair.vtec, &pair.flood)])?;
+        }
     }
     Ok(lines)
 }
@@ -61,15 +53,13 @@ pub fn taken_of(
     rows: &RowIndex,
     d: &Decoded,
 ) -> Result<Taken, Oom>
-    ensures product { IfOk result (λ taken. product_taken taken ≡ product_of office.now class.now d.now) }
+    ensures product { IfOk result (λ taken. product_taken office.now class.now taken ≡ product_of office.now class.now d.now) }
     ensures judged { IfOk result (λ taken. taken.judged ≡ judged_product rows.now (product_of office.now class.now d.now)) }
 {
-    let said = said_by(alloc, office, class, d.pairs.as_slice())?;
-    let lines = lines_of(alloc, rows, d.issue, &said)?;
+    let lines = lines_by(alloc, office, class, rows, d.issue, d.pairs.as_slice())?;
     let judged = rows.judge(alloc, d.issue, lines.as_slice())?;
     Ok(Taken {
         issue: d.issue,
-        said: List::from_vec(said),
         judged,
     })
 }

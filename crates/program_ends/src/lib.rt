@@ -13,4 +13,5 @@ pub use ending::{end_at_once, end_run};
 pub use ends::End;
 pub use laws::lines_make_up_the_input;
 pub use lines::{Answers, LIMIT, run_lines};
+pub use reading::{Stop, read_front};
 pub use words::{command_line, given_words};

@@ -12,7 +12,7 @@ use Rattle.product_decoder.proofs.reader.Reader.breaches.Goals as goal
 pub returns-clause-value : goal.returns-clause-value
 returns-clause-value c =
     let told = ap (λ (taken : List Taken). breaches_in 1 taken) c.as_slice.ensures
-    ∙ breaches_read c.self.inside.rows c.self.inside.taken c.self.invariant
+    ∙ breaches_read c.self.inside.office c.self.inside.class c.self.inside.rows c.self.inside.taken c.self.invariant
     ∙ ap (λ (r : Reading). found_of r.products) c.self.view_is in
     subst (λ (all : List Found). IfOk c.breaches_in.result (λ found. found ≡ all)) told c.breaches_in.ensures
 

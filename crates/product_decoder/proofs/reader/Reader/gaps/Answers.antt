@@ -13,7 +13,7 @@ use Rattle.product_decoder.proofs.reader.Reader.gaps.Goals as goal
 pub returns-clause-value : goal.returns-clause-value
 returns-clause-value c =
     let told = ap (λ (taken : List Taken). map gap_found (gaps_from [] (opened_in taken))) c.as_slice.ensures
-    ∙ gaps_read c.self.inside.rows c.self.inside.taken c.self.invariant
+    ∙ gaps_read c.self.inside.office c.self.inside.class c.self.inside.rows c.self.inside.taken c.self.invariant
     ∙ ap (λ (r : Reading). gaps_found r.products) c.self.view_is in
     subst (λ (all : List GapFound). IfOk c.gaps_in.result (λ gaps. gaps ≡ all)) told c.gaps_in.ensures
 

@@ -14,6 +14,6 @@ pub returns-clause-value : goal.returns-clause-value
 returns-clause-value c =
     let rows_are = c.as_slice.ensures ∙ c.in_ok-rows.ensures ∙ ap (λ (r : Reading). rows_of r.products) (sym c.self.view_is) in
     let told = ap (λ (taken : List Taken). map (track_in taken) (living_in c.as_slice.result.now)) c.as_slice-2.ensures
-    ∙ lives_read c.self.inside.rows c.as_slice.result.now c.self.inside.taken c.self.invariant rows_are
+    ∙ lives_read c.self.inside.office c.self.inside.class c.self.inside.rows c.as_slice.result.now c.self.inside.taken c.self.invariant rows_are
     ∙ ap (λ (r : Reading). lives_of r.products) c.self.view_is in
     subst (λ (all : List Track). IfOk c.tracks_in.result (λ tracks. tracks ≡ all)) told c.tracks_in.ensures.value

@@ -12,5 +12,5 @@ use Rattle.product_decoder.proofs.reader.Reader.rows_after.Goals as goal
 pub returns-in_ok-rows_taken-in-None : goal.returns-in_ok-rows_taken-in-None
 returns-in_ok-rows_taken-in-None c =
     let told = c.in_ok-rows_taken-in-None.ensures ∙ ap (λ (taken : List Taken). rows_taken taken) c.as_slice.ensures
-    ∙ rows_read c.self.inside.rows c.self.inside.taken c.self.invariant ∙ ap (λ (r : Reading). rows_of r.products) c.self.view_is in
+    ∙ rows_read c.self.inside.office c.self.inside.class c.self.inside.rows c.self.inside.taken c.self.invariant ∙ ap (λ (r : Reading). rows_of r.products) c.self.view_is in
     subst (λ (all : List Row). IfOk c.rows-in-None-2.result (λ rows. rows ≡ all)) told c.rows-in-None-2.ensures

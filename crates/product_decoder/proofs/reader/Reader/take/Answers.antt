@@ -12,5 +12,5 @@ invariant_of-self-2 c =
     let rows_are = c.in_ok-rows.ensures.rows ∙ ap (λ (r : Reading). rows_of r.products) (sym view) in
     let after = c.in_ok-after.ensures
     ∙ ap (λ found. put_all c.in_ok-rows.rows c.args.d.now.issue (lawful_of found) c.in_ok-rows.rows) c.as_slice.ensures in
-    take_read c.self.inside.rows c.self.inside.office c.self.inside.class c.in_ok-rows.rows c.in_ok-after.after c.self.inside.taken c.push.new.self c.in_ok-taken.taken c.args.d.now
+    take_read c.self.inside.office c.self.inside.class c.self.inside.rows c.in_ok-rows.rows c.in_ok-after.after c.self.inside.taken c.push.new.self c.in_ok-taken.taken c.args.d.now
     c.self.invariant rows_are few c.in_ok-taken.ensures.product c.in_ok-taken.ensures.judged after c.in_ok-push.ensures.ok
