@@ -61,14 +61,15 @@ fn worded_step(line: &str) -> Option<Step<'_>> {
         return Some(Step::Look(Query::Board));
     }
     let (word, rest) = line.split_once(' ')?;
-    match word {
-        ">" => Some(Step::Setting(rest)),
-        "open" => edition_of(rest).map(Step::Open),
-        "edition" => edition_of(rest).map(Step::Turn),
-        "at" => reading_of(rest).map(Step::At),
-        "fill" => number_of(rest).map(Step::Fill),
-        _ => query_of(word, rest).map(Step::Look),
-    }
+    let step = match word {
+        ">" => Step::Setting(rest),
+        "open" => Step::Open(edition_of(rest)?),
+        "edition" => Step::Turn(edition_of(rest)?),
+        "at" => Step::At(reading_of(rest)?),
+        "fill" => Step::Fill(number_of(rest)?),
+        _ => Step::Look(query_of(word, rest)?),
+    };
+    Some(step)
 }
 
 /// The step of a line: a line that is none of the script's words is a request.
