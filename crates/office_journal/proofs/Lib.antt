@@ -1,9 +1,0 @@
-mod Growing
-mod Parting
-mod Telling
-mod Replays
-mod Carrying
-mod Beginning
-mod InTime
-mod Entering
-mod Writing
