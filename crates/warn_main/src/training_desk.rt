@@ -72,12 +72,7 @@ fn accept(office: &mut Office, prepared: Prepared) -> Result<Text, Oom>
 }
 
 /// What an issue is answered at a minute.
-fn answer_issue(
-    alloc: Global,
-    office: &mut Office,
-    at: Minute,
-    part: PutPart,
-) -> Result<Text, Oom>
+fn answer_issue(alloc: Global, office: &mut Office, at: Minute, part: PutPart) -> Result<Text, Oom>
     requires form { IsIssuePart part }
     requires training { IsTraining office.old.state at }
     ensures answered { IfOk result (λ text. AnswersIssue at office.old.state (Ok part) text office.new.state) }
