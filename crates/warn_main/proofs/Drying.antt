@@ -11,7 +11,7 @@ use Rattle.program_ends.specs.declared.ends.End.TheVariants.{OutOfMemory}
 use Rattle.warn_main.specs.Runs.{IsDryRun}
 use Rattle.warn_main.specs.Training.{AnswersLine, Lacks, LacksLine, Replies, Trained, first_training}
 use Rattle.warn_main.specs.declared.words.Dry.{Dry}
-use Rattle.warn_main.proofs.OneAnswer.{answered_once}
+use Rattle.warn_main.proofs.OneAnswer.{HasOneAnswer, answered_once}
 
 -- the lines are answered by the states, and the texts of the last one read as its board
 told_states : (at : ℕ) (d after : Trained) (lines : List (List ℕ)) (told : List ℕ) → d.at ≡ at → ReadsAsTheBoard d.state → Answered Replies d lines told after
@@ -30,10 +30,10 @@ lacking : (last z : Trained) → LacksNext Lacks last z → LacksNext LacksLine 
 lacking last z (inl same) = inl (ap (λ (t : Trained). t.state) same)
 lacking last z (inr (line, same)) = inr (line, ap (λ (t : Trained). t.state) same)
 
-pub dry_run : (dry : Dry) (limit : ℕ) (desk after : Trained) (left left' taken taken' : Option (List ℕ)) (reads reads' writes writes' status : ℕ)
+pub dry_run : HasOneAnswer → (dry : Dry) (limit : ℕ) (desk after : Trained) (left left' taken taken' : Option (List ℕ)) (reads reads' writes writes' status : ℕ)
     → desk ≡ record { state = first_training dry.office; at = dry.minute } → ReadsAsTheBoard (first_training dry.office)
     → IsLinesRun Replies Lacks limit desk after left left' taken taken' reads reads' writes writes' status → IsDryRun dry limit left left' taken taken' reads reads' writes writes' status
-dry_run dry limit desk after left left' taken taken' reads reads' writes writes' status is first run =
+dry_run law dry limit desk after left left' taken taken' reads reads' writes writes' status is first run =
     let at : desk.at ≡ dry.minute = ap (λ (t : Trained). t.at) is in
     let state : desk.state ≡ first_training dry.office = ap (λ (t : Trained). t.state) is in
     let told = told_states dry.minute desk run.run.last run.run.lines run.told at (subst ReadsAsTheBoard (sym state) first) run.run.answered in
@@ -67,7 +67,7 @@ dry_run dry limit desk after left left' taken taken' reads reads' writes writes'
         no_memory = run.no_memory;
         complete = run.complete;
       };
-      only = λ other last g. answered_once dry.minute (first_training dry.office) run.run.lines other run.told last run.run.last.state g told_of;
+      only = λ other last g. answered_once law dry.minute (first_training dry.office) run.run.lines other run.told last run.run.last.state g told_of;
       read_back = told.1;
     }
 

@@ -9,9 +9,8 @@ use Rattle.hazard_types.specs.declared.request.PutPart.{PutPart}
 use Rattle.hazard_types.specs.declared.request.Reply.{Reply}
 use Rattle.hazard_types.specs.declared.request.Request.TheVariants.{Issue}
 use Rattle.hazard_types.specs.declared.request.Sent.{Sent}
-use Rattle.product_template.specs.Text.{text_of}
 use Rattle.office_core.specs.Agreement.{ReadsAsTheBoard}
-use Rattle.office_core.specs.Making.{broken_product, issued, made_of, products_full, text_too_long}
+use Rattle.office_core.specs.Making.{broken_product, issued, made_of, products_full}
 use Rattle.office_core.specs.Rules.{minute_of}
 use Rattle.office_core.specs.State.{State, last_number, last_of, said_by}
 use Rattle.office_core.specs.Step.{Accepts, Repeats, entry_of, state_after}
@@ -32,7 +31,7 @@ below a b h = grind (arith, nat_tests)
 room : (s : State) (t : ℕ) (plan : Plan) → broken_product s t plan ≡ None → length s.products < 8192
 unfolding broken_product
 room s t plan h =
-    below 8192 (length s.products) (free (nat_le 8192 (length s.products)) refusal.ProductsFull (or_last (text_too_long (length (text_of s.settings s.class plan t s.edition))) (products_full s) h))
+    below 8192 (length s.products) (free (nat_le 8192 (length s.products)) refusal.ProductsFull (or_last _ (products_full s) h))
 
 -- an accepted issue makes a product, and there was room for it
 pub record HasMade (s : State) (made : Option Made) : Type 0 where

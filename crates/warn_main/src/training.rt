@@ -6,6 +6,7 @@ ghost use Rattle.warn_main.specs.Runs.{IsDryRun};
 use crate::training_desk::TrainingDesk;
 use crate::words::Dry;
 use desk_traits::{Sink, Source};
+use office_core::{a_request_has_one_answer, offices_begin_in_agreement};
 use program_ends::{End, end_at_once, run_lines};
 use std::alloc::Global;
 
@@ -21,6 +22,8 @@ pub fn run_training<S: Source, K: Sink>(
     requires limit { limit + 1 < 2 ^ 64 }
     ensures { IsDryRun dry.now limit (S.left input.old) (S.left input.new) (K.taken output.old) (K.taken output.new) (S.faults input.old) (S.faults input.new) (K.faults output.old) (K.faults output.new) result }
 {
+    offices_begin_in_agreement();
+    a_request_has_one_answer();
     match TrainingDesk::new(alloc, dry) {
         Ok(mut desk) => run_lines(alloc, limit, &mut desk, input, output),
         Err(_) => end_at_once(output, End::OutOfMemory),

@@ -26,7 +26,7 @@ pub struct TrainingDesk {
 }
 
 impl Model for TrainingDesk {
-    ghost use Rattle.warn_main.specs.Training.{Trained};
+    ghost use Rattle.warn_main.specs.Training.{IsTraining, Trained};
 
     ghost Value = { Trained };
 
