@@ -35,14 +35,17 @@ fn submit(alloc: Global, office: &mut Office, asked: &Asked, reading: i64) -> Re
     if office.opened_drafts() == u32::MAX {
         return List::from_slice(alloc, b"no more drafts\n");
     }
-    match office.prepare(alloc, asked.desk, asked.seq, &asked.request, reading) {
-        Ok(Ready::New(prepared)) => {
+    let ready = match office.prepare(alloc, asked.desk, asked.seq, &asked.request, reading) {
+        Ok(ready) => ready,
+        Err(stop) => return refused(alloc, stop),
+    };
+    match ready {
+        Ready::New(prepared) => {
             let text = line_of(reply_text(alloc, prepared.reply())?)?;
             office.commit(prepared);
             Ok(text)
         }
-        Ok(Ready::Again) => kept_answer(alloc, office, asked),
-        Err(stop) => refused(alloc, stop),
+        Ready::Again => kept_answer(alloc, office, asked),
     }
 }
 
