@@ -82,11 +82,14 @@ fn answer_issue(alloc: Global, office: &mut Office, at: Minute, part: PutPart) -
     let number = office.products() + 1;
     let request = Request::Issue(part);
     let reading = i64::from(at.get());
-    match office.prepare(alloc, dry_desk(), number, &request, reading) {
-        Ok(Ready::New(prepared)) => accept(office, prepared),
-        Ok(Ready::Again) => unreachable!(),
-        Err(Or::No(refusal)) => refusal_line(alloc, &refusal),
-        Err(Or::OutOfMemory) => Err(Oom),
+    let ready = match office.prepare(alloc, dry_desk(), number, &request, reading) {
+        Ok(ready) => ready,
+        Err(Or::No(refusal)) => return refusal_line(alloc, &refusal),
+        Err(Or::OutOfMemory) => return Err(Oom),
+    };
+    match ready {
+        Ready::New(prepared) => accept(office, prepared),
+        Ready::Again => unreachable!(),
     }
 }
 
