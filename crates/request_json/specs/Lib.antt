@@ -5,3 +5,4 @@ pub mod Formed
 pub mod Json
 pub mod Keys
 pub mod Replies
+pub mod Training

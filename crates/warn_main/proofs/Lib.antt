@@ -1,4 +1,5 @@
-pub mod Drying
-pub mod OneAnswer
 pub mod Shapes
-pub mod TrainingLemmas
+pub mod Expiries
+pub mod Soundness
+pub mod Telling
+pub mod Drying

@@ -1,3 +1,6 @@
 pub mod Words
-pub mod Training
+pub mod Judging
+pub mod Answers
+pub mod Segments
+pub mod Desk
 pub mod Runs

@@ -1,9 +1,9 @@
-//! The program of a warning desk. Today it has one command, `warn_main PATH dry OFFICE STAMP`: the training office.
+//! The training desk: `warn_main PATH dry OFFICE STAMP`.
 #![tactic(auto)]
 
+mod answer;
 mod desk;
-mod lines;
-mod training;
+mod judge;
 mod training_desk;
 mod words;
 
