@@ -1,5 +1,5 @@
 #!/bin/sh
-# Runs the training desk on a sample: each line of the input is a request, each answer is a text or a refusal.
+# Runs the training office on a sample: each line of the input is a request, each answer is a text or a refusal.
 # It answers in about a minute, since it runs the program before its proofs are made (`rt try`). With the word `proved`
 # it proves and builds the program and the libraries below it first (`rt run`), which takes some minutes the first time.
 top=$(cd "$(dirname "$0")" && pwd)

@@ -1,28 +1,15 @@
--- A line that is read has places, and an end that is a minute.
-use Rattle.std.proofs.Common.{ℕ, ◌≡◌, ◌≤◌, ◌<◌, ◌==◌, ◌&&◌, not, Bool, true, false, cond, List, [], ◌∷◌, length, slice_index, nat_le, nat_lt, Option, Some, None, option_map, option_and_then, is_some, codes, Result, Ok, Err, refl, ap, subst, ◌∙◌, arith}
+-- What chains of readings tell of what was read, and that the texts of zones and stamps name places and minutes.
+use Rattle.std.proofs.Common.{ℕ, ◌≡◌, ◌≤◌, ◌<◌, ◌==◌, ◌&&◌, Bool, true, false, cond, List, [], ◌∷◌, length, slice_index, nat_le, nat_lt, Option, Some, None, option_map, option_and_then, Result, Ok, Err, refl, subst, arith}
 use Rattle.std.specs.Option.{ok_or}
-use Rattle.std.specs.List.{AllByRecursion}
 use Rattle.std.proofs.lemmas.Bool.Decides.{nat_tests}
-use Rattle.serde_json.specs.Data.{Data, Items, no_items, item, Members}
-use Rattle.serde_json.specs.Find.{get, as_str, as_array}
 use Rattle.hazard_types.specs.Given.{◌>>=◌}
 use Rattle.hazard_types.specs.Calendar.{IsCivil, minute_of, stamp_at, is_digit}
 use Rattle.hazard_types.specs.Places.{Place, IsPlace, is_capital, are_letters, is_number}
 use Rattle.hazard_types.specs.declared.calendar.Civil.{Civil}
 use Rattle.hazard_types.specs.declared.zone.Kind.{Kind}
-use Rattle.hazard_types.specs.declared.hazard.Hazard.{Hazard}
-use Rattle.hazard_types.specs.declared.period.Begin.{Begin}
-use Rattle.hazard_types.specs.declared.period.End.{End}
-use Rattle.hazard_types.specs.declared.period.End.TheVariants as end
 use Rattle.hazard_types.proofs.Stamps.{spells_exactly}
 use Rattle.hazard_types.proofs.Years.{days_fit}
 use Rattle.hazard_types.specs.Names.{zone_at, kind_at, three_at}
-use Rattle.request_json.specs.Fields.{end_at}
-use Rattle.request_json.specs.Json.{json_of, text_at}
-use Rattle.request_json.specs.Training.{training_of, training_in, zones_at, whole_field, hazard_field, zones_field, begin_field, end_field, is_issue, all_known}
-use Rattle.request_json.specs.declared.training.Field.TheVariants as field
-use Rattle.request_json.specs.declared.training.TrainingRefusal.TheVariants.{NotJson, WrongShape}
-use Rattle.request_json.specs.declared.training.Training.{Training}
 
 pub both : (a b : Bool) → (a && b) ≡ true → (a ≡ true) × (b ≡ true)
 both true b h = (refl, h)
@@ -91,14 +78,6 @@ zone_ok bytes p h =
     let number : is_number (three_at bytes 3) ≡ true = all_two (nat_le 1 (three_at bytes 3)) (nat_le (three_at bytes 3) 999) (above_zero (three_at bytes 3) t.5) (test_le (three_at bytes 3) 999 most) in
     subst IsPlace k.2 (all_two (are_letters (slice_index bytes 0 ∷ slice_index bytes 1 ∷ [])) (is_number (three_at bytes 3)) letters number, refl)
 
-zones_ok : (items : Items) (zones : List Place) → zones_at items ≡ Some zones → AllByRecursion IsPlace zones
-zones_ok no_items zones h = let e : [] ≡ zones = cc in subst (λ zs. AllByRecursion IsPlace zs) e tt
-zones_ok (item d ds) zones h =
-    let a = and_then_some (option_and_then zone_at (as_str d)) _ zones h in
-    let z = and_then_some (as_str d) zone_at a.0 a.1 in
-    let m = map_some (zones_at ds) _ zones a.2 in
-    subst (λ zs. AllByRecursion IsPlace zs) m.2 (zone_ok z.0 a.0 z.2, zones_ok ds m.0 m.1)
-
 minute_fits : (c : Civil) → IsCivil c → minute_of c < 52596000
 unfolding minute_of
 minute_fits c is = omega (arith, days_fit c is, is.first_day, is.hour, is.minute)
@@ -107,58 +86,3 @@ pub stamp_fits : (bytes : List ℕ) (m : ℕ) → stamp_at bytes ≡ Some m → 
 stamp_fits bytes m h =
     let s = (spells_exactly bytes (stamp_at bytes) refl m).0 h in
     omega (arith, minute_fits s.0 s.1, s.2)
-
-end_cases : (t : Bool) (o : Option ℕ) (m : ℕ) → cond t (Some end.Ufn) (option_map (λ k. end.At k) o) ≡ Some (end.At m) → o ≡ Some m
-end_cases true o m h = absurd (cc)
-end_cases false o m h =
-    let a = map_some o (λ (k : ℕ). end.At k) (end.At m) h in
-    let same : a.0 ≡ m = cc in
-    a.1 ∙ ap (λ (k : ℕ). Some k) same
-
--- what a line asks has places, and its end is a minute
-pub record Asks (t : Training) : Type 0 where
-  pub places : AllByRecursion IsPlace t.zones
-  pub end : (m : ℕ) → t.end ≡ end.At m → m < 52596000
-
-field_places : (d : Data) (zones : List Place) → zones_field d ≡ Ok zones → AllByRecursion IsPlace zones
-field_places d zones h =
-    let o = option_and_then as_array (get (codes "zones") d) in
-    let a = and_then_some o zones_at zones (ok_or_ok (option_and_then zones_at o) (WrongShape field.Zones) zones h) in
-    zones_ok a.0 zones a.2
-
-field_end : (d : Data) (e : End) → end_field d ≡ Ok e → (m : ℕ) → e ≡ end.At m → m < 52596000
-field_end d e h m k =
-    let o = text_at (codes "end") d in
-    let a = and_then_some o end_at e (ok_or_ok (option_and_then end_at o) (WrongShape field.End) e h) in
-    stamp_fits a.0 m (end_cases _ (stamp_at a.0) m (a.2 ∙ ap (λ (x : End). Some x) k))
-
--- the fields of what was read whole
-chain : {A B Z C D T E : Type 0} (whole : Result A E) (wrong : Bool) (e : E) (hazard : Result B E) (zones : Result Z E) (begin : Result C E) (end : Result D E) (unknown : A → Bool) (f : E) (make : B → Z → C → D → T) (t : T)
-    → (whole >>= λ ms. cond wrong (Err e) (hazard >>= λ h. zones >>= λ z. begin >>= λ b. end >>= λ x. cond (unknown ms) (Err f) (Ok (make h z b x)))) ≡ Ok t
-    → (h : B) × (z : Z) × (b : C) × (x : D) × (zones ≡ Ok z) × (end ≡ Ok x) × (make h z b x ≡ t)
-chain (Err o) wrong e hazard zones begin end unknown f make t k = absurd (cc)
-chain (Ok ms) true e hazard zones begin end unknown f make t k = absurd (cc)
-chain (Ok ms) false e (Err o) zones begin end unknown f make t k = absurd (cc)
-chain (Ok ms) false e (Ok h) (Err o) begin end unknown f make t k = absurd (cc)
-chain (Ok ms) false e (Ok h) (Ok z) (Err o) end unknown f make t k = absurd (cc)
-chain (Ok ms) false e (Ok h) (Ok z) (Ok b) (Err o) unknown f make t k = absurd (cc)
-chain (Ok ms) false e (Ok h) (Ok z) (Ok b) (Ok x) unknown f make t k =
-    let all = unless_ok (unknown ms) f (Ok (make h z b x)) t k in
-    let same : make h z b x ≡ t = cc in
-    (h, z, b, x, refl, refl, same)
-
-abbrev made : Data → Hazard → List Place → Begin → End → Training
-made d hazard zones begin end = record { hazard = hazard; zones = zones; begin = begin; end = end; has_flood = is_some (get (codes "flood") d); has_texts = is_some (get (codes "texts") d) }
-
-asks_in : (d : Data) (t : Training) → training_in d ≡ Ok t → Asks t
-unfolding training_in
-asks_in d t h =
-    let k = chain (whole_field d) (not (is_issue (text_at (codes "do") d))) (WrongShape field.Do) (hazard_field d) (zones_field d) (begin_field d) (end_field d) (λ (ms : Members). not (all_known ms)) (WrongShape field.Unknown) (made d) t h in
-    let zones_are : k.1 ≡ t.zones = ap (λ (u : Training). u.zones) k.6 in
-    let end_is : k.3 ≡ t.end = ap (λ (u : Training). u.end) k.6 in
-    let ends = field_end d k.3 k.5 in
-    record { places = subst (λ (zs : List Place). AllByRecursion IsPlace zs) zones_are (field_places d k.1 k.4); end = λ m same. ends m (end_is ∙ same) }
-
-pub asks : (line : List ℕ) (t : Training) → training_of line ≡ Ok t → Asks t
-unfolding training_of
-asks line t h = let d = then_ok (ok_or (json_of line) NotJson) training_in t h in asks_in d.0 t d.2

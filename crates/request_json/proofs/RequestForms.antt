@@ -29,11 +29,10 @@ use Rattle.hazard_types.specs.declared.request.Target.{Target}
 use Rattle.hazard_types.specs.declared.request.Target.TheVariants as target
 use Rattle.hazard_types.specs.declared.request.Texts.{Texts}
 use Rattle.request_json.specs.Fields.{begin_at, end_at, desk_named, if_counted, number_at, zones_of, flood_of, each_event_texts}
-use Rattle.request_json.specs.Form.{given, desk_field, seq_field, verb_field, category_field, number_field, hazard_field, event_field, zones_field, begin_field, end_field, flood_or_none, flood_field, no_texts, texts_or_empty, texts_field, event_texts_or_none, event_texts_field, target_beside, target_field, put_on, issue_part, put_part, event_part, routine_part, draft_in, draft_request, request_in, asked_in, training_issue_in}
+use Rattle.request_json.specs.Form.{given, desk_field, seq_field, verb_field, category_field, number_field, hazard_field, event_field, zones_field, begin_field, end_field, flood_or_none, flood_field, no_texts, texts_or_empty, texts_field, event_texts_or_none, event_texts_field, target_beside, target_field, put_on, issue_part, put_part, event_part, routine_part, draft_in, draft_request, request_in, asked_in, is_issue, training_issue_in}
 use Rattle.request_json.specs.Formed.{IsNumber, IsHazard, IsEvent, AreTexts, AreEventTexts, AreFloodValues, IsBegin, IsEnd, IsTarget, IsFresh, IsPutPart, IsIssuePart, IsEventPart, IsRoutinePart, HasRequestForm, HasForm}
 use Rattle.request_json.specs.Json.{text_at}
 use Rattle.request_json.specs.Keys.{keys_of, all_known}
-use Rattle.request_json.specs.Training.{is_issue}
 use Rattle.request_json.specs.declared.keys.Keys.TheVariants as keys
 use Rattle.request_json.specs.declared.asked.Asked.{Asked}
 use Rattle.request_json.specs.declared.keys.Verb.{Verb}

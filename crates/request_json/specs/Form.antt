@@ -1,6 +1,7 @@
 -- Which JSON values are requests, and what they ask. The first field that is missing or wrong is told, and an unknown key last.
-use Rattle.std.specs.Prelude.{ℕ, not, List, [], if◌then◌else◌, Option, Some, None, option_map, option_and_then, codes, Result, Ok, Err}
+use Rattle.std.specs.Prelude.{ℕ, not, Bool, false, List, [], if◌then◌else◌, Option, Some, None, option_map, option_and_then, codes, Result, Ok, Err}
 use Rattle.std.specs.Option.{ok_or}
+use Rattle.std.specs.Str.{bytes_eq}
 use Rattle.serde_json.specs.Data.{Data}
 use Rattle.serde_json.specs.Find.{get, as_array, as_object}
 use Rattle.hazard_types.specs.Codes.{value_beside}
@@ -28,7 +29,6 @@ use Rattle.hazard_types.specs.declared.request.Texts.{Texts}
 use Rattle.request_json.specs.Fields.{begin_at, end_at, desk_named, number_at, if_counted, zones_of, flood_of, texts_of, each_event_texts}
 use Rattle.request_json.specs.Json.{json_of, text_at}
 use Rattle.request_json.specs.Keys.{verb_at, keys_of, all_known}
-use Rattle.request_json.specs.Training.{is_issue}
 use Rattle.request_json.specs.declared.asked.Asked.{Asked}
 use Rattle.request_json.specs.declared.keys.Keys.TheVariants as keys
 use Rattle.request_json.specs.declared.keys.Verb.{Verb}
@@ -169,6 +169,10 @@ asked_in d =
 -- what the bytes ask, or the first fault
 unfoldable pub asked_of : List ℕ → Result Asked Refusal
 asked_of bytes = ok_or (json_of bytes) NotJson >>= asked_in
+
+abbrev pub is_issue : Option (List ℕ) → Bool
+is_issue None = false
+is_issue (Some word) = bytes_eq word (codes "issue")
 
 -- an issue without desk and number
 unfoldable pub training_issue_in : Data → Result PutPart Refusal

@@ -5,4 +5,3 @@ pub mod Formed
 pub mod Json
 pub mod Keys
 pub mod Replies
-pub mod Training

@@ -7,7 +7,7 @@ use crate::asked::Asked;
 use crate::members::{Members, put, put_number, put_text, text_value, written};
 use crate::refusals::put_event_text;
 use hazard_types::{
-    Begin, Category, End, EventPart, EventTexts, Flood, Intent, List, Oom, PutPart, Request,
+    Begin, Category, Desk, End, EventPart, EventTexts, Flood, Intent, List, Oom, PutPart, Request,
     RoutinePart, Severity, Status, Target, Text, Texts, Zone, hazard_text, stamp, time_text,
     zone_text,
 };
@@ -336,22 +336,29 @@ fn put_request(alloc: Global, members: &mut Members, request: &Request) -> Resul
 }
 
 #[tactic(auto, unfolding(crate::specs::Canonical::asked_members))]
-fn asked_members(alloc: Global, asked: &Asked) -> Result<Members, Oom>
-    ensures { IfOk result (λ members. members_view members.entries ≡ asked_members asked.now) }
+fn asked_members(alloc: Global, desk: &Desk, seq: u32, request: &Request) -> Result<Members, Oom>
+    ensures { IfOk result (λ members. members_view members.entries ≡ asked_members (record { desk = desk.now; seq = seq; request = request.now })) }
 {
     let mut members = Map::new(alloc);
-    put_request(alloc, &mut members, &asked.request)?;
-    put_text(alloc, &mut members, "desk", asked.desk.bytes())?;
-    put_number(alloc, &mut members, "seq", asked.seq)?;
+    put_request(alloc, &mut members, request)?;
+    put_text(alloc, &mut members, "desk", desk.bytes())?;
+    put_number(alloc, &mut members, "seq", seq)?;
     Ok(members)
 }
 
-/// The canonical text of a request: compact JSON, keys in byte order, with all four texts, without flood values that it
-/// doesn't have.
+/// The canonical text of what a desk asks under a number: compact JSON, keys in byte order, with all four texts, without
+/// flood values that it doesn't have.
 #[tactic(auto, using(crate::proofs::CanonicalFloats::asked_no_float), unfolding(crate::specs::Canonical::asked_text))]
+pub fn text_of_request(alloc: Global, desk: &Desk, seq: u32, request: &Request) -> Result<Text, Oom>
+    ensures { IfOk result (λ text. text ≡ asked_text (record { desk = desk.now; seq = seq; request = request.now })) }
+{
+    let members = asked_members(alloc, desk, seq, request)?;
+    written(alloc, members)
+}
+
+/// The canonical text of a request.
 pub fn request_text(alloc: Global, asked: &Asked) -> Result<Text, Oom>
     ensures { IfOk result (λ text. text ≡ asked_text asked.now) }
 {
-    let members = asked_members(alloc, asked)?;
-    written(alloc, members)
+    text_of_request(alloc, &asked.desk, asked.seq, &asked.request)
 }

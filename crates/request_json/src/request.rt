@@ -4,8 +4,8 @@ ghost use Rattle.hazard_types.specs.Given.{Gives};
 ghost use Rattle.hazard_types.specs.declared.refusal.Refusal.{Refusal as Refused};
 ghost use Rattle.serde_json.specs.Find.{get};
 ghost use Rattle.serde_json.specs.View.{view};
-ghost use Rattle.request_json.specs.Json.{json_of};
-ghost use Rattle.request_json.specs.Form.{given, desk_field, seq_field, verb_field, category_field, number_field, hazard_field, event_field, zones_field, begin_field, end_field, flood_or_none, flood_field, texts_or_empty, texts_field, event_texts_or_none, event_texts_field, target_field, put_on, issue_part, put_part, event_part, routine_part, draft_in, draft_request, request_in, asked_in, asked_of, training_issue_in, training_issue_of};
+ghost use Rattle.request_json.specs.Json.{json_of, text_at};
+ghost use Rattle.request_json.specs.Form.{given, desk_field, seq_field, verb_field, category_field, number_field, hazard_field, event_field, zones_field, begin_field, end_field, flood_or_none, flood_field, texts_or_empty, texts_field, event_texts_or_none, event_texts_field, target_field, put_on, issue_part, put_part, event_part, routine_part, draft_in, draft_request, request_in, asked_in, asked_of, is_issue, training_issue_in, training_issue_of};
 ghost use Rattle.request_json.specs.Formed.{IsIssuePart, HasForm};
 
 use crate::asked::Asked;
@@ -14,7 +14,6 @@ use crate::fields::{
     zones_at,
 };
 use crate::keys::{Keys, Verb};
-use crate::training::is_issue;
 use hazard_types::{
     Begin, Category, Desk, End, Event, EventPart, EventTexts, Flood, Hazard, List, Oom, Or,
     PutPart, Refusal, Request, RoutinePart, Target, Texts, Zone, event_in, hazard_in,
@@ -340,6 +339,12 @@ pub fn read_request(alloc: Global, bytes: &[u8]) -> Result<Asked, Or<Refusal>>
 {
     let value = read_json(alloc, bytes)?;
     asked_in(alloc, &value)
+}
+
+fn is_issue(value: &Value) -> bool
+    ensures { result ≡ is_issue (text_at (codes "do") (view value.now)) }
+{
+    text_at(value, "do") == Some("issue")
 }
 
 #[tactic(auto, unfolding(crate::specs::Form::training_issue_in))]

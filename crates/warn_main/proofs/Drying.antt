@@ -1,35 +1,115 @@
--- A run of the training desk, by the office and the minute alone.
-use Rattle.std.proofs.Common.{ℕ, ◌≡◌, IsTrue, List, [], ◌∷◌, ◌++◌, refl, ap, sym, ◌∙◌, subst, Option}
-use Rattle.hazard_types.specs.Characters.{is_office}
-use Rattle.hazard_types.specs.Places.{Place}
+-- A run of the training office, by the office and the minute alone.
+use Rattle.std.proofs.Common.{ℕ, ◌≡◌, ◌≢◌, ◌≤◌, ◌<◌, ◌⊎◌, inl, inr, List, [], ◌∷◌, ◌++◌, length, refl, ap, sym, ◌∙◌, subst, Option, None, Some, arith}
+use Rattle.desk_traits.specs.Faults.{Rose}
+use Rattle.desk_traits.specs.Streams.{Takes}
+use Rattle.office_core.specs.Agreement.{ReadsAsTheBoard}
+use Rattle.office_core.specs.State.{State}
+use Rattle.program_ends.specs.Ends.{Telling}
 use Rattle.program_ends.specs.Lines.{fit}
-use Rattle.program_ends.specs.Runs.{Answered, IsLinesRun}
-use Rattle.warn_main.specs.declared.training_desk.TrainingDesk.{TrainingDesk}
-use Rattle.warn_main.specs.declared.words.Dry.{Dry}
-use Rattle.warn_main.specs.Answers.{answers, line_reply}
-use Rattle.warn_main.specs.Desk.{Replies, Lacks}
+use Rattle.program_ends.specs.Runs.{Answered, IsLinesRun, LacksNext}
+use Rattle.program_ends.specs.declared.ends.End.TheVariants.{OutOfMemory}
 use Rattle.warn_main.specs.Runs.{IsDryRun}
-use Rattle.warn_main.specs.Segments.{Segments, numbered_from, accepted_lines}
-use Rattle.warn_main.proofs.Telling.{answers_told}
+use Rattle.warn_main.specs.Training.{AnswersLine, Lacks, LacksLine, Replies, Trained, first_training}
+use Rattle.warn_main.specs.declared.words.Dry.{Dry}
+use Rattle.warn_main.proofs.OneAnswer.{HasOneAnswer, answered_once}
 
-told_is : (dry : Dry) (done : List Place) (desk after : TrainingDesk) (lines : List (List ℕ)) (told : List ℕ) → desk.dry ≡ dry → desk.accepted ≡ done → Answered Replies desk lines told after → told ≡ answers dry done lines
-told_is dry done desk after [] told e f h = h.0
-told_is dry done desk after (line ∷ lines) told e f h =
+-- the lines are answered by the states, and the texts of the last one read as its board
+told_states : (at : ℕ) (d after : Trained) (lines : List (List ℕ)) (told : List ℕ) → d.at ≡ at → ReadsAsTheBoard d.state → Answered Replies d lines told after
+    → Answered (AnswersLine at) d.state lines told after.state × ReadsAsTheBoard after.state
+told_states at d after [] told e reads h =
+    let same : after.state ≡ d.state = ap (λ (t : Trained). t.state) h.1 in
+    ((h.0, same), subst ReadsAsTheBoard (sym same) reads)
+told_states at d after (line ∷ lines) told e reads h =
+    let next = h.1 in
     let reply = h.3 in
-    let same : line_reply desk.dry desk.accepted (fit line) ≡ line_reply dry done (fit line) = rw (e, f) refl in
-    let text : h.0 ≡ (line_reply dry done (fit line)).0 = reply.0 ∙ ap (λ (p : List ℕ × List Place). p.0) same in
-    let next : (h.1).accepted ≡ (line_reply dry done (fit line)).1 = reply.1 ∙ ap (λ (p : List ℕ × List Place). p.1) same in
-    let rest = told_is dry (line_reply dry done (fit line)).1 h.1 after lines h.2 (reply.2 ∙ e) next h.5 in
-    h.4 ∙ ap (λ (t : List ℕ). t ++ h.2) text ∙ ap (λ (t : List ℕ). (line_reply dry done (fit line)).0 ++ t) rest
+    let answered : AnswersLine at d.state (fit line) h.0 next.state = subst (λ (n : ℕ). AnswersLine n d.state (fit line) h.0 next.state) e reply.answered in
+    let rest = told_states at next after lines h.2 (reply.same ∙ e) reply.reads h.5 in
+    ((h.0, next.state, h.2, answered, h.4, rest.0), rest.1)
 
-pub dry_run : (dry : Dry) (limit : ℕ) (desk after : TrainingDesk) (left left' taken taken' : Option (List ℕ)) (reads reads' writes writes' status : ℕ) → IsTrue (is_office dry.office) → desk.dry ≡ dry → desk.accepted ≡ []
+lacking : (last z : Trained) → LacksNext Lacks last z → LacksNext LacksLine last.state z.state
+lacking last z (inl same) = inl (ap (λ (t : Trained). t.state) same)
+lacking last z (inr (line, same)) = inr (line, ap (λ (t : Trained). t.state) same)
+
+pub dry_run : HasOneAnswer → (dry : Dry) (limit : ℕ) (desk after : Trained) (left left' taken taken' : Option (List ℕ)) (reads reads' writes writes' status : ℕ)
+    → desk ≡ record { state = first_training dry.office; at = dry.minute } → ReadsAsTheBoard (first_training dry.office)
     → IsLinesRun Replies Lacks limit desk after left left' taken taken' reads reads' writes writes' status → IsDryRun dry limit left left' taken taken' reads reads' writes writes' status
-dry_run dry limit desk after left left' taken taken' reads reads' writes writes' status office e f run =
-    let told = told_is dry [] desk run.run.last run.run.lines run.told e f run.run.answered in
+dry_run law dry limit desk after left left' taken taken' reads reads' writes writes' status is first run =
+    let at : desk.at ≡ dry.minute = ap (λ (t : Trained). t.at) is in
+    let state : desk.state ≡ first_training dry.office = ap (λ (t : Trained). t.state) is in
+    let told = told_states dry.minute desk run.run.last run.run.lines run.told at (subst ReadsAsTheBoard (sym state) first) run.run.answered in
+    let told_of = subst (λ (s : State). Answered (AnswersLine dry.minute) s run.run.lines run.told run.run.last.state) state told.0 in
     record {
-      desk = desk;
-      after = after;
-      run = run;
-      answered = told;
-      segments = subst (λ (t : List ℕ). Segments t (numbered_from dry 1 (accepted_lines dry [] run.run.lines))) (sym told) (answers_told dry office [] run.run.lines);
+      after = after.state;
+      run = record {
+        end = run.end;
+        told = run.told;
+        run = record {
+          read = run.run.read;
+          lines = run.run.lines;
+          others = run.run.others;
+          last = run.run.last.state;
+          takes = run.run.takes;
+          within = run.run.within;
+          first = run.run.first;
+          answered = told_of;
+          ended = run.run.ended;
+          read_fault = run.run.read_fault;
+          too_long = run.run.too_long;
+          state = λ e. ap (λ (t : Trained). t.state) (run.run.state e);
+          no_memory = λ e. lacking run.run.last after (run.run.no_memory e);
+          reasons = run.run.reasons;
+        };
+        telling = run.telling;
+        rose = run.rose;
+        steady = run.steady;
+        read_fault = run.read_fault;
+        write_fault = run.write_fault;
+        no_memory = run.no_memory;
+        complete = run.complete;
+      };
+      only = λ other last g. answered_once law dry.minute (first_training dry.office) run.run.lines other run.told last run.run.last.state g told_of;
+      read_back = told.1;
+    }
+
+takes_none : (left : Option (List ℕ)) → Takes left left []
+takes_none None = refl
+takes_none (Some bytes) = refl
+
+-- memory lacked for the office, and no line was read
+pub unbegun : (dry : Dry) (limit : ℕ) (left taken taken' : Option (List ℕ)) (reads writes writes' status : ℕ)
+    → ReadsAsTheBoard (first_training dry.office) → Telling [] writes taken taken' writes' (Some OutOfMemory) status → IsDryRun dry limit left left taken taken' reads reads writes writes' status
+unbegun dry limit left taken taken' reads writes writes' status first telling =
+    record {
+      after = first_training dry.office;
+      run = record {
+        end = Some OutOfMemory;
+        told = [];
+        run = record {
+          read = [];
+          lines = [];
+          others = [] ∷ [];
+          last = first_training dry.office;
+          takes = takes_none left;
+          within = omega arith;
+          first = refl;
+          answered = (refl, refl);
+          ended = λ e. absurd (cc);
+          read_fault = λ e. absurd (cc);
+          too_long = λ e. absurd (cc);
+          state = λ e. refl;
+          no_memory = λ e. inl refl;
+          reasons = inr (inr (inr (inr refl)));
+        };
+        telling = telling;
+        rose = λ e. absurd (cc);
+        steady = λ e. refl;
+        read_fault = λ e.
+            let own = telling.told.others (λ q. omega (arith, e, q)) in
+            absurd (omega (arith, e, own.0));
+        write_fault = λ e. (telling.told.cut e).0;
+        no_memory = λ e. (refl, (telling.told.others (λ q. omega (arith, e, q))).1);
+        complete = λ no_read no_write. inr (inl (telling.told.others (λ e. no_write (telling.told.cut e).0)).0);
+      };
+      only = λ other last g. g;
+      read_back = first;
     }

@@ -1,5 +1,4 @@
-pub mod Shapes
-pub mod Expiries
-pub mod Soundness
-pub mod Telling
 pub mod Drying
+pub mod OneAnswer
+pub mod Shapes
+pub mod TrainingLemmas

@@ -1,6 +1,3 @@
 pub mod Words
-pub mod Judging
-pub mod Answers
-pub mod Segments
-pub mod Desk
+pub mod Training
 pub mod Runs

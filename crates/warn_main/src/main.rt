@@ -1,9 +1,9 @@
-//! The training desk: `warn_main PATH dry OFFICE STAMP`.
+//! The program of a warning desk. Today it has one command, `warn_main PATH dry OFFICE STAMP`: the training office.
 #![tactic(auto)]
 
-mod answer;
 mod desk;
-mod judge;
+mod lines;
+mod training;
 mod training_desk;
 mod words;
 

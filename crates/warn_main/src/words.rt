@@ -4,7 +4,7 @@ ghost use Rattle.std.specs.List.{list_all};
 ghost use Rattle.hazard_types.specs.Calendar.{is_digit};
 ghost use Rattle.hazard_types.specs.Places.{is_capital};
 ghost use Rattle.hazard_types.specs.Characters.{is_office};
-ghost use Rattle.warn_main.specs.Words.{dry_words};
+ghost use Rattle.warn_main.specs.Words.{IsCommand, command_of, dry_words};
 
 use hazard_types::{List, Minute, Text, read_stamp};
 
@@ -13,6 +13,13 @@ use hazard_types::{List, Minute, Text, read_stamp};
 pub struct Dry {
     pub office: [u8; 4],
     pub minute: Minute,
+}
+
+/// What the words ask for.
+#[derive(Clone, Copy, Debug)]
+pub enum Command {
+    /// Training in memory.
+    Dry(Dry),
 }
 
 /// Whether all are capital letters or digits.
@@ -41,7 +48,7 @@ fn office_of(word: &[u8]) -> Option<[u8; 4]>
 
 /// The office and the minute of the words `dry OFFICE STAMP`.
 #[tactic(auto, unfolding(crate::specs::Words::dry_words))]
-pub fn dry_words(words: &List<Text>) -> Option<Dry>
+fn dry_words(words: &List<Text>) -> Option<Dry>
     ensures value { result ≡ dry_words words.now }
     ensures office { IfSome result (λ dry. IsTrue (is_office dry.office)) }
 {
@@ -54,4 +61,15 @@ pub fn dry_words(words: &List<Text>) -> Option<Dry>
     let office = office_of(office.as_slice())?;
     let minute = read_stamp(stamp.as_slice())?;
     Some(Dry { office, minute })
+}
+
+/// The command that the words are. None exactly where they are none.
+pub fn command_of(words: &List<Text>) -> Option<Command>
+    ensures value { result ≡ command_of words.now }
+    ensures forms { IfSome result IsCommand }
+{
+    match dry_words(words) {
+        Some(dry) => Some(Command::Dry(dry)),
+        None => None,
+    }
 }
