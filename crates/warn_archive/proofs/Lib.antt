@@ -1,5 +1,7 @@
 pub mod Shapes
-pub mod Spans
-pub mod Statuses
 pub mod Numbers
+pub mod Fronts
+pub mod Paging
+pub mod Taking
+pub mod Reading
 pub mod Ending

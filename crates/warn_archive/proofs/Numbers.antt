@@ -10,7 +10,9 @@ use Rattle.event_life.specs.Products.{Product, rows_with}
 use Rattle.product_frame.specs.declared.frame.FrameFault.{FrameFault}
 use Rattle.product_decoder.specs.ReaderModel.{found_at, found_in, found_from, found_of}
 use Rattle.product_decoder.specs.declared.types.Decoded.{Decoded}
+use Rattle.warn_archive.specs.declared.tally.Tally.{Tally}
 use Rattle.warn_archive.specs.declared.words.Asked.{Asked}
+use Rattle.warn_archive.specs.Pieces.{IsTallied}
 use Rattle.warn_archive.specs.Readings.{IsNumbered}
 use Rattle.warn_archive.specs.Report.{products_of, numbers_from}
 
@@ -46,3 +48,6 @@ breaches_are_numbered asked readings =
     let size = length (numbers_from 1 readings) in
     All-from_recursion (IsNumbered size) (found_from [] 1 (products_of asked readings))
     (each_from size [] 1 (products_of asked readings) (omega arith) (omega (arith, as_many asked 1 readings)))
+
+pub tally_numbered : (asked : Asked) (readings : List (Result Decoded FrameFault)) (tally : Tally) → IsTallied asked readings tally → All (IsNumbered (length tally.numbers)) (found_of tally.reader.products)
+tally_numbered asked readings tally t = rw (t.numbers, t.products) (breaches_are_numbered asked readings)

@@ -3,3 +3,4 @@ pub mod Texts
 pub mod Readings
 pub mod Report
 pub mod Runs
+pub mod Pieces

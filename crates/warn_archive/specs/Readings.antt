@@ -1,11 +1,6 @@
 -- Products of an input, and their numbers.
 use Rattle.std.specs.Prelude.{◌≤◌, ℕ}
-use Rattle.hazard_types.specs.declared.line.Span.{Span}
 use Rattle.product_decoder.specs.declared.types.Found.{Found}
-
--- the span lies within so many bytes
-abbrev pub IsWithin : ℕ → Span → Type 0
-IsWithin size s = (s.from ≤ s.to) × (s.to ≤ size)
 
 -- the breach is in one of so many products, which count from 1
 abbrev pub IsNumbered : ℕ → Found → Type 0

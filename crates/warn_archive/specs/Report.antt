@@ -97,9 +97,13 @@ spaced n = codes " " ++ wide n
 abbrev pub gap_line : GapFound → List ℕ
 gap_line g = codes "gap " ++ (hazard_code g.hazard ++ (spaced g.year ++ (spaced g.wanted ++ (spaced g.found ++ codes "\n"))))
 
+-- what stands before the rows that are shown at a minute: it, and their count
+abbrev pub shown_front : ℕ → ℕ → List ℕ
+shown_front minute n = codes "shown " ++ counted_text minute n
+
 -- the rows that are shown at a minute
 abbrev pub shown_text : ℕ → List Row → List ℕ
-shown_text minute rows = codes "shown " ++ (counted_text minute (length rows) ++ board_text rows)
+shown_text minute rows = shown_front minute (length rows) ++ board_text rows
 
 -- lives, breaches and gaps, where the products that were taken have these numbers
 abbrev pub findings_text : List ℕ → List Product → List ℕ

@@ -1,66 +1,37 @@
 //! The top call.
-ghost use Rattle.std.specs.Prelude.{◌≡◌, ◌⊎◌, ◌≤◌, ◌≢◌, MatchOption, IsSome};
+ghost use Rattle.std.specs.Prelude.{◌≡◌, ◌⊎◌, ◌≤◌, MatchOption, IsSome, IsNone};
 ghost use Rattle.desk_traits.specs.Faults.{Rose};
-ghost use Rattle.desk_traits.specs.Streams.{Adds};
+ghost use Rattle.program_ends.specs.Words.{words_behind};
 ghost use Rattle.warn_archive.specs.Words.{asked_of};
-ghost use Rattle.warn_archive.specs.Runs.{IsArchiveRun, IsUsage, AddsFront, HandsOut};
+ghost use Rattle.warn_archive.specs.Runs.{IsArchiveRun, IsUsage, IsUntouched};
 
-use crate::reading::{Stop, read_all};
-use crate::report::{Report, report_of};
+use crate::report::tell_report;
 use crate::words::asked_of;
-use desk_traits::{Failed, Sink, Source, write_whole};
-use hazard_types::{List, Oom, Text};
+use desk_traits::{Sink, Source};
+use hazard_types::{List, Text};
+use program_ends::{End, LIMIT, end_at_once, end_run, given_words};
 use std::alloc::Global;
 
-const USAGE: u8 = 2;
-
+/// The status of a report that lists something.
 const LISTED: u8 = 3;
 
-const READ_FAULT: u8 = 7;
-
-const WRITE_FAULT: u8 = 8;
-
-const OUT_OF_MEMORY: u8 = 12;
-
-const INPUT_TOO_LONG: u8 = 13;
-
-/// Writes the line of a fault once, and answers its status.
-fn fault<K: Sink>(output: &mut K, line: &[u8], status: u8) -> u8
-    ensures status { (result ≡ status) ⊎ ((result ≡ 8) × Rose (K.faults output.old) (K.faults output.new)) }
-    ensures whole { result ≢ 8 → Adds (K.taken output.old) (K.taken output.new) line.now }
-    ensures front { AddsFront (K.taken output.old) (K.taken output.new) line.now }
-    ensures later { K.faults output.old ≤ K.faults output.new }
-{
-    match write_whole(output, line) {
-        Ok(()) => status,
-        Err(_) => WRITE_FAULT,
-    }
-}
-
-/// Writes a report, and answers the status.
-fn hand_out<K: Sink>(output: &mut K, report: &Report) -> u8
-    ensures run { HandsOut report.now.text report.now.listed (K.taken output.old) (K.taken output.new) result }
-    ensures write_fault { result ≡ 8 → Rose (K.faults output.old) (K.faults output.new) }
-    ensures later { K.faults output.old ≤ K.faults output.new }
-{
-    match write_whole(output, report.text.as_slice()) {
-        Ok(()) if report.listed == 0 => 0,
-        Ok(()) => LISTED,
-        Err(Failed) => fault(output, b"fault WriteFault\n", WRITE_FAULT),
-    }
-}
-
-/// Does what the words say, and answers the status of the program.
-pub fn archive_run<S: Source, K: Sink>(
+/// Does what the words say, with an input of at most `limit` bytes, and answers the status of the program.
+pub fn archive_within<S: Source, K: Sink>(
     alloc: Global,
     words: &List<Text>,
     input: &mut S,
     output: &mut K,
+    limit: usize,
 ) -> u8
+    requires { limit ≤ 1073741824 }
+
     // What was read and written, for each status.
     ensures run { MatchOption (asked_of words.now)
-        (IsUsage (S.left input.old) (S.left input.new) (K.taken output.old) (K.taken output.new) result)
-        (λ asked. IsArchiveRun asked (S.left input.old) (S.left input.new) (K.taken output.old) (K.taken output.new) result) }
+        (IsUsage (S.left input.old) (S.left input.new) (K.taken output.old) (K.taken output.new) (S.faults input.old) (S.faults input.new) (K.faults output.old) (K.faults output.new) result)
+        (λ asked. IsArchiveRun asked limit (S.left input.old) (S.left input.new) (K.taken output.old) (K.taken output.new) (S.faults input.old) (S.faults input.new) (K.faults output.old) (K.faults output.new) result) }
+
+    // Other words alone end with 2.
+    ensures usage { result ≡ 2 → IsNone (asked_of words.now) }
 
     // A fault is told only where a count rose.
     ensures read_fault { result ≡ 7 → Rose (S.faults input.old) (S.faults input.new) }
@@ -71,16 +42,49 @@ pub fn archive_run<S: Source, K: Sink>(
         → (result ≡ 0) ⊎ (result ≡ 3) ⊎ (result ≡ 12) ⊎ (result ≡ 13) }
 {
     let Some(asked) = asked_of(words) else {
-        return fault(output, b"fault Usage\n", USAGE);
+        return end_at_once(output, End::Usage);
     };
-    let text = match read_all(alloc, input) {
-        Ok(text) => text,
-        Err(Stop::Read) => return fault(output, b"fault ReadFault\n", READ_FAULT),
-        Err(Stop::TooLong) => return fault(output, b"fault InputTooLong\n", INPUT_TOO_LONG),
-        Err(Stop::OutOfMemory) => return fault(output, b"fault OutOfMemory\n", OUT_OF_MEMORY),
-    };
-    match report_of(alloc, &asked, text.as_slice()) {
-        Ok(report) => hand_out(output, &report),
-        Err(Oom) => fault(output, b"fault OutOfMemory\n", OUT_OF_MEMORY),
+    match tell_report(alloc, &asked, limit, input, output) {
+        Ok(0) => 0,
+        Ok(_listed) => LISTED,
+        Err(stop) => end_run(output, Some(End::from(stop))),
+    }
+}
+
+/// Does what the words say, with an input of at most 1,073,741,824 bytes, and answers the status of the program.
+pub fn archive_run<S: Source, K: Sink>(
+    alloc: Global,
+    words: &List<Text>,
+    input: &mut S,
+    output: &mut K,
+) -> u8
+    ensures run { MatchOption (asked_of words.now)
+        (IsUsage (S.left input.old) (S.left input.new) (K.taken output.old) (K.taken output.new) (S.faults input.old) (S.faults input.new) (K.faults output.old) (K.faults output.new) result)
+        (λ asked. IsArchiveRun asked 1073741824 (S.left input.old) (S.left input.new) (K.taken output.old) (K.taken output.new) (S.faults input.old) (S.faults input.new) (K.faults output.old) (K.faults output.new) result) }
+    ensures usage { result ≡ 2 → IsNone (asked_of words.now) }
+    ensures read_fault { result ≡ 7 → Rose (S.faults input.old) (S.faults input.new) }
+    ensures write_fault { result ≡ 8 → Rose (K.faults output.old) (K.faults output.new) }
+    ensures complete { IsSome (asked_of words.now) → ¬ Rose (S.faults input.old) (S.faults input.new) → ¬ Rose (K.faults output.old) (K.faults output.new)
+        → (result ≡ 0) ⊎ (result ≡ 3) ⊎ (result ≡ 12) ⊎ (result ≡ 13) }
+{
+    archive_within(alloc, words, input, output, LIMIT)
+}
+
+/// Does what a command line says, of which the program's name comes first. Where memory lacks for the
+/// words the status is 12, and nothing is read or written.
+pub fn run_program<S: Source, K: Sink>(
+    alloc: Global,
+    command_line: &[String],
+    input: &mut S,
+    output: &mut K,
+) -> u8
+    ensures { IsUntouched (S.left input.old) (S.left input.new) (K.taken output.old) (K.taken output.new) result
+        ⊎ MatchOption (asked_of (words_behind 1 command_line.now))
+        (IsUsage (S.left input.old) (S.left input.new) (K.taken output.old) (K.taken output.new) (S.faults input.old) (S.faults input.new) (K.faults output.old) (K.faults output.new) result)
+        (λ asked. IsArchiveRun asked 1073741824 (S.left input.old) (S.left input.new) (K.taken output.old) (K.taken output.new) (S.faults input.old) (S.faults input.new) (K.faults output.old) (K.faults output.new) result) }
+{
+    match given_words(alloc, command_line, 1) {
+        Ok(words) => archive_run(alloc, &words, input, output),
+        Err(_) => End::OutOfMemory.status(),
     }
 }

@@ -1,15 +1,13 @@
 //! The lines of a report. Each is added to a text.
-ghost use Rattle.std.specs.Prelude.{◌≡◌, ◌<◌, ◌≤◌, ◌++◌, ◌+◌, length, flat_map, OnOk};
-ghost use Rattle.std.specs.List.{All};
+ghost use Rattle.std.specs.Prelude.{◌≡◌, ◌++◌, length, OnOk};
 ghost use Rattle.product_decoder.specs.ReaderModel.{is_by, said_by};
-ghost use Rattle.warn_archive.specs.Report.{title, counted_text, taken_line, faulty_line, product_line, product_lines, life_line, breach_line, spaced, gap_line, shown_text, last_line};
+ghost use Rattle.warn_archive.specs.Report.{title, counted_text, taken_line, faulty_line, product_line, life_line, breach_line, spaced, gap_line, shown_front, last_line};
 ghost use Rattle.warn_archive.specs.Readings.{IsNumbered};
 
-use crate::readings::Reading;
+use crate::tally::Reading;
 use crate::texts::{breach_name, put_fault, put_stamp, put_steps, put_where};
 use crate::words::Asked;
-use board_text::put_board;
-use hazard_types::{Minute, Oom, Row, Text, hazard_text, put_number, put_wide};
+use hazard_types::{Minute, Oom, Text, hazard_text, put_number, put_wide};
 use product_decoder::{Decoded, Found, GapFound, Track, ZonePair};
 use product_frame::FrameFault;
 use std::alloc::Global;
@@ -76,7 +74,7 @@ fn put_faulty(alloc: Global, out: &mut Text, number: usize, fault: FrameFault) -
 }
 
 /// The line of a product.
-fn put_product(
+pub fn put_product(
     alloc: Global,
     out: &mut Text,
     asked: &Asked,
@@ -91,22 +89,8 @@ fn put_product(
     }
 }
 
-/// A line for each product.
-pub fn put_products(
-    alloc: Global,
-    out: &mut Text,
-    asked: &Asked,
-    readings: &[Reading],
-) -> Result<(), Oom>
-    ensures { OnOk result (out.new ≡ out.old ++ product_lines asked.now 1 readings.now) }
-{
-    for (place, reading) in readings.iter().enumerate() {
-        put_product(alloc, out, asked, place + 1, reading)?;
-    }
-    Ok(())
-}
-
-fn put_life(alloc: Global, out: &mut Text, life: &Track) -> Result<(), Oom>
+/// The line of a life.
+pub fn put_life(alloc: Global, out: &mut Text, life: &Track) -> Result<(), Oom>
     ensures { OnOk result (out.new ≡ out.old ++ life_line life.now) }
 {
     out.extend(b"life ")?;
@@ -115,17 +99,13 @@ fn put_life(alloc: Global, out: &mut Text, life: &Track) -> Result<(), Oom>
     out.push(b'\n')
 }
 
-/// A line for each life.
-pub fn put_lives(alloc: Global, out: &mut Text, lives: &[Track]) -> Result<(), Oom>
-    ensures { OnOk result (out.new ≡ out.old ++ flat_map life_line lives.now) }
-{
-    for life in lives {
-        put_life(alloc, out, life)?;
-    }
-    Ok(())
-}
-
-fn put_breach(alloc: Global, out: &mut Text, numbers: &[usize], found: &Found) -> Result<(), Oom>
+/// The line of a breach. `numbers` are those of the products that were taken, among all.
+pub fn put_breach(
+    alloc: Global,
+    out: &mut Text,
+    numbers: &[usize],
+    found: &Found,
+) -> Result<(), Oom>
     requires { IsNumbered (length numbers.now) found.now }
     ensures { OnOk result (out.new ≡ out.old ++ breach_line numbers.now found.now) }
 {
@@ -138,22 +118,6 @@ fn put_breach(alloc: Global, out: &mut Text, numbers: &[usize], found: &Found) -
     out.push(b'\n')
 }
 
-/// A line for each breach. `numbers` are those of the products that were taken, among all.
-pub fn put_breaches(
-    alloc: Global,
-    out: &mut Text,
-    numbers: &[usize],
-    breaches: &[Found],
-) -> Result<(), Oom>
-    requires { All (IsNumbered (length numbers.now)) breaches.now }
-    ensures { OnOk result (out.new ≡ out.old ++ flat_map (breach_line numbers.now) breaches.now) }
-{
-    for found in breaches {
-        put_breach(alloc, out, numbers, found)?;
-    }
-    Ok(())
-}
-
 /// A number behind a blank.
 fn put_spaced(alloc: Global, out: &mut Text, n: u16) -> Result<(), Oom>
     ensures { OnOk result (out.new ≡ out.old ++ spaced n) }
@@ -162,7 +126,8 @@ fn put_spaced(alloc: Global, out: &mut Text, n: u16) -> Result<(), Oom>
     put_wide(alloc, out, n)
 }
 
-fn put_gap(alloc: Global, out: &mut Text, gap: &GapFound) -> Result<(), Oom>
+/// The line of a gap.
+pub fn put_gap(alloc: Global, out: &mut Text, gap: &GapFound) -> Result<(), Oom>
     ensures { OnOk result (out.new ≡ out.old ++ gap_line gap.now) }
 {
     out.extend(b"gap ")?;
@@ -173,23 +138,12 @@ fn put_gap(alloc: Global, out: &mut Text, gap: &GapFound) -> Result<(), Oom>
     out.push(b'\n')
 }
 
-/// A line for each gap.
-pub fn put_gaps(alloc: Global, out: &mut Text, gaps: &[GapFound]) -> Result<(), Oom>
-    ensures { OnOk result (out.new ≡ out.old ++ flat_map gap_line gaps.now) }
-{
-    for gap in gaps {
-        put_gap(alloc, out, gap)?;
-    }
-    Ok(())
-}
-
-/// The rows that are shown, behind their minute and count.
-pub fn put_shown(alloc: Global, out: &mut Text, minute: Minute, rows: &[Row]) -> Result<(), Oom>
-    ensures { OnOk result (out.new ≡ out.old ++ shown_text minute rows.now) }
+/// What stands before the rows that are shown: their minute and count.
+pub fn put_shown(alloc: Global, out: &mut Text, minute: Minute, count: usize) -> Result<(), Oom>
+    ensures { OnOk result (out.new ≡ out.old ++ shown_front minute count) }
 {
     out.extend(b"shown ")?;
-    put_counted(alloc, out, minute, rows.len())?;
-    put_board(alloc, out, rows)
+    put_counted(alloc, out, minute, count)
 }
 
 /// The last line.
