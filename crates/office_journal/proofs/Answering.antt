@@ -1,0 +1,107 @@
+-- What becomes of a kept office between the start of a request and its answer: what is prepared leaves the state as it was.
+use Rattle.std.proofs.Common.{◌≡◌, ◌≢◌, ◌⊎◌, ◌+◌, ◌-◌, ◌^◌, min, inl, inr, ⊎_elim, ℕ, ℤ, List, Option, Some, option_map, refl, sym, ◌∙◌, ap, subst}
+use Rattle.desk_traits.specs.Faults.{Rose}
+use Rattle.hazard_types.specs.declared.refusal.Refusal.{Refusal}
+use Rattle.hazard_types.specs.declared.request.Request.{Request}
+use Rattle.journal_core.specs.Kept.{Keeps}
+use Rattle.office_core.specs.Histories.{Entered}
+use Rattle.office_core.specs.Prepared.{IsReady, Readied}
+use Rattle.office_core.specs.State.{State}
+use Rattle.office_core.specs.Step.{Accepts, entry_of, state_after}
+use Rattle.office_core.specs.Views.{OfficeView}
+use Rattle.office_journal.specs.Changes.{Change, Leaves, body_of}
+use Rattle.office_journal.specs.Histories.{History, IsHistory, bodies}
+use Rattle.office_journal.specs.Kept.{Holds, disk_of, entries_of, gate_of, notes_of, state_of}
+use Rattle.office_journal.specs.Outcomes.{Becomes, HasEntered, HasFailed, IsAsBefore}
+use Rattle.office_journal.specs.Submitting.{IsAsked, IsOffered, IsTooLong, entered}
+use Rattle.office_journal.specs.declared.answers.Answer.{Answer}
+use Rattle.office_journal.specs.declared.answers.Answer.TheVariants.{Accepted, Repeated, Refused, DiskFault, OutOfMemory}
+use Rattle.office_journal.specs.declared.kept.KeptOffice.{KeptOffice}
+use Rattle.office_journal.proofs.Carrying.{leaves_less}
+
+-- what was prepared is offered
+pub ready_offered : (o : OfficeView) (s : State) (desk : List ℕ) (seq : ℕ) (r : Request) (reading : ℤ) (p : Readied) → o.state ≡ s → IsReady o desk seq r reading p → IsOffered s desk seq r reading (entered p)
+ready_offered o s desk seq r reading p same ready = record {
+  accepted = subst (λ (z : State). Accepts z desk seq r reading p.entry.minute p.made) same ready.accepted;
+  entry = ready.entry ∙ ap (λ (z : State). entry_of z desk seq r p.entry.minute p.made) same;
+}
+
+module _ {D : Type 0} {d : _} (seen : D → Option (List ℕ)) (may_leave : D → List ℕ → Type 0) (old mid : KeptOffice D d)
+    (journal : mid.journal ≡ old.journal) (state : state_of mid ≡ state_of old) (entries : entries_of mid ≡ entries_of old) (notes : notes_of mid ≡ notes_of old) where
+  pub holds_on : (file : List ℕ) (h : History) (pending : Option Change) → Holds seen may_leave old file h pending → Holds seen may_leave mid file h pending
+  holds_on file h pending holds = record {
+    journal = subst (λ j. Keeps seen may_leave j (bodies file h) (option_map body_of pending)) (sym journal) holds.journal;
+    history = subst (λ (z : State). IsHistory file h z) (sym state) holds.history;
+    entries = entries ∙ holds.entries;
+    change = holds.change;
+  }
+
+  disk_same : disk_of mid ≡ disk_of old
+  disk_same = ap (λ j. j.disk) journal
+
+  gate_same : gate_of mid ≡ gate_of old
+  gate_same = ap (λ j. j.gate) journal
+
+  -- with what was prepared, all is as it was
+  pub still_as_before : IsAsBefore seen may_leave old mid
+  still_as_before = record { disk = disk_same; gate = gate_same; state = state; entries = entries; notes = notes; held = holds_on }
+
+  module _ (new : KeptOffice D d) where
+    as_before_on : IsAsBefore seen may_leave mid new → IsAsBefore seen may_leave old new
+    as_before_on is = record {
+      disk = is.disk ∙ disk_same;
+      gate = is.gate ∙ gate_same;
+      state = is.state ∙ state;
+      entries = is.entries ∙ entries;
+      notes = is.notes ∙ notes;
+      held = λ file h pending holds. is.held file h pending (holds_on file h pending holds);
+    }
+
+    entered_on : (x : Entered) → HasEntered seen may_leave mid new x → HasEntered seen may_leave old new x
+    entered_on x is = record {
+      state = is.state ∙ ap (λ (z : State). state_after z x.entry x.made) state;
+      entries = is.entries ∙ ap (λ (n : ℕ). n + 1) entries;
+      notes = is.notes ∙ notes;
+      reads = is.reads;
+      held = λ file h pending holds. is.held file h pending (holds_on file h pending holds);
+    }
+
+    module _ (faults : D → ℕ) where
+      failed_on : (x : Entered) → HasFailed seen may_leave faults mid new x → HasFailed seen may_leave faults old new x
+      failed_on x is = record {
+        cause = subst (λ (z : D). Rose (faults z) (faults (disk_of new))) disk_same is.cause;
+        room = λ long. is.room (subst (λ (n : ℕ). IsTooLong n x) (sym gate_same) long);
+        state = is.state ∙ state;
+        entries = is.entries ∙ entries;
+        notes = is.notes ∙ ap (λ (n : ℕ). min (n + 1) (2 ^ 64 - 1)) notes;
+        held = λ file h pending holds. is.held file h pending (holds_on file h pending holds);
+      }
+
+      module _ (y : Entered) (offered : Entered → Type 0) (kept : List ℕ → Type 0) (broken : Refusal → Type 0) (so : offered y) where
+        is_offered : (x : Entered) → x ≡ y → offered x
+        is_offered x is = subst offered (sym is) so
+
+        -- what becomes of it where what was prepared is kept
+        pub becomes_on : (answer : Answer) → Becomes seen may_leave faults mid new (λ x. x ≡ y) (λ text. ⊥) (λ x. ⊥) answer → Becomes seen may_leave faults old new offered kept broken answer
+        becomes_on (Accepted text) (x, is, reply, has) = (x, is_offered x is, reply, entered_on x has)
+        becomes_on (Repeated text) (never, same) = absurd never
+        becomes_on (Refused r) (why, same) = (⊎_elim (λ never. absurd never) (λ full. inr (full.0, full.1, is_offered full.1 full.2, subst (λ (n : ℕ). IsTooLong n full.1) gate_same full.3)) why, as_before_on same)
+        becomes_on DiskFault (x, is, has) = (x, is_offered x is, failed_on x has)
+        becomes_on OutOfMemory same = as_before_on same
+
+-- what a crash leaves while what was prepared is kept
+pub asked_less : (s : State) (desk : List ℕ) (seq : ℕ) (r : Request) (reading : ℤ) (x : Entered) → IsOffered s desk seq r reading x → (file : List ℕ) (h : History) (pending : Option Change) (c : List ℕ)
+    → Leaves file h (λ change. (pending ≡ Some change) ⊎ (change ≡ Change.entry x)) c → Leaves file h (λ change. (pending ≡ Some change) ⊎ IsAsked s desk seq r reading change) c
+asked_less s desk seq r reading x so file h pending c left =
+    leaves_less file h (λ change. (pending ≡ Some change) ⊎ (change ≡ Change.entry x)) (λ change. (pending ≡ Some change) ⊎ IsAsked s desk seq r reading change)
+    (λ change is. ⊎_elim (λ was. inl was) (λ this. inr (x, so, this)) is) c left
+
+-- but for an entry and a disk fault the disk and what it holds are as they were
+pub untouched : {D : Type 0} {d : _} (seen : D → Option (List ℕ)) (may_leave : D → List ℕ → Type 0) (faults : D → ℕ) (old new : KeptOffice D d) (offered : Entered → Type 0) (kept : List ℕ → Type 0) (broken : Refusal → Type 0) (answer : Answer)
+    → Becomes seen may_leave faults old new offered kept broken answer → ((text : List ℕ) → answer ≢ Accepted text) → answer ≢ DiskFault
+    → (disk_of new ≡ disk_of old) × ((file : List ℕ) (h : History) (pending : Option Change) → Holds seen may_leave old file h pending → Holds seen may_leave new file h pending)
+untouched seen may_leave faults old new offered kept broken (Accepted text) is no_entry no_fault = absurd (no_entry text refl)
+untouched seen may_leave faults old new offered kept broken (Repeated text) is no_entry no_fault = (is.1.disk, is.1.held)
+untouched seen may_leave faults old new offered kept broken (Refused r) is no_entry no_fault = (is.1.disk, is.1.held)
+untouched seen may_leave faults old new offered kept broken DiskFault is no_entry no_fault = absurd (no_fault refl)
+untouched seen may_leave faults old new offered kept broken OutOfMemory is no_entry no_fault = (is.disk, is.held)

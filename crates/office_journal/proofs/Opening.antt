@@ -1,0 +1,22 @@
+-- The office that was opened holds the history of its journal.
+use Rattle.std.proofs.Common.{ℕ, List, Option, None, sym, subst}
+use Rattle.journal_core.specs.Image.{Image}
+use Rattle.journal_core.specs.Kept.{Keeps}
+use Rattle.journal_core.specs.declared.journal.Journal.{Journal}
+use Rattle.office_journal.specs.Adopting.{IsOpened}
+use Rattle.office_journal.specs.Histories.{ImageOf, bodies}
+use Rattle.office_journal.specs.Kept.{Holds}
+use Rattle.office_journal.specs.declared.kept.KeptOffice.{KeptOffice}
+
+pub holds_then : {D : Type 0} {d : _} (seen : D → Option (List ℕ)) (may_leave : D → List ℕ → Type 0) (journal : Journal D d) (all : List (List ℕ)) (kept : KeptOffice D d) (is : IsOpened journal all kept)
+    → Keeps seen may_leave journal all None → Holds seen may_leave kept is.file is.history None
+holds_then {D} {d} seen may_leave journal all kept is keeps = record {
+  journal = subst (λ (j : Journal D d). Keeps seen may_leave j (bodies is.file is.history) None) (sym is.same)
+      (subst (λ (bs : List (List ℕ)). Keeps seen may_leave journal bs None) is.are keeps);
+  history = is.state;
+  entries = is.entries;
+  change = tt;
+}
+
+pub image_then : {D : Type 0} {d : _} (journal : Journal D d) (all : List (List ℕ)) (kept : KeptOffice D d) (is : IsOpened journal all kept) (bytes : List ℕ) → Image bytes all → ImageOf bytes is.file is.history
+image_then journal all kept is bytes image = record { state = kept.office.state; history = is.state; image = subst (Image bytes) is.are image }

@@ -1,0 +1,26 @@
+use Rattle.std.proofs.Common.{◌≡◌, ℕ, List, None, Some, sym, ◌∙◌, subst}
+use Rattle.desk_traits.specs.File.{Only}
+use Rattle.journal_core.specs.Image.{Image}
+use Rattle.journal_core.specs.Kept.{Keeps, disk_of}
+use Rattle.journal_core.specs.declared.journal.Journal.{Journal}
+use Rattle.office_journal.specs.Adopting.{IsOpened}
+use Rattle.office_journal.proofs.Opening.{holds_then, image_then}
+use Rattle.office_journal.proofs.kept.KeptOffice.adopt.Goals as goal
+
+pub returns-in-Ok-opened-clause-ok : goal.returns-in-Ok-opened-clause-ok
+returns-in-Ok-opened-clause-ok g c bytes stands =
+    let d = g.D.Disk in
+    let journal = c.in-Ok.journal in
+    let kept = c.in-Ok-opened.kept in
+    let all = c.as_slice.result.now in
+    let is : IsOpened journal all kept = c.in-Ok-opened.ensures in
+    let read = c.in-Ok.ensures.ok bytes stands in
+    let image = subst (λ (bs : List (List ℕ)). Image bytes bs) (sym c.as_slice.ensures) read.0 in
+    let keeps = subst (λ (bs : List (List ℕ)). Keeps d.seen d.may_leave journal bs None) (sym c.as_slice.ensures) read.1 in (
+      is.file,
+      is.history,
+      image_then journal all kept is bytes image,
+      holds_then d.seen d.may_leave journal all kept is keeps,
+      subst (λ (j : Journal g.row.D.Denot d). d.seen (disk_of j) ≡ Some bytes) (sym is.same) (c.in-Ok.ensures.seen ∙ stands),
+      subst (λ (j : Journal g.row.D.Denot d). Only (d.seen (disk_of j)) (d.may_leave (disk_of j))) (sym is.same) read.2,
+    )

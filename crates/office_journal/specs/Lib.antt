@@ -1,0 +1,12 @@
+pub mod Bodies
+pub mod Histories
+pub mod Changes
+pub mod Faults
+pub mod Kept
+pub mod Submitting
+pub mod Making
+pub mod Outcomes
+pub mod Parts
+pub mod Replaying
+pub mod Damage
+pub mod Adopting

@@ -1,0 +1,71 @@
+-- What becomes of a kept office and its journal where a request is answered.
+use Rattle.std.specs.Prelude.{◌≡◌, ◌⊎◌, ◌+◌, ◌-◌, ◌^◌, ℕ, List, Option, None, IfSome, min}
+use Rattle.desk_traits.specs.Faults.{Rose}
+use Rattle.desk_traits.specs.File.{Only}
+use Rattle.hazard_types.specs.declared.refusal.Refusal.{Refusal}
+use Rattle.hazard_types.specs.declared.refusal.Refusal.TheVariants.{JournalFull}
+use Rattle.request_json.specs.Replies.{reply_text}
+use Rattle.office_core.specs.Agreement.{ReadsAsTheBoard}
+use Rattle.office_core.specs.Histories.{Entered}
+use Rattle.office_core.specs.Step.{state_after}
+use Rattle.office_core.specs.declared.heard.Said.{Said}
+use Rattle.office_journal.specs.Changes.{Change, changed}
+use Rattle.office_journal.specs.Histories.{History}
+use Rattle.office_journal.specs.Kept.{Holds, disk_of, entries_of, gate_of, notes_of, state_of}
+use Rattle.office_journal.specs.Submitting.{IsTooLong, MayTouch}
+use Rattle.office_journal.specs.declared.answers.Answer.{Answer}
+use Rattle.office_journal.specs.declared.answers.Answer.TheVariants.{Accepted, Repeated, Refused, DiskFault, OutOfMemory}
+use Rattle.office_journal.specs.declared.kept.KeptOffice.{KeptOffice}
+
+-- the office and its disk are as they were
+pub record IsAsBefore {D : Type 0} {d : _} (seen : D → Option (List ℕ)) (may_leave : D → List ℕ → Type 0) (old new : KeptOffice D d) : Type 0 where
+  pub disk : disk_of new ≡ disk_of old
+  pub gate : gate_of new ≡ gate_of old
+  pub state : state_of new ≡ state_of old
+  pub entries : entries_of new ≡ entries_of old
+  pub notes : notes_of new ≡ notes_of old
+  pub held : (file : List ℕ) (h : History) (pending : Option Change) → Holds seen may_leave old file h pending → Holds seen may_leave new file h pending
+
+-- the entry stands in the journal, durably, and the office is in the state behind it
+pub record HasEntered {D : Type 0} {d : _} (seen : D → Option (List ℕ)) (may_leave : D → List ℕ → Type 0) (old new : KeptOffice D d) (x : Entered) : Type 0 where
+  pub state : state_of new ≡ state_after (state_of old) x.entry x.made
+  pub entries : entries_of new ≡ entries_of old + 1
+  pub notes : notes_of new ≡ notes_of old
+  pub reads : ReadsAsTheBoard (state_of new)
+  pub held : (file : List ℕ) (h : History) (pending : Option Change) → Holds seen may_leave old file h pending
+      → Holds seen may_leave new file (changed h (Change.entry x)) None × Only (seen (disk_of new)) (may_leave (disk_of new))
+
+-- the disk failed under an entry that has room, and the office is as it was but for one note
+pub record HasFailed {D : Type 0} {d : _} (seen : D → Option (List ℕ)) (may_leave : D → List ℕ → Type 0) (faults : D → ℕ) (old new : KeptOffice D d) (x : Entered) : Type 0 where
+  pub cause : Rose (faults (disk_of old)) (faults (disk_of new))
+  pub room : IsTooLong (gate_of old) x → ⊥
+  pub state : state_of new ≡ state_of old
+  pub entries : entries_of new ≡ entries_of old
+  pub notes : notes_of new ≡ min (notes_of old + 1) (2 ^ 64 - 1)
+  pub held : (file : List ℕ) (h : History) (pending : Option Change) → Holds seen may_leave old file h pending
+      → (next : Option Change) × MayTouch pending (Change.entry x) next × Holds seen may_leave new file h next
+
+-- why an entry is not appended: it has no room, or there is no memory
+abbrev pub IsUnkept : ℕ → Entered → Answer → Type 0
+IsUnkept gate x (Accepted text) = ⊥
+IsUnkept gate x (Repeated text) = ⊥
+IsUnkept gate x (Refused broken) = (broken ≡ JournalFull) × IsTooLong gate x
+IsUnkept gate x DiskFault = ⊥
+IsUnkept gate x OutOfMemory = Unit {0}
+
+-- the kept reply, or no memory
+abbrev pub IsAgain : Option Said → Answer → Type 0
+IsAgain said (Accepted text) = ⊥
+IsAgain said (Repeated text) = IfSome said (λ (s : Said). text ≡ reply_text s.reply)
+IsAgain said (Refused broken) = ⊥
+IsAgain said DiskFault = ⊥
+IsAgain said OutOfMemory = Unit {0}
+
+-- what an answer says, where entries of these may be offered, these texts may be kept replies, and these rules may be broken
+module _ {D : Type 0} {d : _} (seen : D → Option (List ℕ)) (may_leave : D → List ℕ → Type 0) (faults : D → ℕ) (old new : KeptOffice D d) (offered : Entered → Type 0) (kept : List ℕ → Type 0) (broken : Refusal → Type 0) where
+  abbrev pub Becomes : Answer → Type 0
+  Becomes (Accepted text) = (x : Entered) × offered x × (text ≡ reply_text x.entry.reply) × HasEntered seen may_leave old new x
+  Becomes (Repeated text) = kept text × IsAsBefore seen may_leave old new
+  Becomes (Refused x) = (broken x ⊎ ((x ≡ JournalFull) × (e : Entered) × offered e × IsTooLong (gate_of old) e)) × IsAsBefore seen may_leave old new
+  Becomes DiskFault = (x : Entered) × offered x × HasFailed seen may_leave faults old new x
+  Becomes OutOfMemory = IsAsBefore seen may_leave old new

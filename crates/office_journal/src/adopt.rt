@@ -1,0 +1,91 @@
+//! How an office is opened from its journal.
+ghost use Rattle.std.specs.Prelude.{◌≡◌, ◌⊎◌, ◌≤◌, ◌<◌, ℕ, List, Some, None, IfOk, IfErr, MatchResult, length};
+ghost use Rattle.desk_traits.specs.Crash.{LeavesOnly};
+ghost use Rattle.desk_traits.specs.Faults.{Rose};
+ghost use Rattle.desk_traits.specs.File.{Only};
+ghost use Rattle.desk_settings.specs.declared.fault.SettingsFault.{SettingsFault as Fault};
+ghost use Rattle.journal_core.specs.Adopt.{Settles};
+ghost use Rattle.journal_core.specs.Image.{Fresh, records};
+ghost use Rattle.journal_core.specs.Kept.{gate_of};
+ghost use Rattle.office_core.specs.Agreement.{ReadsAsTheBoard};
+ghost use Rattle.office_journal.specs.Adopting.{Opens};
+ghost use Rattle.office_journal.specs.Damage.{IsDamagedAt};
+ghost use Rattle.office_journal.specs.Histories.{History, ImageOf};
+ghost use Rattle.office_journal.specs.Kept.{Holds, disk_of, state_of};
+ghost use Rattle.office_journal.specs.declared.faults.KeepFault.TheVariants.{Damaged};
+ghost use Rattle.office_journal.specs.declared.faults.KeepFault.TheVariants as keep;
+
+use crate::faults::KeepFault;
+use crate::kept::KeptOffice;
+use crate::replay::replay;
+use desk_traits::Disk;
+use hazard_types::{Or, Text};
+use journal_core::Journal;
+use std::alloc::Global;
+
+impl<D: Disk> KeptOffice<D> {
+    /// Opens the office whose journal a file holds: its requests are judged again, one after another.
+    ///
+    /// # Errors
+    ///
+    /// `Fresh`; `Damaged` with the first place that is no journal's of an office; `DiskFault`; `OutOfMemory`. The disk
+    /// comes back with it.
+    pub fn adopt(alloc: Global, disk: D) -> Result<KeptOffice<D>, (D, KeepFault)>
+
+        // The file is an image of exactly this history, all of it is stable, and nothing is pending.
+        ensures ok { (bytes : List ℕ) → D.seen disk ≡ Some bytes
+            → IfOk result (λ kept. (file : List ℕ) × (h : History) × ImageOf bytes file h × Holds D.seen D.may_leave kept file h None × (D.seen (disk_of kept) ≡ Some bytes)
+            × Only (D.seen (disk_of kept)) (D.may_leave (disk_of kept))) }
+
+        // Someone who has the texts alone finds the board.
+        ensures reads { IfOk result (λ kept. ReadsAsTheBoard (state_of kept)) }
+
+        ensures fresh { (bytes : List ℕ) → D.seen disk ≡ Some bytes → IfErr result (λ e. e.1 ≡ keep.Fresh → Fresh bytes) }
+        ensures damaged { (bytes : List ℕ) → D.seen disk ≡ Some bytes → IfErr result (λ e. (at : ℕ) → e.1 ≡ Damaged at → IsDamagedAt bytes at) }
+
+        // No other reason is told here.
+        ensures reasons { IfErr result (λ e. (e.1 ≡ keep.NotFresh → ⊥) × ((fault : Fault) → e.1 ≡ keep.Settings fault → ⊥)) }
+
+        // A crash since its first sync answered might have left what a read gives, and nothing else.
+        ensures settled { (bytes before : List ℕ) → D.seen disk ≡ Some bytes → D.syncs disk ≡ Some before
+            → IfOk result (λ kept. Settles D.moment D.left_since D.syncs before bytes (disk_of kept)) }
+
+        // The disk failed in this call.
+        ensures cause { IfErr result (λ e. e.1 ≡ keep.DiskFault → Rose (D.faults disk) (D.faults e.0)) }
+        ensures later { MatchResult result (λ kept. D.faults disk ≤ D.faults (disk_of kept)) (λ e. D.faults disk ≤ D.faults e.0) }
+
+        // Whatever it answers, a read gives the same, and a crash since its start leaves what one at its start might have left.
+        ensures seen { MatchResult result (λ kept. D.seen (disk_of kept) ≡ D.seen disk) (λ e. D.seen e.0 ≡ D.seen disk) }
+        ensures any_moment { MatchResult result (λ kept. LeavesOnly D.moment D.left_since disk (disk_of kept) (D.may_leave disk)) (λ e. LeavesOnly D.moment D.left_since disk e.0 (D.may_leave disk)) }
+    {
+        match Journal::adopt(alloc, disk) {
+            Ok((journal, bodies)) => match opened(alloc, journal, bodies.as_slice()) {
+                Ok(kept) => Ok(kept),
+                Err(fault) => Err(fault),
+            },
+            Err((disk, fault)) => Err((disk, KeepFault::from(fault))),
+        }
+    }
+}
+
+/// Opens the office of a journal that has these bodies.
+fn opened<D: Disk>(
+    alloc: Global,
+    journal: Journal<D>,
+    all: &[Text],
+) -> Result<KeptOffice<D>, (D, KeepFault)>
+    requires gate { gate_of journal ≡ length (records all.now) }
+    requires some { 0 < length all.now }
+    ensures { Opens journal all.now result }
+{
+    match replay(alloc, all) {
+        Ok(found) => Ok(KeptOffice {
+            journal,
+            office: found.office,
+            entries: found.entries,
+            notes: 0,
+        }),
+        Err(Or::No(at)) => Err((journal.into_disk(), KeepFault::Damaged { at })),
+        Err(Or::OutOfMemory) => Err((journal.into_disk(), KeepFault::OutOfMemory)),
+    }
+}

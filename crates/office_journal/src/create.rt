@@ -1,0 +1,199 @@
+//! How the journal of an office is made.
+ghost use Rattle.std.specs.Prelude.{◌≡◌, ◌⊎◌, ◌≤◌, ◌+◌, ◌∷◌, ◌++◌, [], ℕ, List, Some, None, Ok, Err, IfOk, IfErr, OnOk, MatchResult, length};
+ghost use Rattle.desk_traits.specs.Crash.{LeavesOnly};
+ghost use Rattle.desk_traits.specs.Faults.{Rose};
+ghost use Rattle.desk_traits.specs.File.{Only};
+ghost use Rattle.desk_settings.specs.AreSettings.{AreSettings};
+ghost use Rattle.desk_settings.specs.Reading.{settings_of};
+ghost use Rattle.desk_settings.specs.declared.fault.SettingsFault.{SettingsFault as Fault};
+ghost use Rattle.hazard_types.specs.declared.codes.Class.TheVariants.{O};
+ghost use Rattle.hazard_types.specs.declared.request.Edition.TheVariants.{One, Two};
+ghost use Rattle.journal_core.specs.Create.{IsMaking};
+ghost use Rattle.journal_core.specs.Image.{Fresh, IsOneOf};
+ghost use Rattle.journal_core.specs.Kept.{Keeps};
+ghost use Rattle.journal_core.specs.Kept.{disk_of as journal_disk, gate_of as journal_gate};
+ghost use Rattle.office_core.specs.State.{first_state, in_edition};
+ghost use Rattle.office_journal.specs.Bodies.{mark};
+ghost use Rattle.office_journal.specs.Histories.{empty};
+ghost use Rattle.office_journal.specs.Kept.{Holds, disk_of, entries_of, state_of};
+ghost use Rattle.office_journal.specs.Making.{IsMadeFor, IsMakingFault, IsMakingOf};
+ghost use Rattle.office_journal.specs.declared.faults.KeepFault.TheVariants.{Damaged};
+ghost use Rattle.office_journal.specs.declared.faults.KeepFault.TheVariants as keep;
+
+use crate::faults::KeepFault;
+use crate::kept::KeptOffice;
+use desk_settings::{Settings, read_settings};
+use desk_traits::Disk;
+use hazard_types::{Class, Edition, Oom, Or};
+use journal_core::{AppendFault, CreateFault, Journal, Packet};
+use office_core::Office;
+use std::alloc::Global;
+
+impl<D: Disk> KeptOffice<D> {
+    /// Makes the journal of an office with these settings on a fresh disk, and goes over to edition Two.
+    ///
+    /// # Errors
+    ///
+    /// `Settings` with their first fault, where the disk is fresh; `NotFresh`; `DiskFault`; `OutOfMemory`. The disk comes
+    /// back with it.
+    pub fn create(
+        alloc: Global,
+        mut disk: D,
+        settings: &[u8],
+    ) -> Result<KeptOffice<D>, (D, KeepFault)>
+
+        // The file was fresh, and the office has the empty history in edition Two, on the disk.
+        ensures fresh { (bytes : List ℕ) → D.seen disk ≡ Some bytes → OnOk result (Fresh bytes) }
+        ensures ok { (bytes : List ℕ) → D.seen disk ≡ Some bytes
+            → IfOk result (λ kept. Holds D.seen D.may_leave kept settings.now (empty Two) None × Only (D.seen (disk_of kept)) (D.may_leave (disk_of kept))) }
+
+        // The office in memory, whatever the disk tells.
+        ensures made { IfOk result (λ kept. IsMadeFor settings.now kept) }
+
+        // The settings have this fault first, and the file is fresh.
+        ensures settings { (fault : Fault) → IfErr result (λ e. e.1 ≡ keep.Settings fault → settings_of settings.now ≡ Err fault) }
+        ensures settings_fresh { (bytes : List ℕ) (fault : Fault) → D.seen disk ≡ Some bytes → IfErr result (λ e. e.1 ≡ keep.Settings fault → Fresh bytes) }
+
+        // The file was not fresh.
+        ensures not_fresh { (bytes : List ℕ) → D.seen disk ≡ Some bytes → IfErr result (λ e. e.1 ≡ keep.NotFresh → Fresh bytes → ⊥) }
+
+        // No other reason is told here.
+        ensures reasons { IfErr result (λ e. (e.1 ≡ keep.Fresh → ⊥) × ((at : ℕ) → e.1 ≡ Damaged at → ⊥)) }
+
+        // After a fault of the settings, and where the file was not fresh, it is as before.
+        ensures same { IfErr result (λ e. ((fault : Fault) × (e.1 ≡ keep.Settings fault)) ⊎ (e.1 ≡ keep.NotFresh) → D.seen e.0 ≡ D.seen disk) }
+        ensures untouched { IfErr result (λ e. ((fault : Fault) × (e.1 ≡ keep.Settings fault)) ⊎ (e.1 ≡ keep.NotFresh) → LeavesOnly D.moment D.left_since disk e.0 (D.may_leave disk)) }
+
+        // The disk failed in this call.
+        ensures cause { IfErr result (λ e. e.1 ≡ keep.DiskFault → Rose (D.faults disk) (D.faults e.0)) }
+        ensures later { MatchResult result (λ kept. D.faults disk ≤ D.faults (disk_of kept)) (λ e. D.faults disk ≤ D.faults e.0) }
+
+        // A crash at any moment of the call leaves what one at its start might have left, or a file that is being made.
+        ensures any_moment { (bytes : List ℕ) → D.seen disk ≡ Some bytes
+            → MatchResult result
+            (λ kept. LeavesOnly D.moment D.left_since disk (disk_of kept) (λ c. D.may_leave disk c ⊎ IsMakingOf settings.now c))
+            (λ e. LeavesOnly D.moment D.left_since disk e.0 (λ c. D.may_leave disk c ⊎ IsMakingOf settings.now c)) }
+    {
+        match read_settings(alloc, settings) {
+            Ok(read) => make(alloc, disk, settings, read),
+            Err(Or::OutOfMemory) => Err((disk, KeepFault::OutOfMemory)),
+            Err(Or::No(fault)) => match Journal::is_fresh(&mut disk) {
+                Ok(true) => Err((disk, KeepFault::Settings(fault))),
+                Ok(false) => Err((disk, KeepFault::NotFresh)),
+                Err(_) => Err((disk, KeepFault::DiskFault)),
+            },
+        }
+    }
+}
+
+/// The office before any request, and the two bodies that its journal begins with.
+fn beginnings(
+    alloc: Global,
+    text: &[u8],
+    settings: Settings,
+) -> Result<(Office, Packet, Packet), Oom>
+    requires forms { AreSettings settings }
+    requires size { length text.now ≤ 1048576 }
+    ensures office { IfOk result (λ parts. parts.0.state ≡ first_state settings O One) }
+    ensures text { IfOk result (λ parts. parts.1 ≡ text.now) }
+    ensures goes_over { IfOk result (λ parts. parts.2 ≡ mark) }
+{
+    let office = Office::new(alloc, settings, Class::O, Edition::One)?;
+    let body = Packet::new(alloc, text)?;
+    let second = Packet::new(alloc, b"edition 2")?;
+    Ok((office, body, second))
+}
+
+/// Makes the journal of an office whose settings were read.
+fn make<D: Disk>(
+    alloc: Global,
+    disk: D,
+    text: &[u8],
+    settings: Settings,
+) -> Result<KeptOffice<D>, (D, KeepFault)>
+    requires read { settings_of text.now ≡ Ok settings }
+    requires forms { AreSettings settings }
+    requires size { length text.now ≤ 1048576 }
+    ensures fresh { (bytes : List ℕ) → D.seen disk ≡ Some bytes → OnOk result (Fresh bytes) }
+    ensures ok { (bytes : List ℕ) → D.seen disk ≡ Some bytes
+        → IfOk result (λ kept. Holds D.seen D.may_leave kept text.now (empty Two) None × Only (D.seen (disk_of kept)) (D.may_leave (disk_of kept))) }
+    ensures made { IfOk result (λ kept. IsMadeFor text.now kept) }
+    ensures not_fresh { (bytes : List ℕ) → D.seen disk ≡ Some bytes → IfErr result (λ e. e.1 ≡ keep.NotFresh → Fresh bytes → ⊥) }
+    ensures reasons { IfErr result (λ e. IsMakingFault e.1) }
+    ensures same { IfErr result (λ e. e.1 ≡ keep.NotFresh → D.seen e.0 ≡ D.seen disk) }
+    ensures untouched { IfErr result (λ e. e.1 ≡ keep.NotFresh → LeavesOnly D.moment D.left_since disk e.0 (D.may_leave disk)) }
+    ensures cause { IfErr result (λ e. e.1 ≡ keep.DiskFault → Rose (D.faults disk) (D.faults e.0)) }
+    ensures later { MatchResult result (λ kept. D.faults disk ≤ D.faults (disk_of kept)) (λ e. D.faults disk ≤ D.faults e.0) }
+    ensures any_moment { (bytes : List ℕ) → D.seen disk ≡ Some bytes
+        → MatchResult result
+        (λ kept. LeavesOnly D.moment D.left_since disk (disk_of kept) (λ c. D.may_leave disk c ⊎ IsMakingOf text.now c))
+        (λ e. LeavesOnly D.moment D.left_since disk e.0 (λ c. D.may_leave disk c ⊎ IsMakingOf text.now c)) }
+{
+    let Ok((office, body, second)) = beginnings(alloc, text, settings) else {
+        return Err((disk, KeepFault::OutOfMemory));
+    };
+    match first_journal(disk, &body) {
+        Ok(journal) => go_over(journal, office, &second),
+        Err(failed) => Err(failed),
+    }
+}
+
+/// The journal of the settings' file alone.
+fn first_journal<D: Disk>(disk: D, body: &Packet) -> Result<Journal<D>, (D, KeepFault)>
+    ensures fresh { (bytes : List ℕ) → D.seen disk ≡ Some bytes → OnOk result (Fresh bytes) }
+    ensures ok { (bytes : List ℕ) → D.seen disk ≡ Some bytes → IfOk result (λ journal. Keeps D.seen D.may_leave journal (body.now ∷ []) None) }
+    ensures gate { IfOk result (λ journal. journal_gate journal ≡ length body.now + 5) }
+    ensures not_fresh { (bytes : List ℕ) → D.seen disk ≡ Some bytes → IfErr result (λ e. e.1 ≡ keep.NotFresh → Fresh bytes → ⊥) }
+    ensures reasons { IfErr result (λ e. IsMakingFault e.1) }
+    ensures same { IfErr result (λ e. e.1 ≡ keep.NotFresh → D.seen e.0 ≡ D.seen disk) }
+    ensures untouched { IfErr result (λ e. e.1 ≡ keep.NotFresh → LeavesOnly D.moment D.left_since disk e.0 (D.may_leave disk)) }
+    ensures cause { IfErr result (λ e. e.1 ≡ keep.DiskFault → Rose (D.faults disk) (D.faults e.0)) }
+    ensures later { MatchResult result (λ journal. D.faults disk ≤ D.faults (journal_disk journal)) (λ e. D.faults disk ≤ D.faults e.0) }
+    ensures any_moment { (bytes : List ℕ) → D.seen disk ≡ Some bytes
+        → MatchResult result
+        (λ journal. LeavesOnly D.moment D.left_since disk (journal_disk journal) (λ c. D.may_leave disk c ⊎ IsMaking body.now c))
+        (λ e. LeavesOnly D.moment D.left_since disk e.0 (λ c. D.may_leave disk c ⊎ IsMaking body.now c)) }
+{
+    match Journal::create(disk, body) {
+        Ok(journal) => Ok(journal),
+        Err((disk, CreateFault::NotFresh)) => Err((disk, KeepFault::NotFresh)),
+        Err((disk, CreateFault::DiskFault)) => Err((disk, KeepFault::DiskFault)),
+    }
+}
+
+/// Appends the mark to a journal that was just made.
+fn go_over<D: Disk>(
+    mut journal: Journal<D>,
+    mut office: Office,
+    second: &Packet,
+) -> Result<KeptOffice<D>, (D, KeepFault)>
+    requires goes_over { second.now ≡ mark }
+    requires room { journal_gate journal + 15 ≤ 268435456 }
+    requires edition { office.state.edition ≡ One }
+    requires begun { office.state.begun ≡ 0 }
+    ensures state { IfOk result (λ kept. state_of kept ≡ in_edition Two office.state) }
+    ensures entries { IfOk result (λ kept. entries_of kept ≡ 0) }
+    ensures ok { (all : List (List ℕ)) → Keeps D.seen D.may_leave journal all None
+        → IfOk result (λ kept. Keeps D.seen D.may_leave kept.journal (all ++ mark ∷ []) None × Only (D.seen (disk_of kept)) (D.may_leave (disk_of kept))) }
+    ensures err { IfErr result (λ e. e.1 ≡ keep.DiskFault) }
+    ensures cause { IfErr result (λ e. Rose (D.faults (journal_disk journal)) (D.faults e.0)) }
+    ensures later { MatchResult result (λ kept. D.faults (journal_disk journal) ≤ D.faults (disk_of kept)) (λ e. D.faults (journal_disk journal) ≤ D.faults e.0) }
+    ensures any_moment { (all : List (List ℕ)) → Keeps D.seen D.may_leave journal all None
+        → MatchResult result
+        (λ kept. LeavesOnly D.moment D.left_since (journal_disk journal) (disk_of kept) (IsOneOf all None mark))
+        (λ e. LeavesOnly D.moment D.left_since (journal_disk journal) e.0 (IsOneOf all None mark)) }
+{
+    match journal.append(second) {
+        Ok(()) => {
+            office.set_edition(Edition::Two);
+            Ok(KeptOffice {
+                journal,
+                office,
+                entries: 0,
+                notes: 0,
+            })
+        }
+        Err(AppendFault::Full) => unreachable!(),
+        Err(AppendFault::DiskFault) => Err((journal.into_disk(), KeepFault::DiskFault)),
+    }
+}

@@ -1,0 +1,41 @@
+//! The bodies of entries, written and read.
+ghost use Rattle.std.specs.Prelude.{◌≡◌, ◌++◌, ◌∷◌, IfOk, IfSome, MatchOption, option_map};
+ghost use Rattle.hazard_types.specs.Calendar.{stamp_of};
+ghost use Rattle.request_json.specs.Canonical.{asked_text};
+ghost use Rattle.request_json.specs.Formed.{HasForm};
+ghost use Rattle.office_core.specs.Histories.{Entered};
+ghost use Rattle.office_core.specs.Prepared.{Readied};
+ghost use Rattle.office_journal.specs.Bodies.{asked_by, carried, entry_body};
+
+use hazard_types::{Desk, Edition, Oom, Request, Text, stamp};
+use office_core::Prepared;
+use request_json::text_of_request;
+use std::alloc::Global;
+
+/// The body of the entry of what was prepared. The desk, the number and the request are those that were prepared.
+pub(crate) fn entry_body(
+    alloc: Global,
+    desk: &Desk,
+    seq: u32,
+    r: &Request,
+    edition: Edition,
+    p: &Prepared,
+) -> Result<Text, Oom>
+    requires desk { p.now.entry.desk ≡ desk.now }
+    requires seq { p.now.entry.seq ≡ seq }
+    requires request { p.now.entry.request ≡ r.now }
+    requires edition { p.now.entry.edition ≡ edition }
+    ensures { IfOk result (λ body. body ≡ entry_body (record { entry = p.now.entry; made = p.now.made })) }
+{
+    let mut body = Text::from_slice(alloc, &stamp(p.minute()))?;
+    body.push(b' ')?;
+    let asked = text_of_request(alloc, desk, seq, r)?;
+    body.extend(asked.as_slice())?;
+    if edition == Edition::Two {
+        if let Some(text) = p.text() {
+            body.push(b'\n')?;
+            body.extend(text.as_slice())?;
+        }
+    }
+    Ok(body)
+}

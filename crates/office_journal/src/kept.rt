@@ -1,0 +1,21 @@
+//! The kept office.
+ghost use Rattle.std.specs.Prelude.{◌≤◌, ◌<◌};
+ghost use Rattle.std.proofs.Props.{props};
+ghost use Rattle.journal_core.specs.Kept.{gate_of};
+
+use desk_traits::Disk;
+use journal_core::Journal;
+use office_core::Office;
+
+/// An office whose accepted requests stand in a journal on a disk.
+#[derive(Drop)]
+pub struct KeptOffice<D: Disk> {
+    pub(crate) journal: Journal<D>,
+    pub(crate) office: Office,
+    pub(crate) entries: u64,
+    pub(crate) notes: u64,
+    // Each draft was opened by an entry, and each entry has a record in the journal.
+    pub(crate) ghost begun: { office.state.begun ≤ entries } by { Prim.hlevel props },
+    pub(crate) ghost recorded: { entries ≤ gate_of journal } by { Prim.hlevel props },
+    pub(crate) ghost within: { gate_of journal < 4294967295 } by { Prim.hlevel props },
+}

@@ -1,0 +1,34 @@
+//! Laws of journals and histories. The functions do nothing; their contracts are the laws.
+ghost use Rattle.std.specs.Prelude.{◌≡◌, ℕ, List, Option, Some};
+ghost use Rattle.journal_core.specs.Image.{Fresh};
+ghost use Rattle.office_journal.specs.Changes.{Change, Leaves};
+ghost use Rattle.office_journal.specs.Damage.{IsDamagedAt};
+ghost use Rattle.office_journal.specs.Histories.{History, ImageOf};
+ghost use Rattle.office_journal.specs.Kept.{Holds, disk_of};
+
+use crate::kept::KeptOffice;
+use desk_traits::Disk;
+use journal_core::{a_crash_leaves_the_bodies, read_in_one_way};
+use office_core::a_request_has_one_answer;
+use request_json::canonical_texts_are_lines;
+
+impl<D: Disk> KeptOffice<D> {
+    /// A crash now leaves an image of the history, or of it with the pending change.
+    pub fn a_crash_leaves_the_history(&self)
+        ensures { (file : List ℕ) (h : History) (pending : Option Change) (c : List ℕ) → Holds D.seen D.may_leave self.now file h pending
+            → D.may_leave (disk_of self.now) c → Leaves file h (λ change. pending ≡ Some change) c }
+    {
+        a_crash_leaves_the_bodies();
+    }
+}
+
+/// A file stands for one settings' file and one history, and is then neither damaged nor fresh.
+pub fn files_hold_one_history()
+    ensures one { (bytes file other : List ℕ) (h g : History) → ImageOf bytes file h → ImageOf bytes other g → (file ≡ other) × (h ≡ g) }
+    ensures damaged { (bytes file : List ℕ) (h : History) (at : ℕ) → ImageOf bytes file h → IsDamagedAt bytes at → ⊥ }
+    ensures fresh { (bytes file : List ℕ) (h : History) → ImageOf bytes file h → Fresh bytes → ⊥ }
+{
+    a_request_has_one_answer();
+    canonical_texts_are_lines();
+    read_in_one_way();
+}

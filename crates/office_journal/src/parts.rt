@@ -1,0 +1,64 @@
+//! The parts of an entry's body, read.
+ghost use Rattle.std.specs.Prelude.{◌≡◌, ◌≢◌, ◌≤◌, ◌<◌, ◌+◌, List, ℕ, Some, None, Ok, length, position, IfOk, IfSome, OnSome};
+ghost use Rattle.hazard_types.specs.declared.refusal.Refusal.{Refusal as Refused};
+ghost use Rattle.request_json.specs.Form.{asked_of};
+ghost use Rattle.request_json.specs.Formed.{HasForm};
+ghost use Rattle.request_json.specs.declared.asked.Asked.{Asked as Request};
+ghost use Rattle.office_journal.specs.Parts.{is_line_feed, line_of, minute_in, request_in};
+
+use hazard_types::{Minute, Oom, Or, read_stamp};
+use request_json::{Asked, read_request};
+use std::alloc::Global;
+
+/// How many bytes stand before a request: its minute and a blank.
+const FRONT: usize = 13;
+
+/// The bytes of a body's record up to the next gate.
+pub(crate) fn record_length(body: &[u8]) -> u64
+    ensures { result ≡ 5 + length body.now }
+{
+    5 + body.len() as u64
+}
+
+/// The minute whose stamp a body begins with, behind which a byte stands.
+pub(crate) fn minute_in(body: &[u8]) -> Option<Minute>
+    ensures minute { result ≡ minute_in body.now }
+    ensures long { OnSome result (13 ≤ length body.now) }
+{
+    if body.len() < FRONT {
+        return None;
+    }
+    read_stamp(&body[..FRONT - 1])
+}
+
+/// The place of the first line feed.
+fn line_end(bytes: &[u8]) -> Option<usize>
+    ensures place { result ≡ position is_line_feed bytes.now }
+    ensures within { IfSome result (λ at. at < length bytes.now) }
+{
+    bytes.iter().position(|byte| *byte == b'\n')
+}
+
+/// The bytes up to the first line feed.
+fn line_of(bytes: &[u8]) -> &[u8]
+    ensures { result.now ≡ line_of bytes.now }
+{
+    match line_end(bytes) {
+        Some(at) => &bytes[..at],
+        None => bytes,
+    }
+}
+
+/// What a body asks.
+pub(crate) fn asked_in(alloc: Global, body: &[u8]) -> Result<Option<Asked>, Oom>
+    requires { 13 ≤ length body.now }
+    ensures form { IfOk result (λ asked. IfSome asked HasForm) }
+    ensures some { (a : Request) → result ≡ Ok (Some a) → asked_of (request_in body.now) ≡ Ok a }
+    ensures none { (a : Request) → result ≡ Ok None → asked_of (request_in body.now) ≢ Ok a }
+{
+    match read_request(alloc, line_of(&body[FRONT..])) {
+        Ok(asked) => Ok(Some(asked)),
+        Err(Or::No(_)) => Ok(None),
+        Err(Or::OutOfMemory) => Err(Oom),
+    }
+}

@@ -1,0 +1,63 @@
+//! What a kept office tells.
+ghost use Rattle.std.specs.Prelude.{◌≡◌, Err, IfOk, length};
+ghost use Rattle.hazard_types.specs.declared.or.Or.TheVariants.{No};
+ghost use Rattle.hazard_types.specs.declared.refusal.Refusal.{Refusal as Refused};
+ghost use Rattle.office_core.specs.Look.{RefusesLook, Shows};
+ghost use Rattle.office_journal.specs.Kept.{disk_of, entries_of, notes_of, state_of};
+
+use crate::kept::KeptOffice;
+use desk_traits::Disk;
+use hazard_types::{Edition, Or, Query, Refusal, Text};
+use std::alloc::Global;
+
+impl<D: Disk> KeptOffice<D> {
+    /// How many requests were accepted.
+    pub fn entries(&self) -> u64
+        ensures { result ≡ entries_of self.now }
+    {
+        self.entries
+    }
+
+    /// How many requests and upgrades met a disk fault since the office was opened.
+    pub fn fault_notes(&self) -> u64
+        ensures { result ≡ notes_of self.now }
+    {
+        self.notes
+    }
+
+    /// How many products were sent.
+    pub fn products(&self) -> u32
+        ensures { result ≡ length (state_of self.now).products }
+    {
+        self.office.products()
+    }
+
+    /// The edition of the texts that are written from now on.
+    pub fn edition(&self) -> Edition
+        ensures { result ≡ (state_of self.now).edition }
+    {
+        self.office.edition()
+    }
+
+    /// The text of what is looked at: the board at the reading, a product as it was sent, a draft as JSON, or what a send
+    /// of a draft would give now.
+    ///
+    /// # Errors
+    ///
+    /// `ClockOut` at the board and a preview, `NoProduct`, `NoDraft`, the first rule that a preview's lines or text break,
+    /// or want of memory.
+    pub fn look(&self, alloc: Global, q: &Query, reading: i64) -> Result<Text, Or<Refusal>>
+        ensures shows { IfOk result (λ text. Shows (state_of self.now) q.now reading text) }
+        ensures refused { (x : Refused) → result ≡ Err (No x) → RefusesLook (state_of self.now) q.now reading x }
+    {
+        self.office.look(alloc, q, reading)
+    }
+
+    /// The disk that holds the journal.
+    pub fn into_disk(self) -> D
+        ensures { result ≡ disk_of self }
+    {
+        let KeptOffice { journal, .. } = self;
+        journal.into_disk()
+    }
+}

@@ -1,0 +1,177 @@
+//! How a request is submitted to a kept office.
+ghost use Rattle.std.specs.Prelude.{◌≡◌, ◌≢◌, ◌⊎◌, ◌+◌, ◌-◌, ◌^◌, ◌≤◌, ℕ, ℤ, List, Option, Some, None, IfOk, IfErr, IfSome, is_some, length, true, min};
+ghost use Rattle.desk_traits.specs.Crash.{LeavesOnly};
+ghost use Rattle.desk_traits.specs.Faults.{Rose};
+ghost use Rattle.desk_traits.specs.File.{Only};
+ghost use Rattle.hazard_types.specs.declared.refusal.Refusal.{Refusal as Refused};
+ghost use Rattle.hazard_types.specs.declared.refusal.Refusal.TheVariants.{JournalFull};
+ghost use Rattle.hazard_types.specs.declared.request.Reply.{Reply as Answered};
+ghost use Rattle.request_json.specs.Formed.{HasForm};
+ghost use Rattle.request_json.specs.Replies.{reply_text};
+ghost use Rattle.office_core.specs.Agreement.{ReadsAsTheBoard};
+ghost use Rattle.office_core.specs.Histories.{Entered};
+ghost use Rattle.office_core.specs.Prepared.{IsReady, Readied};
+ghost use Rattle.office_core.specs.State.{said_by};
+ghost use Rattle.office_core.specs.Step.{Refuses, Repeats, entry_of, state_after};
+ghost use Rattle.office_journal.specs.Changes.{Change, Leaves, body_of, changed};
+ghost use Rattle.office_journal.specs.Histories.{History};
+ghost use Rattle.office_journal.specs.Kept.{Holds, disk_of, entries_of, gate_of, notes_of, state_of};
+ghost use Rattle.office_journal.specs.Outcomes.{Becomes, IsAgain, IsUnkept};
+ghost use Rattle.office_journal.specs.Submitting.{IsAsked, IsOffered, IsTooLong, MayEnter, MayTouch, entered};
+
+use crate::answers::Answer;
+use crate::entry_bodies::entry_body;
+use crate::kept::KeptOffice;
+use desk_traits::Disk;
+use hazard_types::{Desk, Oom, Or, Refusal, Request, Text};
+use journal_core::{AppendFault, Packet};
+use office_core::{Prepared, Ready, accepted_requests_are_accepted_at_their_minute};
+use request_json::reply_text;
+use std::alloc::Global;
+
+impl<D: Disk> KeptOffice<D> {
+    /// Submits a request of a desk under its number, at a reading of the clock. All memory is taken before the first call
+    /// of the disk.
+    pub fn submit(
+        &mut self,
+        alloc: Global,
+        desk: Desk,
+        seq: u32,
+        r: &Request,
+        reading: i64,
+    ) -> Answer
+        requires form { HasForm (record { desk = desk; seq = seq; request = r.now }) }
+
+        // What each answer says: accepted, and durably in the journal; the desk's last request again, with the kept reply; the first rule that it breaks, the last of which is that its entry has room; the disk failed in this call, on a request that would be accepted; or memory lacked. But for the first and the fourth nothing has changed.
+        ensures becomes { Becomes D.seen D.may_leave D.faults self.old self.new (IsOffered (state_of self.old) desk seq r.now reading)
+            (λ text. (kept : Answered) × Repeats (state_of self.old) desk seq r.now kept × (text ≡ reply_text kept)) (Refuses (state_of self.old) desk seq r.now reading) result }
+        ensures later { D.faults (disk_of self.old) ≤ D.faults (disk_of self.new) }
+
+        // A crash at any moment of the call leaves an image of the history, of it with the change that was pending, or of it with the entry of this request.
+        ensures any_moment { (file : List ℕ) (h : History) (pending : Option Change) → Holds D.seen D.may_leave self.old file h pending
+            → LeavesOnly D.moment D.left_since (disk_of self.old) (disk_of self.new)
+            (Leaves file h (λ change. (pending ≡ Some change) ⊎ IsAsked (state_of self.old) desk seq r.now reading change)) }
+    {
+        self.a_crash_leaves_the_history();
+        match self.office.prepare(alloc, desk, seq, r, reading) {
+            Ok(ready) => match ready {
+                Ready::New(p) => self.keep(alloc, desk, seq, r, p),
+                Ready::Again => self.again(alloc, desk),
+            },
+            Err(fault) => match fault {
+                Or::No(refusal) => Answer::Refused(refusal),
+                Or::OutOfMemory => Answer::OutOfMemory,
+            },
+        }
+    }
+
+    /// The answer to a desk's last request, where it comes again.
+    fn again(&self, alloc: Global, desk: Desk) -> Answer
+        requires { is_some (said_by (state_of self.now) desk) ≡ true }
+        ensures { IsAgain (said_by (state_of self.now) desk) result }
+    {
+        match self.kept_reply(alloc, desk) {
+            Ok(text) => Answer::Repeated(text),
+            Err(_) => Answer::OutOfMemory,
+        }
+    }
+
+    /// The text of a desk's kept reply.
+    fn kept_reply(&self, alloc: Global, desk: Desk) -> Result<Text, Oom>
+        requires { is_some (said_by (state_of self.now) desk) ≡ true }
+        ensures { IfOk result (λ text. IfSome (said_by (state_of self.now) desk) (λ said. text ≡ reply_text said.reply)) }
+    {
+        match self.office.kept(desk) {
+            Some(reply) => reply_text(alloc, reply),
+            None => unreachable!(),
+        }
+    }
+
+    /// The reply to what was prepared, and the body of its entry.
+    fn texts(
+        &self,
+        alloc: Global,
+        desk: &Desk,
+        seq: u32,
+        r: &Request,
+        p: &Prepared,
+    ) -> Result<(Text, Text), Oom>
+        requires { p.now.entry ≡ entry_of (state_of self.now) desk.now seq r.now p.now.entry.minute p.now.made }
+        ensures reply { IfOk result (λ texts. texts.0 ≡ reply_text p.now.entry.reply) }
+        ensures body { IfOk result (λ texts. texts.1 ≡ body_of (Change.entry (entered p.now))) }
+    {
+        let reply = reply_text(alloc, p.reply())?;
+        let body = entry_body(alloc, desk, seq, r, self.office.edition(), p)?;
+        Ok((reply, body))
+    }
+
+    /// The reply to what was prepared, and its entry ready to be appended where it has room; or the answer where it has none.
+    fn written(
+        &self,
+        alloc: Global,
+        desk: &Desk,
+        seq: u32,
+        r: &Request,
+        p: &Prepared,
+    ) -> Result<(Text, Packet), Answer>
+        requires { p.now.entry ≡ entry_of (state_of self.now) desk.now seq r.now p.now.entry.minute p.now.made }
+        ensures reply { IfOk result (λ written. written.0 ≡ reply_text p.now.entry.reply) }
+        ensures body { IfOk result (λ written. written.1 ≡ body_of (Change.entry (entered p.now))) }
+        ensures room { IfOk result (λ written. gate_of self.now + 6 + length written.1 ≤ 268435456) }
+        ensures unkept { IfErr result (IsUnkept (gate_of self.now) (entered p.now)) }
+    {
+        let Ok((reply, body)) = self.texts(alloc, desk, seq, r, p) else {
+            return Err(Answer::OutOfMemory);
+        };
+        if !self.journal.room(body.len()) {
+            return Err(Answer::Refused(Refusal::JournalFull));
+        }
+        match Packet::new(alloc, body.as_slice()) {
+            Ok(packet) => Ok((reply, packet)),
+            Err(_) => Err(Answer::OutOfMemory),
+        }
+    }
+
+    /// Keeps what was prepared, where its entry has room.
+    fn keep(&mut self, alloc: Global, desk: Desk, seq: u32, r: &Request, p: Prepared) -> Answer
+        requires form { HasForm (record { desk = desk; seq = seq; request = r.now }) }
+        requires ready { (reading : ℤ) × IsReady self.old.office desk seq r.now reading p }
+        ensures becomes { Becomes D.seen D.may_leave D.faults self.old self.new (λ x. x ≡ entered p) (λ text. ⊥) (λ x. ⊥) result }
+        ensures later { D.faults (disk_of self.old) ≤ D.faults (disk_of self.new) }
+        ensures any_moment { (file : List ℕ) (h : History) (pending : Option Change) → Holds D.seen D.may_leave self.old file h pending
+            → LeavesOnly D.moment D.left_since (disk_of self.old) (disk_of self.new) (Leaves file h (λ change. (pending ≡ Some change) ⊎ (change ≡ Change.entry (entered p)))) }
+    {
+        self.a_crash_leaves_the_history();
+        match self.written(alloc, &desk, seq, r, &p) {
+            Ok((reply, packet)) => self.append(&packet, p, reply),
+            Err(answer) => answer,
+        }
+    }
+
+    /// Appends the entry of what was prepared, and commits it.
+    #[tactic(auto, using(crate::proofs::Entering::begun_next))]
+    fn append(&mut self, packet: &Packet, p: Prepared, reply: Text) -> Answer
+        requires ready { MayEnter self.old.office p }
+        requires body { packet.now ≡ body_of (Change.entry (entered p)) }
+        requires room { gate_of self.old + 6 + length packet.now ≤ 268435456 }
+        requires reply { reply ≡ reply_text p.entry.reply }
+        ensures becomes { Becomes D.seen D.may_leave D.faults self.old self.new (λ x. x ≡ entered p) (λ text. ⊥) (λ x. ⊥) result }
+        ensures later { D.faults (disk_of self.old) ≤ D.faults (disk_of self.new) }
+        ensures any_moment { (file : List ℕ) (h : History) (pending : Option Change) → Holds D.seen D.may_leave self.old file h pending
+            → LeavesOnly D.moment D.left_since (disk_of self.old) (disk_of self.new) (Leaves file h (λ change. (pending ≡ Some change) ⊎ (change ≡ Change.entry (entered p)))) }
+    {
+        accepted_requests_are_accepted_at_their_minute();
+        match self.journal.append(packet) {
+            Ok(()) => {
+                self.office.commit(p);
+                self.entries += 1;
+                Answer::Accepted(reply)
+            }
+            Err(AppendFault::Full) => unreachable!(),
+            Err(AppendFault::DiskFault) => {
+                self.notes = self.notes.saturating_add(1);
+                Answer::DiskFault
+            }
+        }
+    }
+}
