@@ -1,0 +1,59 @@
+-- What a run over a kept office leaves of its history.
+use Rattle.std.proofs.Common.{ℕ, ◌≡◌, ◌≤◌, ◌⊎◌, inl, inr, Bool, List, Option, None, Some}
+use Rattle.desk_settings.specs.declared.settings.Settings.{Settings}
+use Rattle.desk_traits.specs.Crash.{LeavesOnly}
+use Rattle.desk_traits.specs.declared.disk.Disk.{Ghosts as Disks}
+use Rattle.desk_traits.proofs.Moments.{both, weaker}
+use Rattle.hazard_types.specs.declared.codes.Class.{Class}
+use Rattle.hazard_types.specs.declared.codes.Class.TheVariants.{O}
+use Rattle.office_core.specs.Histories.{Entered, IsLegal, StandOnce, entries_of}
+use Rattle.office_core.specs.State.{State}
+use Rattle.office_journal.specs.Changes.{Change, Leaves}
+use Rattle.office_journal.specs.Histories.{History, ImageOf, fits}
+use Rattle.office_journal.specs.Kept.{Holds, disk_of, state_of}
+use Rattle.office_journal.specs.declared.kept.KeptOffice.{KeptOffice}
+use Rattle.desk_commands.specs.Grown.{Follows, IsBetween, KeepsHistory}
+use Rattle.desk_commands.specs.Opening.{IsOpened}
+use Rattle.desk_commands.proofs.Between.{loosened}
+use Rattle.desk_commands.proofs.Scripting.{Carries}
+
+-- the office's law that requests stand once
+abbrev pub RequestsStandOnce : Type 0
+RequestsStandOnce = (may : List Entered → Entered → Bool) (settings : Settings) (class : Class) (history : List Entered) (s : State) → IsLegal may settings class history s → StandOnce (entries_of history)
+
+module _ {D : Type 0} (d : Disks D)
+    (seen_is_left : (x : D) (file : List ℕ) → d.seen x ≡ Some file → d.may_leave x file)
+    (counts_now : (x : D) (c : List ℕ) → d.may_leave x c → d.left_since x (d.moment x) c)
+    (only_now : (x : D) (c : List ℕ) → d.left_since x (d.moment x) c → d.may_leave x c)
+    (earlier : (x : D) (t u : ℕ) (c : List ℕ) → t ≤ u → u ≤ d.moment x → d.left_since x u c → d.left_since x t c) where
+  -- a crash now leaves the history that a kept office holds, or that with the pending change
+  abbrev pub CrashLaw : KeptOffice D d → Type 0
+  CrashLaw kept = (file : List ℕ) (h : History) (pending : Option Change) (c : List ℕ) → Holds d.seen d.may_leave kept file h pending → d.may_leave (disk_of kept) c → Leaves file h (λ change. pending ≡ Some change) c
+
+  -- as the office was opened
+  pub opened_carries : (file : List ℕ) (h : History) (disk : D) (kept : KeptOffice D d) → CrashLaw kept → IsOpened d disk kept → Holds d.seen d.may_leave kept file h None → Carries d file h kept
+  opened_carries file h disk kept law opened holds = record {
+    pending = None;
+    holds = holds;
+    now = λ c left. loosened file h (λ (change : Change). None ≡ Some change) c (law file h None c holds left);
+    reads = opened.reads;
+  }
+
+  pub keeps : RequestsStandOnce → (bytes file : List ℕ) (h last : History) (disk : D) (opened kept : KeptOffice D d) → CrashLaw kept → IsOpened d disk opened → ImageOf bytes file h
+      → Follows h last → Carries d file last kept → LeavesOnly d.moment d.left_since (disk_of opened) (disk_of kept) (IsBetween file h last)
+      → KeepsHistory d disk (disk_of kept) bytes file h last (state_of kept)
+  keeps stand_once bytes file h last disk opened kept law first found follows carries run = record {
+    found = found;
+    legal = carries.holds.history;
+    follows = follows;
+    once = stand_once (fits file) carries.holds.history.settings O last.entries carries.holds.history.last carries.holds.history.legal;
+    reads = carries.reads;
+    pending = carries.pending;
+    now = carries.holds.journal.file;
+    told = carries.holds.journal.told;
+    image = law file last carries.pending carries.holds.journal.file carries.holds (seen_is_left (disk_of kept) carries.holds.journal.file carries.holds.journal.told);
+    left = λ c left. law file last carries.pending c carries.holds left;
+    crashes = both d.moment d.left_since d.may_leave counts_now only_now earlier disk (disk_of opened) (disk_of kept) (d.may_leave disk) (λ (c : List ℕ). d.may_leave disk c ⊎ IsBetween file h last c) first.moments
+        (weaker d.moment d.left_since d.may_leave counts_now only_now earlier (disk_of opened) (disk_of kept) (IsBetween file h last) (λ (c : List ℕ). d.may_leave disk c ⊎ IsBetween file h last c) (λ c between. inr between) run)
+        (λ c left. inl left);
+  }

@@ -1,0 +1,13 @@
+mod Mapping
+mod Between
+mod Scripting
+mod Keeping
+mod Judging
+mod Unanswered
+mod Upgrading
+mod Later
+mod Cutting
+mod Exporting
+mod Making
+mod Staying
+mod Moving

@@ -1,0 +1,52 @@
+-- How a journal is made, and why it is not.
+use Rattle.std.proofs.Common.{ℕ, ◌≡◌, inl, inr, List, Option, None, Some, Err, refl, sym, subst}
+use Rattle.desk_settings.specs.Reading.{settings_of}
+use Rattle.desk_settings.specs.declared.fault.SettingsFault.{SettingsFault}
+use Rattle.desk_traits.specs.declared.disk.Disk.{Ghosts as Disks}
+use Rattle.desk_traits.specs.Faults.{Rose}
+use Rattle.desk_traits.specs.File.{Only}
+use Rattle.hazard_types.specs.declared.request.Edition.TheVariants.{Two}
+use Rattle.journal_core.specs.Image.{Fresh}
+use Rattle.office_journal.specs.Changes.{Change, Leaves}
+use Rattle.office_journal.specs.Histories.{History, ImageOf, empty}
+use Rattle.office_journal.specs.Kept.{Holds, disk_of}
+use Rattle.office_journal.specs.declared.faults.KeepFault.{KeepFault}
+use Rattle.office_journal.specs.declared.faults.KeepFault.TheVariants as keep
+use Rattle.office_journal.specs.declared.kept.KeptOffice.{KeptOffice}
+use Rattle.program_ends.specs.declared.ends.End.{End}
+use Rattle.desk_commands.specs.Commands.{IsMade, IsWhyUnmade}
+use Rattle.desk_commands.specs.Unmade.{EndsAs}
+
+image_alone : (file : List ℕ) (h : History) (c : List ℕ) → Leaves file h (λ (change : Change). None ≡ Some change) c → ImageOf c file h
+image_alone file h c (inl image) = image
+image_alone file h c (inr more) = let no : None ≡ Some more.0 = more.1 in absurd (cc)
+
+module _ {D : Type 0} (d : Disks D) where
+  pub made : ((x : D) (file : List ℕ) → d.seen x ≡ Some file → d.may_leave x file) → (disk : D) (kept : KeptOffice D d) (read : List ℕ)
+      → ((file : List ℕ) (h : History) (pending : Option Change) (c : List ℕ) → Holds d.seen d.may_leave kept file h pending → d.may_leave (disk_of kept) c → Leaves file h (λ change. pending ≡ Some change) c)
+      → ((bytes : List ℕ) → d.seen disk ≡ Some bytes → Fresh bytes)
+      → ((bytes : List ℕ) → d.seen disk ≡ Some bytes → Holds d.seen d.may_leave kept read (empty Two) None × Only (d.seen (disk_of kept)) (d.may_leave (disk_of kept)))
+      → IsMade d disk (disk_of kept) read
+  made seen_is_left disk kept read law fresh holds = record {
+    fresh = fresh;
+    image = λ bytes seen.
+        let held = (holds bytes seen).0 in
+        let now = held.journal.file in
+        (now, held.journal.told, image_alone read (empty Two) now (law read (empty Two) None now held (seen_is_left (disk_of kept) now held.journal.told)));
+    only = λ bytes seen. (holds bytes seen).1;
+  }
+
+  pub unmade : (disk next : D) (read : List ℕ) (fault : KeepFault) (end : End) → EndsAs fault end
+      → ((f : SettingsFault) → fault ≡ keep.Settings f → settings_of read ≡ Err f)
+      → ((bytes : List ℕ) (f : SettingsFault) → d.seen disk ≡ Some bytes → fault ≡ keep.Settings f → Fresh bytes)
+      → ((bytes : List ℕ) → d.seen disk ≡ Some bytes → fault ≡ keep.NotFresh → Fresh bytes → ⊥)
+      → (fault ≡ keep.DiskFault → Rose (d.faults disk) (d.faults next))
+      → IsWhyUnmade d disk next read end
+  unmade disk next read (keep.Settings f) end (inl is) settings fresh not_fresh cause =
+      subst (λ (e : End). IsWhyUnmade d disk next read e) (sym is) (f, settings f refl, refl, λ bytes seen. fresh bytes f seen refl)
+  unmade disk next read (keep.Settings f) end (inr is) settings fresh not_fresh cause = subst (λ (e : End). IsWhyUnmade d disk next read e) (sym is) tt
+  unmade disk next read keep.NotFresh end is settings fresh not_fresh cause = subst (λ (e : End). IsWhyUnmade d disk next read e) (sym is) (λ bytes seen. not_fresh bytes seen refl)
+  unmade disk next read keep.Fresh end is settings fresh not_fresh cause = absurd is
+  unmade disk next read (keep.Damaged at) end is settings fresh not_fresh cause = absurd is
+  unmade disk next read keep.DiskFault end is settings fresh not_fresh cause = subst (λ (e : End). IsWhyUnmade d disk next read e) (sym is) (cause refl)
+  unmade disk next read keep.OutOfMemory end is settings fresh not_fresh cause = subst (λ (e : End). IsWhyUnmade d disk next read e) (sym is) tt

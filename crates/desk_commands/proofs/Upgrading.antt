@@ -1,0 +1,108 @@
+-- What an upgrade leaves of the history.
+use Rattle.std.proofs.Common.{ℕ, ◌≡◌, ◌≢◌, ◌≤◌, ◌<◌, ◌+◌, ◌⊎◌, ◌↔◌, inl, inr, List, [], Option, None, Some, refl, ap, sym, ◌∙◌, subst, arith}
+use Rattle.std.proofs.lemmas.List.{append-nil}
+use Rattle.desk_traits.specs.Crash.{LeavesOnly}
+use Rattle.desk_traits.specs.Faults.{Rose}
+use Rattle.desk_traits.specs.File.{Only}
+use Rattle.desk_traits.specs.declared.disk.Disk.{Ghosts as Disks}
+use Rattle.desk_traits.proofs.Moments.{weaker}
+use Rattle.hazard_types.specs.declared.request.Edition.{Edition}
+use Rattle.hazard_types.specs.declared.request.Edition.TheVariants.{One, Two}
+use Rattle.office_core.specs.Agreement.{ReadsAsTheBoard}
+use Rattle.office_core.specs.Histories.{MayFollow}
+use Rattle.office_core.specs.State.{State, in_edition}
+use Rattle.office_journal.specs.Changes.{Change, Leaves, changed}
+use Rattle.office_journal.specs.Histories.{History}
+use Rattle.office_journal.specs.Kept.{Holds, disk_of, gate_of, state_of}
+use Rattle.office_journal.specs.Submitting.{MayTouch}
+use Rattle.office_journal.specs.declared.answers.Upgrade.{Upgrade}
+use Rattle.office_journal.specs.declared.answers.Upgrade.TheVariants as upgrade
+use Rattle.office_journal.specs.declared.kept.KeptOffice.{KeptOffice}
+use Rattle.desk_commands.specs.Commands.{TellsUpgrade, UpgradeOutcome}
+use Rattle.desk_commands.specs.Grown.{IsBetween, grown}
+use Rattle.desk_commands.proofs.Between.{Any, grown_none, loosened, stays}
+use Rattle.desk_commands.proofs.Scripting.{Carries, unadded}
+
+to_two : (e : Edition) → MayFollow e Two
+to_two One = tt
+to_two Two = tt
+
+in_two : (s : State) → ReadsAsTheBoard s → ReadsAsTheBoard (in_edition Two s)
+in_two s reads = record { whole = reads.whole; apart = reads.apart; lives = reads.lives; gapless = reads.gapless; rows = reads.rows }
+
+rose_since : (before mid now : ℕ) → before ≤ mid → Rose mid now → Rose before now
+rose_since before mid now le rose = omega (arith, le, rose)
+
+module _ {D : Type 0} (d : Disks D) (old new : KeptOffice D d) where
+  -- what `upgrade` says
+  pub record Says (u : Upgrade) : Type 0 where
+    pub done : u ≡ upgrade.Done → ((state_of old).edition ≡ One) × (state_of new ≡ in_edition Two (state_of old))
+        × ((file : List ℕ) (h : History) (pending : Option Change) → Holds d.seen d.may_leave old file h pending
+        → Holds d.seen d.may_leave new file (changed h Change.marked) None × Only (d.seen (disk_of new)) (d.may_leave (disk_of new)))
+    pub already : (u ≡ upgrade.Already) ↔ ((state_of old).edition ≡ Two)
+    pub full : u ≡ upgrade.Full → ((state_of old).edition ≡ One) × (268435456 < gate_of old + 15)
+    pub cause : u ≡ upgrade.DiskFault → ((state_of old).edition ≡ One) × Rose (d.faults (disk_of old)) (d.faults (disk_of new))
+    pub failed : u ≡ upgrade.DiskFault → (file : List ℕ) (h : History) (pending : Option Change) → Holds d.seen d.may_leave old file h pending
+        → (next : Option Change) × MayTouch pending Change.marked next × Holds d.seen d.may_leave new file h next
+    pub state : u ≢ upgrade.Done → state_of new ≡ state_of old
+    pub untouched : u ≢ upgrade.Done → u ≢ upgrade.DiskFault → (disk_of new ≡ disk_of old)
+        × ((file : List ℕ) (h : History) (pending : Option Change) → Holds d.seen d.may_leave old file h pending → Holds d.seen d.may_leave new file h pending)
+    pub later : d.faults (disk_of old) ≤ d.faults (disk_of new)
+    pub any_moment : (file : List ℕ) (h : History) (pending : Option Change) → Holds d.seen d.may_leave old file h pending
+        → LeavesOnly d.moment d.left_since (disk_of old) (disk_of new) (Leaves file h (λ change. (pending ≡ Some change) ⊎ ((change ≡ Change.marked) × (h.edition ≡ One))))
+
+  -- what it comes to
+  pub outcome : (u : Upgrade) (disk : D) (writes : ℕ) (taken taken' : Option (List ℕ)) (writes' status : ℕ) → Says u → d.faults disk ≤ d.faults (disk_of old) → TellsUpgrade u writes taken taken' writes' status
+      → UpgradeOutcome d disk (disk_of new) old new writes taken taken' writes' status
+  outcome upgrade.Done disk writes taken taken' writes' status says later told = inl (ap (λ (s : State). s.edition) (says.done refl).1, told)
+  outcome upgrade.Already disk writes taken taken' writes' status says later told = inl (ap (λ (s : State). s.edition) (says.state (λ q. absurd (cc))) ∙ says.already.0 refl, told)
+  outcome upgrade.Full disk writes taken taken' writes' status says later told =
+      inr (inl (ap (λ (s : State). s.edition) (says.state (λ q. absurd (cc))) ∙ (says.full refl).0, (says.full refl).1, told))
+  outcome upgrade.DiskFault disk writes taken taken' writes' status says later told =
+      inr (inr (inl (ap (λ (s : State). s.edition) (says.state (λ q. absurd (cc))) ∙ (says.cause refl).0, rose_since (d.faults disk) (d.faults (disk_of old)) (d.faults (disk_of new)) later (says.cause refl).1, told)))
+  outcome upgrade.OutOfMemory disk writes taken taken' writes' status says later told =
+      inr (inr (inr (ap (λ (s : State). s.edition) (says.state (λ q. absurd (cc))), told)))
+
+  module _ (counts_now : (x : D) (c : List ℕ) → d.may_leave x c → d.left_since x (d.moment x) c)
+      (only_now : (x : D) (c : List ℕ) → d.left_since x (d.moment x) c → d.may_leave x c)
+      (earlier : (x : D) (t u : ℕ) (c : List ℕ) → t ≤ u → u ≤ d.moment x → d.left_since x u c → d.left_since x t c) where
+    -- the history after it
+    pub record Upgraded (file : List ℕ) (h : History) : Type 0 where
+      pub last : History
+      pub same : last.entries ≡ h.entries
+      pub edition : MayFollow h.edition last.edition
+      pub carries : Carries d file last new
+      pub run : LeavesOnly d.moment d.left_since (disk_of old) (disk_of new) (IsBetween file h last)
+
+    unmarked : (u : Upgrade) (file : List ℕ) (h : History) (pending : Option Change) → Says u → u ≢ upgrade.Done → Carries d file h old → Holds d.seen d.may_leave new file h pending → Upgraded file h
+    unmarked u file h pending says not carries holds =
+        let one = unadded d counts_now only_now earlier file h (λ (change : Change). (carries.pending ≡ Some change) ⊎ ((change ≡ Change.marked) × (h.edition ≡ One))) old new pending holds
+        (subst ReadsAsTheBoard (sym (says.state not)) carries.reads) (says.any_moment file h carries.pending carries.holds) in
+        record { last = grown h []; same = append-nil h.entries; edition = stays h.edition; carries = one.0; run = one.1 }
+
+    pub upgraded : (u : Upgrade) (file : List ℕ) (h : History) → Says u → Carries d file h old → Upgraded file h
+    upgraded upgrade.Done file h says carries =
+        let done = says.done refl in
+        let held = (done.2 file h carries.pending carries.holds).0 in
+        let P : Change → Type 0 = λ change. (carries.pending ≡ Some change) ⊎ ((change ≡ Change.marked) × (h.edition ≡ One)) in
+        let last = changed h Change.marked in
+        record {
+          last = last;
+          same = refl;
+          edition = to_two h.edition;
+          carries = record {
+            pending = None;
+            holds = held;
+            now = λ c left. inl (record { state = state_of new; history = held.history; image = held.journal.rests c left });
+            reads = subst ReadsAsTheBoard (sym done.1) (in_two (state_of old) carries.reads);
+          };
+          run = weaker d.moment d.left_since d.may_leave counts_now only_now earlier (disk_of old) (disk_of new) (Leaves file h P) (IsBetween file h last)
+              (λ c leaves. ([], [], sym (append-nil h.entries), subst (λ (g : History). Leaves file g Any c) (sym (grown_none h)) (loosened file h P c leaves)))
+              (says.any_moment file h carries.pending carries.holds);
+        }
+    upgraded upgrade.Already file h says carries = unmarked upgrade.Already file h carries.pending says (λ q. absurd (cc)) carries ((says.untouched (λ q. absurd (cc)) (λ q. absurd (cc))).1 file h carries.pending carries.holds)
+    upgraded upgrade.Full file h says carries = unmarked upgrade.Full file h carries.pending says (λ q. absurd (cc)) carries ((says.untouched (λ q. absurd (cc)) (λ q. absurd (cc))).1 file h carries.pending carries.holds)
+    upgraded upgrade.DiskFault file h says carries =
+        let held = says.failed refl file h carries.pending carries.holds in
+        unmarked upgrade.DiskFault file h held.0 says (λ q. absurd (cc)) carries held.2
+    upgraded upgrade.OutOfMemory file h says carries = unmarked upgrade.OutOfMemory file h carries.pending says (λ q. absurd (cc)) carries ((says.untouched (λ q. absurd (cc)) (λ q. absurd (cc))).1 file h carries.pending carries.holds)

@@ -1,0 +1,45 @@
+use Rattle.std.proofs.Common.{arith, List, ℕ, ◌+◌, sym, ◌∙◌, subst, refl}
+use Rattle.office_core.specs.Look.{ShowsProduct}
+use Rattle.office_core.specs.State.{product_at}
+use Rattle.office_journal.specs.Kept.{state_of}
+use Rattle.desk_commands.proofs.Exporting.{exported, exported_before, exported_part, is_there, wrote_next}
+use Rattle.desk_commands.proofs.export.write_products.Goals as goal
+
+pub returns-in-Err : goal.returns-in-Err
+returns-in-Err g c =
+    let sink = g.K.Sink in
+    let s = state_of c.args.kept.now in
+    let n = c.loop-index.index in
+    let text = c.as_slice.result.now in
+    let shows = subst (λ (t : List ℕ). ShowsProduct (product_at s (n + 1)) t) (sym c.as_slice.ensures) c.in-Ok.ensures.shows in
+    let part = c.in-Err.ensures.part in
+    exported_part s n part.0 (sink.faults c.args.output.now) (sink.faults c.loop-index.output) (sink.faults c.write_whole.new.sink) text (sink.taken c.args.output.now) (sink.taken c.loop-index.output) (sink.taken c.write_whole.new.sink)
+    shows c.loop-index.invariant.wrote part.2 c.loop-index.invariant.steady c.in-Err.ensures.cause.failed
+
+pub unreachable-requires : goal.unreachable-requires
+unreachable-requires g c =
+    let s = state_of c.args.kept.now in
+    is_there s c.loop-index.index c.in-Err-No.field-0-0 (omega (arith, c.loop-index-test.true, c.products-index-end.ensures)) (c.in-Err-No.ensures.refused c.in-Err-No.field-0-0 (rw c.in-Err-No.field-0-is refl))
+
+pub returns-in-Err-OutOfMemory : goal.returns-in-Err-OutOfMemory
+returns-in-Err-OutOfMemory g c =
+    let sink = g.K.Sink in
+    exported_before (state_of c.args.kept.now) c.loop-index.index (sink.faults c.args.output.now) (sink.faults c.loop-index.output) (sink.taken c.args.output.now) (sink.taken c.loop-index.output) c.loop-index.invariant.wrote c.loop-index.invariant.steady
+
+pub loop-index-preserved : goal.loop-index-preserved
+loop-index-preserved g c =
+    let sink = g.K.Sink in
+    let s = state_of c.args.kept.now in
+    let n = c.loop-index.index in
+    let text = c.as_slice.result.now in
+    let shows = subst (λ (t : List ℕ). ShowsProduct (product_at s (n + 1)) t) (sym c.as_slice.ensures) c.in-Ok.ensures.shows in
+    record {
+      wrote = wrote_next s n text (sink.taken c.args.output.now) (sink.taken c.loop-index.output) (sink.taken c.write_whole.new.sink) shows c.loop-index.invariant.wrote c.in-Ok-write_whole.ensures.ok;
+      steady = c.in-Ok-write_whole.ensures.steady ∙ c.loop-index.invariant.steady;
+    }
+
+pub returns : goal.returns
+returns g c =
+    let sink = g.K.Sink in
+    exported (state_of c.args.kept.now) c.loop-index.index (sink.faults c.args.output.now) (sink.faults c.loop-index.output) (sink.taken c.args.output.now) (sink.taken c.loop-index.output)
+    (omega (arith, c.loop-index-test.false, c.products-index-end.ensures)) c.loop-index.invariant.wrote c.loop-index.invariant.steady

@@ -1,0 +1,48 @@
+use Rattle.std.proofs.Common.{arith, ◌≤◌, inr, [], sym, subst, ap, ◌∙◌}
+use Rattle.std.proofs.lemmas.List.{append-nil}
+use Rattle.office_core.specs.State.{State}
+use Rattle.office_journal.specs.Kept.{state_of}
+use Rattle.desk_commands.specs.Grown.{KeepsHistory}
+use Rattle.desk_commands.proofs.Keeping.{keeps, opened_carries}
+use Rattle.desk_commands.proofs.Moving.{outcome_of}
+use Rattle.desk_commands.proofs.Upgrading.{Says, outcome, upgraded}
+use Rattle.desk_commands.proofs.upgrade.run_upgrade.Goals as goal
+
+pub returns-in-Ok : goal.returns-in-Ok
+returns-in-Ok g c =
+    let d = g.D.Disk in
+    let m = g.met.D.Disk in
+    let old = c.in-Ok.kept in
+    let new = c.upgrade-upgrade.new.self in
+    let opened = c.in-Ok.ensures.opened in
+    let says : Says d old new c.upgrade-upgrade.result = record {
+      done = c.upgrade-upgrade.ensures.done;
+      already = c.upgrade-upgrade.ensures.already;
+      full = c.upgrade-upgrade.ensures.full;
+      cause = c.upgrade-upgrade.ensures.cause;
+      failed = c.upgrade-upgrade.ensures.failed;
+      state = c.upgrade-upgrade.ensures.state;
+      untouched = c.upgrade-upgrade.ensures.untouched;
+      later = c.upgrade-upgrade.ensures.later;
+      any_moment = c.upgrade-upgrade.ensures.any_moment;
+    } in
+    inr (record {
+      opened = old;
+      first = opened;
+      after = new;
+      outcome = outcome_of d c.args.disk _ _ old new _ _ _ _ _ (sym c.into_disk.ensures) (outcome d old new c.upgrade-upgrade.result c.args.disk _ _ _ _ _ says opened.later c.tell_upgrade-status.ensures);
+      later = subst (λ next. d.faults c.args.disk ≤ d.faults next) (sym c.into_disk.ensures) (omega (arith, opened.later, says.later));
+      history = λ bytes told.
+          let found = opened.found bytes told in
+          let start = opened_carries d m.seen_is_left m.counts_now m.only_now m.earlier found.0 found.1 c.args.disk old c.a_crash_leaves_the_history.ensures opened found.3 in
+          let up = upgraded d old new m.counts_now m.only_now m.earlier c.upgrade-upgrade.result found.0 found.1 says start in (
+            found.0,
+            found.1,
+            up.last,
+            subst (λ next. KeepsHistory d c.args.disk next bytes found.0 found.1 up.last (state_of new)) (sym c.into_disk.ensures)
+                (keeps d m.seen_is_left m.counts_now m.only_now m.earlier c.requests_stand_once.ensures bytes found.0 found.1 up.last c.args.disk old new c.a_crash_leaves_the_history-in-Ok.ensures opened found.2
+                (record { entries = []; behind = up.same ∙ sym (append-nil found.1.entries); edition = up.edition }) up.carries up.run),
+            up.same,
+            sym (ap (λ (s : State). s.edition) up.carries.holds.history.state),
+          );
+    })

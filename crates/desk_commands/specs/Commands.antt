@@ -1,0 +1,184 @@
+-- What the commands over a journal read, write and leave.
+use Rattle.std.specs.Prelude.{◌≡◌, ◌⊎◌, ◌++◌, ◌≤◌, ◌<◌, ◌+◌, ℕ, ℤ, pos, nat_abs, true, false, List, [], length, Option, None, Some, Result, Ok, Err, codes}
+use Rattle.std.specs.List.{flat_map}
+use Rattle.desk_settings.specs.Reading.{settings_of}
+use Rattle.desk_settings.specs.declared.fault.SettingsFault.{SettingsFault}
+use Rattle.desk_settings.specs.declared.fault.SettingsFault.TheVariants.{NotToml, Missing, BadValue, Twice, TooLong}
+use Rattle.desk_traits.specs.Crash.{LeavesOnly}
+use Rattle.desk_traits.specs.declared.clocks.Clock.{Ghosts as Clocks}
+use Rattle.desk_traits.specs.declared.disk.Disk.{Ghosts as Disks}
+use Rattle.desk_traits.specs.Faults.{Rose}
+use Rattle.desk_traits.specs.File.{Only}
+use Rattle.desk_traits.specs.Streams.{Adds, Takes, IsAtEnd}
+use Rattle.hazard_types.specs.declared.request.Edition.TheVariants.{One, Two}
+use Rattle.journal_core.specs.Image.{Fresh}
+use Rattle.office_core.specs.Agreement.{texts_of}
+use Rattle.office_core.specs.Histories.{Entered}
+use Rattle.office_core.specs.Rules.{is_out}
+use Rattle.office_core.specs.State.{State}
+use Rattle.board_text.specs.Rows.{board_text}
+use Rattle.event_life.specs.Shown.{shown_at}
+use Rattle.office_journal.specs.Histories.{History, ImageOf, empty}
+use Rattle.office_journal.specs.Kept.{gate_of, state_of}
+use Rattle.office_journal.specs.Making.{IsMakingOf}
+use Rattle.office_journal.specs.declared.answers.Upgrade.{Upgrade}
+use Rattle.office_journal.specs.declared.answers.Upgrade.TheVariants as upgrade
+use Rattle.office_journal.specs.declared.kept.KeptOffice.{KeptOffice}
+use Rattle.program_ends.specs.Ends.{HasWritten, Telling}
+use Rattle.program_ends.specs.Runs.{IsLinesRun}
+use Rattle.program_ends.specs.declared.ends.End.{End}
+use Rattle.program_ends.specs.declared.reading.Stop.{Stop}
+use Rattle.program_ends.specs.declared.reading.Stop.TheVariants as stop
+use Rattle.program_ends.specs.declared.ends.End.TheVariants.{WriteFault, OutOfMemory, ClockOut, DiskFault, JournalFull, SettingsRefused, AlreadyKept, ReadFault}
+use Rattle.desk_commands.specs.Grown.{KeepsHistory, grown}
+use Rattle.desk_commands.specs.Opening.{IsOpened}
+use Rattle.desk_commands.specs.Scripts.{Answers, AnswersLine, Goes, IsRead, Lacks, Scripted, with_entry}
+
+-- the text was written, or a front of it before a write fault
+abbrev pub IsTold : List ℕ → ℕ → Option (List ℕ) → Option (List ℕ) → ℕ → ℕ → Type 0
+IsTold text writes taken taken' writes' status = (end : Option End) × ((end ≡ None) ⊎ (end ≡ Some WriteFault)) × Telling text writes taken taken' writes' end status
+
+-- texts one after another
+abbrev pub joined : List (List ℕ) → List ℕ
+joined texts = flat_map (λ (text : List ℕ). text) texts
+
+-- the first of the texts were written one after another: all of them, those up to a write fault, or those before memory lacked
+pub record Exported (texts : List (List ℕ)) (taken taken' : Option (List ℕ)) (writes writes' : ℕ) (end : Option End) : Type 0 where
+  pub first : List (List ℕ)
+  pub rest : List (List ℕ)
+  pub are : texts ≡ first ++ rest
+  pub reasons : ((end ≡ None) × (rest ≡ [])) ⊎ (end ≡ Some WriteFault) ⊎ (end ≡ Some OutOfMemory)
+  pub written : List ℕ
+  pub adds : Adds taken taken' written
+  pub has : HasWritten (joined first) written writes writes' end
+
+-- the same, with the end of the run
+pub record AreTold (texts : List (List ℕ)) (writes : ℕ) (taken taken' : Option (List ℕ)) (writes' status : ℕ) : Type 0 where
+  pub first : List (List ℕ)
+  pub rest : List (List ℕ)
+  pub are : texts ≡ first ++ rest
+  pub end : Option End
+  pub reasons : ((end ≡ None) × (rest ≡ [])) ⊎ (end ≡ Some WriteFault) ⊎ (end ≡ Some OutOfMemory)
+  pub telling : Telling (joined first) writes taken taken' writes' end status
+
+-- where an answer's line was not told for want of memory: the entry of that request, if it was accepted
+abbrev pub Unanswered : {D C : Type 0} (d : Disks D) (k : Clocks C) → Scripted (KeptOffice D d) C → Scripted (KeptOffice D d) C → Option Entered → Type 0
+Unanswered d k last z added = ((z ≡ last) × (added ≡ None)) ⊎ ((line : Option (List ℕ)) × (text : List ℕ) × AnswersLine d k last line text z added)
+
+-- The settings were read to the input's end, or to the byte behind the last that settings may have; or a read failed, or memory lacked, somewhere within.
+abbrev pub SettingsRead : Option (List ℕ) → Option (List ℕ) → ℕ → ℕ → Result (List ℕ) Stop → Type 0
+SettingsRead left left' reads reads' (Ok text) = Takes left left' text × (length text ≤ 1048577) × ((length text ≡ 1048577) ⊎ IsAtEnd left') × (reads' ≡ reads)
+SettingsRead left left' reads reads' (Err why) = ((text : List ℕ) × Takes left left' text × (length text ≤ 1048577)) × (((why ≡ stop.OutOfMemory) × (reads' ≡ reads)) ⊎ ((why ≡ stop.Read) × Rose reads reads'))
+
+-- a fault of settings, and its key
+abbrev pub fault_text : SettingsFault → List ℕ
+fault_text NotToml = codes "NotToml"
+fault_text (Missing key) = codes "Missing " ++ key
+fault_text (BadValue key) = codes "BadValue " ++ key
+fault_text (Twice key) = codes "Twice " ++ key
+fault_text TooLong = codes "TooLong"
+
+-- what is told of an upgrade
+abbrev pub TellsUpgrade : Upgrade → ℕ → Option (List ℕ) → Option (List ℕ) → ℕ → ℕ → Type 0
+TellsUpgrade upgrade.Done writes taken taken' writes' status = IsTold (codes "edition 2\n") writes taken taken' writes' status
+TellsUpgrade upgrade.Already writes taken taken' writes' status = IsTold (codes "edition 2\n") writes taken taken' writes' status
+TellsUpgrade upgrade.Full writes taken taken' writes' status = Telling [] writes taken taken' writes' (Some JournalFull) status
+TellsUpgrade upgrade.DiskFault writes taken taken' writes' status = Telling [] writes taken taken' writes' (Some DiskFault) status
+TellsUpgrade upgrade.OutOfMemory writes taken taken' writes' status = Telling [] writes taken taken' writes' (Some OutOfMemory) status
+
+-- What becomes of an upgrade: the edition was One and is Two, or was Two before; the mark has no room, the disk failed in this call, or memory lacked, and the edition is as it was.
+abbrev pub UpgradeOutcome : {D : Type 0} (d : Disks D) → D → D → KeptOffice D d → KeptOffice D d → ℕ → Option (List ℕ) → Option (List ℕ) → ℕ → ℕ → Type 0
+UpgradeOutcome d disk next opened after writes taken taken' writes' status =
+    (((state_of after).edition ≡ Two) × IsTold (codes "edition 2\n") writes taken taken' writes' status)
+    ⊎ (((state_of after).edition ≡ One) × (268435456 < gate_of opened + 15) × Telling [] writes taken taken' writes' (Some JournalFull) status)
+    ⊎ (((state_of after).edition ≡ One) × Rose (d.faults disk) (d.faults next) × Telling [] writes taken taken' writes' (Some DiskFault) status)
+    ⊎ (((state_of after).edition ≡ (state_of opened).edition) × Telling [] writes taken taken' writes' (Some OutOfMemory) status)
+
+-- The board at a minute: its text, or the clock's fault where the minute is out; or memory lacked.
+abbrev pub TellsBoard : State → ℤ → ℕ → Option (List ℕ) → Option (List ℕ) → ℕ → ℕ → Type 0
+TellsBoard s at writes taken taken' writes' status =
+    ((is_out at ≡ false) × IsTold (board_text (shown_at (nat_abs at) s.rows)) writes taken taken' writes' status)
+    ⊎ ((is_out at ≡ true) × Telling [] writes taken taken' writes' (Some ClockOut) status)
+    ⊎ Telling [] writes taken taken' writes' (Some OutOfMemory) status
+
+-- the minute of the board: the one that is named, or a reading of the clock
+abbrev pub IsBoardAt : {C : Type 0} (k : Clocks C) → Option ℕ → C → C → ℤ → Type 0
+IsBoardAt k None clock next at = IsRead k clock next at
+IsBoardAt k (Some minute) clock next at = (at ≡ pos minute) × (next ≡ clock)
+
+module _ {D : Type 0} (d : Disks D) where
+  -- Nothing was added: the history is the one that was found, and the disk stands as it did.
+  abbrev pub Stays : D → D → KeptOffice D d → Type 0
+  Stays disk next kept = (bytes : List ℕ) → d.seen disk ≡ Some bytes → (file : List ℕ) × (h : History) × KeepsHistory d disk next bytes file h h (state_of kept)
+
+  -- the input's lines were answered one after another by the office that was found
+  pub record IsScriptRun {C : Type 0} (k : Clocks C) (disk next : D) (clock : C) (limit : ℕ) (left left' taken taken' : Option (List ℕ)) (reads reads' writes writes' status : ℕ) : Type 0 where
+    pub opened : KeptOffice D d
+    pub first : IsOpened d disk opened
+    -- office and clock at the end
+    pub after : Scripted (KeptOffice D d) C
+    pub run : IsLinesRun (Answers d k) (Lacks d k) limit (record { kept = opened; clock = clock }) after left left' taken taken' reads reads' writes writes' status
+    -- the entries of the accepted lines, in order
+    pub entries : List Entered
+    pub goes : Goes d k (record { kept = opened; clock = clock }) run.run.lines run.told run.run.last entries
+    pub last : Option Entered
+    pub unanswered : Unanswered d k run.run.last after last
+    -- one legal history, which holds them behind what was found, and the disk
+    pub history : (bytes : List ℕ) → d.seen disk ≡ Some bytes → (file : List ℕ) × (h : History) × KeepsHistory d disk next bytes file h (grown h (entries ++ with_entry last [])) (state_of after.kept)
+    pub later : d.faults disk ≤ d.faults next
+
+  -- the texts of the products were written one after another
+  pub record IsExportRun (disk next : D) (taken taken' : Option (List ℕ)) (writes writes' status : ℕ) : Type 0 where
+    pub opened : KeptOffice D d
+    pub first : IsOpened d disk opened
+    pub told : AreTold (texts_of (state_of opened)) writes taken taken' writes' status
+    pub history : Stays disk next opened
+    pub later : d.faults disk ≤ d.faults next
+
+  -- the board at a minute was written
+  pub record IsBoardRun {C : Type 0} (k : Clocks C) (minute : Option ℕ) (disk next : D) (clock clock' : C) (taken taken' : Option (List ℕ)) (writes writes' status : ℕ) : Type 0 where
+    pub opened : KeptOffice D d
+    pub first : IsOpened d disk opened
+    pub at : ℤ
+    pub reading : IsBoardAt k minute clock clock' at
+    pub told : TellsBoard (state_of opened) at writes taken taken' writes' status
+    pub history : Stays disk next opened
+    pub later : d.faults disk ≤ d.faults next
+
+  -- the journal has the mark
+  pub record IsUpgradeRun (disk next : D) (taken taken' : Option (List ℕ)) (writes writes' status : ℕ) : Type 0 where
+    pub opened : KeptOffice D d
+    pub first : IsOpened d disk opened
+    pub after : KeptOffice D d
+    pub outcome : UpgradeOutcome d disk next opened after writes taken taken' writes' status
+    pub later : d.faults disk ≤ d.faults next
+    pub history : (bytes : List ℕ) → d.seen disk ≡ Some bytes → (file : List ℕ) × (h last : History) × KeepsHistory d disk next bytes file h last (state_of after) × (last.entries ≡ h.entries) × (last.edition ≡ (state_of after).edition)
+
+  -- Why no journal is made of settings that were read: they have this fault first, and the file is fresh; the file is not fresh; the disk failed in this call; or memory lacked.
+  abbrev pub IsWhyUnmade : D → D → List ℕ → End → Type 0
+  IsWhyUnmade disk next read (SettingsRefused what) = (fault : SettingsFault) × (settings_of read ≡ Err fault) × (what ≡ fault_text fault) × ((bytes : List ℕ) → d.seen disk ≡ Some bytes → Fresh bytes)
+  IsWhyUnmade disk next read AlreadyKept = (bytes : List ℕ) → d.seen disk ≡ Some bytes → Fresh bytes → ⊥
+  IsWhyUnmade disk next read DiskFault = Rose (d.faults disk) (d.faults next)
+  IsWhyUnmade disk next read OutOfMemory = Unit {0}
+  IsWhyUnmade disk next read _ = ⊥
+
+  -- the disk reads as the image of the empty history in edition Two, and so does what a crash leaves
+  pub record IsMade (disk next : D) (read : List ℕ) : Type 0 where
+    pub fresh : (bytes : List ℕ) → d.seen disk ≡ Some bytes → Fresh bytes
+    pub image : (bytes : List ℕ) → d.seen disk ≡ Some bytes → (now : List ℕ) × (d.seen next ≡ Some now) × ImageOf now read (empty Two)
+    pub only : (bytes : List ℕ) → d.seen disk ≡ Some bytes → Only (d.seen next) (d.may_leave next)
+
+  -- the settings were read whole, or as far as they can be settings, and a journal was made of them or not
+  pub record IsInitRun (disk next : D) (left left' taken taken' : Option (List ℕ)) (reads reads' writes writes' status : ℕ) : Type 0 where
+    pub read : List ℕ
+    pub takes : Takes left left' read
+    pub within : length read ≤ 1048577
+    pub outcome :
+        ((length read ≡ 1048577) ⊎ IsAtEnd left') × (reads' ≡ reads)
+        × ((IsMade disk next read × IsTold (codes "ready\n") writes taken taken' writes' status)
+        ⊎ ((end : End) × IsWhyUnmade disk next read end × Telling [] writes taken taken' writes' (Some end) status))
+        ⊎ (next ≡ disk) × (((reads' ≡ reads) × Telling [] writes taken taken' writes' (Some OutOfMemory) status)
+        ⊎ (Rose reads reads' × Telling [] writes taken taken' writes' (Some ReadFault) status))
+    pub later : d.faults disk ≤ d.faults next
+    -- what a crash leaves: what one at the start might have left, or a file that is being made
+    pub crashes : (bytes : List ℕ) → d.seen disk ≡ Some bytes → LeavesOnly d.moment d.left_since disk next (λ c. d.may_leave disk c ⊎ IsMakingOf read c)

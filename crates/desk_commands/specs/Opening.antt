@@ -1,0 +1,49 @@
+-- How an office is opened from the journal that a disk holds.
+use Rattle.std.specs.Prelude.{◌≡◌, ◌≤◌, ℕ, List, [], Option, None, Some}
+use Rattle.desk_traits.specs.Crash.{LeavesOnly}
+use Rattle.desk_traits.specs.declared.disk.Disk.{Ghosts as Disks}
+use Rattle.desk_traits.specs.Faults.{Rose}
+use Rattle.journal_core.specs.Image.{Fresh}
+use Rattle.office_core.specs.Agreement.{ReadsAsTheBoard}
+use Rattle.office_journal.specs.Damage.{IsDamagedAt}
+use Rattle.office_journal.specs.Histories.{History, ImageOf}
+use Rattle.office_journal.specs.Kept.{Holds, disk_of, state_of}
+use Rattle.office_journal.specs.declared.kept.KeptOffice.{KeptOffice}
+use Rattle.program_ends.specs.Ends.{Telling}
+use Rattle.program_ends.specs.declared.ends.End.{End}
+use Rattle.program_ends.specs.declared.ends.End.TheVariants.{NoJournal, Damaged, DiskFault, OutOfMemory}
+
+module _ {D : Type 0} (d : Disks D) where
+  -- The file is an image of one history, and the office is at its state; nothing is pending. A read gives the same, and no crash leaves what one at the start might not have left.
+  pub record IsOpened (disk : D) (kept : KeptOffice D d) : Type 0 where
+    pub found : (bytes : List ℕ) → d.seen disk ≡ Some bytes → (file : List ℕ) × (h : History) × ImageOf bytes file h × Holds d.seen d.may_leave kept file h None
+    pub reads : ReadsAsTheBoard (state_of kept)
+    pub same : d.seen (disk_of kept) ≡ d.seen disk
+    pub later : d.faults disk ≤ d.faults (disk_of kept)
+    pub moments : LeavesOnly d.moment d.left_since disk (disk_of kept) (d.may_leave disk)
+
+  -- Why no office is opened: the file is fresh, it is damaged at this byte, the disk failed in this call, or memory lacked.
+  abbrev pub IsWhy : D → D → End → Type 0
+  IsWhy disk next NoJournal = (bytes : List ℕ) → d.seen disk ≡ Some bytes → Fresh bytes
+  IsWhy disk next (Damaged at) = (bytes : List ℕ) → d.seen disk ≡ Some bytes → IsDamagedAt bytes at
+  IsWhy disk next DiskFault = Rose (d.faults disk) (d.faults next)
+  IsWhy disk next OutOfMemory = Unit {0}
+  IsWhy disk next _ = ⊥
+
+  -- the disk is as it was
+  pub record IsUnopened (disk next : D) (end : End) : Type 0 where
+    pub why : IsWhy disk next end
+    pub same : d.seen next ≡ d.seen disk
+    pub later : d.faults disk ≤ d.faults next
+    pub moments : LeavesOnly d.moment d.left_since disk next (d.may_leave disk)
+
+  -- no office was opened, and the reason alone is told
+  pub record IsUnopenedRun (disk next : D) (taken taken' : Option (List ℕ)) (writes writes' status : ℕ) : Type 0 where
+    pub end : End
+    pub unopened : IsUnopened disk next end
+    pub telling : Telling [] writes taken taken' writes' (Some end) status
+
+-- nothing was read
+pub record IsUnread (left left' : Option (List ℕ)) (reads reads' : ℕ) : Type 0 where
+  pub unread : left' ≡ left
+  pub steady : reads' ≡ reads

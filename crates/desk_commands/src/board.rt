@@ -1,0 +1,65 @@
+//! The command `board`.
+ghost use Rattle.std.specs.Prelude.{◌≡◌, ◌⊎◌};
+ghost use Rattle.office_journal.specs.Kept.{state_of};
+ghost use Rattle.desk_commands.specs.Opening.{IsUnopenedRun};
+ghost use Rattle.desk_commands.specs.Commands.{IsBoardAt, IsBoardRun, TellsBoard};
+
+use crate::ended::Ended;
+use crate::opening::open;
+use crate::telling::tell;
+use desk_traits::{Clock, Disk, Sink};
+use hazard_types::{Minute, Or, Query};
+use office_core::requests_stand_once;
+use office_journal::KeptOffice;
+use program_ends::{End, end_at_once};
+use std::alloc::Global;
+
+/// Tells the board at a reading.
+fn tell_board<D: Disk, K: Sink>(alloc: Global, kept: &KeptOffice<D>, at: i64, output: &mut K) -> u8
+    ensures { TellsBoard (state_of kept.now) at (K.faults output.old) (K.taken output.old) (K.taken output.new) (K.faults output.new) result }
+{
+    match kept.look(alloc, &Query::Board, at) {
+        Ok(text) => tell(output, text.as_slice()),
+        Err(Or::No(_)) => end_at_once(output, End::ClockOut),
+        Err(Or::OutOfMemory) => end_at_once(output, End::OutOfMemory),
+    }
+}
+
+/// The minute of the board: the one that is named, or the clock's reading.
+fn board_at<C: Clock>(minute: Option<Minute>, clock: &mut C) -> i64
+    ensures { IsBoardAt C.Clock minute clock.old clock.new result }
+{
+    match minute {
+        Some(minute) => i64::from(minute.get()),
+        None => clock.tick(),
+    }
+}
+
+/// Writes the board of the office whose journal the disk holds.
+pub fn run_board<K: Sink, D: Disk, C: Clock>(
+    alloc: Global,
+    minute: Option<Minute>,
+    output: &mut K,
+    disk: D,
+    clock: &mut C,
+) -> Ended<D>
+    ensures { IsUnopenedRun D.Disk disk result.disk (K.taken output.old) (K.taken output.new) (K.faults output.old) (K.faults output.new) result.status
+        ⊎ IsBoardRun D.Disk C.Clock minute disk result.disk clock.old clock.new (K.taken output.old) (K.taken output.new) (K.faults output.old) (K.faults output.new) result.status }
+{
+    requests_stand_once();
+    match open(alloc, disk) {
+        Ok(kept) => {
+            kept.a_crash_leaves_the_history();
+            let at = board_at(minute, clock);
+            let status = tell_board(alloc, &kept, at, output);
+            Ended {
+                status,
+                disk: kept.into_disk(),
+            }
+        }
+        Err((disk, end)) => Ended {
+            status: end_at_once(output, end),
+            disk,
+        },
+    }
+}

@@ -1,0 +1,58 @@
+//! The command `export`.
+ghost use Rattle.std.specs.Prelude.{◌⊎◌};
+ghost use Rattle.office_core.specs.Agreement.{texts_of};
+ghost use Rattle.office_journal.specs.Kept.{state_of};
+ghost use Rattle.desk_commands.specs.Opening.{IsUnopenedRun};
+ghost use Rattle.desk_commands.specs.Commands.{Exported, IsExportRun};
+
+use crate::ended::Ended;
+use crate::opening::open;
+use desk_traits::{Disk, Failed, Sink, write_whole};
+use hazard_types::{Or, Query};
+use office_core::requests_stand_once;
+use office_journal::KeptOffice;
+use program_ends::{End, end_at_once, end_run};
+use std::alloc::Global;
+
+/// Writes the texts of the products, one after another.
+fn write_products<D: Disk, K: Sink>(
+    alloc: Global,
+    kept: &KeptOffice<D>,
+    output: &mut K,
+) -> Option<End>
+    ensures { Exported (texts_of (state_of kept.now)) (K.taken output.old) (K.taken output.new) (K.faults output.old) (K.faults output.new) result }
+{
+    for index in 0..kept.products() {
+        match kept.look(alloc, &Query::Product(index + 1), 0) {
+            Ok(text) => match write_whole(output, text.as_slice()) {
+                Ok(()) => {}
+                Err(Failed) => return Some(End::WriteFault),
+            },
+            Err(Or::No(_)) => unreachable!(),
+            Err(Or::OutOfMemory) => return Some(End::OutOfMemory),
+        }
+    }
+    None
+}
+
+/// Writes the texts of all products of the office whose journal the disk holds.
+pub fn run_export<K: Sink, D: Disk>(alloc: Global, output: &mut K, disk: D) -> Ended<D>
+    ensures { IsUnopenedRun D.Disk disk result.disk (K.taken output.old) (K.taken output.new) (K.faults output.old) (K.faults output.new) result.status
+        ⊎ IsExportRun D.Disk disk result.disk (K.taken output.old) (K.taken output.new) (K.faults output.old) (K.faults output.new) result.status }
+{
+    requests_stand_once();
+    match open(alloc, disk) {
+        Ok(kept) => {
+            kept.a_crash_leaves_the_history();
+            let end = write_products(alloc, &kept, output);
+            Ended {
+                status: end_run(output, end),
+                disk: kept.into_disk(),
+            }
+        }
+        Err((disk, end)) => Ended {
+            status: end_at_once(output, end),
+            disk,
+        },
+    }
+}

@@ -1,0 +1,133 @@
+//! The command `init`.
+ghost use Rattle.std.specs.Prelude.{◌≡◌, ◌≤◌, ◌⊎◌, ◌++◌, ℕ, List, Some, IfOk, IfErr, MatchResult, false};
+ghost use Rattle.desk_traits.specs.Crash.{LeavesOnly};
+ghost use Rattle.office_journal.specs.Kept.{disk_of};
+ghost use Rattle.office_journal.specs.Making.{IsMakingOf};
+ghost use Rattle.program_ends.specs.Ends.{is_write_fault};
+ghost use Rattle.desk_commands.specs.Commands.{IsInitRun, IsMade, IsWhyUnmade, SettingsRead, fault_text};
+ghost use Rattle.desk_commands.specs.Unmade.{EndsAs, MayUnmake};
+
+use crate::ended::Ended;
+use crate::telling::tell;
+use desk_settings::SettingsFault;
+use desk_traits::{Disk, Failed, Sink, Source};
+use hazard_types::{Oom, Text};
+use office_journal::{KeepFault, KeptOffice};
+use program_ends::{End, Stop, end_at_once, read_front};
+use std::alloc::Global;
+
+/// The most bytes of a settings' file, and one.
+const ENOUGH: usize = 1_048_577;
+
+/// Reads the settings to the input's end, or one byte more than settings may have.
+fn read_settings<S: Source>(alloc: Global, input: &mut S) -> Result<Text, Stop>
+    ensures { SettingsRead (S.left input.old) (S.left input.new) (S.faults input.old) (S.faults input.new) result }
+{
+    let mut text = Text::new(alloc);
+    let mut buffer = [0u8; 4096];
+    for _turn in 0..ENOUGH {
+        let room = (ENOUGH - text.len()).min(buffer.len());
+        let count = match read_front(input, &mut buffer, room) {
+            Ok(count) => count,
+            Err(Failed) => return Err(Stop::Read),
+        };
+        if count == 0 {
+            return Ok(text);
+        }
+        text.extend(&buffer[..count])?;
+        if text.len() == ENOUGH {
+            return Ok(text);
+        }
+    }
+    unreachable!()
+}
+
+/// A fault of settings, and its key.
+fn fault_text(alloc: Global, fault: &SettingsFault) -> Result<Text, Oom>
+    ensures { IfOk result (λ text. text ≡ fault_text fault.now) }
+{
+    match fault {
+        SettingsFault::NotToml => Text::from_slice(alloc, b"NotToml"),
+        SettingsFault::Missing { key } => with_key(alloc, b"Missing ", key),
+        SettingsFault::BadValue { key } => with_key(alloc, b"BadValue ", key),
+        SettingsFault::Twice { key } => with_key(alloc, b"Twice ", key),
+        SettingsFault::TooLong => Text::from_slice(alloc, b"TooLong"),
+    }
+}
+
+/// A word and a key.
+fn with_key(alloc: Global, word: &[u8], key: &Text) -> Result<Text, Oom>
+    ensures { IfOk result (λ text. text ≡ word.now ++ key.now) }
+{
+    let mut text = Text::from_slice(alloc, word)?;
+    text.extend(key.as_slice())?;
+    Ok(text)
+}
+
+/// How a run ends that made no journal.
+fn end_of(alloc: Global, fault: &KeepFault) -> End
+    requires { MayUnmake fault.now }
+    ensures { EndsAs fault.now result }
+{
+    match fault {
+        KeepFault::Settings(fault) => match fault_text(alloc, fault) {
+            Ok(what) => End::SettingsRefused(what),
+            Err(_) => End::OutOfMemory,
+        },
+        KeepFault::NotFresh => End::AlreadyKept,
+        KeepFault::DiskFault => End::DiskFault,
+        KeepFault::OutOfMemory => End::OutOfMemory,
+        KeepFault::Fresh | KeepFault::Damaged { .. } => unreachable!(),
+    }
+}
+
+/// Makes the journal of an office with these settings.
+fn make<D: Disk>(alloc: Global, disk: D, settings: &[u8]) -> Result<KeptOffice<D>, (D, End)>
+    ensures made { MatchResult result (λ kept. IsMade D.Disk disk (disk_of kept) settings.now) (λ e. IsWhyUnmade D.Disk disk e.0 settings.now e.1) }
+    ensures end { IfErr result (λ e. is_write_fault e.1 ≡ false) }
+    ensures later { MatchResult result (λ kept. D.faults disk ≤ D.faults (disk_of kept)) (λ e. D.faults disk ≤ D.faults e.0) }
+    ensures crashes { (bytes : List ℕ) → D.seen disk ≡ Some bytes → MatchResult result
+        (λ kept. LeavesOnly D.moment D.left_since disk (disk_of kept) (λ c. D.may_leave disk c ⊎ IsMakingOf settings.now c))
+        (λ e. LeavesOnly D.moment D.left_since disk e.0 (λ c. D.may_leave disk c ⊎ IsMakingOf settings.now c)) }
+{
+    match KeptOffice::create(alloc, disk, settings) {
+        Ok(kept) => {
+            kept.a_crash_leaves_the_history();
+            Ok(kept)
+        }
+        Err((disk, fault)) => {
+            let end = end_of(alloc, &fault);
+            Err((disk, end))
+        }
+    }
+}
+
+/// Reads the settings of an office, and makes its journal on a fresh disk.
+pub fn run_init<S: Source, K: Sink, D: Disk>(
+    alloc: Global,
+    input: &mut S,
+    output: &mut K,
+    disk: D,
+) -> Ended<D>
+    ensures { IsInitRun D.Disk disk result.disk (S.left input.old) (S.left input.new) (K.taken output.old) (K.taken output.new) (S.faults input.old) (S.faults input.new) (K.faults output.old) (K.faults output.new) result.status }
+{
+    let settings = match read_settings(alloc, input) {
+        Ok(settings) => settings,
+        Err(stop) => {
+            return Ended {
+                status: end_at_once(output, End::from(stop)),
+                disk,
+            };
+        }
+    };
+    match make(alloc, disk, settings.as_slice()) {
+        Ok(kept) => Ended {
+            status: tell(output, b"ready\n"),
+            disk: kept.into_disk(),
+        },
+        Err((disk, end)) => Ended {
+            status: end_at_once(output, end),
+            disk,
+        },
+    }
+}

@@ -1,0 +1,16 @@
+//! Answers as lines.
+ghost use Rattle.std.specs.Prelude.{◌≡◌, IfOk};
+ghost use Rattle.desk_commands.specs.Lines.{refusal_line};
+
+use hazard_types::{Oom, Refusal, Text};
+use request_json::refusal_text;
+use std::alloc::Global;
+
+/// The text of a refusal, and LF.
+pub fn refusal_line(alloc: Global, refusal: &Refusal) -> Result<Text, Oom>
+    ensures { IfOk result (λ line. line ≡ refusal_line refusal.now) }
+{
+    let mut line = refusal_text(alloc, refusal)?;
+    line.extend(b"\n")?;
+    Ok(line)
+}

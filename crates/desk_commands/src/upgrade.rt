@@ -1,0 +1,50 @@
+//! The command `upgrade`.
+ghost use Rattle.std.specs.Prelude.{◌≡◌, ◌⊎◌};
+ghost use Rattle.desk_commands.specs.Opening.{IsUnopenedRun};
+ghost use Rattle.desk_commands.specs.Commands.{IsUpgradeRun, TellsUpgrade};
+
+use crate::ended::Ended;
+use crate::opening::open;
+use crate::telling::tell;
+use desk_traits::{Disk, Sink};
+use office_core::requests_stand_once;
+use office_journal::Upgrade;
+use program_ends::{End, end_at_once};
+use std::alloc::Global;
+
+/// Tells what became of an upgrade.
+fn tell_upgrade<K: Sink>(output: &mut K, upgrade: Upgrade) -> u8
+    ensures { TellsUpgrade upgrade (K.faults output.old) (K.taken output.old) (K.taken output.new) (K.faults output.new) result }
+{
+    match upgrade {
+        Upgrade::Done => tell(output, b"edition 2\n"),
+        Upgrade::Already => tell(output, b"edition 2\n"),
+        Upgrade::Full => end_at_once(output, End::JournalFull),
+        Upgrade::DiskFault => end_at_once(output, End::DiskFault),
+        Upgrade::OutOfMemory => end_at_once(output, End::OutOfMemory),
+    }
+}
+
+/// Has the office whose journal the disk holds write its texts in edition Two from now on.
+pub fn run_upgrade<K: Sink, D: Disk>(alloc: Global, output: &mut K, disk: D) -> Ended<D>
+    ensures { IsUnopenedRun D.Disk disk result.disk (K.taken output.old) (K.taken output.new) (K.faults output.old) (K.faults output.new) result.status
+        ⊎ IsUpgradeRun D.Disk disk result.disk (K.taken output.old) (K.taken output.new) (K.faults output.old) (K.faults output.new) result.status }
+{
+    requests_stand_once();
+    match open(alloc, disk) {
+        Ok(mut kept) => {
+            kept.a_crash_leaves_the_history();
+            let upgrade = kept.upgrade(alloc);
+            let status = tell_upgrade(output, upgrade);
+            kept.a_crash_leaves_the_history();
+            Ended {
+                status,
+                disk: kept.into_disk(),
+            }
+        }
+        Err((disk, end)) => Ended {
+            status: end_at_once(output, end),
+            disk,
+        },
+    }
+}
