@@ -19,6 +19,7 @@ pub mod LatestLemmas
 pub mod OpenLemmas
 pub mod GoingLemmas
 pub mod SliceLemmas
-pub mod MergeLemmas
+pub mod ShelfLemmas
+pub mod PartLemmas
 pub mod SpotLemmas
 pub mod EventRows

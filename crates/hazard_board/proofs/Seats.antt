@@ -1,15 +1,12 @@
 -- A row at its seat, found from the front or by halves.
-use Rattle.std.proofs.Common.{◌≡◌, ◌≢◌, ◌∙◌, ℕ, ◌<◌, ◌≤◌, List, [], ◌∷◌, true, false, Ordering, Less, Equal, Greater, refl, sym, ap, is_eq, length, get_or, insert, slice_set, arith, Option, Some, None, find, cond}
+use Rattle.std.proofs.Common.{◌≡◌, ◌≢◌, ◌∙◌, ℕ, ◌<◌, ◌≤◌, List, [], ◌∷◌, true, false, Ordering, Less, Equal, Greater, refl, sym, ap, is_eq, length, get_or, insert, slice_set, arith}
 use Rattle.std.specs.List.Sorted.{IsStrictlySortedBy}
 use Rattle.std.specs.Ordering.{ordering_reverse}
 use Rattle.hazard_types.specs.declared.line.Row.{Row}
-use Rattle.hazard_types.proofs.Equality.{event_itself, zone_itself}
-use Rattle.event_life.specs.Products.{by_key, placed, put, row_at}
-use Rattle.event_life.proofs.Keys.{by_key-total, key_exact, key_ties}
-use Rattle.event_life.proofs.Puts.{at_key, at_key-parts}
+use Rattle.event_life.specs.Products.{by_key, placed, put}
+use Rattle.event_life.proofs.Keys.{by_key-total}
 use Rattle.hazard_board.specs.Seats.{placed_at, put_at}
-use Rattle.hazard_board.proofs.Runs.{Rises, front, rises, inserted, replaced, default_free, found_there, not_this, past_all}
-use Rattle.hazard_board.proofs.Places.{alike, is_tied}
+use Rattle.hazard_board.proofs.Runs.{Rises, front, rises, inserted, replaced, default_free}
 
 key_rises : (a b : Row) → by_key a b ≡ Less → by_key a b ≢ Greater
 key_rises a b less g = cc
@@ -29,18 +26,6 @@ put_alike row (r ∷ rows) =
     ∙ ap (λ (o : Ordering). placed o row r rows (put_at (λ r. by_key r row) row rows)) (sym (by_key-total.antisymm row r))
     ∙ ap (λ (behind : List Row). placed (by_key row r) row r rows behind) (put_alike row rows)
 
-tie_is_key : (row r : Row) → is_eq (by_key r row) ≡ at_key row.event row.zone r
-tie_is_key row r = alike _ _
-    (λ h. let key = key_exact r row (is_tied (by_key r row) h) in rw (key.0, key.1, event_itself row.event) (zone_itself row.zone))
-    (λ h. let parts = at_key-parts row.event row.zone r h in ap is_eq (key_ties r row parts.1 parts.0))
-
-pub find_row : (row : Row) (rows : List Row) → row_at rows row.event row.zone ≡ find (λ (r : Row). is_eq (by_key r row)) rows
-find_row row [] = refl
-find_row row (r ∷ rows) = rw (tie_is_key row r) (ap (λ (o : Option Row). cond (at_key row.event row.zone r) (Some r) o) (find_row row rows))
-
-not_none : (r : Row) (o : Option Row) → o ≡ Some r → o ≢ None
-not_none r o h g = let never : ◌≡◌ {A = Option Row} (Some r) None = sym h ∙ g in cc
-
 module _ (row : Row) (rows : List Row) (i : ℕ) (place : i ≡ front (λ r. by_key r row) rows) where
   pub seat_there : (r : Row) → i < length rows → r ≡ get_or rows i r → is_eq (by_key r row) ≡ true → slice_set rows i row ≡ put row rows
   seat_there r within is own = replaced (λ r. by_key r row) row rows i r place within is own ∙ put_alike row rows
@@ -51,12 +36,3 @@ module _ (row : Row) (rows : List Row) (i : ℕ) (place : i ≡ front (λ r. by_
   pub seat_before : (r : Row) → i < length rows → r ≡ get_or rows i r → is_eq (by_key r row) ≡ false → insert rows i row ≡ put row rows
   seat_before r within is other =
       inserted (λ r. by_key r row) row rows i place (λ d lt. ap (λ (x : Row). is_eq (by_key x row)) (default_free (λ r. by_key r row) rows i d r lt ∙ sym is) ∙ other) ∙ put_alike row rows
-
-  pub stood_there : (r : Row) → i < length rows → r ≡ get_or rows i r → is_eq (by_key r row) ≡ true → row_at rows row.event row.zone ≢ None
-  stood_there r within is own = not_none r (row_at rows row.event row.zone) (find_row row rows ∙ found_there (λ r. by_key r row) rows i r place within is own)
-
-  pub none_behind : IsStrictlySortedBy by_key rows → length rows ≤ i → row_at rows row.event row.zone ≡ None
-  none_behind up past = find_row row rows ∙ past_all (λ r. by_key r row) rows i (rows_rise row rows up) place past
-
-  pub none_before : IsStrictlySortedBy by_key rows → (r : Row) → i < length rows → r ≡ get_or rows i r → is_eq (by_key r row) ≡ false → row_at rows row.event row.zone ≡ None
-  none_before up r within is other = find_row row rows ∙ not_this (λ r. by_key r row) rows i r (rows_rise row rows up) place within is other

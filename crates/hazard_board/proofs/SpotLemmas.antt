@@ -21,10 +21,9 @@ use Rattle.hazard_board.specs.Seats.{placed_at, put_at}
 use Rattle.hazard_board.specs.Spots.{by_year, by_spot, is_spot, has_spot, spots_of, spot_of, put_spot, put_spot_if, AreSpots}
 use Rattle.hazard_board.specs.Taken.{row_left, put_if, taken_in_turn}
 use Rattle.hazard_board.specs.declared.spots.Spot.{Spot}
-use Rattle.hazard_board.proofs.MergeLemmas.{fresh_longer}
 use Rattle.hazard_board.proofs.Places.{alike, is_tied, first_less}
 use Rattle.hazard_board.proofs.Runs.{Rises, front, back, rises, run, inserted, replaced, keeps_put, default_free}
-use Rattle.hazard_board.proofs.Turns.{put_held}
+use Rattle.hazard_board.proofs.Turns.{put_held, fresh_longer}
 
 -- the order
 

@@ -10,6 +10,7 @@ use Rattle.hazard_types.specs.Places.{Place}
 use Rattle.hazard_types.specs.declared.hazard.Event.{Event}
 use Rattle.hazard_types.specs.declared.line.Line.{Line}
 use Rattle.hazard_types.specs.declared.line.Row.{Row}
+use Rattle.hazard_types.proofs.Equality.{event_itself, zone_itself}
 use Rattle.event_life.specs.declared.life.Breach.{Breach}
 use Rattle.event_life.specs.declared.life.Breach.TheVariants.{Twice}
 use Rattle.event_life.specs.Lives.{opens}
@@ -17,7 +18,7 @@ use Rattle.event_life.specs.Table.{breach_of_line}
 use Rattle.event_life.specs.Products.{by_key, placed, put, row_at, life_at, life_of, row_after, is_routine, speaks_of, is_second, around_of, breach_in, judged_from, lawful_of, put_all, rows_after}
 use Rattle.event_life.proofs.Puts.{at_key, at_key-parts, none_above, all_above, row_at-put, put-sorted}
 use Rattle.event_life.specs.Reordered.{are_lawful}
-use Rattle.event_life.proofs.Keys.{key_ties}
+use Rattle.event_life.proofs.Keys.{key_exact, key_ties}
 use Rattle.hazard_board.specs.Board.{openings}
 use Rattle.hazard_board.specs.Taken.{put_if, row_left, rows_taken, taken_in_turn}
 use Rattle.hazard_board.proofs.Alone.{lawful_left, meets_life}
@@ -68,6 +69,31 @@ pub put_held : (row : Row) (rows : List Row) → IsStrictlySortedBy by_key rows 
 unfolding IsStrictlySortedBy
 put_held row [] up held = absurd (held refl)
 put_held row (r ∷ rows) up held = placed_held (by_key row r) row r rows (put row rows) refl up.0 held (put_held row rows up.1)
+
+-- a row that takes the place of none makes the rows longer by one
+
+itself : (row : Row) → at_key row.event row.zone row ≡ true
+itself row = rw (event_itself row.event) (zone_itself row.zone)
+
+none_behind : (b : Bool) (row r : Row) (rows : List Row) → at_key row.event row.zone r ≡ b → row_at (r ∷ rows) row.event row.zone ≡ None → row_at rows row.event row.zone ≡ None
+none_behind true row r rows own none = let found : row_at (r ∷ rows) row.event row.zone ≡ Some r = rw own refl in let never : ◌≡◌ {A = Option Row} (Some r) None = sym found ∙ none in cc
+none_behind false row r rows own none = rw own at none
+
+fresh_step : (o : Ordering) (row r : Row) (rows : List Row) → by_key row r ≡ o → row_at (r ∷ rows) row.event row.zone ≡ None → (row_at rows row.event row.zone ≡ None → length (put row rows) ≡ length rows + 1) →
+    length (placed o row r rows (put row rows)) ≡ length (r ∷ rows) + 1
+fresh_step Less row r rows h none more = omega arith
+fresh_step Equal row r rows h none more =
+    let key = key_exact row r h in
+    let own : at_key row.event row.zone r ≡ true = rw (sym key.0, sym key.1) (itself row) in
+    let found : row_at (r ∷ rows) row.event row.zone ≡ Some r = rw own refl in
+    let never : ◌≡◌ {A = Option Row} (Some r) None = sym found ∙ none in cc
+fresh_step Greater row r rows h none more =
+    let rest = more (none_behind (at_key row.event row.zone r) row r rows refl none) in
+    omega (arith, rest)
+
+pub fresh_longer : (row : Row) (rows : List Row) → row_at rows row.event row.zone ≡ None → length (put row rows) ≡ length rows + 1
+fresh_longer row [] none = omega arith
+fresh_longer row (r ∷ rows) none = fresh_step (by_key row r) row r rows refl none (fresh_longer row rows)
 
 -- the breach of a line that has none
 

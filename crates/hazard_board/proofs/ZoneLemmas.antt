@@ -33,7 +33,7 @@ zone_less a b less other = first_less (by_place a.zone b.zone) (by_event a.event
     let same : a.zone ≡ b.zone = by_place_ties a.zone b.zone tied in
     let itself : same_zone a.zone b.zone ≡ true = rw same (zone_itself b.zone) in cc)
 
-further : (p q r : Place) (o : Ordering) → by_place q r ≡ o → by_place p q ≡ Less → (o ≡ Greater → ⊥) → by_place p r ≡ Less
+pub further : (p q r : Place) (o : Ordering) → by_place q r ≡ o → by_place p q ≡ Less → (o ≡ Greater → ⊥) → by_place p r ≡ Less
 further p q r Less is less h = by_place_total.trans p q r less is
 further p q r Equal is less h = let same = by_place_ties q r is in rw (sym same) less
 further p q r Greater is less h = absurd (h refl)

@@ -6,4 +6,4 @@ pub mod Taken
 pub mod Standing
 pub mod Spots
 pub mod Seats
-pub mod Merged
+pub mod Shelves

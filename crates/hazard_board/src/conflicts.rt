@@ -11,7 +11,7 @@ ghost use Rattle.hazard_board.specs.Consistent.{collide, none_collide, zones_apa
 ghost use Rattle.hazard_board.specs.Taken.{rows_taken};
 
 use crate::lines::{rows_taken, zone_taken};
-use crate::searches::slice_of;
+use crate::shelves::Shelves;
 use event_life::{is_live, overlaps};
 use hazard_types::desk_hazards::facts;
 use hazard_types::{Clash, Hazard, Line, Minute, Oom, Row, Zone};
@@ -113,12 +113,11 @@ fn none_collide(rows: &[Row]) -> bool
 }
 
 /// Whether no rows collide in the zones of the lines.
-fn zones_apart(rows: &[Row], lines: &[Line]) -> bool
-    requires { IsStrictlySortedBy by_key rows.now }
-    ensures { result ≡ zones_apart rows.now lines.now }
+fn zones_apart(rows: &Shelves, lines: &[Line]) -> bool
+    ensures { result ≡ zones_apart rows.now.rows lines.now }
 {
     for line in lines {
-        if !none_collide(slice_of(rows, &line.zone)) {
+        if !none_collide(rows.slice_of(&line.zone)) {
             return false;
         }
     }
@@ -126,9 +125,8 @@ fn zones_apart(rows: &[Row], lines: &[Line]) -> bool
 }
 
 /// Whether no rows collide in the zones of the lines, where none did anywhere before them.
-pub fn still_apart(apart: bool, rows: &[Row], lines: &[Line]) -> bool
-    requires { IsStrictlySortedBy by_key rows.now }
-    ensures { result ≡ (apart && zones_apart rows.now lines.now) }
+pub fn still_apart(apart: bool, rows: &Shelves, lines: &[Line]) -> bool
+    ensures { result ≡ (apart && zones_apart rows.now.rows lines.now) }
 {
     apart && zones_apart(rows, lines)
 }
@@ -162,13 +160,13 @@ fn names_zone(z: &Zone, lines: &[Line]) -> bool
 /// The first clash in a zone after the lines.
 fn clash_in(
     alloc: Global,
-    rows: &[Row],
+    rows: &Shelves,
     lines: &[Line],
     t: Minute,
     z: &Zone,
 ) -> Result<Option<Clash>, Oom>
-    requires { IsStrictlySortedBy by_key rows.now }
-    ensures { IfOk result (λ found. found ≡ first_clash t (slice_of z.now (rows_taken rows.now t lines.now))) }
+    requires { IsStrictlySortedBy by_key rows.now.rows }
+    ensures { IfOk result (λ found. found ≡ first_clash t (slice_of z.now (rows_taken rows.now.rows t lines.now))) }
 {
     let after = zone_taken(alloc, rows, lines, t, z)?;
     Ok(first_clash(&after, t))
@@ -177,13 +175,13 @@ fn clash_in(
 /// The first clash after the lines, of rows of which none collide before them: only the zones of the lines are looked at.
 fn clash_in_zones(
     alloc: Global,
-    rows: &[Row],
+    rows: &Shelves,
     lines: &[Line],
     t: Minute,
 ) -> Result<Option<Clash>, Oom>
-    requires order { IsStrictlySortedBy by_key rows.now }
-    requires apart { AreApart rows.now }
-    ensures { IfOk result (λ found. found ≡ first_clash t (rows_taken rows.now t lines.now)) }
+    requires order { IsStrictlySortedBy by_key rows.now.rows }
+    requires apart { AreApart rows.now.rows }
+    ensures { IfOk result (λ found. found ≡ first_clash t (rows_taken rows.now.rows t lines.now)) }
 {
     let mut best = None;
     for (place, line) in lines.iter().enumerate() {
@@ -198,12 +196,12 @@ fn clash_in_zones(
 /// The first clash after the lines, in whatever zone it is.
 fn clash_anywhere(
     alloc: Global,
-    rows: &[Row],
+    rows: &Shelves,
     lines: &[Line],
     t: Minute,
 ) -> Result<Option<Clash>, Oom>
-    requires { IsStrictlySortedBy by_key rows.now }
-    ensures { IfOk result (λ found. found ≡ first_clash t (rows_taken rows.now t lines.now)) }
+    requires { IsStrictlySortedBy by_key rows.now.rows }
+    ensures { IfOk result (λ found. found ≡ first_clash t (rows_taken rows.now.rows t lines.now)) }
 {
     let after = rows_taken(alloc, rows, lines, t)?;
     Ok(first_clash(&after, t))
@@ -212,14 +210,14 @@ fn clash_anywhere(
 /// The first clash after the lines. Where no rows collide before them, only the zones of the lines are looked at.
 pub fn clash_after(
     alloc: Global,
-    rows: &[Row],
+    rows: &Shelves,
     lines: &[Line],
     t: Minute,
     apart: bool,
 ) -> Result<Option<Clash>, Oom>
-    requires order { IsStrictlySortedBy by_key rows.now }
-    requires apart { apart ≡ true → AreApart rows.now }
-    ensures { IfOk result (λ found. found ≡ first_clash t (rows_taken rows.now t lines.now)) }
+    requires order { IsStrictlySortedBy by_key rows.now.rows }
+    requires apart { apart ≡ true → AreApart rows.now.rows }
+    ensures { IfOk result (λ found. found ≡ first_clash t (rows_taken rows.now.rows t lines.now)) }
 {
     if apart {
         clash_in_zones(alloc, rows, lines, t)

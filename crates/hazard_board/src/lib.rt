@@ -17,11 +17,11 @@ mod laws;
 mod lines;
 mod open_events;
 mod searches;
+mod shelves;
 mod spots;
 mod standing;
 
 use conflicts::{clash_after, still_apart};
-use event_life::is_live;
 use hazard_types::{Clash, Event, Hazard, Line, List, Minute, Oom, Period, Row, Zone};
 pub use laws::{
     consistent_rows_have_one_open_event, consistent_rows_stay_consistent, lawful_lines_are_taken,
@@ -30,28 +30,26 @@ pub use laws::{
 };
 use lines::bring_lines;
 use open_events::{of_hazard, open_event};
-use searches::{row_at, slice_of};
+use shelves::{Shelves, live};
 use spots::{Spot, first_row, has_period};
 pub use standing::Standing;
 use standing::settle;
-use std::alloc::{AllocError, Global};
+use std::alloc::Global;
 use std::marker::Model;
 
 /// The rows of all events that were opened, by zone, then event, each pair once.
 #[derive(Drop)]
 pub struct Board {
-    rows: Vec<Row>,
+    rows: Shelves,
     standing: Vec<Standing>,
     // Where the events have rows, ended ones among them: the event and zone of each row, by event.
     spots: Vec<Spot>,
-    // Room for the new rows of a product, until they are merged into the rows.
-    fresh: Vec<Row>,
     // No rows of one zone and family that no line has ended overlap. Then only the zones of a product's lines can come to have a clash.
     apart: bool,
 }
 
 impl Model for Board {
-    ghost use Rattle.std.specs.Prelude.{◌≡◌, ◌-◌, [], min, true};
+    ghost use Rattle.std.specs.Prelude.{◌≡◌, ◌-◌, min, true};
     ghost use Rattle.std.specs.List.Sorted.{IsStrictlySortedBy};
     ghost use Rattle.std.specs.Vec.{vec_len, vec_capacity};
     ghost use Rattle.event_life.specs.Products.{by_key};
@@ -62,19 +60,9 @@ impl Model for Board {
 
     ghost Value = { Posted };
 
-    ghost view = { λ b. record { rows = b.rows.items; spare = min (vec_capacity b.rows - vec_len b.rows) (min (vec_capacity b.standing - vec_len b.standing) (min (vec_capacity b.spots - vec_len b.spots) (vec_capacity b.fresh))) } };
+    ghost view = { λ b. record { rows = b.rows.rows; spare = min b.rows.spare (min (vec_capacity b.standing - vec_len b.standing) (vec_capacity b.spots - vec_len b.spots)) } };
 
-    ghost invariant = { λ b. IsStrictlySortedBy by_key b.rows.items × AreStanding b.rows.items b.standing.items × (b.apart ≡ true → AreApart b.rows.items) × (b.fresh.items ≡ []) × AreSpots b.rows.items b.spots.items };
-}
-
-/// The live rows among some.
-fn live(alloc: Global, rows: &[Row], t: Minute) -> Result<Vec<Row>, AllocError>
-    ensures { IfOk result (λ live. live.items ≡ shown_at t rows.now) }
-{
-    rows.iter()
-        .filter(|row| is_live(row, t))
-        .copied()
-        .collect(alloc)
+    ghost invariant = { λ b. IsStrictlySortedBy by_key b.rows.rows × AreStanding b.rows.rows b.standing.items × (b.apart ≡ true → AreApart b.rows.rows) × AreSpots b.rows.rows b.spots.items };
 }
 
 impl Board {
@@ -83,10 +71,9 @@ impl Board {
         ensures { result.rows ≡ [] }
     {
         Board {
-            rows: Vec::new(alloc),
+            rows: Shelves::new(alloc),
             standing: Vec::new(alloc),
             spots: Vec::new(alloc),
-            fresh: Vec::new(alloc),
             apart: true,
         }
     }
@@ -101,7 +88,6 @@ impl Board {
         self.rows.reserve(n)?;
         self.standing.reserve(n)?;
         self.spots.reserve(n)?;
-        self.fresh.reserve(n)?;
         Ok(())
     }
 
@@ -110,7 +96,7 @@ impl Board {
         ensures value { result ≡ row_at self.now.rows e z }
         ensures order { IsStrictlySortedBy by_key self.now.rows }
     {
-        row_at(&self.rows, &e, &z)
+        self.rows.row_at(&e, &z)
     }
 
     /// All rows of a zone, ended ones among them, by event.
@@ -119,7 +105,7 @@ impl Board {
         ensures order { IsStrictlySortedBy by_row_event result.now }
         ensures all_in_order { IsStrictlySortedBy by_key self.now.rows }
     {
-        slice_of(&self.rows, &z)
+        self.rows.slice_of(&z)
     }
 
     /// Whether the event has a row, ended or not.
@@ -162,7 +148,7 @@ impl Board {
         ensures rows { IfOk result (λ live. live ≡ live_in z t self.now.rows) }
         ensures order { IfOk result (λ live. IsStrictlySortedBy by_row_event live) }
     {
-        Ok(List::from_vec(live(alloc, slice_of(&self.rows, &z), t)?))
+        Ok(List::from_vec(live(alloc, self.rows.slice_of(&z), t)?))
     }
 
     /// The live rows, by zone, then event.
@@ -170,7 +156,7 @@ impl Board {
         ensures rows { IfOk result (λ live. live ≡ shown_at t self.now.rows) }
         ensures order { IsStrictlySortedBy by_key self.now.rows }
     {
-        event_life::shown(alloc, &self.rows, t)
+        Ok(List::from_vec(self.rows.shown(alloc, t)?))
     }
 
     /// Applies the lawful lines of a product. ROU leaves the rows as they are.
@@ -180,23 +166,10 @@ impl Board {
         ensures rows { self.new.rows ≡ rows_after self.old.rows t lines.now }
         ensures spare { self.old.spare ≤ self.new.spare + openings lines.now }
     {
-        match bring_lines(
-            &mut self.rows,
-            &mut self.fresh,
-            &mut self.spots,
-            lines.as_slice(),
-            t,
-        ) {
-            Ok(()) => {}
-            Err(_) => unreachable!(),
-        }
-        settle(
-            &mut self.standing,
-            &self.rows,
-            &self.spots,
-            lines.as_slice(),
-        );
-        self.apart = still_apart(self.apart, &self.rows, lines.as_slice());
+        let lines = lines.as_slice();
+        bring_lines(&mut self.rows, &mut self.spots, lines, t);
+        settle(&mut self.standing, &self.rows, &self.spots, lines);
+        self.apart = still_apart(self.apart, &self.rows, lines);
     }
 
     /// The least clash after the lines, with NumberHeld left aside: two live rows of one zone whose events are of one family and whose periods overlap.

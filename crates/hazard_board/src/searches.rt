@@ -1,20 +1,21 @@
 //! Rows and their places in lists that stand in order, by binary search.
-ghost use Rattle.std.specs.Prelude.{◌≡◌, ◌≢◌, ◌≤◌, length, filter, find, None, IfOk, IfErr};
+ghost use Rattle.std.specs.Prelude.{◌≡◌, ◌≤◌, ◌<◌, length, filter, find, OnOk, OnErr};
 ghost use Rattle.std.specs.List.{prefix_len};
 ghost use Rattle.std.specs.List.Sorted.{IsStrictlySortedBy};
 ghost use Rattle.std.specs.Ordering.{is_lt, is_le};
+ghost use Rattle.std.specs.Vec.{vec_capacity};
 ghost use Rattle.hazard_types.specs.Orders.{by_event};
 ghost use Rattle.hazard_types.specs.Places.{by_place};
 ghost use Rattle.hazard_types.specs.Same.{same_event};
-ghost use Rattle.event_life.specs.Products.{by_key, put, row_at};
+ghost use Rattle.event_life.specs.Products.{by_key, put};
 ghost use Rattle.event_life.specs.Seats.{IsSeat, seated};
 ghost use Rattle.hazard_board.specs.Board.{by_row_event, slice_of};
 
-use hazard_types::{Event, Row, Zone};
+use hazard_types::{Event, Oom, Row, Zone};
 use std::cmp::Ordering;
 
 /// How many of the rows are of zones before this one.
-fn rows_before(rows: &[Row], z: &Zone) -> usize
+pub fn rows_before(rows: &[Row], z: &Zone) -> usize
     requires { IsStrictlySortedBy by_key rows.now }
     ensures value { result ≡ prefix_len (λ row. is_lt (by_place row.zone z.now)) rows.now }
     ensures bound { result ≤ length rows.now }
@@ -27,7 +28,7 @@ fn rows_before(rows: &[Row], z: &Zone) -> usize
 }
 
 /// How many of the rows are of this zone or of zones before it.
-fn rows_through(rows: &[Row], z: &Zone) -> usize
+pub fn rows_through(rows: &[Row], z: &Zone) -> usize
     requires { IsStrictlySortedBy by_key rows.now }
     ensures value { result ≡ prefix_len (λ row. is_le (by_place row.zone z.now)) rows.now }
     ensures bound { result ≤ length rows.now }
@@ -65,7 +66,7 @@ fn events_before(rows: &[Row], e: &Event) -> usize
 }
 
 /// The row of an event among the rows of one zone.
-fn row_of_event(rows: &[Row], e: &Event) -> Option<Row>
+pub fn row_of_event(rows: &[Row], e: &Event) -> Option<Row>
     requires { IsStrictlySortedBy by_row_event rows.now }
     ensures { result ≡ find (λ row. same_event row.event e.now) rows.now }
 {
@@ -77,14 +78,6 @@ fn row_of_event(rows: &[Row], e: &Event) -> Option<Row>
     if row.event == *e { Some(*row) } else { None }
 }
 
-/// The row of an event in a zone.
-pub fn row_at(rows: &[Row], e: &Event, z: &Zone) -> Option<Row>
-    requires { IsStrictlySortedBy by_key rows.now }
-    ensures { result ≡ row_at rows.now e.now z.now }
-{
-    row_of_event(slice_of(rows, z), e)
-}
-
 /// How two rows stand in the order by zone, then event.
 fn order(a: &Row, b: &Row) -> Ordering
     ensures { result ≡ by_key a.now b.now }
@@ -93,7 +86,7 @@ fn order(a: &Row, b: &Row) -> Ordering
 }
 
 /// How many of the rows come before this one.
-pub fn rows_below(rows: &[Row], row: &Row) -> usize
+fn rows_below(rows: &[Row], row: &Row) -> usize
     requires { IsStrictlySortedBy by_key rows.now }
     ensures value { result ≡ prefix_len (λ other. is_lt (by_key other row.now)) rows.now }
     ensures bound { result ≤ length rows.now }
@@ -106,12 +99,10 @@ pub fn rows_below(rows: &[Row], row: &Row) -> usize
 }
 
 /// The place of the row of this zone and event, or else the place where the row belongs.
-pub fn seat_of(rows: &[Row], row: &Row) -> Result<usize, usize>
+fn seat_of(rows: &[Row], row: &Row) -> Result<usize, usize>
     requires { IsStrictlySortedBy by_key rows.now }
     ensures seat { IsSeat result rows.now }
     ensures seated { seated result row.now rows.now ≡ put row.now rows.now }
-    ensures found { IfOk result (λ i. row_at rows.now row.now.event row.now.zone ≢ None) }
-    ensures absent { IfErr result (λ i. row_at rows.now row.now.event row.now.zone ≡ None) }
 {
     let place = rows_below(rows, row);
     if place >= rows.len() {
@@ -123,4 +114,19 @@ pub fn seat_of(rows: &[Row], row: &Row) -> Result<usize, usize>
     } else {
         Err(place)
     }
+}
+
+/// Puts a row in the place of the one of its zone and event, or in its own place. Memory is wanted only where the rows outgrow their capacity.
+pub fn put(rows: &mut Vec<Row>, row: &Row) -> Result<(), Oom>
+    requires { IsStrictlySortedBy by_key rows.old.items }
+    ensures ok { OnOk result (rows.new.items ≡ put row.now rows.old.items) }
+    ensures capacity { vec_capacity rows.old ≤ vec_capacity rows.new }
+    ensures err { OnErr result (vec_capacity rows.old < length (put row.now rows.old.items)) }
+    ensures kept { OnErr result (rows.new.items ≡ rows.old.items) }
+{
+    match seat_of(rows, row) {
+        Ok(place) => rows[place] = *row,
+        Err(place) => rows.insert(place, *row)?,
+    }
+    Ok(())
 }

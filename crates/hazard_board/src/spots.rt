@@ -9,7 +9,7 @@ ghost use Rattle.event_life.specs.Products.{by_key};
 ghost use Rattle.hazard_board.specs.Board.{has_period};
 ghost use Rattle.hazard_board.specs.Spots.{by_year, by_spot, spots_of, put_spot, put_spot_if, spot_seated, IsSpotSeat, first_of, rows_on, has_same, has_same_if, AreSpots};
 
-use crate::searches::row_at;
+use crate::shelves::Shelves;
 use event_life::{is_live, same_at};
 use hazard_types::{Event, Minute, Oom, Period, Row, Zone};
 use std::cmp::Ordering;
@@ -137,12 +137,11 @@ pub fn spots_of<'a>(spots: &'a [Spot], e: &Event) -> &'a [Spot]
 }
 
 /// The first row at the spots.
-fn first_on(rows: &[Row], spots: &[Spot]) -> Option<Row>
-    requires { IsStrictlySortedBy by_key rows.now }
-    ensures { result ≡ first_of (rows_on rows.now spots.now) }
+fn first_on(rows: &Shelves, spots: &[Spot]) -> Option<Row>
+    ensures { result ≡ first_of (rows_on rows.now.rows spots.now) }
 {
     for spot in spots {
-        let row = row_at(rows, &spot.event, &spot.zone);
+        let row = rows.row_at(&spot.event, &spot.zone);
         if row.is_some() {
             return row;
         }
@@ -151,10 +150,10 @@ fn first_on(rows: &[Row], spots: &[Spot]) -> Option<Row>
 }
 
 /// The first row of an event, by zone. Only its own rows are looked at.
-pub fn first_row(rows: &[Row], spots: &[Spot], e: &Event) -> Option<Row>
-    requires order { IsStrictlySortedBy by_key rows.now }
-    requires spots { AreSpots rows.now spots.now }
-    ensures { result ≡ find (λ r. same_event r.event e.now) rows.now }
+pub fn first_row(rows: &Shelves, spots: &[Spot], e: &Event) -> Option<Row>
+    requires order { IsStrictlySortedBy by_key rows.now.rows }
+    requires spots { AreSpots rows.now.rows spots.now }
+    ensures { result ≡ find (λ r. same_event r.event e.now) rows.now.rows }
 {
     first_on(rows, spots_of(spots, e))
 }
@@ -170,12 +169,11 @@ fn has_same(row: &Option<Row>, t: Minute, p: &Period) -> bool
 }
 
 /// Whether a row at one of the spots is live and has the same period.
-fn same_on(rows: &[Row], spots: &[Spot], t: Minute, p: &Period) -> bool
-    requires { IsStrictlySortedBy by_key rows.now }
-    ensures { result ≡ list_any (has_same p.now t) (rows_on rows.now spots.now) }
+fn same_on(rows: &Shelves, spots: &[Spot], t: Minute, p: &Period) -> bool
+    ensures { result ≡ list_any (has_same p.now t) (rows_on rows.now.rows spots.now) }
 {
     for spot in spots {
-        let row = row_at(rows, &spot.event, &spot.zone);
+        let row = rows.row_at(&spot.event, &spot.zone);
         if has_same(&row, t, p) {
             return true;
         }
@@ -184,10 +182,10 @@ fn same_on(rows: &[Row], spots: &[Spot], t: Minute, p: &Period) -> bool
 }
 
 /// Whether a live row of the event has the same period. Only its own rows are looked at.
-pub fn has_period(rows: &[Row], spots: &[Spot], t: Minute, e: &Event, p: &Period) -> bool
-    requires order { IsStrictlySortedBy by_key rows.now }
-    requires spots { AreSpots rows.now spots.now }
-    ensures { result ≡ has_period rows.now e.now p.now t }
+pub fn has_period(rows: &Shelves, spots: &[Spot], t: Minute, e: &Event, p: &Period) -> bool
+    requires order { IsStrictlySortedBy by_key rows.now.rows }
+    requires spots { AreSpots rows.now.rows spots.now }
+    ensures { result ≡ has_period rows.now.rows e.now p.now t }
 {
     same_on(rows, spots_of(spots, e), t, p)
 }

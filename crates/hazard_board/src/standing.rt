@@ -11,7 +11,7 @@ ghost use Rattle.event_life.specs.Products.{by_key};
 ghost use Rattle.hazard_board.specs.Spots.{rows_on, AreSpots};
 ghost use Rattle.hazard_board.specs.Standing.{later, later_than, stands_for, latest_with, latest_with_if, latest_end, by_standing, end_in, put_standing, without, IsPlaceOf, IsGapFor, touched, touches_anew, newly};
 
-use crate::searches::row_at;
+use crate::shelves::Shelves;
 use crate::spots::{Spot, spots_of};
 use event_life::is_routine;
 use hazard_types::{End, Event, Line, Row};
@@ -70,23 +70,22 @@ fn latest_with(event: &Event, best: &Option<End>, row: &Option<Row>) -> Option<E
 }
 
 /// The greatest end of the rows at the spots, of those of the event that no line has ended.
-fn latest_on(rows: &[Row], spots: &[Spot], event: &Event) -> Option<End>
-    requires { IsStrictlySortedBy by_key rows.now }
-    ensures { result ≡ fold (latest_with event.now) None (rows_on rows.now spots.now) }
+fn latest_on(rows: &Shelves, spots: &[Spot], event: &Event) -> Option<End>
+    ensures { result ≡ fold (latest_with event.now) None (rows_on rows.now.rows spots.now) }
 {
     let mut best = None;
     for spot in spots {
-        let row = row_at(rows, &spot.event, &spot.zone);
+        let row = rows.row_at(&spot.event, &spot.zone);
         best = latest_with(event, &best, &row);
     }
     best
 }
 
 /// The greatest end of the rows of an event that no line has ended. Only its own rows are looked at.
-fn latest_end(rows: &[Row], spots: &[Spot], event: &Event) -> Option<End>
-    requires order { IsStrictlySortedBy by_key rows.now }
-    requires spots { AreSpots rows.now spots.now }
-    ensures { result ≡ latest_end rows.now event.now }
+fn latest_end(rows: &Shelves, spots: &[Spot], event: &Event) -> Option<End>
+    requires order { IsStrictlySortedBy by_key rows.now.rows }
+    requires spots { AreSpots rows.now.rows spots.now }
+    ensures { result ≡ latest_end rows.now.rows event.now }
 {
     latest_on(rows, spots_of(spots, event), event)
 }
@@ -189,13 +188,13 @@ fn touches_anew(earlier: &[Line], line: &Line) -> bool
 }
 
 /// Sets the ends of the events of the lines as the rows have them.
-pub fn settle(standing: &mut Vec<Standing>, rows: &[Row], spots: &[Spot], lines: &[Line])
-    requires rows { IsStrictlySortedBy by_key rows.now }
-    requires spots { AreSpots rows.now spots.now }
+pub fn settle(standing: &mut Vec<Standing>, rows: &Shelves, spots: &[Spot], lines: &[Line])
+    requires rows { IsStrictlySortedBy by_key rows.now.rows }
+    requires spots { AreSpots rows.now.rows spots.now }
     requires order { IsStrictlySortedBy by_standing standing.old.items }
     requires room { vec_len standing.old + newly standing.old.items lines.now ≤ vec_capacity standing.old }
     ensures order { IsStrictlySortedBy by_standing standing.new.items }
-    ensures ends { (e : AnyEvent) → end_in standing.new.items e ≡ (if touched lines.now e then latest_end rows.now e else end_in standing.old.items e) }
+    ensures ends { (e : AnyEvent) → end_in standing.new.items e ≡ (if touched lines.now e then latest_end rows.now.rows e else end_in standing.old.items e) }
     ensures capacity { vec_capacity standing.old ≤ vec_capacity standing.new }
     ensures length { vec_len standing.new ≤ vec_len standing.old + newly standing.old.items lines.now }
 {

@@ -11,5 +11,5 @@ pub returns : goal.returns
 returns c =
     c.open_event.ensures
     ∙ ap (λ (standing : List Standing). last_open c.args.t (of_number c.args.etn (of_hazard c.args.h standing))) c.deref.ensures.value
-    ∙ sym (going_is c.self.inside.rows.items c.self.inside.standing.items c.self.invariant.1 c.args.h c.args.etn c.args.t)
+    ∙ sym (going_is c.self.inside.rows.rows c.self.inside.standing.items c.self.invariant.1 c.args.h c.args.etn c.args.t)
     ∙ ap (λ (p : Posted). going_in p.rows c.args.h c.args.etn c.args.t) c.self.view_is

@@ -7,4 +7,4 @@ use Rattle.hazard_board.proofs.Board.new.Goals as goal
 
 pub invariant_of-result : goal.invariant_of-result
 unfolding IsStrictlySortedBy
-invariant_of-result c = rw (c.new.ensures.items, c.new-2.ensures.items, c.new-3.ensures.items, c.new-4.ensures.items) (tt, none_standing, (λ is z. refl), refl, no_spots)
+invariant_of-result c = rw (c.new.ensures, c.new-2.ensures.items, c.new-3.ensures.items) (tt, none_standing, (λ is z. refl), no_spots)

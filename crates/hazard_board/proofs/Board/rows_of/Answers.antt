@@ -2,20 +2,20 @@
 use Rattle.std.proofs.Common.{◌≡◌, ◌∙◌, List, ap, filter}
 use Rattle.hazard_types.specs.declared.line.Row.{Row}
 use Rattle.event_life.specs.Periods.{is_live}
-use Rattle.hazard_board.specs.Board.{Posted, slice_of, live_in}
+use Rattle.hazard_board.specs.Board.{Posted, live_in}
 use Rattle.hazard_board.proofs.ZoneLemmas.{zone_by_event}
 use Rattle.hazard_board.proofs.Places.{live_in_zone}
 use Rattle.hazard_board.proofs.Board.rows_of.Goals as goal
 use Rattle.hazard_board.proofs.Board.rows_of.Goals.{After-from_vec}
 
-kept : (c : After-from_vec) → c.from_vec.result ≡ live_in c.args.z c.args.t c.self.inside.rows.items
+kept : (c : After-from_vec) → c.from_vec.result ≡ live_in c.args.z c.args.t c.self.inside.rows.rows
 kept c =
     c.from_vec.ensures ∙ c.in_ok-live.ensures
-    ∙ ap (λ (rows : List Row). filter (is_live c.args.t) rows) (c.slice_of.ensures.rows ∙ ap (λ (rows : List Row). slice_of c.args.z rows) c.deref.ensures.value)
-    ∙ live_in_zone c.args.z c.args.t c.self.inside.rows.items
+    ∙ ap (λ (rows : List Row). filter (is_live c.args.t) rows) c.slice_of.ensures.rows
+    ∙ live_in_zone c.args.z c.args.t c.self.inside.rows.rows
 
 pub returns-clause-rows : goal.returns-clause-rows
 returns-clause-rows c = kept c ∙ ap (λ (p : Posted). live_in c.args.z c.args.t p.rows) c.self.view_is
 
 pub returns-clause-order : goal.returns-clause-order
-returns-clause-order c = rw (kept c) (zone_by_event c.args.z (is_live c.args.t) c.self.inside.rows.items c.self.invariant.0)
+returns-clause-order c = rw (kept c) (zone_by_event c.args.z (is_live c.args.t) c.self.inside.rows.rows c.self.invariant.0)

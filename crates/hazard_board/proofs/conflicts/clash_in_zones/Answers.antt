@@ -11,7 +11,7 @@ pub loop-place-preserved : goal.loop-place-preserved
 loop-place-preserved c =
     let t = c.args.t in
     let lines = c.args.lines.now in
-    let after = rows_taken c.args.rows.now t lines in
+    let after = rows_taken c.args.rows.now.rows t lines in
     let i = c.loop-place.place in
     let line = c.index-lines-place.result in
     elim c.if-not-names_zone.branch [
@@ -26,7 +26,7 @@ loop-place-preserved c =
 pub returns : goal.returns
 returns c =
     let t = c.args.t in
-    let rows = c.args.rows.now in
+    let rows = c.args.rows.now.rows in
     let lines = c.args.lines.now in
     first_in_all t (rows_taken rows t lines) lines c.loop-place.best (rows_taken-sorted rows t lines c.requires.order) (λ z h. quiet_elsewhere t rows lines z c.requires.apart h)
     (subst (λ (some : List Line). IsFirstIn t (rows_taken rows t lines) some c.loop-place.best) (take_all c.loop-place.place lines c.loop-place-test.false) c.loop-place.invariant)

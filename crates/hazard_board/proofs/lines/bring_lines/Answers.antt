@@ -1,27 +1,28 @@
--- Without new rows the parts are the rows; merged, they are what the lines leave.
-use Rattle.std.proofs.Common.{◌∙◌, Result, Ok, Err, OnErr, List, length, ap, arith}
-use Rattle.std.specs.List.Sorted.{IsStrictlySortedBy}
-use Rattle.hazard_types.specs.declared.line.Row.{Row}
-use Rattle.hazard_board.specs.Merged.{merged}
-use Rattle.hazard_board.specs.Taken.{taken_in_turn}
-use Rattle.hazard_board.proofs.MergeLemmas.{merged_length}
+-- The rows grow with each line, so that memory for what all lines leave is memory for each.
+use Rattle.std.proofs.Common.{refl, arith}
+use Rattle.hazard_board.specs.Taken.{row_left}
+use Rattle.hazard_board.proofs.SpotLemmas.{turn_next}
+use Rattle.hazard_board.proofs.Turns.{grown_at, put_if-sorted}
 use Rattle.hazard_board.proofs.lines.bring_lines.Goals as goal
 
-on_err : {A E : Type 0} (r : Result A E) (P : Type 0) → P → OnErr r P
-on_err (Ok x) P p = tt
-on_err (Err e) P p = p
+pub bring_line-requires-clause-room : goal.bring_line-requires-clause-room
+bring_line-requires-clause-room c =
+    let long = grown_at c.args.t c.args.rows.now.rows c.loop-line.rows.rows c.args.lines.now c.loop-line.line-index c.line-item.result c.loop-line-test.true c.line-item.is c.loop-line.invariant.turns in
+    omega (arith, long, c.requires.room, c.loop-line.invariant.spare)
 
-pub take_lines-requires-clause-parted : goal.take_lines-requires-clause-parted
-unfolding IsStrictlySortedBy
-take_lines-requires-clause-parted c = rw (c.requires.empty) (record { stood = c.requires.order; new = tt; apart = tt })
+pub bring_line-requires-clause-places : goal.bring_line-requires-clause-places
+bring_line-requires-clause-places c =
+    let long = grown_at c.args.t c.args.rows.now.rows c.loop-line.rows.rows c.args.lines.now c.loop-line.line-index c.line-item.result c.loop-line-test.true c.line-item.is c.loop-line.invariant.turns in
+    omega (arith, long, c.requires.places, c.loop-line.invariant.capacity)
 
-pub take_lines-requires-clause-spots : goal.take_lines-requires-clause-spots
-take_lines-requires-clause-spots c = rw (c.requires.empty) c.requires.spots
-
-pub returns-in_err-merge-clause-err : goal.returns-in_err-merge-clause-err
-returns-in_err-merge-clause-err c =
-    let turns = c.in_ok-take_lines.ensures.ok ∙ ap (λ (fresh : List Row). taken_in_turn c.args.t (merged c.args.rows.now.items fresh) c.args.lines.now) c.requires.empty in
-    let long = merged_length c.take_lines.new.rows.items c.take_lines.new.fresh.items c.in_ok-take_lines.ensures.parted in
-    let same = ap length turns in
-    let fresh = ap length c.deref.ensures.value in
-    on_err c.from_residual-in_err-merge.result _ (omega (arith, long, same, fresh, c.in_err-merge.ensures.err, c.in_ok-take_lines.ensures.room, c.take_lines.new.rows.ok.0))
+pub loop-line-preserved : goal.loop-line-preserved
+loop-line-preserved c =
+    let now = c.loop-line.rows.rows in
+    let left = row_left now c.args.t c.line-item.result in
+    record {
+      turns = turn_next c.args.t now c.bring_line.new.rows.rows _ c.args.lines.now c.loop-line.line-index c.line-item.result left c.loop-line-test.true c.line-item.is refl c.bring_line.ensures.rows c.loop-line.invariant.turns;
+      order = rw (c.bring_line.ensures.rows) (put_if-sorted left now c.loop-line.invariant.order);
+      spots = c.bring_line.ensures.spots;
+      spare = omega (arith, c.bring_line.ensures.spare, c.loop-line.invariant.spare);
+      capacity = omega (arith, c.bring_line.ensures.capacity, c.loop-line.invariant.capacity);
+    }

@@ -8,4 +8,4 @@ use Rattle.hazard_board.specs.Taken.{put_if, row_left, rows_taken}
 use Rattle.hazard_board.proofs.lines.rows_taken.Given as goal
 
 abbrev pub invariant-loop-line : goal.invariant-loop-line
-invariant-loop-line l = (fold (λ (after : List Row) (line : Line). put_if (row_left l.rows l.t line) after) l.after.items (drop l.line-index l.lines) ≡ rows_taken l.rows l.t l.lines) × IsStrictlySortedBy by_key l.after.items
+invariant-loop-line l = (fold (λ (after : List Row) (line : Line). put_if (row_left l.rows.rows l.t line) after) l.after.items (drop l.line-index l.lines) ≡ rows_taken l.rows.rows l.t l.lines) × IsStrictlySortedBy by_key l.after.items

@@ -7,5 +7,5 @@ use Rattle.hazard_board.proofs.lines.zone_taken.Goals as goal
 
 pub loop-line-init : goal.loop-line-init
 loop-line-init c =
-    let rows : c.in_ok-after.after.items ≡ slice_of c.args.z.now c.args.rows.now = c.in_ok-after.ensures.items ∙ c.slice_of.ensures.rows in
-    (ap (λ (after : List Row). taken_in c.args.z.now c.args.rows.now c.args.t after c.args.lines.now) rows ∙ taken_slice c.args.z.now c.args.rows.now c.args.t c.args.lines.now c.requires, rw rows (slice_in_order c.args.z.now c.args.rows.now c.requires))
+    let rows : c.in_ok-after.after.items ≡ slice_of c.args.z.now c.args.rows.now.rows = c.in_ok-after.ensures.items ∙ c.slice_of.ensures.rows in
+    (ap (λ (after : List Row). taken_in c.args.z.now c.args.rows.now.rows c.args.t after c.args.lines.now) rows ∙ taken_slice c.args.z.now c.args.rows.now.rows c.args.t c.args.lines.now c.requires, rw rows (slice_in_order c.args.z.now c.args.rows.now.rows c.requires))

@@ -1,6 +1,6 @@
 -- The seat is that of the first row that is not before this one.
 use Rattle.std.proofs.Common.{◌∙◌, sym, ap, is_eq, arith}
-use Rattle.hazard_board.proofs.Seats.{seat_there, seat_behind, seat_before, stood_there, none_behind, none_before}
+use Rattle.hazard_board.proofs.Seats.{seat_there, seat_behind, seat_before}
 use Rattle.hazard_board.proofs.searches.seat_of.Goals as goal
 
 pub returns-then-place-rows-clause-seated : goal.returns-then-place-rows-clause-seated
@@ -14,17 +14,4 @@ returns-then-is_eq-clause-seated c =
 pub returns-else-is_eq-clause-seated : goal.returns-else-is_eq-clause-seated
 returns-else-is_eq-clause-seated c =
     seat_before c.args.row.now c.args.rows.now c.rows_below-place.result c.rows_below-place.ensures.value c.index-rows-place.result (omega (arith, c.if-place-rows.false)) c.index-rows-place.is
-    (sym (ap is_eq c.order.ensures) ∙ sym c.is_eq.ensures ∙ c.if-is_eq.false)
-
-pub returns-then-place-rows-clause-absent : goal.returns-then-place-rows-clause-absent
-returns-then-place-rows-clause-absent c = none_behind c.args.row.now c.args.rows.now c.rows_below-place.result c.rows_below-place.ensures.value c.requires c.if-place-rows.true
-
-pub returns-then-is_eq-clause-found : goal.returns-then-is_eq-clause-found
-returns-then-is_eq-clause-found c =
-    stood_there c.args.row.now c.args.rows.now c.rows_below-place.result c.rows_below-place.ensures.value c.index-rows-place.result (omega (arith, c.if-place-rows.false)) c.index-rows-place.is
-    (sym (ap is_eq c.order.ensures) ∙ sym c.is_eq.ensures ∙ c.if-is_eq.true)
-
-pub returns-else-is_eq-clause-absent : goal.returns-else-is_eq-clause-absent
-returns-else-is_eq-clause-absent c =
-    none_before c.args.row.now c.args.rows.now c.rows_below-place.result c.rows_below-place.ensures.value c.requires c.index-rows-place.result (omega (arith, c.if-place-rows.false)) c.index-rows-place.is
     (sym (ap is_eq c.order.ensures) ∙ sym c.is_eq.ensures ∙ c.if-is_eq.false)

@@ -5,4 +5,4 @@ use Rattle.hazard_board.specs.Spots.{has_same, rows_on}
 use Rattle.hazard_board.proofs.spots.same_on.Given as goal
 
 abbrev pub invariant-loop-spot : goal.invariant-loop-spot
-invariant-loop-spot l = list_any (has_same l.p l.t) (rows_on l.rows (drop l.spot-index l.spots)) ≡ list_any (has_same l.p l.t) (rows_on l.rows l.spots)
+invariant-loop-spot l = list_any (has_same l.p l.t) (rows_on l.rows.rows (drop l.spot-index l.spots)) ≡ list_any (has_same l.p l.t) (rows_on l.rows.rows l.spots)

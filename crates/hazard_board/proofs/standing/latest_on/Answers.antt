@@ -8,6 +8,6 @@ use Rattle.hazard_board.proofs.standing.latest_on.Goals as goal
 
 pub loop-spot-preserved : goal.loop-spot-preserved
 loop-spot-preserved c =
-    ap (λ (best : Option End). fold (latest_with c.args.event.now) best (rows_on c.args.rows.now (drop (c.loop-spot.spot-index + 1) c.args.spots.now))) c.latest_with-best.ensures
-    ∙ sym (latest_next c.args.rows.now c.args.spots.now c.loop-spot.spot-index c.spot-item.result c.row_at-row.result c.loop-spot-test.true c.spot-item.is c.row_at-row.ensures c.args.event.now c.loop-spot.best)
+    ap (λ (best : Option End). fold (latest_with c.args.event.now) best (rows_on c.args.rows.now.rows (drop (c.loop-spot.spot-index + 1) c.args.spots.now))) c.latest_with-best.ensures
+    ∙ sym (latest_next c.args.rows.now.rows c.args.spots.now c.loop-spot.spot-index c.spot-item.result c.row_at-row.result c.loop-spot-test.true c.spot-item.is c.row_at-row.ensures c.args.event.now c.loop-spot.best)
     ∙ c.loop-spot.invariant

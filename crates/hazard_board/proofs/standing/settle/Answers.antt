@@ -9,12 +9,12 @@ use Rattle.hazard_board.proofs.standing.settle.Goals.{then-touches_anew, else-to
 
 pub set_end-requires-clause-room : goal.set_end-requires-clause-room
 set_end-requires-clause-room c some none =
-    room_left c.args.rows.now c.args.lines.now c.args.standing.now.items c.loop-place.standing.items c.loop-place.place c.index-lines-place.result c.loop-place-test.true c.index-lines-place.is c.loop-place.invariant.ends
+    room_left c.args.rows.now.rows c.args.lines.now c.args.standing.now.items c.loop-place.standing.items c.loop-place.place c.index-lines-place.result c.loop-place-test.true c.index-lines-place.is c.loop-place.invariant.ends
     _ _ _ (sym c.touches_anew.ensures ∙ c.if-touches_anew.true) none c.loop-place.invariant.length (omega (arith, c.requires.room, c.loop-place.invariant.capacity))
 
 pub loop-place-preserved : goal.loop-place-preserved
 loop-place-preserved c =
-    let rows = c.args.rows.now in
+    let rows = c.args.rows.now.rows in
     let lines = c.args.lines.now in
     let was = c.args.standing.now.items in
     let now = c.loop-place.standing.items in

@@ -9,7 +9,7 @@ use Rattle.hazard_board.proofs.standing.settle.Given as goal
 abbrev pub invariant-loop-place : goal.invariant-loop-place
 invariant-loop-place l = record {
   order : IsStrictlySortedBy by_standing l.standing.items;
-  ends : (e : Event) → end_in l.standing.items e ≡ (if touched (take l.place l.lines) e then latest_end l.rows e else end_in l.initial.standing.items e);
+  ends : (e : Event) → end_in l.standing.items e ≡ (if touched (take l.place l.lines) e then latest_end l.rows.rows e else end_in l.initial.standing.items e);
   capacity : vec_capacity l.initial.standing ≤ vec_capacity l.standing;
   length : vec_len l.standing ≤ vec_len l.initial.standing + newly l.initial.standing.items (take l.place l.lines);
 }

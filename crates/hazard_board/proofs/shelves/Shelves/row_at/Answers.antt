@@ -3,7 +3,7 @@ use Rattle.std.proofs.Common.{◌∙◌, List, ap, find}
 use Rattle.hazard_types.specs.Same.{same_event}
 use Rattle.hazard_types.specs.declared.line.Row.{Row}
 use Rattle.hazard_board.proofs.Places.{found_in_zone}
-use Rattle.hazard_board.proofs.searches.row_at.Goals as goal
+use Rattle.hazard_board.proofs.shelves.Shelves.row_at.Goals as goal
 
 pub returns : goal.returns
-returns c = c.row_of_event.ensures ∙ ap (λ (rows : List Row). find (λ (r : Row). same_event r.event c.args.e.now) rows) c.slice_of.ensures.rows ∙ found_in_zone c.args.e.now c.args.z.now c.args.rows.now
+returns c = c.row_of_event.ensures ∙ ap (λ (rows : List Row). find (λ (r : Row). same_event r.event c.args.e.now) rows) c.slice_of.ensures.rows ∙ found_in_zone c.args.e.now c.args.z.now c.args.self.now.rows

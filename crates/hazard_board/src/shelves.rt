@@ -1,0 +1,297 @@
+//! The rows on shelves: a row that comes in moves those of its own shelf alone.
+ghost use Rattle.std.specs.Prelude.{◌≡◌, ◌≤◌, ◌<◌, ◌+◌, ◌-◌, ◌++◌, ℕ, [], length, drop, get_or, IfOk, IfSome, OnOk, OnErr};
+ghost use Rattle.std.specs.List.Sorted.{IsStrictlySortedBy};
+ghost use Rattle.std.specs.Ordering.{is_le};
+ghost use Rattle.std.specs.Vec.{vec_len, vec_capacity};
+ghost use Rattle.hazard_types.specs.Places.{by_place};
+ghost use Rattle.event_life.specs.Products.{by_key, put, row_at};
+ghost use Rattle.event_life.specs.Shown.{shown_at};
+ghost use Rattle.hazard_board.specs.Board.{by_row_event, slice_of};
+ghost use Rattle.hazard_board.specs.Shelves.{on_shelves, by_from, through, least_room, HaveRoom, AreShelved, AreKept, IsCut, IsZoneAt};
+ghost use Rattle.hazard_board.specs.declared.shelves.Shelf.{Shelf as AnyShelf};
+
+use crate::searches::{put, row_of_event, rows_before, rows_through, slice_of};
+use event_life::is_live;
+use hazard_types::{Event, Minute, Oom, Row, Zone};
+use std::alloc::{AllocError, Global};
+use std::marker::Model;
+
+/// A shelf with more rows than these is long.
+const LIMIT: usize = 1024;
+
+/// Rows of zones from a first one on, up to the first zone of the next shelf.
+#[derive(Drop)]
+struct Shelf {
+    from: Zone,
+    rows: Vec<Row>,
+}
+
+/// Rows by zone, then event, on shelves in the order of zones: all rows of a zone stand on one shelf. A shelf that has grown long is parted in two where a zone begins.
+#[derive(Drop)]
+pub struct Shelves {
+    // The rows of zones before those of the later shelves.
+    first: Vec<Row>,
+    later: Vec<Shelf>,
+}
+
+impl Model for Shelves {
+    ghost use Rattle.std.specs.Prelude.{◌-◌, ◌++◌};
+    ghost use Rattle.std.specs.Vec.{vec_len, vec_capacity};
+    ghost use Rattle.hazard_board.specs.Board.{Posted};
+
+    ghost Value = { Posted };
+
+    ghost use Rattle.hazard_board.specs.Shelves.{on_shelves, least_room, AreShelved};
+
+    ghost view = { λ s. record { rows = s.first.items ++ on_shelves s.later.items; spare = least_room (vec_capacity s.first - vec_len s.first) s.later.items } };
+
+    ghost invariant = { λ s. AreShelved s.first.items s.later.items };
+}
+
+/// How many of the shelves begin with this zone or with zones before it.
+fn shelves_through(later: &[Shelf], z: &Zone) -> usize
+    requires { IsStrictlySortedBy by_from later.now }
+    ensures value { result ≡ through z.now later.now }
+    ensures bound { result ≤ length later.now }
+{
+    later.partition_point(
+        |shelf: &Shelf| -> bool
+            ensures { result ≡ is_le (by_place shelf.now.from z.entry.now) }
+        { shelf.from.cmp(z).is_le() },
+    )
+}
+
+/// Puts a row among rows that have room for it.
+fn put_within(rows: &mut Vec<Row>, row: &Row)
+    requires order { IsStrictlySortedBy by_key rows.old.items }
+    requires room { length (put row.now rows.old.items) ≤ vec_capacity rows.old }
+    ensures rows { rows.new.items ≡ put row.now rows.old.items }
+    ensures capacity { vec_capacity rows.old ≤ vec_capacity rows.new }
+{
+    match put(rows, row) {
+        Ok(()) => {}
+        Err(_) => unreachable!(),
+    }
+}
+
+/// Where a zone begins in the midst of rows that are many: that of the middle row, or the one behind it.
+fn cut_of(rows: &[Row]) -> Option<usize>
+    requires { IsStrictlySortedBy by_key rows.now }
+    ensures { IfSome result (IsCut rows.now) }
+{
+    if rows.len() <= LIMIT {
+        return None;
+    }
+    let z = &rows[rows.len() / 2].zone;
+    let start = rows_before(rows, z);
+    if 0 < start && start < rows.len() {
+        return Some(start);
+    }
+    let end = rows_through(rows, z);
+    if 0 < end && end < rows.len() {
+        return Some(end);
+    }
+    None
+}
+
+/// The rows from a place on as a shelf of their own, with room for `n` more.
+fn shelf_from(alloc: Global, rows: &[Row], at: usize, n: usize) -> Result<Shelf, Oom>
+    requires { at < length rows.now }
+    ensures rows { IfOk result (λ shelf. shelf.rows.items ≡ drop at rows.now) }
+    ensures from { IfOk result (λ shelf. IsZoneAt rows.now at shelf.from) }
+    ensures room { IfOk result (λ shelf. vec_len shelf.rows + n ≤ vec_capacity shelf.rows) }
+{
+    let from = rows[at].zone;
+    let mut back = Vec::from_slice(alloc, &rows[at..])?;
+    back.reserve(n)?;
+    Ok(Shelf { from, rows: back })
+}
+
+/// Parts a shelf in two at a place in its rows. What is parted off has room for `n` more rows.
+fn part_at(later: &mut Vec<Shelf>, place: usize, at: usize, n: usize) -> Result<(), Oom>
+    requires place { place < vec_len later.old }
+    requires order { IsStrictlySortedBy by_key (on_shelves later.old.items) }
+    requires cut { (shelf : AnyShelf) → shelf ≡ get_or later.old.items place shelf → IsCut shelf.rows.items at }
+    ensures kept { AreKept n later.old.items later.new.items }
+    ensures length { vec_len later.old ≤ vec_len later.new }
+    ensures behind { HaveRoom n (drop (place + 1) later.old.items) → HaveRoom n (drop (place + 1) later.new.items) }
+{
+    let shelf = &later[place];
+    let back = shelf_from(*shelf.rows.allocator(), &shelf.rows, at, n)?;
+    later.insert(place + 1, back)?;
+    let shelf = &mut later[place];
+    shelf.rows.truncate(at);
+    Ok(())
+}
+
+/// Parts a shelf in two, if it is long. What is parted off has room for `n` more rows.
+fn part(later: &mut Vec<Shelf>, place: usize, n: usize) -> Result<(), Oom>
+    requires place { place < vec_len later.old }
+    requires order { IsStrictlySortedBy by_key (on_shelves later.old.items) }
+    ensures kept { AreKept n later.old.items later.new.items }
+    ensures length { vec_len later.old ≤ vec_len later.new }
+    ensures behind { HaveRoom n (drop (place + 1) later.old.items) → HaveRoom n (drop (place + 1) later.new.items) }
+{
+    let shelf = &later[place];
+    match cut_of(&shelf.rows) {
+        Some(at) => part_at(later, place, at, n),
+        None => Ok(()),
+    }
+}
+
+/// Takes memory for `n` more rows on each of the shelves, from the last on. Those that are long are parted.
+fn reserve_later(later: &mut Vec<Shelf>, n: usize) -> Result<(), Oom>
+    requires { IsStrictlySortedBy by_key (on_shelves later.old.items) }
+    ensures kept { AreKept n later.old.items later.new.items }
+    ensures ok { OnOk result (HaveRoom n later.new.items) }
+{
+    for place in (0..later.len()).rev() {
+        part(later, place, n)?;
+        let shelf = &mut later[place];
+        shelf.rows.reserve(n)?;
+    }
+    Ok(())
+}
+
+/// Parts the rows in front of the shelves in two, if they are many. What is parted off is a shelf with room for `n` more rows.
+fn part_first(first: &mut Vec<Row>, later: &mut Vec<Shelf>, n: usize) -> Result<(), Oom>
+    requires { AreShelved first.old.items later.old.items }
+    ensures rows { first.new.items ++ on_shelves later.new.items ≡ first.old.items ++ on_shelves later.old.items }
+    ensures shelved { AreShelved first.new.items later.new.items }
+    ensures spare { vec_capacity first.old - vec_len first.old ≤ vec_capacity first.new - vec_len first.new }
+    ensures room { (m : ℕ) → m ≤ n → HaveRoom m later.old.items → HaveRoom m later.new.items }
+{
+    let Some(at) = cut_of(first) else {
+        return Ok(());
+    };
+    let back = shelf_from(*first.allocator(), first, at, n)?;
+    later.insert(0, back)?;
+    first.truncate(at);
+    Ok(())
+}
+
+/// Takes memory for `n` more rows on each shelf, the first rows' too. What is long is parted.
+fn reserve_each(first: &mut Vec<Row>, later: &mut Vec<Shelf>, n: usize) -> Result<(), Oom>
+    requires { AreShelved first.old.items later.old.items }
+    ensures rows { first.new.items ++ on_shelves later.new.items ≡ first.old.items ++ on_shelves later.old.items }
+    ensures shelved { AreShelved first.new.items later.new.items }
+    ensures spare { least_room (vec_capacity first.old - vec_len first.old) later.old.items ≤ n → least_room (vec_capacity first.old - vec_len first.old) later.old.items ≤ least_room (vec_capacity first.new - vec_len first.new) later.new.items }
+    ensures ok { OnOk result (n ≤ least_room (vec_capacity first.new - vec_len first.new) later.new.items) }
+{
+    reserve_later(later, n)?;
+    part_first(first, later, n)?;
+    first.reserve(n)?;
+    Ok(())
+}
+
+/// The live rows among some.
+pub fn live(alloc: Global, rows: &[Row], t: Minute) -> Result<Vec<Row>, AllocError>
+    ensures { IfOk result (λ live. live.items ≡ shown_at t rows.now) }
+{
+    rows.iter()
+        .filter(|row| is_live(row, t))
+        .copied()
+        .collect(alloc)
+}
+
+impl Shelves {
+    /// No rows, and no memory for any.
+    pub fn new(alloc: Global) -> Self
+        ensures { result.rows ≡ [] }
+    {
+        Shelves {
+            first: Vec::new(alloc),
+            later: Vec::new(alloc),
+        }
+    }
+
+    /// For how many more rows there is memory, wherever they stand.
+    fn spare(&self) -> usize
+        ensures { result ≡ self.now.spare }
+    {
+        let mut least = self.first.capacity() - self.first.len();
+        for shelf in &self.later {
+            least = least.min(shelf.rows.capacity() - shelf.rows.len());
+        }
+        least
+    }
+
+    /// Takes memory for `n` more rows, wherever they stand. Where it is wanted, long shelves are parted.
+    pub fn reserve(&mut self, n: usize) -> Result<(), Oom>
+        ensures rows { self.new.rows ≡ self.old.rows }
+        ensures spare { self.old.spare ≤ self.new.spare }
+        ensures ok { OnOk result (n ≤ self.new.spare) }
+        ensures err { OnErr result (self.old.spare < n) }
+    {
+        if n <= self.spare() {
+            return Ok(());
+        }
+        reserve_each(&mut self.first, &mut self.later, n)
+    }
+
+    /// The rows of the shelf on which a zone's rows stand.
+    fn shelf(&self, z: &Zone) -> &[Row]
+        ensures rows { slice_of z.now result.now ≡ slice_of z.now self.now.rows }
+        ensures order { IsStrictlySortedBy by_key result.now }
+    {
+        let place = shelves_through(&self.later, z);
+        if place == 0 {
+            &self.first
+        } else {
+            &self.later[place - 1].rows
+        }
+    }
+
+    /// The rows of a zone, by event.
+    pub fn slice_of(&self, z: &Zone) -> &[Row]
+        ensures rows { result.now ≡ slice_of z.now self.now.rows }
+        ensures order { IsStrictlySortedBy by_row_event result.now }
+    {
+        slice_of(self.shelf(z), z)
+    }
+
+    /// The row of an event in a zone.
+    pub fn row_at(&self, e: &Event, z: &Zone) -> Option<Row>
+        ensures { result ≡ row_at self.now.rows e.now z.now }
+    {
+        row_of_event(self.slice_of(z), e)
+    }
+
+    /// Puts a row in the place of the one of its zone and event, or in its own place. Only the rows of its shelf move.
+    pub fn put(&mut self, row: &Row)
+        requires { length (put row.now self.old.rows) ≤ self.old.spare + length self.old.rows }
+        ensures rows { self.new.rows ≡ put row.now self.old.rows }
+        ensures spare { self.old.spare + length self.old.rows ≤ self.new.spare + length self.new.rows }
+    {
+        let place = shelves_through(&self.later, &row.zone);
+        if place == 0 {
+            put_within(&mut self.first, row);
+        } else {
+            let shelf = &mut self.later[place - 1];
+            put_within(&mut shelf.rows, row);
+        }
+    }
+
+    /// All rows, in a list of their own.
+    pub fn gathered(&self, alloc: Global) -> Result<Vec<Row>, Oom>
+        ensures { IfOk result (λ rows. rows.items ≡ self.now.rows) }
+    {
+        let mut rows = Vec::from_slice(alloc, &self.first)?;
+        for shelf in &self.later {
+            rows.extend_from_slice(&shelf.rows)?;
+        }
+        Ok(rows)
+    }
+
+    /// The live rows.
+    pub fn shown(&self, alloc: Global, t: Minute) -> Result<Vec<Row>, Oom>
+        ensures { IfOk result (λ shown. shown.items ≡ shown_at t self.now.rows) }
+    {
+        let mut shown = live(alloc, &self.first, t)?;
+        for shelf in &self.later {
+            let more = live(alloc, &shelf.rows, t)?;
+            shown.extend_from_slice(&more)?;
+        }
+        Ok(shown)
+    }
+}
