@@ -15,4 +15,4 @@ pub use day_stamps::{day_stamp, near, resolve_day_stamp};
 pub use local_lines::{local_line, local_short};
 pub use local_times::calendars_agree;
 pub use reading::{LocalFault, lines_read_back, read_local_line};
-pub use zones::rules_are_read;
+pub use zones::{offsets_are_jiffs, rules_are_read};

@@ -1,6 +1,9 @@
 //! The zones of offices: their rules, and the abbreviation of a minute.
-ghost use Rattle.std.specs.Prelude.{◌≡◌, ◌<◌, ℕ, IsSome};
+ghost use Rattle.std.specs.Prelude.{◌≡◌, ◌<◌, ℕ, ℤ, IsSome};
+ghost use Rattle.jiff.specs.Placed.{IsPosixZone};
 ghost use Rattle.jiff_tz.specs.PosixReader.{read_whole};
+ghost use Rattle.jiff_tz.specs.Zone.{offset_at as jiff_offset};
+ghost use Rattle.jiff_tz.specs.declared.timezone.TimeZone.{TimeZone as JiffZone};
 ghost use Rattle.desk_clock.specs.Rules.{text_offset};
 ghost use Rattle.desk_clock.specs.Zones.{rule_text, standard, daylight, offset_of, abbreviation_at};
 ghost use Rattle.hazard_types.specs.declared.codes.LocalZone.{LocalZone as Zone};
@@ -91,4 +94,9 @@ pub fn abbreviation_at(zone: LocalZone, m: Minute) -> Abbreviation
 /// The text of each zone is a rule, so no offset is one of a text that can't be read.
 pub fn rules_are_read()
     ensures { (z : Zone) → IsSome (read_whole (rule_text z)) }
+{}
+
+/// The offset that the desk takes for a zone is the one that `jiff` gives at that instant, once it has read the zone's rule.
+pub fn offsets_are_jiffs()
+    ensures { (z : Zone) (read : JiffZone) (instant : ℤ) → IsPosixZone (rule_text z) read → jiff_offset read instant ≡ text_offset (rule_text z) instant }
 {}
