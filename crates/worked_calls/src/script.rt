@@ -1,9 +1,9 @@
 //! The lines of a script.
 use crate::bytes::{bytes_of, shown};
-use crate::refusals::refusal_named;
 use hazard_types::{Oom, Query, Text};
 use std::alloc::{AllocError, Global};
 use warn_http::{BodyKind, Call, HttpRead, is_status, read_call, refusal_status, write_answer};
+use worked_lines::{Work, refusal_named};
 
 /// What a call asks for.
 fn call_text(alloc: Global, call: Call) -> Result<String, AllocError> {
@@ -91,33 +91,39 @@ fn answer_text(alloc: Global, words: &str) -> Result<Option<Text>, Oom> {
     Ok(Some(text))
 }
 
-/// What comes of a line.
-pub fn work(alloc: Global, line: &str) -> Result<String, Oom> {
-    match line.split_once(' ') {
-        Some(("read", text)) => {
-            let bytes = bytes_of(alloc, text)?;
-            let answer = read_text(alloc, &read_call(alloc, bytes.as_slice()))?;
-            Ok(format!(in alloc; "{answer}\n")?)
-        }
-        Some(("stream", text)) => {
-            let bytes = bytes_of(alloc, text)?;
-            let answer = stream_text(alloc, bytes.as_slice())?;
-            Ok(format!(in alloc; "{answer}\n")?)
-        }
-        Some(("answer", words)) => match answer_text(alloc, words)? {
-            Some(text) => {
-                let text = shown(alloc, text.as_slice())?;
-                Ok(format!(in alloc; "{text}\n")?)
+/// The script, of which nothing is kept from one line to the next.
+#[derive(Drop)]
+pub struct Script;
+
+impl Work for Script {
+    /// What comes of a line.
+    fn work(&mut self, alloc: Global, line: &str) -> Result<String, Oom> {
+        match line.split_once(' ') {
+            Some(("read", text)) => {
+                let bytes = bytes_of(alloc, text)?;
+                let answer = read_text(alloc, &read_call(alloc, bytes.as_slice()))?;
+                Ok(format!(in alloc; "{answer}\n")?)
             }
-            None => Ok(format!(in alloc; "unread: {line}\n")?),
-        },
-        Some(("status", name)) => match refusal_named(alloc, name) {
-            Some(refusal) => {
-                let status = refusal_status(&refusal);
-                Ok(format!(in alloc; "{status}\n")?)
+            Some(("stream", text)) => {
+                let bytes = bytes_of(alloc, text)?;
+                let answer = stream_text(alloc, bytes.as_slice())?;
+                Ok(format!(in alloc; "{answer}\n")?)
             }
-            None => Ok(format!(in alloc; "unread: {line}\n")?),
-        },
-        _ => Ok(format!(in alloc; "{line}\n")?),
+            Some(("answer", words)) => match answer_text(alloc, words)? {
+                Some(text) => {
+                    let text = shown(alloc, text.as_slice())?;
+                    Ok(format!(in alloc; "{text}\n")?)
+                }
+                None => Ok(format!(in alloc; "unread: {line}\n")?),
+            },
+            Some(("status", name)) => match refusal_named(alloc, name)? {
+                Some(refusal) => {
+                    let status = refusal_status(&refusal);
+                    Ok(format!(in alloc; "{status}\n")?)
+                }
+                None => Ok(format!(in alloc; "unread: {line}\n")?),
+            },
+            _ => Ok(format!(in alloc; "{line}\n")?),
+        }
     }
 }

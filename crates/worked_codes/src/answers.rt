@@ -7,6 +7,7 @@ use product_frame::{Frame, FrameFault, FrameSegment, Pair, read_frame, split_pro
 use std::alloc::{AllocError, Global};
 use ugc_codes::{UgcFault, read_ugc, write_ugc};
 use vtec_string::read_vtec;
+use worked_lines::Work;
 
 /// What a P-VTEC text says, and the same written again.
 fn vtec_answer(alloc: Global, text: &str) -> Result<String, AllocError> {
@@ -167,19 +168,25 @@ fn split_answer(alloc: Global, text: &str) -> Result<String, Oom> {
     Ok(out)
 }
 
-/// What the reader that a line names takes from the line's text.
-pub fn answer(alloc: Global, line: &str) -> Result<String, Oom> {
-    let (reader, text) = line.split_once(' ').unwrap_or((line, ""));
-    match reader {
-        "vtec" => Ok(vtec_answer(alloc, text)?),
-        "hvtec" => Ok(hvtec_answer(alloc, text)?),
-        "ugc" => ugc_answer(alloc, text),
-        "line" => line_answer(alloc, text),
-        "short" => short_answer(alloc, text),
-        "read" => Ok(read_answer(alloc, text)?),
-        "day" => Ok(day_answer(alloc, text)?),
-        "frame" => frame_answer(alloc, text),
-        "split" => split_answer(alloc, text),
-        _ => Ok(String::from_str(alloc, "no reader\n")?),
+/// The readers of codes and frames, which keep nothing from one line to the next.
+#[derive(Drop)]
+pub struct Codes;
+
+impl Work for Codes {
+    /// What the reader that a line names takes from the line's text.
+    fn work(&mut self, alloc: Global, line: &str) -> Result<String, Oom> {
+        let (reader, text) = line.split_once(' ').unwrap_or((line, ""));
+        match reader {
+            "vtec" => Ok(vtec_answer(alloc, text)?),
+            "hvtec" => Ok(hvtec_answer(alloc, text)?),
+            "ugc" => ugc_answer(alloc, text),
+            "line" => line_answer(alloc, text),
+            "short" => short_answer(alloc, text),
+            "read" => Ok(read_answer(alloc, text)?),
+            "day" => Ok(day_answer(alloc, text)?),
+            "frame" => frame_answer(alloc, text),
+            "split" => split_answer(alloc, text),
+            _ => Ok(String::from_str(alloc, "no reader\n")?),
+        }
     }
 }

@@ -6,6 +6,7 @@ use hazard_types::{Class, Edition, List, Minute, Oom, Or, Query, Text, stamp};
 use office_core::Office;
 use std::alloc::Global;
 use std::str;
+use worked_lines::Work;
 
 /// The minutes from one issue of a fill to the next.
 const APART: i64 = 11;
@@ -144,9 +145,11 @@ impl Script {
             Step::Request => self.request(alloc, line),
         }
     }
+}
 
+impl Work for Script {
     /// What a line is answered.
-    pub fn work(&mut self, alloc: Global, line: &str) -> Result<String, Oom> {
+    fn work(&mut self, alloc: Global, line: &str) -> Result<String, Oom> {
         let text = self.step(alloc, &step_of(line), line)?;
         Ok(String::from_utf8_lossy(alloc, text.as_slice())?)
     }

@@ -1,6 +1,5 @@
 //! The lines of a script.
 use crate::bytes::{bytes_of, nested};
-use crate::refusals::refusal_named;
 use crate::replies::{draft_with, reply_named};
 use hazard_types::{Desk, List, Minute, Oom, Or, Request, Text};
 use request_json::{
@@ -8,6 +7,7 @@ use request_json::{
     refusal_text, reply_text, request_text,
 };
 use std::alloc::Global;
+use worked_lines::{Work, refusal_named};
 
 /// The canonical text of a request, or the text of its refusal.
 fn read(alloc: Global, bytes: &[u8]) -> Result<Text, Oom> {
@@ -53,9 +53,7 @@ fn draft(alloc: Global, bytes: &[u8]) -> Result<Text, Oom> {
 }
 
 fn refused(alloc: Global, name: &str) -> Result<Text, Oom> {
-    let field = List::from_slice(alloc, b"?")?;
-    let text = List::from_slice(alloc, b"what")?;
-    match refusal_named(name, field, text) {
+    match refusal_named(alloc, name)? {
         Some(refusal) => refusal_text(alloc, &refusal),
         None => Ok(List::new(alloc)),
     }
@@ -95,10 +93,16 @@ fn answer(alloc: Global, line: &str) -> Result<Text, Oom> {
     }
 }
 
-/// What comes of a line, as a line.
-pub fn work(alloc: Global, line: &str) -> Result<String, Oom> {
-    let text = answer(alloc, line)?;
-    let mut shown = String::from_utf8_lossy(alloc, text.as_slice())?;
-    shown.push('\n')?;
-    Ok(shown)
+/// The script, of which nothing is kept from one line to the next.
+#[derive(Drop)]
+pub struct Script;
+
+impl Work for Script {
+    /// What comes of a line, as a line.
+    fn work(&mut self, alloc: Global, line: &str) -> Result<String, Oom> {
+        let text = answer(alloc, line)?;
+        let mut shown = String::from_utf8_lossy(alloc, text.as_slice())?;
+        shown.push('\n')?;
+        Ok(shown)
+    }
 }

@@ -13,6 +13,7 @@ use hazard_types::{
     PutPart, Refusal, Target, Zone,
 };
 use std::alloc::Global;
+use worked_lines::Work;
 
 /// The last minute at which a draft is sent.
 const LAST_MINUTE: u32 = 52_000_000;
@@ -269,9 +270,11 @@ impl Script {
             Step::Fill(hazard, count, from) => self.fill(alloc, &hazard, count, from),
         }
     }
+}
 
+impl Work for Script {
     /// What a line is answered. A remark is answered by itself, as is an empty line.
-    pub fn work(&mut self, alloc: Global, line: &str) -> Result<String, Oom> {
+    fn work(&mut self, alloc: Global, line: &str) -> Result<String, Oom> {
         if line.is_empty() || line.starts_with('#') {
             return Ok(format!(in alloc; "{line}\n")?);
         }

@@ -9,6 +9,7 @@ use crate::words::{Step, step_of};
 use event_life::{Breach, Life, around, has_higher, is_routine, life_at, life_step, put, row_of};
 use hazard_types::{Line, Minute, Oom, Row};
 use std::alloc::Global;
+use worked_lines::Work;
 
 /// Rows by zone, then event, and the minute at which lines are judged.
 #[derive(Drop)]
@@ -58,9 +59,11 @@ impl Script {
         }
         Ok(String::new(alloc))
     }
+}
 
+impl Work for Script {
     /// What a line is answered. A remark is answered by itself, as is an empty line.
-    pub fn work(&mut self, alloc: Global, line: &str) -> Result<String, Oom> {
+    fn work(&mut self, alloc: Global, line: &str) -> Result<String, Oom> {
         if line.is_empty() || line.starts_with('#') {
             return Ok(format!(in alloc; "{line}\n")?);
         }

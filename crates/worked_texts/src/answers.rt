@@ -10,6 +10,7 @@ use hazard_types::{Action, End, Oom, Text};
 use headline_text::{headline, name_lines, when_bullet, wrapped};
 use std::alloc::Global;
 use std::str;
+use worked_lines::Work;
 
 /// The answer to a line that is none of the script's.
 const UNREAD: &str = "unread";
@@ -87,13 +88,19 @@ fn push_settings(out: &mut String, alloc: Global, command: &str, rest: &str) -> 
     Ok(true)
 }
 
-/// The answer to a line, with LF behind it.
-pub fn answer(alloc: Global, line: &str) -> Result<String, Oom> {
-    let mut out = String::new(alloc);
-    let (command, rest) = parted(line);
-    if !push_settings(&mut out, alloc, command, rest)? {
-        push_text(&mut out, alloc, command, rest)?;
+/// The writers of texts, which keep nothing from one line to the next.
+#[derive(Drop)]
+pub struct Texts;
+
+impl Work for Texts {
+    /// The answer to a line, with LF behind it.
+    fn work(&mut self, alloc: Global, line: &str) -> Result<String, Oom> {
+        let mut out = String::new(alloc);
+        let (command, rest) = parted(line);
+        if !push_settings(&mut out, alloc, command, rest)? {
+            push_text(&mut out, alloc, command, rest)?;
+        }
+        out.push('\n')?;
+        Ok(out)
     }
-    out.push('\n')?;
-    Ok(out)
 }

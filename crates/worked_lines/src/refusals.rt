@@ -1,5 +1,6 @@
 //! Refusals by their names, with values.
-use hazard_types::{Desk, Event, Hazard, Kind, Minute, Phen, Refusal, Sig, Text, Zone};
+use hazard_types::{Desk, Event, Hazard, Kind, List, Minute, Oom, Phen, Refusal, Sig, Text, Zone};
+use std::alloc::Global;
 
 fn hazard() -> Option<Hazard> {
     let phen = Phen::new(*b"WS")?;
@@ -131,7 +132,7 @@ fn of_products(name: &str) -> Option<Refusal> {
 }
 
 /// The refusal of this name; the field of a request, or of a text, that it names is given.
-pub fn refusal_named(name: &str, field: Text, text: Text) -> Option<Refusal> {
+fn with_fields(name: &str, field: Text, text: Text) -> Option<Refusal> {
     let found = of_calls(name, field);
     if found.is_some() {
         return found;
@@ -149,4 +150,11 @@ pub fn refusal_named(name: &str, field: Text, text: Text) -> Option<Refusal> {
         return found;
     }
     of_products(name)
+}
+
+/// The refusal of this name, if there is one.
+pub fn refusal_named(alloc: Global, name: &str) -> Result<Option<Refusal>, Oom> {
+    let field = List::from_slice(alloc, b"?")?;
+    let text = List::from_slice(alloc, b"what")?;
+    Ok(with_fields(name, field, text))
 }
