@@ -5,7 +5,7 @@ use Rattle.desk_traits.proofs.Pieces.{adds_both}
 use Rattle.program_ends.specs.declared.reading.Stop.{Stop}
 use Rattle.program_ends.specs.declared.reading.Stop.TheVariants as stop
 use Rattle.program_ends.specs.Lines.{fit}
-use Rattle.program_ends.specs.Runs.{Answered}
+use Rattle.program_ends.specs.Runs.{Answered, LacksNext}
 use Rattle.program_ends.specs.Steps.{Halts, HaltsAt}
 
 pub adds_none : (taken : Option (List ℕ)) → Adds taken taken []
@@ -20,7 +20,7 @@ module _ {A : Type 0} (answers : A → Option (List ℕ) → List ℕ → A → 
   pub answered_one : (a b : A) (line text : List ℕ) → answers a (fit line) text b → Answered answers a (line ∷ []) text b
   answered_one a b line text h = (text, b, [], h, sym (append-nil text), (refl, refl))
 
-  pub halts_after : (a b z : A) (xs ys : List (List ℕ)) (v : List ℕ) (taken mid taken' : Option (List ℕ)) (why : Stop) → Answered answers a xs v b → Adds taken mid v → Halts answers lacks b z ys mid taken' why → Halts answers lacks a z (xs ++ ys) taken taken' why
+  unfoldable pub halts_after : (a b z : A) (xs ys : List (List ℕ)) (v : List ℕ) (taken mid taken' : Option (List ℕ)) (why : Stop) → Answered answers a xs v b → Adds taken mid v → Halts answers lacks b z ys mid taken' why → Halts answers lacks a z (xs ++ ys) taken taken' why
   halts_after a b z xs ys v taken mid taken' why p adds halts = record {
     done = xs ++ halts.done;
     others = halts.others;
@@ -36,7 +36,12 @@ module _ {A : Type 0} (answers : A → Option (List ℕ) → List ℕ → A → 
     reasons = halts.reasons;
   }
 
-  pub halts_within : (a z : A) (xs ys all : List (List ℕ)) (taken taken' : Option (List ℕ)) (why : Stop) → all ≡ xs ++ ys → Halts answers lacks a z xs taken taken' why → Halts answers lacks a z all taken taken' why
+  -- the next of more lines
+  pub lacks_within : (last : A) (others ys : List (List ℕ)) (z : A) → LacksNext lacks last others z → LacksNext lacks last (others ++ ys) z
+  lacks_within last others ys z (inl same) = inl same
+  lacks_within last others ys z (inr (line, more, is, at)) = inr (line, more ++ ys, ap (λ (l : List (List ℕ)). l ++ ys) is, at)
+
+  unfoldable pub halts_within : (a z : A) (xs ys all : List (List ℕ)) (taken taken' : Option (List ℕ)) (why : Stop) → all ≡ xs ++ ys → Halts answers lacks a z xs taken taken' why → Halts answers lacks a z all taken taken' why
   halts_within a z xs ys all taken taken' why is halts = record {
     done = halts.done;
     others = halts.others ++ ys;
@@ -47,13 +52,13 @@ module _ {A : Type 0} (answers : A → Option (List ℕ) → List ℕ → A → 
     answered = halts.answered;
     adds = halts.adds;
     begins = halts.begins;
-    no_memory = halts.no_memory;
+    no_memory = λ e. let was = halts.no_memory e in (was.0, lacks_within halts.last halts.others ys z was.1);
     write_fault = halts.write_fault;
     reasons = halts.reasons;
   }
 
   -- at the next of the lines
-  pub halts_next : (a z : A) (line : List ℕ) (more : List (List ℕ)) (taken taken' : Option (List ℕ)) (why : Stop) → HaltsAt answers lacks a z (fit line) taken taken' why → ((why ≡ stop.OutOfMemory) ⊎ (why ≡ stop.Write)) → Halts answers lacks a z (line ∷ more) taken taken' why
+  unfoldable pub halts_next : (a z : A) (line : List ℕ) (more : List (List ℕ)) (taken taken' : Option (List ℕ)) (why : Stop) → HaltsAt answers lacks a z (fit line) taken taken' why → ((why ≡ stop.OutOfMemory) ⊎ (why ≡ stop.Write)) → Halts answers lacks a z (line ∷ more) taken taken' why
   halts_next a z line more taken taken' why at (inl memory) =
       let was = at.no_memory memory in
       record {
@@ -66,7 +71,7 @@ module _ {A : Type 0} (answers : A → Option (List ℕ) → List ℕ → A → 
         answered = (refl, refl);
         adds = rw was.0 (adds_none taken);
         begins = ([], refl);
-        no_memory = λ _. (refl, inr (fit line, was.1));
+        no_memory = λ _. (refl, inr (line, more, refl, was.1));
         write_fault = λ e. absurd (cc);
         reasons = inl memory;
       }

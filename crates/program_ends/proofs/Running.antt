@@ -1,5 +1,6 @@
 -- Chunks that are read one after another, and how a run ends.
-use Rattle.std.proofs.Common.{ℕ, ◌≡◌, ◌≤◌, ◌+◌, ◌==◌, true, false, cond, List, [], ◌∷◌, ◌++◌, length, take, drop, refl, ap, sym, ◌∙◌, append_assoc, append-nil, Option, Result, Ok, Err, IsErrAnd, OnOk, IfErr, ◌⊎◌, inl, inr, rules, arith, length-append}
+use Rattle.std.proofs.Common.{ℕ, ◌≡◌, ◌≤◌, ◌<◌, ◌+◌, ◌==◌, true, false, cond, List, [], ◌∷◌, ◌++◌, length, take, drop, refl, ap, sym, ◌∙◌, append_assoc, append-nil, Option, Result, Ok, Err, IsErrAnd, OnOk, IfErr, ◌⊎◌, inl, inr, rules, arith, length-append}
+use Rattle.std.proofs.lemmas.Bool.Decides.{leb_tells}
 use Rattle.std.proofs.lemmas.List.{take-append-drop, take-append-le, length-take, take_all}
 use Rattle.std.proofs.Math.Seq.{take-append-add}
 use Rattle.desk_traits.specs.Streams.{Adds, Takes, IsAtEnd}
@@ -7,7 +8,7 @@ use Rattle.desk_traits.proofs.Pieces.{adds_both, takes_both}
 use Rattle.program_ends.specs.declared.reading.Stop.{Stop}
 use Rattle.program_ends.specs.declared.reading.Stop.TheVariants as stop
 use Rattle.program_ends.specs.Lines.{Pending, pending_of, lines_from, rest_from, lines_of, ended_lines, without_return, fit}
-use Rattle.program_ends.specs.Runs.{Answered}
+use Rattle.program_ends.specs.Runs.{Answered, LacksNext}
 use Rattle.program_ends.specs.Steps.{Feeds, Halts, HaltsAt, Replies, Runs}
 use Rattle.program_ends.proofs.Telling.{begins_self}
 use Rattle.program_ends.proofs.Answering.{answered_append, answered_one, halts_after, halts_within, halts_next}
@@ -76,6 +77,29 @@ module _ {A : Type 0} (answers : A → Option (List ℕ) → List ℕ → A → 
         total_is = omega (arith, more_is, ran.total_is, length-append ran.read part, ap length same);
       }
 
+  -- a part of a chunk is what stands within the limit
+  cut_front : (chunk part : List ℕ) (n : ℕ) → part ≡ take n chunk → total + n ≤ limit → (total + n < limit → length chunk ≤ n) → take limit (ran.read ++ chunk) ≡ ran.read ++ part
+  cut_front chunk part n part_is few all =
+      elim (leb_tells limit (total + n)) [
+        | inl h ↦
+            let to_limit : limit ≡ length ran.read + n = omega (arith, ran.total_is, few, h.1) in
+            ap (λ (k : ℕ). take k (ran.read ++ chunk)) to_limit ∙ take-append-add ran.read chunk n ∙ ap (λ (l : List ℕ). ran.read ++ l) (sym part_is)
+        | inr h ↦
+            let short : length chunk ≤ n = all h.1 in
+            let fits : length (ran.read ++ chunk) ≤ limit = omega (arith, ran.total_is, h.1, short, length-append ran.read chunk) in
+            take_all limit (ran.read ++ chunk) fits ∙ ap (λ (l : List ℕ). ran.read ++ l) (sym (part_is ∙ take_all n chunk short))
+      ]
+
+  -- the line for which memory lacked is among those of the bytes
+  next_within : {Q : Type 0} (last y : A) (bytes : List ℕ) (done others : List (List ℕ)) → ended_lines bytes ≡ done ++ others → LacksNext lacks last others y
+      → (y ≡ last) ⊎ ((line : List ℕ) × (more : List (List ℕ)) × (ended_lines bytes ≡ done ++ line ∷ more)) ⊎ Q
+  next_within last y bytes done others first (inl same) = inl same
+  next_within last y bytes done others first (inr (line, more, is, at)) = inr (inl (line, more, first ∙ ap (λ (l : List (List ℕ)). done ++ l) is))
+
+  -- what was read within the limit
+  read_front_all : total ≤ limit → take limit ran.read ≡ ran.read
+  read_front_all few = take_all limit ran.read (omega (arith, ran.total_is, few))
+
   -- a read failed
   pub ends_read : {T : Type 0} → total ≤ limit → (left' : Option (List ℕ)) → left' ≡ mid → Runs {A = A} {T = T} answers lacks limit a z left left' taken mid' (Err stop.Read)
   ends_read few left' same = record {
@@ -90,11 +114,13 @@ module _ {A : Type 0} (answers : A → Option (List ℕ) → List ℕ → A → 
       within = omega (arith, ran.total_is);
       first = refl;
       answered = ran.answered;
+      whole = inr ([], ap ended_lines (read_front_all few) ∙ sym (append-nil (ended_lines ran.read)));
       ended = λ e. absurd (cc);
       read_fault = λ _. (omega (arith, ran.total_is), refl);
       too_long = λ e. absurd (cc);
       state = λ _. refl;
       no_memory = λ e. absurd (cc);
+      next = λ e. absurd (cc);
       reasons = search rules;
     };
     adds = ran.adds;
@@ -117,11 +143,13 @@ module _ {A : Type 0} (answers : A → Option (List ℕ) → List ℕ → A → 
       within = omega (arith, ran.total_is);
       first = sym (append-nil (lines_of ran.read));
       answered = answered_append answers lacks a z y (lines_from [] ran.read) (rest_from [] ran.read ∷ []) ran.written told.text ran.answered (answered_one answers lacks z y (rest_from [] ran.read) told.text told.answered);
+      whole = inl (refl, at_end, omega (arith, ran.total_is));
       ended = λ _. (at_end, omega (arith, ran.total_is), refl);
       read_fault = λ e. absurd (cc);
       too_long = λ e. absurd (cc);
       state = λ _. refl;
       no_memory = λ e. absurd (cc);
+      next = λ e. absurd (cc);
       reasons = search rules;
     };
     adds = adds_both _ _ _ _ _ _ ran.adds told.adds refl;
@@ -129,50 +157,57 @@ module _ {A : Type 0} (answers : A → Option (List ℕ) → List ℕ → A → 
     whole = λ _. refl;
   }
 
-  ends_halted : {T : Type 0} → total ≤ limit → (chunk : List ℕ) (left' : Option (List ℕ)) → Takes mid left' chunk → total + length chunk ≤ limit + 1 → (y : A) (taken' : Option (List ℕ)) (why : Stop)
-      → ((why ≡ stop.OutOfMemory) ⊎ (why ≡ stop.Write)) → Halts answers lacks a y (lines_of (ran.read ++ chunk)) taken taken' why → Runs {A = A} {T = T} answers lacks limit a y left left' taken taken' (Err why)
-  ends_halted few chunk left' takes within y taken' why (inl memory) halts =
+  ends_halted : {T : Type 0} → (bytes : List ℕ) (left' : Option (List ℕ)) → Takes left left' bytes → length bytes ≤ limit + 1 → (y : A) (taken' : Option (List ℕ)) (why : Stop)
+      → ((why ≡ stop.OutOfMemory) ⊎ (why ≡ stop.Write)) → (halts : Halts answers lacks a y (lines_of bytes) taken taken' why)
+      → (((halts.others ≡ []) × IsAtEnd left' × (length bytes ≤ limit)) ⊎ ((more : List (List ℕ)) × (ended_lines (take limit bytes) ≡ halts.done ++ more)))
+      → (why ≡ stop.OutOfMemory → (y ≡ halts.last) ⊎ ((line : List ℕ) × (more : List (List ℕ)) × (ended_lines (take limit bytes) ≡ halts.done ++ line ∷ more)) ⊎ ((line : List ℕ) × (halts.others ≡ line ∷ []) × IsAtEnd left' × (length bytes ≤ limit)))
+      → Runs {A = A} {T = T} answers lacks limit a y left left' taken taken' (Err why)
+  ends_halted bytes left' takes within y taken' why (inl memory) halts whole next =
       rw memory (record {
         told = halts.told;
         written = halts.written;
         run = record {
-          read = ran.read ++ chunk;
+          read = bytes;
           lines = halts.done;
           others = halts.others;
           last = halts.last;
-          takes = takes_both _ _ _ _ _ _ ran.takes takes refl;
-          within = omega (arith, ran.total_is, length-append ran.read chunk);
+          takes = takes;
+          within = within;
           first = halts.first;
           answered = halts.answered;
+          whole = whole;
           ended = λ e. absurd (cc);
           read_fault = λ e. absurd (cc);
           too_long = λ e. absurd (cc);
           state = λ no. absurd (no refl);
           no_memory = λ _. (halts.no_memory memory).1;
+          next = λ _. next memory;
           reasons = search rules;
         };
         adds = halts.adds;
         begins = halts.begins;
         whole = λ _. (halts.no_memory memory).0;
       })
-  ends_halted few chunk left' takes within y taken' why (inr write) halts =
+  ends_halted bytes left' takes within y taken' why (inr write) halts whole next =
       rw write (record {
         told = halts.told;
         written = halts.written;
         run = record {
-          read = ran.read ++ chunk;
+          read = bytes;
           lines = halts.done;
           others = halts.others;
           last = halts.last;
-          takes = takes_both _ _ _ _ _ _ ran.takes takes refl;
-          within = omega (arith, ran.total_is, length-append ran.read chunk);
+          takes = takes;
+          within = within;
           first = halts.first;
           answered = halts.answered;
+          whole = whole;
           ended = λ e. absurd (cc);
           read_fault = λ e. absurd (cc);
           too_long = λ e. absurd (cc);
           state = λ _. halts.write_fault write;
           no_memory = λ e. absurd (cc);
+          next = λ e. absurd (cc);
           reasons = search rules;
         };
         adds = halts.adds;
@@ -181,17 +216,35 @@ module _ {A : Type 0} (answers : A → Option (List ℕ) → List ℕ → A → 
       })
 
   -- the last line was not answered
-  pub ends_last : {T : Type 0} → total ≤ limit → (left' : Option (List ℕ)) → Takes mid left' [] → (y : A) (taken' : Option (List ℕ)) (why : Stop) → HaltsAt answers lacks z y (fit (rest_from [] ran.read)) mid' taken' why
+  last_halts : (y : A) (taken' : Option (List ℕ)) (why : Stop) → HaltsAt answers lacks z y (fit (rest_from [] ran.read)) mid' taken' why → ((why ≡ stop.OutOfMemory) ⊎ (why ≡ stop.Write)) → Halts answers lacks a y (lines_of ran.read) taken taken' why
+  last_halts y taken' why at reasons = halts_after answers lacks a z y (lines_from [] ran.read) (rest_from [] ran.read ∷ []) ran.written taken mid' taken' why ran.answered ran.adds (halts_next answers lacks z y (rest_from [] ran.read) [] mid' taken' why at reasons)
+
+  last_whole : total ≤ limit → (left' : Option (List ℕ)) → IsAtEnd left' → (y : A) (taken' : Option (List ℕ)) (why : Stop) (at : HaltsAt answers lacks z y (fit (rest_from [] ran.read)) mid' taken' why) (reasons : (why ≡ stop.OutOfMemory) ⊎ (why ≡ stop.Write))
+      → (((last_halts y taken' why at reasons).others ≡ []) × IsAtEnd left' × (length ran.read ≤ limit)) ⊎ ((more : List (List ℕ)) × (ended_lines (take limit ran.read) ≡ (last_halts y taken' why at reasons).done ++ more))
+  unfolding last_halts halts_after halts_next
+  last_whole few left' at_end y taken' why at (inl memory) =
+      let lines = lines_from [] ran.read in
+      inr ([], ap ended_lines (read_front_all few) ∙ sym (append-nil lines) ∙ sym (append-nil (lines ++ [])))
+  last_whole few left' at_end y taken' why at (inr write) = inl (refl, at_end, omega (arith, ran.total_is))
+
+  last_next : total ≤ limit → (left' : Option (List ℕ)) → IsAtEnd left' → (y : A) (taken' : Option (List ℕ)) (why : Stop) (at : HaltsAt answers lacks z y (fit (rest_from [] ran.read)) mid' taken' why) (reasons : (why ≡ stop.OutOfMemory) ⊎ (why ≡ stop.Write))
+      → why ≡ stop.OutOfMemory → (y ≡ (last_halts y taken' why at reasons).last) ⊎ ((line : List ℕ) × (more : List (List ℕ)) × (ended_lines (take limit ran.read) ≡ (last_halts y taken' why at reasons).done ++ line ∷ more))
+      ⊎ ((line : List ℕ) × ((last_halts y taken' why at reasons).others ≡ line ∷ []) × IsAtEnd left' × (length ran.read ≤ limit))
+  unfolding last_halts halts_after halts_next
+  last_next few left' at_end y taken' why at (inl memory) e = inr (inr (rest_from [] ran.read, refl, at_end, omega (arith, ran.total_is)))
+  last_next few left' at_end y taken' why at (inr write) e = absurd (cc)
+
+  pub ends_last : {T : Type 0} → total ≤ limit → (left' : Option (List ℕ)) → Takes mid left' [] → IsAtEnd left' → (y : A) (taken' : Option (List ℕ)) (why : Stop) → HaltsAt answers lacks z y (fit (rest_from [] ran.read)) mid' taken' why
       → Runs {A = A} {T = T} answers lacks limit a y left left' taken taken' (Err why)
-  ends_last few left' takes y taken' why at =
-      let halts = halts_after answers lacks a z y (lines_from [] ran.read) (rest_from [] ran.read ∷ []) ran.written taken mid' taken' why ran.answered ran.adds (halts_next answers lacks z y (rest_from [] ran.read) [] mid' taken' why at at.reasons) in
-      ends_halted few [] left' takes (omega arith) y taken' why at.reasons (rw (append-nil ran.read) halts)
+  ends_last few left' takes at_end y taken' why at =
+      ends_halted ran.read left' (takes_both _ _ _ _ _ _ ran.takes takes (append-nil ran.read)) (omega (arith, ran.total_is)) y taken' why at.reasons (last_halts y taken' why at at.reasons)
+      (last_whole few left' at_end y taken' why at at.reasons) (last_next few left' at_end y taken' why at at.reasons)
 
   -- the input's end was read
   pub ends_reply : {T : Type 0} (r : Result T Stop) → total ≤ limit → (left' : Option (List ℕ)) → Takes mid left' [] → IsAtEnd left' → (y : A) (taken' : Option (List ℕ)) → OnOk r (Replies answers z y (fit (rest_from [] ran.read)) mid' taken')
       → IfErr r (λ why. HaltsAt answers lacks z y (fit (rest_from [] ran.read)) mid' taken' why) → Runs answers lacks limit a y left left' taken taken' r
   ends_reply (Ok x) few left' takes at_end y taken' told at = ends_done x few left' takes at_end y taken' told
-  ends_reply (Err why) few left' takes at_end y taken' told at = ends_last few left' takes y taken' why at
+  ends_reply (Err why) few left' takes at_end y taken' told at = ends_last few left' takes at_end y taken' why at
 
   -- the lines behind those that end in a part of a chunk
   abbrev behind : (chunk part : List ℕ) (n : ℕ) → List (List ℕ)
@@ -205,22 +258,28 @@ module _ {A : Type 0} (answers : A → Option (List ℕ) → List ℕ → A → 
       ap (λ (l : List ℕ). lines_from [] l) (ap (λ (l : List ℕ). ran.read ++ l) (sym whole) ∙ sym (append_assoc ran.read part rest)) ∙ lines_append [] (ran.read ++ part) rest in
       ap (λ (l : List (List ℕ)). l ++ rest_from [] (ran.read ++ chunk) ∷ []) all ∙ append_assoc (lines_from [] (ran.read ++ part)) _ _
 
+  -- the lines of a chunk within the limit
+  part_halts : (part : List ℕ) (y : A) (taken' : Option (List ℕ)) (why : Stop) → Halts answers lacks z y (lines_from (rest_from [] ran.read) part) mid' taken' why → Halts answers lacks a y (ended_lines (ran.read ++ part)) taken taken' why
+  part_halts part y taken' why halts = rw (lines_more part) (halts_after answers lacks a z y (lines_from [] ran.read) (lines_from (rest_from [] ran.read) part) ran.written taken mid' taken' why ran.answered ran.adds halts)
+
   -- a line of a chunk was not answered
-  pub ends_within : {T : Type 0} → total ≤ limit → (chunk part : List ℕ) (n : ℕ) → part ≡ take n chunk → (left' : Option (List ℕ)) → Takes mid left' chunk → total + length chunk ≤ limit + 1 → (y : A) (taken' : Option (List ℕ)) (why : Stop)
-      → Halts answers lacks z y (lines_from (rest_from [] ran.read) part) mid' taken' why → Runs {A = A} {T = T} answers lacks limit a y left left' taken taken' (Err why)
-  ends_within few chunk part n part_is left' takes within y taken' why halts =
-      let front = lines_from [] ran.read ++ lines_from (rest_from [] ran.read) part in
-      let parts : lines_of (ran.read ++ chunk) ≡ front ++ behind chunk part n = lines_parted chunk part n part_is ∙ ap (λ (l : List (List ℕ)). l ++ behind chunk part n) (lines_more part) in
-      ends_halted few chunk left' takes within y taken' why halts.reasons
-      (halts_within answers lacks a y front (behind chunk part n) (lines_of (ran.read ++ chunk)) taken taken' why parts
-      (halts_after answers lacks a z y (lines_from [] ran.read) (lines_from (rest_from [] ran.read) part) ran.written taken mid' taken' why ran.answered ran.adds halts))
+  pub ends_within : {T : Type 0} → (chunk part : List ℕ) (n : ℕ) → part ≡ take n chunk → total + n ≤ limit → (total + n < limit → length chunk ≤ n) → (left' : Option (List ℕ)) → Takes mid left' chunk → total + length chunk ≤ limit + 1
+      → (y : A) (taken' : Option (List ℕ)) (why : Stop) → Halts answers lacks z y (lines_from (rest_from [] ran.read) part) mid' taken' why → Runs {A = A} {T = T} answers lacks limit a y left left' taken taken' (Err why)
+  unfolding halts_within part_halts
+  ends_within chunk part n part_is few all left' takes within y taken' why halts =
+      let bytes = ran.read ++ chunk in
+      let front : take limit bytes ≡ ran.read ++ part = cut_front chunk part n part_is few all in
+      let some = part_halts part y taken' why halts in
+      let first : ended_lines (take limit bytes) ≡ some.done ++ some.others = ap ended_lines front ∙ some.first in
+      ends_halted bytes left' (takes_both _ _ _ _ _ _ ran.takes takes refl) (omega (arith, ran.total_is, within, length-append ran.read chunk)) y taken' why halts.reasons
+      (halts_within answers lacks a y (ended_lines (ran.read ++ part)) (behind chunk part n) (lines_of bytes) taken taken' why (lines_parted chunk part n part_is) some)
+      (inr (some.others, first)) (λ e. next_within some.last y (take limit bytes) some.done some.others first (some.no_memory e).1)
 
   -- more bytes were read than the limit
   pub ends_long : {T : Type 0} → (chunk part : List ℕ) (n : ℕ) → part ≡ take n chunk → total + n ≡ limit → total + length chunk ≡ limit + 1 → (left' : Option (List ℕ)) → Takes mid left' chunk
       → (y : A) (begun : Pending) (taken' : Option (List ℕ)) → Feeds answers z y (rest_from [] ran.read) part begun mid' taken' → Runs {A = A} {T = T} answers lacks limit a y left left' taken taken' (Err stop.TooLong)
   ends_long chunk part n part_is to_limit over left' takes y begun taken' feeds =
-      let front : take limit (ran.read ++ chunk) ≡ ran.read ++ part =
-      ap (λ (k : ℕ). take k (ran.read ++ chunk)) (let k : limit ≡ length ran.read + n = omega (arith, ran.total_is) in k) ∙ take-append-add ran.read chunk n ∙ ap (λ (l : List ℕ). ran.read ++ l) (sym part_is) in
+      let front : take limit (ran.read ++ chunk) ≡ ran.read ++ part = cut_front chunk part n part_is (omega (arith, to_limit)) (λ h. omega (arith, to_limit, h)) in
       let told = ran.written ++ feeds.written in
       record {
         told = told;
@@ -234,11 +293,13 @@ module _ {A : Type 0} (answers : A → Option (List ℕ) → List ℕ → A → 
           within = omega (arith, ran.total_is, length-append ran.read chunk);
           first = lines_parted chunk part n part_is;
           answered = fed_answered part y begun taken' feeds;
+          whole = inr ([], ap ended_lines front ∙ sym (append-nil (ended_lines (ran.read ++ part))));
           ended = λ e. absurd (cc);
           read_fault = λ e. absurd (cc);
           too_long = λ _. (omega (arith, ran.total_is, length-append ran.read chunk), ap ended_lines (sym front));
           state = λ _. refl;
           no_memory = λ e. absurd (cc);
+          next = λ e. absurd (cc);
           reasons = search rules;
         };
         adds = adds_both _ _ _ _ _ _ ran.adds feeds.adds refl;

@@ -14,9 +14,9 @@ abbrev pub Answered : {A : Type 0} → (A → Option (List ℕ) → List ℕ →
 Answered answers a [] told z = (told ≡ []) × (z ≡ a)
 Answered answers a (line ∷ lines) told z = (text : List ℕ) × (b : _) × (rest : List ℕ) × answers a (fit line) text b × (told ≡ text ++ rest) × Answered answers b lines rest z
 
--- memory lacked for the answer to a line, or before the next line was judged
-abbrev pub LacksNext : {A : Type 0} → (A → Option (List ℕ) → A → Type 0) → A → A → Type 0
-LacksNext lacks last z = (z ≡ last) ⊎ ((line : Option (List ℕ)) × lacks last line z)
+-- memory lacked before the next line was judged, or for the answer to it
+abbrev pub LacksNext : {A : Type 0} → (A → Option (List ℕ) → A → Type 0) → A → List (List ℕ) → A → Type 0
+LacksNext lacks last others z = (z ≡ last) ⊎ ((line : List ℕ) × (more : List (List ℕ)) × (others ≡ line ∷ more) × lacks last (fit line) z)
 
 -- The first lines of an input of at most this many bytes were answered until a run ended: well, or for a reason. This is all that was told, and the state after it.
 pub record AnswersUntil {A : Type 0} (answers : A → Option (List ℕ) → List ℕ → A → Type 0) (lacks : A → Option (List ℕ) → A → Type 0) (limit : ℕ) (a z : A) (left left' : Option (List ℕ)) (end : Option End) (told : List ℕ) : Type 0 where
@@ -29,13 +29,17 @@ pub record AnswersUntil {A : Type 0} (answers : A → Option (List ℕ) → List
   pub within : length read ≤ limit + 1
   pub first : lines_of read ≡ lines ++ others
   pub answered : Answered answers a lines told last
+  -- the answered lines are some of those that an LF within the limit ends, or, at the input's end, all
+  pub whole : ((others ≡ []) × IsAtEnd left' × (length read ≤ limit)) ⊎ ((more : List (List ℕ)) × (ended_lines (take limit read) ≡ lines ++ more))
   -- all lines, the last of which has no LF
   pub ended : end ≡ None → IsAtEnd left' × (length read ≤ limit) × (lines ≡ lines_of read)
   -- all lines that an LF ends
   pub read_fault : end ≡ Some ReadFault → (length read ≤ limit) × (lines ≡ ended_lines read)
   pub too_long : end ≡ Some InputTooLong → (length read ≡ limit + 1) × (lines ≡ ended_lines (take limit read))
   pub state : end ≢ Some OutOfMemory → z ≡ last
-  pub no_memory : end ≡ Some OutOfMemory → LacksNext lacks last z
+  pub no_memory : end ≡ Some OutOfMemory → LacksNext lacks last others z
+  -- the line that was judged when memory lacked is one that an LF within the limit ends, or the last one at the input's end
+  pub next : end ≡ Some OutOfMemory → (z ≡ last) ⊎ ((line : List ℕ) × (more : List (List ℕ)) × (ended_lines (take limit read) ≡ lines ++ line ∷ more)) ⊎ ((line : List ℕ) × (others ≡ line ∷ []) × IsAtEnd left' × (length read ≤ limit))
   pub reasons : (end ≡ None) ⊎ (end ≡ Some ReadFault) ⊎ (end ≡ Some WriteFault) ⊎ (end ≡ Some InputTooLong) ⊎ (end ≡ Some OutOfMemory)
 
 -- A whole run over the lines of an input: what was answered, what was told of its end, and the counts of both ends before and after.

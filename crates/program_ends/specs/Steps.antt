@@ -38,7 +38,7 @@ pub record Halts {A : Type 0} (answers : A → Option (List ℕ) → List ℕ �
   pub answered : Answered answers a done told last
   pub adds : Adds taken taken' written
   pub begins : Begins written told
-  pub no_memory : why ≡ stop.OutOfMemory → (written ≡ told) × LacksNext lacks last z
+  pub no_memory : why ≡ stop.OutOfMemory → (written ≡ told) × LacksNext lacks last others z
   pub write_fault : why ≡ stop.Write → z ≡ last
   pub reasons : (why ≡ stop.OutOfMemory) ⊎ (why ≡ stop.Write)
 

@@ -14,4 +14,4 @@ pub use ends::End;
 pub use laws::lines_make_up_the_input;
 pub use lines::{Answers, LIMIT, run_lines};
 pub use reading::{Stop, read_front};
-pub use words::{command_line, given_words};
+pub use words::{command_line, given_words, show_usage};

@@ -2,6 +2,7 @@
 ghost use Rattle.std.specs.Prelude.{◌≡◌, IfOk};
 ghost use Rattle.program_ends.specs.Words.{words_behind};
 
+use crate::ends::End;
 use hazard_types::{List, Oom, Text};
 use std::alloc::Global;
 use std::{env, io};
@@ -30,4 +31,12 @@ pub fn given_words(alloc: Global, words: &[String], skipped: usize) -> Result<Li
         given.push(List::from_slice(alloc, word.as_bytes())?)?;
     }
     Ok(given)
+}
+
+/// Shows the words that a program takes on standard error, where the words that it was given are none of them.
+/// Standard error is no output of the program: what can't be written there is left out.
+pub fn show_usage(rt: &HostRuntime, status: u8, usage: &str) {
+    if status == End::Usage.status() {
+        let _ = rt.eprint(usage);
+    }
 }

@@ -15,9 +15,11 @@ mod texts;
 mod words;
 
 use desk_traits::{StdSink, StdSource};
-use program_ends::{End, command_line};
+use program_ends::{End, command_line, show_usage};
 use std::io;
 use std::process::ExitCode;
+
+const USAGE: &str = "warn_archive OFFICE CLASS STAMP\n";
 
 fn main(rt: HostRuntime) -> ExitCode {
     let Ok(words) = command_line(&rt) else {
@@ -26,6 +28,7 @@ fn main(rt: HostRuntime) -> ExitCode {
     let mut input = StdSource::new(rt.reader());
     let mut output = StdSink::new(io::writer(&rt));
     let status = archive::run_program(rt.alloc(), &words, &mut input, &mut output);
+    show_usage(&rt, status, USAGE);
     ExitCode::from(status)
 }
 

@@ -45,7 +45,7 @@ returns-in_err-feed-clause-run g c =
     let part = front_part buffer count c.min-within.result within bytes.1 in
     rw (stops_by c.from_residual.result c.in_err-feed.field-0.0 c.from_residual.ensures.1)
     (ends_within g.A.Answers.answers g.A.Answers.lacks c.args.limit c.args.answers.now c.loop-turn.answers (g.S.Source.left c.args.input.now) (g.S.Source.left c.loop-turn.input) (g.K.Sink.taken c.args.output.now) (g.K.Sink.taken c.loop-turn.output) c.loop-turn.line c.loop-turn.total ran
-    c.loop-turn.invariant.within (take count buffer) (take c.min-within.result buffer) c.min-within.result part (g.S.Source.left c.read_front.new.input) bytes.2
+    (take count buffer) (take c.min-within.result buffer) c.min-within.result part (omega (arith, c.min-within.ensures, c.loop-turn.invariant.within)) (λ h. omega (arith, h, c.min-within.ensures, c.loop-turn.invariant.within, length-take count buffer)) (g.S.Source.left c.read_front.new.input) bytes.2
     (omega (arith, c.loop-turn.invariant.within, bytes.0, c.min-room.ensures, length-take count buffer)) c.feed.new.answers (g.K.Sink.taken c.feed.new.output) c.in_err-feed.field-0.0
     (c.in_err-feed.ensures.halted (rest_from [] ran.read) ran.line_is))
 
