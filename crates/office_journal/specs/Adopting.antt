@@ -9,7 +9,7 @@ use Rattle.office_journal.specs.declared.faults.KeepFault.{KeepFault}
 use Rattle.office_journal.specs.declared.faults.KeepFault.TheVariants.{Damaged, OutOfMemory}
 use Rattle.office_journal.specs.declared.kept.KeptOffice.{KeptOffice}
 
--- it has this journal, and the state of the history that the bodies are of
+-- it has this journal, the state of the history that the bodies are of, and no note of a fault
 pub record IsOpened {D : Type 0} {d : _} (journal : Journal D d) (all : List (List ℕ)) (kept : KeptOffice D d) : Type 0 where
   pub same : kept.journal ≡ journal
   pub file : List ℕ
@@ -18,6 +18,7 @@ pub record IsOpened {D : Type 0} {d : _} (journal : Journal D d) (all : List (Li
   pub state : IsHistory file history kept.office.state
   pub reads : ReadsAsTheBoard kept.office.state
   pub entries : kept.entries ≡ length history.entries
+  pub notes : kept.notes ≡ 0
 
 -- why the bodies give no office
 abbrev pub Fails : List (List ℕ) → KeepFault → Type 0

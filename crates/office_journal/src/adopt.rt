@@ -11,7 +11,7 @@ ghost use Rattle.office_core.specs.Agreement.{ReadsAsTheBoard};
 ghost use Rattle.office_journal.specs.Adopting.{Opens};
 ghost use Rattle.office_journal.specs.Damage.{IsDamagedAt};
 ghost use Rattle.office_journal.specs.Histories.{History, ImageOf};
-ghost use Rattle.office_journal.specs.Kept.{Holds, disk_of, state_of};
+ghost use Rattle.office_journal.specs.Kept.{Holds, disk_of, notes_of, state_of};
 ghost use Rattle.office_journal.specs.declared.faults.KeepFault.TheVariants.{Damaged};
 ghost use Rattle.office_journal.specs.declared.faults.KeepFault.TheVariants as keep;
 
@@ -39,6 +39,9 @@ impl<D: Disk> KeptOffice<D> {
 
         // Someone who has the texts alone finds the board.
         ensures reads { IfOk result (λ kept. ReadsAsTheBoard (state_of kept)) }
+
+        // No append has met a disk fault yet.
+        ensures notes { IfOk result (λ kept. notes_of kept ≡ 0) }
 
         ensures fresh { (bytes : List ℕ) → D.seen disk ≡ Some bytes → IfErr result (λ e. e.1 ≡ keep.Fresh → Fresh bytes) }
         ensures damaged { (bytes : List ℕ) → D.seen disk ≡ Some bytes → IfErr result (λ e. (at : ℕ) → e.1 ≡ Damaged at → IsDamagedAt bytes at) }

@@ -15,7 +15,7 @@ ghost use Rattle.journal_core.specs.Kept.{disk_of as journal_disk, gate_of as jo
 ghost use Rattle.office_core.specs.State.{first_state, in_edition};
 ghost use Rattle.office_journal.specs.Bodies.{mark};
 ghost use Rattle.office_journal.specs.Histories.{empty};
-ghost use Rattle.office_journal.specs.Kept.{Holds, disk_of, entries_of, state_of};
+ghost use Rattle.office_journal.specs.Kept.{Holds, disk_of, entries_of, notes_of, state_of};
 ghost use Rattle.office_journal.specs.Making.{IsMadeFor, IsMakingFault, IsMakingOf};
 ghost use Rattle.office_journal.specs.declared.faults.KeepFault.TheVariants.{Damaged};
 ghost use Rattle.office_journal.specs.declared.faults.KeepFault.TheVariants as keep;
@@ -50,6 +50,9 @@ impl<D: Disk> KeptOffice<D> {
         // The office in memory, whatever the disk tells.
         ensures made { IfOk result (λ kept. IsMadeFor settings.now kept) }
 
+        // No append has met a disk fault yet.
+        ensures notes { IfOk result (λ kept. notes_of kept ≡ 0) }
+
         // The settings have this fault first, and the file is fresh.
         ensures settings { (fault : Fault) → IfErr result (λ e. e.1 ≡ keep.Settings fault → settings_of settings.now ≡ Err fault) }
         ensures settings_fresh { (bytes : List ℕ) (fault : Fault) → D.seen disk ≡ Some bytes → IfErr result (λ e. e.1 ≡ keep.Settings fault → Fresh bytes) }
@@ -60,9 +63,9 @@ impl<D: Disk> KeptOffice<D> {
         // No other reason is told here.
         ensures reasons { IfErr result (λ e. (e.1 ≡ keep.Fresh → ⊥) × ((at : ℕ) → e.1 ≡ Damaged at → ⊥)) }
 
-        // After a fault of the settings, and where the file was not fresh, it is as before.
-        ensures same { IfErr result (λ e. ((fault : Fault) × (e.1 ≡ keep.Settings fault)) ⊎ (e.1 ≡ keep.NotFresh) → D.seen e.0 ≡ D.seen disk) }
-        ensures untouched { IfErr result (λ e. ((fault : Fault) × (e.1 ≡ keep.Settings fault)) ⊎ (e.1 ≡ keep.NotFresh) → LeavesOnly D.moment D.left_since disk e.0 (D.may_leave disk)) }
+        // After a fault of the settings, where the file was not fresh, and where memory lacked, it is as before.
+        ensures same { IfErr result (λ e. ((fault : Fault) × (e.1 ≡ keep.Settings fault)) ⊎ (e.1 ≡ keep.NotFresh) ⊎ (e.1 ≡ keep.OutOfMemory) → D.seen e.0 ≡ D.seen disk) }
+        ensures untouched { IfErr result (λ e. ((fault : Fault) × (e.1 ≡ keep.Settings fault)) ⊎ (e.1 ≡ keep.NotFresh) ⊎ (e.1 ≡ keep.OutOfMemory) → LeavesOnly D.moment D.left_since disk e.0 (D.may_leave disk)) }
 
         // The disk failed in this call.
         ensures cause { IfErr result (λ e. e.1 ≡ keep.DiskFault → Rose (D.faults disk) (D.faults e.0)) }
@@ -118,10 +121,11 @@ fn make<D: Disk>(
     ensures ok { (bytes : List ℕ) → D.seen disk ≡ Some bytes
         → IfOk result (λ kept. Holds D.seen D.may_leave kept text.now (empty Two) None × Only (D.seen (disk_of kept)) (D.may_leave (disk_of kept))) }
     ensures made { IfOk result (λ kept. IsMadeFor text.now kept) }
+    ensures notes { IfOk result (λ kept. notes_of kept ≡ 0) }
     ensures not_fresh { (bytes : List ℕ) → D.seen disk ≡ Some bytes → IfErr result (λ e. e.1 ≡ keep.NotFresh → Fresh bytes → ⊥) }
     ensures reasons { IfErr result (λ e. IsMakingFault e.1) }
-    ensures same { IfErr result (λ e. e.1 ≡ keep.NotFresh → D.seen e.0 ≡ D.seen disk) }
-    ensures untouched { IfErr result (λ e. e.1 ≡ keep.NotFresh → LeavesOnly D.moment D.left_since disk e.0 (D.may_leave disk)) }
+    ensures same { IfErr result (λ e. (e.1 ≡ keep.NotFresh) ⊎ (e.1 ≡ keep.OutOfMemory) → D.seen e.0 ≡ D.seen disk) }
+    ensures untouched { IfErr result (λ e. (e.1 ≡ keep.NotFresh) ⊎ (e.1 ≡ keep.OutOfMemory) → LeavesOnly D.moment D.left_since disk e.0 (D.may_leave disk)) }
     ensures cause { IfErr result (λ e. e.1 ≡ keep.DiskFault → Rose (D.faults disk) (D.faults e.0)) }
     ensures later { MatchResult result (λ kept. D.faults disk ≤ D.faults (disk_of kept)) (λ e. D.faults disk ≤ D.faults e.0) }
     ensures any_moment { (bytes : List ℕ) → D.seen disk ≡ Some bytes
@@ -145,8 +149,8 @@ fn first_journal<D: Disk>(disk: D, body: &Packet) -> Result<Journal<D>, (D, Keep
     ensures gate { IfOk result (λ journal. journal_gate journal ≡ length body.now + 5) }
     ensures not_fresh { (bytes : List ℕ) → D.seen disk ≡ Some bytes → IfErr result (λ e. e.1 ≡ keep.NotFresh → Fresh bytes → ⊥) }
     ensures reasons { IfErr result (λ e. IsMakingFault e.1) }
-    ensures same { IfErr result (λ e. e.1 ≡ keep.NotFresh → D.seen e.0 ≡ D.seen disk) }
-    ensures untouched { IfErr result (λ e. e.1 ≡ keep.NotFresh → LeavesOnly D.moment D.left_since disk e.0 (D.may_leave disk)) }
+    ensures same { IfErr result (λ e. (e.1 ≡ keep.NotFresh) ⊎ (e.1 ≡ keep.OutOfMemory) → D.seen e.0 ≡ D.seen disk) }
+    ensures untouched { IfErr result (λ e. (e.1 ≡ keep.NotFresh) ⊎ (e.1 ≡ keep.OutOfMemory) → LeavesOnly D.moment D.left_since disk e.0 (D.may_leave disk)) }
     ensures cause { IfErr result (λ e. e.1 ≡ keep.DiskFault → Rose (D.faults disk) (D.faults e.0)) }
     ensures later { MatchResult result (λ journal. D.faults disk ≤ D.faults (journal_disk journal)) (λ e. D.faults disk ≤ D.faults e.0) }
     ensures any_moment { (bytes : List ℕ) → D.seen disk ≡ Some bytes
@@ -173,6 +177,7 @@ fn go_over<D: Disk>(
     requires begun { office.state.begun ≡ 0 }
     ensures state { IfOk result (λ kept. state_of kept ≡ in_edition Two office.state) }
     ensures entries { IfOk result (λ kept. entries_of kept ≡ 0) }
+    ensures notes { IfOk result (λ kept. notes_of kept ≡ 0) }
     ensures ok { (all : List (List ℕ)) → Keeps D.seen D.may_leave journal all None
         → IfOk result (λ kept. Keeps D.seen D.may_leave kept.journal (all ++ mark ∷ []) None × Only (D.seen (disk_of kept)) (D.may_leave (disk_of kept))) }
     ensures err { IfErr result (λ e. e.1 ≡ keep.DiskFault) }

@@ -1,5 +1,5 @@
 //! How an office goes over to edition Two.
-ghost use Rattle.std.specs.Prelude.{◌≡◌, ◌≢◌, ◌⊎◌, ◌↔◌, ◌+◌, ◌≤◌, ◌<◌, ℕ, List, Option, Some, None};
+ghost use Rattle.std.specs.Prelude.{◌≡◌, ◌≢◌, ◌⊎◌, ◌↔◌, ◌+◌, ◌-◌, ◌^◌, ◌≤◌, ◌<◌, ℕ, List, Option, Some, None, min};
 ghost use Rattle.desk_traits.specs.Crash.{LeavesOnly};
 ghost use Rattle.desk_traits.specs.Faults.{Rose};
 ghost use Rattle.desk_traits.specs.File.{Only};
@@ -35,6 +35,10 @@ impl<D: Disk> KeptOffice<D> {
             → (next : Option Change) × MayTouch pending Change.marked next × Holds D.seen D.may_leave self.new file h next }
         ensures state { result ≢ Upgrade.Done → state_of self.new ≡ state_of self.old }
         ensures entries { entries_of self.new ≡ entries_of self.old }
+
+        // A disk fault counts as one note, up to the most that the count holds; nothing else does.
+        ensures notes { result ≢ Upgrade.DiskFault → notes_of self.new ≡ notes_of self.old }
+        ensures noted { result ≡ Upgrade.DiskFault → notes_of self.new ≡ min (notes_of self.old + 1) (2 ^ 64 - 1) }
 
         // Otherwise nothing is changed.
         ensures untouched { result ≢ Upgrade.Done → result ≢ Upgrade.DiskFault → (disk_of self.new ≡ disk_of self.old)
