@@ -14,10 +14,10 @@ use Rattle.office_journal.specs.Kept.{Holds, disk_of, state_of}
 use Rattle.office_journal.specs.Outcomes.{IsAsBefore}
 use Rattle.office_journal.specs.Submitting.{IsAsked}
 use Rattle.office_journal.specs.declared.answers.Answer.{Answer}
-use Rattle.office_journal.specs.declared.answers.Answer.TheVariants.{OutOfMemory}
+use Rattle.office_journal.specs.declared.answers.Answer.TheVariants.{Accepted, OutOfMemory}
 use Rattle.office_journal.specs.declared.kept.KeptOffice.{KeptOffice}
 use Rattle.desk_commands.specs.Lines.{ended, refusal_line}
-use Rattle.desk_commands.specs.Scripts.{Answers, AnswersAsked, Lacks, IsJudged, IsRead, Scripted, Submits, answer_line, entry_in, line_asks}
+use Rattle.desk_commands.specs.Scripts.{Answers, AnswersAsked, AnswersLine, Lacks, IsJudged, IsRead, Scripted, Submits, answer_line, entry_in, line_asks}
 
 module _ {D : Type 0} (d : Disks D) (a : Asked) (reading : ℤ) (kept next : KeptOffice D d) where
   abbrev pub Told : List ℕ → Type 0
@@ -37,9 +37,11 @@ module _ {D : Type 0} (d : Disks D) (a : Asked) (reading : ℤ) (kept next : Kep
   told_if answer (Ok text) becomes is later moments = told answer text becomes is later moments
   told_if answer (Err e) becomes is later moments = tt
 
-  pub untold : {E : Type 0} (answer : Answer) (line : Result (List ℕ) E) → Submits d a reading kept next answer → d.faults (disk_of kept) ≤ d.faults (disk_of next) → Moments → OnErr line ((text : List ℕ) × Told text)
-  untold answer (Ok text) becomes later moments = tt
-  untold answer (Err e) becomes later moments = (answer_line answer, told answer (answer_line answer) becomes refl later moments)
+  pub untold : {E : Type 0} (reply : List ℕ) (line : Result (List ℕ) E) → Submits d a reading kept next (Accepted reply) → d.faults (disk_of kept) ≤ d.faults (disk_of next) → Moments
+      → OnErr line ((text : List ℕ) × (x : Entered) × IsJudged d a reading kept text next (Some x))
+  unfolding told
+  untold reply (Ok text) becomes later moments = tt
+  untold reply (Err e) becomes later moments = (answer_line (Accepted reply), becomes.0, (told (Accepted reply) (answer_line (Accepted reply)) becomes refl later moments).1)
 
   -- where nothing has changed, the line of memory that lacks stands in for one for which it lacks
   pub told_or : {E : Type 0} (answer : Answer) (line : Result (List ℕ) E) (text lacks : List ℕ) → Submits d a reading kept next answer → IsAsBefore d.seen d.may_leave kept next → IfOk line (λ l. l ≡ answer_line answer)
@@ -48,12 +50,17 @@ module _ {D : Type 0} (d : Disks D) (a : Asked) (reading : ℤ) (kept next : Kep
   told_or answer (Err e) text lacks becomes same is lack chosen later moments = told OutOfMemory text same (chosen ∙ lack) later moments
 
 module _ {D C : Type 0} (d : Disks D) (k : Clocks C) where
+  -- a request was judged, and this entry was added
+  line_request : (bytes : List ℕ) (s next : Scripted (KeptOffice D d) C) (a : Asked) (reading : ℤ) (text : List ℕ) (added : Option Entered) → (bytes ≡ [] → ⊥) → asked_of bytes ≡ Ok a → IsRead k s.clock next.clock reading
+      → IsJudged d a reading s.kept text next.kept added → AnswersLine d k s (Some bytes) text next added
+  line_request [] s next a reading text added some asked read is = absurd (some refl)
+  line_request (c ∷ line) s next a reading text added some asked read is =
+      (reading, read, inl (subst (λ (r : Result Asked Refusal). AnswersAsked d reading s.kept r text next.kept added) (sym asked) is))
+
   -- a request was judged
   pub answers_request : (bytes : List ℕ) (s next : Scripted (KeptOffice D d) C) (a : Asked) (reading : ℤ) (text : List ℕ) → (bytes ≡ [] → ⊥) → asked_of bytes ≡ Ok a → IsRead k s.clock next.clock reading
       → Told d a reading s.kept next.kept text → Answers d k s (Some bytes) text next
-  answers_request [] s next a reading text some asked read is = absurd (some refl)
-  answers_request (c ∷ line) s next a reading text some asked read is =
-      (is.0, (reading, read, inl (subst (λ (r : Result Asked Refusal). AnswersAsked d reading s.kept r text next.kept is.0) (sym asked) is.1)))
+  answers_request bytes s next a reading text some asked read is = (is.0, line_request bytes s next a reading text is.0 some asked read is.1)
 
   pub request_if : {E : Type 0} (line : Result (List ℕ) E) (bytes : List ℕ) (s next : Scripted (KeptOffice D d) C) (a : Asked) (reading : ℤ) → (bytes ≡ [] → ⊥) → asked_of bytes ≡ Ok a → IsRead k s.clock next.clock reading
       → IfOk line (λ text. Told d a reading s.kept next.kept text) → IfOk line (λ text. Answers d k s (Some bytes) text next)
@@ -80,10 +87,10 @@ module _ {D C : Type 0} (d : Disks D) (k : Clocks C) where
 
   -- the answer to a request was not told
   pub lacks_line : {E : Type 0} (told : Result (List ℕ) E) (line : Option (List ℕ)) (bytes : List ℕ) → line ≡ Some bytes → (s next : Scripted (KeptOffice D d) C) (a : Asked) (reading : ℤ) → (bytes ≡ [] → ⊥) → asked_of bytes ≡ Ok a
-      → IsRead k s.clock next.clock reading → OnErr told ((text : List ℕ) × Told d a reading s.kept next.kept text) → OnErr told (Lacks d k s line next)
+      → IsRead k s.clock next.clock reading → OnErr told ((text : List ℕ) × (x : Entered) × IsJudged d a reading s.kept text next.kept (Some x)) → OnErr told (Lacks d k s line next)
   lacks_line (Ok text) line bytes is s next a reading some asked read judged = tt
   lacks_line (Err e) line bytes is s next a reading some asked read judged =
-      subst (λ (l : Option (List ℕ)). Lacks d k s l next) (sym is) (inr (judged.0, answers_request bytes s next a reading judged.0 some asked read judged.1))
+      subst (λ (l : Option (List ℕ)). Lacks d k s l next) (sym is) (inr (judged.0, judged.1, line_request bytes s next a reading judged.0 (Some judged.1) some asked read judged.2))
 
 pub some_bytes : (bytes : List ℕ) (b : Bool) → b ≡ (length bytes == 0) → b ≡ false → bytes ≡ [] → ⊥
 some_bytes [] b is none e = absurd (let f : true ≡ false = sym is ∙ none in cc)

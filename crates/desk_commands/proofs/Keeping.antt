@@ -31,16 +31,18 @@ module _ {D : Type 0} (d : Disks D)
   CrashLaw kept = (file : List ℕ) (h : History) (pending : Option Change) (c : List ℕ) → Holds d.seen d.may_leave kept file h pending → d.may_leave (disk_of kept) c → Leaves file h (λ change. pending ≡ Some change) c
 
   -- as the office was opened
-  pub opened_carries : (file : List ℕ) (h : History) (disk : D) (kept : KeptOffice D d) → CrashLaw kept → IsOpened d disk kept → Holds d.seen d.may_leave kept file h None → Carries d file h kept
+  pub opened_carries : (file : List ℕ) (h : History) (disk : D) (kept : KeptOffice D d) → CrashLaw kept → IsOpened d disk kept → Holds d.seen d.may_leave kept file h None → Carries d (d.faults disk) file h kept
   opened_carries file h disk kept law opened holds = record {
     pending = None;
     holds = holds;
     now = λ c left. loosened file h (λ (change : Change). None ≡ Some change) c (law file h None c holds left);
     reads = opened.reads;
+    since = opened.later;
+    cause = λ some. absurd (cc);
   }
 
   pub keeps : RequestsStandOnce → (bytes file : List ℕ) (h last : History) (disk : D) (opened kept : KeptOffice D d) → CrashLaw kept → IsOpened d disk opened → ImageOf bytes file h
-      → Follows h last → Carries d file last kept → LeavesOnly d.moment d.left_since (disk_of opened) (disk_of kept) (IsBetween file h last)
+      → Follows h last → Carries d (d.faults disk) file last kept → LeavesOnly d.moment d.left_since (disk_of opened) (disk_of kept) (IsBetween file h last)
       → KeepsHistory d disk (disk_of kept) bytes file h last (state_of kept)
   keeps stand_once bytes file h last disk opened kept law first found follows carries run = record {
     found = found;
@@ -49,6 +51,7 @@ module _ {D : Type 0} (d : Disks D)
     once = stand_once (fits file) carries.holds.history.settings O last.entries carries.holds.history.last carries.holds.history.legal;
     reads = carries.reads;
     pending = carries.pending;
+    cause = carries.cause;
     now = carries.holds.journal.file;
     told = carries.holds.journal.told;
     image = law file last carries.pending carries.holds.journal.file carries.holds (seen_is_left (disk_of kept) carries.holds.journal.file carries.holds.journal.told);

@@ -33,6 +33,6 @@ module _ {D C : Type 0} (d : Disks D) (k : Clocks C) where
   lines_later s z (line ∷ lines) told entries goes =
       omega (arith, line_rises s (fit line) goes.0 goes.1 goes.3 goes.5, lines_later goes.1 z lines goes.2 goes.4 goes.7)
 
-  pub ending_later : (last z : Scripted (KeptOffice D d) C) (added : Option Entered) → Unanswered d k last z added → d.faults (disk_of last.kept) ≤ d.faults (disk_of z.kept)
-  ending_later last z added (inl none) = same_rises last.kept z.kept (ap (λ (x : Scripted (KeptOffice D d) C). x.kept) none.0)
-  ending_later last z added (inr more) = line_rises last more.0 more.1 z added more.2
+  pub ending_later : (last : Scripted (KeptOffice D d) C) (others : List (List ℕ)) (z : Scripted (KeptOffice D d) C) (added : Option Entered) → Unanswered d k last others z added → d.faults (disk_of last.kept) ≤ d.faults (disk_of z.kept)
+  ending_later last others z added (inl none) = same_rises last.kept z.kept (ap (λ (x : Scripted (KeptOffice D d) C). x.kept) none.0)
+  ending_later last others z added (inr more) = line_rises last (fit more.0) more.3 z (Some more.4) more.5

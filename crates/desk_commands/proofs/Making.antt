@@ -1,7 +1,8 @@
 -- How a journal is made, and why it is not.
-use Rattle.std.proofs.Common.{ℕ, ◌≡◌, inl, inr, List, Option, None, Some, Err, refl, sym, subst}
+use Rattle.std.proofs.Common.{ℕ, ◌≡◌, ◌⊎◌, inl, inr, List, Option, None, Some, Err, refl, sym, subst}
 use Rattle.desk_settings.specs.Reading.{settings_of}
 use Rattle.desk_settings.specs.declared.fault.SettingsFault.{SettingsFault}
+use Rattle.desk_traits.specs.Crash.{LeavesOnly}
 use Rattle.desk_traits.specs.declared.disk.Disk.{Ghosts as Disks}
 use Rattle.desk_traits.specs.Faults.{Rose}
 use Rattle.desk_traits.specs.File.{Only}
@@ -16,6 +17,10 @@ use Rattle.office_journal.specs.declared.kept.KeptOffice.{KeptOffice}
 use Rattle.program_ends.specs.declared.ends.End.{End}
 use Rattle.desk_commands.specs.Commands.{IsMade, IsWhyUnmade}
 use Rattle.desk_commands.specs.Unmade.{EndsAs}
+
+-- a fault that leaves the file as it was
+abbrev pub IsUndone : KeepFault → Type 0
+IsUndone fault = ((f : SettingsFault) × (fault ≡ keep.Settings f)) ⊎ (fault ≡ keep.NotFresh) ⊎ (fault ≡ keep.OutOfMemory)
 
 image_alone : (file : List ℕ) (h : History) (c : List ℕ) → Leaves file h (λ (change : Change). None ≡ Some change) c → ImageOf c file h
 image_alone file h c (inl image) = image
@@ -41,12 +46,13 @@ module _ {D : Type 0} (d : Disks D) where
       → ((bytes : List ℕ) (f : SettingsFault) → d.seen disk ≡ Some bytes → fault ≡ keep.Settings f → Fresh bytes)
       → ((bytes : List ℕ) → d.seen disk ≡ Some bytes → fault ≡ keep.NotFresh → Fresh bytes → ⊥)
       → (fault ≡ keep.DiskFault → Rose (d.faults disk) (d.faults next))
+      → (IsUndone fault → d.seen next ≡ d.seen disk) → (IsUndone fault → LeavesOnly d.moment d.left_since disk next (d.may_leave disk))
       → IsWhyUnmade d disk next read end
-  unmade disk next read (keep.Settings f) end (inl is) settings fresh not_fresh cause =
-      subst (λ (e : End). IsWhyUnmade d disk next read e) (sym is) (f, settings f refl, refl, λ bytes seen. fresh bytes f seen refl)
-  unmade disk next read (keep.Settings f) end (inr is) settings fresh not_fresh cause = subst (λ (e : End). IsWhyUnmade d disk next read e) (sym is) tt
-  unmade disk next read keep.NotFresh end is settings fresh not_fresh cause = subst (λ (e : End). IsWhyUnmade d disk next read e) (sym is) (λ bytes seen. not_fresh bytes seen refl)
-  unmade disk next read keep.Fresh end is settings fresh not_fresh cause = absurd is
-  unmade disk next read (keep.Damaged at) end is settings fresh not_fresh cause = absurd is
-  unmade disk next read keep.DiskFault end is settings fresh not_fresh cause = subst (λ (e : End). IsWhyUnmade d disk next read e) (sym is) (cause refl)
-  unmade disk next read keep.OutOfMemory end is settings fresh not_fresh cause = subst (λ (e : End). IsWhyUnmade d disk next read e) (sym is) tt
+  unmade disk next read (keep.Settings f) end (inl is) settings fresh not_fresh cause same untouched =
+      subst (λ (e : End). IsWhyUnmade d disk next read e) (sym is) (f, settings f refl, refl, (λ bytes seen. fresh bytes f seen refl), (same (inl (f, refl)), untouched (inl (f, refl))))
+  unmade disk next read (keep.Settings f) end (inr is) settings fresh not_fresh cause same untouched = subst (λ (e : End). IsWhyUnmade d disk next read e) (sym is) (same (inl (f, refl)), untouched (inl (f, refl)))
+  unmade disk next read keep.NotFresh end is settings fresh not_fresh cause same untouched = subst (λ (e : End). IsWhyUnmade d disk next read e) (sym is) ((λ bytes seen. not_fresh bytes seen refl), (same (inr (inl refl)), untouched (inr (inl refl))))
+  unmade disk next read keep.Fresh end is settings fresh not_fresh cause same untouched = absurd is
+  unmade disk next read (keep.Damaged at) end is settings fresh not_fresh cause same untouched = absurd is
+  unmade disk next read keep.DiskFault end is settings fresh not_fresh cause same untouched = subst (λ (e : End). IsWhyUnmade d disk next read e) (sym is) (cause refl)
+  unmade disk next read keep.OutOfMemory end is settings fresh not_fresh cause same untouched = subst (λ (e : End). IsWhyUnmade d disk next read e) (sym is) (same (inr (inr refl)), untouched (inr (inr refl)))

@@ -7,9 +7,9 @@ module _ {A B : Type 0} (f : A → B) (answers : B → Option (List ℕ) → Lis
   answered a z [] told h = (h.0, ap f h.1)
   answered a z (line ∷ lines) told h = (h.0, f h.1, h.2, h.3, h.4, answered h.1 z lines h.2 h.5)
 
-  lacking : (last z : A) → LacksNext (λ (x : A) (line : Option (List ℕ)) (y : A). lacks (f x) line (f y)) last z → LacksNext lacks (f last) (f z)
-  lacking last z (inl same) = inl (ap f same)
-  lacking last z (inr h) = inr (h.0, h.1)
+  lacking : (last : A) (others : List (List ℕ)) (z : A) → LacksNext (λ (x : A) (line : Option (List ℕ)) (y : A). lacks (f x) line (f y)) last others z → LacksNext lacks (f last) others (f z)
+  lacking last others z (inl same) = inl (ap f same)
+  lacking last others z (inr h) = inr (h.0, h.1, h.2, h.3)
 
   pub shown : (limit : ℕ) (a z : A) (left left' taken taken' : Option (List ℕ)) (reads reads' writes writes' status : ℕ)
       → IsLinesRun (λ (x : A) (line : Option (List ℕ)) (text : List ℕ) (y : A). answers (f x) line text (f y)) (λ (x : A) (line : Option (List ℕ)) (y : A). lacks (f x) line (f y)) limit a z left left' taken taken' reads reads' writes writes' status
@@ -30,7 +30,12 @@ module _ {A B : Type 0} (f : A → B) (answers : B → Option (List ℕ) → Lis
       read_fault = run.run.read_fault;
       too_long = run.run.too_long;
       state = λ e. ap f (run.run.state e);
-      no_memory = λ e. lacking run.run.last z (run.run.no_memory e);
+      whole = run.run.whole;
+      no_memory = λ e. lacking run.run.last run.run.others z (run.run.no_memory e);
+      next = λ e. elim (run.run.next e) [
+        | inl same ↦ inl (ap f same)
+        | inr more ↦ inr more
+      ];
       reasons = run.run.reasons;
     };
     telling = run.telling;

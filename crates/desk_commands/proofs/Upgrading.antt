@@ -1,5 +1,6 @@
 -- What an upgrade leaves of the history.
-use Rattle.std.proofs.Common.{ℕ, ◌≡◌, ◌≢◌, ◌≤◌, ◌<◌, ◌+◌, ◌⊎◌, ◌↔◌, inl, inr, List, [], Option, None, Some, refl, ap, sym, ◌∙◌, subst, arith}
+use Rattle.std.proofs.Common.{ℕ, ◌≡◌, ◌≢◌, ◌≤◌, ◌<◌, ◌+◌, ◌⊎◌, ◌↔◌, inl, inr, List, [], Option, None, Some, IsSome, IfSome, refl, ap, sym, ◌∙◌, subst, arith}
+use Rattle.std.proofs.Math.Nat.{lt_of_not-le}
 use Rattle.std.proofs.lemmas.List.{append-nil}
 use Rattle.desk_traits.specs.Crash.{LeavesOnly}
 use Rattle.desk_traits.specs.Faults.{Rose}
@@ -18,7 +19,7 @@ use Rattle.office_journal.specs.Submitting.{MayTouch}
 use Rattle.office_journal.specs.declared.answers.Upgrade.{Upgrade}
 use Rattle.office_journal.specs.declared.answers.Upgrade.TheVariants as upgrade
 use Rattle.office_journal.specs.declared.kept.KeptOffice.{KeptOffice}
-use Rattle.desk_commands.specs.Commands.{TellsUpgrade, UpgradeOutcome}
+use Rattle.desk_commands.specs.Commands.{IsMarked, TellsUpgrade, UpgradeOutcome}
 use Rattle.desk_commands.specs.Grown.{IsBetween, grown}
 use Rattle.desk_commands.proofs.Between.{Any, grown_none, loosened, stays}
 use Rattle.desk_commands.proofs.Scripting.{Carries, unadded}
@@ -41,6 +42,7 @@ module _ {D : Type 0} (d : Disks D) (old new : KeptOffice D d) where
         → Holds d.seen d.may_leave new file (changed h Change.marked) None × Only (d.seen (disk_of new)) (d.may_leave (disk_of new)))
     pub already : (u ≡ upgrade.Already) ↔ ((state_of old).edition ≡ Two)
     pub full : u ≡ upgrade.Full → ((state_of old).edition ≡ One) × (268435456 < gate_of old + 15)
+    pub room : (state_of old).edition ≡ One → 268435456 < gate_of old + 15 → (u ≡ upgrade.Full) ⊎ (u ≡ upgrade.OutOfMemory)
     pub cause : u ≡ upgrade.DiskFault → ((state_of old).edition ≡ One) × Rose (d.faults (disk_of old)) (d.faults (disk_of new))
     pub failed : u ≡ upgrade.DiskFault → (file : List ℕ) (h : History) (pending : Option Change) → Holds d.seen d.may_leave old file h pending
         → (next : Option Change) × MayTouch pending Change.marked next × Holds d.seen d.may_leave new file h next
@@ -51,19 +53,25 @@ module _ {D : Type 0} (d : Disks D) (old new : KeptOffice D d) where
     pub any_moment : (file : List ℕ) (h : History) (pending : Option Change) → Holds d.seen d.may_leave old file h pending
         → LeavesOnly d.moment d.left_since (disk_of old) (disk_of new) (Leaves file h (λ change. (pending ≡ Some change) ⊎ ((change ≡ Change.marked) × (h.edition ≡ One))))
 
+  -- the mark that was appended had room
+  has_room : Says upgrade.Done → gate_of old + 15 ≤ 268435456
+  has_room says =
+      let less = lt_of_not-le (λ (h : 268435457 ≤ gate_of old + 15). elim (says.room (says.done refl).0 (omega (arith, h))) [ inl q ↦ absurd (cc) | inr q ↦ absurd (cc) ]) in
+      omega (arith, less)
+
   -- what it comes to
   pub outcome : (u : Upgrade) (disk : D) (writes : ℕ) (taken taken' : Option (List ℕ)) (writes' status : ℕ) → Says u → d.faults disk ≤ d.faults (disk_of old) → TellsUpgrade u writes taken taken' writes' status
       → UpgradeOutcome d disk (disk_of new) old new writes taken taken' writes' status
-  outcome upgrade.Done disk writes taken taken' writes' status says later told = inl (ap (λ (s : State). s.edition) (says.done refl).1, told)
-  outcome upgrade.Already disk writes taken taken' writes' status says later told = inl (ap (λ (s : State). s.edition) (says.state (λ q. absurd (cc))) ∙ says.already.0 refl, told)
+  outcome upgrade.Done disk writes taken taken' writes' status says later told = inl (ap (λ (s : State). s.edition) (says.done refl).1, inr (has_room says), told)
+  outcome upgrade.Already disk writes taken taken' writes' status says later told = inl (ap (λ (s : State). s.edition) (says.state (λ q. absurd (cc))) ∙ says.already.0 refl, inl (says.already.0 refl), told)
   outcome upgrade.Full disk writes taken taken' writes' status says later told =
-      inr (inl (ap (λ (s : State). s.edition) (says.state (λ q. absurd (cc))) ∙ (says.full refl).0, (says.full refl).1, told))
+      inr (inl (ap (λ (s : State). s.edition) (says.state (λ q. absurd (cc))) ∙ (says.full refl).0, (says.full refl).0, (says.full refl).1, told))
   outcome upgrade.DiskFault disk writes taken taken' writes' status says later told =
-      inr (inr (inl (ap (λ (s : State). s.edition) (says.state (λ q. absurd (cc))) ∙ (says.cause refl).0, rose_since (d.faults disk) (d.faults (disk_of old)) (d.faults (disk_of new)) later (says.cause refl).1, told)))
+      inr (inr (inl (ap (λ (s : State). s.edition) (says.state (λ q. absurd (cc))) ∙ (says.cause refl).0, (says.cause refl).0, rose_since (d.faults disk) (d.faults (disk_of old)) (d.faults (disk_of new)) later (says.cause refl).1, told)))
   outcome upgrade.OutOfMemory disk writes taken taken' writes' status says later told =
-      inr (inr (inr (ap (λ (s : State). s.edition) (says.state (λ q. absurd (cc))), told)))
+      inr (inr (inr (ap (λ (s : State). s.edition) (says.state (λ q. absurd (cc))), (says.untouched (λ q. absurd (cc)) (λ q. absurd (cc))).0, told)))
 
-  module _ (counts_now : (x : D) (c : List ℕ) → d.may_leave x c → d.left_since x (d.moment x) c)
+  module _ (start : ℕ) (counts_now : (x : D) (c : List ℕ) → d.may_leave x c → d.left_since x (d.moment x) c)
       (only_now : (x : D) (c : List ℕ) → d.left_since x (d.moment x) c → d.may_leave x c)
       (earlier : (x : D) (t u : ℕ) (c : List ℕ) → t ≤ u → u ≤ d.moment x → d.left_since x u c → d.left_since x t c) where
     -- the history after it
@@ -71,16 +79,21 @@ module _ {D : Type 0} (d : Disks D) (old new : KeptOffice D d) where
       pub last : History
       pub same : last.entries ≡ h.entries
       pub edition : MayFollow h.edition last.edition
-      pub carries : Carries d file last new
+      pub carries : Carries d start file last new
       pub run : LeavesOnly d.moment d.left_since (disk_of old) (disk_of new) (IsBetween file h last)
 
-    unmarked : (u : Upgrade) (file : List ℕ) (h : History) (pending : Option Change) → Says u → u ≢ upgrade.Done → Carries d file h old → Holds d.seen d.may_leave new file h pending → Upgraded file h
-    unmarked u file h pending says not carries holds =
-        let one = unadded d counts_now only_now earlier file h (λ (change : Change). (carries.pending ≡ Some change) ⊎ ((change ≡ Change.marked) × (h.edition ≡ One))) old new pending holds
-        (subst ReadsAsTheBoard (sym (says.state not)) carries.reads) (says.any_moment file h carries.pending carries.holds) in
+    unmarked : (u : Upgrade) (file : List ℕ) (h : History) (pending : Option Change) → Says u → u ≢ upgrade.Done → Carries d start file h old → Holds d.seen d.may_leave new file h pending → (IsSome pending → Rose start (d.faults (disk_of new))) → Upgraded file h
+    unmarked u file h pending says not carries holds cause =
+        let one = unadded d start counts_now only_now earlier file h (λ (change : Change). (carries.pending ≡ Some change) ⊎ ((change ≡ Change.marked) × (h.edition ≡ One))) old new pending holds
+        (subst ReadsAsTheBoard (sym (says.state not)) carries.reads) (omega (arith, carries.since, says.later)) cause (says.any_moment file h carries.pending carries.holds) in
         record { last = grown h []; same = append-nil h.entries; edition = stays h.edition; carries = one.0; run = one.1 }
 
-    pub upgraded : (u : Upgrade) (file : List ℕ) (h : History) → Says u → Carries d file h old → Upgraded file h
+    as_it_was : (u : Upgrade) (file : List ℕ) (h : History) → Says u → u ≢ upgrade.Done → u ≢ upgrade.DiskFault → Carries d start file h old → Upgraded file h
+    as_it_was u file h says done failed carries =
+        let same = says.untouched done failed in
+        unmarked u file h carries.pending says done carries (same.1 file h carries.pending carries.holds) (λ some. subst (λ (x : D). Rose start (d.faults x)) (sym same.0) (carries.cause some))
+
+    pub upgraded : (u : Upgrade) (file : List ℕ) (h : History) → Says u → Carries d start file h old → Upgraded file h
     upgraded upgrade.Done file h says carries =
         let done = says.done refl in
         let held = (done.2 file h carries.pending carries.holds).0 in
@@ -95,14 +108,69 @@ module _ {D : Type 0} (d : Disks D) (old new : KeptOffice D d) where
             holds = held;
             now = λ c left. inl (record { state = state_of new; history = held.history; image = held.journal.rests c left });
             reads = subst ReadsAsTheBoard (sym done.1) (in_two (state_of old) carries.reads);
+            since = omega (arith, carries.since, says.later);
+            cause = λ some. absurd (cc);
           };
           run = weaker d.moment d.left_since d.may_leave counts_now only_now earlier (disk_of old) (disk_of new) (Leaves file h P) (IsBetween file h last)
               (λ c leaves. ([], [], sym (append-nil h.entries), subst (λ (g : History). Leaves file g Any c) (sym (grown_none h)) (loosened file h P c leaves)))
               (says.any_moment file h carries.pending carries.holds);
         }
-    upgraded upgrade.Already file h says carries = unmarked upgrade.Already file h carries.pending says (λ q. absurd (cc)) carries ((says.untouched (λ q. absurd (cc)) (λ q. absurd (cc))).1 file h carries.pending carries.holds)
-    upgraded upgrade.Full file h says carries = unmarked upgrade.Full file h carries.pending says (λ q. absurd (cc)) carries ((says.untouched (λ q. absurd (cc)) (λ q. absurd (cc))).1 file h carries.pending carries.holds)
+    upgraded upgrade.Already file h says carries = as_it_was upgrade.Already file h says (λ q. absurd (cc)) (λ q. absurd (cc)) carries
+    upgraded upgrade.Full file h says carries = as_it_was upgrade.Full file h says (λ q. absurd (cc)) (λ q. absurd (cc)) carries
     upgraded upgrade.DiskFault file h says carries =
         let held = says.failed refl file h carries.pending carries.holds in
-        unmarked upgrade.DiskFault file h held.0 says (λ q. absurd (cc)) carries held.2
-    upgraded upgrade.OutOfMemory file h says carries = unmarked upgrade.OutOfMemory file h carries.pending says (λ q. absurd (cc)) carries ((says.untouched (λ q. absurd (cc)) (λ q. absurd (cc))).1 file h carries.pending carries.holds)
+        unmarked upgrade.DiskFault file h held.0 says (λ q. absurd (cc)) carries held.2 (λ some. omega (arith, carries.since, (says.cause refl).1))
+    upgraded upgrade.OutOfMemory file h says carries = as_it_was upgrade.OutOfMemory file h says (λ q. absurd (cc)) (λ q. absurd (cc)) carries
+
+    only_mark : (h : History) (file : List ℕ) (c : List ℕ) → Leaves file h (λ (change : Change). (None ≡ Some change) ⊎ ((change ≡ Change.marked) × (h.edition ≡ One))) c → Leaves file h (λ (change : Change). (change ≡ Change.marked) × (h.edition ≡ One)) c
+    only_mark h file c (inl image) = inl image
+    only_mark h file c (inr (change, inl never, image)) = absurd (cc)
+    only_mark h file c (inr (change, inr is, image)) = inr (change, is, image)
+
+    moments_of : (u : Upgrade) (file : List ℕ) (h : History) → Says u → Holds d.seen d.may_leave old file h None
+        → LeavesOnly d.moment d.left_since (disk_of old) (disk_of new) (Leaves file h (λ change. (change ≡ Change.marked) × (h.edition ≡ One)))
+    moments_of u file h says holds =
+        weaker d.moment d.left_since d.may_leave counts_now only_now earlier (disk_of old) (disk_of new) (Leaves file h (λ (change : Change). (None ≡ Some change) ⊎ ((change ≡ Change.marked) × (h.edition ≡ One)))) (Leaves file h (λ (change : Change). (change ≡ Change.marked) × (h.edition ≡ One)))
+        (λ c leaves. only_mark h file c leaves) (says.any_moment file h None holds)
+
+    touched : (p : Option Change) → MayTouch None Change.marked p → IfSome p (λ (change : Change). change ≡ Change.marked)
+    touched None may = tt
+    touched (Some change) (inl never) = absurd (cc)
+    touched (Some change) (inr is) = is
+
+    -- the history is held in the edition of the office
+    in_its_edition : (file : List ℕ) (h : History) (p : Option Change) → Holds d.seen d.may_leave new file h p → Holds d.seen d.may_leave new file (record { entries = h.entries; edition = (state_of new).edition }) p
+    in_its_edition file h p held =
+        let is : h.edition ≡ (state_of new).edition = sym (ap (λ (s : State). s.edition) held.history.state) in
+        subst (λ (e : Edition). Holds d.seen d.may_leave new file (record { entries = h.entries; edition = e }) p) is held
+
+    unmoved : (u : Upgrade) (file : List ℕ) (h : History) → Says u → u ≢ upgrade.Done → u ≢ upgrade.DiskFault → Holds d.seen d.may_leave old file h None → IsMarked d old new file h
+    unmoved u file h says done failed holds = record {
+      pending = None;
+      mark = tt;
+      none = λ q. refl;
+      holds = in_its_edition file h None ((says.untouched done failed).1 file h None holds);
+      moments = moments_of u file h says holds;
+    }
+
+    pub marked : (u : Upgrade) (file : List ℕ) (h : History) → Says u → Holds d.seen d.may_leave old file h None → IsMarked d old new file h
+    marked upgrade.Done file h says holds = record {
+      pending = None;
+      mark = tt;
+      none = λ q. refl;
+      holds = in_its_edition file (changed h Change.marked) None (((says.done refl).2 file h None holds).0);
+      moments = moments_of upgrade.Done file h says holds;
+    }
+    marked upgrade.Already file h says holds = unmoved upgrade.Already file h says (λ q. absurd (cc)) (λ q. absurd (cc)) holds
+    marked upgrade.Full file h says holds = unmoved upgrade.Full file h says (λ q. absurd (cc)) (λ q. absurd (cc)) holds
+    marked upgrade.DiskFault file h says holds =
+        let failed = says.failed refl file h None holds in
+        let one : (state_of new).edition ≡ One = ap (λ (s : State). s.edition) (says.state (λ q. absurd (cc))) ∙ (says.cause refl).0 in
+        record {
+          pending = failed.0;
+          mark = touched failed.0 failed.1;
+          none = λ q. absurd (let f = sym one ∙ q in cc);
+          holds = in_its_edition file h failed.0 failed.2;
+          moments = moments_of upgrade.DiskFault file h says holds;
+        }
+    marked upgrade.OutOfMemory file h says holds = unmoved upgrade.OutOfMemory file h says (λ q. absurd (cc)) (λ q. absurd (cc)) holds

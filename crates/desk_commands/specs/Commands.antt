@@ -1,5 +1,5 @@
 -- What the commands over a journal read, write and leave.
-use Rattle.std.specs.Prelude.{◌≡◌, ◌⊎◌, ◌++◌, ◌≤◌, ◌<◌, ◌+◌, ℕ, ℤ, pos, nat_abs, true, false, List, [], length, Option, None, Some, Result, Ok, Err, codes}
+use Rattle.std.specs.Prelude.{◌≡◌, ◌⊎◌, ◌++◌, ◌∷◌, ◌≤◌, ◌<◌, ◌+◌, ℕ, ℤ, pos, nat_abs, true, false, List, [], length, Option, None, Some, Result, Ok, Err, IfSome, codes}
 use Rattle.std.specs.List.{flat_map}
 use Rattle.desk_settings.specs.Reading.{settings_of}
 use Rattle.desk_settings.specs.declared.fault.SettingsFault.{SettingsFault}
@@ -18,13 +18,15 @@ use Rattle.office_core.specs.Rules.{is_out}
 use Rattle.office_core.specs.State.{State}
 use Rattle.board_text.specs.Rows.{board_text}
 use Rattle.event_life.specs.Shown.{shown_at}
+use Rattle.office_journal.specs.Changes.{Change, Leaves}
 use Rattle.office_journal.specs.Histories.{History, ImageOf, empty}
-use Rattle.office_journal.specs.Kept.{gate_of, state_of}
+use Rattle.office_journal.specs.Kept.{Holds, disk_of, gate_of, state_of}
 use Rattle.office_journal.specs.Making.{IsMakingOf}
 use Rattle.office_journal.specs.declared.answers.Upgrade.{Upgrade}
 use Rattle.office_journal.specs.declared.answers.Upgrade.TheVariants as upgrade
 use Rattle.office_journal.specs.declared.kept.KeptOffice.{KeptOffice}
 use Rattle.program_ends.specs.Ends.{HasWritten, Telling}
+use Rattle.program_ends.specs.Lines.{fit}
 use Rattle.program_ends.specs.Runs.{IsLinesRun}
 use Rattle.program_ends.specs.declared.ends.End.{End}
 use Rattle.program_ends.specs.declared.reading.Stop.{Stop}
@@ -61,9 +63,10 @@ pub record AreTold (texts : List (List ℕ)) (writes : ℕ) (taken taken' : Opti
   pub reasons : ((end ≡ None) × (rest ≡ [])) ⊎ (end ≡ Some WriteFault) ⊎ (end ≡ Some OutOfMemory)
   pub telling : Telling (joined first) writes taken taken' writes' end status
 
--- where an answer's line was not told for want of memory: the entry of that request, if it was accepted
-abbrev pub Unanswered : {D C : Type 0} (d : Disks D) (k : Clocks C) → Scripted (KeptOffice D d) C → Scripted (KeptOffice D d) C → Option Entered → Type 0
-Unanswered d k last z added = ((z ≡ last) × (added ≡ None)) ⊎ ((line : Option (List ℕ)) × (text : List ℕ) × AnswersLine d k last line text z added)
+-- Where memory lacked at the next of the lines that were not answered: nothing came of it, or its request was accepted, and this is its entry.
+abbrev pub Unanswered : {D C : Type 0} (d : Disks D) (k : Clocks C) → Scripted (KeptOffice D d) C → List (List ℕ) → Scripted (KeptOffice D d) C → Option Entered → Type 0
+Unanswered d k last others z added = ((z ≡ last) × (added ≡ None))
+    ⊎ ((line : List ℕ) × (more : List (List ℕ)) × (others ≡ line ∷ more) × (text : List ℕ) × (x : Entered) × AnswersLine d k last (fit line) text z (Some x) × (added ≡ Some x))
 
 -- The settings were read to the input's end, or to the byte behind the last that settings may have; or a read failed, or memory lacked, somewhere within.
 abbrev pub SettingsRead : Option (List ℕ) → Option (List ℕ) → ℕ → ℕ → Result (List ℕ) Stop → Type 0
@@ -86,13 +89,13 @@ TellsUpgrade upgrade.Full writes taken taken' writes' status = Telling [] writes
 TellsUpgrade upgrade.DiskFault writes taken taken' writes' status = Telling [] writes taken taken' writes' (Some DiskFault) status
 TellsUpgrade upgrade.OutOfMemory writes taken taken' writes' status = Telling [] writes taken taken' writes' (Some OutOfMemory) status
 
--- What becomes of an upgrade: the edition was One and is Two, or was Two before; the mark has no room, the disk failed in this call, or memory lacked, and the edition is as it was.
+-- What becomes of an upgrade: the edition is Two, and was before, or the mark has room; it has none, the disk failed in this call, or memory lacked, and the edition is as it was.
 abbrev pub UpgradeOutcome : {D : Type 0} (d : Disks D) → D → D → KeptOffice D d → KeptOffice D d → ℕ → Option (List ℕ) → Option (List ℕ) → ℕ → ℕ → Type 0
 UpgradeOutcome d disk next opened after writes taken taken' writes' status =
-    (((state_of after).edition ≡ Two) × IsTold (codes "edition 2\n") writes taken taken' writes' status)
-    ⊎ (((state_of after).edition ≡ One) × (268435456 < gate_of opened + 15) × Telling [] writes taken taken' writes' (Some JournalFull) status)
-    ⊎ (((state_of after).edition ≡ One) × Rose (d.faults disk) (d.faults next) × Telling [] writes taken taken' writes' (Some DiskFault) status)
-    ⊎ (((state_of after).edition ≡ (state_of opened).edition) × Telling [] writes taken taken' writes' (Some OutOfMemory) status)
+    (((state_of after).edition ≡ Two) × (((state_of opened).edition ≡ Two) ⊎ (gate_of opened + 15 ≤ 268435456)) × IsTold (codes "edition 2\n") writes taken taken' writes' status)
+    ⊎ (((state_of after).edition ≡ One) × ((state_of opened).edition ≡ One) × (268435456 < gate_of opened + 15) × Telling [] writes taken taken' writes' (Some JournalFull) status)
+    ⊎ (((state_of after).edition ≡ One) × ((state_of opened).edition ≡ One) × Rose (d.faults disk) (d.faults next) × Telling [] writes taken taken' writes' (Some DiskFault) status)
+    ⊎ (((state_of after).edition ≡ (state_of opened).edition) × (next ≡ disk_of opened) × Telling [] writes taken taken' writes' (Some OutOfMemory) status)
 
 -- The board at a minute: its text, or the clock's fault where the minute is out; or memory lacked.
 abbrev pub TellsBoard : State → ℤ → ℕ → Option (List ℕ) → Option (List ℕ) → ℕ → ℕ → Type 0
@@ -122,7 +125,8 @@ module _ {D : Type 0} (d : Disks D) where
     pub entries : List Entered
     pub goes : Goes d k (record { kept = opened; clock = clock }) run.run.lines run.told run.run.last entries
     pub last : Option Entered
-    pub unanswered : Unanswered d k run.run.last after last
+    pub unanswered : Unanswered d k run.run.last run.run.others after last
+    pub handed : next ≡ disk_of after.kept
     -- one legal history, which holds them behind what was found, and the disk
     pub history : (bytes : List ℕ) → d.seen disk ≡ Some bytes → (file : List ℕ) × (h : History) × KeepsHistory d disk next bytes file h (grown h (entries ++ with_entry last [])) (state_of after.kept)
     pub later : d.faults disk ≤ d.faults next
@@ -132,6 +136,7 @@ module _ {D : Type 0} (d : Disks D) where
     pub opened : KeptOffice D d
     pub first : IsOpened d disk opened
     pub told : AreTold (texts_of (state_of opened)) writes taken taken' writes' status
+    pub handed : next ≡ disk_of opened
     pub history : Stays disk next opened
     pub later : d.faults disk ≤ d.faults next
 
@@ -142,8 +147,17 @@ module _ {D : Type 0} (d : Disks D) where
     pub at : ℤ
     pub reading : IsBoardAt k minute clock clock' at
     pub told : TellsBoard (state_of opened) at writes taken taken' writes' status
+    pub handed : next ≡ disk_of opened
     pub history : Stays disk next opened
     pub later : d.faults disk ≤ d.faults next
+
+  -- Nothing but the mark was given to the disk: it stands behind the history, or may be pending; where the edition is Two nothing is. A crash at any moment leaves the history, or that with the mark.
+  pub record IsMarked (opened after : KeptOffice D d) (file : List ℕ) (h : History) : Type 0 where
+    pub pending : Option Change
+    pub mark : IfSome pending (λ change. change ≡ Change.marked)
+    pub none : (state_of after).edition ≡ Two → pending ≡ None
+    pub holds : Holds d.seen d.may_leave after file (record { entries = h.entries; edition = (state_of after).edition }) pending
+    pub moments : LeavesOnly d.moment d.left_since (disk_of opened) (disk_of after) (Leaves file h (λ change. (change ≡ Change.marked) × (h.edition ≡ One)))
 
   -- the journal has the mark
   pub record IsUpgradeRun (disk next : D) (taken taken' : Option (List ℕ)) (writes writes' status : ℕ) : Type 0 where
@@ -151,15 +165,21 @@ module _ {D : Type 0} (d : Disks D) where
     pub first : IsOpened d disk opened
     pub after : KeptOffice D d
     pub outcome : UpgradeOutcome d disk next opened after writes taken taken' writes' status
+    pub handed : next ≡ disk_of after
+    pub marked : (file : List ℕ) (h : History) → Holds d.seen d.may_leave opened file h None → IsMarked opened after file h
     pub later : d.faults disk ≤ d.faults next
     pub history : (bytes : List ℕ) → d.seen disk ≡ Some bytes → (file : List ℕ) × (h last : History) × KeepsHistory d disk next bytes file h last (state_of after) × (last.entries ≡ h.entries) × (last.edition ≡ (state_of after).edition)
 
-  -- Why no journal is made of settings that were read: they have this fault first, and the file is fresh; the file is not fresh; the disk failed in this call; or memory lacked.
+  -- the file is as it was, and so is what a crash leaves, at any moment
+  abbrev pub IsLeft : D → D → Type 0
+  IsLeft disk next = (d.seen next ≡ d.seen disk) × LeavesOnly d.moment d.left_since disk next (d.may_leave disk)
+
+  -- Why no journal is made of settings that were read: they have this fault first, and the file is fresh; the file is not fresh; the disk failed in this call; or memory lacked. But for the disk's fault the file is left as it was.
   abbrev pub IsWhyUnmade : D → D → List ℕ → End → Type 0
-  IsWhyUnmade disk next read (SettingsRefused what) = (fault : SettingsFault) × (settings_of read ≡ Err fault) × (what ≡ fault_text fault) × ((bytes : List ℕ) → d.seen disk ≡ Some bytes → Fresh bytes)
-  IsWhyUnmade disk next read AlreadyKept = (bytes : List ℕ) → d.seen disk ≡ Some bytes → Fresh bytes → ⊥
+  IsWhyUnmade disk next read (SettingsRefused what) = (fault : SettingsFault) × (settings_of read ≡ Err fault) × (what ≡ fault_text fault) × ((bytes : List ℕ) → d.seen disk ≡ Some bytes → Fresh bytes) × IsLeft disk next
+  IsWhyUnmade disk next read AlreadyKept = ((bytes : List ℕ) → d.seen disk ≡ Some bytes → Fresh bytes → ⊥) × IsLeft disk next
   IsWhyUnmade disk next read DiskFault = Rose (d.faults disk) (d.faults next)
-  IsWhyUnmade disk next read OutOfMemory = Unit {0}
+  IsWhyUnmade disk next read OutOfMemory = IsLeft disk next
   IsWhyUnmade disk next read _ = ⊥
 
   -- the disk reads as the image of the empty history in edition Two, and so does what a crash leaves

@@ -1,6 +1,7 @@
 -- How a history grows while an office is kept, and what a crash leaves of it: the promise of the program.
-use Rattle.std.specs.Prelude.{◌≡◌, ◌⊎◌, ◌++◌, ℕ, List, Option, Some}
+use Rattle.std.specs.Prelude.{◌≡◌, ◌⊎◌, ◌++◌, ℕ, List, Option, Some, IsSome}
 use Rattle.desk_traits.specs.Crash.{LeavesOnly}
+use Rattle.desk_traits.specs.Faults.{Rose}
 use Rattle.desk_traits.specs.declared.disk.Disk.{Ghosts as Disks}
 use Rattle.office_core.specs.Agreement.{ReadsAsTheBoard}
 use Rattle.office_core.specs.Histories.{Entered, MayFollow, StandOnce, entries_of}
@@ -34,8 +35,9 @@ pub record KeepsHistory {D : Type 0} (d : Disks D) (disk next : D) (bytes file :
   pub once : StandOnce (entries_of last.entries)
   -- someone who has the texts alone finds lawful lives, numbers from 1 without gaps, and the rows of the board
   pub reads : ReadsAsTheBoard s
-  -- at most one change more was given to the disk, which failed
+  -- at most one change more was given to the disk, which failed in this run
   pub pending : Option Change
+  pub cause : IsSome pending → Rose (d.faults disk) (d.faults next)
   -- a read gives an image of the last history, or of it with that change
   pub now : List ℕ
   pub told : d.seen next ≡ Some now

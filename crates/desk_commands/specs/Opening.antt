@@ -3,6 +3,7 @@ use Rattle.std.specs.Prelude.{◌≡◌, ◌≤◌, ℕ, List, [], Option, None,
 use Rattle.desk_traits.specs.Crash.{LeavesOnly}
 use Rattle.desk_traits.specs.declared.disk.Disk.{Ghosts as Disks}
 use Rattle.desk_traits.specs.Faults.{Rose}
+use Rattle.journal_core.specs.Adopt.{Settles}
 use Rattle.journal_core.specs.Image.{Fresh}
 use Rattle.office_core.specs.Agreement.{ReadsAsTheBoard}
 use Rattle.office_journal.specs.Damage.{IsDamagedAt}
@@ -21,6 +22,8 @@ module _ {D : Type 0} (d : Disks D) where
     pub same : d.seen (disk_of kept) ≡ d.seen disk
     pub later : d.faults disk ≤ d.faults (disk_of kept)
     pub moments : LeavesOnly d.moment d.left_since disk (disk_of kept) (d.may_leave disk)
+    -- what a crash since the first sync that answered might have left is what a read gives
+    pub settled : (bytes before : List ℕ) → d.seen disk ≡ Some bytes → d.syncs disk ≡ Some before → Settles d.moment d.left_since d.syncs before bytes (disk_of kept)
 
   -- Why no office is opened: the file is fresh, it is damaged at this byte, the disk failed in this call, or memory lacked.
   abbrev pub IsWhy : D → D → End → Type 0

@@ -93,9 +93,9 @@ module _ {D : Type 0} (d : Disks D) where
     abbrev pub Answers : Scripted (KeptOffice D d) C → Option (List ℕ) → List ℕ → Scripted (KeptOffice D d) C → Type 0
     Answers s line text next = (added : Option Entered) × AnswersLine s line text next added
 
-    -- Where memory lacks for a line's answer the run ends: nothing has changed, or the answer is not told.
+    -- Where memory lacks for a line's answer the run ends: nothing has changed, or the request was accepted and its answer is not told.
     abbrev pub Lacks : Scripted (KeptOffice D d) C → Option (List ℕ) → Scripted (KeptOffice D d) C → Type 0
-    Lacks s line next = (next ≡ s) ⊎ ((text : List ℕ) × Answers s line text next)
+    Lacks s line next = (next ≡ s) ⊎ ((text : List ℕ) × (x : Entered) × AnswersLine s line text next (Some x))
 
     -- the lines are answered one after another; this is all that is told, and these are the entries that they add
     abbrev pub Goes : Scripted (KeptOffice D d) C → List (List ℕ) → List ℕ → Scripted (KeptOffice D d) C → List Entered → Type 0

@@ -43,7 +43,7 @@ pub fn run_board<K: Sink, D: Disk, C: Clock>(
     disk: D,
     clock: &mut C,
 ) -> Ended<D>
-    ensures { IsUnopenedRun D.Disk disk result.disk (K.taken output.old) (K.taken output.new) (K.faults output.old) (K.faults output.new) result.status
+    ensures { (IsUnopenedRun D.Disk disk result.disk (K.taken output.old) (K.taken output.new) (K.faults output.old) (K.faults output.new) result.status × (clock.new ≡ clock.old))
         ⊎ IsBoardRun D.Disk C.Clock minute disk result.disk clock.old clock.new (K.taken output.old) (K.taken output.new) (K.faults output.old) (K.faults output.new) result.status }
 {
     requests_stand_once();

@@ -1,5 +1,5 @@
 //! The command `script`.
-ghost use Rattle.std.specs.Prelude.{◌≡◌, ◌+◌, ◌<◌, ◌^◌, ◌⊎◌, ℕ, List as Seq, Option, None, IfOk, MatchResult, OnErr};
+ghost use Rattle.std.specs.Prelude.{◌≡◌, ◌+◌, ◌<◌, ◌^◌, ◌⊎◌, ℕ, List as Seq, Option, None, Some, IfOk, MatchResult, OnErr};
 ghost use Rattle.request_json.specs.Formed.{HasForm};
 ghost use Rattle.office_core.specs.Histories.{Entered};
 ghost use Rattle.request_json.specs.Replies.{disk_fault_text, out_of_memory_text};
@@ -86,7 +86,7 @@ impl<'a, D: Disk, C: Clock> Script<'a, D, C> {
         requires disk_fault { standby.disk_fault ≡ ended disk_fault_text }
         requires out_of_memory { standby.out_of_memory ≡ ended out_of_memory_text }
         ensures judged { IfOk result (λ text. (added : Option Entered) × IsJudged D.Disk asked.now reading self.old.kept text self.new.kept added) }
-        ensures lacked { OnErr result ((text : Seq ℕ) × ((added : Option Entered) × IsJudged D.Disk asked.now reading self.old.kept text self.new.kept added)) }
+        ensures lacked { OnErr result ((text : Seq ℕ) × (x : Entered) × IsJudged D.Disk asked.now reading self.old.kept text self.new.kept (Some x)) }
         ensures clock { self.new.clock.now ≡ self.old.clock.now }
     {
         match self
@@ -136,7 +136,7 @@ pub fn run_script<S: Source, K: Sink, D: Disk, C: Clock>(
     clock: &mut C,
 ) -> Ended<D>
     requires { limit + 1 < 2 ^ 64 }
-    ensures { (IsUnread (S.left input.old) (S.left input.new) (S.faults input.old) (S.faults input.new) × IsUnopenedRun D.Disk disk result.disk (K.taken output.old) (K.taken output.new) (K.faults output.old) (K.faults output.new) result.status)
+    ensures { (IsUnread (S.left input.old) (S.left input.new) (S.faults input.old) (S.faults input.new) × IsUnopenedRun D.Disk disk result.disk (K.taken output.old) (K.taken output.new) (K.faults output.old) (K.faults output.new) result.status × (clock.new ≡ clock.old))
         ⊎ IsScriptRun D.Disk C.Clock disk result.disk clock.old limit (S.left input.old) (S.left input.new) (K.taken output.old) (K.taken output.new) (S.faults input.old) (S.faults input.new) (K.faults output.old) (K.faults output.new) result.status }
 {
     match open(alloc, disk) {

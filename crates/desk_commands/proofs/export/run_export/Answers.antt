@@ -1,4 +1,4 @@
-use Rattle.std.proofs.Common.{inr}
+use Rattle.std.proofs.Common.{inr, refl}
 use Rattle.desk_commands.specs.Commands.{joined}
 use Rattle.desk_commands.proofs.Staying.{unchanged}
 use Rattle.desk_commands.proofs.export.run_export.Goals as goal
@@ -20,6 +20,7 @@ returns-in-Ok g c =
         reasons = exported.reasons;
         telling = c.end_run.ensures (sink.taken c.args.output.now) (sink.faults c.args.output.now) (joined exported.first) exported.written exported.adds exported.has;
       };
+      handed = refl;
       history = unchanged d laws.seen_is_left laws.counts_now laws.only_now laws.earlier c.requests_stand_once.ensures c.args.disk c.in-Ok.kept c.a_crash_leaves_the_history.ensures c.in-Ok.ensures.opened;
       later = c.in-Ok.ensures.opened.later;
     }))

@@ -5,7 +5,7 @@ use Rattle.office_journal.specs.Kept.{state_of}
 use Rattle.desk_commands.specs.Grown.{KeepsHistory}
 use Rattle.desk_commands.proofs.Keeping.{keeps, opened_carries}
 use Rattle.desk_commands.proofs.Moving.{outcome_of}
-use Rattle.desk_commands.proofs.Upgrading.{Says, outcome, upgraded}
+use Rattle.desk_commands.proofs.Upgrading.{Says, marked, outcome, upgraded}
 use Rattle.desk_commands.proofs.upgrade.run_upgrade.Goals as goal
 
 pub returns-in-Ok : goal.returns-in-Ok
@@ -19,6 +19,7 @@ returns-in-Ok g c =
       done = c.upgrade-upgrade.ensures.done;
       already = c.upgrade-upgrade.ensures.already;
       full = c.upgrade-upgrade.ensures.full;
+      room = c.upgrade-upgrade.ensures.room;
       cause = c.upgrade-upgrade.ensures.cause;
       failed = c.upgrade-upgrade.ensures.failed;
       state = c.upgrade-upgrade.ensures.state;
@@ -31,11 +32,13 @@ returns-in-Ok g c =
       first = opened;
       after = new;
       outcome = outcome_of d c.args.disk _ _ old new _ _ _ _ _ (sym c.into_disk.ensures) (outcome d old new c.upgrade-upgrade.result c.args.disk _ _ _ _ _ says opened.later c.tell_upgrade-status.ensures);
+      handed = c.into_disk.ensures;
+      marked = λ file h holds. marked d old new (d.faults c.args.disk) m.counts_now m.only_now m.earlier c.upgrade-upgrade.result file h says holds;
       later = subst (λ next. d.faults c.args.disk ≤ d.faults next) (sym c.into_disk.ensures) (omega (arith, opened.later, says.later));
       history = λ bytes told.
           let found = opened.found bytes told in
           let start = opened_carries d m.seen_is_left m.counts_now m.only_now m.earlier found.0 found.1 c.args.disk old c.a_crash_leaves_the_history.ensures opened found.3 in
-          let up = upgraded d old new m.counts_now m.only_now m.earlier c.upgrade-upgrade.result found.0 found.1 says start in (
+          let up = upgraded d old new (d.faults c.args.disk) m.counts_now m.only_now m.earlier c.upgrade-upgrade.result found.0 found.1 says start in (
             found.0,
             found.1,
             up.last,

@@ -1,6 +1,8 @@
-use Rattle.std.proofs.Common.{ℕ, ℤ, List, IfOk, OnErr, subst, w64}
+use Rattle.std.proofs.Common.{ℕ, ℤ, List, Some, IfOk, OnErr, subst, w64}
 use Rattle.std.proofs.lemmas.Int.{to_z-of_z}
+use Rattle.office_core.specs.Histories.{Entered}
 use Rattle.office_journal.specs.declared.answers.Answer.TheVariants.{Accepted, Repeated, Refused, DiskFault, OutOfMemory}
+use Rattle.desk_commands.specs.Scripts.{IsJudged}
 use Rattle.desk_commands.proofs.Judging.{Told, told, told_if, told_or, untold}
 use Rattle.desk_commands.proofs.script.Script.judge.Goals as goal
 
@@ -11,8 +13,8 @@ returns-in-Accepted-clause-judged g c =
 
 pub returns-in-Accepted-clause-lacked : goal.returns-in-Accepted-clause-lacked
 returns-in-Accepted-clause-lacked g c =
-    subst (λ (z : ℤ). OnErr c.as_line.result ((text : List ℕ) × Told g.D.Disk c.args.asked.now z c.args.self.now.kept c.submit.new.self text)) (to_z-of_z w64 c.args.reading c.ranges.reading)
-    (untold g.D.Disk c.args.asked.now _ c.args.self.now.kept c.submit.new.self (Accepted c.in-Accepted.text) c.as_line.result c.in-Accepted.ensures.becomes c.submit.ensures.later c.submit.ensures.any_moment)
+    subst (λ (z : ℤ). OnErr c.as_line.result ((text : List ℕ) × (x : Entered) × IsJudged g.D.Disk c.args.asked.now z c.args.self.now.kept text c.submit.new.self (Some x))) (to_z-of_z w64 c.args.reading c.ranges.reading)
+    (untold g.D.Disk c.args.asked.now _ c.args.self.now.kept c.submit.new.self c.in-Accepted.text c.as_line.result c.in-Accepted.ensures.becomes c.submit.ensures.later c.submit.ensures.any_moment)
 
 pub returns-in-Repeated-clause-judged : goal.returns-in-Repeated-clause-judged
 returns-in-Repeated-clause-judged g c =
