@@ -1,11 +1,11 @@
 -- A run of the training office, by the office and the minute alone.
-use Rattle.std.proofs.Common.{ℕ, ◌≡◌, ◌≢◌, ◌≤◌, ◌<◌, ◌⊎◌, inl, inr, List, [], ◌∷◌, ◌++◌, length, refl, ap, sym, ◌∙◌, subst, Option, None, Some, arith}
-use Rattle.desk_traits.specs.Faults.{Rose}
+use Rattle.std.proofs.Common.{ℕ, ◌≡◌, ◌⊎◌, inl, inr, List, [], ◌∷◌, refl, ap, sym, ◌∙◌, subst, Option, None, Some, arith}
+use Rattle.std.proofs.lemmas.List.{take_all}
 use Rattle.desk_traits.specs.Streams.{Takes}
 use Rattle.office_core.specs.Agreement.{ReadsAsTheBoard}
 use Rattle.office_core.specs.State.{State}
 use Rattle.program_ends.specs.Ends.{Telling}
-use Rattle.program_ends.specs.Lines.{fit}
+use Rattle.program_ends.specs.Lines.{ended_lines, fit}
 use Rattle.program_ends.specs.Runs.{Answered, IsLinesRun, LacksNext}
 use Rattle.program_ends.specs.declared.ends.End.TheVariants.{OutOfMemory}
 use Rattle.warn_main.specs.Runs.{IsDryRun}
@@ -26,9 +26,13 @@ told_states at d after (line ∷ lines) told e reads h =
     let rest = told_states at next after lines h.2 (reply.same ∙ e) reply.reads h.5 in
     ((h.0, next.state, h.2, answered, h.4, rest.0), rest.1)
 
-lacking : (last z : Trained) → LacksNext Lacks last z → LacksNext LacksLine last.state z.state
-lacking last z (inl same) = inl (ap (λ (t : Trained). t.state) same)
-lacking last z (inr (line, same)) = inr (line, ap (λ (t : Trained). t.state) same)
+lacking : (last z : Trained) (others : List (List ℕ)) → LacksNext Lacks last others z → LacksNext LacksLine last.state others z.state
+lacking last z others (inl same) = inl (ap (λ (t : Trained). t.state) same)
+lacking last z others (inr (line, more, is, same)) = inr (line, more, is, ap (λ (t : Trained). t.state) same)
+
+same_or : {Q : Type 0} (last z : Trained) → (z ≡ last) ⊎ Q → (z.state ≡ last.state) ⊎ Q
+same_or last z (inl same) = inl (ap (λ (t : Trained). t.state) same)
+same_or last z (inr q) = inr q
 
 pub dry_run : HasOneAnswer → (dry : Dry) (limit : ℕ) (desk after : Trained) (left left' taken taken' : Option (List ℕ)) (reads reads' writes writes' status : ℕ)
     → desk ≡ record { state = first_training dry.office; at = dry.minute } → ReadsAsTheBoard (first_training dry.office)
@@ -52,11 +56,13 @@ dry_run law dry limit desk after left left' taken taken' reads reads' writes wri
           within = run.run.within;
           first = run.run.first;
           answered = told_of;
+          whole = run.run.whole;
           ended = run.run.ended;
           read_fault = run.run.read_fault;
           too_long = run.run.too_long;
           state = λ e. ap (λ (t : Trained). t.state) (run.run.state e);
-          no_memory = λ e. lacking run.run.last after (run.run.no_memory e);
+          no_memory = λ e. lacking run.run.last after run.run.others (run.run.no_memory e);
+          next = λ e. same_or run.run.last after (run.run.next e);
           reasons = run.run.reasons;
         };
         telling = run.telling;
@@ -93,11 +99,13 @@ unbegun dry limit left taken taken' reads writes writes' status first telling =
           within = omega arith;
           first = refl;
           answered = (refl, refl);
+          whole = inr ([], ap ended_lines (take_all limit [] (omega arith)));
           ended = λ e. absurd (cc);
           read_fault = λ e. absurd (cc);
           too_long = λ e. absurd (cc);
           state = λ e. refl;
           no_memory = λ e. inl refl;
+          next = λ e. inl refl;
           reasons = inr (inr (inr (inr refl)));
         };
         telling = telling;

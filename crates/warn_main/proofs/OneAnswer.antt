@@ -1,5 +1,5 @@
 -- A line of the training office has one answer.
-use Rattle.std.proofs.Common.{◌≡◌, ◌⊎◌, inl, inr, ◌∙◌, ℕ, ℤ, pos, List, [], ◌∷◌, ◌++◌, Option, None, Some, Result, Ok, Err, refl, ap, sym, subst}
+use Rattle.std.proofs.Common.{◌≡◌, ◌⊎◌, inl, inr, ◌∙◌, ℕ, ℤ, pos, List, [], ◌∷◌, ◌++◌, Option, None, Some, Result, Ok, Err, ap, sym, subst}
 use Rattle.hazard_types.specs.declared.refusal.Refusal.{Refusal}
 use Rattle.hazard_types.specs.declared.request.PutPart.{PutPart}
 use Rattle.hazard_types.specs.declared.request.Request.{Request}
@@ -10,7 +10,8 @@ use Rattle.office_core.specs.Step.{Accepts, Refuses, entry_of, state_after}
 use Rattle.office_core.specs.declared.made.Made.{Made}
 use Rattle.program_ends.specs.Lines.{fit}
 use Rattle.program_ends.specs.Runs.{Answered}
-use Rattle.warn_main.specs.Training.{AnswersIssue, AnswersLine, IsAccepted, IsRefused, dry_desk, next_number, refusal_line}
+use Rattle.desk_commands.specs.Lines.{refusal_line}
+use Rattle.warn_main.specs.Training.{AnswersIssue, AnswersLine, IsAccepted, IsRefused, dry_desk, next_number}
 
 -- the office's law that a request has one answer, as far as a line needs it
 pub record HasOneAnswer : Type 0 where

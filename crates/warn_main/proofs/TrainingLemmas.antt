@@ -1,24 +1,23 @@
 -- What an accepted issue makes of the training office.
-use Rattle.std.proofs.Common.{◌≡◌, ◌≤◌, ◌<◌, ◌==◌, ◌+◌, ◌∙◌, ◌⊎◌, inl, inr, ℕ, ℤ, pos, max, Bool, true, false, cond, List, [], ◌∷◌, ◌++◌, length, nat_le, nat_lt, Option, None, Some, IsSome, option_map, Result, Ok, Err, IfOk, OnOk, OnErr, refl, ap, sym, subst, arith, length-append}
+use Rattle.std.proofs.Common.{◌≡◌, ◌≤◌, ◌<◌, ◌==◌, ◌+◌, ◌∙◌, inr, ℕ, ℤ, pos, Bool, true, false, cond, List, [], ◌∷◌, length, nat_le, Option, None, Some, IsSome, option_map, Result, Ok, Err, IfOk, OnOk, OnErr, refl, ap, sym, subst, arith, length-append}
 use Rattle.std.proofs.lemmas.Bool.Decides.{nat_tests}
 use Rattle.std.proofs.lemmas.Bool.{ne_eqb}
 use Rattle.std.specs.Option.{option_or}
-use Rattle.hazard_types.specs.declared.refusal.Refusal.{Refusal}
 use Rattle.hazard_types.specs.declared.refusal.Refusal.TheVariants as refusal
 use Rattle.hazard_types.specs.declared.request.Entry.{Entry}
 use Rattle.hazard_types.specs.declared.request.Plan.{Plan}
 use Rattle.hazard_types.specs.declared.request.PutPart.{PutPart}
 use Rattle.hazard_types.specs.declared.request.Reply.{Reply}
 use Rattle.hazard_types.specs.declared.request.Request.TheVariants.{Issue}
-use Rattle.hazard_types.specs.declared.request.Sent.{Sent}
 use Rattle.office_core.specs.Agreement.{ReadsAsTheBoard}
 use Rattle.office_core.specs.Making.{broken_product, issued, made_of, products_full}
 use Rattle.office_core.specs.Rules.{minute_of}
-use Rattle.office_core.specs.State.{State, last_number, last_of, said_by}
+use Rattle.office_core.specs.State.{State, last_number, last_of}
 use Rattle.office_core.specs.Step.{Accepts, Repeats, entry_of, state_after}
 use Rattle.office_core.specs.declared.made.Made.{Made}
 use Rattle.hazard_types.specs.declared.refusal.Refusal.TheVariants.{LineTooLong}
-use Rattle.warn_main.specs.Training.{Replies, Trained, refusal_line, AnswersIssue, IsAccepted, IsTraining, dry_desk, next_number}
+use Rattle.desk_commands.specs.Lines.{refusal_line}
+use Rattle.warn_main.specs.Training.{Replies, Trained, AnswersIssue, IsAccepted, IsTraining, dry_desk, next_number}
 
 or_last : {X : Type 0} (a b : Option X) → option_or a b ≡ None → b ≡ None
 or_last None b h = h

@@ -1,11 +1,15 @@
 -- What a run of the program reads, answers and tells.
-use Rattle.std.specs.Prelude.{◌≡◌, ℕ, List, [], Option, Some}
+use Rattle.std.specs.Prelude.{◌≡◌, ◌≤◌, ◌⊎◌, ℕ, List, [], Option, Some}
 use Rattle.office_core.specs.Agreement.{ReadsAsTheBoard}
 use Rattle.office_core.specs.State.{State}
 use Rattle.program_ends.specs.Ends.{Telling}
 use Rattle.program_ends.specs.Runs.{Answered, IsLinesRun}
 use Rattle.program_ends.specs.declared.ends.End.TheVariants.{Usage}
 use Rattle.warn_main.specs.Training.{AnswersLine, LacksLine, first_training}
+use Rattle.desk_traits.specs.declared.clocks.Clock.{Ghosts as Clocks}
+use Rattle.desk_traits.specs.declared.disk.Disk.{Ghosts as Disks}
+use Rattle.desk_commands.specs.Commands.{IsBoardRun, IsExportRun, IsInitRun, IsScriptRun, IsUpgradeRun}
+use Rattle.desk_commands.specs.Opening.{IsUnopenedRun, IsUnread}
 use Rattle.warn_main.specs.declared.words.Command.{Command}
 use Rattle.warn_main.specs.declared.words.Command.TheVariants as command
 use Rattle.warn_main.specs.declared.words.Dry.{Dry}
@@ -17,10 +21,11 @@ pub record IsUsage (left left' taken taken' : Option (List ℕ)) (reads reads' w
   pub telling : Telling [] writes taken taken' writes' (Some Usage) status
 
 -- memory lacked for the words: nothing was read or written
-pub record IsUntouched (left left' taken taken' : Option (List ℕ)) (status : ℕ) : Type 0 where
+pub record IsUntouched (left left' taken taken' : Option (List ℕ)) (reads reads' writes writes' status : ℕ) : Type 0 where
   pub no_memory : status ≡ 12
   pub unread : left' ≡ left
   pub unwritten : taken' ≡ taken
+  pub steady : (reads' ≡ reads) × (writes' ≡ writes)
 
 -- A run of `dry` over the lines of an input of at most this many bytes, by the office and the minute alone. Where memory lacks for the office itself, no line is read.
 pub record IsDryRun (dry : Dry) (limit : ℕ) (left left' taken taken' : Option (List ℕ)) (reads reads' writes writes' status : ℕ) : Type 0 where
@@ -32,6 +37,21 @@ pub record IsDryRun (dry : Dry) (limit : ℕ) (left left' taken taken' : Option 
   -- Whoever reads the texts that the answered lines made finds lawful lives, numbers without gaps, and the office's board.
   pub read_back : ReadsAsTheBoard run.run.last
 
--- what the words ask for was done
-abbrev pub Does : Command → ℕ → Option (List ℕ) → Option (List ℕ) → Option (List ℕ) → Option (List ℕ) → ℕ → ℕ → ℕ → ℕ → ℕ → Type 0
-Does (command.Dry dry) limit left left' taken taken' reads reads' writes writes' status = IsDryRun dry limit left left' taken taken' reads reads' writes writes' status
+-- What the words ask for was done: what was read of the input, written to the output, and what became of the disk. The clock is asked by `script` and `board` alone, once a journal is opened.
+module _ {D C : Type 0} (d : Disks D) (k : Clocks C) where
+  abbrev pub Does : Command → ℕ → D → D → C → C → Option (List ℕ) → Option (List ℕ) → Option (List ℕ) → Option (List ℕ) → ℕ → ℕ → ℕ → ℕ → ℕ → Type 0
+  Does command.Init limit disk next clock clock' left left' taken taken' reads reads' writes writes' status = IsInitRun d disk next left left' taken taken' reads reads' writes writes' status × (clock' ≡ clock)
+  Does command.Script limit disk next clock clock' left left' taken taken' reads reads' writes writes' status =
+      (IsUnread left left' reads reads' × IsUnopenedRun d disk next taken taken' writes writes' status × (clock' ≡ clock)) ⊎ IsScriptRun d k disk next clock limit left left' taken taken' reads reads' writes writes' status
+  Does command.Export limit disk next clock clock' left left' taken taken' reads reads' writes writes' status =
+      IsUnread left left' reads reads' × (clock' ≡ clock) × (IsUnopenedRun d disk next taken taken' writes writes' status ⊎ IsExportRun d disk next taken taken' writes writes' status)
+  Does command.Upgrade limit disk next clock clock' left left' taken taken' reads reads' writes writes' status =
+      IsUnread left left' reads reads' × (clock' ≡ clock) × (IsUnopenedRun d disk next taken taken' writes writes' status ⊎ IsUpgradeRun d disk next taken taken' writes writes' status)
+  Does (command.Board minute) limit disk next clock clock' left left' taken taken' reads reads' writes writes' status =
+      IsUnread left left' reads reads' × ((IsUnopenedRun d disk next taken taken' writes writes' status × (clock' ≡ clock)) ⊎ IsBoardRun d k minute disk next clock clock' taken taken' writes writes' status)
+  Does (command.Dry dry) limit disk next clock clock' left left' taken taken' reads reads' writes writes' status =
+      IsDryRun dry limit left left' taken taken' reads reads' writes writes' status × (next ≡ disk) × (clock' ≡ clock)
+
+-- It went well; or settings were refused, a journal was there, was not there or is damaged, the clock is out, memory lacked, the input is too long or the journal full.
+abbrev pub IsEndOfItsOwn : ℕ → Type 0
+IsEndOfItsOwn status = (status ≡ 0) ⊎ ((3 ≤ status) × (status ≤ 6)) ⊎ ((11 ≤ status) × (status ≤ 14))

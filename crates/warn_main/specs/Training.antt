@@ -1,5 +1,5 @@
 -- The training office: what each line is answered.
-use Rattle.std.specs.Prelude.{◌≡◌, ◌≤◌, ◌⊎◌, ◌++◌, ◌+◌, ℕ, pos, List, [], ◌∷◌, length, Option, Some, None, Result, Ok, Err, codes}
+use Rattle.std.specs.Prelude.{◌≡◌, ◌≤◌, ◌⊎◌, ◌+◌, ℕ, pos, List, [], ◌∷◌, length, Option, Some, None, Result, Ok, Err, codes}
 use Rattle.hazard_types.specs.declared.codes.Class.TheVariants as class
 use Rattle.hazard_types.specs.declared.refusal.Refusal.{Refusal}
 use Rattle.hazard_types.specs.declared.refusal.Refusal.TheVariants.{LineTooLong}
@@ -8,11 +8,11 @@ use Rattle.hazard_types.specs.declared.request.PutPart.{PutPart}
 use Rattle.hazard_types.specs.declared.request.Request.TheVariants.{Issue}
 use Rattle.desk_settings.specs.AreSettings.{training_of}
 use Rattle.request_json.specs.Form.{training_issue_of}
-use Rattle.request_json.specs.Replies.{refusal_text}
 use Rattle.office_core.specs.Agreement.{ReadsAsTheBoard}
 use Rattle.office_core.specs.State.{State, first_state, last_number}
 use Rattle.office_core.specs.Step.{Accepts, Refuses, entry_of, state_after}
 use Rattle.office_core.specs.declared.made.Made.{Made}
+use Rattle.desk_commands.specs.Lines.{refusal_line}
 
 -- the one desk of training: the lines are its requests
 abbrev pub dry_desk : List ℕ
@@ -25,10 +25,6 @@ first_training office = first_state (training_of office) class.T One
 -- a line's number is that behind the accepted lines, each of which made a product
 abbrev pub next_number : State → ℕ
 next_number s = length s.products + 1
-
--- a refusal as a line
-abbrev pub refusal_line : Refusal → List ℕ
-refusal_line x = refusal_text x ++ codes "\n"
 
 -- The issue breaks a rule of the office at this minute: the first one is told, and nothing changes, so that no number is drawn.
 pub record IsRefused (at : ℕ) (s : State) (part : PutPart) (text : List ℕ) (next : State) : Type 0 where

@@ -1,26 +1,62 @@
-//! The program of a warning desk. Today it has one command, `warn_main PATH dry OFFICE STAMP`: the training office.
+//! The program of a warning desk: `warn_main PATH WORDS..`.
 #![tactic(auto)]
 
 mod desk;
-mod lines;
 mod training;
 mod training_desk;
 mod words;
 
-use desk_traits::{StdSink, StdSource};
-use program_ends::{End, command_line};
+use desk_traits::{Disk, FileDisk, StdSink, StdSource, SureDisk, SystemClock};
+use program_ends::{End, command_line, show_usage};
+use std::fs::File;
 use std::io;
 use std::process::ExitCode;
+
+/// The bytes of the disk in memory, in which the longest journal without a request has room.
+const ROOM: usize = 1_048_700;
+
+/// The words of the program, a line each.
+const USAGE: &str =
+    "warn_main PATH init\nwarn_main PATH script\nwarn_main PATH export\nwarn_main PATH board\nwarn_main PATH board --at STAMP\nwarn_main PATH upgrade\nwarn_main PATH dry OFFICE STAMP\n";
+
+/// Runs the program over a disk.
+fn run<D: Disk + Drop>(rt: &HostRuntime, words: &[String], disk: D) -> ExitCode {
+    let mut input = StdSource::new(rt.reader());
+    let mut output = StdSink::new(io::writer(rt));
+    let alloc = rt.alloc();
+    let mut clock = SystemClock::new(rt);
+    let ended = desk::run_program(alloc, words, &mut input, &mut output, disk, &mut clock);
+    show_usage(rt, ended.status, USAGE);
+    ExitCode::from(ended.status)
+}
+
+/// The file of that path, which is made empty if it is not there, as a disk; one without a file where it can't be opened.
+fn file_disk(rt: &HostRuntime, path: &str) -> FileDisk {
+    let file = File::options()
+        .read(true)
+        .write(true)
+        .create(true)
+        .open(rt, path);
+    FileDisk::new(file.ok())
+}
 
 fn main(rt: HostRuntime) -> ExitCode {
     let Ok(words) = command_line(&rt) else {
         return ExitCode::from(End::OutOfMemory.status());
     };
-    let mut input = StdSource::new(rt.reader());
-    let mut output = StdSink::new(io::writer(&rt));
-    let status = desk::run_program(rt.alloc(), &words, &mut input, &mut output);
-    ExitCode::from(status)
+    match words.get(1) {
+        Some(path) if path.as_str() != "-" => {
+            let disk = file_disk(&rt, path.as_str());
+            run(&rt, &words, disk)
+        }
+        _ => match SureDisk::new(rt.alloc(), ROOM) {
+            Ok(disk) => run(&rt, &words, disk),
+            Err(_) => ExitCode::from(End::OutOfMemory.status()),
+        },
+    }
 }
 
+#[cfg(test)]
+mod kept_tests;
 #[cfg(test)]
 mod tests;

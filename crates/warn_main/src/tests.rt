@@ -2,7 +2,7 @@
 ghost use Rattle.std.specs.Prelude.{◌<◌, Some};
 
 use crate::desk::desk_within;
-use desk_traits::{Failed, MemSink, MemSource, Sink};
+use desk_traits::{Failed, MemSink, MemSource, SetClock, Sink, SureDisk};
 use hazard_types::{List, Oom, Text};
 use std::alloc::Global;
 use std::process::Abort;
@@ -56,9 +56,22 @@ fn run_over(
     let mut source = MemSource::new(alloc, input, 1, &List::from_slice(alloc, &[bad_read])?)?;
     let basin = MemSink::new(alloc, &List::from_slice(alloc, &[bad_write])?)?;
     let mut sink = Drip { basin };
-    let status = desk_within(alloc, &words, &mut source, &mut sink, limit);
+    let disk = SureDisk::new(alloc, 1)?;
+    let mut clock = SetClock::new(&List::from_slice(alloc, &[0i64])?)?;
+    let ended = desk_within(
+        alloc,
+        &words,
+        &mut source,
+        &mut sink,
+        disk,
+        &mut clock,
+        limit,
+    );
     let text = sink.basin.taken().clone()?;
-    Ok(Outcome { status, text })
+    Ok(Outcome {
+        status: ended.status,
+        text,
+    })
 }
 
 /// A run over one line ends so where this read, or this write, fails.

@@ -8,8 +8,8 @@ ghost use Rattle.office_core.specs.State.{last_number};
 ghost use Rattle.office_core.specs.Step.{state_after};
 ghost use Rattle.warn_main.specs.Training.{AnswersIssue, IsTraining, Replies, Lacks, dry_desk, first_training};
 
-use crate::lines::refusal_line;
 use crate::words::Dry;
+use desk_commands::refusal_line;
 use desk_settings::training_settings;
 use hazard_types::{Class, Desk, Edition, List, Minute, Oom, Or, PutPart, Refusal, Request, Text};
 use office_core::{Office, Prepared, Ready, offices_begin_in_agreement};

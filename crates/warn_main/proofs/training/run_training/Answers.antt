@@ -1,4 +1,3 @@
-use Rattle.std.proofs.Common.{◌≡◌, Ok, refl}
 use Rattle.hazard_types.specs.declared.codes.Class.TheVariants as class
 use Rattle.hazard_types.specs.declared.request.Edition.TheVariants.{One}
 use Rattle.desk_settings.specs.AreSettings.{training_of}

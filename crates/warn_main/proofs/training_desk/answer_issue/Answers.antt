@@ -1,10 +1,6 @@
-use Rattle.std.proofs.Common.{rules, ◌≡◌, ◌∙◌, ◌+◌, ℕ, ℤ, pos, List, Ok, Some, refl, sym, ap, subst, arith, to_z, of_z, w32, w64}
-use Rattle.std.proofs.lemmas.Int.{to_z-of_z}
+use Rattle.std.proofs.Common.{rules, ◌∙◌, ◌+◌, ℕ, List, Ok, ap, subst, to_z, of_z, w64}
 use Rattle.hazard_types.specs.declared.request.Request.TheVariants.{Issue}
-use Rattle.office_core.specs.Prepared.{IsReady, MayCommit}
-use Rattle.office_core.specs.State.{State}
 use Rattle.office_core.specs.Step.{Accepts}
-use Rattle.warn_main.specs.Training.{dry_desk, next_number}
 use Rattle.warn_main.proofs.TrainingLemmas.{answers_if, has_made, is_some, trains_if}
 use Rattle.warn_main.proofs.training_desk.answer_issue.Goals as goal
 

@@ -1,4 +1,4 @@
-use Rattle.std.proofs.Common.{◌≡◌, ◌∙◌, ℕ, List, [], Option, None, Some, refl, sym, ap, subst, option_map, Bor}
+use Rattle.std.proofs.Common.{◌∙◌, ℕ, List, Option, Some, ap, subst, option_map, Bor}
 use Rattle.warn_main.specs.Training.{IsTraining, Trained}
 use Rattle.warn_main.proofs.TrainingLemmas.{empty_line, empty_of, long_line}
 use Rattle.warn_main.proofs.training_desk.TrainingDeskAnswers.answer.Goals as goal
