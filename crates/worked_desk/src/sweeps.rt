@@ -1,0 +1,175 @@
+//! Sweeps: each call of a disk fails in turn, and the disk stops behind each, whatever a crash leaves of the writes.
+use crate::runs::{Command, Faults, Given, NO_FAULTS, exported, run_command};
+use crate::steps::Tried;
+use hazard_types::{Oom, Text};
+use std::alloc::Global;
+use std::str;
+
+/// What a crash leaves of the writes since the last sync, one case after another.
+const PICKS: [u64; 6] = [0, 1, 2, 3, 5, 15];
+
+/// The status of a run that went well.
+const DONE: u8 = 0;
+
+/// The status of a run that met a fault of its disk.
+const DISK_FAULT: u8 = 9;
+
+/// How many runs met a fault, and how many of them differ from the run without any.
+#[derive(Clone, Copy, Debug)]
+pub struct Tally {
+    pub runs: u64,
+    pub differ: u64,
+}
+
+impl Tally {
+    /// Counts a run.
+    fn count(&mut self, same: bool) {
+        self.runs = self.runs.saturating_add(1);
+        if !same {
+            self.differ = self.differ.saturating_add(1);
+        }
+    }
+}
+
+/// What an input comes to: how it ends, what it is answered, and the products behind it.
+#[derive(Drop)]
+struct Outcome {
+    status: u8,
+    answers: Text,
+    products: Text,
+}
+
+impl Outcome {
+    fn is_same(&self, other: &Self) -> bool {
+        self.status == other.status
+            && self.answers.as_slice() == other.answers.as_slice()
+            && self.products.as_slice() == other.products.as_slice()
+    }
+}
+
+/// A file, what is run over it, and what comes of it over a disk without faults.
+#[derive(Drop)]
+struct Wanted<'a> {
+    given: &'a Given,
+    file: &'a [u8],
+    outcome: Outcome,
+}
+
+/// What an input comes to over a disk without faults.
+fn outcome_of(alloc: Global, given: &Given, file: &[u8]) -> Result<Outcome, Oom> {
+    let done = run_command(alloc, &Command::Script, given, file, &NO_FAULTS)?;
+    let products = exported(alloc, given, done.disk.file().as_slice())?;
+    Ok(Outcome {
+        status: done.status,
+        answers: done.text,
+        products,
+    })
+}
+
+/// Bytes as text, where they are.
+fn text_of(bytes: &[u8]) -> &str {
+    str::from_utf8(bytes).unwrap_or("?")
+}
+
+/// Whether a run ended well, or by a fault of its disk.
+fn is_fair(status: u8) -> bool {
+    status == DONE || status == DISK_FAULT
+}
+
+/// Whether the first line of the answers that are wanted was answered.
+fn has_answered(answers: &[u8], wanted: &[u8]) -> bool {
+    match text_of(wanted).lines().next() {
+        Some(line) => text_of(answers).starts_with(line),
+        None => false,
+    }
+}
+
+/// Whether an input that meets these faults, and then a crash, is answered as without them when it is sent again.
+/// A first line that was answered stands in the file that the crash left, since the input begins with a line that
+/// is accepted.
+fn input_survives(alloc: Global, wanted: &Wanted<'_>, faults: &Faults) -> Result<bool, Oom> {
+    let first = run_command(alloc, &Command::Script, wanted.given, wanted.file, faults)?;
+    let fair = is_fair(first.status);
+    let answered = has_answered(first.text.as_slice(), wanted.outcome.answers.as_slice());
+    let left = first.disk.crashed()?;
+    let kept = !answered || wanted.file.len() < left.len();
+    let again = outcome_of(alloc, wanted.given, left.as_slice())?;
+    Ok(fair && kept && again.is_same(&wanted.outcome))
+}
+
+/// The pending input is sent over a disk that fails or stops at each call.
+fn sweep_input(alloc: Global, given: &Given, file: &[u8], calls: u8) -> Result<Tally, Oom> {
+    let wanted = Wanted {
+        given,
+        file,
+        outcome: outcome_of(alloc, given, file)?,
+    };
+    let mut tally = Tally { runs: 0, differ: 0 };
+    for call in 1..=calls {
+        for pick in PICKS {
+            for stops in [false, true] {
+                let faults = faults_at(u64::from(call), stops, pick);
+                tally.count(input_survives(alloc, &wanted, &faults)?);
+            }
+        }
+    }
+    Ok(tally)
+}
+
+/// A fault at one call, or a stop behind it.
+fn faults_at(call: u64, stops: bool, pick: u64) -> Faults {
+    let (failing, stop) = if stops {
+        (None, Some(call))
+    } else {
+        (Some(call), None)
+    };
+    Faults {
+        failing,
+        stop,
+        pick: Some(pick),
+    }
+}
+
+/// Whether the products are the same behind an upgrade that meets these faults, and then a crash.
+fn upgrade_survives(alloc: Global, wanted: &Wanted<'_>, faults: &Faults) -> Result<bool, Oom> {
+    let first = run_command(alloc, &Command::Upgrade, wanted.given, wanted.file, faults)?;
+    let fair = is_fair(first.status);
+    let left = first.disk.crashed()?;
+    let products = exported(alloc, wanted.given, left.as_slice())?;
+    Ok(fair && products.as_slice() == wanted.outcome.products.as_slice())
+}
+
+/// The file is upgraded over a disk that stops behind each call.
+fn sweep_upgrade(alloc: Global, given: &Given, file: &[u8], calls: u8) -> Result<Tally, Oom> {
+    let wanted = Wanted {
+        given,
+        file,
+        outcome: Outcome {
+            status: DONE,
+            answers: Text::new(alloc),
+            products: exported(alloc, given, file)?,
+        },
+    };
+    let mut tally = Tally { runs: 0, differ: 0 };
+    for call in 1..=calls {
+        for pick in PICKS {
+            let faults = faults_at(u64::from(call), true, pick);
+            tally.count(upgrade_survives(alloc, &wanted, &faults)?);
+        }
+    }
+    Ok(tally)
+}
+
+/// What a sweep over so many calls of a disk counts.
+pub fn sweep(
+    alloc: Global,
+    tried: Tried,
+    given: &Given,
+    file: &[u8],
+    calls: u8,
+) -> Result<Tally, Oom> {
+    match tried {
+        Tried::Input => sweep_input(alloc, given, file, calls),
+        Tried::Upgrade => sweep_upgrade(alloc, given, file, calls),
+    }
+}
