@@ -1,8 +1,8 @@
 """Measures the kept office, outside the gate: accepted requests a second, `export`, and the opening of a journal.
 
-usage: python3 bench/kept.py [--beside FOLDER] [FOLDERS..]
+usage: python3 bench/kept.py [--most COUNT] [--beside FOLDER] [FOLDERS..]
 
-The journals stand in each of the folders: on /dev/shm and in the current folder where none is given, so in memory and on a disk. FOLDER of
+COUNT is the most products, at most 8,000, which it is where none is given; on a disk each takes two syncs. The journals stand in each of the folders: on /dev/shm and in the current folder where none is given, so in memory and on a disk. FOLDER of
 --beside has another program of the same name, which does the same. Seconds are elapsed ones, the least of three runs.
 """
 import datetime
@@ -83,26 +83,31 @@ def made(program_path, path, lines):
     return took
 
 
-def measures(program_path, folder):
+def measures(program_path, folder, most):
     """What is measured, as pairs of a name and a count, with its seconds."""
     path = os.path.join(folder, "journal")
     rows = {}
-    for count in (1000, 2000, 4000, 8000):
+    for count in (most // 8, most // 4, most // 2, most):
         rows["script of %d products" % count, count] = min(made(program_path, path, issues(count)) for _ in range(3))
-    rows["export of 8000 products", 8000] = min(run(program_path, [path, "export"], b"")[0] for _ in range(3))
-    rows["opening 8000 products (board of a minute with none)", 8000] = min(run(program_path, [path, "board", "--at", "180103T1530Z"], b"")[0] for _ in range(3))
-    for count in (2000, 8000):
+    rows["export of %d products" % most, most] = min(run(program_path, [path, "export"], b"")[0] for _ in range(3))
+    rows["opening %d products (board of a minute with none)" % most, most] = min(run(program_path, [path, "board", "--at", "180103T1530Z"], b"")[0] for _ in range(3))
+    for count in (most // 4, most):
         rows["script of %d drafts opened and discarded" % count, count] = min(made(program_path, path, drafts(count)) for _ in range(3))
     return rows
 
 
 def main():
     words, other = beside(sys.argv[1:])
+    most = 8000
+    if "--most" in words:
+        at = words.index("--most")
+        most = int(words[at + 1])
+        words = words[:at] + words[at + 2:]
     mine = program("warn_main")
     for where in words or ["/dev/shm", "."]:
         with tempfile.TemporaryDirectory(dir=where) as folder:
-            rows = measures(mine, folder)
-            others = measures(os.path.join(other, "warn_main"), folder) if other else {}
+            rows = measures(mine, folder, most)
+            others = measures(os.path.join(other, "warn_main"), folder, most) if other else {}
         print("in %s:" % where)
         for (name, count), seconds in rows.items():
             told = ""
