@@ -1,0 +1,5 @@
+pub mod CommandForms
+pub mod Floats
+pub mod Inverting
+pub mod KeysKnown
+pub mod NoneRead

@@ -1,0 +1,15 @@
+//! The lines of JSON that tell counties of watches, and the texts of refusals.
+#![tactic(auto)]
+
+mod command;
+mod members;
+mod reading;
+mod refusal;
+mod refusal_texts;
+mod values;
+mod verb;
+
+pub use command::{Command, Deed, Watch};
+pub use reading::read_command;
+pub use refusal::NoticeRefusal;
+pub use refusal_texts::refusal_text;
