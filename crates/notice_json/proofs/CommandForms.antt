@@ -1,5 +1,5 @@
 -- What is read has its form.
-use Rattle.std.proofs.Common.{◌≡◌, ◌≤◌, ◌&&◌, ℕ, Bool, true, false, cond, List, [], ◌∷◌, nat_le, Option, Some, option_and_then, IfOk, Result, Ok, Err, refl, ap, subst, ◌∙◌, arith, codes}
+use Rattle.std.proofs.Common.{◌≡◌, ◌≤◌, ◌&&◌, ℕ, Bool, true, false, cond, List, [], nat_le, Option, Some, option_and_then, IfOk, Result, Ok, Err, ap, subst, ◌∙◌, arith, codes}
 use Rattle.std.specs.List.{All, AllByRecursion}
 use Rattle.std.specs.Option.{ok_or}
 use Rattle.std.proofs.lemmas.Bool.Decides.{nat_tests}
