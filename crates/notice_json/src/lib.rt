@@ -2,6 +2,7 @@
 #![tactic(auto)]
 
 mod command;
+mod laws;
 mod members;
 mod reading;
 mod refusal;
@@ -10,6 +11,7 @@ mod values;
 mod verb;
 
 pub use command::{Command, Deed, Watch};
+pub use laws::refusal_texts_are_lines;
 pub use reading::read_command;
 pub use refusal::NoticeRefusal;
 pub use refusal_texts::refusal_text;
