@@ -15,7 +15,7 @@ use Rattle.hazard_types.specs.declared.or.Or.{Or}
 use Rattle.notice_json.specs.Form.{given, at_field, verb_field, watch_field, number_field, zones_field, end_field, deed_field, command_in, command_of}
 use Rattle.notice_json.specs.Formed.{IsMinute, HasEnd, HasForm}
 use Rattle.notice_json.specs.Keys.{all_known}
-use Rattle.notice_json.specs.Values.{json_of, text_at, minute_at, if_counted, number_of, zones_of}
+use Rattle.notice_json.specs.Values.{json_of, text_at, minute_at, if_counted, number_of, zones_of, zones_at}
 use Rattle.notice_json.specs.declared.command.Command.{Command}
 use Rattle.notice_json.specs.declared.command.Deed.{Deed}
 use Rattle.notice_json.specs.declared.command.Deed.TheVariants as deed
@@ -65,7 +65,7 @@ each_zone (item d ds) zones h =
 zones_form : (d : Data) (zones : List Place) → zones_field d ≡ Ok zones → All IsPlace zones
 zones_form d zones h =
     let o = option_and_then as_array (get (codes "zones") d) in
-    let a = and_then_some o zones_of zones (given_ok (option_and_then zones_of o) (codes "zones") zones h) in
+    let a = and_then_some o zones_of zones (given_ok (zones_at d) (codes "zones") zones h) in
     All-from_recursion IsPlace zones (each_zone a.0 zones a.2)
 
 deed_form : (v : Verb) (d : Data) (e : Deed) → deed_field v d ≡ Ok e → HasEnd e

@@ -2,12 +2,12 @@
 use Rattle.std.specs.Prelude.{ℕ, List, if◌then◌else◌, Option, option_and_then, codes, Result, Ok, Err}
 use Rattle.std.specs.Option.{ok_or}
 use Rattle.serde_json.specs.Data.{Data}
-use Rattle.serde_json.specs.Find.{get, as_array, as_object}
+use Rattle.serde_json.specs.Find.{as_object}
 use Rattle.hazard_types.specs.Given.{◌>>=◌}
 use Rattle.hazard_types.specs.Places.{Place}
 use Rattle.notice_json.specs.Commands.{watch_at}
 use Rattle.notice_json.specs.Keys.{verb_at, all_known}
-use Rattle.notice_json.specs.Values.{json_of, text_at, minute_at, number_of, zones_of}
+use Rattle.notice_json.specs.Values.{json_of, text_at, minute_at, number_of, zones_at}
 use Rattle.notice_json.specs.declared.command.Command.{Command}
 use Rattle.notice_json.specs.declared.command.Deed.{Deed}
 use Rattle.notice_json.specs.declared.command.Deed.TheVariants as deed
@@ -34,7 +34,7 @@ abbrev pub number_field : Data → Result ℕ NoticeRefusal
 number_field d = given (number_of d) (codes "number")
 
 abbrev pub zones_field : Data → Result (List Place) NoticeRefusal
-zones_field d = given (option_and_then zones_of (option_and_then as_array (get (codes "zones") d))) (codes "zones")
+zones_field d = given (zones_at d) (codes "zones")
 
 abbrev pub end_field : Data → Result ℕ NoticeRefusal
 end_field d = given (minute_at (codes "end") d) (codes "end")

@@ -3,7 +3,7 @@ use Rattle.std.specs.Prelude.{ℕ, ◌&&◌, List, [], ◌∷◌, nat_le, if◌t
 use Rattle.std.specs.Str.{is_utf8}
 use Rattle.serde_json.specs.Data.{Data, Items, no_items, item}
 use Rattle.serde_json.specs.Read.{read}
-use Rattle.serde_json.specs.Find.{get, as_str, as_number, as_u64}
+use Rattle.serde_json.specs.Find.{get, as_array, as_str, as_number, as_u64}
 use Rattle.hazard_types.specs.Calendar.{stamp_at}
 use Rattle.hazard_types.specs.Names.{zone_at}
 use Rattle.hazard_types.specs.Places.{Place}
@@ -31,3 +31,6 @@ number_of d = option_and_then if_counted (option_and_then as_u64 (option_and_the
 abbrev pub zones_of : Items → Option (List Place)
 zones_of no_items = Some []
 zones_of (item d ds) = option_and_then (λ z. option_map (λ zs. z ∷ zs) (zones_of ds)) (option_and_then zone_at (as_str d))
+
+abbrev pub zones_at : Data → Option (List Place)
+zones_at d = option_and_then zones_of (option_and_then as_array (get (codes "zones") d))

@@ -1,4 +1,4 @@
-//! What a line asks: to open a watch in counties, to join more counties to it, or to end it in some.
+//! What a line asks: to open a watch in counties, to join counties to it, or to end it in some.
 ghost use Rattle.std.specs.Prelude.{◌≡◌};
 ghost use Rattle.notice_json.specs.Commands.{watch_at, hazard_of};
 
@@ -19,7 +19,8 @@ pub enum Deed {
     End,
 }
 
-/// A line that was read. The number is 1 to 9,999; the zones stand as they were written, none or one of them twice also.
+/// A line that was read. The number is 1 to 9,999. The zones stand as they were written: there may
+/// be none, and one may stand twice.
 #[derive(Clone, Debug, Drop, PartialEq, Eq)]
 pub struct Command {
     pub at: Minute,

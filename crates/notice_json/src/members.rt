@@ -23,7 +23,8 @@ fn text_value(alloc: Global, bytes: &[u8]) -> Result<Value, Oom>
 
 /// Sets a member.
 fn put(alloc: Global, members: &mut Members, key: &str, value: Value) -> Result<(), Oom>
-    ensures { OnOk result (members_view members.new.entries ≡ put key.now (view value) (members_view members.old.entries)) }
+    ensures { OnOk result (members_view members.new.entries
+        ≡ put key.now (view value) (members_view members.old.entries)) }
 {
     serde_json::put(members, alloc, key, value)?;
     Ok(())
@@ -31,7 +32,8 @@ fn put(alloc: Global, members: &mut Members, key: &str, value: Value) -> Result<
 
 /// Sets a member that is a text.
 pub fn put_text(alloc: Global, members: &mut Members, key: &str, bytes: &[u8]) -> Result<(), Oom>
-    ensures { OnOk result (members_view members.new.entries ≡ put_text key.now bytes.now (members_view members.old.entries)) }
+    ensures { OnOk result (members_view members.new.entries
+        ≡ put_text key.now bytes.now (members_view members.old.entries)) }
 {
     let value = text_value(alloc, bytes)?;
     put(alloc, members, key, value)
@@ -39,7 +41,8 @@ pub fn put_text(alloc: Global, members: &mut Members, key: &str, bytes: &[u8]) -
 
 /// Sets a member that is a length.
 pub fn put_size(alloc: Global, members: &mut Members, key: &str, size: usize) -> Result<(), Oom>
-    ensures { OnOk result (members_view members.new.entries ≡ put_number key.now size (members_view members.old.entries)) }
+    ensures { OnOk result (members_view members.new.entries
+        ≡ put_number key.now size (members_view members.old.entries)) }
 {
     put(alloc, members, key, Value::from(size))
 }

@@ -3,7 +3,8 @@ ghost use Rattle.std.specs.Prelude.{◌≡◌, IfOk, Some, None};
 ghost use Rattle.hazard_types.specs.Given.{Gives};
 ghost use Rattle.serde_json.specs.View.{view};
 ghost use Rattle.notice_json.specs.Values.{json_of};
-ghost use Rattle.notice_json.specs.Form.{given, at_field, verb_field, watch_field, number_field, zones_field, end_field, deed_field, command_in, command_of};
+ghost use Rattle.notice_json.specs.Form.{given, at_field, verb_field, watch_field, number_field};
+ghost use Rattle.notice_json.specs.Form.{zones_field, end_field, deed_field, command_in, command_of};
 ghost use Rattle.notice_json.specs.Formed.{HasForm};
 ghost use Rattle.notice_json.specs.declared.refusal.NoticeRefusal.{NoticeRefusal as Refused};
 
@@ -114,8 +115,8 @@ fn command_in(alloc: Global, value: &Value) -> Result<Command, Or<NoticeRefusal>
 /// The JSON value that the bytes are.
 fn read_json(alloc: Global, bytes: &[u8]) -> Result<Value, Or<NoticeRefusal>>
     ensures ok { IfOk result (λ value. json_of bytes.now ≡ Some (view value)) }
-    ensures refused { (refusal : Refused) → result ≡ Err (Or.No refusal) → json_of bytes.now ≡ None }
-    ensures named { (refusal : Refused) → result ≡ Err (Or.No refusal) → refusal ≡ NoticeRefusal.NotJson }
+    ensures refused { (r : Refused) → result ≡ Err (Or.No r) → json_of bytes.now ≡ None }
+    ensures named { (r : Refused) → result ≡ Err (Or.No r) → r ≡ NoticeRefusal.NotJson }
 {
     match Value::from_slice(alloc, bytes) {
         Ok(value) => Ok(value),
@@ -129,11 +130,13 @@ fn read_json(alloc: Global, bytes: &[u8]) -> Result<Value, Or<NoticeRefusal>>
     }
 }
 
-/// Reads a line. What is read has the form of a command: its number, its minutes and its zones are in their ranges. The line's length is not judged here.
+/// Reads a line. What is read has the form of a command: its number, its minutes and its zones are
+/// in their ranges. The line's length is not judged here.
 ///
 /// # Errors
 ///
-/// `NotJson`, or `WrongShape` with the first field that is missing or wrong (`?` for an unknown key, `.` for a value that is no object), or want of memory.
+/// `NotJson`, or `WrongShape` with the first field that is missing or wrong (`?` for an unknown key,
+/// `.` for a value that is no object), or out of memory.
 #[tactic(auto, unfolding(crate::specs::Form::command_of), using(crate::proofs::CommandForms::answers_have_form))]
 pub fn read_command(alloc: Global, bytes: &[u8]) -> Result<Command, Or<NoticeRefusal>>
     ensures exact { Gives result (command_of bytes.now) }

@@ -1,14 +1,15 @@
 //! Why a line is refused.
 use hazard_types::{Event, Minute, Text, Zone};
 
-/// Why a line is refused, in the order in which the reasons are looked for, with what the refusal names.
+/// Why a line is refused, with what the refusal names. The length is judged first, and then the
+/// reasons in this order; the last is found once the notice is made.
 #[derive(Clone, Debug, Drop, PartialEq, Eq)]
 pub enum NoticeRefusal {
     /// The line is too long to be read.
     LineTooLong,
     /// The line is no JSON.
     NotJson,
-    /// A field is missing or wrong, `?` stands for a key that is unknown, `.` for a value that is no object.
+    /// A field is missing or wrong. `?` stands for an unknown key, `.` for a value that is no object.
     WrongShape { field: Text },
     /// The minute is too late for the desk.
     TimeOut { minute: Minute },

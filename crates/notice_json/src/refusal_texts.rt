@@ -1,7 +1,8 @@
 //! The texts of refusals.
 ghost use Rattle.std.specs.Prelude.{◌≡◌, IfOk, OnOk};
 ghost use Rattle.serde_json.specs.View.{members_view};
-ghost use Rattle.notice_json.specs.Refusals.{label, labelled, put_minute, put_zone, put_event_name, put_values, refusal_text};
+ghost use Rattle.notice_json.specs.Refusals.{label, labelled, put_minute, put_zone};
+ghost use Rattle.notice_json.specs.Refusals.{put_event_name, put_values, refusal_text};
 
 use crate::members::{Members, put_size, put_text, written};
 use crate::refusal::NoticeRefusal;
@@ -34,19 +35,22 @@ fn label(refusal: &NoticeRefusal) -> (&'static str, &'static str)
 
 /// Sets a member that is a minute's stamp.
 fn put_minute(alloc: Global, members: &mut Members, key: &str, minute: &Minute) -> Result<(), Oom>
-    ensures { OnOk result (members_view members.new.entries ≡ put_minute key.now minute.now (members_view members.old.entries)) }
+    ensures { OnOk result (members_view members.new.entries
+        ≡ put_minute key.now minute.now (members_view members.old.entries)) }
 {
     put_text(alloc, members, key, &stamp(*minute))
 }
 
 fn put_zone(alloc: Global, members: &mut Members, zone: &Zone) -> Result<(), Oom>
-    ensures { OnOk result (members_view members.new.entries ≡ put_zone zone.now (members_view members.old.entries)) }
+    ensures { OnOk result (members_view members.new.entries
+        ≡ put_zone zone.now (members_view members.old.entries)) }
 {
     put_text(alloc, members, "zone", &zone_text(zone))
 }
 
 fn put_event_name(alloc: Global, members: &mut Members, event: &Event) -> Result<(), Oom>
-    ensures { OnOk result (members_view members.new.entries ≡ put_event_name event.now (members_view members.old.entries)) }
+    ensures { OnOk result (members_view members.new.entries
+        ≡ put_event_name event.now (members_view members.old.entries)) }
 {
     let mut name = List::new(alloc);
     put_event(alloc, &mut name, event)?;
@@ -56,7 +60,8 @@ fn put_event_name(alloc: Global, members: &mut Members, event: &Event) -> Result
 /// Sets the values of a refusal, by name.
 #[tactic(auto, unfolding(crate::specs::Refusals::put_values))]
 fn put_values(alloc: Global, members: &mut Members, refusal: &NoticeRefusal) -> Result<(), Oom>
-    ensures { OnOk result (members_view members.new.entries ≡ put_values refusal.now (members_view members.old.entries)) }
+    ensures { OnOk result (members_view members.new.entries
+        ≡ put_values refusal.now (members_view members.old.entries)) }
 {
     match refusal {
         NoticeRefusal::WrongShape { field } => put_text(alloc, members, "field", field.as_slice()),
@@ -78,7 +83,8 @@ fn put_values(alloc: Global, members: &mut Members, refusal: &NoticeRefusal) -> 
 }
 
 fn refusal_members(alloc: Global, refusal: &NoticeRefusal) -> Result<Members, Oom>
-    ensures { IfOk result (λ members. members_view members.entries ≡ put_values refusal.now (labelled (label refusal.now))) }
+    ensures { IfOk result (λ members. members_view members.entries
+        ≡ put_values refusal.now (labelled (label refusal.now))) }
 {
     let (no, rule) = label(refusal);
     let mut members = Map::new(alloc);
@@ -88,7 +94,8 @@ fn refusal_members(alloc: Global, refusal: &NoticeRefusal) -> Result<Members, Oo
     Ok(members)
 }
 
-/// The text of a refusal: an object of its code, its name and its values, keys in byte order, without a line feed.
+/// The text of a refusal, without a line feed: an object of its code, its name and its values by
+/// name, keys in byte order.
 #[tactic(auto, using(crate::proofs::Floats::refusal_no_float), unfolding(crate::specs::Refusals::refusal_text))]
 pub fn refusal_text(alloc: Global, refusal: &NoticeRefusal) -> Result<Text, Oom>
     ensures { IfOk result (λ text. text ≡ refusal_text refusal.now) }

@@ -1,8 +1,7 @@
 //! The values of fields.
-ghost use Rattle.std.specs.Prelude.{◌≡◌, option_map, option_and_then, codes, IfOk};
-ghost use Rattle.serde_json.specs.Find.{get, as_array};
+ghost use Rattle.std.specs.Prelude.{◌≡◌, option_map, IfOk};
 ghost use Rattle.serde_json.specs.View.{view, items_view};
-ghost use Rattle.notice_json.specs.Values.{text_at, minute_at, number_of, zones_of};
+ghost use Rattle.notice_json.specs.Values.{text_at, minute_at, number_of, zones_of, zones_at};
 
 use hazard_types::{List, Minute, Oom, Zone, read_stamp, zone_in};
 use serde_json::Value;
@@ -55,7 +54,7 @@ fn zones_of(alloc: Global, values: &[Value]) -> Result<Option<List<Zone>>, Oom>
 
 /// The zones of a line, or nothing where they are missing or wrong.
 pub fn zones_at(alloc: Global, value: &Value) -> Result<Option<List<Zone>>, Oom>
-    ensures { IfOk result (λ zones. zones ≡ option_and_then zones_of (option_and_then as_array (get (codes "zones") (view value.now)))) }
+    ensures { IfOk result (λ zones. zones ≡ zones_at (view value.now)) }
 {
     match value.get("zones").and_then(Value::as_array) {
         Some(values) => zones_of(alloc, values),
