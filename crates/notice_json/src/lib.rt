@@ -1,0 +1,17 @@
+//! The lines of JSON that tell counties of watches, and the texts of refusals.
+#![tactic(auto)]
+
+mod command;
+mod laws;
+mod members;
+mod reading;
+mod refusal;
+mod refusal_texts;
+mod values;
+mod verb;
+
+pub use command::{Command, Deed, Watch};
+pub use laws::refusal_texts_are_lines;
+pub use reading::read_command;
+pub use refusal::NoticeRefusal;
+pub use refusal_texts::refusal_text;

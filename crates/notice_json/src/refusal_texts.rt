@@ -1,0 +1,105 @@
+//! The texts of refusals.
+ghost use Rattle.std.specs.Prelude.{◌≡◌, IfOk, OnOk};
+ghost use Rattle.serde_json.specs.View.{members_view};
+ghost use Rattle.notice_json.specs.Refusals.{label, labelled, put_minute, put_zone};
+ghost use Rattle.notice_json.specs.Refusals.{put_event_name, put_values, refusal_text};
+
+use crate::members::{Members, put_size, put_text, written};
+use crate::refusal::NoticeRefusal;
+use hazard_types::{Event, List, Minute, Oom, Text, Zone, put_event, stamp, zone_text};
+use serde_json::Map;
+use std::alloc::Global;
+
+/// The code and the name of a refusal.
+#[tactic(auto, unfolding(crate::specs::Refusals::label))]
+fn label(refusal: &NoticeRefusal) -> (&'static str, &'static str)
+    ensures { (result.0.now, result.1.now) ≡ label refusal.now }
+{
+    match refusal {
+        NoticeRefusal::LineTooLong => ("J3", "LineTooLong"),
+        NoticeRefusal::NotJson => ("J1", "NotJson"),
+        NoticeRefusal::WrongShape { field: _ } => ("J2", "WrongShape"),
+        NoticeRefusal::TimeOut { minute: _ } => ("A1", "TimeOut"),
+        NoticeRefusal::TimeBack { last: _ } => ("A2", "TimeBack"),
+        NoticeRefusal::BadZones => ("A3", "BadZones"),
+        NoticeRefusal::NotCounty { zone: _ } => ("A4", "NotCounty"),
+        NoticeRefusal::BadEnd => ("A5", "BadEnd"),
+        NoticeRefusal::NumberUsed { event: _ } => ("A6", "NumberUsed"),
+        NoticeRefusal::NumberHeld { event: _ } => ("A7", "NumberHeld"),
+        NoticeRefusal::NoWatch => ("A8", "NoWatch"),
+        NoticeRefusal::LeftBefore { zone: _ } => ("A9", "LeftBefore"),
+        NoticeRefusal::NotLive { zone: _ } => ("A10", "NotLive"),
+        NoticeRefusal::TooLong { bytes: _ } => ("A11", "TooLong"),
+    }
+}
+
+/// Sets a member that is a minute's stamp.
+fn put_minute(alloc: Global, members: &mut Members, key: &str, minute: &Minute) -> Result<(), Oom>
+    ensures { OnOk result (members_view members.new.entries
+        ≡ put_minute key.now minute.now (members_view members.old.entries)) }
+{
+    put_text(alloc, members, key, &stamp(*minute))
+}
+
+fn put_zone(alloc: Global, members: &mut Members, zone: &Zone) -> Result<(), Oom>
+    ensures { OnOk result (members_view members.new.entries
+        ≡ put_zone zone.now (members_view members.old.entries)) }
+{
+    put_text(alloc, members, "zone", &zone_text(zone))
+}
+
+fn put_event_name(alloc: Global, members: &mut Members, event: &Event) -> Result<(), Oom>
+    ensures { OnOk result (members_view members.new.entries
+        ≡ put_event_name event.now (members_view members.old.entries)) }
+{
+    let mut name = List::new(alloc);
+    put_event(alloc, &mut name, event)?;
+    put_text(alloc, members, "event", name.as_slice())
+}
+
+/// Sets the values of a refusal, by name.
+#[tactic(auto, unfolding(crate::specs::Refusals::put_values))]
+fn put_values(alloc: Global, members: &mut Members, refusal: &NoticeRefusal) -> Result<(), Oom>
+    ensures { OnOk result (members_view members.new.entries
+        ≡ put_values refusal.now (members_view members.old.entries)) }
+{
+    match refusal {
+        NoticeRefusal::WrongShape { field } => put_text(alloc, members, "field", field.as_slice()),
+        NoticeRefusal::TimeOut { minute } => put_minute(alloc, members, "minute", minute),
+        NoticeRefusal::TimeBack { last } => put_minute(alloc, members, "last", last),
+        NoticeRefusal::NotCounty { zone }
+        | NoticeRefusal::LeftBefore { zone }
+        | NoticeRefusal::NotLive { zone } => put_zone(alloc, members, zone),
+        NoticeRefusal::NumberUsed { event } | NoticeRefusal::NumberHeld { event } => {
+            put_event_name(alloc, members, event)
+        }
+        NoticeRefusal::TooLong { bytes } => put_size(alloc, members, "bytes", *bytes),
+        NoticeRefusal::LineTooLong
+        | NoticeRefusal::NotJson
+        | NoticeRefusal::BadZones
+        | NoticeRefusal::BadEnd
+        | NoticeRefusal::NoWatch => Ok(()),
+    }
+}
+
+fn refusal_members(alloc: Global, refusal: &NoticeRefusal) -> Result<Members, Oom>
+    ensures { IfOk result (λ members. members_view members.entries
+        ≡ put_values refusal.now (labelled (label refusal.now))) }
+{
+    let (no, rule) = label(refusal);
+    let mut members = Map::new(alloc);
+    put_text(alloc, &mut members, "no", no.as_bytes())?;
+    put_text(alloc, &mut members, "rule", rule.as_bytes())?;
+    put_values(alloc, &mut members, refusal)?;
+    Ok(members)
+}
+
+/// The text of a refusal, without a line feed: an object of its code, its name and its values by
+/// name, keys in byte order.
+#[tactic(auto, using(crate::proofs::Floats::refusal_no_float), unfolding(crate::specs::Refusals::refusal_text))]
+pub fn refusal_text(alloc: Global, refusal: &NoticeRefusal) -> Result<Text, Oom>
+    ensures { IfOk result (λ text. text ≡ refusal_text refusal.now) }
+{
+    let members = refusal_members(alloc, refusal)?;
+    written(alloc, members)
+}

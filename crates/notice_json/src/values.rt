@@ -1,0 +1,63 @@
+//! The values of fields.
+ghost use Rattle.std.specs.Prelude.{◌≡◌, option_map, IfOk};
+ghost use Rattle.serde_json.specs.View.{view, items_view};
+ghost use Rattle.notice_json.specs.Values.{text_at, minute_at, number_of, zones_of, zones_at};
+
+use hazard_types::{List, Minute, Oom, Zone, read_stamp, zone_in};
+use serde_json::Value;
+use std::alloc::Global;
+
+/// The text of a member.
+pub fn text_at<'v>(value: &'v Value, key: &str) -> Option<&'v str>
+    ensures { option_map (λ s. s.now) result ≡ text_at key.now (view value.now) }
+{
+    value.get(key).and_then(Value::as_str)
+}
+
+/// The minute of a member that is a stamp.
+pub fn minute_at(value: &Value, key: &str) -> Option<Minute>
+    ensures { result ≡ minute_at key.now (view value.now) }
+{
+    let text = text_at(value, key)?;
+    read_stamp(text.as_bytes())
+}
+
+/// The watch's number: a whole number from 1 to 9,999.
+pub fn number_of(value: &Value) -> Option<u16>
+    ensures { result ≡ number_of (view value.now) }
+{
+    match value.get("number").and_then(Value::as_u64) {
+        Some(number) => {
+            if 1 <= number && number <= 9999 {
+                Some(number as u16)
+            } else {
+                None
+            }
+        }
+        None => None,
+    }
+}
+
+/// The zones of the texts, or nothing where one is no zone.
+fn zones_of(alloc: Global, values: &[Value]) -> Result<Option<List<Zone>>, Oom>
+    ensures { IfOk result (λ zones. zones ≡ zones_of (items_view values.now)) }
+{
+    let mut zones = List::new(alloc);
+    for value in values {
+        match value.as_str().and_then(|text| zone_in(text.as_bytes())) {
+            Some(zone) => zones.push(zone)?,
+            None => return Ok(None),
+        }
+    }
+    Ok(Some(zones))
+}
+
+/// The zones of a line, or nothing where they are missing or wrong.
+pub fn zones_at(alloc: Global, value: &Value) -> Result<Option<List<Zone>>, Oom>
+    ensures { IfOk result (λ zones. zones ≡ zones_at (view value.now)) }
+{
+    match value.get("zones").and_then(Value::as_array) {
+        Some(values) => zones_of(alloc, values),
+        None => Ok(None),
+    }
+}

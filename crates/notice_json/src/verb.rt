@@ -1,0 +1,52 @@
+//! What lines do, and the keys that they have.
+ghost use Rattle.std.specs.Prelude.{◌≡◌};
+ghost use Rattle.serde_json.specs.View.{members_view};
+ghost use Rattle.notice_json.specs.Keys.{verb_at, is_common, has_key, all_known};
+
+use serde_json::{Map, Value};
+
+/// What a line does, by its field `do`.
+#[derive(Clone, Copy, Debug, PartialEq, Eq)]
+pub enum Verb {
+    Open,
+    Join,
+    End,
+}
+
+/// Whether all lines have the key.
+fn is_common(key: &str) -> bool
+    ensures { result ≡ is_common key.now }
+{
+    matches!(key, "at" | "do" | "hazard" | "number" | "zones")
+}
+
+impl Verb {
+    /// What the word says to do.
+    pub fn at(word: &str) -> Option<Verb>
+        ensures { result ≡ verb_at word.now }
+    {
+        match word {
+            "open" => Some(Verb::Open),
+            "join" => Some(Verb::Join),
+            "end" => Some(Verb::End),
+            _ => None,
+        }
+    }
+
+    /// Whether a line that does this has the key.
+    pub fn has_key(self, key: &str) -> bool
+        ensures { result ≡ has_key self key.now }
+    {
+        match self {
+            Verb::Open | Verb::Join => is_common(key) || key == "end",
+            Verb::End => is_common(key),
+        }
+    }
+
+    /// Whether each key of an object is one of those.
+    pub fn has_all(self, members: &Map<String, Value>) -> bool
+        ensures { result ≡ all_known self (members_view members.now.entries) }
+    {
+        members.keys().all(|key| self.has_key(key.as_str()))
+    }
+}
