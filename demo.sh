@@ -35,6 +35,11 @@ step 5_training "$top/samples/training.jsonl" - dry KLWX 180103T1530Z
 
 echo "== the requests of 2_script (samples/requests.jsonl; the office's settings are samples/office.toml)"
 cat "$work/requests"
+cat <<'TEXT'
+== line 4 is line 3 again: it gets the same reply, and nothing is sent twice
+== line 5 is refused: only floods may stand until further notice
+== lines 6 to 8 are a follow-up, with one more county; line 9 corrects its text
+TEXT
 echo "== the lines of 5_training (samples/training.jsonl, at the office KLWX, at 15:30 UTC on 2018-01-03)"
 cat "$top/samples/training.jsonl"
 cd "$top/crates/warn_main" || exit 1
