@@ -7,8 +7,8 @@
 # builds the program and the libraries below it first (`rt run`), which takes a while the first time.
 top=$(cd "$(dirname "$0")" && pwd)
 case "${1-}" in
-  "") told="not proved in this run: sh demo.sh proved proves it first" ;;
-  proved) told="proved" ;;
+  "") note="not proved in this run: sh demo.sh proved proves it first" ;;
+  proved) note="proved" ;;
   *) echo "usage: sh demo.sh [proved]" >&2; exit 2 ;;
 esac
 work=$(mktemp -d)
@@ -46,11 +46,11 @@ cd "$top/crates/warn_main" || exit 1
 status=0
 if [ -z "${1-}" ]; then
   echo "== building warn_main without its proofs: about a minute, in which nothing is printed"
-  echo "== what warn_main answers ($told)"
+  echo "== what warn_main answers ($note)"
   rt try --cases "$work/steps" 2> "$work/log" || status=$?
 else
   echo "== proving and building warn_main: a while the first time, in which nothing is printed"
-  echo "== what warn_main answers ($told)"
+  echo "== what warn_main answers ($note)"
   # The first step proves and builds; the others run the program that it leaves.
   for file in "$work"/steps/*.args; do
     step=${file%.args}
