@@ -1,12 +1,14 @@
 #!/bin/sh
-# Keeps an office in a journal: makes it (`init`), answers three requests of a desk (`script`), and writes the texts that it
-# has sent (`export`) and its board (`board`). Then the training office answers a sample of its own (`dry`).
-# It answers in about a minute, since it runs the program before its proofs are made (`rt try`). With the word `proved`
-# it proves and builds the program and the libraries below it first (`rt run`), which takes a while the first time.
+# Keeps an office in a journal: makes it (`init`), answers the requests of two desks (`script`), writes the texts that
+# were sent (`export`) and the hazards that stand now (`board`). Then the training office answers a sample of its own
+# (`dry`). The requests have a flood warning, the same request again, one that is refused, a follow-up and a correction.
+#
+# It builds the program once, unproved (`rt try`), and runs all steps over it. With the word `proved` it proves and
+# builds the program and the libraries below it first (`rt run`), which takes a while the first time.
 top=$(cd "$(dirname "$0")" && pwd)
 case "${1-}" in
-  "") told="not proved in this run; sh demo.sh proved proves it first" ;;
-  proved) told="proving and building first" ;;
+  "") note="not proved in this run: sh demo.sh proved proves it first" ;;
+  proved) note="proved" ;;
   *) echo "usage: sh demo.sh [proved]" >&2; exit 2 ;;
 esac
 work=$(mktemp -d)
@@ -21,28 +23,45 @@ step() {
   printf '%s\n' "$@" > "$work/steps/$name.args"
 }
 
+# An event bears the year in which it is opened: that of the clock takes the place of the sample's.
+year=$(date -u +%Y)
+sed "s/FL\.W\.0001\.2026/FL.W.0001.$year/" "$top/samples/requests.jsonl" > "$work/requests"
+
 step 1_init "$top/samples/office.toml" "$work/journal" init
-step 2_script "$top/samples/requests.jsonl" "$work/journal" script
+step 2_script "$work/requests" "$work/journal" script
 step 3_export /dev/null "$work/journal" export
 step 4_board /dev/null "$work/journal" board
 step 5_training "$top/samples/training.jsonl" - dry KLWX 180103T1530Z
 
-echo "== the requests of 2_script: samples/requests.jsonl (the office's settings: samples/office.toml)"
-cat "$top/samples/requests.jsonl"
-echo "== the lines of 5_training: samples/training.jsonl (at KLWX, at 2018-01-03 15:30 UTC)"
+echo "== the requests of 2_script (samples/requests.jsonl; the office's settings are samples/office.toml)"
+cat "$work/requests"
+cat <<'TEXT'
+== line 4 is line 3 again: it gets the same reply, and nothing is sent twice
+== line 5 is refused: only floods may stand until further notice
+== lines 6 to 8 are a follow-up, with one more county; line 9 corrects its text
+TEXT
+echo "== the lines of 5_training (samples/training.jsonl, at the office KLWX, at 15:30 UTC on 2018-01-03)"
 cat "$top/samples/training.jsonl"
-echo "== what warn_main answers ($told)"
 cd "$top/crates/warn_main" || exit 1
 status=0
 if [ -z "${1-}" ]; then
+  echo "== building warn_main without its proofs: about a minute, in which nothing is printed"
+  echo "== what warn_main answers ($note)"
   rt try --cases "$work/steps" 2> "$work/log" || status=$?
 else
+  echo "== proving and building warn_main: a while the first time, in which nothing is printed"
+  echo "== what warn_main answers ($note)"
+  # The first step proves and builds; the others run the program that it leaves.
   for file in "$work"/steps/*.args; do
     step=${file%.args}
     echo "== ${step##*/}"
     set --
     while read -r word; do set -- "$@" "$word"; done < "$file"
-    rt run -- "$@" < "$step" 2> "$work/log" || { status=$?; break; }
+    if [ "${step##*/}" = 1_init ]; then
+      rt run -- "$@" < "$step" 2> "$work/log"
+    else
+      out/warn_main "$@" < "$step" 2> "$work/log"
+    fi || { status=$?; break; }
   done
 fi
 [ "$status" = 0 ] || tail -20 "$work/log"
