@@ -1,0 +1,192 @@
+"""Measures what a request costs where offices are old, zones are full, or hazards come in any order; outside the gate.
+
+    python3 bench/costs.py [NAMES..] [--beside FOLDER]
+
+NAMES are those of the measurements below (all where none is given): live, random, drill, year, script, long. FOLDER has
+another `warn_main`, which is given the same words, and for `year` a program `year PRODUCTS ZONES SEED`, which writes a journal.
+Seconds are of processor time, the least of three runs. Growth is the exponent between the two largest sizes.
+"""
+import datetime
+import json
+import math
+import os
+import random
+import shutil
+import subprocess
+import sys
+import tempfile
+
+from measure import beside, program, run
+
+STAMP = "180103T1530Z"
+START = datetime.datetime(2018, 1, 3, 15, 30)
+ZONAL = ["WS.W", "BZ.W", "IS.W", "LE.W", "WW.Y", "WS.A", "HW.W", "WI.Y", "HW.A", "FZ.W", "FR.Y", "FZ.A", "FG.Y", "FW.W", "FW.A",
+         "CF.W", "CF.Y", "CF.A", "SU.W", "SU.Y", "SR.W", "GL.W", "SC.Y", "SR.A", "GL.A"]
+
+
+def stamp(minutes):
+    return (START + datetime.timedelta(minutes=minutes)).strftime("%y%m%dT%H%MZ")
+
+
+def zone(number):
+    return "A%sZ%03d" % (chr(ord("A") + number // 999), number % 999 + 1)
+
+
+def issue(hazard, zones, begin, end, **more):
+    return dict({"do": "issue", "hazard": hazard, "zones": zones, "begin": begin, "end": end}, **more)
+
+
+def lines_of(requests):
+    return "".join(json.dumps(it, separators=(",", ":")) + "\n" for it in requests).encode()
+
+
+def live(count):
+    """Warnings of one zone, each for a minute of its own still to come, so that all live side by side."""
+    return lines_of(issue("WS.W", ["MDZ003"], stamp(10 + n), stamp(11 + n)) for n in range(count))
+
+
+def scattered(count):
+    """Issues of hazards and zones at random."""
+    made = random.Random(7)
+    return lines_of(issue(made.choice(ZONAL), sorted(zone(made.randrange(2000)) for _ in range(1)), "now", stamp(made.randrange(60, 2000)))
+                    for _ in range(count))
+
+
+class Measured:
+    """What was measured of one kind: a row for each size, and the growth."""
+
+    def __init__(self, mine, other):
+        self.mine, self.other, self.sizes = mine, other, []
+
+    def row(self, name, size, words, given, before=None):
+        own = least(self.mine, words, given, before)
+        told = ""
+        if self.other:
+            theirs = least(self.other, words, given, before)
+            same = "" if own[1:] == theirs[1:] else ", ANOTHER ANSWER"
+            told = ", %.1f times the other's %.3f s%s" % (own[0] / max(theirs[0], 0.001), theirs[0], same)
+        print("%s: %.3f s%s" % (name, own[0], told), flush=True)
+        self.sizes.append((size, own[0]))
+
+    def growth(self):
+        (small, before), (large, after) = self.sizes[-2:]
+        print("  growth %.2f" % (math.log(max(after, 0.001) / max(before, 0.001)) / math.log(large / small)), flush=True)
+
+
+def least(path, words, given, before):
+    """Seconds, bytes written and status, the least of three runs, each with what is done before it."""
+    best = None
+    for _ in range(3):
+        with tempfile.NamedTemporaryFile(dir="/dev/shm") as source:
+            source.write(given)
+            source.flush()
+            found = run([path] + (before(path) if before else []) + words, source.name)
+        done = (found[0], found[1], found[3])
+        best = done if best is None or done[0] < best[0] else best
+    return best
+
+
+def dry(measured, make, sizes, name):
+    for size in sizes:
+        measured.row("%d %s" % (size, name), size, ["-", "dry", "KLWX", STAMP], make(size))
+    measured.growth()
+
+
+def drill(measured):
+    for count in (1024, 4096, 8192):
+        measured.row("drill of %d requests" % count, count, ["-", "drill", "7", str(count)], b"")
+    measured.growth()
+
+
+def year(measured, folder):
+    """Opening, `export` and one more request over the journal of an office of sixty zones that worked for about a year."""
+    if not measured.other:
+        print("year: wants --beside FOLDER with its program `year`")
+        return
+    for command in (["board", "--at", "190101T0000Z"], ["export"]):
+        for count in (2000, 4000, 8000):
+            journal = os.path.join(folder, "year%d" % count)
+            if not os.path.exists(journal):
+                with open(journal, "wb") as out:
+                    subprocess.run([os.path.join(os.path.dirname(measured.other), "year"), str(count), "60", "7"], stdout=out, check=True)
+            measured.row("%s after %d products" % (command[0], count), count, command, b"", copies_of(journal, folder))
+        measured.growth()
+    more = lines_of([dict(issue("FA.A", ["MDZ001"], "now", "991231T0000Z"), desk="C", seq=1000000)])
+    measured.row("one request more after 8000 products", 8000, ["script"], more, copies_of(os.path.join(folder, "year8000"), folder))
+
+
+def copies_of(journal, folder):
+    def copied(_):
+        place = os.path.join(folder, "journal")
+        shutil.copyfile(journal, place)
+        return [place]
+    return copied
+
+
+SETTINGS = "\n".join(['office = "KLWX"', 'site = "LWX"', 'office_line = "National Weather Service"', 'zone = "Eastern"', 'desks = ["A"]', "[headings]"]
+                     + ['%s = "WWUS4%d"' % (code, place) for place, code in enumerate(("WSW", "NPW", "RFW", "CFW", "MWW", "FFA", "FLW", "FLS"))]
+                     + ["[zones]"] + ['%s = "Z"' % zone(n) for n in range(2000)]) + "\n"
+
+
+def fresh(folder):
+    """A new journal for each run, made by the program itself."""
+    def made(path):
+        place = os.path.join(folder, "fresh")
+        if os.path.exists(place):
+            os.remove(place)
+        subprocess.run([path, place, "init"], input=SETTINGS.encode(), stdout=subprocess.DEVNULL, check=True)
+        return [place]
+    return made
+
+
+def script(measured, folder):
+    """Accepted and refused issues of hazards and zones at random, over a journal in memory."""
+    for count in (2000, 4000, 8000):
+        made = random.Random(7)
+        now = datetime.datetime.now(datetime.timezone.utc)
+        ends = [(now + datetime.timedelta(minutes=made.randrange(600, 2000))).strftime("%y%m%dT%H%MZ") for _ in range(count)]
+        asked, seq = [], 0
+        free = [(hazard, n) for hazard in ("WS.W", "WI.Y", "FG.Y", "FW.W", "FZ.W", "CF.W") for n in range(2000)]
+        made.shuffle(free)
+        for hazard, number in free[:count]:
+            seq += 1
+            asked.append(dict(issue(hazard, [zone(number)], "now", ends[seq - 1]), desk="A", seq=seq))
+        measured.row("script of %d products at random" % count, count, ["script"], lines_of(asked), fresh(folder))
+    measured.growth()
+
+
+def long_draft(measured, folder):
+    """A draft of sixty-four puts with full texts over thirty-one zones, whose product is too long."""
+    now = datetime.datetime.now(datetime.timezone.utc)
+
+    def at(hours):
+        return (now + datetime.timedelta(hours=hours)).strftime("%y%m%dT%H%MZ")
+    texts = {name: ("word " * 900)[:4096] for name in ("what", "area", "impacts", "details")}
+    asked = [{"desk": "A", "seq": 1, "do": "open", "category": "WSW"}]
+    for n in range(64):
+        zones = [zone(k) for k in range(31) if k != n % 31]
+        asked.append({"desk": "A", "seq": n + 2, "do": "put", "draft": 1, "hazard": "WS.W", "zones": zones, "begin": at(10 + 3 * n), "end": at(12 + 3 * n), "texts": texts})
+    measured.row("64 puts with full texts", 64, ["script"], lines_of(asked), fresh(folder))
+    measured.row("the same and 20 sends that are too long", 64, ["script"],
+                 lines_of(asked + [{"desk": "A", "seq": 66, "do": "send", "draft": 1}] * 20), fresh(folder))
+
+
+def main():
+    words, other = beside(sys.argv[1:])
+    mine = program("warn_main")
+    other = os.path.join(other, "warn_main") if other else None
+    with tempfile.TemporaryDirectory(dir="/dev/shm") as folder:
+        kinds = {
+            "live": lambda: dry(Measured(mine, other), live, (125, 250, 500, 1000), "warnings live side by side in one zone"),
+            "random": lambda: dry(Measured(mine, other), scattered, (2500, 5000, 10000), "issues of hazards and zones at random"),
+            "drill": lambda: drill(Measured(mine, other)),
+            "year": lambda: year(Measured(mine, other), folder),
+            "script": lambda: script(Measured(mine, other), folder),
+            "long": lambda: long_draft(Measured(mine, other), folder),
+        }
+        for name in words or kinds:
+            kinds[name]()
+
+
+if __name__ == "__main__":
+    main()
