@@ -35,5 +35,3 @@ pub fn segments(alloc: Global, lines: &List<Line>) -> Result<List<Segment>, Oom>
     segments_of(alloc, &classes)
 }
 
-#[cfg(test)]
-mod tests;
