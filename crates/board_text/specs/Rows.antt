@@ -1,5 +1,5 @@
 -- The lines of a board: one for each row that is shown.
-use Rattle.std.specs.Prelude.{ℕ, List, [], ◌∷◌, ◌++◌, flat_map, codes, Option, None, Some}
+use Rattle.std.specs.Prelude.{◌≡◌, ◌≤◌, ℕ, List, [], ◌++◌, flat_map, length, take, codes, Option, None, Some}
 use Rattle.hazard_types.specs.Calendar.{stamp_of}
 use Rattle.hazard_types.specs.Names.{zone_text, event_text}
 use Rattle.hazard_types.specs.Times.{end_text}
@@ -24,3 +24,7 @@ row_line r = zone_text r.zone ++ (codes " " ++ (event_text r.event ++ (codes " "
 -- the rows in their order, a line each
 abbrev pub board_text : List Row → List ℕ
 board_text rows = flat_map row_line rows
+
+-- a text with the lines of the first so many rows behind it
+abbrev pub HasFirstRows : List ℕ → List ℕ → List Row → Type 0
+HasFirstRows before after rows = (n : ℕ) × (n ≤ length rows) × (after ≡ before ++ board_text (take n rows))

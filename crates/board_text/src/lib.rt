@@ -1,8 +1,8 @@
 //! The lines of a board: zone, event, period and H-VTEC values of each row that is shown.
 #![tactic(auto)]
 
-ghost use Rattle.std.specs.Prelude.{◌≡◌, ◌++◌, OnOk};
-ghost use Rattle.board_text.specs.Rows.{period_text, flood_part, row_line, board_text};
+ghost use Rattle.std.specs.Prelude.{◌≡◌, ◌++◌, IfOk, OnOk, OnErr};
+ghost use Rattle.board_text.specs.Rows.{period_text, flood_part, row_line, board_text, HasFirstRows};
 
 use hazard_types::{Flood, Oom, Period, Row, Text, end_text, put_event, stamp, zone_text};
 use hvtec_string::hvtec_columns;
@@ -29,30 +29,42 @@ fn put_flood(out: &mut Text, flood: &Option<Flood>) -> Result<(), Oom>
     }
 }
 
-/// Adds the line of a row.
+/// The line of a row.
+fn row_text(alloc: Global, row: &Row) -> Result<Text, Oom>
+    ensures { IfOk result (λ text. text ≡ row_line row.now) }
+{
+    let mut text = Text::new(alloc);
+    text.extend(&zone_text(&row.zone))?;
+    text.push(b' ')?;
+    put_event(alloc, &mut text, &row.event)?;
+    text.push(b' ')?;
+    put_period(&mut text, &row.period)?;
+    put_flood(&mut text, &row.flood)?;
+    text.push(b'\n')?;
+    Ok(text)
+}
+
+/// Adds the line of a row, or changes nothing.
 ///
 /// # Errors
 ///
-/// Want of memory: a front of the line may stand at the text's end then.
+/// Out of memory.
 pub fn put_row(alloc: Global, out: &mut Text, row: &Row) -> Result<(), Oom>
-    ensures { OnOk result (out.new ≡ out.old ++ row_line row.now) }
+    ensures ok { OnOk result (out.new ≡ out.old ++ row_line row.now) }
+    ensures err { OnErr result (out.new ≡ out.old) }
 {
-    out.extend(&zone_text(&row.zone))?;
-    out.push(b' ')?;
-    put_event(alloc, out, &row.event)?;
-    out.push(b' ')?;
-    put_period(out, &row.period)?;
-    put_flood(out, &row.flood)?;
-    out.push(b'\n')
+    let line = row_text(alloc, row)?;
+    out.extend(line.as_slice())
 }
 
 /// Adds the lines of rows, in their order.
 ///
 /// # Errors
 ///
-/// Want of memory: a front of the lines may stand at the text's end then.
+/// Out of memory: the lines of the first rows, each whole, may stand behind the text then.
 pub fn put_board(alloc: Global, out: &mut Text, rows: &[Row]) -> Result<(), Oom>
-    ensures { OnOk result (out.new ≡ out.old ++ board_text rows.now) }
+    ensures ok { OnOk result (out.new ≡ out.old ++ board_text rows.now) }
+    ensures err { OnErr result (HasFirstRows out.old out.new rows.now) }
 {
     for row in rows {
         put_row(alloc, out, row)?;

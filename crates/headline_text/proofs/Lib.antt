@@ -1,3 +1,4 @@
 pub mod NameLaws
 pub mod Words
 pub mod WrapLaws
+mod WholeWords

@@ -37,7 +37,7 @@ with_words : (word : List ℕ) (more : List (List ℕ)) → AreWordBytes word �
 with_words [] more h all = all
 with_words (c ∷ cs) more h all = (record { some = λ none. cc; bytes = h }, all)
 
-words_ok : (text word : List ℕ) → is_one_line text ≡ true → AreWordBytes word → AllByRecursion IsWord (words_from word text)
+pub words_ok : (text word : List ℕ) → is_one_line text ≡ true → AreWordBytes word → AllByRecursion IsWord (words_from word text)
 words_ok [] word line h = with_words word [] h tt
 words_ok (c ∷ cs) word line h =
     let l = both (not (c == 10)) (is_one_line cs) line in

@@ -4,8 +4,6 @@
 mod frame;
 mod read;
 mod split;
-#[cfg(test)]
-mod tests;
 mod text;
 mod walk;
 mod write;

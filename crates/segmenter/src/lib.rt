@@ -34,6 +34,3 @@ pub fn segments(alloc: Global, lines: &List<Line>) -> Result<List<Segment>, Oom>
     let classes = classes_of(alloc, &heads)?;
     segments_of(alloc, &classes)
 }
-
-#[cfg(test)]
-mod tests;

@@ -6,8 +6,6 @@ mod pass;
 mod plays;
 mod steps;
 mod story;
-#[cfg(test)]
-mod tests;
 mod view;
 
 pub use lock::TurnLock;

@@ -10,7 +10,7 @@ use Rattle.hazard_types.specs.declared.refusal.Refusal.{Refusal}
 use Rattle.hazard_types.specs.declared.refusal.Refusal.TheVariants.{BadHead, HeadTooLong}
 use Rattle.warn_http.specs.Heads.{Pair, most_bytes, most_fields, IsHead, IsBadHead, IsTooLong, IsCutHead}
 use Rattle.warn_http.specs.Wants.{wanted, wanted_by}
-use Rattle.warn_http.specs.Calls.{Called, called, as_read, IsCall, IsRefused, IsCutBody, IsUnfinished, Causes, LiesIn, IsWithin, call_at, IsAnswer, RefusedOr, MoreOr}
+use Rattle.warn_http.specs.Calls.{Called, called, as_read, IsCall, IsRefused, IsCutBody, IsUnfinished, Causes, LiesIn, IsWithin, call_at, posted_in, IsAnswer, RefusedOr, MoreOr}
 use Rattle.warn_http.specs.Readings.{Says, pairs_at, wanted_at, answer_to}
 use Rattle.warn_http.specs.declared.heads.Head.TheVariants as head_read
 use Rattle.warn_http.specs.declared.routes.Aim.{Aim}
@@ -36,8 +36,8 @@ one_call bytes c d x y =
     let heads = one_head bytes x.head y.head x.stands y.stands in
     let wants : Ok x.wants ≡ Ok y.wants = same_want bytes x.head y.head x.stands y.stands x.asks y.asks in
     let e : x.wants ≡ y.wants = cc in
-    x.says ∙ ap (λ (h : RequestHead). called (length (print_request h)) x.wants) heads
-    ∙ ap (λ (w : Wanted). called (length (print_request y.head)) w) e ∙ sym y.says
+    x.says ∙ ap (λ (h : RequestHead). called bytes (length (print_request h)) x.wants) heads
+    ∙ ap (λ (w : Wanted). called bytes (length (print_request y.head)) w) e ∙ sym y.says
 
 -- a refused call is not taken
 pub refused_is_no_call : (bytes : List ℕ) (c : Called) (f : Refusal) → IsCall bytes c → IsRefused bytes f → ⊥
@@ -46,7 +46,7 @@ refused_is_no_call bytes c f x (inr (inl long)) = not_too_long bytes x.head x.st
 refused_is_no_call bytes c f x (inr (inr r)) =
     not_both (same_want bytes x.head r.0 x.stands r.1 x.asks r.2)
 
-headless : (bytes : List ℕ) (h : RequestHead) → HasNoRequest bytes → IsHead bytes h → ⊥
+pub headless : (bytes : List ℕ) (h : RequestHead) → HasNoRequest bytes → IsHead bytes h → ⊥
 headless bytes h none head = let r = head_reads bytes h head in none h r.0 r.1
 
 pub cut_is_no_call : (bytes : List ℕ) (c : Called) → IsCall bytes c → IsUnfinished bytes → ⊥
@@ -117,7 +117,7 @@ one_refusal bytes f g (inr (inr a)) (inr (inr b)) =
 call_answer : (bytes : List ℕ) (answer : HttpRead) → Causes bytes answer → (c : Called) → IsCall bytes c
     → (answer ≡ as_read c) ⊎ (answer ≡ read.OutOfMemory)
 call_answer bytes (read.Call call used last) cause c x =
-    inl (ap as_read (one_call bytes (record { call = call; used = used; last = last }) c cause x))
+    inl (ap as_read (one_call bytes (record { call = call; posted = posted_in bytes call; used = used; last = last }) c cause x))
 call_answer bytes read.More cause c x = absurd (cut_is_no_call bytes c x cause)
 call_answer bytes (read.Refused f) cause c x = absurd (refused_is_no_call bytes c f x cause)
 call_answer bytes read.OutOfMemory cause c x = inr refl
@@ -125,7 +125,7 @@ call_answer bytes read.OutOfMemory cause c x = inr refl
 refused_answer : (bytes : List ℕ) (answer : HttpRead) → Causes bytes answer → (f : Refusal) → IsRefused bytes f
     → RefusedOr bytes f answer ⊎ (answer ≡ read.OutOfMemory)
 refused_answer bytes (read.Call call used last) cause f x =
-    absurd (refused_is_no_call bytes (record { call = call; used = used; last = last }) f cause x)
+    absurd (refused_is_no_call bytes (record { call = call; posted = posted_in bytes call; used = used; last = last }) f cause x)
 refused_answer bytes read.More cause f x =
     let u = cut_and_refused bytes f cause x in inl (inr (inr (u.0, u.2, u.3, refl)))
 refused_answer bytes (read.Refused g) cause f x = inl (of (one_refusal bytes g f cause x))
@@ -141,7 +141,7 @@ refused_answer bytes read.OutOfMemory cause f x = inr refl
 more_answer : (bytes : List ℕ) (answer : HttpRead) → Causes bytes answer → IsUnfinished bytes
     → MoreOr bytes answer ⊎ (answer ≡ read.OutOfMemory)
 more_answer bytes (read.Call call used last) cause x =
-    absurd (cut_is_no_call bytes (record { call = call; used = used; last = last }) cause x)
+    absurd (cut_is_no_call bytes (record { call = call; posted = posted_in bytes call; used = used; last = last }) cause x)
 more_answer bytes read.More cause x = inl (inl refl)
 more_answer bytes (read.Refused f) cause x =
     let u = cut_and_refused bytes f x cause in inl (inr (u.2, u.1, ap read.Refused u.0))
@@ -182,11 +182,11 @@ whole_cause bytes h head (Err f) e = inr (inr (h, head, e))
 whole_cause bytes h head (Ok wants) e = of (nat_le (length (print_request h) + wants.body) (length bytes)) refl
   where
     of : (b : Bool) → nat_le (length (print_request h) + wants.body) (length bytes) ≡ b
-        → Causes bytes (if b then as_read (called (length (print_request h)) wants) else read.More)
+        → Causes bytes (if b then read.Call (call_at wants.aim (length (print_request h)) wants.body) (length (print_request h) + wants.body) wants.last else read.More)
     of true fits = record { head = h; wants = wants; stands = head; asks = e; whole = leb-true _ _ fits; says = refl }
     of false fits = inr (record { head = h; wants = wants; stands = head; asks = e; cut = leb-false _ _ fits })
 
-few_fields : (front : List ℕ) (headers : List HeaderSpan) (spans : RequestSpans) (h : RequestHead)
+pub few_fields : (front : List ℕ) (headers : List HeaderSpan) (spans : RequestSpans) (h : RequestHead)
     → IsRequestAt front headers spans h → spans.headers ≤ most_fields → length h.fields ≤ most_fields
 few_fields front headers spans h at few =
     let e = ap length at.fields in

@@ -6,3 +6,4 @@ pub mod Causes
 pub mod Streams
 pub mod Paths
 pub mod Targets
+pub mod Short

@@ -1,14 +1,37 @@
 -- The calls of a stream: one list, which more bytes do not change, and to which one call is added.
-use Rattle.std.proofs.Common.{◌≡◌, ℕ, ◌+◌, ◌<◌, ◌≤◌, ◌⊎◌, inl, inr, true, false, List, [], ◌∷◌, ◌++◌, length, drop, refl, ap, sym, ◌∙◌, subst, arith, length-append}
-use Rattle.std.proofs.lemmas.List.{drop-append-le}
+use Rattle.std.proofs.Common.{◌≡◌, ℕ, ◌+◌, ◌<◌, ◌≤◌, ◌⊎◌, inl, inr, true, false, List, [], ◌∷◌, ◌++◌, length, take, drop, refl, ap, sym, ◌∙◌, subst, ◌-◌, arith, length-append, length-drop}
+use Rattle.std.proofs.lemmas.List.{drop-append-le, take-append-le}
+use Rattle.httparse.specs.Grammar.{print_request}
 use Rattle.hazard_types.specs.declared.refusal.Refusal.{Refusal}
 use Rattle.hazard_types.specs.declared.refusal.Refusal.TheVariants.{BadHead, HeadTooLong}
 use Rattle.warn_http.specs.Heads.{IsBadHead, IsTooLong}
-use Rattle.warn_http.specs.Calls.{Called, IsCall, IsRefused, IsCut, most_calls, Stop, refused, closed, spent, left, EndsAs, AreCalls, IsFinal, AreAlike}
+use Rattle.warn_http.specs.Calls.{Called, IsCall, IsRefused, called, call_at, posted_in, IsCut, most_calls, Stop, refused, closed, spent, left, EndsAs, AreCalls, IsFinal, AreAlike}
+use Rattle.warn_http.specs.declared.routes.Aim.{Aim}
+use Rattle.warn_http.specs.declared.routes.Aim.TheVariants as aim
+use Rattle.warn_http.specs.declared.wants.Wanted.{Wanted}
 use Rattle.warn_http.proofs.Fronts.{head_stays, bad_stays, long_stays}
 use Rattle.warn_http.proofs.Causes.{one_call, one_refusal, refused_is_no_call, cut_is_no_call, cut_and_refused}
 
 -- ---- more bytes
+
+-- bytes within the first ones are those of more bytes
+same_slice : (bytes more : List ℕ) (from to : ℕ) → from ≤ to → to ≤ length bytes
+    → take (to - from) (drop from (bytes ++ more)) ≡ take (to - from) (drop from bytes)
+same_slice bytes more from to le within =
+    let low : from ≤ length bytes = omega arith in
+    let room : to - from ≤ length (drop from bytes) = omega (arith, length-drop from bytes) in
+    ap (λ (b : List ℕ). take (to - from) b) (drop-append-le from bytes more low) ∙ take-append-le (to - from) (drop from bytes) more room
+
+same_posted : (bytes more : List ℕ) (asks : Aim) (size body : ℕ) → size + body ≤ length bytes
+    → posted_in (bytes ++ more) (call_at asks size body) ≡ posted_in bytes (call_at asks size body)
+same_posted bytes more aim.Post size body within = same_slice bytes more size (size + body) (omega arith) within
+same_posted bytes more (aim.Look query) size body within = refl
+
+same_called : (bytes more : List ℕ) (size : ℕ) (wants : Wanted) → size + wants.body ≤ length bytes
+    → called (bytes ++ more) size wants ≡ called bytes size wants
+same_called bytes more size wants within =
+    ap (λ (posted : List ℕ). record { call = call_at wants.aim size wants.body; posted = posted; used = size + wants.body; last = wants.last })
+    (same_posted bytes more wants.aim size wants.body within)
 
 pub call_stays : (bytes more : List ℕ) (c : Called) → IsCall bytes c → IsCall (bytes ++ more) c
 call_stays bytes more c x =
@@ -20,7 +43,7 @@ call_stays bytes more c x =
       stands = head_stays bytes more x.head x.stands;
       asks = x.asks;
       whole = omega arith;
-      says = x.says;
+      says = x.says ∙ sym (same_called bytes more (length (print_request x.head)) x.wants x.whole);
     }
 
 pub refused_stays : (bytes more : List ℕ) (f : Refusal) → IsRefused bytes f → IsRefused (bytes ++ more) f

@@ -1,5 +1,5 @@
 -- The calls of a byte stream. How the bytes were cut in reading is no part of them.
-use Rattle.std.specs.Prelude.{◌≡◌, ◌≤◌, ◌<◌, ◌+◌, ◌⊎◌, ◌++◌, ℕ, Bool, true, false, List, [], ◌∷◌, length, drop, Ok, Err, ⊤}
+use Rattle.std.specs.Prelude.{◌≡◌, ◌≤◌, ◌<◌, ◌+◌, ◌-◌, ◌⊎◌, ◌++◌, ℕ, Bool, true, false, List, [], ◌∷◌, length, take, drop, Ok, Err, ⊤}
 use Rattle.httparse.specs.Grammar.{RequestHead, print_request, EndsInTarget}
 use Rattle.hazard_types.specs.declared.refusal.Refusal.{Refusal}
 use Rattle.hazard_types.specs.declared.refusal.Refusal.TheVariants.{BadHead, HeadTooLong}
@@ -13,9 +13,11 @@ use Rattle.warn_http.specs.declared.read.Call.TheVariants.{Post, Look}
 use Rattle.warn_http.specs.declared.read.HttpRead.{HttpRead}
 use Rattle.warn_http.specs.declared.read.HttpRead.TheVariants as read
 
--- one call: what it asks for, how many bytes its head and body take, and whether the link closes after it
+-- one call: what it asks for, the body that it posts (none where it looks at something), how many bytes its head and
+-- body take, and whether the link closes after it
 pub record Called : Type 0 where
   pub call : Call
+  pub posted : List ℕ
   pub used : ℕ
   pub last : Bool
 
@@ -24,8 +26,19 @@ abbrev pub call_at : Aim → ℕ → ℕ → Call
 call_at aim.Post size body = Post (record { from = size; to = size + body })
 call_at (aim.Look query) size body = Look query
 
-abbrev pub called : ℕ → Wanted → Called
-called size wants = record { call = call_at wants.aim size wants.body; used = size + wants.body; last = wants.last }
+-- the bytes that a call posts, among its own
+abbrev pub posted_in : List ℕ → Call → List ℕ
+posted_in bytes (Post span) = take (span.to - span.from) (drop span.from bytes)
+posted_in bytes (Look query) = []
+
+-- the call whose head has so many bytes and wants this
+abbrev pub called : List ℕ → ℕ → Wanted → Called
+called bytes size wants = record {
+  call = call_at wants.aim size wants.body;
+  posted = posted_in bytes (call_at wants.aim size wants.body);
+  used = size + wants.body;
+  last = wants.last;
+}
 
 -- the bytes begin with this call, which is whole, within the limits, and refused by no rule
 pub record IsCall (bytes : List ℕ) (c : Called) : Type 0 where
@@ -34,7 +47,7 @@ pub record IsCall (bytes : List ℕ) (c : Called) : Type 0 where
   pub stands : IsHead bytes head
   pub asks : wanted_by head ≡ Ok wants
   pub whole : length (print_request head) + wants.body ≤ length bytes
-  pub says : c ≡ called (length (print_request head)) wants
+  pub says : c ≡ called bytes (length (print_request head)) wants
 
 -- a rule refuses the call at the front: F1, F2, or for a head within the limits F3 to F6
 abbrev pub IsRefused : List ℕ → Refusal → Type 0
@@ -59,7 +72,7 @@ IsUnfinished bytes = IsCutHead bytes ⊎ IsCutBody bytes
 
 -- the cause of an answer
 abbrev pub Causes : List ℕ → HttpRead → Type 0
-Causes bytes (read.Call call used last) = IsCall bytes (record { call = call; used = used; last = last })
+Causes bytes (read.Call call used last) = IsCall bytes (record { call = call; posted = posted_in bytes call; used = used; last = last })
 Causes bytes read.More = IsUnfinished bytes
 Causes bytes (read.Refused refusal) = IsRefused bytes refusal
 Causes bytes read.OutOfMemory = ⊤

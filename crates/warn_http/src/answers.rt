@@ -13,15 +13,6 @@ pub enum BodyKind {
     Plain,
 }
 
-/// The status of a request that is accepted or repeated, and of what is looked at.
-pub const ACCEPTED_STATUS: u16 = 200;
-
-/// The status of a disk fault, D1.
-pub const DISK_FAULT_STATUS: u16 = 500;
-
-/// The status of want of memory, M1.
-pub const NO_MEMORY_STATUS: u16 = 503;
-
 /// Whether a status is one of the desk's.
 #[tactic(auto, unfolding(crate::specs::Answers::is_status))]
 pub fn is_status(status: u16) -> bool
@@ -148,7 +139,7 @@ fn put_closing(out: &mut Text, last: bool) -> Result<(), Oom>
 }
 
 /// The bytes of an answer, with `Connection: close` where the link closes after it. The status is one
-/// of the desk's: 200, 500, 503, and those of `refusal_status`.
+/// of the desk's, as those of outcomes are.
 #[tactic(auto, unfolding(crate::specs::Answers::answer_text))]
 pub fn write_answer(
     alloc: Global,

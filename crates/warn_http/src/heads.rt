@@ -1,8 +1,8 @@
 //! Heads, by httparse.
-ghost use Rattle.std.specs.Prelude.{◌≤◌, List, length};
+ghost use Rattle.std.specs.Prelude.{◌≤◌, List, length, IfSome, IfNone};
 ghost use Rattle.httparse.specs.Spans.{RequestOverflows};
 ghost use Rattle.httparse.specs.declared.spans.HeaderSpan.{HeaderSpan};
-ghost use Rattle.warn_http.specs.Readings.{Says};
+ghost use Rattle.warn_http.specs.Readings.{Says, HasNoHead};
 
 use httparse::spans::{EMPTY_HEADER_SPAN, HeaderSpan, RequestSpans, parse_request};
 use httparse::{Error, Status};
@@ -61,5 +61,19 @@ pub fn read_head(alloc: Global, bytes: &[u8], headers: &mut [HeaderSpan; MOST_FI
         Ok(Status::Partial) => Head::TooLong,
         Err(Error::TooManyHeaders) => with_room(alloc, bytes),
         Err(_) => Head::Bad,
+    }
+}
+
+/// Where the parts of a whole head within the limits are, at the front of at most 8,192 bytes. It takes
+/// no memory.
+pub fn whole_head(bytes: &[u8], headers: &mut [HeaderSpan; MOST_FIELDS]) -> Option<RequestSpans>
+    requires { length bytes.now ≤ 8192 }
+    ensures some { IfSome result (λ spans. Says bytes.now headers.new (Head.Whole spans)) }
+    ensures none { IfNone result (HasNoHead bytes.now) }
+{
+    match parse_request(bytes, headers.as_mut_slice()) {
+        Ok(Status::Complete(spans)) => Some(spans),
+        Ok(Status::Partial) => None,
+        Err(_) => None,
     }
 }

@@ -1,12 +1,9 @@
-//! Laws of calls, routes and statuses. They have no code.
-ghost use Rattle.std.specs.Prelude.{◌≡◌, ◌++◌, ℕ, false, Some, List, [], ◌∷◌, drop, IsTrue};
+//! Laws of calls and routes. They have no code.
+ghost use Rattle.std.specs.Prelude.{◌≡◌, ◌++◌, ℕ, false, Some, List, [], ◌∷◌, drop, length, ◌<◌};
 ghost use Rattle.hazard_types.specs.declared.refusal.Refusal.{Refusal};
-ghost use Rattle.warn_http.specs.Answers.{is_status};
 ghost use Rattle.warn_http.specs.Routes.{aim_of, IsPath};
 ghost use Rattle.warn_http.specs.declared.routes.Aim.{Aim};
-ghost use Rattle.warn_http.specs.Calls.{Called, IsCall, IsRefused, IsCut, Stop, AreCalls, IsFinal, AreAlike};
-
-use crate::answers::{ACCEPTED_STATUS, DISK_FAULT_STATUS, NO_MEMORY_STATUS};
+ghost use Rattle.warn_http.specs.Calls.{Called, IsCall, IsRefused, IsUnfinished, IsCut, Stop, AreCalls, IsFinal, AreAlike};
 
 /// What is a call on a front is the same call on every longer front, and what is refused stays refused.
 /// So the calls of a stream that end at more than a rest are those of every longer stream.
@@ -35,10 +32,7 @@ pub fn routes_are_paths()
     ensures route { (path : List ℕ) (aim : Aim) → IsPath path aim → aim_of path ≡ Some aim }
 {}
 
-/// The statuses that no refusal has are the desk's too.
-#[tactic(auto, unfolding(crate::specs::Answers::is_status))]
-pub fn own_statuses_are_known()
-    ensures accepted { IsTrue (is_status ACCEPTED_STATUS) }
-    ensures disk_fault { IsTrue (is_status DISK_FAULT_STATUS) }
-    ensures no_memory { IsTrue (is_status NO_MEMORY_STATUS) }
+/// A head of at most 8,192 bytes and a body of at most 65,536 are whole in 73,728 bytes.
+pub fn unfinished_calls_are_short()
+    ensures { (bytes : List ℕ) → IsUnfinished bytes → length bytes < 73728 }
 {}

@@ -6,13 +6,14 @@ mod fields;
 mod heads;
 mod laws;
 mod numbers;
+mod outcomes;
 mod read;
 mod routes;
 mod wants;
 
-pub use answers::{
-    ACCEPTED_STATUS, BodyKind, DISK_FAULT_STATUS, NO_MEMORY_STATUS, is_status, refusal_status,
-    write_answer,
+pub use answers::{BodyKind, is_status, refusal_status, write_answer};
+pub use laws::{
+    calls_are_one, calls_go_on, calls_stay, routes_are_paths, unfinished_calls_are_short,
 };
-pub use laws::{calls_are_one, calls_go_on, calls_stay, own_statuses_are_known, routes_are_paths};
-pub use read::{Call, HttpRead, read_call};
+pub use outcomes::{Outcome, disk_fault_answer, kind_of, no_memory_answer, write_call_answer};
+pub use read::{Call, HttpRead, read_call, still_wants};

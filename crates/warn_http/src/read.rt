@@ -1,10 +1,13 @@
 //! The call at the front of a link's bytes.
-ghost use Rattle.std.specs.Prelude.{◌≡◌, ◌≤◌, ◌<◌, ◌+◌, ◌^◌, ◌⊎◌, length, take, IsUtf8};
+ghost use Rattle.std.specs.Prelude.{◌≡◌, ◌≤◌, ◌<◌, ◌+◌, ◌^◌, ◌⊎◌, ◌++◌, ℕ, List, length, take, IsUtf8};
 ghost use Rattle.httparse.specs.Spans.{IsRequestWithin, span_bytes};
-ghost use Rattle.warn_http.specs.Calls.{call_at, IsAnswer};
-ghost use Rattle.warn_http.specs.Readings.{wanted_at, answer_to};
+ghost use Rattle.httparse.specs.Grammar.{print_request};
+ghost use Rattle.warn_http.specs.Heads.{stated, IsCutHead};
+ghost use Rattle.warn_http.specs.Calls.{call_at, IsAnswer, IsCutBody, IsUnfinished};
+ghost use Rattle.warn_http.specs.Readings.{wanted_at, answer_to, pairs_at, missing};
 
-use crate::heads::{Head, MOST_BYTES, MOST_FIELDS, read_head};
+use crate::fields::{Stated, stated_length};
+use crate::heads::{Head, MOST_BYTES, MOST_FIELDS, read_head, whole_head};
 use crate::routes::Aim;
 use crate::wants::{Wanted, want_of};
 use hazard_types::{Or, Query, Refusal, Span};
@@ -107,5 +110,48 @@ pub fn read_call(alloc: Global, bytes: &[u8]) -> HttpRead
         Head::Bad => HttpRead::Refused(Refusal::BadHead),
         Head::TooLong => HttpRead::Refused(Refusal::HeadTooLong),
         Head::OutOfMemory => HttpRead::OutOfMemory,
+    }
+}
+
+/// How many bytes are missing behind a head of `size` bytes, among `total` bytes, by the length that
+/// its fields state; 1 where none is known to be.
+fn missing(size: usize, total: usize, stated: Stated) -> usize
+    requires { size ≤ total }
+    ensures { result ≡ missing size total stated }
+{
+    match stated {
+        Stated::Bytes(body) => {
+            let behind = total - size;
+            let body = body as usize;
+            if behind < body { body - behind } else { 1 }
+        }
+        Stated::Absent | Stated::TooLong | Stated::Wrong => 1,
+    }
+}
+
+/// What the fields of a head state of its body's length.
+fn stated_by(front: &[u8], spans: &RequestSpans, headers: &[HeaderSpan]) -> Stated
+    requires { IsRequestWithin front.now headers.now spans.now }
+    ensures { result ≡ stated (pairs_at front.now headers.now spans.now) }
+{
+    stated_length(front, &headers[..spans.headers])
+}
+
+/// How many more bytes there must be at least before an unfinished call can be whole: those that are
+/// missing of its body, where its head is whole, or else 1. It takes no memory.
+pub fn still_wants(bytes: &[u8]) -> usize
+    ensures some { 0 < result }
+    ensures head { IsCutHead bytes.now → result ≡ 1 }
+    ensures body { (cut : IsCutBody bytes.now) → length bytes.now + result ≡ length (print_request cut.head) + cut.wants.body }
+    ensures fewer { IsUnfinished bytes.now → (more : List ℕ) → length more < result → IsUnfinished (bytes.now ++ more) }
+{
+    let front = front_of(bytes);
+    let mut headers = [EMPTY_HEADER_SPAN; MOST_FIELDS];
+    match whole_head(front, &mut headers) {
+        Some(spans) => {
+            let stated = stated_by(front, &spans, &headers);
+            missing(spans.len, bytes.len(), stated)
+        }
+        None => 1,
     }
 }

@@ -2,6 +2,7 @@
 ghost use Rattle.std.specs.Prelude.{◌≤◌, IfSome};
 
 use crate::entries::Entry;
+use crate::pairs::work_side_by_side;
 use crate::threads::{MOST_WAITING, take_turns};
 use hazard_types::Oom;
 use std::alloc::Global;
@@ -42,5 +43,7 @@ pub fn answer<R: Clock + Threads + Wait + Sync>(
     let entries = take_turns(rt, alloc, waiting, time)?;
     let waited = count_waited(entries.as_slice());
     let count = entries.len();
-    Ok(format!(in alloc; "{waited} waited, {count} entries\n")?)
+    let (numbers, in_order) = work_side_by_side(rt, alloc)?;
+    let order = if in_order { "in order" } else { "out of order" };
+    Ok(format!(in alloc; "{waited} waited, {count} entries\n{numbers} numbers, {order}\n")?)
 }

@@ -2,7 +2,7 @@ use Rattle.std.proofs.Common.{◌≡◌, ◌+◌, ℕ, List, length, sym, subst,
 use Rattle.std.proofs.lemmas.List.{take_more}
 use Rattle.turn_lock.specs.Story.{StandAt}
 use Rattle.turn_lock.proofs.Standing.{turn_pushes, turn_lengthens, keeps_both}
-use Rattle.turn_lock.proofs.tests.add_each.Goals as goal
+use Rattle.worked_turns.proofs.pairs.add_each.Goals as goal
 
 pub loop-number-preserved : goal.loop-number-preserved
 loop-number-preserved g c =

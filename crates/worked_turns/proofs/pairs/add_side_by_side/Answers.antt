@@ -1,8 +1,8 @@
-use Rattle.std.proofs.Common.{ℕ, length, ap, ◌∙◌, arith}
+use Rattle.std.proofs.Common.{ℕ, length, ap, ◌∙◌}
 use Rattle.turn_lock.specs.Passes.{PassRecord, KeepsRights}
 use Rattle.turn_lock.specs.Story.{StandAt, IsOfTwo}
 use Rattle.turn_lock.proofs.Standing.{at_some, of_two}
-use Rattle.turn_lock.proofs.tests.add_side_by_side.Goals as goal
+use Rattle.worked_turns.proofs.pairs.add_side_by_side.Goals as goal
 
 pub returns : goal.returns
 returns g c =
@@ -15,9 +15,4 @@ returns g c =
     (ours.0.first ∙ ap (λ p. p.first) split ∙ ap (λ p. p.first) start ∙ ap length c.new.ensures.items) ours.1 theirs.1 c.join.ensures.both c.join.ensures.begins.0 c.join.ensures.begins.1 c.join.ensures.apart c.close.ensures in record {
       base = c.close.ensures.same_base ∙ ap (λ p. p.base) c.join.ensures.both ∙ ours.0.base ∙ ap (λ p. p.base) split ∙ ap (λ p. p.base) start;
       shared = both;
-      count =
-          (let counted = both.counted in
-          let our_hundred = c.requires.0 in
-          let their_hundred = c.requires.1 in
-          omega arith);
     }

@@ -1,7 +1,7 @@
 use Rattle.std.proofs.Common.{◌≡◌, ◌+◌, length, take}
 use Rattle.turn_lock.specs.Passes.{KeepsRights}
 use Rattle.turn_lock.specs.Story.{StandAt}
-use Rattle.turn_lock.proofs.tests.add_each.Given as goal
+use Rattle.worked_turns.proofs.pairs.add_each.Given as goal
 
 abbrev pub invariant-loop-number : goal.invariant-loop-number
 invariant-loop-number g l = record {

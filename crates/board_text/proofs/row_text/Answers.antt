@@ -1,6 +1,6 @@
 use Rattle.std.proofs.Common.{rules, arith}
 use Rattle.std.proofs.lemmas.Grind.{common_steps}
-use Rattle.board_text.proofs.put_row.Goals as goal
+use Rattle.board_text.proofs.row_text.Goals as goal
 
 pub returns : goal.returns
 returns c = first_of (grind (arith, common_steps), search rules)

@@ -1,13 +1,13 @@
 //! Two threads over one list of numbers.
-ghost use Rattle.std.specs.Prelude.{◌≡◌, ◌+◌, [], length, vec_len, IfSome};
+ghost use Rattle.std.specs.Prelude.{◌≡◌, ◌+◌, [], length, IfSome};
 ghost use Rattle.turn_lock.specs.Passes.{KeepsRights};
 ghost use Rattle.turn_lock.specs.Story.{StandAt, IsOfTwo};
 
-use crate::{Job, Pass, Storied, TurnLock};
+use hazard_types::Oom;
 use std::alloc::Global;
 use std::sync::Wait;
-use std::test::Fail;
 use std::thread::{Threads, join};
+use turn_lock::{Job, Pass, Storied, TurnLock};
 
 /// A list of numbers with a label, which is its base.
 #[derive(Drop)]
@@ -75,17 +75,15 @@ fn add_each<R: Wait>(
     Some(pass)
 }
 
-/// What two threads add to one empty list, each its hundred numbers; `None` where memory ran out.
+/// What two threads add to one empty list, each its own numbers; `None` where memory ran out.
 fn add_side_by_side<R: Threads + Wait + Sync>(
     rt: &R,
     alloc: Global,
     ours: &[u64],
     theirs: &[u64],
 ) -> Option<Numbers>
-    requires { (length ours.now ≡ 100) × (length theirs.now ≡ 100) }
     ensures base { IfSome result (λ numbers. numbers.label ≡ 7) }
     ensures shared { IfSome result (λ numbers. IsOfTwo numbers.items.items ours.now theirs.now) }
-    ensures count { IfSome result (λ numbers. vec_len numbers.items ≡ 200) }
 {
     let empty = Numbers {
         label: 7,
@@ -115,81 +113,52 @@ fn add_side_by_side<R: Threads + Wait + Sync>(
     Some(whole.close(ours_pass))
 }
 
-/// Answers how many numbers there are, and adds none.
-#[derive(Drop)]
-struct Size;
-
-impl Job<Numbers> for Size {
-    ghost use Rattle.std.specs.Prelude.{◌≡◌, length};
-
-    type Out = u64;
-
-    ghost may_run = { λ _. Unit {0} };
-
-    ghost meets = { λ job base before after answer. (after ≡ before) × (answer ≡ length before) };
-
-    fn run(self, value: &mut Numbers) -> u64 {
-        value.items.len() as u64
+/// The place behind the number, where the number stands at this place; 1000 where it does not.
+fn behind(numbers: &[u64], place: usize, number: u64) -> usize {
+    match numbers.get(place) {
+        Some(next) => {
+            if *next == number {
+                place.saturating_add(1)
+            } else {
+                1000
+            }
+        }
+        None => 1000,
     }
 }
 
-/// A list that began with 5, 6 and 7, to which two passes added 8 and 9, and its size between these turns; `None` where memory ran out.
-fn add_behind_three<R: Wait>(rt: &R, alloc: Global) -> Option<(u64, Numbers)> {
-    let three = Numbers {
-        label: 7,
-        items: vec![in alloc; 5, 6, 7].ok()?,
-    };
-    let Ok((lock, mut pass)) = TurnLock::start(alloc, three) else {
-        return None;
-    };
-    cross(&lock, &pass);
-    let mut other = lock.split(&mut pass).ok()?;
-    lock.turn(rt, &mut pass, Push { number: 8 })?;
-    let size = lock.turn(rt, &mut other, Size);
-    lock.turn(rt, &mut other, Push { number: 9 })?;
-    lock.join(&mut pass, other);
-    Some((size, lock.close(pass)))
+/// Whether the numbers are those of both threads, those of each in their order. Ours are at most 100.
+fn are_in_order(numbers: &[u64], ours: &[u64], theirs: &[u64]) -> bool {
+    let mut our_place = 0;
+    let mut their_place = 0;
+    for number in numbers {
+        if *number <= 100 {
+            our_place = behind(ours, our_place, *number);
+        } else {
+            their_place = behind(theirs, their_place, *number);
+        }
+    }
+    our_place == ours.len() && their_place == theirs.len()
 }
 
-fn may_cross<X: Send>(_value: &X) {}
-
-fn may_be_shared<X: Sync>(_value: &X) {}
-
-/// A lock may cross threads and be shared by them, and a pass may cross them, wherever the value may cross.
-fn cross<T: Storied + Send>(lock: &TurnLock<T>, pass: &Pass<T>) {
-    may_cross(lock);
-    may_be_shared(lock);
-    may_cross(pass);
-}
-
-#[test]
-fn two_threads_add_a_hundred_numbers_each(rt: HostRuntime) -> Result<(), Fail> {
-    let mut ours = Vec::new(rt.alloc());
-    let mut theirs = Vec::new(rt.alloc());
+/// How many numbers two threads add to one list, a hundred each, and whether those of each stand in
+/// their order.
+pub fn work_side_by_side<R: Threads + Wait + Sync>(
+    rt: &R,
+    alloc: Global,
+) -> Result<(usize, bool), Oom> {
+    let mut ours = Vec::new(alloc);
+    let mut theirs = Vec::new(alloc);
     for number in 1..=100u64 {
         ours.push(number)?;
         theirs.push(1000 + number)?;
     }
-    assert_eq!(rt; (ours.len(), theirs.len()), (100, 100));
-    let made = add_side_by_side(&rt, rt.alloc(), ours.as_slice(), theirs.as_slice());
-    let numbers = made.ok_or("memory")?;
-    assert_eq!(rt; numbers.items.len(), 200);
-    let mut our_rest = ours.iter();
-    let mut their_rest = theirs.iter();
-    for number in &numbers.items {
-        if *number <= 100 {
-            assert_eq!(rt; our_rest.next(), Some(number));
-        } else {
-            assert_eq!(rt; their_rest.next(), Some(number));
-        }
-    }
-    Ok(())
-}
-
-#[test]
-fn two_passes_add_to_a_list_with_entries(rt: HostRuntime) -> Result<(), Fail> {
-    let (size, numbers) = add_behind_three(&rt, rt.alloc()).ok_or("memory")?;
-    assert_eq!(rt; size, 4);
-    assert_eq!(rt; numbers.items.as_slice(), [5, 6, 7, 8, 9].as_slice());
-    Ok(())
+    let Some(numbers) = add_side_by_side(rt, alloc, ours.as_slice(), theirs.as_slice()) else {
+        return Err(Oom);
+    };
+    let items = numbers.items.as_slice();
+    Ok((
+        items.len(),
+        are_in_order(items, ours.as_slice(), theirs.as_slice()),
+    ))
 }
