@@ -31,6 +31,7 @@ pub use laws::{
     products_keep_rows_consistent, read_rows_are_consistent,
 };
 use lines::bring_lines;
+pub use lines::openings;
 use open_events::{of_hazard, open_event};
 use shelves::{Shelves, live};
 use spots::{Spot, first_row, has_period};

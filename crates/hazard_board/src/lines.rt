@@ -3,7 +3,8 @@ ghost use Rattle.std.specs.Prelude.{◌≡◌, ◌≤◌, ◌<◌, ◌+◌, leng
 ghost use Rattle.std.specs.List.Sorted.{IsStrictlySortedBy};
 ghost use Rattle.std.specs.Vec.{vec_capacity};
 ghost use Rattle.event_life.specs.Products.{by_key, life_of};
-ghost use Rattle.hazard_board.specs.Board.{slice_of};
+ghost use Rattle.event_life.specs.Lives.{opens};
+ghost use Rattle.hazard_board.specs.Board.{openings, slice_of};
 ghost use Rattle.hazard_board.specs.ByZone.{lines_of};
 ghost use Rattle.hazard_board.specs.Spots.{AreSpots};
 ghost use Rattle.hazard_board.specs.Taken.{wanted, left_on, row_left, put_if, rows_taken, taken_in_turn};
@@ -156,4 +157,18 @@ pub fn zone_taken(
         put_if(&mut after, &row)?;
     }
     Ok(after)
+}
+
+/// Whether a line of the action opens a row: NEW, EXA and EXB.
+fn opens(action: &Action) -> bool
+    ensures { result ≡ opens action.now }
+{
+    matches!(action, Action::New | Action::Exa | Action::Exb)
+}
+
+/// How many of the lines open a row: for so many rows memory is wanted where they are applied.
+pub fn openings(lines: &[Line]) -> usize
+    ensures { result ≡ openings lines.now }
+{
+    lines.iter().filter(|line| opens(&line.action)).count()
 }

@@ -21,7 +21,7 @@ use action_planner::{
 };
 use event_life::rows_stay_in_order;
 use event_numbers::Numbers;
-use hazard_board::{Board, Standing};
+use hazard_board::{Board, Standing, openings};
 use hazard_types::{Draft, EventTexts, Hazard, List, Minute, Oom, Or, Plan, Refusal, Row, Sent};
 use std::alloc::Global;
 use std::marker::Model;
@@ -137,7 +137,7 @@ impl Day {
         lines_have_four_digits();
         rows_stay_in_order();
         let plan = plan(alloc, &self.board, &self.numbers, draft, t)?;
-        self.board.reserve(plan.lines.len())?;
+        self.board.reserve(openings(plan.lines.as_slice()))?;
         self.numbers.reserve(plan.opened.len())?;
         let sent = sent_of(alloc, self.products.len(), &plan, t, None)?;
         self.products.push(sent)?;
@@ -174,7 +174,7 @@ impl Day {
         let last = last_of(products, before.category);
         let letters = letters_of(products, original);
         let correction = plan_correction(alloc, &self.board, before, last, letters, texts, t)?;
-        self.board.reserve(correction.lines.len())?;
+        self.board.reserve(openings(correction.lines.as_slice()))?;
         let sent = sent_of(alloc, products.len(), &correction, t, Some(original))?;
         self.products.push(sent)?;
         self.board.apply(&correction.lines, t);
