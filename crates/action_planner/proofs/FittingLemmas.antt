@@ -92,7 +92,7 @@ fits_Decides c (Routine part) = following_Decides c part.hazard part.zones
 
 -- ---- lists of zones
 
-once_Decides : (zones : List Place) → Decides (stand_once zones) (IsDistinct same_zone zones)
+pub once_Decides : (zones : List Place) → Decides (stand_once zones) (IsDistinct same_zone zones)
 unfolding IsDistinct
 once_Decides [] = (λ h. tt, λ h. refl)
 once_Decides (z ∷ zones) = (
