@@ -1,5 +1,5 @@
 -- The tests by which it is decided whether a draft may hold an intent.
-use Rattle.std.specs.Prelude.{◌&&◌, not, ℕ, Bool, true, false, List, [], ◌∷◌, find, length, nat_le, Option, Some, None, is_none}
+use Rattle.std.specs.Prelude.{◌&&◌, not, Bool, true, false, List, [], ◌∷◌, find, length, nat_le, Option, Some, None, is_none}
 use Rattle.std.specs.List.{list_any}
 use Rattle.hazard_types.specs.Hazards.{facts_of}
 use Rattle.std.specs.Ordering.{is_lt}

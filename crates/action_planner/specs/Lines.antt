@@ -11,7 +11,6 @@ use Rattle.hazard_types.specs.declared.codes.Action.TheVariants.{New, Con, Exa, 
 use Rattle.hazard_types.specs.declared.codes.Category.{Category}
 use Rattle.hazard_types.specs.declared.facts.Facts.{Facts}
 use Rattle.hazard_types.specs.declared.hazard.Event.{Event}
-use Rattle.hazard_types.specs.declared.hazard.Hazard.{Hazard}
 use Rattle.hazard_types.specs.declared.line.Line.{Line}
 use Rattle.hazard_types.specs.declared.line.Row.{Row}
 use Rattle.hazard_types.specs.declared.period.Begin.{Begin}

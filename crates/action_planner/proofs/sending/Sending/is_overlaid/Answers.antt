@@ -1,5 +1,5 @@
 -- the rows of its zone decide whether a row is overlaid
-use Rattle.std.proofs.Common.{◌≡◌, ◌∙◌, ◌&&◌, ◌||◌, List, ap}
+use Rattle.std.proofs.Common.{◌∙◌, ◌&&◌, ◌||◌, List, ap}
 use Rattle.std.specs.List.{list_any}
 use Rattle.hazard_types.specs.declared.line.Row.{Row}
 use Rattle.hazard_board.specs.Board.{slice_of}
