@@ -1,11 +1,9 @@
 -- The correction of a product: its lines are lawful, apart in event and zone, and keep what stands.
-use Rattle.std.proofs.Common.{◌≡◌, ◌∙◌, ◌||◌, inl, inr, ℕ, List, [], ◌∷◌, Bool, true, false, Option, Some, None, refl, sym, ap, subst, cond, filter}
-use Rattle.std.proofs.lemmas.Bool.{and_parts, both_ways, false_from_ne_true}
-use Rattle.std.specs.Bool.{IsTrue}
-use Rattle.std.specs.List.{AllByRecursion, AllPairs, filter_map, list_any}
+use Rattle.std.proofs.Common.{◌≡◌, ◌∙◌, ◌||◌, inl, ℕ, List, [], Bool, true, false, Option, Some, None, refl, sym, ap, subst, cond, filter}
+use Rattle.std.proofs.lemmas.Bool.{both_ways, false_from_ne_true}
+use Rattle.std.specs.List.{AllByRecursion, AllPairs}
 use Rattle.std.specs.List.Sorted.{IsStrictlySortedBy}
 use Rattle.std.specs.Option.{option_or}
-use Rattle.hazard_types.specs.Places.{Place}
 use Rattle.hazard_types.specs.Same.{same_event}
 use Rattle.hazard_types.specs.declared.codes.Action.TheVariants.{Cor}
 use Rattle.hazard_types.specs.declared.hazard.Event.{Event}
@@ -15,9 +13,8 @@ use Rattle.hazard_types.specs.declared.refusal.Refusal.{Refusal}
 use Rattle.hazard_types.specs.declared.request.EventTexts.{EventTexts}
 use Rattle.hazard_types.specs.declared.request.Sent.{Sent}
 use Rattle.event_life.specs.Periods.{ends_after, is_live}
-use Rattle.event_life.specs.Products.{around_of, by_key, has_higher, has_rows, is_new, is_upgrade, life_at, row_at, rows_after}
+use Rattle.event_life.specs.Products.{by_key, has_higher, has_rows, is_new, is_upgrade, row_at, rows_after}
 use Rattle.event_life.specs.Reordered.{are_lawful}
-use Rattle.event_life.specs.Table.{breach_of_line}
 use Rattle.event_life.proofs.LawfulLemmas.{touches}
 use Rattle.event_life.proofs.Puts.{at_key}
 use Rattle.event_numbers.specs.declared.Count.{Count}
@@ -25,9 +22,9 @@ use Rattle.hazard_board.specs.Clashes.{least_clash}
 use Rattle.hazard_board.specs.Consistent.{AreOfTheYear}
 use Rattle.hazard_board.proofs.NumberLemmas.{after_consistent, behind_hold}
 use Rattle.hazard_board.proofs.Turns.{lawful_taken}
-use Rattle.action_planner.specs.Corrections.{broken_correction, broken_on, corrected_lines, correcting, correction_rules, lineless, not_last, nothing_left, letters_spent}
+use Rattle.action_planner.specs.Corrections.{broken_correction, broken_on, corrected_lines, correcting, correction_rules, lineless}
 use Rattle.action_planner.specs.Lines.{line_on}
-use Rattle.action_planner.specs.Offences.{refused_clash, too_many}
+use Rattle.action_planner.specs.Offences.{refused_clash}
 use Rattle.action_planner.specs.Standing.{IsKnown, Stands}
 use Rattle.action_planner.proofs.AfterLemmas.{all_after}
 use Rattle.action_planner.proofs.Lawful.{IsAlone, no_breaches, none_judged}

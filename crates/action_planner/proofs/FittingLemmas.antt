@@ -1,7 +1,7 @@
 -- The tests of fitting decide what is asked of a draft.
-use Rattle.std.proofs.Common.{◌≡◌, ◌↔◌, ◌&&◌, not, ℕ, ◌≤◌, List, [], ◌∷◌, Bool, true, false, Option, Some, None, refl, sym, ap, subst, ◌∙◌, cond, find, length}
-use Rattle.std.proofs.lemmas.Bool.{and_from, and_parts, false_from_ne_true, not-false, not-true, not_from_false, not_from_true}
-use Rattle.std.proofs.lemmas.Bool.Decides.{Decides-and, Decides-like, not_from_Decides}
+use Rattle.std.proofs.Common.{◌≡◌, ◌↔◌, not, List, [], ◌∷◌, Bool, true, false, Option, Some, None, refl, sym, ap, subst, ◌∙◌, find, length}
+use Rattle.std.proofs.lemmas.Bool.{and_from, and_parts, not-false, not-true, not_from_false, not_from_true}
+use Rattle.std.proofs.lemmas.Bool.Decides.{Decides-and}
 use Rattle.std.proofs.lemmas.List.Elements.{All-from_recursion, recursion_from_All}
 use Rattle.std.specs.Bool.{Decides, IsTrue}
 use Rattle.std.specs.List.{All, AllByRecursion, IsDistinct, list_any}
@@ -92,7 +92,7 @@ fits_Decides c (Routine part) = following_Decides c part.hazard part.zones
 
 -- ---- lists of zones
 
-once_Decides : (zones : List Place) → Decides (stand_once zones) (IsDistinct same_zone zones)
+pub once_Decides : (zones : List Place) → Decides (stand_once zones) (IsDistinct same_zone zones)
 unfolding IsDistinct
 once_Decides [] = (λ h. tt, λ h. refl)
 once_Decides (z ∷ zones) = (

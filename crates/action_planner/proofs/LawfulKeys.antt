@@ -7,7 +7,7 @@ use Rattle.std.specs.List.Sorted.{IsStrictlySortedBy}
 use Rattle.hazard_types.specs.Places.{Place}
 use Rattle.hazard_types.specs.Same.{same_zone, same_event}
 use Rattle.hazard_types.specs.declared.codes.Action.{Action}
-use Rattle.hazard_types.specs.declared.codes.Action.TheVariants.{New, Con, Exa, Ext, Exb, Upg, Can, Exp}
+use Rattle.hazard_types.specs.declared.codes.Action.TheVariants.{New, Con, Exa, Ext, Exb}
 use Rattle.hazard_types.specs.declared.codes.Category.{Category}
 use Rattle.hazard_types.specs.declared.hazard.Event.{Event}
 use Rattle.hazard_types.specs.declared.line.Line.{Line}
@@ -18,13 +18,13 @@ use Rattle.hazard_types.specs.declared.request.PutPart.{PutPart}
 use Rattle.hazard_types.specs.declared.request.Target.{Target}
 use Rattle.hazard_types.specs.declared.request.Target.TheVariants.{Fresh, Join}
 use Rattle.hazard_types.proofs.Equality.{event_itself, event_one, zone_itself, zone_one}
-use Rattle.event_life.specs.Periods.{ends_after, is_live, same_at}
+use Rattle.event_life.specs.Periods.{is_live, same_at}
 use Rattle.event_life.specs.Products.{by_key, is_routine, is_upgrade, row_at, speaks_of}
 use Rattle.event_life.proofs.Keys.{key_ties}
 use Rattle.event_life.proofs.Puts.{at_key, at_key-parts, speaks_of-parts}
 use Rattle.hazard_board.specs.Board.{has_period}
 use Rattle.action_planner.specs.Placed.{Placed, zones_of, touches, speaks}
-use Rattle.action_planner.specs.Lines.{put_period, put_period_on, opening_action, joined_row, put_line_on, put_line, line_on, finish_lines, restate_lines, is_near_end, is_overlaid, lines_in, lines_in_zones, lines_from, goes_on, goes_on_beside, added_lines, planned_lines}
+use Rattle.action_planner.specs.Lines.{put_period, put_period_on, opening_action, joined_row, put_line_on, put_line, line_on, finish_lines, restate_lines, lines_in, lines_in_zones, lines_from, goes_on, goes_on_beside, added_lines, planned_lines}
 use Rattle.action_planner.specs.Offences.{is_shared}
 use Rattle.action_planner.proofs.LawfulLists.{EachPair, Has, all_append, all_both, all_each, all_weaker, all_filter, all_has, all_map, any_has, has_all, pair_append, pair_filter, pair_map, pair_weaker, pairs_from}
 use Rattle.action_planner.proofs.LawfulPlaced.{IsFit}

@@ -23,10 +23,10 @@ use Rattle.event_life.specs.Higher.{may_yield, outranks}
 use Rattle.event_life.specs.Lives.{opens}
 use Rattle.event_life.specs.Periods.{ends_after, is_live, overlaps, same_at}
 use Rattle.event_life.specs.Table.{continued_period, flood_after, life_after, left_of_life, opened_period}
-use Rattle.event_life.specs.Products.{by_key, has_higher, has_rows, is_overlapped, is_routine, is_upgrade, life_of, row_after, row_at, row_of, rows_for_higher, speaks_of}
+use Rattle.event_life.specs.Products.{by_key, has_higher, is_overlapped, is_routine, is_upgrade, life_of, row_after, row_at, row_of, rows_for_higher, speaks_of}
 use Rattle.event_life.proofs.Puts.{speaks_of-parts}
 use Rattle.hazard_board.specs.Board.{has_period}
-use Rattle.action_planner.specs.Placed.{Placed, zones_of, is_opening, is_opening_target, touches, speaks}
+use Rattle.action_planner.specs.Placed.{Placed, zones_of, touches, speaks}
 use Rattle.action_planner.specs.Lines.{put_period, put_period_on, continuing_line, opening_action, opening_line, joined_row, put_line_on, put_line, line_on, puts_or_finishes, is_left, period_by_put, row_by_put, rows_by_intent, rows_by_puts, rows_left, is_overlaid, is_near_end, finishing_action, finish_lines, restate_lines, lines_in, lines_in_zones, lines_from, goes_on_beside, added_lines, planned_lines}
 use Rattle.action_planner.specs.Offences.{is_bad_period, bad_period_of}
 use Rattle.action_planner.proofs.LawfulLists.{EachPair, Has, all_append, all_each, all_filter, all_has, all_map, all_weaker, any_has, has_any, has_filter, has_left, has_map, has_right, has_split, none_of}

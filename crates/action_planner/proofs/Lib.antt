@@ -32,3 +32,4 @@ pub mod ToldLemmas
 pub mod LineLemmas
 pub mod SaidLemmas
 pub mod FittingLemmas
+pub mod OnceLemmas

@@ -21,23 +21,23 @@ use Rattle.hazard_types.specs.declared.request.PutPart.{PutPart}
 use Rattle.hazard_types.specs.Same.{same_event, same_zone}
 use Rattle.hazard_types.proofs.Equality.{event_itself, zone_one}
 use Rattle.event_life.specs.Periods.{ends_after, is_live}
-use Rattle.event_life.specs.Products.{has_rows, is_open, is_routine, row_at}
+use Rattle.event_life.specs.Products.{has_rows, is_open, row_at}
 use Rattle.event_numbers.specs.declared.Count.{Count}
 use Rattle.event_numbers.specs.Counts.{count_of}
 use Rattle.action_planner.specs.Conditions.{AreNumbered, AreSited, CanPlan, MayHold, needs_values}
 use Rattle.action_planner.specs.Corrections.{corrected_lines}
-use Rattle.action_planner.specs.Lines.{added_lines, finish_lines, goes_on, goes_on_beside, is_near_end, is_overlaid, joined_row, line_on, lines_from, lines_in, planned_lines, put_line, restate_lines}
+use Rattle.action_planner.specs.Lines.{added_lines, finish_lines, goes_on, goes_on_beside, is_near_end, is_overlaid, joined_row, line_on, lines_from, lines_in, planned_lines, restate_lines}
 use Rattle.action_planner.specs.Offences.{broken, first_by, needs_event, rules, spent}
-use Rattle.action_planner.specs.Placed.{Placed, is_opening, is_opening_target, opened, placed, placed_from, speaks, touches, zones_of}
+use Rattle.action_planner.specs.Placed.{Placed, is_opening, is_opening_target, placed, placed_from, speaks, touches, zones_of}
 use Rattle.action_planner.specs.Standing.{AreKnown, HaveFourDigits, IsKnown}
 use Rattle.action_planner.specs.Told.{flood_of, passes}
-use Rattle.action_planner.proofs.CorrectionLemmas.{Corrects, each_corrected, from_rows}
-use Rattle.action_planner.proofs.LawfulLists.{Has, all_append, all_each, all_filter, all_has, all_map, all_weaker, any_from, any_has, contains_from, every, has_all, has_any}
-use Rattle.action_planner.proofs.LawfulKeys.{IsOn, each_intent, each_zone, either_action, lines_on, put_action-none}
+use Rattle.action_planner.proofs.CorrectionLemmas.{each_corrected, from_rows}
+use Rattle.action_planner.proofs.LawfulLists.{Has, all_append, all_each, all_filter, all_has, all_map, all_weaker, any_from, any_has, contains_from, has_all, has_any}
+use Rattle.action_planner.proofs.LawfulKeys.{IsOn, each_intent, each_zone, lines_on, put_action-none}
 use Rattle.action_planner.proofs.LawfulPlaced.{IsFit, fits, given_none}
 use Rattle.action_planner.proofs.RoutineLemmas.{zero_placed, is_routine_intent}
 use Rattle.action_planner.proofs.SiteLemmas.{Needs, open_has, plan_values}
-use Rattle.action_planner.proofs.SourceLemmas.{Comes, FromPut, FromRoutine, FromRow, comes}
+use Rattle.action_planner.proofs.SourceLemmas.{Comes, FromRow, comes}
 use Rattle.action_planner.proofs.Standing.{four_digits, known_line, known_placed, is_among_opened}
 
 -- ---- hazards

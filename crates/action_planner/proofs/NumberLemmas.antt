@@ -1,6 +1,6 @@
 -- Events in order, and their numbers: those of a hazard and year rise, so that what they are tells which list they are.
-use Rattle.std.proofs.Common.{◌≡◌, ◌∙◌, ◌==◌, ◌&&◌, inl, inr, ℕ, zero, suc, ◌+◌, ◌<◌, ◌≤◌, length, arith, List, [], ◌∷◌, ◌++◌, Ordering, Less, Equal, Greater, Bool, true, false, refl, sym, ap, subst, cond, map, nat_le}
-use Rattle.std.proofs.lemmas.Bool.{and_from, cases_eq, or_parts, and_parts, both_ways, eq-eqb, eqb-true, false_from_ne_true, le-leb, leb-true}
+use Rattle.std.proofs.Common.{◌≡◌, ◌∙◌, ◌&&◌, inl, inr, ℕ, zero, suc, ◌+◌, ◌<◌, ◌≤◌, length, arith, List, [], ◌∷◌, Ordering, Less, Equal, Greater, Bool, true, false, refl, sym, ap, subst, cond, map, nat_le}
+use Rattle.std.proofs.lemmas.Bool.{and_from, cases_eq, or_parts, and_parts, both_ways, eq-eqb, eqb-true, le-leb, leb-true}
 use Rattle.std.proofs.lemmas.Cmp.{nat_cmp_total, ranked, tied_itself}
 use Rattle.std.specs.List.{AllByRecursion, list_any}
 use Rattle.std.specs.List.Sorted.{IsStrictlySortedBy}
@@ -17,10 +17,10 @@ use Rattle.event_life.specs.Openings.{add_event, counted_from, event_placed, is_
 use Rattle.event_life.specs.Products.{has_rows, is_new}
 use Rattle.event_life.proofs.OnceLemmas.{add_event-every, add_event-up, opened_by-every, opened_by-up}
 use Rattle.event_numbers.specs.declared.Count.{Count}
-use Rattle.event_numbers.specs.Counts.{count_of, is_count_of}
+use Rattle.event_numbers.specs.Counts.{count_of}
 use Rattle.action_planner.specs.Conditions.{AreNumbered}
 use Rattle.action_planner.specs.Told.{count_among, counts_in, events_in}
-use Rattle.action_planner.proofs.LawfulLists.{Has, all_has, all_weaker, any_has, every, has_any}
+use Rattle.action_planner.proofs.LawfulLists.{Has, all_has, any_has, every, has_any}
 use Rattle.action_planner.proofs.LawfulOpenings.{numbers-cons}
 
 -- ---- one event more

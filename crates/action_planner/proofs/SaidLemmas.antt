@@ -1,7 +1,7 @@
 -- A text says the lines of its segments: these are the product's, in another order.
-use Rattle.std.proofs.Common.{◌≡◌, ℕ, List, [], ◌∷◌, true, false, refl, sym, subst}
+use Rattle.std.proofs.Common.{◌≡◌, ℕ, List, [], ◌∷◌, false, sym, subst}
 use Rattle.std.proofs.lemmas.Bool.{false_from_ne_true}
-use Rattle.std.specs.List.{AllByRecursion, AllPairs, Contains}
+use Rattle.std.specs.List.{AllPairs}
 use Rattle.std.specs.List.Sorted.{IsStrictlySortedBy}
 use Rattle.hazard_types.specs.Orders.{by_event}
 use Rattle.hazard_types.specs.declared.hazard.Event.{Event}
@@ -10,7 +10,7 @@ use Rattle.hazard_types.specs.declared.line.Row.{Row}
 use Rattle.hazard_types.specs.declared.line.Segment.{Segment}
 use Rattle.hazard_types.proofs.OrderLaws.{by_event_total}
 use Rattle.event_life.specs.Openings.{opened_by}
-use Rattle.event_life.specs.Products.{by_key, is_routine, rows_after, speaks_of}
+use Rattle.event_life.specs.Products.{by_key, rows_after, speaks_of}
 use Rattle.event_life.specs.Reordered.{are_lawful, AreApart, TouchAlike}
 use Rattle.event_life.proofs.FreeOrder.{are_lawful-alike, rows_after-alike}
 use Rattle.event_life.proofs.OnceLemmas.{opened_by-up}

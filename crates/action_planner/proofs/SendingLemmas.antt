@@ -14,7 +14,7 @@ use Rattle.hazard_board.specs.Board.{slice_of}
 use Rattle.action_planner.specs.Placed.{Placed}
 use Rattle.action_planner.specs.Lines.{is_left, rows_by_intent, rows_by_puts, overlays, is_overlaid}
 use Rattle.action_planner.specs.Sending.{Zones, rows_in, add_row, add_rows, add_by_puts}
-use Rattle.action_planner.proofs.SpokenLemmas.{at_one, found_after, zone_at}
+use Rattle.hazard_board.proofs.Keyed.{at_one, found_after, zone_at}
 
 added_in_turn : (zones : Zones) (xs ys : List Row) → add_rows (add_rows zones xs) ys ≡ add_rows zones (xs ++ ys)
 added_in_turn zones [] ys = refl

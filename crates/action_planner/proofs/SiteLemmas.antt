@@ -1,15 +1,13 @@
 -- The rows of a flood event all have H-VTEC, with one location, after a product too.
-use Rattle.std.proofs.Common.{◌≡◌, ◌⊎◌, ◌&&◌, inl, inr, ⊎_elim, not, ℕ, suc, ◌+◌, ◌<◌, ◌≤◌, List, [], ◌∷◌, ◌++◌, Bool, true, false, Option, Some, None, refl, sym, ap, subst, ◌∙◌, cond, find, filter, arith, option_map}
+use Rattle.std.proofs.Common.{◌≡◌, ◌⊎◌, ◌&&◌, inl, inr, not, ℕ, ◌+◌, ◌≤◌, List, [], ◌∷◌, ◌++◌, Bool, true, false, Option, Some, None, refl, sym, ap, subst, ◌∙◌, cond, find, filter, arith}
 use Rattle.std.proofs.lemmas.Bool.{and_parts, both_ways, not-false}
 use Rattle.std.proofs.lemmas.List.Sums.{sum_by-append, sum_by-cons}
 use Rattle.std.proofs.lemmas.Slice.Eq.{bytes_eq-Decides}
-use Rattle.std.specs.List.{AllByRecursion, count_by, list_any}
+use Rattle.std.specs.List.{AllByRecursion, count_by}
 use Rattle.std.specs.Option.{is_none, is_some}
 use Rattle.hazard_types.specs.Days.{year_of}
 use Rattle.hazard_types.specs.Hazards.{facts_of}
-use Rattle.hazard_types.specs.Same.{same_event, same_hazard}
-use Rattle.hazard_types.specs.declared.codes.Category.{Category}
-use Rattle.hazard_types.specs.declared.facts.Facts.{Facts}
+use Rattle.hazard_types.specs.Same.{same_event}
 use Rattle.hazard_types.specs.declared.hazard.Event.{Event}
 use Rattle.hazard_types.specs.declared.hazard.Hazard.{Hazard}
 use Rattle.hazard_types.specs.declared.line.Flood.{Flood}
@@ -23,16 +21,14 @@ use Rattle.hazard_types.specs.declared.request.Target.{Target}
 use Rattle.hazard_types.specs.declared.request.Target.TheVariants.{Fresh, Join}
 use Rattle.hazard_types.proofs.Equality.{event_itself, event_one, hazard_itself}
 use Rattle.event_life.specs.Periods.{keeps_open}
-use Rattle.event_life.specs.Products.{has_rows, is_open, is_routine, row_after, rows_after}
+use Rattle.event_life.specs.Products.{has_rows, is_open, row_after, rows_after}
 use Rattle.event_life.specs.Reordered.{are_lawful}
 use Rattle.event_life.proofs.LawfulLemmas.{touches}
 use Rattle.event_numbers.specs.declared.Count.{Count}
 use Rattle.event_numbers.specs.Counts.{count_of}
-use Rattle.hazard_board.specs.Consistent.{EachToLater}
 use Rattle.action_planner.specs.Conditions.{AreSited, needs_values, site_of}
-use Rattle.action_planner.specs.Lines.{planned_lines}
-use Rattle.action_planner.specs.Offences.{differs, joins_by, moves_site, needed_flood, needed_flood_of, needs_event, other_site, site_moved, site_moved_of}
-use Rattle.action_planner.specs.Placed.{Placed, event_of_intent, event_of_target, is_opening, is_opening_target, opens_hazard, placed, placed_from}
+use Rattle.action_planner.specs.Offences.{differs, joins_by, moves_site, needed_flood, needed_flood_of, needs_event, other_site, site_moved_of}
+use Rattle.action_planner.specs.Placed.{Placed, event_of_intent, event_of_target, is_opening, is_opening_target, opens_hazard, placed_from}
 use Rattle.action_planner.proofs.AfterLemmas.{after_from, all_after, later_from, pair_of, row_flood}
 use Rattle.action_planner.proofs.LawfulLists.{EachPair, Has, all_has, all_weaker, any_has, every, has_any, has_filter}
 use Rattle.action_planner.proofs.LawfulLines.{not_bad}

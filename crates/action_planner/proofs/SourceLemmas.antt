@@ -1,5 +1,5 @@
 -- Where the lines of a draft come from: a row that a line says again, a put, or a routine intent.
-use Rattle.std.proofs.Common.{◌≡◌, ◌⊎◌, inl, inr, ℕ, List, [], ◌∷◌, true, Option, Some, None, refl, sym, filter}
+use Rattle.std.proofs.Common.{◌≡◌, ◌⊎◌, inl, inr, ℕ, List, true, Option, Some, None, refl, sym, filter}
 use Rattle.std.specs.List.{AllByRecursion}
 use Rattle.hazard_types.specs.Places.{Place}
 use Rattle.hazard_types.specs.declared.codes.Action.TheVariants.{Con}
@@ -15,7 +15,6 @@ use Rattle.event_life.proofs.Puts.{at_key}
 use Rattle.action_planner.specs.Placed.{Placed, zones_of}
 use Rattle.action_planner.specs.Lines.{added_lines, finish_lines, goes_on_beside, joined_row, line_on, lines_from, lines_in, planned_lines, put_line, put_line_on, restate_lines}
 use Rattle.action_planner.proofs.LawfulLists.{Has, all_append, all_each, all_filter, all_map, all_weaker, has_all}
-use Rattle.action_planner.proofs.LawfulSteps.{row_at-parts}
 use Rattle.action_planner.proofs.LawfulKeys.{IsOn, each_intent, each_zone, lines_on}
 use Rattle.action_planner.proofs.LawfulLines.{found_has}
 use Rattle.action_planner.proofs.RoutineLemmas.{is_routine_intent}

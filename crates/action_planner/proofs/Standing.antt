@@ -31,7 +31,7 @@ use Rattle.event_numbers.specs.Counts.{count_of, DrawsAll}
 use Rattle.event_life.specs.Reordered.{are_lawful}
 use Rattle.event_life.proofs.LawfulLemmas.{touches}
 use Rattle.hazard_board.specs.Clashes.{least_clash}
-use Rattle.hazard_board.specs.Consistent.{AreOfTheYear, NoneIsAhead}
+use Rattle.hazard_board.specs.Consistent.{AreOfTheYear}
 use Rattle.hazard_board.specs.Taken.{rows_taken}
 use Rattle.hazard_board.proofs.ConsistentLemmas.{stays_consistent}
 use Rattle.hazard_board.proofs.NumberLemmas.{after_consistent, behind_hold, stays_behind}

@@ -1,7 +1,7 @@
 -- The events that have rows after a product of lawful lines: those that had them, and those of its lines.
-use Rattle.std.proofs.Common.{◌≡◌, ◌∙◌, ◌||◌, ◌&&◌, not, ℕ, List, [], ◌∷◌, ◌++◌, Bool, true, false, Option, None, Ordering, Less, Equal, Greater, refl, ap, cond, filter, option_map}
+use Rattle.std.proofs.Common.{◌≡◌, ◌∙◌, ◌||◌, ◌&&◌, ℕ, List, [], ◌∷◌, ◌++◌, Bool, true, false, Option, None, Ordering, Less, Equal, Greater, refl, ap, cond, filter, option_map}
 use Rattle.std.proofs.lemmas.Bool.{and_parts, false_from_ne_true, both_ways}
-use Rattle.std.specs.List.{AllByRecursion, list_all, list_any}
+use Rattle.std.specs.List.{list_all, list_any}
 use Rattle.std.specs.Option.{is_none}
 use Rattle.hazard_types.specs.Same.{same_event}
 use Rattle.hazard_types.specs.declared.codes.Action.{Action}

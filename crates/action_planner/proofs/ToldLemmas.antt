@@ -1,10 +1,9 @@
 -- The numbers of a draft's NEW lines, and what the rows tell of numbers.
-use Rattle.std.proofs.Common.{◌≡◌, ◌∙◌, ℕ, ◌+◌, List, [], ◌∷◌, ◌++◌, true, length, refl, ap}
-use Rattle.std.specs.List.{AllByRecursion, count_by}
+use Rattle.std.proofs.Common.{◌≡◌, ℕ, ◌+◌, List, [], ◌∷◌, ◌++◌, true, length, refl, ap}
+use Rattle.std.specs.List.{count_by}
 use Rattle.std.proofs.lemmas.List.Elements.{recursion_from_All}
 use Rattle.hazard_types.specs.Days.{year_of}
 use Rattle.hazard_types.specs.declared.codes.Category.{Category}
-use Rattle.hazard_types.specs.declared.hazard.Event.{Event}
 use Rattle.hazard_types.specs.declared.hazard.Hazard.{Hazard}
 use Rattle.hazard_types.specs.declared.line.Line.{Line}
 use Rattle.hazard_types.specs.declared.line.Row.{Row}
@@ -18,7 +17,7 @@ use Rattle.event_numbers.specs.declared.Count.{Count}
 use Rattle.event_numbers.specs.Counts.{count_of}
 use Rattle.action_planner.specs.Conditions.{AreNumbered, CanPlan, MayHold}
 use Rattle.action_planner.specs.Lines.{planned_lines}
-use Rattle.action_planner.specs.Placed.{Placed, event_of_intent, event_of_target, opened, opens_hazard, placed, placed_from}
+use Rattle.action_planner.specs.Placed.{event_of_intent, event_of_target, opened, opens_hazard, placed, placed_from}
 use Rattle.action_planner.specs.Told.{counts_in}
 use Rattle.action_planner.proofs.LawfulLists.{Has, all_has}
 use Rattle.action_planner.proofs.LawfulOpenings.{new_lines_opened, opened_have_lines, some_placed}

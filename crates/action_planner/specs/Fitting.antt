@@ -1,8 +1,9 @@
 -- The tests by which it is decided whether a draft may hold an intent.
-use Rattle.std.specs.Prelude.{◌&&◌, not, ℕ, Bool, true, false, List, [], ◌∷◌, find, length, nat_le, Option, Some, None, is_none}
+use Rattle.std.specs.Prelude.{◌&&◌, not, Bool, true, false, List, [], ◌∷◌, find, length, nat_le, Option, Some, None, is_none}
 use Rattle.std.specs.List.{list_any}
 use Rattle.hazard_types.specs.Hazards.{facts_of}
-use Rattle.hazard_types.specs.Places.{Place}
+use Rattle.std.specs.Ordering.{is_lt}
+use Rattle.hazard_types.specs.Places.{Place, by_place}
 use Rattle.hazard_types.specs.Same.{same_zone}
 use Rattle.hazard_types.specs.contracts.codes.CategoryPartialEq.TheImpl as category
 use Rattle.hazard_types.specs.contracts.zone.KindPartialEq.TheImpl as kind
@@ -46,6 +47,16 @@ fits c (Routine part) = fits_following c part.hazard part.zones
 abbrev pub stand_once : List Place → Bool
 stand_once [] = true
 stand_once (z ∷ zones) = not (list_any (λ (y : Place). same_zone z y) zones) && stand_once zones
+
+-- the zone is before the first of some
+abbrev pub is_before_first : Place → List Place → Bool
+is_before_first z [] = true
+is_before_first z (y ∷ zones) = is_lt (by_place z y)
+
+-- each zone is before the next
+abbrev pub ascend : List Place → Bool
+ascend [] = true
+ascend (z ∷ zones) = is_before_first z zones && ascend zones
 
 abbrev pub are_zones : List Place → Bool
 are_zones zones = nat_le 1 (length zones) && nat_le (length zones) 600 && stand_once zones

@@ -11,7 +11,6 @@ use Rattle.hazard_types.specs.declared.codes.Action.TheVariants.{New, Con, Exa, 
 use Rattle.hazard_types.specs.declared.codes.Category.{Category}
 use Rattle.hazard_types.specs.declared.facts.Facts.{Facts}
 use Rattle.hazard_types.specs.declared.hazard.Event.{Event}
-use Rattle.hazard_types.specs.declared.hazard.Hazard.{Hazard}
 use Rattle.hazard_types.specs.declared.line.Line.{Line}
 use Rattle.hazard_types.specs.declared.line.Row.{Row}
 use Rattle.hazard_types.specs.declared.period.Begin.{Begin}
@@ -51,8 +50,11 @@ abbrev pub opening_action : List Row → ℕ → Event → PutPart → Target �
 opening_action rows t e part (Fresh h) = New
 opening_action rows t e part (Join d) = if has_period rows e (put_period part t) t then Exa else Exb
 
+abbrev pub opening_line_by : Action → ℕ → Event → PutPart → Place → Line
+opening_line_by action t e part z = record { action = action; event = e; zone = z; begin = Some (minute_of part.begin t); end = part.end; flood = part.flood }
+
 abbrev pub opening_line : List Row → ℕ → Event → PutPart → Place → Line
-opening_line rows t e part z = record { action = opening_action rows t e part part.target; event = e; zone = z; begin = Some (minute_of part.begin t); end = part.end; flood = part.flood }
+opening_line rows t e part z = opening_line_by (opening_action rows t e part part.target) t e part z
 
 -- CON where the period of the row stays, else EXT
 abbrev pub continuing_line : ℕ → Event → PutPart → Row → Line

@@ -1,5 +1,5 @@
 -- What rows tell of numbers, and what intents tell of flood values.
-use Rattle.std.specs.Prelude.{ℕ, Bool, true, List, [], ◌∷◌, length, map, Option, Some, None}
+use Rattle.std.specs.Prelude.{Bool, true, List, [], ◌∷◌, length, map, Option, Some, None}
 use Rattle.hazard_types.specs.declared.hazard.Event.{Event}
 use Rattle.hazard_types.specs.declared.line.Flood.{Flood}
 use Rattle.hazard_types.specs.declared.line.Row.{Row}

@@ -6,6 +6,7 @@ ghost use Rattle.hazard_types.specs.declared.refusal.Refusal.{Refusal as Refused
 ghost use Rattle.event_life.specs.Products.{by_key, row_at};
 ghost use Rattle.event_life.specs.Reordered.{are_lawful};
 ghost use Rattle.std.specs.List.Sorted.{IsStrictlySortedBy};
+ghost use Rattle.hazard_board.specs.Consistent.{IsConsistent};
 ghost use Rattle.action_planner.specs.Corrections.{correcting, with_some, corrected_lines, given_for, texts_or, corrected_texts, has_line, lineless, not_last, nothing_left, letters_spent, broken_on, broken_correction, IsCorrectionOf, IsCorrection, CanCorrect};
 ghost use Rattle.action_planner.specs.Texts.{events_of};
 
@@ -166,6 +167,7 @@ fn broken_on(
     letters: u8,
     lines: &List<Line>,
 ) -> Result<Option<Refusal>, Oom>
+    requires consistent { IsConsistent board.now.rows t }
     ensures { IfOk result (λ found. found ≡ broken_on board.now.rows t number last letters lines.now) }
 {
     let overlap = conflict(alloc, board, t, lines)?;

@@ -1,11 +1,9 @@
 //! Whether a draft may be planned: each of its intents by its hazard, its category and its zones.
 ghost use Rattle.std.specs.Prelude.{◌≡◌, ◌≤◌, ◌↔◌, find, length, None, IsTrue};
-ghost use Rattle.std.specs.List.{All, list_any};
+ghost use Rattle.std.specs.List.{All};
 ghost use Rattle.hazard_types.specs.Hazards.{facts_of};
-ghost use Rattle.hazard_types.specs.Places.{Place};
-ghost use Rattle.hazard_types.specs.Same.{same_zone};
 ghost use Rattle.action_planner.specs.Conditions.{AreOfKind, AreZones, IsFollowedBy, IsOpenedBy, MayHold};
-ghost use Rattle.action_planner.specs.Fitting.{of_other_kind, are_of_kind, opens_with, fits_target, fits_following, fits, stand_once, are_zones, may_hold};
+ghost use Rattle.action_planner.specs.Fitting.{of_other_kind, are_of_kind, opens_with, fits_target, fits_following, fits, is_before_first, ascend, stand_once, are_zones, may_hold};
 ghost use Rattle.action_planner.specs.Lines.{follows};
 ghost use Rattle.action_planner.specs.Standing.{IsKnown};
 
@@ -116,22 +114,47 @@ fn fits(category: Category, intent: &Intent) -> bool
     }
 }
 
-fn has(zones: &[Zone], zone: Zone) -> bool
-    ensures { result ≡ list_any (λ (z : Place). same_zone zone z) zones.now }
+/// Whether the zone is before the first of some.
+fn is_before_first(zone: &Zone, later: &[Zone]) -> bool
+    ensures { result ≡ is_before_first zone.now later.now }
 {
-    zones.iter().any(|other| zone == *other)
+    match later {
+        [] => true,
+        [next, ..] => zone.cmp(next).is_lt(),
+    }
 }
 
-/// Whether each zone stands once.
-fn stand_once(zones: &[Zone]) -> bool
-    ensures { result ≡ stand_once zones.now }
+/// Whether each zone is before the next.
+fn ascend(zones: &[Zone]) -> bool
+    ensures { result ≡ ascend zones.now }
 {
     for (place, zone) in zones.iter().enumerate() {
-        if has(&zones[place + 1..], *zone) {
+        if !is_before_first(zone, &zones[place + 1..]) {
             return false;
         }
     }
     true
+}
+
+/// Whether each zone stands once, told by a copy of them that is sorted.
+#[tactic(auto, using(crate::proofs::OnceLemmas::once_sorted))]
+fn stand_once_in(sorted: &mut [Zone], zones: &[Zone]) -> bool
+    requires { length sorted.old ≡ length zones.now }
+    ensures { result ≡ stand_once zones.now }
+{
+    sorted.copy_from_slice(zones);
+    sorted.sort_unstable();
+    ascend(sorted)
+}
+
+/// Whether each zone stands once.
+fn stand_once(zones: &[Zone]) -> bool
+    requires some { 1 ≤ length zones.now }
+    requires few { length zones.now ≤ 600 }
+    ensures { result ≡ stand_once zones.now }
+{
+    let mut sorted = [zones[0]; MOST_ZONES];
+    stand_once_in(&mut sorted[..zones.len()], zones)
 }
 
 /// Whether there are as many zones as an intent may have, each once.

@@ -1,5 +1,5 @@
 //! The lines of a draft: what each intent says of each of its zones, and the rows that go on beside them.
-ghost use Rattle.std.specs.Prelude.{◌≡◌, ◌<◌, ◌∷◌, [], ◌++◌, length, map, filter, IfOk, OnOk};
+ghost use Rattle.std.specs.Prelude.{◌≡◌, ◌<◌, ◌∷◌, [], ◌++◌, true, length, map, filter, IfOk, OnOk};
 ghost use Rattle.std.specs.List.{list_any};
 ghost use Rattle.std.specs.List.Sorted.{IsStrictlySortedBy};
 ghost use Rattle.hazard_types.specs.Hazards.{facts_of};
@@ -7,9 +7,10 @@ ghost use Rattle.hazard_types.specs.declared.codes.Action.TheVariants.{Con};
 ghost use Rattle.event_life.specs.Products.{by_key};
 ghost use Rattle.action_planner.specs.Placed.{zones_of, touches, speaks};
 ghost use Rattle.action_planner.specs.Lines.{line_on, is_near_end, finishing_action, finish_lines, restate_lines, lines_in, lines_in_zones, lines_from, routine_line, follows, goes_on, goes_on_beside, added_in, added_lines, planned_lines};
+ghost use Rattle.action_planner.specs.Sending.{have_finish, is_finish, opening_of};
 
 use crate::placed::{Placed, zones_of};
-use crate::puts::{printed_begin, put_line};
+use crate::puts::{opening_action, printed_begin, put_line};
 use crate::sending::Sending;
 use crate::spoken::Spoken;
 use event_life::{ends_after, is_live};
@@ -45,6 +46,7 @@ fn is_near_end(end: &End, t: Minute) -> bool
 
 /// How a row ends where its event is finished: UPG before its end under a row of a higher rank, else EXP near its end, else CAN.
 fn finishing_action(sending: &Sending, row: &Row) -> Action
+    requires { have_finish sending.now.intents ≡ true }
     ensures { result ≡ finishing_action sending.now.rows sending.now.minute sending.now.intents row.now }
 {
     let t = sending.minute();
@@ -66,6 +68,7 @@ pub fn add_line(lines: &mut List<Line>, line: &Line) -> Result<(), Oom>
 
 /// Adds what a finish says of a row: nothing where there is none.
 fn add_finish(lines: &mut List<Line>, sending: &Sending, row: &Option<Row>) -> Result<(), Oom>
+    requires { have_finish sending.now.intents ≡ true }
     ensures { OnOk result (lines.new ≡ lines.old ++ finish_lines sending.now.rows sending.now.minute sending.now.intents row.now) }
 {
     match row {
@@ -101,31 +104,46 @@ fn routine_line(event: &Event, zone: &Zone) -> Line
     }
 }
 
-/// Adds what an intent says of one of its zones.
+/// The action of an intent where it meets no row: only a put opens.
+fn opening_of(sending: &Sending, p: &Placed) -> Action
+    ensures { result ≡ opening_of sending.now.rows sending.now.minute p.now.event p.now.intent }
+{
+    match p.intent {
+        Intent::Put(part) => opening_action(sending.board(), sending.minute(), &p.event, part),
+        Intent::Finish(_) | Intent::Restate(_) | Intent::Routine(_) => Action::New,
+    }
+}
+
+/// Adds what an intent says of one of its zones, where it opens with this action.
 fn add_lines_in(
     lines: &mut List<Line>,
     sending: &Sending,
     p: &Placed,
     zone: &Zone,
+    opening: Action,
 ) -> Result<(), Oom>
+    requires opening { opening ≡ opening_of sending.now.rows sending.now.minute p.now.event p.now.intent }
+    requires finish { is_finish p.now.intent ≡ true → have_finish sending.now.intents ≡ true }
     ensures { OnOk result (lines.new ≡ lines.old ++ lines_in sending.now.rows sending.now.minute sending.now.intents p.now.event p.now.intent zone.now) }
 {
     let board = sending.board();
     let t = sending.minute();
     match p.intent {
-        Intent::Put(part) => add_line(lines, &put_line(board, t, &p.event, part, zone)),
+        Intent::Put(part) => add_line(lines, &put_line(board, t, &p.event, part, zone, opening)),
         Intent::Finish(_) => add_finish(lines, sending, &board.row(p.event, *zone)),
         Intent::Restate(_) => add_restate(lines, t, &board.row(p.event, *zone)),
         Intent::Routine(_) => add_line(lines, &routine_line(&p.event, zone)),
     }
 }
 
-/// Adds what an intent says of its zones, as they were written.
+/// Adds what an intent says of its zones, as they were written. What a put opens with is asked once.
 fn add_lines_of(lines: &mut List<Line>, sending: &Sending, p: &Placed) -> Result<(), Oom>
+    requires finish { is_finish p.now.intent ≡ true → have_finish sending.now.intents ≡ true }
     ensures { OnOk result (lines.new ≡ lines.old ++ lines_in_zones sending.now.rows sending.now.minute sending.now.intents p.now.event p.now.intent (zones_of p.now.intent)) }
 {
+    let opening = opening_of(sending, p);
     for zone in zones_of(p.intent) {
-        add_lines_in(lines, sending, p, zone)?;
+        add_lines_in(lines, sending, p, zone, opening)?;
     }
     Ok(())
 }

@@ -1,6 +1,6 @@
 //! What a put says of a zone, and the period that it gives there.
 ghost use Rattle.std.specs.Prelude.{◌≡◌};
-ghost use Rattle.action_planner.specs.Lines.{minute_of, put_period, put_period_on, printed_begin, opening_action, opening_line, continuing_line, unless_ended, joined_row, put_line, row_by_put};
+ghost use Rattle.action_planner.specs.Lines.{minute_of, put_period, put_period_on, printed_begin, opening_action, opening_line_by, continuing_line, unless_ended, joined_row, put_line, row_by_put};
 
 use event_life::same_at;
 use hazard_board::Board;
@@ -53,7 +53,7 @@ pub fn printed_begin(begin: Minute, t: Minute) -> Option<Minute>
 }
 
 /// The action of a put where it meets no row: NEW for a new event; for one that is joined EXA where a live row of it has the same period, else EXB.
-fn opening_action(board: &Board, t: Minute, event: &Event, part: &PutPart) -> Action
+pub fn opening_action(board: &Board, t: Minute, event: &Event, part: &PutPart) -> Action
     ensures { result ≡ opening_action board.now.rows t event.now part.now part.now.target }
 {
     match &part.target {
@@ -68,12 +68,12 @@ fn opening_action(board: &Board, t: Minute, event: &Event, part: &PutPart) -> Ac
     }
 }
 
-/// What a put says of a zone where it meets no row.
-fn opening_line(board: &Board, t: Minute, event: &Event, part: &PutPart, zone: &Zone) -> Line
-    ensures { result ≡ opening_line board.now.rows t event.now part.now zone.now }
+/// What a put says of a zone where it meets no row, by the action that it opens with.
+fn opening_line(t: Minute, event: &Event, part: &PutPart, zone: &Zone, action: Action) -> Line
+    ensures { result ≡ opening_line_by action t event.now part.now zone.now }
 {
     Line {
-        action: opening_action(board, t, event, part),
+        action,
         event: *event,
         zone: *zone,
         begin: Some(minute_of(&part.begin, t)),
@@ -122,12 +122,20 @@ fn joined_row(board: &Board, event: &Event, zone: &Zone, target: &Target) -> Opt
     }
 }
 
-/// What a put says of a zone.
-pub fn put_line(board: &Board, t: Minute, event: &Event, part: &PutPart, zone: &Zone) -> Line
+/// What a put says of a zone, where it opens with this action.
+pub fn put_line(
+    board: &Board,
+    t: Minute,
+    event: &Event,
+    part: &PutPart,
+    zone: &Zone,
+    opening: Action,
+) -> Line
+    requires { opening ≡ opening_action board.now.rows t event.now part.now part.now.target }
     ensures { result ≡ put_line board.now.rows t event.now part.now zone.now }
 {
     match joined_row(board, event, zone, &part.target) {
-        None => opening_line(board, t, event, part, zone),
+        None => opening_line(t, event, part, zone, opening),
         Some(row) => continuing_line(t, event, part, &row),
     }
 }

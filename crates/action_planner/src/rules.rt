@@ -113,10 +113,11 @@ pub fn conflict(
     t: Minute,
     lines: &List<Line>,
 ) -> Result<Option<Refusal>, Oom>
+    requires consistent { IsConsistent board.now.rows t }
     ensures clash { IfOk result (λ found. found ≡ option_map refused_clash (least_clash t (rows_taken board.now.rows t lines.now))) }
     ensures order { IsStrictlySortedBy by_key board.now.rows }
 {
-    let clash = board.conflict(alloc, lines, t)?;
+    let clash = board.conflict_in_zones(alloc, lines, t)?;
     Ok(clash.map(|clash| Refusal::Conflict {
         zone: clash.zone,
         first: clash.first,

@@ -1,9 +1,9 @@
 //! A draft that is sent at a minute, and which rows are overlaid after it: another row that it leaves live is of a higher rank of the family and overlaps them.
-ghost use Rattle.std.specs.Prelude.{◌≡◌, ◌&&◌, ◌||◌, [], map, IfOk, OnOk};
+ghost use Rattle.std.specs.Prelude.{◌≡◌, ◌&&◌, ◌||◌, [], true, map, IfOk, OnOk};
 ghost use Rattle.std.specs.List.{list_any};
 ghost use Rattle.event_life.specs.Higher.{outranks};
 ghost use Rattle.action_planner.specs.Lines.{is_left, row_by_put, rows_by_intent, rows_by_puts, overlays, is_overlaid};
-ghost use Rattle.action_planner.specs.Sending.{Sending as Sent, rows_in, add_row, add_rows, add_by_puts};
+ghost use Rattle.action_planner.specs.Sending.{Sending as Sent, rows_in, add_row, add_rows, add_by_puts, have_finish, is_finish};
 
 use crate::placed::Placed;
 use crate::puts::row_by_put;
@@ -25,19 +25,20 @@ pub struct Sending<'a> {
     board: &'a Board,
     minute: Minute,
     spoken: &'a Spoken<'a>,
+    // The rows that the puts leave, where one of the intents is a finish: no other asks for them.
     put: Zones,
 }
 
 impl<'a> Model for Sending<'a> {
-    ghost use Rattle.std.specs.Prelude.{◌≡◌, []};
+    ghost use Rattle.std.specs.Prelude.{◌≡◌, [], true};
     ghost use Rattle.action_planner.specs.Lines.{rows_by_puts};
-    ghost use Rattle.action_planner.specs.Sending.{Sending as Sent, add_rows};
+    ghost use Rattle.action_planner.specs.Sending.{Sending as Sent, add_rows, have_finish};
 
     ghost Value = { Sent };
 
     ghost view = { λ s. record { rows = s.board.now.rows; minute = s.minute; intents = s.spoken.now } };
 
-    ghost invariant = { λ s. s.put.entries ≡ add_rows [] (rows_by_puts s.board.now.rows s.minute s.spoken.now) };
+    ghost invariant = { λ s. have_finish s.spoken.now ≡ true → s.put.entries ≡ add_rows [] (rows_by_puts s.board.now.rows s.minute s.spoken.now) };
 }
 
 /// Whether the first hazard is of a higher rank of the second's family.
@@ -170,6 +171,39 @@ fn put_rows(alloc: Global, board: &Board, t: Minute, spoken: &Spoken) -> Result<
     Ok(zones)
 }
 
+/// Whether the intent is a finish.
+fn is_finish(intent: &Intent) -> bool
+    ensures { result ≡ is_finish intent.now }
+{
+    match intent {
+        Intent::Finish(_) => true,
+        Intent::Put(_) | Intent::Restate(_) | Intent::Routine(_) => false,
+    }
+}
+
+/// Whether one of the intents is a finish.
+fn have_finish(ps: &[Placed]) -> bool
+    ensures { result ≡ have_finish ps.now }
+{
+    ps.iter().any(|p| is_finish(p.intent))
+}
+
+/// The rows that the puts leave, by their zones, where one of the intents is a finish.
+fn put_rows_for_finish(
+    alloc: Global,
+    board: &Board,
+    t: Minute,
+    spoken: &Spoken,
+) -> Result<Zones, Oom>
+    ensures { IfOk result (λ zones. have_finish spoken.now ≡ true → zones.entries ≡ add_rows [] (rows_by_puts board.now.rows t spoken.now)) }
+{
+    if have_finish(spoken.intents()) {
+        put_rows(alloc, board, t, spoken)
+    } else {
+        Ok(BTreeMap::new(alloc))
+    }
+}
+
 impl<'a> Sending<'a> {
     /// A draft of these intents, sent at a minute over a board. The error is want of memory.
     pub fn new(
@@ -180,7 +214,7 @@ impl<'a> Sending<'a> {
     ) -> Result<Self, Oom>
         ensures { IfOk result (λ sending. sending ≡ record { rows = board.now.rows; minute = minute; intents = spoken.now }) }
     {
-        let put = put_rows(alloc, board, minute, spoken)?;
+        let put = put_rows_for_finish(alloc, board, minute, spoken)?;
         Ok(Sending {
             board,
             minute,
@@ -212,6 +246,7 @@ impl<'a> Sending<'a> {
 
     /// Whether a row of a higher rank of the family is live after the draft, and overlaps this one in its zone.
     pub fn is_overlaid(&self, row: &Row) -> bool
+        requires { have_finish self.now.intents ≡ true }
         ensures { result ≡ is_overlaid self.now.rows self.now.minute self.now.intents row.now }
     {
         let stand = self.board.slice_of(row.zone);

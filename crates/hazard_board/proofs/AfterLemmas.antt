@@ -15,7 +15,7 @@ use Rattle.hazard_types.specs.Hazards.{facts_of}
 use Rattle.hazard_types.proofs.Equality.{zone_one, zone_itself, event_one, family_one, family_itself}
 use Rattle.event_life.specs.Bounds.{IsBefore}
 use Rattle.event_life.specs.Higher.{family_of, is_kin, are_kin}
-use Rattle.event_life.specs.Periods.{ends_after}
+use Rattle.event_life.specs.Periods.{ends_after, overlaps}
 use Rattle.event_life.specs.Products.{by_key, rows_after}
 use Rattle.event_life.proofs.Keys.{by_key-total, key_exact, key_ties}
 use Rattle.event_life.proofs.Puts.{rows_after-sorted}
@@ -53,15 +53,15 @@ record Collide (a b : Row) : Type 0 where
 
 collide_parts : (a b : Row) → collide a b ≡ true → Collide a b
 collide_parts a b h =
-    let p = and_parts (same_zone a.zone b.zone && not a.ended && not b.ended && are_kin a.event.hazard b.event.hazard) _ h in
+    let p = and_parts (same_zone a.zone b.zone && not a.ended && not b.ended && overlaps a.period b.period) _ h in
     let q = and_parts (same_zone a.zone b.zone && not a.ended && not b.ended) _ p.0 in
     let r = and_parts (same_zone a.zone b.zone && not a.ended) _ q.0 in
     let s = and_parts (same_zone a.zone b.zone) _ r.0 in
-    let o = and_parts (ends_after b.period.end a.period.begin) _ p.1 in
-    record { zone = zone_one a.zone b.zone s.0; first_going = not-true a.ended s.1; second_going = not-true b.ended r.1; kin = q.1; first_later = o.0; second_later = o.1 }
+    let o = and_parts (ends_after b.period.end a.period.begin) _ q.1 in
+    record { zone = zone_one a.zone b.zone s.0; first_going = not-true a.ended s.1; second_going = not-true b.ended r.1; kin = p.1; first_later = o.0; second_later = o.1 }
 
 from_parts : (a b : Row) → Collide a b → collide a b ≡ true
-from_parts a b c = rw (c.zone, zone_itself b.zone, c.first_going, c.second_going, c.kin, c.first_later) c.second_later
+from_parts a b c = rw (c.zone, zone_itself b.zone, c.first_going, c.second_going, c.first_later, c.second_later) c.kin
 
 is_kin-turned : (f g : Option (Family × ℕ)) → is_kin f g ≡ true → is_kin g f ≡ true
 is_kin-turned None g h = cc
@@ -111,7 +111,7 @@ none_clash t (row ∷ rows) h =
 live_clash : (t : ℕ) (a b : Row) → AreApart a b → Collide a b → ends_after a.period.end t ≡ true → ends_after b.period.end t ≡ true → clash t a b ≡ true
 live_clash t a b apart c first second =
     let others : same_event a.event b.event ≡ false = false_from_ne_true _ (λ h. apart (key_ties a b c.zone (event_one a.event b.event h))) in
-    rw (c.zone, zone_itself b.zone, others, c.first_going, c.second_going, first, second, c.kin, c.first_later) c.second_later
+    rw (c.zone, zone_itself b.zone, c.first_going, c.second_going, first, second, c.first_later, c.second_later, others) c.kin
 
 -- The rows before, consistent, and those after.
 module _ (rows : List Row) (t : ℕ) (lines : List Line) (up : IsStrictlySortedBy by_key rows) (years : AreOfTheYear lines t) where

@@ -11,8 +11,7 @@ use Rattle.hazard_types.specs.Places.{Place, by_place}
 use Rattle.hazard_types.specs.Same.{same_zone, same_event}
 use Rattle.hazard_types.specs.declared.line.Clash.{Clash}
 use Rattle.hazard_types.specs.declared.line.Row.{Row}
-use Rattle.event_life.specs.Higher.{are_kin}
-use Rattle.event_life.specs.Periods.{is_live}
+use Rattle.event_life.specs.Periods.{is_live, overlaps}
 use Rattle.event_life.specs.Products.{by_key}
 use Rattle.hazard_types.proofs.Equality.{zone_one}
 use Rattle.hazard_types.proofs.OrderLaws.{by_place_total, by_event_total}
@@ -58,10 +57,10 @@ all_kept P Q f p (r ∷ rows) all each = all_step (p r) P Q f p r rows refl (λ 
 
 one_zone : (t : ℕ) (a b : Row) → clash t a b ≡ true → a.zone ≡ b.zone
 one_zone t a b h =
-    let p = and_parts (same_zone a.zone b.zone && not (same_event a.event b.event) && is_live t a && is_live t b && are_kin a.event.hazard b.event.hazard) _ h in
-    let q = and_parts (same_zone a.zone b.zone && not (same_event a.event b.event) && is_live t a && is_live t b) _ p.0 in
-    let r = and_parts (same_zone a.zone b.zone && not (same_event a.event b.event) && is_live t a) _ q.0 in
-    let s = and_parts (same_zone a.zone b.zone && not (same_event a.event b.event)) _ r.0 in
+    let p = and_parts (same_zone a.zone b.zone && is_live t a && is_live t b && overlaps a.period b.period && not (same_event a.event b.event)) _ h in
+    let q = and_parts (same_zone a.zone b.zone && is_live t a && is_live t b && overlaps a.period b.period) _ p.0 in
+    let r = and_parts (same_zone a.zone b.zone && is_live t a && is_live t b) _ q.0 in
+    let s = and_parts (same_zone a.zone b.zone && is_live t a) _ r.0 in
     zone_one a.zone b.zone (and_parts (same_zone a.zone b.zone) _ s.0).0
 
 -- of one row's clashes those with an earlier row come first

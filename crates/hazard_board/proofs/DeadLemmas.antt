@@ -6,12 +6,12 @@ use Rattle.event_life.specs.Higher.{are_kin}
 use Rattle.event_life.specs.Periods.{is_live, overlaps}
 use Rattle.hazard_board.specs.Clashes.{clash, clash_of}
 
-barred : (front l m n o : Bool) → l ≡ false → (front && l && m && n && o) ≡ false
-barred true l m n o is = cc
-barred false l m n o is = refl
+barred : (front l m n o p : Bool) → l ≡ false → (front && l && m && n && o && p) ≡ false
+barred true l m n o p is = cc
+barred false l m n o p is = refl
 
 dead : (t : ℕ) (a b : Row) → is_live t a ≡ false → clash t a b ≡ false
-dead t a b is = barred (same_zone a.zone b.zone && not (same_event a.event b.event)) (is_live t a) (is_live t b) (are_kin a.event.hazard b.event.hazard) (overlaps a.period b.period) is
+dead t a b is = barred (same_zone a.zone b.zone) (is_live t a) (is_live t b) (overlaps a.period b.period) (not (same_event a.event b.event)) (are_kin a.event.hazard b.event.hazard) is
 
 finds_none : (t : ℕ) (a : Row) (rows : List Row) → is_live t a ≡ false → find (clash t a) rows ≡ None
 finds_none t a [] is = refl

@@ -28,10 +28,10 @@ use Rattle.hazard_board.proofs.Turns.{put_held, fresh_longer}
 -- the order
 
 pub by_year_total : IsTotalOrder by_year
-by_year_total = then_total (on_total (λ (e : Event). e.year) nat_cmp_total) by_event_total
+by_year_total = then_total (on_total (λ (e : Event). e.year) nat_cmp_total) (then_total (on_total (λ (e : Event). e.etn) nat_cmp_total) by_event_total)
 
 year_ties : (a b : Event) → by_year a b ≡ Equal → a ≡ b
-year_ties a b h = by_event_ties a b (then_parts (nat_cmp a.year b.year) _ h).1
+year_ties a b h = by_event_ties a b (then_parts (nat_cmp a.etn b.etn) _ (then_parts (nat_cmp a.year b.year) _ h).1).1
 
 year_tied : (a b : Event) → is_eq (by_year a b) ≡ same_event a b
 year_tied a b = alike _ _

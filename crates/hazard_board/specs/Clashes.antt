@@ -1,24 +1,26 @@
 -- Clashes: events of one family that are live in one zone at overlapping periods.
 use Rattle.std.specs.Prelude.{◌&&◌, not, ℕ, Bool, List, [], ◌∷◌, ◌++◌, map, filter, find, Option, Some, None, option_map, if◌then◌else◌}
 use Rattle.std.specs.declared.cmp.Ordering.{Ordering}
-use Rattle.std.specs.List.{list_any}
 use Rattle.std.specs.Option.{option_or}
 use Rattle.std.specs.Ordering.{on, then_cmp, is_lt}
 use Rattle.hazard_types.specs.Orders.{by_event}
-use Rattle.hazard_types.specs.Places.{Place, by_place}
+use Rattle.hazard_types.specs.Places.{by_place}
 use Rattle.hazard_types.specs.Same.{same_zone, same_event}
 use Rattle.hazard_types.specs.declared.line.Clash.{Clash}
-use Rattle.hazard_types.specs.declared.line.Line.{Line}
 use Rattle.hazard_types.specs.declared.line.Row.{Row}
-use Rattle.event_life.specs.Higher.{are_kin}
+use Rattle.event_life.specs.Higher.{are_kin, may_yield}
 use Rattle.event_life.specs.Periods.{is_live, overlaps}
 
 -- both are live in one zone, and their events are two of one family whose periods overlap
 abbrev pub clash : ℕ → Row → Row → Bool
-clash t a b = same_zone a.zone b.zone && not (same_event a.event b.event) && is_live t a && is_live t b && are_kin a.event.hazard b.event.hazard && overlaps a.period b.period
+clash t a b = same_zone a.zone b.zone && is_live t a && is_live t b && overlaps a.period b.period && not (same_event a.event b.event) && are_kin a.event.hazard b.event.hazard
 
 abbrev pub clash_of : Row → Row → Clash
 clash_of a b = record { zone = a.zone; first = a.event; second = b.event }
+
+-- the row is live, and its hazard has a family: no other clashes
+abbrev pub may_clash : ℕ → Row → Bool
+may_clash t row = is_live t row && may_yield row.event.hazard
 
 -- each row with each later one that it clashes with
 abbrev pub clashes : ℕ → List Row → List Clash
@@ -41,10 +43,6 @@ by_clash = then_cmp (on (λ (c : Clash). c.zone) by_place) (then_cmp (on (λ (c 
 abbrev pub first_clash : ℕ → List Row → Option Clash
 first_clash t [] = None
 first_clash t (row ∷ rows) = option_or (option_map (clash_of row) (find (clash t row) rows)) (first_clash t rows)
-
--- the lines speak of the zone
-abbrev pub names_zone : Place → List Line → Bool
-names_zone z lines = list_any (λ (line : Line). same_zone line.zone z) lines
 
 -- of two clashes the one in the earlier zone
 abbrev pub earlier_clash : Option Clash → Option Clash → Option Clash

@@ -1,33 +1,18 @@
 -- What holds of the rows of an office.
 use Rattle.std.specs.Prelude.{◌≡◌, ◌≤◌, ◌==◌, ◌&&◌, not, ℕ, Bool, true, List, [], ◌∷◌, None}
-use Rattle.std.specs.List.{AllByRecursion, list_any, list_all}
+use Rattle.std.specs.List.{AllByRecursion}
 use Rattle.hazard_types.specs.Days.{year_of}
-use Rattle.hazard_types.specs.Places.{Place}
 use Rattle.hazard_types.specs.Same.{same_zone, same_hazard}
 use Rattle.hazard_types.specs.declared.line.Line.{Line}
 use Rattle.hazard_types.specs.declared.line.Row.{Row}
 use Rattle.event_life.specs.Higher.{are_kin}
 use Rattle.event_life.specs.Periods.{ends_after, keeps_open, overlaps}
 use Rattle.event_life.specs.Products.{Product, is_new, rows_with}
-use Rattle.hazard_board.specs.Board.{slice_of}
 use Rattle.hazard_board.specs.Clashes.{least_clash}
 
 -- two rows of one zone and family that no line has ended overlap
 abbrev pub collide : Row → Row → Bool
-collide a b = same_zone a.zone b.zone && not a.ended && not b.ended && are_kin a.event.hazard b.event.hazard && overlaps a.period b.period
-
--- no row collides with a later one
-abbrev pub none_collide : List Row → Bool
-none_collide [] = true
-none_collide (row ∷ rows) = not (list_any (collide row) rows) && none_collide rows
-
--- in no zone do rows collide
-abbrev pub AreApart : List Row → Type 0
-AreApart rows = (z : Place) → none_collide (slice_of z rows) ≡ true
-
--- nor in the zones of the lines
-abbrev pub zones_apart : List Row → List Line → Bool
-zones_apart rows lines = list_all (λ (line : Line). none_collide (slice_of line.zone rows)) lines
+collide a b = same_zone a.zone b.zone && not a.ended && not b.ended && overlaps a.period b.period && are_kin a.event.hazard b.event.hazard
 
 -- the events of two rows are open, with one hazard and number
 abbrev pub share_number : ℕ → Row → Row → Bool

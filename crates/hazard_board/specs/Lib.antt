@@ -7,3 +7,4 @@ pub mod Standing
 pub mod Spots
 pub mod Seats
 pub mod Shelves
+pub mod ByZone

@@ -1,4 +1,4 @@
--- Spots: the event and zone of each row, by year, event and zone. The spots of one event stand together, and lead to its rows.
+-- Spots: the event and zone of each row, by year, number, hazard and zone. The spots of one event stand together, and lead to its rows.
 use Rattle.std.specs.Prelude.{◌≡◌, ◌&&◌, ◌<◌, ◌≤◌, ℕ, Bool, false, List, [], ◌∷◌, filter, find, length, insert, slice_set, Option, Some, None, is_some, Result, Ok, Err}
 use Rattle.std.specs.List.Sorted.{IsStrictlySortedBy}
 use Rattle.std.specs.declared.cmp.Ordering.{Ordering}
@@ -14,9 +14,9 @@ use Rattle.event_life.specs.Products.{row_at}
 use Rattle.hazard_board.specs.Seats.{put_at}
 use Rattle.hazard_board.specs.declared.spots.Spot.{Spot}
 
--- by year, then hazard and number: a new event stands behind those of years before
+-- by year, then number, then hazard: a new event stands near the end
 abbrev pub by_year : Event → Event → Ordering
-by_year = then_cmp (on (λ (e : Event). e.year) nat_cmp) by_event
+by_year = then_cmp (on (λ (e : Event). e.year) nat_cmp) (then_cmp (on (λ (e : Event). e.etn) nat_cmp) by_event)
 
 -- by event, then zone
 abbrev pub by_spot : Spot → Spot → Ordering

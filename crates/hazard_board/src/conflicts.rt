@@ -1,21 +1,22 @@
 //! Clashes of rows.
-ghost use Rattle.std.specs.Prelude.{◌≡◌, ◌∷◌, ◌&&◌, find, option_map, true, IfOk};
-ghost use Rattle.std.specs.List.{list_any};
+ghost use Rattle.std.specs.Prelude.{◌≡◌, ◌∷◌, find, filter, option_map, true, IfOk};
 ghost use Rattle.std.specs.List.Sorted.{IsStrictlySortedBy};
 ghost use Rattle.event_life.specs.Products.{by_key};
-ghost use Rattle.event_life.specs.Higher.{family_of, are_kin};
-ghost use Rattle.hazard_types.specs.Hazards.{facts_of};
+ghost use Rattle.event_life.specs.Higher.{are_kin, may_yield};
 ghost use Rattle.hazard_board.specs.Board.{slice_of};
-ghost use Rattle.hazard_board.specs.Clashes.{clash, clash_of, first_clash, earlier_clash, names_zone};
-ghost use Rattle.hazard_board.specs.Consistent.{collide, none_collide, zones_apart, AreApart};
+ghost use Rattle.hazard_board.specs.ByZone.{lines_of};
+ghost use Rattle.hazard_board.specs.Clashes.{clash, clash_of, first_clash, earlier_clash, may_clash};
+ghost use Rattle.hazard_board.specs.Consistent.{collide, EachToLater};
 ghost use Rattle.hazard_board.specs.Taken.{rows_taken};
 
+use crate::by_zone::{lines_by_zone, lines_in};
 use crate::lines::{rows_taken, zone_taken};
 use crate::shelves::Shelves;
 use event_life::{is_live, overlaps};
 use hazard_types::desk_hazards::facts;
 use hazard_types::{Clash, Hazard, Line, Minute, Oom, Row, Zone};
-use std::alloc::Global;
+use std::alloc::{AllocError, Global};
+use std::collections::BTreeSet;
 
 /// Whether two hazards are of one family.
 fn are_kin(g: &Hazard, h: &Hazard) -> bool
@@ -30,16 +31,33 @@ fn are_kin(g: &Hazard, h: &Hazard) -> bool
     *family == *other
 }
 
+/// Whether the desk issues the hazard, and it has a family.
+fn has_family(h: &Hazard) -> bool
+    ensures { result ≡ may_yield h.now }
+{
+    match facts(*h) {
+        Some(known) => known.family.is_some(),
+        None => false,
+    }
+}
+
+/// Whether the row is live, with a hazard that has a family. No other clashes.
+fn may_clash(t: Minute, row: &Row) -> bool
+    ensures { result ≡ may_clash t row.now }
+{
+    is_live(row, t) && has_family(&row.event.hazard)
+}
+
 /// Whether both rows are live in one zone, with events of one family whose periods overlap.
 fn clash(t: Minute, a: &Row, b: &Row) -> bool
     ensures { result ≡ clash t a.now b.now }
 {
     a.zone == b.zone
-        && a.event != b.event
         && is_live(a, t)
         && is_live(b, t)
-        && are_kin(&a.event.hazard, &b.event.hazard)
         && overlaps(&a.period, &b.period)
+        && a.event != b.event
+        && are_kin(&a.event.hazard, &b.event.hazard)
 }
 
 /// The first of the rows behind this one that clashes with it: none where this one is not live. Only its own zone's are looked at.
@@ -79,56 +97,14 @@ fn first_clash(rows: &[Row], t: Minute) -> Option<Clash>
     None
 }
 
-/// Whether both rows stand in one zone, ended by no line, with events of one family whose periods overlap.
-fn collide(a: &Row, b: &Row) -> bool
-    ensures { result ≡ collide a.now b.now }
+/// The rows that may clash, of some.
+fn those_that_may_clash(alloc: Global, rows: &[Row], t: Minute) -> Result<Vec<Row>, AllocError>
+    ensures { IfOk result (λ some. some.items ≡ filter (may_clash t) rows.now) }
 {
-    a.zone == b.zone
-        && !a.ended
-        && !b.ended
-        && are_kin(&a.event.hazard, &b.event.hazard)
-        && overlaps(&a.period, &b.period)
-}
-
-/// Whether the row collides with one of the others. A row that a line has ended does not.
-fn collides(row: &Row, others: &[Row]) -> bool
-    ensures { result ≡ list_any (collide row.now) others.now }
-{
-    if row.ended {
-        return false;
-    }
-    others.iter().any(|other| collide(row, other))
-}
-
-/// Whether no row collides with a later one.
-fn none_collide(rows: &[Row]) -> bool
-    ensures { result ≡ none_collide rows.now }
-{
-    for (place, row) in rows.iter().enumerate() {
-        if collides(row, &rows[place + 1..]) {
-            return false;
-        }
-    }
-    true
-}
-
-/// Whether no rows collide in the zones of the lines.
-fn zones_apart(rows: &Shelves, lines: &[Line]) -> bool
-    ensures { result ≡ zones_apart rows.now.rows lines.now }
-{
-    for line in lines {
-        if !none_collide(rows.slice_of(&line.zone)) {
-            return false;
-        }
-    }
-    true
-}
-
-/// Whether no rows collide in the zones of the lines, where none did anywhere before them.
-pub fn still_apart(apart: bool, rows: &Shelves, lines: &[Line]) -> bool
-    ensures { result ≡ (apart && zones_apart rows.now.rows lines.now) }
-{
-    apart && zones_apart(rows, lines)
+    rows.iter()
+        .filter(|row| may_clash(t, row))
+        .copied()
+        .collect(alloc)
 }
 
 /// Of two clashes the one in the earlier zone.
@@ -150,43 +126,42 @@ fn earlier_clash(best: Option<Clash>, found: Option<Clash>) -> Option<Clash>
     }
 }
 
-/// Whether one of the lines is of the zone.
-fn names_zone(z: &Zone, lines: &[Line]) -> bool
-    ensures { result ≡ names_zone z.now lines.now }
-{
-    lines.iter().any(|line| line.zone == *z)
-}
-
-/// The first clash in a zone after the lines.
+/// The first clash in a zone after the lines, of which these are the zone's own.
 fn clash_in(
     alloc: Global,
     rows: &Shelves,
     lines: &[Line],
+    own: &[Line],
     t: Minute,
     z: &Zone,
 ) -> Result<Option<Clash>, Oom>
-    requires { IsStrictlySortedBy by_key rows.now.rows }
+    requires order { IsStrictlySortedBy by_key rows.now.rows }
+    requires own { own.now ≡ lines_of z.now lines.now }
     ensures { IfOk result (λ found. found ≡ first_clash t (slice_of z.now (rows_taken rows.now.rows t lines.now))) }
 {
-    let after = zone_taken(alloc, rows, lines, t, z)?;
-    Ok(first_clash(&after, t))
+    let after = zone_taken(alloc, rows, lines, own, t, z)?;
+    let some = those_that_may_clash(alloc, &after, t)?;
+    Ok(first_clash(&some, t))
 }
 
-/// The first clash after the lines, of rows of which none collide before them: only the zones of the lines are looked at.
-fn clash_in_zones(
+/// The first clash after the lines, of rows of which no two of one zone and family that no line has ended overlap: only the zones of the lines are looked at.
+pub fn clash_in_zones(
     alloc: Global,
     rows: &Shelves,
     lines: &[Line],
     t: Minute,
 ) -> Result<Option<Clash>, Oom>
     requires order { IsStrictlySortedBy by_key rows.now.rows }
-    requires apart { AreApart rows.now.rows }
+    requires apart { EachToLater (λ a b. collide a b ≡ true → ⊥) rows.now.rows }
     ensures { IfOk result (λ found. found ≡ first_clash t (rows_taken rows.now.rows t lines.now)) }
 {
+    let zones = lines_by_zone(alloc, lines)?;
+    let mut seen = BTreeSet::new(alloc);
     let mut best = None;
-    for (place, line) in lines.iter().enumerate() {
-        if !names_zone(&line.zone, &lines[..place]) {
-            let found = clash_in(alloc, rows, lines, t, &line.zone)?;
+    for line in lines {
+        if seen.insert(line.zone)? {
+            let own = lines_in(&zones, &line.zone);
+            let found = clash_in(alloc, rows, lines, own, t, &line.zone)?;
             best = earlier_clash(best, found);
         }
     }
@@ -194,7 +169,7 @@ fn clash_in_zones(
 }
 
 /// The first clash after the lines, in whatever zone it is.
-fn clash_anywhere(
+pub fn clash_anywhere(
     alloc: Global,
     rows: &Shelves,
     lines: &[Line],
@@ -205,23 +180,4 @@ fn clash_anywhere(
 {
     let after = rows_taken(alloc, rows, lines, t)?;
     Ok(first_clash(&after, t))
-}
-
-/// The first clash after the lines. Where no rows collide before them, only the zones of the lines are looked at.
-pub fn clash_after(
-    alloc: Global,
-    rows: &Shelves,
-    lines: &[Line],
-    t: Minute,
-    apart: bool,
-) -> Result<Option<Clash>, Oom>
-    requires order { IsStrictlySortedBy by_key rows.now.rows }
-    requires apart { apart ≡ true → AreApart rows.now.rows }
-    ensures { IfOk result (λ found. found ≡ first_clash t (rows_taken rows.now.rows t lines.now)) }
-{
-    if apart {
-        clash_in_zones(alloc, rows, lines, t)
-    } else {
-        clash_anywhere(alloc, rows, lines, t)
-    }
 }

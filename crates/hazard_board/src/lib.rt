@@ -1,7 +1,7 @@
 //! The board: the rows of the events that were opened, by zone, then event.
 #![tactic(auto)]
 
-ghost use Rattle.std.specs.Prelude.{◌≡◌, ◌+◌, ◌≤◌, ◌<◌, [], find, IfOk, OnOk, OnErr, IsTrue};
+ghost use Rattle.std.specs.Prelude.{◌≡◌, ◌+◌, ◌≤◌, ◌<◌, [], find, IfOk, OnOk, OnErr, IsTrue, true};
 ghost use Rattle.std.specs.List.Sorted.{IsStrictlySortedBy};
 ghost use Rattle.hazard_types.specs.Same.{same_event};
 ghost use Rattle.event_life.specs.Products.{by_key, row_at, has_rows, going_in, rows_after};
@@ -9,9 +9,11 @@ ghost use Rattle.event_life.specs.Shown.{shown_at};
 ghost use Rattle.event_life.specs.Reordered.{are_lawful};
 ghost use Rattle.hazard_board.specs.Board.{has_period, slice_of, live_in, by_row_event, openings};
 ghost use Rattle.hazard_board.specs.Clashes.{clashes, least_clash, by_clash};
+ghost use Rattle.hazard_board.specs.Consistent.{collide, EachToLater};
 ghost use Rattle.hazard_board.specs.Standing.{AreStandingOf};
 ghost use Rattle.hazard_board.specs.Taken.{rows_taken};
 
+mod by_zone;
 mod conflicts;
 mod laws;
 mod lines;
@@ -21,7 +23,7 @@ mod shelves;
 mod spots;
 mod standing;
 
-use conflicts::{clash_after, still_apart};
+use conflicts::{clash_anywhere, clash_in_zones};
 use hazard_types::{Clash, Event, Hazard, Line, List, Minute, Oom, Period, Row, Zone};
 pub use laws::{
     consistent_rows_have_one_open_event, consistent_rows_stay_consistent, lawful_lines_are_taken,
@@ -29,6 +31,7 @@ pub use laws::{
     products_keep_rows_consistent, read_rows_are_consistent,
 };
 use lines::bring_lines;
+pub use lines::openings;
 use open_events::{of_hazard, open_event};
 use shelves::{Shelves, live};
 use spots::{Spot, first_row, has_period};
@@ -44,17 +47,14 @@ pub struct Board {
     standing: Vec<Standing>,
     // Where the events have rows, ended ones among them: the event and zone of each row, by event.
     spots: Vec<Spot>,
-    // No rows of one zone and family that no line has ended overlap. Then only the zones of a product's lines can come to have a clash.
-    apart: bool,
 }
 
 impl Model for Board {
-    ghost use Rattle.std.specs.Prelude.{◌≡◌, ◌-◌, min, true};
+    ghost use Rattle.std.specs.Prelude.{◌≡◌, ◌-◌, min};
     ghost use Rattle.std.specs.List.Sorted.{IsStrictlySortedBy};
     ghost use Rattle.std.specs.Vec.{vec_len, vec_capacity};
     ghost use Rattle.event_life.specs.Products.{by_key};
     ghost use Rattle.hazard_board.specs.Board.{Posted};
-    ghost use Rattle.hazard_board.specs.Consistent.{AreApart};
     ghost use Rattle.hazard_board.specs.Spots.{AreSpots};
     ghost use Rattle.hazard_board.specs.Standing.{AreStanding};
 
@@ -62,7 +62,7 @@ impl Model for Board {
 
     ghost view = { λ b. record { rows = b.rows.rows; spare = min b.rows.spare (min (vec_capacity b.standing - vec_len b.standing) (vec_capacity b.spots - vec_len b.spots)) } };
 
-    ghost invariant = { λ b. IsStrictlySortedBy by_key b.rows.rows × AreStanding b.rows.rows b.standing.items × (b.apart ≡ true → AreApart b.rows.rows) × AreSpots b.rows.rows b.spots.items };
+    ghost invariant = { λ b. IsStrictlySortedBy by_key b.rows.rows × AreStanding b.rows.rows b.standing.items × AreSpots b.rows.rows b.spots.items };
 }
 
 impl Board {
@@ -74,7 +74,6 @@ impl Board {
             rows: Shelves::new(alloc),
             standing: Vec::new(alloc),
             spots: Vec::new(alloc),
-            apart: true,
         }
     }
 
@@ -169,7 +168,6 @@ impl Board {
         let lines = lines.as_slice();
         bring_lines(&mut self.rows, &mut self.spots, lines, t);
         settle(&mut self.standing, &self.rows, &self.spots, lines);
-        self.apart = still_apart(self.apart, &self.rows, lines);
     }
 
     /// The least clash after the lines, with NumberHeld left aside: two live rows of one zone whose events are of one family and whose periods overlap.
@@ -183,6 +181,21 @@ impl Board {
         ensures order { IsStrictlySortedBy by_clash (clashes t (rows_taken self.now.rows t lines.now)) }
         ensures all_in_order { IsStrictlySortedBy by_key self.now.rows }
     {
-        clash_after(alloc, &self.rows, lines.as_slice(), t, self.apart)
+        clash_anywhere(alloc, &self.rows, lines.as_slice(), t)
+    }
+
+    /// The same, for rows of which no two of one zone and family that no line has ended overlap: only the zones of the lines are looked at.
+    pub fn conflict_in_zones(
+        &self,
+        alloc: Global,
+        lines: &List<Line>,
+        t: Minute,
+    ) -> Result<Option<Clash>, Oom>
+        requires apart { EachToLater (λ a b. collide a b ≡ true → ⊥) self.now.rows }
+        ensures value { IfOk result (λ found. found ≡ least_clash t (rows_taken self.now.rows t lines.now)) }
+        ensures order { IsStrictlySortedBy by_clash (clashes t (rows_taken self.now.rows t lines.now)) }
+        ensures all_in_order { IsStrictlySortedBy by_key self.now.rows }
+    {
+        clash_in_zones(alloc, &self.rows, lines.as_slice(), t)
     }
 }

@@ -3,7 +3,9 @@ ghost use Rattle.std.specs.Prelude.{◌≡◌, ◌≤◌, ◌<◌, ◌+◌, leng
 ghost use Rattle.std.specs.List.Sorted.{IsStrictlySortedBy};
 ghost use Rattle.std.specs.Vec.{vec_capacity};
 ghost use Rattle.event_life.specs.Products.{by_key, life_of};
-ghost use Rattle.hazard_board.specs.Board.{slice_of};
+ghost use Rattle.event_life.specs.Lives.{opens};
+ghost use Rattle.hazard_board.specs.Board.{openings, slice_of};
+ghost use Rattle.hazard_board.specs.ByZone.{lines_of};
 ghost use Rattle.hazard_board.specs.Spots.{AreSpots};
 ghost use Rattle.hazard_board.specs.Taken.{wanted, left_on, row_left, put_if, rows_taken, taken_in_turn};
 
@@ -135,24 +137,38 @@ pub fn rows_taken(alloc: Global, rows: &Shelves, lines: &[Line], t: Minute) -> R
     Ok(after)
 }
 
-/// The rows of a zone after the lines, each of which meets the rows before them.
+/// The rows of a zone after the lines, each of which meets the rows before them. Of the lines only the zone's own are looked at.
 pub fn zone_taken(
     alloc: Global,
     rows: &Shelves,
     lines: &[Line],
+    own: &[Line],
     t: Minute,
     z: &Zone,
 ) -> Result<Vec<Row>, Oom>
-    requires { IsStrictlySortedBy by_key rows.now.rows }
+    requires order { IsStrictlySortedBy by_key rows.now.rows }
+    requires own { own.now ≡ lines_of z.now lines.now }
     ensures items { IfOk result (λ after. after.items ≡ slice_of z.now (rows_taken rows.now.rows t lines.now)) }
     ensures order { IfOk result (λ after. IsStrictlySortedBy by_key after.items) }
 {
     let mut after = Vec::from_slice(alloc, rows.slice_of(z))?;
-    for line in lines {
-        if line.zone == *z {
-            let row = row_left(rows, line, t);
-            put_if(&mut after, &row)?;
-        }
+    for line in own {
+        let row = row_left(rows, line, t);
+        put_if(&mut after, &row)?;
     }
     Ok(after)
+}
+
+/// Whether a line of the action opens a row: NEW, EXA and EXB.
+fn opens(action: &Action) -> bool
+    ensures { result ≡ opens action.now }
+{
+    matches!(action, Action::New | Action::Exa | Action::Exb)
+}
+
+/// How many of the lines open a row: for so many rows memory is wanted where they are applied.
+pub fn openings(lines: &[Line]) -> usize
+    ensures { result ≡ openings lines.now }
+{
+    lines.iter().filter(|line| opens(&line.action)).count()
 }

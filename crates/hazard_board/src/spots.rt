@@ -21,11 +21,11 @@ pub struct Spot {
     pub zone: Zone,
 }
 
-/// How two events stand in the order by year, then hazard and number.
+/// How two events stand in the order by year, then number, then hazard.
 fn order_by_year(a: &Event, b: &Event) -> Ordering
     ensures { result ≡ by_year a.now b.now }
 {
-    a.year.cmp(&b.year).then(a.order(b))
+    a.year.cmp(&b.year).then(a.etn.cmp(&b.etn)).then(a.order(b))
 }
 
 /// How two spots stand in the order by event, then zone.

@@ -1,11 +1,12 @@
 -- A day at the desk, and what may be sent on it.
-use Rattle.std.specs.Prelude.{◌≡◌, ◌≤◌, ◌==◌, ◌||◌, ◌&&◌, ℕ, Bool, true, false, List, fold, length, count_by, min, if◌then◌else◌, Option, Some, None, unwrap_or}
+use Rattle.std.specs.Prelude.{◌≡◌, ◌≤◌, ◌+◌, ◌==◌, ◌||◌, ◌&&◌, ℕ, Bool, true, false, List, [], fold, length, get_or, count_by, min, if◌then◌else◌, Option, Some, None, unwrap_or}
 use Rattle.std.specs.List.{All, AllByRecursion, AllPairs}
 use Rattle.hazard_types.specs.contracts.codes.CategoryPartialEq.TheImpl as category
 use Rattle.hazard_types.specs.declared.codes.Category.{Category}
 use Rattle.hazard_types.specs.declared.codes.Category.TheVariants.{Flw, Fls}
 use Rattle.hazard_types.specs.declared.line.Row.{Row}
 use Rattle.hazard_types.specs.declared.request.Intent.{Intent}
+use Rattle.hazard_types.specs.declared.request.Plan.{Plan}
 use Rattle.hazard_types.specs.declared.request.Sent.{Sent}
 use Rattle.event_numbers.specs.declared.Count.{Count}
 use Rattle.segmenter.specs.Said.{IsApart}
@@ -57,3 +58,15 @@ letters_of products n = min (count_by (corrects n) products) 24
 -- the product that a correction counts for
 abbrev pub original_of : Sent → ℕ
 original_of s = unwrap_or s.original s.number
+
+-- the number of a product behind so many, as far as 32 bits go
+abbrev pub number_behind : ℕ → ℕ
+number_behind before = min (before + 1) 4294967295
+
+-- the product of a plan that is sent at a minute behind so many others: of no text yet, for another where it corrects one
+abbrev pub sent_of : ℕ → Plan → ℕ → Option ℕ → Sent
+sent_of before plan t original = record { number = number_behind before; category = plan.category; time = t; original = original; lines = plan.lines; texts = plan.texts; text = [] }
+
+-- the product stands at the place
+abbrev pub IsAt : List Sent → ℕ → Sent → Type 0
+IsAt products place s = get_or products place s ≡ s

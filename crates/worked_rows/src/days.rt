@@ -1,5 +1,5 @@
 //! A day at the desk: the board, the numbers and the products after the drafts that were sent.
-ghost use Rattle.std.specs.Prelude.{◌≡◌, ◌<◌, ◌≤◌, [], length, slice_get, None, Some, Err, IfOk, OnOk, OnErr};
+ghost use Rattle.std.specs.Prelude.{◌≡◌, ◌<◌, ◌≤◌, [], ◌∷◌, ◌++◌, length, None, Some, Err, IfOk, OnOk, OnErr};
 ghost use Rattle.std.specs.List.{AllByRecursion};
 ghost use Rattle.hazard_types.specs.declared.or.Or.TheVariants.{No};
 ghost use Rattle.hazard_types.specs.declared.refusal.Refusal.{Refusal as Refused};
@@ -10,7 +10,9 @@ ghost use Rattle.hazard_board.specs.Standing.{AreStandingOf};
 ghost use Rattle.action_planner.specs.Offences.{broken};
 ghost use Rattle.action_planner.specs.Placed.{placed, opened};
 ghost use Rattle.action_planner.specs.Plans.{IsPlan};
-ghost use Rattle.worked_rows.specs.Days.{MaySend};
+ghost use Rattle.action_planner.specs.Corrections.{IsCorrection, broken_correction};
+ghost use Rattle.hazard_types.specs.declared.request.Sent.{Sent as AnySent};
+ghost use Rattle.worked_rows.specs.Days.{IsAt, MaySend, last_of, letters_of, number_behind, original_of, sent_of};
 ghost use Rattle.worked_rows.specs.Written.{CanBeWritten};
 
 use crate::series::{last_of, letters_of, original_of};
@@ -21,7 +23,7 @@ use action_planner::{
 };
 use event_life::rows_stay_in_order;
 use event_numbers::Numbers;
-use hazard_board::{Board, Standing};
+use hazard_board::{Board, Standing, openings};
 use hazard_types::{Draft, EventTexts, Hazard, List, Minute, Oom, Or, Plan, Refusal, Row, Sent};
 use std::alloc::Global;
 use std::marker::Model;
@@ -49,7 +51,17 @@ impl Model for Day {
     ghost invariant = { λ d. Stands d.board.rows d.numbers.counts d.last × IsStrictlySortedBy by_key d.board.rows × AllByRecursion HasApart d.products };
 }
 
-/// The product of a plan, behind so many others.
+/// The number of a product behind so many, as far as 32 bits go.
+fn number_behind(before: usize) -> u32
+    ensures { result ≡ number_behind before }
+{
+    match u32::try_from(before) {
+        Ok(before) => before.saturating_add(1),
+        Err(_) => u32::MAX,
+    }
+}
+
+/// The product of a plan, behind so many others. Its text is not written.
 fn sent_of(
     alloc: Global,
     before: usize,
@@ -57,9 +69,9 @@ fn sent_of(
     t: Minute,
     original: Option<u32>,
 ) -> Result<Sent, Oom>
-    ensures { IfOk result (λ sent. sent.lines ≡ plan.now.lines) }
+    ensures { IfOk result (λ sent. sent ≡ sent_of before plan.now t original) }
 {
-    let number = u32::try_from(before).unwrap_or(u32::MAX).saturating_add(1);
+    let number = number_behind(before);
     let lines = plan.lines.clone()?;
     let texts = plan.texts.clone()?;
     Ok(Sent {
@@ -125,6 +137,7 @@ impl Day {
         ensures written { IfOk result (λ plan. AllByRecursion CanBeWritten plan.segments) }
         ensures rows { IfOk result (λ plan. self.new.rows ≡ rows_after self.old.rows t plan.lines) }
         ensures counts { OnOk result (DrawsAll self.old.counts self.new.counts (opened (placed self.old.counts t draft.now.intents))) }
+        ensures products { IfOk result (λ plan. self.new.products ≡ self.old.products ++ sent_of (length self.old.products) plan t None ∷ []) }
         ensures last { OnOk result (self.new.last ≡ t) }
         ensures kept { OnOk result (broken draft.now.category self.old.rows t (placed self.old.counts t draft.now.intents) ≡ None) }
         ensures refused { (r : Refused) → result ≡ Err (No r) → broken draft.now.category self.old.rows t (placed self.old.counts t draft.now.intents) ≡ Some r }
@@ -137,7 +150,7 @@ impl Day {
         lines_have_four_digits();
         rows_stay_in_order();
         let plan = plan(alloc, &self.board, &self.numbers, draft, t)?;
-        self.board.reserve(plan.lines.len())?;
+        self.board.reserve(openings(plan.lines.as_slice()))?;
         self.numbers.reserve(plan.opened.len())?;
         let sent = sent_of(alloc, self.products.len(), &plan, t, None)?;
         self.products.push(sent)?;
@@ -158,9 +171,14 @@ impl Day {
         requires place { place < length self.old.products }
         requires later { self.old.last ≤ t }
         requires soon { t ≤ 52000000 }
+        ensures plan { IfOk result (λ plan. (s : AnySent) → IsAt self.old.products place s → IsCorrection self.old.rows t s (letters_of self.old.products (original_of s)) texts.now plan) }
         ensures written { IfOk result (λ plan. AllByRecursion CanBeWritten plan.segments) }
         ensures rows { IfOk result (λ plan. self.new.rows ≡ rows_after self.old.rows t plan.lines) }
+        ensures counts { OnOk result (self.new.counts ≡ self.old.counts) }
+        ensures products { IfOk result (λ plan. (s : AnySent) → IsAt self.old.products place s → self.new.products ≡ self.old.products ++ sent_of (length self.old.products) plan t (Some (original_of s)) ∷ []) }
         ensures last { OnOk result (self.new.last ≡ t) }
+        ensures kept { OnOk result ((s : AnySent) → IsAt self.old.products place s → broken_correction self.old.rows t s (last_of self.old.products s.category) (letters_of self.old.products (original_of s)) texts.now ≡ None) }
+        ensures refused { (r : Refused) → result ≡ Err (No r) → (s : AnySent) → IsAt self.old.products place s → broken_correction self.old.rows t s (last_of self.old.products s.category) (letters_of self.old.products (original_of s)) texts.now ≡ Some r }
         ensures unchanged { OnErr result (self.new ≡ self.old) }
     {
         what_stands_stands_later();
@@ -174,7 +192,7 @@ impl Day {
         let last = last_of(products, before.category);
         let letters = letters_of(products, original);
         let correction = plan_correction(alloc, &self.board, before, last, letters, texts, t)?;
-        self.board.reserve(correction.lines.len())?;
+        self.board.reserve(openings(correction.lines.as_slice()))?;
         let sent = sent_of(alloc, products.len(), &correction, t, Some(original))?;
         self.products.push(sent)?;
         self.board.apply(&correction.lines, t);

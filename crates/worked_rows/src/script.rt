@@ -1,5 +1,5 @@
 //! The script of a day: each line's step is worked, and answered by text.
-ghost use Rattle.std.specs.Prelude.{IsTrue};
+ghost use Rattle.std.specs.Prelude.{◌↔◌, IsTrue};
 ghost use Rattle.worked_rows.specs.Days.{MaySend};
 
 use crate::answers::{board_text, plan_text, refusal_text, standing_text, told_text};
@@ -49,7 +49,7 @@ fn note(alloc: Global, text: &str) -> Result<String, Oom> {
 
 /// Whether a draft may be sent at a minute, after what was sent on the day.
 fn may_be_sent(day: &Day, draft: &Draft, t: Minute) -> bool
-    ensures { IsTrue result → MaySend draft.now.category draft.now.intents day.now.last t }
+    ensures { IsTrue result ↔ MaySend draft.now.category draft.now.intents day.now.last t }
 {
     day.last().get() <= t.get() && t.get() <= LAST_MINUTE && may_be_planned(draft)
 }

@@ -1,15 +1,11 @@
 -- Where no rule is broken the lines are those of the cases, and lawful; a rule that is named is the first that is broken.
-use Rattle.std.proofs.Common.{◌≡◌, ◌∙◌, List, Option, Some, None, ap, sym, subst, rules}
+use Rattle.std.proofs.Common.{◌≡◌, ◌∙◌, Option, Some, None, ap, rules}
 use Rattle.std.specs.List.Sorted.{IsStrictlySortedBy}
-use Rattle.hazard_types.specs.declared.line.Line.{Line}
-use Rattle.hazard_types.specs.declared.line.Row.{Row}
 use Rattle.hazard_types.specs.declared.refusal.Refusal.{Refusal}
 use Rattle.event_life.specs.Products.{by_key}
 use Rattle.action_planner.specs.Placed.{placed}
 use Rattle.action_planner.specs.Lines.{planned_lines}
-use Rattle.action_planner.specs.Offences.{broken}
 use Rattle.action_planner.specs.Rules.{broken_early, broken_late}
-use Rattle.action_planner.specs.Sending.{Sending}
 use Rattle.action_planner.proofs.PlanLemmas.{lawful_plan, cases_of_plan}
 use Rattle.action_planner.proofs.RulesLemmas.{early_named, late_named}
 use Rattle.action_planner.proofs.planning.plan.Goals as goal

@@ -8,9 +8,6 @@ use Rattle.event_life.specs.Products.{by_key, rows_after}
 use Rattle.event_life.proofs.Puts.{rows_after-sorted}
 use Rattle.event_life.specs.Reordered.{are_lawful}
 use Rattle.hazard_board.specs.Board.{Posted, openings}
-use Rattle.std.proofs.lemmas.Bool.{and_parts}
-use Rattle.hazard_board.specs.Consistent.{zones_apart}
-use Rattle.hazard_board.proofs.SliceLemmas.{apart_after}
 use Rattle.hazard_board.specs.Standing.{latest_end, end_in, touched, newly}
 use Rattle.hazard_board.specs.Taken.{taken_in_turn}
 use Rattle.hazard_board.proofs.LatestLemmas.{few_come, kept_or_set}
@@ -34,7 +31,7 @@ bring_lines-requires-clause-places c =
     let lawful : are_lawful c.self.inside.rows.rows c.args.t c.args.lines.now ≡ true = subst (λ (p : Posted). are_lawful p.rows c.args.t c.args.lines.now ≡ true) (sym c.self.view_is) c.requires.lawful in
     let long = grows c.args.t c.self.inside.rows.rows c.args.lines.now c.as_slice-lines.result.now c.as_slice-lines.ensures lawful c.self.invariant.0 in
     let spare = ap (λ (p : Posted). p.spare) c.self.view_is in
-    omega (arith, long, spare, c.requires.spare, c.self.invariant.3.count, c.self.inside.spots.ok.0, c.self.inside.spots.ok.1)
+    omega (arith, long, spare, c.requires.spare, c.self.invariant.2.count, c.self.inside.spots.ok.0, c.self.inside.spots.ok.1)
 
 lawful : (c : After-bring_lines) → are_lawful c.self.inside.rows.rows c.args.t c.args.lines.now ≡ true
 lawful c = subst (λ (p : Posted). are_lawful p.rows c.args.t c.args.lines.now ≡ true) (sym c.self.view_is) c.requires.lawful
@@ -66,13 +63,9 @@ invariant_of-self c =
     let ends : (e : Event) → end_in c.settle.new.standing.items e ≡ latest_end now e = λ e.
     c.settle.ensures.ends e
     ∙ ap (λ (some : List Line). cond (touched some e) (latest_end now e) (end_in c.self.inside.standing.items e)) c.as_slice-lines.ensures
-    ∙ kept_or_set c.args.t e rows lines now c.self.inside.standing.items turns (c.self.invariant.1.latest e) in
-    let still : zones_apart now c.as_slice-lines.result.now ≡ zones_apart now lines = ap (zones_apart now) c.as_slice-lines.ensures in (
+    ∙ kept_or_set c.args.t e rows lines now c.self.inside.standing.items turns (c.self.invariant.1.latest e) in (
       ordered (goal.at.invariant_of-self c).After-bring_lines,
       record { order = c.settle.ensures.order; latest = ends },
-      (λ is.
-          let both = and_parts c.self.inside.apart _ (sym c.still_apart-self-inside.ensures ∙ is) in
-          apart_after c.args.t rows now lines turns (c.self.invariant.2 both.0) (sym still ∙ both.1)),
       c.bring_lines.ensures.spots,
     )
 
@@ -88,4 +81,4 @@ returns-clause-spare c =
     let spare = ap (λ (p : Posted). p.spare) c.self.view_is in
     let count = c.bring_lines.ensures.spots.count in
     let counted = ap (newly c.self.inside.standing.items) c.as_slice-lines.ensures in
-    omega (arith, long, few, items, spare, count, counted, c.self.invariant.3.count, c.bring_lines.ensures.capacity, c.bring_lines.ensures.spare, c.settle.ensures.capacity, c.settle.ensures.length, c.self.inside.spots.ok.0, c.bring_lines.new.spots.ok.0)
+    omega (arith, long, few, items, spare, count, counted, c.self.invariant.2.count, c.bring_lines.ensures.capacity, c.bring_lines.ensures.spare, c.settle.ensures.capacity, c.settle.ensures.length, c.self.inside.spots.ok.0, c.bring_lines.new.spots.ok.0)

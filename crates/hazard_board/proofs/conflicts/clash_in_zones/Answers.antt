@@ -1,26 +1,55 @@
 -- Each zone gives its first clash, and the earliest zone with one decides.
-use Rattle.std.proofs.Common.{◌∙◌, ◌+◌, take_all, List, sym, subst, take}
+use Rattle.std.proofs.Common.{◌≡◌, ◌∙◌, ◌+◌, not, Bool, true, false, refl, take_all, List, sym, subst, ap, take}
+use Rattle.std.specs.BTreeMap.{is_at}
+use Rattle.std.specs.List.{list_any}
+use Rattle.hazard_types.specs.Places.{Place, by_place}
 use Rattle.hazard_types.specs.declared.line.Line.{Line}
+use Rattle.hazard_types.proofs.OrderLaws.{by_place_total, by_place_ties}
+use Rattle.hazard_board.specs.ByZone.{LinesByZone, lines_at}
 use Rattle.hazard_board.specs.Taken.{rows_taken}
+use Rattle.hazard_board.proofs.ByZoneLemmas.{lines_found}
+use Rattle.hazard_board.proofs.Keyed.{has_after}
+use Rattle.hazard_board.proofs.QuietRows.{quiet_elsewhere}
+use Rattle.hazard_board.proofs.SliceLemmas.{names_zone}
 use Rattle.hazard_board.proofs.Turns.{rows_taken-sorted}
-use Rattle.hazard_board.proofs.SliceLemmas.{IsFirstIn, first_still, first_new, first_in_all, quiet_elsewhere}
+use Rattle.hazard_board.proofs.ZoneClashes.{IsFirstIn, first_still, first_new, first_in_all, seen_more}
 use Rattle.hazard_board.proofs.conflicts.clash_in_zones.Goals as goal
-use Rattle.hazard_board.proofs.conflicts.clash_in_zones.Goals.{then-not-names_zone+in_ok-found, else-not-names_zone}
+use Rattle.hazard_board.proofs.conflicts.clash_in_zones.Goals.{then-branch+in_ok-found, else-branch}
 
-pub loop-place-preserved : goal.loop-place-preserved
-loop-place-preserved c =
+pub clash_in-requires-clause-own : goal.clash_in-requires-clause-own
+clash_in-requires-clause-own c =
+    c.lines_in-own.ensures
+    ∙ ap (λ (zones : LinesByZone). lines_at zones c.line-item.result.zone) c.in_ok-zones.ensures
+    ∙ lines_found c.args.lines.now c.line-item.result.zone
+
+not_new : (b : Bool) → not b ≡ false → b ≡ true
+not_new true h = refl
+not_new false h = cc
+
+pub loop-line-preserved : goal.loop-line-preserved
+loop-line-preserved c =
     let t = c.args.t in
     let lines = c.args.lines.now in
     let after = rows_taken c.args.rows.now.rows t lines in
-    let i = c.loop-place.place in
-    let line = c.index-lines-place.result in
-    elim c.if-not-names_zone.branch [
-      | then-not-names_zone+in_ok-found w ↦
-          subst (IsFirstIn t after (take (i + 1) lines)) (sym (w.best-is ∙ w.earlier_clash-best.ensures))
-          (first_new t after lines i line c.loop-place-test.true c.index-lines-place.is c.loop-place.best w.in_ok-found.found w.in_ok-found.ensures c.loop-place.invariant)
-      | else-not-names_zone w ↦
-          subst (IsFirstIn t after (take (i + 1) lines)) (sym w.best-is)
-          (first_still t after lines i line c.loop-place-test.true c.index-lines-place.is c.loop-place.best (sym c.names_zone.ensures ∙ w.if-not-names_zone.false) c.loop-place.invariant)
+    let i = c.loop-line.line-index in
+    let line = c.line-item.result in
+    let zone = line.zone in
+    let seen : (z : Place) → list_any (is_at (by_place z)) c.insert.new.self.keys ≡ names_zone z (take (i + 1) lines) =
+    λ z. ap (list_any (is_at (by_place z))) c.in_ok-insert.ensures.keys
+    ∙ has_after by_place by_place_total by_place_ties z zone c.loop-line.seen.keys
+    ∙ seen_more lines i line z _ c.loop-line-test.true c.line-item.is (c.loop-line.invariant.1 z) in
+    elim c.if-branch.branch [
+      | then-branch+in_ok-found w ↦ (
+        subst (IsFirstIn t after (take (i + 1) lines)) (sym (w.best-is ∙ w.earlier_clash-best.ensures))
+            (first_new t after lines i line c.loop-line-test.true c.line-item.is c.loop-line.best w.in_ok-found.found w.in_ok-found.ensures c.loop-line.invariant.0),
+        seen,
+      )
+      | else-branch w ↦ (
+        subst (IsFirstIn t after (take (i + 1) lines)) (sym w.best-is)
+            (first_still t after lines i line c.loop-line-test.true c.line-item.is c.loop-line.best
+            (sym (c.loop-line.invariant.1 zone) ∙ not_new _ (sym c.in_ok-insert.ensures.added ∙ w.if-branch.false)) c.loop-line.invariant.0),
+        seen,
+      )
     ]
 
 pub returns : goal.returns
@@ -28,5 +57,5 @@ returns c =
     let t = c.args.t in
     let rows = c.args.rows.now.rows in
     let lines = c.args.lines.now in
-    first_in_all t (rows_taken rows t lines) lines c.loop-place.best (rows_taken-sorted rows t lines c.requires.order) (λ z h. quiet_elsewhere t rows lines z c.requires.apart h)
-    (subst (λ (some : List Line). IsFirstIn t (rows_taken rows t lines) some c.loop-place.best) (take_all c.loop-place.place lines c.loop-place-test.false) c.loop-place.invariant)
+    first_in_all t (rows_taken rows t lines) lines c.loop-line.best (rows_taken-sorted rows t lines c.requires.order) (λ z h. quiet_elsewhere t rows lines z c.requires.apart h)
+    (subst (λ (some : List Line). IsFirstIn t (rows_taken rows t lines) some c.loop-line.best) (take_all c.loop-line.line-index lines c.loop-line-test.false) c.loop-line.invariant.0)

@@ -8,4 +8,4 @@ use Rattle.hazard_board.proofs.SliceLemmas.{taken_in}
 use Rattle.hazard_board.proofs.lines.zone_taken.Given as goal
 
 abbrev pub invariant-loop-line : goal.invariant-loop-line
-invariant-loop-line l = (taken_in l.z l.rows.rows l.t l.after.items (drop l.line-index l.lines) ≡ slice_of l.z (rows_taken l.rows.rows l.t l.lines)) × IsStrictlySortedBy by_key l.after.items
+invariant-loop-line l = (taken_in l.rows.rows l.t l.after.items (drop l.line-index l.own) ≡ slice_of l.z (rows_taken l.rows.rows l.t l.lines)) × IsStrictlySortedBy by_key l.after.items

@@ -1,5 +1,5 @@
 -- the zones that are held are those that are touched
-use Rattle.std.proofs.Common.{◌≡◌, ◌∙◌, List, Result, Ok, Err, IfOk, ap}
+use Rattle.std.proofs.Common.{◌∙◌, List, Result, Ok, Err, IfOk, ap}
 use Rattle.std.specs.List.{list_any}
 use Rattle.hazard_types.specs.Places.{Place}
 use Rattle.hazard_types.specs.Same.{same_zone}
