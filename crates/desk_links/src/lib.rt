@@ -1,0 +1,16 @@
+//! Links, doors, ports and gates: the outside of a program that serves calls.
+#![tactic(auto)]
+
+mod gate;
+mod link;
+mod link_memory;
+mod port;
+mod port_memory;
+mod tcp;
+
+pub use gate::{Gate, OpenGate};
+pub use link::Link;
+pub use link_memory::MemLink;
+pub use port::{Door, Port};
+pub use port_memory::{MemDoor, MemPort};
+pub use tcp::{TcpDoor, TcpLink, TcpPort};
