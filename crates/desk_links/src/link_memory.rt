@@ -1,5 +1,5 @@
 //! A link in memory, which fails at exactly the calls that it is told.
-ghost use Rattle.std.specs.Prelude.{◌≡◌, ◌≤◌, ◌↔◌, ◌++◌, length, min, Some, IfOk, OnOk, OnErr, IsErr, IsTrue, Contains, [], false};
+ghost use Rattle.std.specs.Prelude.{◌≡◌, ◌≤◌, ◌+◌, ◌-◌, ◌^◌, ◌↔◌, ◌++◌, length, min, Some, IfOk, OnOk, OnErr, IsErr, IsTrue, Contains, [], false};
 ghost use Rattle.desk_traits.specs.Faults.{HasCause, next_count};
 ghost use Rattle.desk_traits.specs.Streams.{Reads, Writes};
 ghost use Rattle.desk_traits.specs.StreamMemory.{FailsAsTold};
@@ -62,6 +62,29 @@ impl MemLink {
         ensures { result.now ≡ self.now.written }
     {
         &self.written
+    }
+
+    // Whether no byte is left.
+    pub(crate) fn is_at_end(&self) -> bool
+        ensures { IsTrue result ↔ (self.now.left ≡ []) }
+    {
+        self.bytes.as_slice()[self.at..].is_empty()
+    }
+
+    // Counts a read, and that it failed.
+    pub(crate) fn fail_read(&mut self)
+        ensures later { self.old.read_faults ≤ self.new.read_faults }
+        ensures new { self.new ≡ record { read = self.old.read; left = self.old.left; written = self.old.written; piece = self.old.piece; failing = self.old.failing; calls = next_count self.old.calls; read_faults = next_count self.old.read_faults; write_faults = self.old.write_faults; lacked = self.old.lacked } }
+    {
+        self.calls = self.calls.saturating_add(1);
+        self.read_faults = self.read_faults.saturating_add(1);
+    }
+
+    // How many of its reads and writes failed.
+    pub(crate) fn all_faults(&self) -> u64
+        ensures { result ≡ min (self.now.read_faults + self.now.write_faults) (2 ^ 64 - 1) }
+    {
+        self.read_faults.saturating_add(self.write_faults)
     }
 }
 

@@ -24,8 +24,8 @@ const TRIES: usize = 16;
 #[derive(Drop)]
 pub struct TcpLink {
     stream: TcpStream,
-    read_faults: u64,
-    write_faults: u64,
+    pub(crate) read_faults: u64,
+    pub(crate) write_faults: u64,
 }
 
 impl TcpLink {
@@ -89,13 +89,14 @@ impl Sink for TcpLink {
 }
 
 impl Link for TcpLink {
+    ghost use Rattle.std.specs.Prelude.{None};
     ghost use Rattle.desk_links.specs.LinkLaws.{untold_alone};
 
     ghost came = { λ _. None };
 
-    ghost reads_alone = { λ old new kept. untold_alone old.write_faults new.write_faults kept };
+    ghost reads_alone = { λ old new kept. untold_alone None old.write_faults new.write_faults kept };
 
-    ghost writes_alone = { λ old new kept. untold_alone old.read_faults new.read_faults kept };
+    ghost writes_alone = { λ old new kept. untold_alone None old.read_faults new.read_faults kept };
 
     ghost told_whole = { λ _. tt };
 }
