@@ -13,6 +13,7 @@ mod steps;
 mod stream_memory;
 mod streams;
 mod sure_disk;
+mod sure_streams;
 
 pub use clocks::{Clock, SetClock, SystemClock};
 pub use disk::Disk;
@@ -24,6 +25,7 @@ pub use steps::write_synced;
 pub use stream_memory::{MemSink, MemSource};
 pub use streams::{Sink, Source, write_whole};
 pub use sure_disk::SureDisk;
+pub use sure_streams::{SureSink, SureSource};
 
 #[cfg(test)]
 mod disk_tests;

@@ -1,0 +1,4 @@
+pub mod LinkLaws
+pub mod LinkMemory
+pub mod Links
+pub mod Listening

@@ -1,0 +1,100 @@
+-- What links, doors and ports in memory hold.
+use Rattle.std.proofs.Common.{◌≡◌, ◌⊎◌, ℕ, zero, suc, List, [], ◌∷◌, ◌++◌, length, drop, Bool, Some, refl, ◌∙◌, ap}
+use Rattle.std.specs.Prelude.{Contains}
+use Rattle.desk_traits.specs.Faults.{next_count}
+use Rattle.desk_links.specs.Links.{IsNew, IsUnused, EndsIn}
+
+-- a link in memory: the bytes read and those left, the bytes written, the most that it gives at once, the calls that fail, how many were made, how many reads and how many writes failed, and whether memory has lacked for a write
+pub record LinkInMemory : Type 0 where
+  pub read : List ℕ
+  pub left : List ℕ
+  pub written : List ℕ
+  pub piece : ℕ
+  pub failing : List ℕ
+  pub calls : ℕ
+  pub read_faults : ℕ
+  pub write_faults : ℕ
+  pub lacked : Bool
+
+-- nothing was read of it or written on it, and it has not failed
+abbrev pub IsUntouched : LinkInMemory → Type 0
+IsUntouched l = IsNew (Some (l.read ++ l.left)) (Some l.left) (Some l.written) l.read_faults l.write_faults
+
+-- a door in memory: the links that it has still to give, those given back to it, the accepts that fail, how many were made, how many failed, and how many links it gave
+pub record DoorInMemory : Type 0 where
+  pub waiting : List LinkInMemory
+  pub back : List LinkInMemory
+  pub failing : List ℕ
+  pub calls : ℕ
+  pub faults : ℕ
+  pub given : ℕ
+
+-- a door that was not used
+abbrev pub door_with : List LinkInMemory → List ℕ → DoorInMemory
+door_with links failing = record { waiting = links; back = []; failing = failing; calls = 0; faults = 0; given = 0 }
+
+-- the first of the lists, or none
+abbrev pub first_list : List (List ℕ) → List ℕ
+first_list [] = []
+first_list (first ∷ more) = first
+
+-- a door for each list of links, with the failing accepts of the same place, or none
+abbrev pub doors_with : List (List LinkInMemory) → List (List ℕ) → List DoorInMemory
+doors_with [] failing = []
+doors_with (links ∷ more) failing = door_with links (first_list failing) ∷ doors_with more (drop 1 failing)
+
+-- a door that has given no link and taken none back, and has not failed
+abbrev pub IsIdle : DoorInMemory → Type 0
+IsIdle d = IsUnused d.given (length d.back) d.faults (Some d.back)
+
+-- an accept that is to fail: its number is among the failing ones, or no link waits
+abbrev pub AcceptFails : DoorInMemory → Type 0
+AcceptFails d = Contains d.failing (next_count d.calls) ⊎ (d.waiting ≡ [])
+
+-- a port in memory: the doors that it has still to give, the links taken back, door by door, and how often its doors failed
+pub record PortInMemory : Type 0 where
+  pub doors : List DoorInMemory
+  pub back : List (List LinkInMemory)
+  pub faults : ℕ
+
+-- the links of all doors, one after another
+abbrev pub all_links : List (List LinkInMemory) → List LinkInMemory
+all_links [] = []
+all_links (links ∷ more) = links ++ all_links more
+
+-- the first of the doors, or one without links
+abbrev pub first_door : List DoorInMemory → DoorInMemory
+first_door [] = door_with [] []
+first_door (door ∷ doors) = door
+
+-- the doors that a port gives, so many: its own, and then doors without links
+abbrev pub dealt : ℕ → List DoorInMemory → List DoorInMemory
+dealt zero doors = []
+dealt (suc n) doors = first_door doors ∷ dealt n (drop 1 doors)
+
+-- a read keeps what was written, the faults of the writes, and what came
+pub record KeepsOut (old new : LinkInMemory) : Type 0 where
+  pub written : new.written ≡ old.written
+  pub faults : new.write_faults ≡ old.write_faults
+  pub came : new.read ++ new.left ≡ old.read ++ old.left
+
+-- writes keep what was read and what is left, and the faults of the reads
+pub record KeepsIn (old new : LinkInMemory) : Type 0 where
+  pub read : new.read ≡ old.read
+  pub left : new.left ≡ old.left
+  pub faults : new.read_faults ≡ old.read_faults
+
+pub keeps_in_none : (l : LinkInMemory) → KeepsIn l l
+keeps_in_none l = record { read = refl; left = refl; faults = refl }
+
+pub keeps_in_more : (old mid new : LinkInMemory) → KeepsIn old mid → KeepsIn mid new → KeepsIn old new
+keeps_in_more old mid new a b = record { read = b.read ∙ a.read; left = b.left ∙ a.left; faults = b.faults ∙ a.faults }
+
+pub keeps_out : (old new : LinkInMemory) → KeepsOut old new → (Some new.written ≡ Some old.written) × (new.write_faults ≡ old.write_faults) × (Some (new.read ++ new.left) ≡ Some (old.read ++ old.left))
+keeps_out old new k = (ap (λ (l : List ℕ). Some l) k.written, k.faults, ap (λ (l : List ℕ). Some l) k.came)
+
+pub keeps_in : (old new : LinkInMemory) → KeepsIn old new → (Some new.left ≡ Some old.left) × (new.read_faults ≡ old.read_faults) × (Some (new.read ++ new.left) ≡ Some (old.read ++ old.left))
+keeps_in old new k = (ap (λ (l : List ℕ). Some l) k.left, k.faults, ap (λ (l : List ℕ). Some l) (ap (λ (l : List ℕ). l ++ new.left) k.read ∙ ap (λ (l : List ℕ). old.read ++ l) k.left))
+
+pub ends_in : (l : LinkInMemory) → EndsIn (Some (l.read ++ l.left)) (Some l.left)
+ends_in l = (l.read, l.left, refl, refl)

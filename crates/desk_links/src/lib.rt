@@ -1,0 +1,22 @@
+//! Links, doors, ports and gates: the outside of a program that serves calls.
+#![tactic(auto)]
+
+mod dialer;
+mod dialer_memory;
+mod gate;
+mod link;
+mod link_memory;
+mod port;
+mod port_memory;
+mod tcp;
+mod tcp_dialer;
+
+pub use dialer::{Dialer, Peer};
+pub use dialer_memory::{MemDialer, MemPeer};
+pub use gate::{Gate, OpenGate};
+pub use link::Link;
+pub use link_memory::MemLink;
+pub use port::{Door, Port};
+pub use port_memory::{MemDoor, MemPort};
+pub use tcp::{TcpDoor, TcpLink, TcpPort};
+pub use tcp_dialer::{TcpDialer, TcpPeer};

@@ -1,0 +1,175 @@
+//! A link in memory, which fails at exactly the calls that it is told.
+ghost use Rattle.std.specs.Prelude.{◌≡◌, ◌≤◌, ◌+◌, ◌-◌, ◌^◌, ◌↔◌, ◌++◌, length, min, Some, IfOk, OnOk, OnErr, IsErr, IsTrue, Contains, [], false};
+ghost use Rattle.desk_traits.specs.Faults.{HasCause, next_count};
+ghost use Rattle.desk_traits.specs.Streams.{Reads, Writes};
+ghost use Rattle.desk_traits.specs.StreamMemory.{FailsAsTold};
+ghost use Rattle.desk_links.specs.LinkMemory.{KeepsOut, KeepsIn};
+
+use crate::link::Link;
+use desk_traits::{Failed, Sink, Source};
+use hazard_types::{List, Oom, Text};
+use std::alloc::Global;
+use std::marker::Model;
+
+/// A link that gives bytes in pieces and keeps those that are written.
+#[derive(Debug, Drop)]
+pub struct MemLink {
+    bytes: Text,
+    at: usize,
+    written: Text,
+    piece: usize,
+    failing: List<u64>,
+    calls: u64,
+    read_faults: u64,
+    write_faults: u64,
+    lacked: bool,
+}
+
+impl Model for MemLink {
+    ghost use Rattle.std.specs.Prelude.{◌≤◌, length, take, drop};
+    ghost use Rattle.desk_links.specs.LinkMemory.{LinkInMemory};
+
+    ghost Value = { LinkInMemory };
+
+    ghost view = { λ l. record { read = take l.at l.bytes; left = drop l.at l.bytes; written = l.written; piece = l.piece; failing = l.failing; calls = l.calls; read_faults = l.read_faults; write_faults = l.write_faults; lacked = l.lacked } };
+
+    ghost invariant = { λ l. (l.at ≤ length l.bytes) × (1 ≤ l.piece) };
+}
+
+impl MemLink {
+    /// A link of these bytes that gives at most `piece` of them at once. Its reads and writes are
+    /// counted together, from 1. Those among the failing ones answer `Failed`, and each write for
+    /// which memory lacks.
+    pub fn new(alloc: Global, bytes: &[u8], piece: usize, failing: &List<u64>) -> Result<Self, Oom>
+        requires { 1 ≤ piece }
+        ensures { IfOk result (λ l. l ≡ record { read = []; left = bytes.now; written = []; piece = piece; failing = failing.now; calls = 0; read_faults = 0; write_faults = 0; lacked = false }) }
+    {
+        Ok(MemLink {
+            bytes: List::from_slice(alloc, bytes)?,
+            at: 0,
+            written: List::new(alloc),
+            piece,
+            failing: failing.clone()?,
+            calls: 0,
+            read_faults: 0,
+            write_faults: 0,
+            lacked: false,
+        })
+    }
+
+    /// The bytes that were written.
+    pub fn written(&self) -> &Text
+        ensures { result.now ≡ self.now.written }
+    {
+        &self.written
+    }
+
+    // Whether no byte is left.
+    pub(crate) fn is_at_end(&self) -> bool
+        ensures { IsTrue result ↔ (self.now.left ≡ []) }
+    {
+        self.bytes.as_slice()[self.at..].is_empty()
+    }
+
+    // Counts a read, and that it failed.
+    pub(crate) fn fail_read(&mut self)
+        ensures later { self.old.read_faults ≤ self.new.read_faults }
+        ensures new { self.new ≡ record { read = self.old.read; left = self.old.left; written = self.old.written; piece = self.old.piece; failing = self.old.failing; calls = next_count self.old.calls; read_faults = next_count self.old.read_faults; write_faults = self.old.write_faults; lacked = self.old.lacked } }
+    {
+        self.calls = self.calls.saturating_add(1);
+        self.read_faults = self.read_faults.saturating_add(1);
+    }
+
+    // How many of its reads and writes failed.
+    pub(crate) fn all_faults(&self) -> u64
+        ensures { result ≡ min (self.now.read_faults + self.now.write_faults) (2 ^ 64 - 1) }
+    {
+        self.read_faults.saturating_add(self.write_faults)
+    }
+}
+
+impl Source for MemLink {
+    ghost left = { λ l. Some l.left };
+
+    ghost faults = { λ l. l.read_faults };
+
+    ghost reads = { KeepsOut };
+
+    fn read(&mut self, into: &mut [u8]) -> Result<usize, Failed>
+        ensures bytes { Reads (Some self.old.left) (Some self.new.left) result into.new }
+        ensures cause { HasCause self.old.read_faults self.new.read_faults result }
+        ensures steady { OnOk result (self.new.read_faults ≡ self.old.read_faults) }
+        ensures counted { OnErr result (self.new.read_faults ≡ next_count self.old.read_faults) }
+        ensures beside { KeepsOut self.old self.new }
+
+        // It fails at exactly the listed calls, and gives all that a piece and the buffer may hold at the others.
+        ensures failing { IsErr result ↔ Contains self.old.failing (next_count self.old.calls) }
+        ensures amount { IfOk result (λ n. n ≡ min (min (length self.old.left) self.old.piece) (length into.old)) }
+        ensures called { self.new.calls ≡ next_count self.old.calls }
+        ensures kept { (self.new.failing ≡ self.old.failing) × (self.new.piece ≡ self.old.piece) × (self.new.lacked ≡ self.old.lacked) }
+    {
+        self.calls = self.calls.saturating_add(1);
+        if self.failing.as_slice().contains(&self.calls) {
+            self.read_faults = self.read_faults.saturating_add(1);
+            return Err(Failed);
+        }
+        let rest = &self.bytes.as_slice()[self.at..];
+        let count = rest.len().min(self.piece).min(into.len());
+        into[..count].copy_from_slice(&rest[..count]);
+        self.at += count;
+        Ok(count)
+    }
+}
+
+impl Sink for MemLink {
+    ghost use Rattle.desk_links.specs.LinkMemory.{keeps_in_none, keeps_in_more};
+
+    ghost taken = { λ l. Some l.written };
+
+    ghost faults = { λ l. l.write_faults };
+
+    ghost writes = { KeepsIn };
+
+    ghost no_writes = { keeps_in_none };
+
+    ghost more_writes = { keeps_in_more };
+
+    /// Takes the whole piece. A growth of its memory that is refused is a counted fault.
+    fn write(&mut self, bytes: &[u8]) -> Result<usize, Failed>
+        ensures bytes { Writes (Some self.old.written) (Some self.new.written) result bytes.now }
+        ensures cause { HasCause self.old.write_faults self.new.write_faults result }
+        ensures steady { OnOk result (self.new.write_faults ≡ self.old.write_faults) }
+        ensures counted { OnErr result (self.new.write_faults ≡ next_count self.old.write_faults) }
+        ensures beside { KeepsIn self.old self.new }
+
+        // It fails at exactly the listed calls, and where memory lacks, and takes the whole piece at the others.
+        ensures failing { FailsAsTold (Contains self.old.failing (next_count self.old.calls)) self.old.lacked self.new.lacked result }
+        ensures amount { IfOk result (λ n. n ≡ length bytes.now) }
+        ensures called { self.new.calls ≡ next_count self.old.calls }
+        ensures kept { (self.new.failing ≡ self.old.failing) × (self.new.piece ≡ self.old.piece) }
+    {
+        self.calls = self.calls.saturating_add(1);
+        if self.failing.as_slice().contains(&self.calls) {
+            self.write_faults = self.write_faults.saturating_add(1);
+            return Err(Failed);
+        }
+        if self.written.extend(bytes).is_err() {
+            self.write_faults = self.write_faults.saturating_add(1);
+            self.lacked = true;
+            return Err(Failed);
+        }
+        Ok(bytes.len())
+    }
+}
+
+impl Link for MemLink {
+    ghost use Rattle.desk_links.specs.LinkMemory.{keeps_out, keeps_in, ends_in};
+
+    ghost came = { λ l. Some (l.read ++ l.left) };
+
+    ghost reads_alone = { keeps_out };
+
+    ghost writes_alone = { keeps_in };
+
+    ghost told_whole = { ends_in };
+}

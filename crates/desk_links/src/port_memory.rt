@@ -1,0 +1,232 @@
+//! A port in memory, whose doors give the links that it was made with.
+ghost use Rattle.std.specs.Prelude.{◌≡◌, ◌≤◌, ◌<◌, ◌+◌, ◌-◌, ◌^◌, ◌↔◌, ◌∷◌, [], ℕ, All, length, drop, min, Some, Contains, IfOk, OnOk, OnErr, IsErr};
+ghost use Rattle.desk_traits.specs.Faults.{HasCause, Rose, next_count};
+ghost use Rattle.desk_links.specs.Links.{IsNew, IsUnused, behind, with_one};
+ghost use Rattle.desk_links.specs.Listening.{MayFail};
+ghost use Rattle.desk_links.specs.LinkMemory.{IsUntouched, AcceptFails, all_links, doors_with, door_with, dealt, first_list, first_door, IsIdle};
+
+use crate::link_memory::MemLink;
+use crate::port::{Door, Port};
+use desk_traits::Failed;
+use hazard_types::{List, Oom, Or};
+use std::alloc::Global;
+use std::collections::{LinkedList, VecDeque};
+use std::marker::Model;
+
+/// A door that gives its links in order. It fails at the accepts that it was told, and where it has
+/// no link left. The list in which the links come back has room for all of them, and a node in which
+/// it goes to the port.
+#[derive(Drop)]
+pub struct MemDoor {
+    waiting: VecDeque<MemLink>,
+    back: Vec<MemLink>,
+    node: LinkedList<List<MemLink>>,
+    failing: List<u64>,
+    calls: u64,
+    faults: u64,
+    given: u64,
+}
+
+impl Model for MemDoor {
+    ghost use Rattle.std.specs.Prelude.{◌≡◌, ◌≤◌, ◌+◌, [], ◌∷◌, All, length, vec_capacity};
+    ghost use Rattle.desk_links.specs.LinkMemory.{DoorInMemory, IsUntouched};
+
+    ghost Value = { DoorInMemory };
+
+    ghost view = { λ d. record { waiting = d.waiting.items; back = d.back.items; failing = d.failing; calls = d.calls; faults = d.faults; given = d.given } };
+
+    ghost invariant = { λ d. (d.given + length d.waiting.items ≤ vec_capacity d.back) × (d.node ≡ [] ∷ []) × All IsUntouched d.waiting.items };
+}
+
+impl MemDoor {
+    // A door that was not used.
+    fn new(alloc: Global, links: List<MemLink>, failing: List<u64>) -> Result<Self, Oom>
+        requires { All IsUntouched links }
+        ensures { IfOk result (λ door. door ≡ door_with links failing) }
+    {
+        let back = Vec::with_capacity(alloc, links.len())?;
+        let mut node = LinkedList::new(alloc);
+        node.push_back(List::new(alloc))?;
+        Ok(MemDoor {
+            waiting: VecDeque::from_vec(links.into_vec()),
+            back,
+            node,
+            failing,
+            calls: 0,
+            faults: 0,
+            given: 0,
+        })
+    }
+
+    // Its links, in the node that was kept for them.
+    fn into_node(self) -> LinkedList<List<MemLink>>
+        ensures { result ≡ self.back ∷ [] }
+    {
+        let MemDoor { back, mut node, .. } = self;
+        if let Some(list) = node.front_mut() {
+            *list = List::from_vec(back);
+        }
+        node
+    }
+}
+
+impl Door for MemDoor {
+    type Link = MemLink;
+
+    ghost faults = { λ d. d.faults };
+
+    ghost given = { λ d. d.given };
+
+    ghost returned = { λ d. length d.back };
+
+    ghost links = { λ d. Some d.back };
+
+    fn accept(&mut self) -> Result<MemLink, Failed>
+        requires none_out { self.old.given ≡ length self.old.back }
+        requires few { length self.old.back < 2 ^ 32 }
+        ensures new { IfOk result IsUntouched }
+        ensures given { OnOk result (self.new.given ≡ self.old.given + 1) }
+        ensures kept { OnErr result (self.new.given ≡ self.old.given) }
+        ensures back { self.new.back ≡ self.old.back }
+        ensures cause { HasCause self.old.faults self.new.faults result }
+        ensures steady { OnOk result (self.new.faults ≡ self.old.faults) }
+        ensures counted { OnErr result (self.new.faults ≡ next_count self.old.faults) }
+
+        // It fails at exactly the listed accepts and where no link is left, and gives the first of those left at the others.
+        ensures failing { IsErr result ↔ AcceptFails self.old }
+        ensures first { IfOk result (λ link. self.old.waiting ≡ link ∷ self.new.waiting) }
+        ensures stay { OnErr result (self.new.waiting ≡ self.old.waiting) }
+        ensures called { self.new.calls ≡ next_count self.old.calls }
+        ensures same { self.new.failing ≡ self.old.failing }
+    {
+        self.calls = self.calls.saturating_add(1);
+        if !self.failing.as_slice().contains(&self.calls) {
+            if let Some(link) = self.waiting.pop_front() {
+                self.given += 1;
+                return Ok(link);
+            }
+        }
+        self.faults = self.faults.saturating_add(1);
+        Err(Failed)
+    }
+
+    fn back(&mut self, link: MemLink) {
+        self.back.push_reserved(link);
+    }
+}
+
+// The list at a place, or an empty one.
+#[tactic(auto, using(crate::proofs::Dealing::first_told))]
+fn told_at(alloc: Global, failing: &List<List<u64>>, place: usize) -> Result<List<u64>, Oom>
+    ensures { IfOk result (λ told. told ≡ first_list (drop place failing.now)) }
+{
+    match failing.get(place) {
+        Some(told) => List::from_slice(alloc, told.as_slice()),
+        None => Ok(List::new(alloc)),
+    }
+}
+
+// The next door, or one without links.
+fn next_door(alloc: Global, doors: &mut VecDeque<MemDoor>) -> Result<MemDoor, Oom>
+    ensures first { IfOk result (λ door. door ≡ first_door doors.old.items) }
+    ensures others { doors.new.items ≡ drop 1 doors.old.items }
+{
+    match doors.pop_front() {
+        Some(door) => Ok(door),
+        None => MemDoor::new(alloc, List::new(alloc), List::new(alloc)),
+    }
+}
+
+/// A port that gives the doors that it was made with.
+#[derive(Drop)]
+pub struct MemPort {
+    alloc: Global,
+    doors: VecDeque<MemDoor>,
+    back: LinkedList<List<MemLink>>,
+    faults: u64,
+}
+
+impl Model for MemPort {
+    ghost use Rattle.std.specs.Prelude.{◌≤◌, All, length};
+    ghost use Rattle.desk_links.specs.LinkMemory.{PortInMemory, IsIdle, all_links};
+
+    ghost Value = { PortInMemory };
+
+    ghost view = { λ p. record { doors = p.doors.items; back = p.back; faults = p.faults } };
+
+    ghost invariant = { λ p. (length p.back ≤ length (all_links p.back)) × All IsIdle p.doors.items };
+}
+
+impl MemPort {
+    /// A port with a door for each list of links, which it gives in this order, and then doors
+    /// without links. The accepts of door k whose numbers, counted from 1, are in list k of the
+    /// failing ones answer `Failed`, and each for which the door has no link left.
+    pub fn new(
+        alloc: Global,
+        links: List<List<MemLink>>,
+        failing: &List<List<u64>>,
+    ) -> Result<Self, Oom>
+        requires { All (λ list. All IsUntouched list) links }
+        ensures { IfOk result (λ port. port ≡ record { doors = doors_with links failing.now; back = []; faults = 0 }) }
+    {
+        let mut doors = VecDeque::with_capacity(alloc, links.len())?;
+        let mut place = 0;
+        for list in links.into_vec() {
+            let told = told_at(alloc, failing, place)?;
+            doors.push_back(MemDoor::new(alloc, list, told)?)?;
+            place += 1;
+        }
+        Ok(MemPort {
+            alloc,
+            doors,
+            back: LinkedList::new(alloc),
+            faults: 0,
+        })
+    }
+
+    /// The links taken back: a list for each door that came back with one, in the order in which
+    /// the doors came back, and in it the links in the order in which the door took them back.
+    pub fn links(&self) -> &LinkedList<List<MemLink>>
+        ensures { result.now ≡ self.now.back }
+    {
+        &self.back
+    }
+}
+
+impl Port for MemPort {
+    type Door = MemDoor;
+
+    ghost faults = { λ p. p.faults };
+
+    ghost returned = { λ p. length (all_links p.back) };
+
+    ghost links = { λ p. Some (all_links p.back) };
+
+    fn listen(&mut self, _port: u16, doors: usize) -> Result<List<MemDoor>, Or<Failed>>
+        ensures count { IfOk result (λ list. length list ≡ doors) }
+        ensures unused { IfOk result (λ list. All IsIdle list) }
+        ensures later { self.old.faults ≤ self.new.faults }
+        ensures cause { MayFail (Rose self.old.faults self.new.faults) result }
+        ensures faults { self.new.faults ≡ self.old.faults }
+        ensures back { self.new.back ≡ self.old.back }
+
+        // It gives the next of its doors.
+        ensures dealt { IfOk result (λ list. list ≡ dealt doors self.old.doors) }
+    {
+        let mut list = Vec::with_capacity(self.alloc, doors)?;
+        for _ in 0..doors {
+            let door = next_door(self.alloc, &mut self.doors)?;
+            list.push_reserved(door);
+        }
+        Ok(List::from_vec(list))
+    }
+
+    fn back(&mut self, door: MemDoor) {
+        self.faults = self.faults.saturating_add(door.faults);
+        if door.back.is_empty() {
+            return;
+        }
+        let mut node = door.into_node();
+        let _ = self.back.append(&mut node);
+    }
+}

@@ -1,0 +1,138 @@
+//! The dialer of the system, over TCP on this machine's own address. It is trusted.
+ghost use Rattle.std.specs.Prelude.{◌≡◌, ◌<◌, ◌-◌, ◌^◌, ◌+◌, min, None, length, IfOk, OnOk};
+ghost use Rattle.desk_traits.specs.Faults.{HasCause};
+ghost use Rattle.desk_traits.specs.Streams.{Reads};
+
+use crate::dialer::{Dialer, Peer};
+use crate::link::Link;
+use crate::tcp::TcpLink;
+use desk_traits::{Failed, Sink, Source};
+use std::net::{Ipv4Addr, Net, SocketAddr, SocketAddrV4, TcpListener, TcpStream};
+
+/// A stream whose reads fail where the other side's bytes end.
+#[derive(Drop)]
+pub struct TcpPeer {
+    link: TcpLink,
+}
+
+impl Source for TcpPeer {
+    ghost left = { λ _. None };
+
+    ghost faults = { λ p. p.link.read_faults };
+
+    ghost reads = { λ old new. new.link.write_faults ≡ old.link.write_faults };
+
+    fn read(&mut self, into: &mut [u8]) -> Result<usize, Failed>
+        ensures bytes { Reads None None result into.new }
+        ensures cause { HasCause self.old.link.read_faults self.new.link.read_faults result }
+        ensures steady { OnOk result (self.new.link.read_faults ≡ self.old.link.read_faults) }
+        ensures beside { self.new.link.write_faults ≡ self.old.link.write_faults }
+        ensures some { IfOk result (λ n. 0 < length into.old → 0 < n) }
+    {
+        match self.link.read(into)? {
+            0 if !into.is_empty() => {
+                self.link.read_faults = self.link.read_faults.saturating_add(1);
+                Err(Failed)
+            }
+            count => Ok(count),
+        }
+    }
+}
+
+impl Sink for TcpPeer {
+    ghost use Rattle.desk_links.specs.LinkLaws.{count_same, count_kept};
+
+    ghost taken = { λ _. None };
+
+    ghost faults = { λ p. p.link.write_faults };
+
+    ghost writes = { λ old new. new.link.read_faults ≡ old.link.read_faults };
+
+    ghost no_writes = { λ p. count_same p.link.read_faults };
+
+    ghost more_writes = { λ old mid new first second. count_kept old.link.read_faults mid.link.read_faults new.link.read_faults first second };
+
+    fn write(&mut self, bytes: &[u8]) -> Result<usize, Failed> {
+        self.link.write(bytes)
+    }
+}
+
+impl Link for TcpPeer {
+    ghost use Rattle.std.specs.Prelude.{None};
+    ghost use Rattle.desk_links.specs.LinkLaws.{untold_alone};
+
+    ghost came = { λ _. None };
+
+    ghost reads_alone = { λ old new kept. untold_alone None old.link.write_faults new.link.write_faults kept };
+
+    ghost writes_alone = { λ old new kept. untold_alone None old.link.read_faults new.link.read_faults kept };
+
+    ghost told_whole = { λ _. tt };
+}
+
+impl Peer for TcpPeer {
+    fn hear(&mut self, into: &mut [u8]) -> Result<usize, Failed> {
+        self.read(into)
+    }
+}
+
+/// A dialer of one port of this machine. It closes the links that it takes back.
+#[derive(Drop)]
+pub struct TcpDialer<R> {
+    net: R,
+    port: u16,
+    faults: u64,
+    given: u64,
+    returned: u64,
+}
+
+impl<R: Net<Listener = TcpListener, Stream = TcpStream>> TcpDialer<R> {
+    /// A dialer of the port, over the runtime's network.
+    pub fn new(net: R, port: u16) -> Self
+        ensures faults { result.faults ≡ 0 }
+        ensures given { result.given ≡ 0 }
+        ensures returned { result.returned ≡ 0 }
+    {
+        TcpDialer {
+            net,
+            port,
+            faults: 0,
+            given: 0,
+            returned: 0,
+        }
+    }
+}
+
+impl<R: Net<Listener = TcpListener, Stream = TcpStream>> Dialer for TcpDialer<R> {
+    type Link = TcpPeer;
+
+    ghost faults = { λ d. d.faults };
+
+    ghost given = { λ d. d.given };
+
+    ghost returned = { λ d. d.returned };
+
+    ghost links = { λ _. None };
+
+    fn dial(&mut self) -> Result<TcpPeer, Failed> {
+        let address = SocketAddr::V4(SocketAddrV4::new(Ipv4Addr::LOCALHOST, self.port));
+        match self.net.connect(address) {
+            Ok(stream) => {
+                self.given += 1;
+                Ok(TcpPeer {
+                    link: TcpLink::over(stream),
+                })
+            }
+            Err(_) => {
+                self.faults = self.faults.saturating_add(1);
+                Err(Failed)
+            }
+        }
+    }
+
+    fn back(&mut self, link: TcpPeer) {
+        let count = link.link.read_faults.saturating_add(link.link.write_faults);
+        self.faults = self.faults.saturating_add(count);
+        self.returned += 1;
+    }
+}

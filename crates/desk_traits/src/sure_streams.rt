@@ -1,0 +1,63 @@
+//! A source and a sink whose counts of faults can't rise.
+ghost use Rattle.std.specs.Prelude.{◌≡◌, ◌≤◌, None, Some, drop, length, IfOk};
+
+use crate::faults::Failed;
+use crate::streams::{Sink, Source};
+use hazard_types::{List, Oom, Text};
+use std::alloc::Global;
+
+/// Bytes in memory. It tells them, and no read fails.
+#[derive(Debug, Drop)]
+pub struct SureSource {
+    bytes: Text,
+    at: usize,
+    ghost within: { at ≤ length bytes },
+}
+
+impl SureSource {
+    /// A source of these bytes.
+    pub fn new(alloc: Global, bytes: &[u8]) -> Result<Self, Oom>
+        ensures { IfOk result (λ source. ⟦<SureSource as Source>⟧.left source ≡ Some bytes.now) }
+    {
+        Ok(SureSource {
+            bytes: List::from_slice(alloc, bytes)?,
+            at: 0,
+        })
+    }
+}
+
+impl Source for SureSource {
+    ghost left = { λ s. Some (drop s.at s.bytes) };
+
+    ghost faults = { λ _. 0 };
+
+    ghost reads = { λ _ _. Unit {0} };
+
+    fn read(&mut self, into: &mut [u8]) -> Result<usize, Failed> {
+        let rest = &self.bytes.as_slice()[self.at..];
+        let count = rest.len().min(into.len());
+        into[..count].copy_from_slice(&rest[..count]);
+        self.at += count;
+        Ok(count)
+    }
+}
+
+/// Takes all and keeps nothing. It tells nothing, and no write fails.
+#[derive(Debug, Drop)]
+pub struct SureSink;
+
+impl Sink for SureSink {
+    ghost taken = { λ _. None };
+
+    ghost faults = { λ _. 0 };
+
+    ghost writes = { λ _ _. Unit {0} };
+
+    ghost no_writes = { λ _. tt };
+
+    ghost more_writes = { λ _ _ _ _ _. tt };
+
+    fn write(&mut self, bytes: &[u8]) -> Result<usize, Failed> {
+        Ok(bytes.len())
+    }
+}

@@ -1,0 +1,59 @@
+//! The script: each line has a form, what it is told, and its calls.
+use crate::disks::{disk_row, sure_disk_row};
+use crate::journals::{journal_row, long_row, opened_row};
+use crate::links::{link_row, peer_row};
+use crate::ports::{dialer_row, port_row};
+use crate::streams::{clock_row, sink_row, source_row, sure_sink_row, sure_source_row};
+use crate::told::told_by;
+use hazard_types::Oom;
+use std::alloc::Global;
+use worked_lines::Work;
+
+/// Keeps nothing from line to line.
+#[derive(Drop)]
+pub struct Script {}
+
+/// The answer of a form, told by these words.
+fn told_row(alloc: Global, form: &str, words: &str, calls: &str) -> Result<String, Oom> {
+    let Some(told) = told_by(alloc, words)? else {
+        return Ok(String::from_str(alloc, "unread")?);
+    };
+    match form {
+        "source" => source_row(alloc, &told, calls),
+        "sure_source" => sure_source_row(alloc, &told, calls),
+        "sink" => sink_row(alloc, &told, calls),
+        "sure_sink" => sure_sink_row(alloc, calls),
+        "disk" => disk_row(alloc, &told, calls),
+        "sure_disk" => sure_disk_row(alloc, &told, calls),
+        "link" => link_row(alloc, &told, calls),
+        "peer" => peer_row(alloc, &told, calls),
+        "journal" => journal_row(alloc, &told, calls),
+        "opened" => opened_row(alloc, &told),
+        "long" => long_row(alloc, &told),
+        _ => Ok(String::from_str(alloc, "unread")?),
+    }
+}
+
+/// The answer of a line: `FORM WORDS : CALLS`.
+fn row(alloc: Global, line: &str) -> Result<String, Oom> {
+    let (made, calls) = line.split_once(" :").unwrap_or((line, ""));
+    let (form, words) = made.split_once(' ').unwrap_or((made, ""));
+    match form {
+        "clock" => clock_row(alloc, words, calls),
+        "port" => port_row(alloc, words, calls),
+        "dialer" => dialer_row(alloc, words, calls),
+        _ => told_row(alloc, form, words, calls),
+    }
+}
+
+impl Work for Script {
+    /// A line that is empty or a remark is answered by nothing.
+    fn work(&mut self, alloc: Global, line: &str) -> Result<String, Oom> {
+        if line.is_empty() || line.starts_with('#') {
+            return Ok(String::new(alloc));
+        }
+        let mut answer = row(alloc, line)?;
+        answer.push('\n')?;
+        Ok(answer)
+    }
+}

@@ -1,0 +1,107 @@
+//! Bytes and numbers in words, and bytes as text.
+ghost use Rattle.std.specs.Prelude.{◌<◌, IfSome};
+
+use hazard_types::{List, Oom, Text};
+use std::alloc::Global;
+
+/// What a digit of base 16 stands for.
+fn digit_of(byte: u8) -> Option<u8>
+    ensures { IfSome result (λ digit. digit < 16) }
+{
+    match byte {
+        b'0'..=b'9' => Some(byte - b'0'),
+        b'a'..=b'f' => Some(byte - b'a' + 10),
+        _ => None,
+    }
+}
+
+/// Adds the byte of two digits, and the bytes behind them. Answers whether there were two.
+fn add_escaped(bytes: &mut Text, piece: &[u8]) -> Result<bool, Oom> {
+    if piece.len() < 2 {
+        return Ok(false);
+    }
+    let (Some(high), Some(low)) = (digit_of(piece[0]), digit_of(piece[1])) else {
+        return Ok(false);
+    };
+    bytes.push(high * 16 + low)?;
+    bytes.extend(&piece[2..])?;
+    Ok(true)
+}
+
+/// The bytes of a word, in which `\` and two digits are one byte. `_` is no byte.
+pub fn bytes_of(alloc: Global, word: &str) -> Result<Option<Text>, Oom> {
+    let mut bytes = List::new(alloc);
+    if word == "_" {
+        return Ok(Some(bytes));
+    }
+    let mut is_first = true;
+    for piece in word.split('\\') {
+        if is_first {
+            bytes.extend(piece.as_bytes())?;
+            is_first = false;
+        } else if !add_escaped(&mut bytes, piece.as_bytes())? {
+            return Ok(None);
+        }
+    }
+    Ok(Some(bytes))
+}
+
+/// A digit of base 16.
+fn digit(value: u8) -> char
+    requires { value < 16 }
+{
+    if value < 10 {
+        char::from(b'0' + value)
+    } else {
+        char::from(b'a' + (value - 10))
+    }
+}
+
+/// Adds the bytes as `bytes_of` reads them.
+pub fn add_bytes(answer: &mut String, bytes: &[u8]) -> Result<(), Oom> {
+    if bytes.is_empty() {
+        answer.push('_')?;
+    }
+    for byte in bytes {
+        if b'!' <= *byte && *byte <= b'~' && *byte != b'\\' {
+            answer.push(char::from(*byte))?;
+        } else {
+            answer.push('\\')?;
+            answer.push(digit(*byte / 16))?;
+            answer.push(digit(*byte % 16))?;
+        }
+    }
+    Ok(())
+}
+
+/// Adds words, behind a comma where words stand before them.
+pub fn add(answer: &mut String, words: &str) -> Result<(), Oom> {
+    if !answer.is_empty() {
+        answer.push_str(", ")?;
+    }
+    answer.push_str(words)?;
+    Ok(())
+}
+
+/// Adds a part of an answer: its name and its bytes.
+pub fn add_part(answer: &mut String, name: &str, bytes: &[u8]) -> Result<(), Oom> {
+    answer.push_str("; ")?;
+    answer.push_str(name)?;
+    answer.push(' ')?;
+    add_bytes(answer, bytes)
+}
+
+/// Numbers with commas between them; `-` is none.
+pub fn numbers_of(alloc: Global, words: &str) -> Result<Option<List<u64>>, Oom> {
+    let mut numbers = List::new(alloc);
+    if words == "-" {
+        return Ok(Some(numbers));
+    }
+    for word in words.split(',') {
+        match word.parse::<u64>() {
+            Ok(number) => numbers.push(number)?,
+            Err(_) => return Ok(None),
+        }
+    }
+    Ok(Some(numbers))
+}
