@@ -1,6 +1,5 @@
 pub mod Lines
 pub mod Opening
 pub mod Scripts
-pub mod Grown
 pub mod Commands
 pub mod Unmade

@@ -1,15 +1,17 @@
-use Rattle.std.proofs.Common.{◌≡◌, ◌⊎◌, ◌∙◌, inl, ℤ, Some, Ok, Err, refl, ap, subst, w64}
+use Rattle.std.proofs.Common.{◌≡◌, ◌⊎◌, ◌∙◌, inl, ℕ, ℤ, List, Some, Ok, Err, option_map, refl, sym, ap, subst, w64}
 use Rattle.std.proofs.lemmas.Int.{to_z-of_z}
 use Rattle.desk_traits.proofs.Moments.{nothing, weaker}
 use Rattle.hazard_types.specs.declared.request.Reply.{Reply}
 use Rattle.request_json.specs.Replies.{reply_text}
-use Rattle.office_core.specs.Prepared.{IsReady}
+use Rattle.office_core.specs.Prepared.{IsReady, Readied}
 use Rattle.office_core.specs.Step.{Refuses, Repeats}
 use Rattle.office_journal.specs.Changes.{Change, Leaves}
+use Rattle.office_journal.specs.Outcomes.{Becomes, Names, StandsBeside}
 use Rattle.office_journal.specs.Submitting.{IsAsked, IsOffered, entered}
-use Rattle.office_journal.proofs.Answering.{asked_less, becomes_on, holds_on, ready_offered, still_as_before}
+use Rattle.office_journal.specs.declared.answers.Answer.{Answer}
+use Rattle.office_journal.proofs.Answering.{asked_less, becomes_on, holds_on, names_on, ready_offered, still_as_before}
 use Rattle.office_journal.proofs.Carrying.{leaves_less}
-use Rattle.office_journal.proofs.kept.KeptOffice.submit.Goals as goal
+use Rattle.office_journal.proofs.kept.KeptOffice.submit_told.Goals as goal
 
 pub keep-requires-clause-ready : goal.keep-requires-clause-ready
 keep-requires-clause-ready g c = (c.args.reading, subst (λ (z : ℤ). IsReady c.prepare.new.self c.args.desk c.args.seq c.args.r.now z c.in-New.p) (to_z-of_z w64 c.args.reading c.ranges.reading) (c.prepare.ensures.ready c.in-New.p (c.in-Ok.is ∙ ap (λ z. Ok z) c.in-New.is)))
@@ -19,9 +21,26 @@ returns-in-New-clause-becomes g c =
     let d = g.D.Disk in
     let s = c.args.self.now.office.state in
     let ready : IsReady c.prepare.new.self c.args.desk c.args.seq c.args.r.now c.args.reading c.in-New.p = subst (λ (z : ℤ). IsReady c.prepare.new.self c.args.desk c.args.seq c.args.r.now z c.in-New.p) (to_z-of_z w64 c.args.reading c.ranges.reading) (c.prepare.ensures.ready c.in-New.p (c.in-Ok.is ∙ ap (λ z. Ok z) c.in-New.is)) in
-    becomes_on d.seen d.may_leave c.args.self.now _ refl c.prepare.ensures.state refl refl c.keep.new.self d.faults (entered c.in-New.p) (IsOffered s c.args.desk c.args.seq c.args.r.now c.args.reading)
-    (λ text. (kept : Reply) × Repeats s c.args.desk c.args.seq c.args.r.now kept × (text ≡ reply_text kept)) (Refuses s c.args.desk c.args.seq c.args.r.now c.args.reading)
-    (ready_offered c.prepare.new.self s c.args.desk c.args.seq c.args.r.now c.args.reading c.in-New.p c.prepare.ensures.state ready) c.keep.result c.keep.ensures.becomes
+    let kept : List ℕ → Type 0 = λ text. (kept : Reply) × Repeats s c.args.desk c.args.seq c.args.r.now kept × (text ≡ reply_text kept) in
+    let offered = IsOffered s c.args.desk c.args.seq c.args.r.now c.args.reading in
+    let broken = Refuses s c.args.desk c.args.seq c.args.r.now c.args.reading in
+    subst (λ (a : Answer). Becomes d.seen d.may_leave d.faults c.args.self.now c.keep.new.self offered kept broken a) (sym c.beside.ensures.answer)
+    (becomes_on d.seen d.may_leave c.args.self.now _ refl c.prepare.ensures.state refl refl c.keep.new.self d.faults (entered c.in-New.p) offered kept broken
+    (ready_offered c.prepare.new.self s c.args.desk c.args.seq c.args.r.now c.args.reading c.in-New.p c.prepare.ensures.state ready) c.keep.result c.keep.ensures.becomes)
+
+pub returns-in-New-clause-told : goal.returns-in-New-clause-told
+returns-in-New-clause-told g c =
+    let d = g.D.Disk in
+    let s = c.args.self.now.office.state in
+    let ready : IsReady c.prepare.new.self c.args.desk c.args.seq c.args.r.now c.args.reading c.in-New.p = subst (λ (z : ℤ). IsReady c.prepare.new.self c.args.desk c.args.seq c.args.r.now z c.in-New.p) (to_z-of_z w64 c.args.reading c.ranges.reading) (c.prepare.ensures.ready c.in-New.p (c.in-Ok.is ∙ ap (λ z. Ok z) c.in-New.is)) in
+    let kept : List ℕ → Type 0 = λ text. (kept : Reply) × Repeats s c.args.desk c.args.seq c.args.r.now kept × (text ≡ reply_text kept) in
+    let offered = IsOffered s c.args.desk c.args.seq c.args.r.now c.args.reading in
+    let broken = Refuses s c.args.desk c.args.seq c.args.r.now c.args.reading in
+    let told = option_map (λ t. t.value) c.beside.result.1 in
+    let beside = subst (λ (p : Readied). StandsBeside c.keep.result p told) c.of.ensures c.beside.ensures.told in
+    subst (λ (a : Answer). Names d.seen d.may_leave d.faults c.args.self.now c.keep.new.self offered kept broken a told) (sym c.beside.ensures.answer)
+    (names_on d.seen d.may_leave c.args.self.now _ refl c.prepare.ensures.state refl refl c.keep.new.self d.faults c.in-New.p offered kept broken
+    (ready_offered c.prepare.new.self s c.args.desk c.args.seq c.args.r.now c.args.reading c.in-New.p c.prepare.ensures.state ready) c.keep.result told c.keep.ensures.becomes beside)
 
 pub returns-in-New-clause-any_moment : goal.returns-in-New-clause-any_moment
 returns-in-New-clause-any_moment g c file h pending holds =
