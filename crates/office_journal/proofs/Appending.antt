@@ -80,24 +80,19 @@ module _ {D : Type 0} {d : _} (seen : D → Option (List ℕ)) (may_leave : D �
   pub left_then : (c : List ℕ) → IsOneOf (bodies file h) (option_map body_of pending) body c → Leaves file h (λ change. (pending ≡ Some change) ⊎ (change ≡ Change.entry (entered p))) c
   left_then c one = left_between file h old.office.state holds.history pending (Change.entry (entered p)) body holds.change behind.may written (λ change. change ≡ Change.entry (entered p)) refl c one
 
-module _ {D : Type 0} {d : _} (old new : KeptOffice D d) (p : Readied) (law : AreInTime) (may : MayEnter old.office p)
-    (body : List ℕ) (written : body ≡ body_of (Change.entry (entered p))) (room : gate_of old + 6 + length body ≤ 268435456)
-    (gate : gate_of new ≡ gate_of old + (length body + 5)) where
-  -- the last gate stands behind the entry
-  pub gate_then : gate_of new ≡ gate_of old + (5 + length (entry_body (entered p)))
-  gate_then = omega (arith, gate, ap length written)
-
-  -- the history goes on by it
-  pub legal_then : state_of new ≡ state_after (state_of old) p.entry p.made → entries_of new ≡ entries_of old + 1
-      → (file : List ℕ) (h : History) → HasHistory old file h → HasHistory new file (changed h (Change.entry (entered p)))
-  legal_then state entries file h has =
+module _ {D : Type 0} {d : _} (old : KeptOffice D d) (p : Readied) (law : AreInTime) (may : MayEnter old.office p)
+    (body : List ℕ) (written : body ≡ body_of (Change.entry (entered p))) (room : gate_of old + 6 + length body ≤ 268435456) (file : List ℕ) (h : History) (has : HasHistory old file h) where
+  -- the history goes on by the entry
+  pub legal_then : (new : KeptOffice D d) → state_of new ≡ state_after (state_of old) p.entry p.made → entries_of new ≡ entries_of old + 1 → gate_of new ≡ gate_of old + (length body + 5)
+      → HasHistory new file (changed h (Change.entry (entered p)))
+  legal_then new state entries gate =
       let behind = follows file h old.office has.history may.desk may.seq may.request may.reading p may.form may.ready
       (law old.office.state may.desk may.seq may.request may.reading p.entry.minute p.made) (gate_of old) has.gate body written room in
+      let grows = ap (λ (l : List (List ℕ)). length (records l)) (bodies_grow file h (Change.entry (entered p)) old.office.state has.history behind.may) in
       record {
         history = subst (λ (z : State). IsHistory file (changed h (Change.entry (entered p))) z) (sym state) behind.after;
         entries = one_more h.entries (entered p) (entries_of old) (entries_of new) has.entries entries;
-        gate = gate_then ∙ ap (λ (n : ℕ). n + (5 + length (entry_body (entered p)))) has.gate ∙ sym (records_push (bodies file h) (entry_body (entered p)))
-            ∙ sym (ap (λ (l : List (List ℕ)). length (records l)) (bodies_grow file h (Change.entry (entered p)) old.office.state has.history behind.may));
+        gate = omega (arith, gate, ap length written, has.gate, records_push (bodies file h) (entry_body (entered p)), grows);
       }
 
 -- where an entry is not appended, all is as it was

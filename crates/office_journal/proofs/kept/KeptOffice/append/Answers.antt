@@ -4,7 +4,7 @@ use Rattle.journal_core.specs.Image.{IsOneOf}
 use Rattle.office_journal.specs.Changes.{Change, Leaves, body_of}
 use Rattle.office_journal.specs.Histories.{bodies}
 use Rattle.office_journal.specs.Submitting.{entered}
-use Rattle.office_journal.proofs.Appending.{gate_then, held_still, held_then, left_then, legal_then}
+use Rattle.office_journal.proofs.Appending.{held_still, held_then, left_then, legal_then}
 use Rattle.office_journal.proofs.kept.KeptOffice.append.Goals as goal
 
 pub returns-in-Ok-clause-becomes : goal.returns-in-Ok-clause-becomes
@@ -14,12 +14,12 @@ returns-in-Ok-clause-becomes g c =
       refl,
       c.requires.reply,
       record {
-        gate = gate_then c.args.self.now _ c.args.p c.accepted_requests_are_accepted_at_their_minute.ensures c.requires.ready c.args.packet.now c.requires.body c.requires.room c.in-Ok.ensures.gate;
+        gate = omega (arith, c.in-Ok.ensures.gate, ap length c.requires.body);
         state = c.commit.ensures.state;
         entries = refl;
         notes = refl;
         reads = c.commit.ensures.reads;
-        legal = legal_then c.args.self.now _ c.args.p c.accepted_requests_are_accepted_at_their_minute.ensures c.requires.ready c.args.packet.now c.requires.body c.requires.room c.in-Ok.ensures.gate c.commit.ensures.state refl;
+        legal = λ file h has. legal_then c.args.self.now c.args.p c.accepted_requests_are_accepted_at_their_minute.ensures c.requires.ready c.args.packet.now c.requires.body c.requires.room file h has _ c.commit.ensures.state refl c.in-Ok.ensures.gate;
         held = λ file h pending holds.
             held_then d.seen d.may_leave c.args.self.now c.args.p c.accepted_requests_are_accepted_at_their_minute.ensures c.requires.ready c.args.packet.now c.requires.body c.requires.room
             file h pending holds _ c.commit.ensures.state refl (c.in-Ok.ensures.ok (bodies file h) (option_map body_of pending) holds.journal);

@@ -37,7 +37,7 @@ returns-in-New-clause-told g c =
     let offered = IsOffered s c.args.desk c.args.seq c.args.r.now c.args.reading in
     let broken = Refuses s c.args.desk c.args.seq c.args.r.now c.args.reading in
     let told = option_map (λ t. t.value) c.beside.result.1 in
-    let beside = subst (λ (p : Readied). StandsBeside c.keep.result p told) c.of.ensures c.beside.ensures.told in
+    let beside = subst (λ (p : Readied). StandsBeside c.keep.result p told) c.of-told.ensures c.beside.ensures.told in
     subst (λ (a : Answer). Names d.seen d.may_leave d.faults c.args.self.now c.keep.new.self offered kept broken a told) (sym c.beside.ensures.answer)
     (names_on d.seen d.may_leave c.args.self.now _ refl c.prepare.ensures.state refl refl c.keep.new.self d.faults c.in-New.p offered kept broken
     (ready_offered c.prepare.new.self s c.args.desk c.args.seq c.args.r.now c.args.reading c.in-New.p c.prepare.ensures.state ready) c.keep.result told c.keep.ensures.becomes beside)
