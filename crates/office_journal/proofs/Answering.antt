@@ -66,18 +66,19 @@ module _ {D : Type 0} {d : _} (seen : D → Option (List ℕ)) (may_leave : D �
       held = λ file h pending holds. is.held file h pending (holds_on file h pending holds);
     }
 
-    entered_on : (x : Entered) → HasEntered seen may_leave mid new x → HasEntered seen may_leave old new x
-    entered_on x is = record {
-      gate = is.gate ∙ ap (λ (n : ℕ). n + (5 + length (entry_body x))) gate_same;
-      state = is.state ∙ ap (λ (z : State). state_after z x.entry x.made) state;
-      entries = is.entries ∙ ap (λ (n : ℕ). n + 1) entries;
-      notes = is.notes ∙ notes;
-      reads = is.reads;
-      legal = λ file h has. is.legal file h (history_on file h has);
-      held = λ file h pending holds. is.held file h pending (holds_on file h pending holds);
-    }
-
     module _ (faults : D → ℕ) where
+      entered_on : (x : Entered) → HasEntered seen may_leave faults mid new x → HasEntered seen may_leave faults old new x
+      entered_on x is = record {
+        steady = subst (λ (z : D). faults (disk_of new) ≡ faults z) disk_same is.steady;
+        gate = is.gate ∙ ap (λ (n : ℕ). n + (5 + length (entry_body x))) gate_same;
+        state = is.state ∙ ap (λ (z : State). state_after z x.entry x.made) state;
+        entries = is.entries ∙ ap (λ (n : ℕ). n + 1) entries;
+        notes = is.notes ∙ notes;
+        reads = is.reads;
+        legal = λ file h has. is.legal file h (history_on file h has);
+        held = λ file h pending holds. is.held file h pending (holds_on file h pending holds);
+      }
+
       failed_on : (x : Entered) → HasFailed seen may_leave faults mid new x → HasFailed seen may_leave faults old new x
       failed_on x is = record {
         cause = subst (λ (z : D). Rose (faults z) (faults (disk_of new))) disk_same is.cause;
@@ -105,7 +106,7 @@ module _ {D : Type 0} {d : _} (seen : D → Option (List ℕ)) (may_leave : D �
   pub names_on : (new : KeptOffice D d) (faults : D → ℕ) (p : Readied) (offered : Entered → Type 0) (kept : List ℕ → Type 0) (broken : Refusal → Type 0) → offered (entered p)
       → (answer : Answer) (told : Option Readied) → Becomes seen may_leave faults mid new (λ x. x ≡ entered p) (λ text. ⊥) (λ x. ⊥) answer → StandsBeside answer p told → Names seen may_leave faults old new offered kept broken answer told
   names_on new faults p offered kept broken so (Accepted text) told (x, is, reply, has) beside =
-      (p, beside, so, reply ∙ ap (λ (y : Entered). reply_text y.entry.reply) is, subst (λ (y : Entered). HasEntered seen may_leave old new y) is (entered_on new x has))
+      (p, beside, so, reply ∙ ap (λ (y : Entered). reply_text y.entry.reply) is, subst (λ (y : Entered). HasEntered seen may_leave faults old new y) is (entered_on new faults x has))
   names_on new faults p offered kept broken so (Repeated text) told becomes beside = beside
   names_on new faults p offered kept broken so (Refused x) told becomes beside = beside
   names_on new faults p offered kept broken so DiskFault told becomes beside = beside

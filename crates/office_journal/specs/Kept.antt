@@ -24,7 +24,7 @@ state_of kept = kept.office.state
 abbrev pub entries_of : {D : Type 0} {d : _} → KeptOffice D d → ℕ
 entries_of kept = kept.entries
 
--- how many appends met a disk fault since the office was opened
+-- how many requests met a disk fault since the office was opened
 abbrev pub notes_of : {D : Type 0} {d : _} → KeptOffice D d → ℕ
 notes_of kept = kept.notes
 

@@ -29,7 +29,8 @@ pub record IsAsBefore {D : Type 0} {d : _} (seen : D → Option (List ℕ)) (may
   pub held : (file : List ℕ) (h : History) (pending : Option Change) → Holds seen may_leave old file h pending → Holds seen may_leave new file h pending
 
 -- the entry stands in the journal, durably, and the office is in the state behind it
-pub record HasEntered {D : Type 0} {d : _} (seen : D → Option (List ℕ)) (may_leave : D → List ℕ → Type 0) (old new : KeptOffice D d) (x : Entered) : Type 0 where
+pub record HasEntered {D : Type 0} {d : _} (seen : D → Option (List ℕ)) (may_leave : D → List ℕ → Type 0) (faults : D → ℕ) (old new : KeptOffice D d) (x : Entered) : Type 0 where
+  pub steady : faults (disk_of new) ≡ faults (disk_of old)
   pub gate : gate_of new ≡ gate_of old + (5 + length (entry_body x))
   pub state : state_of new ≡ state_after (state_of old) x.entry x.made
   pub entries : entries_of new ≡ entries_of old + 1
@@ -70,7 +71,7 @@ IsAgain said OutOfMemory = Unit {0}
 -- what an answer says, where entries of these may be offered, these texts may be kept replies, and these rules may be broken
 module _ {D : Type 0} {d : _} (seen : D → Option (List ℕ)) (may_leave : D → List ℕ → Type 0) (faults : D → ℕ) (old new : KeptOffice D d) (offered : Entered → Type 0) (kept : List ℕ → Type 0) (broken : Refusal → Type 0) where
   abbrev pub Becomes : Answer → Type 0
-  Becomes (Accepted text) = (x : Entered) × offered x × (text ≡ reply_text x.entry.reply) × HasEntered seen may_leave old new x
+  Becomes (Accepted text) = (x : Entered) × offered x × (text ≡ reply_text x.entry.reply) × HasEntered seen may_leave faults old new x
   Becomes (Repeated text) = kept text × IsAsBefore seen may_leave old new
   Becomes (Refused x) = (broken x ⊎ ((x ≡ JournalFull) × (e : Entered) × offered e × IsTooLong (gate_of old) e)) × IsAsBefore seen may_leave old new
   Becomes DiskFault = (x : Entered) × offered x × HasFailed seen may_leave faults old new x
@@ -78,7 +79,7 @@ module _ {D : Type 0} {d : _} (seen : D → Option (List ℕ)) (may_leave : D �
 
   -- beside an answer that accepts stands what was prepared, and its entry is the one that was added; beside another answer nothing stands
   abbrev pub Names : Answer → Option Readied → Type 0
-  Names (Accepted text) told = (p : Readied) × (told ≡ Some p) × offered (entered p) × (text ≡ reply_text p.entry.reply) × HasEntered seen may_leave old new (entered p)
+  Names (Accepted text) told = (p : Readied) × (told ≡ Some p) × offered (entered p) × (text ≡ reply_text p.entry.reply) × HasEntered seen may_leave faults old new (entered p)
   Names (Repeated text) told = told ≡ None
   Names (Refused x) told = told ≡ None
   Names DiskFault told = told ≡ None

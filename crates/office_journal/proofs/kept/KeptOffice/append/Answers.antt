@@ -14,6 +14,7 @@ returns-in-Ok-clause-becomes g c =
       refl,
       c.requires.reply,
       record {
+        steady = c.in-Ok.ensures.steady;
         gate = omega (arith, c.in-Ok.ensures.gate, ap length c.requires.body);
         state = c.commit.ensures.state;
         entries = refl;
