@@ -5,7 +5,6 @@ use Rattle.std.proofs.lemmas.List.{drop_more}
 use Rattle.desk_traits.specs.Streams.{Adds}
 use Rattle.desk_traits.proofs.Pieces.{adds_both}
 use Rattle.program_ends.specs.declared.reading.Stop.{Stop}
-use Rattle.program_ends.specs.declared.reading.Stop.TheVariants as stop
 use Rattle.program_ends.specs.Lines.{Pending, pending_of, lines_from, rest_from, without_return, fit}
 use Rattle.program_ends.specs.Runs.{Answered}
 use Rattle.program_ends.specs.Steps.{Feeds, Halts, HaltsAt, Replies}

@@ -1,5 +1,5 @@
 -- A run over lines whose end was told.
-use Rattle.std.proofs.Common.{ℕ, ◌≡◌, ◌≢◌, ◌==◌, List, [], ◌∷◌, ◌++◌, Option, Some, Result, Ok, Err, IsErrOf, refl, ap, sym, ◌∙◌, ◌⊎◌, inl, inr, rules, arith}
+use Rattle.std.proofs.Common.{ℕ, ◌≡◌, ◌≢◌, List, [], ◌∷◌, ◌++◌, Option, Some, Result, Ok, Err, IsErrOf, refl, ap, sym, ◌∙◌, ◌⊎◌, inl, inr, rules, arith}
 use Rattle.std.proofs.lemmas.Bool.Decides.{eqb_tells}
 use Rattle.desk_traits.specs.Faults.{Rose}
 use Rattle.desk_traits.specs.Streams.{Adds}

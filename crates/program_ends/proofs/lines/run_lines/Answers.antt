@@ -1,4 +1,4 @@
-use Rattle.std.proofs.Common.{Ok, Err, Some, subst, sym}
+use Rattle.std.proofs.Common.{Ok, Err, Some, subst}
 use Rattle.program_ends.specs.declared.ends.End.{End}
 use Rattle.program_ends.proofs.Finishing.{Tells, run_told}
 use Rattle.program_ends.proofs.lines.run_lines.Goals as goal
