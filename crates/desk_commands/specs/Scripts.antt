@@ -1,6 +1,5 @@
 -- What the lines of a script are answered, and how the kept office grows by them.
-use Rattle.std.specs.Prelude.{◌≡◌, ◌⊎◌, ◌++◌, ◌+◌, ◌≤◌, ℕ, ℤ, List, [], ◌∷◌, Option, None, Some, Result, Ok, Err, Contains}
-use Rattle.std.specs.List.{flat_map}
+use Rattle.std.specs.Prelude.{◌≡◌, ◌⊎◌, ◌++◌, ◌+◌, ◌≤◌, ℕ, ℤ, List, [], ◌∷◌, Option, None, Some, Result, Ok, Err}
 use Rattle.desk_traits.specs.Clocks.{GivesTheSame, Ticks}
 use Rattle.desk_traits.specs.Crash.{LeavesOnly}
 use Rattle.desk_traits.specs.declared.clocks.Clock.{Ghosts as Clocks}
@@ -43,7 +42,8 @@ pub record Said : Type 0 where
 
 -- all that is told
 abbrev pub texts_in : List Said → List ℕ
-texts_in said = flat_map (λ (w : Said). w.text) said
+texts_in [] = []
+texts_in (w ∷ said) = w.text ++ texts_in said
 
 abbrev pub with_added : Gave → List Entered → List Entered
 with_added Gave.nothing entries = entries
@@ -65,9 +65,13 @@ abbrev pub failed_from : List Entered → List Said → List Entered
 failed_from failed [] = failed
 failed_from failed (w ∷ said) = failed_from (failed_after failed w.gave) said
 
+abbrev pub IsAmong : Entered → List Entered → Type 0
+IsAmong x [] = ⊥
+IsAmong x (y ∷ entries) = (x ≡ y) ⊎ IsAmong x entries
+
 -- What may be pending behind these lines: an entry under which the disk failed, since an entry was last added. So nothing is where the last entry that was given to the disk was added.
 abbrev pub MayPend : List Entered → Change → Type 0
-MayPend failed (Change.entry x) = Contains failed x
+MayPend failed (Change.entry x) = IsAmong x failed
 MayPend failed Change.marked = ⊥
 
 abbrev pub one_if_failed : Gave → ℕ

@@ -41,6 +41,9 @@ grown_twice h first second = ap (with_entries h) (append_assoc h.entries first s
 pub grown_follows : (h : History) (entries : List Entered) → Follows h (grown h entries)
 grown_follows h entries = record { entries = entries; behind = refl; edition = follows_itself h.edition }
 
+pub follows_self : (h : History) → Follows h h
+follows_self h = record { entries = []; behind = sym (append-nil h.entries); edition = follows_itself h.edition }
+
 -- before anything was added
 pub at_start : (file : List ℕ) (h last : History) (P : Change → Type 0) (c : List ℕ) → Follows h last → Leaves file h P c → IsBetween file h last c
 at_start file h last P c follows leaves = record {
