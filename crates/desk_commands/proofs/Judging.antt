@@ -1,5 +1,6 @@
 -- What comes of a line that is judged.
-use Rattle.std.proofs.Common.{ℕ, ℤ, ◌==◌, length, ◌≡◌, ◌≤◌, ◌⊎◌, inl, inr, List, [], ◌∷◌, Bool, true, false, Option, None, Some, Result, Ok, Err, refl, sym, ◌∙◌, subst}
+use Rattle.std.proofs.Common.{ℕ, ℤ, ◌==◌, length, ◌≡◌, ◌≤◌, ◌⊎◌, inl, inr, List, [], ◌∷◌, Bool, true, false, Option, None, Some, Result, Ok, Err, refl, ap, sym, ◌∙◌, subst}
+use Rattle.std.proofs.lemmas.Bool.{eqb-true}
 use Rattle.desk_traits.specs.Crash.{LeavesOnly}
 use Rattle.desk_traits.specs.declared.clocks.Clock.{Ghosts as Clocks}
 use Rattle.desk_traits.specs.declared.disk.Disk.{Ghosts as Disks}
@@ -68,6 +69,18 @@ module _ {D C : Type 0} (d : Disks D) (k : Clocks C) where
   fault_line (Some (c ∷ line)) s next x reading text some asked read same told =
       (said text reading Gave.nothing, refl, (reading, refl, read, faulty s next x reading text (line_asks (Some (c ∷ line))) asked same told))
 
+  pub refused_line : (line : Option (List ℕ)) (bytes : List ℕ) → line ≡ Some bytes → (s next : Scripted (KeptOffice D d) C) (x : Refusal) (reading : ℤ) (text : List ℕ) → (bytes ≡ [] → ⊥) → asked_of bytes ≡ Err x → IsRead k s.clock next.clock reading
+      → next.kept ≡ s.kept → (text ≡ refusal_line x) ⊎ (text ≡ ended out_of_memory_text) → Answers d k s line text next
+  refused_line line bytes is s next x reading text some asked read same told =
+      fault_line line s next x reading text (λ e. some (same_bytes (sym is ∙ e))) (subst (λ (l : Option (List ℕ)). line_asks l ≡ Err x) (sym is) asked) read same told
+    where
+      same_bytes : Some bytes ≡ Some [] → bytes ≡ []
+      same_bytes e = cc
+
+  pub empty_line : (line : Option (List ℕ)) (bytes : List ℕ) → line ≡ Some bytes → (s : Scripted (KeptOffice D d) C) → bytes ≡ [] → Answers d k s line [] s
+  empty_line line bytes is s none =
+      subst (λ (l : Option (List ℕ)). Answers d k s l [] s) (sym (is ∙ ap Some none)) (record { text = []; reading = None; gave = Gave.nothing }, refl, (refl, refl, refl, refl))
+
   -- memory lacked before it was read
   pub lacking_line : (line : Option (List ℕ)) (bytes : List ℕ) → line ≡ Some bytes → (s next : Scripted (KeptOffice D d) C) (reading : ℤ) (text : List ℕ) → (bytes ≡ [] → ⊥) → IsRead k s.clock next.clock reading
       → next.kept ≡ s.kept → text ≡ ended out_of_memory_text → Answers d k s line text next
@@ -81,3 +94,7 @@ module _ {D C : Type 0} (d : Disks D) (k : Clocks C) where
 pub some_bytes : (bytes : List ℕ) (b : Bool) → b ≡ (length bytes == 0) → b ≡ false → bytes ≡ [] → ⊥
 some_bytes [] b is none e = absurd (let f : true ≡ false = sym is ∙ none in cc)
 some_bytes (c ∷ bytes) b is none e = absurd (cc)
+
+pub no_bytes : (bytes : List ℕ) (b : Bool) → b ≡ (length bytes == 0) → b ≡ true → bytes ≡ []
+no_bytes [] b is some = refl
+no_bytes (c ∷ bytes) b is some = absurd (let e : length (c ∷ bytes) ≡ 0 = eqb-true (length (c ∷ bytes)) 0 (sym is ∙ some) in cc)

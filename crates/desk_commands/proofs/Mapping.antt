@@ -1,12 +1,18 @@
 -- A run over lines told over what states show, where memory never lacks for an answer.
 use Rattle.std.proofs.Common.{ℕ, ◌≡◌, inl, inr, List, [], ◌∷◌, Option, ap, ◌∙◌}
+use Rattle.program_ends.proofs.Mapping.{ends_at_last}
 use Rattle.program_ends.specs.Runs.{Answered, Breaks, IsBroken, IsLinesRun, IsUnbegun}
 
 -- what no answer changes
-module _ {A N : Type 0} (name : A → N) (under : A → Option (List ℕ) → List ℕ → A → Type 0) (keeps : (x : A) (line : Option (List ℕ)) (text : List ℕ) (y : A) → under x line text y → name y ≡ name x) where
-  pub same_name : (a z : A) (lines : List (List ℕ)) (told : List ℕ) → Answered under a lines told z → name z ≡ name a
+module _ {A N : Type 0} (name : A → N) (under : A → Option (List ℕ) → List ℕ → A → Type 0) (keeps : (x : A) (line : Option (List ℕ)) (text : List ℕ) (y : A) → under x line text y → name y ≡ name x)
+    (never : A → Option (List ℕ) → A → Type 0) (no : (x : A) (line : Option (List ℕ)) (y : A) → never x line y → ⊥) where
+  same_name : (a z : A) (lines : List (List ℕ)) (told : List ℕ) → Answered under a lines told z → name z ≡ name a
   same_name a z [] told h = ap name h.1
   same_name a z (line ∷ lines) told h = same_name h.1 z lines h.2 h.5 ∙ keeps a _ h.0 h.1 h.3
+
+  pub last_name : (limit : ℕ) (a z : A) (left left' taken taken' : Option (List ℕ)) (reads reads' writes writes' status : ℕ) → IsLinesRun under never limit a z left left' taken taken' reads reads' writes writes' status → name z ≡ name a
+  last_name limit a z left left' taken taken' reads reads' writes writes' status run =
+      ap name (ends_at_last under never no limit a z left left' run.end run.told run.run) ∙ same_name a run.run.last run.run.lines run.told run.run.answered
 
 module _ {A B : Type 0} (f : A → B) (under : A → Option (List ℕ) → List ℕ → A → Type 0) (answers : B → Option (List ℕ) → List ℕ → B → Type 0)
     (says : (x : A) (line : Option (List ℕ)) (text : List ℕ) (y : A) → under x line text y → answers (f x) line text (f y))

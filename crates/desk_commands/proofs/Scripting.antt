@@ -150,7 +150,7 @@ module _ {D : Type 0} (d : Disks D) (start : ℕ) where
     with_more : (h : History) (gave : Gave) (more : List Entered) → grown (grown h (with_added gave [])) more ≡ grown h (with_added gave more)
     with_more h Gave.nothing more = grown_twice h [] more
     with_more h (Gave.added x) more = grown_twice h (x ∷ []) more
-    with_more h (Gave.failed x) more = grown_twice h [] more
+    with_more h (Gave.faulted x) more = grown_twice h [] more
 
     module _ {C : Type 0} (k : Clocks C) where
       pub lines_go : (file : List ℕ) (h : History) (failed : List Entered) (s : Scripted (KeptOffice D d) C) (lines : List (List ℕ)) (said : List Said) (z : Scripted (KeptOffice D d) C)

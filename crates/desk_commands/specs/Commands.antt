@@ -102,6 +102,10 @@ abbrev pub IsBoardAt : {C : Type 0} (k : Clocks C) → Option ℕ → C → C �
 IsBoardAt k None clock next at = IsRead k clock next at
 IsBoardAt k (Some minute) clock next at = (at ≡ pos minute) × (next ≡ clock)
 
+-- a run over lines in which memory never lacks for an answer
+abbrev pub AnswersLines : {D C : Type 0} (d : Disks D) (k : Clocks C) → ℕ → Scripted (KeptOffice D d) C → Scripted (KeptOffice D d) C → Option (List ℕ) → Option (List ℕ) → Option (List ℕ) → Option (List ℕ) → ℕ → ℕ → ℕ → ℕ → ℕ → Type 0
+AnswersLines d k limit s z left left' taken taken' reads reads' writes writes' status = IsLinesRun (Answers d k) (λ x line y. ⊥) limit s z left left' taken taken' reads reads' writes writes' status
+
 module _ {D : Type 0} (d : Disks D) where
   -- Nothing was added: the history is the one that was found, and the disk stands as it did.
   abbrev pub Stays : D → D → KeptOffice D d → Type 0
@@ -114,7 +118,7 @@ module _ {D : Type 0} (d : Disks D) where
     -- office and clock at the end
     pub after : Scripted (KeptOffice D d) C
     pub clock_is : after.clock ≡ clock'
-    pub run : IsLinesRun (Answers d k) (λ s line z. ⊥) limit (record { kept = opened; clock = clock }) after left left' taken taken' reads reads' writes writes' status
+    pub run : AnswersLines d k limit (record { kept = opened; clock = clock }) after left left' taken taken' reads reads' writes writes' status
     -- what came of each line that was answered, in order
     pub said : List Said
     pub goes : Goes d k (record { kept = opened; clock = clock }) run.run.lines said after

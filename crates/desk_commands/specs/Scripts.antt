@@ -32,7 +32,7 @@ pub record Scripted (K C : Type 0) : Type 0 where
 pub data Gave : Type 0 where
   nothing : Gave
   added : Entered → Gave
-  failed : Entered → Gave
+  faulted : Entered → Gave
 
 -- what came of a line: the text of its answer, the reading at which it was judged, unless it is empty, and what it gave to the disk
 pub record Said : Type 0 where
@@ -48,7 +48,7 @@ texts_in (w ∷ said) = w.text ++ texts_in said
 abbrev pub with_added : Gave → List Entered → List Entered
 with_added Gave.nothing entries = entries
 with_added (Gave.added x) entries = x ∷ entries
-with_added (Gave.failed x) entries = entries
+with_added (Gave.faulted x) entries = entries
 
 -- the entries that lines added, in order
 abbrev pub entries_in : List Said → List Entered
@@ -59,7 +59,7 @@ entries_in (w ∷ said) = with_added w.gave (entries_in said)
 abbrev pub failed_after : List Entered → Gave → List Entered
 failed_after failed Gave.nothing = failed
 failed_after failed (Gave.added x) = []
-failed_after failed (Gave.failed x) = x ∷ failed
+failed_after failed (Gave.faulted x) = x ∷ failed
 
 abbrev pub failed_from : List Entered → List Said → List Entered
 failed_from failed [] = failed
@@ -77,7 +77,7 @@ MayPend failed Change.marked = ⊥
 abbrev pub one_if_failed : Gave → ℕ
 one_if_failed Gave.nothing = 0
 one_if_failed (Gave.added x) = 0
-one_if_failed (Gave.failed x) = 1
+one_if_failed (Gave.faulted x) = 1
 
 -- how many lines were answered that the disk failed
 abbrev pub faults_in : List Said → ℕ
@@ -133,7 +133,7 @@ module _ {D : Type 0} (d : Disks D) where
   gave_in a reading kept next (Accepted text) becomes = Gave.added becomes.0
   gave_in a reading kept next (Repeated text) becomes = Gave.nothing
   gave_in a reading kept next (Refused x) becomes = Gave.nothing
-  gave_in a reading kept next DiskFault becomes = Gave.failed becomes.0
+  gave_in a reading kept next DiskFault becomes = Gave.faulted becomes.0
   gave_in a reading kept next OutOfMemory becomes = Gave.nothing
 
   -- The request was submitted; its answer is told, and this was given to the disk. A crash at any moment of it leaves the history that the journal stands for, or that with one change, which was pending or is this request's entry.

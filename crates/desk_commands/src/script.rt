@@ -1,12 +1,13 @@
 //! The command `script`.
-ghost use Rattle.std.specs.Prelude.{◌≡◌, ◌+◌, ◌<◌, ◌^◌, ◌⊎◌, ◌×◌};
+ghost use Rattle.std.specs.Prelude.{◌≡◌, ◌+◌, ◌<◌, ◌^◌, ◌⊎◌};
 ghost use Rattle.request_json.specs.Formed.{HasForm};
 ghost use Rattle.request_json.specs.Replies.{out_of_memory_text};
 ghost use Rattle.program_ends.specs.Replies.{bytes_of};
 ghost use Rattle.desk_commands.specs.Opening.{IsOpened, IsUnopenedRun, IsUnread};
 ghost use Rattle.desk_commands.specs.Lines.{ended, refusal_line};
 ghost use Rattle.desk_commands.specs.Scripts.{Gave, IsJudged};
-ghost use Rattle.desk_commands.specs.Commands.{IsScriptRun};
+ghost use Rattle.desk_commands.specs.Commands.{AnswersLines, IsScriptRun};
+ghost use Rattle.desk_commands.specs.Held.{HasReferences, scripted};
 
 use crate::ended::Ended;
 use crate::opening::open;
@@ -21,7 +22,7 @@ use std::alloc::Global;
 /// A kept office, and the clock by which its lines are judged.
 #[derive(Drop)]
 pub struct Script<'a, D: Disk, C: Clock> {
-    kept: KeptOffice<D>,
+    kept: &'a mut KeptOffice<D>,
     clock: &'a mut C,
 }
 
@@ -39,9 +40,9 @@ impl<'a, D: Disk, C: Clock> Script<'a, D, C> {
     /// Judges a request at a reading.
     fn judge(&mut self, alloc: Global, asked: &Asked, reading: i64) -> Reply
         requires form { HasForm asked.now }
-        ensures judged { (gave : Gave) × IsJudged D.Disk asked.now reading self.old.kept (bytes_of result) self.new.kept gave }
+        ensures judged { (gave : Gave) × IsJudged D.Disk asked.now reading self.old.kept.now (bytes_of result) self.new.kept.now gave }
         ensures clock { self.new.clock.now ≡ self.old.clock.now }
-        ensures same_reference { self.new.clock.ghost_name ≡ self.old.clock.ghost_name }
+        ensures references { HasReferences self.old self.new }
     {
         match self
             .kept
@@ -57,11 +58,10 @@ impl<'a, D: Disk, C: Clock> Script<'a, D, C> {
 }
 
 impl<'a, D: Disk, C: Clock> Answers for Script<'a, D, C> {
-    ghost use Rattle.std.specs.Prelude.{◌≡◌, ◌×◌};
+    ghost use Rattle.desk_commands.specs.Held.{HasReferences, scripted};
     ghost use Rattle.desk_commands.specs.Scripts.{Answers as Replies};
 
-    ghost answers = { λ s line text next. (next.clock.ghost_name ≡ s.clock.ghost_name)
-        × Replies D.Disk C.Clock (record { kept = s.kept; clock = s.clock.now }) line text (record { kept = next.kept; clock = next.clock.now }) };
+    ghost answers = { λ s line text next. HasReferences s next × Replies D.Disk C.Clock (scripted s) line text (scripted next) };
 
     ghost lacks = { λ _ _ _. ⊥ };
 
@@ -112,7 +112,7 @@ fn answer_script<S: Source, K: Sink, D: Disk, C: Clock>(
     limit: usize,
     input: &mut S,
     output: &mut K,
-    kept: KeptOffice<D>,
+    mut kept: KeptOffice<D>,
     clock: &mut C,
 ) -> Ended<D>
     requires { limit + 1 < 2 ^ 64 }
@@ -122,12 +122,43 @@ fn answer_script<S: Source, K: Sink, D: Disk, C: Clock>(
 {
     requests_stand_once();
     kept.a_crash_leaves_the_history();
-    let mut script = Script { kept, clock };
-    let status = run_lines(alloc, limit, &mut script, input, output);
-    let Script { kept, clock: _ } = script;
+    let status = answer_lines(alloc, limit, input, output, &mut kept, clock);
     kept.a_crash_leaves_the_history();
     Ended {
         status,
         disk: kept.into_disk(),
     }
+}
+
+/// Answers each line of an input by an office at a clock's readings.
+fn answer_lines<S: Source, K: Sink, D: Disk, C: Clock>(
+    alloc: Global,
+    limit: usize,
+    input: &mut S,
+    output: &mut K,
+    kept: &mut KeptOffice<D>,
+    clock: &mut C,
+) -> u8
+    requires { limit + 1 < 2 ^ 64 }
+    ensures { AnswersLines D.Disk C.Clock limit (record { kept = kept.old; clock = clock.old }) (record { kept = kept.new; clock = clock.new })
+        (S.left input.old) (S.left input.new) (K.taken output.old) (K.taken output.new) (S.faults input.old) (S.faults input.new) (K.faults output.old) (K.faults output.new) result }
+{
+    let mut script = Script { kept, clock };
+    run_over(alloc, limit, &mut script, input, output)
+}
+
+/// Runs over the lines of an input.
+fn run_over<S: Source, K: Sink, D: Disk, C: Clock>(
+    alloc: Global,
+    limit: usize,
+    script: &mut Script<'_, D, C>,
+    input: &mut S,
+    output: &mut K,
+) -> u8
+    requires { limit + 1 < 2 ^ 64 }
+    ensures run { AnswersLines D.Disk C.Clock limit (scripted script.old) (scripted script.new)
+        (S.left input.old) (S.left input.new) (K.taken output.old) (K.taken output.new) (S.faults input.old) (S.faults input.new) (K.faults output.old) (K.faults output.new) result }
+    ensures references { HasReferences script.old script.new }
+{
+    run_lines(alloc, limit, script, input, output)
 }

@@ -70,7 +70,7 @@ pub follows_itself : (e : Edition) → MayFollow e e
 follows_itself One = tt
 follows_itself Two = tt
 
-two_follows : (e : Edition) → MayFollow e Two
+pub two_follows : (e : Edition) → MayFollow e Two
 two_follows One = tt
 two_follows Two = tt
 

@@ -6,7 +6,6 @@ use Rattle.office_journal.proofs.Between.{grown_follows}
 use Rattle.program_ends.proofs.Mapping.{ends_at_last, twelve_unbegun}
 use Rattle.desk_commands.specs.Scripts.{Answers, Goes, MayPend, Scripted, entries_in, failed_from, faults_in}
 use Rattle.desk_commands.proofs.Keeping.{keeps, opened_carries}
-use Rattle.desk_commands.proofs.Mapping.{same_name, shown}
 use Rattle.desk_commands.proofs.Scripting.{gone, lines_go}
 use Rattle.desk_commands.proofs.Later.{lines_count, rises_on}
 use Rattle.desk_commands.proofs.Readings.{lines_read}
@@ -17,9 +16,9 @@ returns g c disk opened =
     let d = g.D.Disk in
     let k = g.C.Clock in
     let m = g.met.D.Disk in
-    let run = shown (λ s. record { kept = s.kept; clock = s.clock.now }) _ (Answers d k) (λ x line text y h. h.1) _ (λ x line y never. never) c.args.limit _ _ _ _ _ _ _ _ _ _ _ c.run_lines-status.ensures in
+    let run = c.answer_lines-status.ensures in
     let first : Scripted _ _ = record { kept = c.args.kept; clock = c.args.clock.now } in
-    let after : Scripted _ _ = record { kept = c.run_lines-status.new.answers.kept; clock = c.run_lines-status.new.answers.clock.now } in
+    let after : Scripted _ _ = record { kept = c.answer_lines-status.new.kept; clock = c.answer_lines-status.new.clock } in
     let lines = gone d k first run.run.last run.run.lines run.told run.run.answered in
     let said = lines.0 in
     let last = ends_at_last (Answers d k) (λ s line y. ⊥) (λ s line y never. never) c.args.limit first after _ _ run.end run.told run.run in
@@ -31,7 +30,7 @@ returns g c disk opened =
       opened = c.args.kept;
       first = opened;
       after = after;
-      clock_is = ?clock;
+      clock_is = refl;
       run = run;
       said = said;
       goes = goes;
