@@ -1,6 +1,6 @@
 //! Sweeps: each call of a disk fails in turn, and the disk stops behind each, whatever a crash leaves of the writes.
 use crate::files::records_of;
-use crate::runs::{Command, Faults, Given, NO_FAULTS, exported, run_command};
+use crate::runs::{Command, Faults, Given, NO_FAULTS, Run, exported, run_command};
 use crate::steps::Tried;
 use hazard_types::{List, Oom, Text};
 use std::alloc::Global;
@@ -130,17 +130,22 @@ fn answers_are_kept(
     Ok(told.as_slice() == run.text.as_slice() && kept)
 }
 
+/// What the lines of a run were answered: nothing where the run ended otherwise than well.
+fn answers_of(status: u8, text: &Text) -> &str {
+    if status != DONE {
+        return "";
+    }
+    text_of(text.as_slice())
+}
+
 /// Whether an input that meets these faults, and then a crash, keeps what it was answered, and is answered as without
 /// them when it is sent again.
 fn input_survives(alloc: Global, wanted: &Wanted<'_>, faults: &Faults) -> Result<bool, Oom> {
     let first = run_command(alloc, &Command::Script, wanted.given, wanted.file, faults)?;
-    let fair = is_fair(first.status);
-    let left = first.disk.crashed()?;
-    let answers = if first.status == DONE {
-        text_of(first.text.as_slice())
-    } else {
-        ""
-    };
+    let Run { status, text, disk } = first;
+    let fair = is_fair(status);
+    let left = disk.crashed()?;
+    let answers = answers_of(status, &text);
     let kept = answers_are_kept(alloc, wanted, answers, left.as_slice())?;
     let again = outcome_of(alloc, wanted.given, left.as_slice())?;
     Ok(fair && kept && again.is_same(&wanted.outcome))
