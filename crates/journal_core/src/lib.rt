@@ -9,8 +9,6 @@ mod journal;
 mod laws;
 mod opening;
 mod packet;
-#[cfg(test)]
-mod tests;
 
 pub use faults::{AdoptFault, AppendFault, CreateFault};
 pub use journal::Journal;
