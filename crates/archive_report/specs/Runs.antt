@@ -1,5 +1,5 @@
 -- What a run reads and writes, for each status.
-use Rattle.std.specs.Prelude.{◌≡◌, ◌≢◌, ◌≤◌, ◌⊎◌, ℕ, ◌+◌, ◌++◌, true, List, [], length, map, take, Option, Some, MatchOption, IsNone, IsSome}
+use Rattle.std.specs.Prelude.{◌≡◌, ◌≢◌, ◌≤◌, ◌⊎◌, ℕ, ◌+◌, ◌++◌, true, List, [], length, map, take, Option, MatchOption, IsNone, IsSome}
 use Rattle.desk_traits.specs.Faults.{Rose}
 use Rattle.desk_traits.specs.Streams.{Takes, Adds, IsAtEnd}
 use Rattle.product_decoder.specs.Decoded.{decode}

@@ -48,12 +48,7 @@ pub fn run_report(
 }
 
 /// The report of an input that comes in pieces of this size, with no fault.
-fn whole_report(
-    alloc: Global,
-    words: &List<Text>,
-    input: &[u8],
-    piece: usize,
-) -> Result<Run, Oom> {
+fn whole_report(alloc: Global, words: &List<Text>, input: &[u8], piece: usize) -> Result<Run, Oom> {
     let given = Given {
         piece,
         limit: LIMIT,

@@ -7,7 +7,7 @@ use Rattle.hazard_types.specs.declared.refusal.Refusal.TheVariants as refusal
 use Rattle.hazard_types.specs.declared.request.Entry.{Entry}
 use Rattle.hazard_types.specs.declared.request.Plan.{Plan}
 use Rattle.hazard_types.specs.declared.request.PutPart.{PutPart}
-use Rattle.hazard_types.specs.declared.request.Reply.{Reply}
+use Rattle.hazard_types.specs.declared.request.Reply.{Reply as Kept}
 use Rattle.hazard_types.specs.declared.request.Request.TheVariants.{Issue}
 use Rattle.office_core.specs.Agreement.{ReadsAsTheBoard}
 use Rattle.office_core.specs.Making.{broken_product, issued, made_of, products_full}
@@ -16,8 +16,10 @@ use Rattle.office_core.specs.State.{State, last_number, last_of}
 use Rattle.office_core.specs.Step.{Accepts, Repeats, entry_of, state_after}
 use Rattle.office_core.specs.declared.made.Made.{Made}
 use Rattle.hazard_types.specs.declared.refusal.Refusal.TheVariants.{LineTooLong}
+use Rattle.program_ends.specs.Replies.{bytes_of}
+use Rattle.program_ends.specs.declared.reply.Reply.{Reply}
 use Rattle.desk_commands.specs.Lines.{refusal_line}
-use Rattle.warn_main.specs.Training.{Replies, Trained, AnswersIssue, IsAccepted, IsTraining, dry_desk, next_number}
+use Rattle.desk_program.specs.Training.{Replies, Trained, AnswersIssue, IsAccepted, IsTraining, dry_desk, next_number}
 
 or_last : {X : Type 0} (a b : Option X) → option_or a b ≡ None → b ≡ None
 or_last None b h = h
@@ -49,7 +51,7 @@ pub at_minute : (s : State) (at : ℕ) (t : ℕ) → s.last ≤ at → t ≡ min
 at_minute s at t early is = grind (arith, is, early)
 
 -- the next number is no repetition
-pub not_again : (s : State) (at : ℕ) (part : PutPart) (kept : Reply) → IsTraining s at → Repeats s dry_desk (next_number s) (Issue part) kept → ⊥
+pub not_again : (s : State) (at : ℕ) (part : PutPart) (kept : Kept) → IsTraining s at → Repeats s dry_desk (next_number s) (Issue part) kept → ⊥
 not_again s at part kept training again =
     let last : last_number s dry_desk ≡ next_number s = ap last_of again.same in
     omega (arith, last, training.numbered)
@@ -104,21 +106,21 @@ answers_new s' s next d n at r part entry made text es ed en er training a is to
     accepted_core s next at part made text a5 told f5
 
 -- the same, where it was committed or memory lacked
-pub answers_if : {E : Type 0} (result : Result (List ℕ) E) (s' s next : State) (d : List ℕ) (n at : ℕ) (r : ℤ) (part : PutPart) (entry : Entry) (made : Option Made)
+pub answers_if : {E : Type 0} (result : Result Reply E) (s' s next : State) (d : List ℕ) (n at : ℕ) (r : ℤ) (part : PutPart) (entry : Entry) (made : Option Made)
     → s' ≡ s → d ≡ dry_desk → n ≡ next_number s → r ≡ pos at → IsTraining s at
     → Accepts s' d n (Issue part) r entry.minute made → entry ≡ entry_of s' d n (Issue part) entry.minute made
-    → IfOk result (λ text. option_map (λ (m : Made). m.sent.text) made ≡ Some text) → OnOk result (next ≡ state_after s' entry made)
-    → IfOk result (λ text. AnswersIssue at s (Ok part) text next)
-answers_if (Ok text) s' s next d n at r part entry made es ed en er training a is told after = inr (answers_new s' s next d n at r part entry made text es ed en er training a is told after)
+    → IfOk result (λ reply. option_map (λ (m : Made). m.sent.text) made ≡ Some (bytes_of reply)) → OnOk result (next ≡ state_after s' entry made)
+    → IfOk result (λ reply. AnswersIssue at s (Ok part) (bytes_of reply) next)
+answers_if (Ok reply) s' s next d n at r part entry made es ed en er training a is told after = inr (answers_new s' s next d n at r part entry made (bytes_of reply) es ed en er training a is told after)
 answers_if (Err e) s' s next d n at r part entry made es ed en er training a is told after = tt
 
-pub trains_if : {E : Type 0} (result : Result (List ℕ) E) (s' s next : State) (d : List ℕ) (n at : ℕ) (r : ℤ) (part : PutPart) (entry : Entry) (made : Option Made)
+pub trains_if : {E : Type 0} (result : Result Reply E) (s' s next : State) (d : List ℕ) (n at : ℕ) (r : ℤ) (part : PutPart) (entry : Entry) (made : Option Made)
     → s' ≡ s → d ≡ dry_desk → n ≡ next_number s → r ≡ pos at → IsTraining s at
     → Accepts s' d n (Issue part) r entry.minute made → entry ≡ entry_of s' d n (Issue part) entry.minute made
-    → IfOk result (λ text. option_map (λ (m : Made). m.sent.text) made ≡ Some text) → OnOk result (next ≡ state_after s' entry made)
+    → IfOk result (λ reply. option_map (λ (m : Made). m.sent.text) made ≡ Some (bytes_of reply)) → OnOk result (next ≡ state_after s' entry made)
     → OnOk result (last_number next entry.desk ≡ entry.seq) → OnOk result (ReadsAsTheBoard next) → OnErr result (next ≡ s') → IsTraining next at
-trains_if (Ok text) s' s next d n at r part entry made es ed en er training a is told after number reads lacked =
-    let done = answers_new s' s next d n at r part entry made text es ed en er training a is told after in
+trains_if (Ok reply) s' s next d n at r part entry made es ed en er training a is told after number reads lacked =
+    let done = answers_new s' s next d n at r part entry made (bytes_of reply) es ed en er training a is told after in
     let a1 : Accepts s d n (Issue part) r entry.minute made = subst (λ (x : State). Accepts x d n (Issue part) r entry.minute made) es a in
     let a2 : Accepts s dry_desk n (Issue part) r entry.minute made = subst (λ (x : List ℕ). Accepts s x n (Issue part) r entry.minute made) ed a1 in
     let few = (has_made s n part r entry.minute made a2).room in
@@ -134,13 +136,13 @@ is_some None one is = absurd (cc)
 is_some (Some m) one is = refl
 
 -- a line that is too long is refused, and nothing changes
-pub long_line : {E : Type 0} (d : Trained) (line : Option (List ℕ)) (r : Result (List ℕ) E) → IsTraining d.state d.at → line ≡ None → IfOk r (λ text. text ≡ refusal_line LineTooLong) → IfOk r (λ text. Replies d line text d)
-long_line d line (Ok text) t e is = subst (λ (l : Option (List ℕ)). Replies d l text d) (sym e) (record { answered = (is, refl); same = refl; reads = t.reads })
+pub long_line : {E : Type 0} (d : Trained) (line : Option (List ℕ)) (r : Result Reply E) → IsTraining d.state d.at → line ≡ None → IfOk r (λ reply. bytes_of reply ≡ refusal_line LineTooLong) → IfOk r (λ reply. Replies d line (bytes_of reply) d)
+long_line d line (Ok reply) t e is = subst (λ (l : Option (List ℕ)). Replies d l (bytes_of reply) d) (sym e) (record { answered = (is, refl); same = refl; reads = t.reads })
 long_line d line (Err x) t e is = tt
 
 -- an empty line gets no answer
-pub empty_line : (d : Trained) (line : Option (List ℕ)) (text : List ℕ) → IsTraining d.state d.at → line ≡ Some [] → text ≡ [] → Replies d line text d
-empty_line d line text t e is = subst (λ (l : Option (List ℕ)). Replies d l text d) (sym e) (record { answered = (is, refl); same = refl; reads = t.reads })
+pub empty_line : (d : Trained) (line : Option (List ℕ)) → IsTraining d.state d.at → line ≡ Some [] → Replies d line [] d
+empty_line d line t e = subst (λ (l : Option (List ℕ)). Replies d l [] d) (sym e) (record { answered = (refl, refl); same = refl; reads = t.reads })
 
 pub empty_of : (line : List ℕ) → true ≡ (length line == 0) → line ≡ []
 empty_of [] e = refl

@@ -1,8 +1,8 @@
 use Rattle.std.proofs.Common.{rules, ◌∙◌, ◌+◌, ℕ, List, Ok, ap, subst, to_z, of_z, w64}
 use Rattle.hazard_types.specs.declared.request.Request.TheVariants.{Issue}
 use Rattle.office_core.specs.Step.{Accepts}
-use Rattle.warn_main.proofs.TrainingLemmas.{answers_if, has_made, is_some, trains_if}
-use Rattle.warn_main.proofs.training_desk.answer_issue.Goals as goal
+use Rattle.desk_program.proofs.TrainingLemmas.{answers_if, has_made, is_some, trains_if}
+use Rattle.desk_program.proofs.training_desk.answer_issue.Goals as goal
 
 pub accept-requires-clause-may : goal.accept-requires-clause-may
 accept-requires-clause-may c = (c.prepare.ensures.ready c.in-New.prepared (c.in-Ok.is ∙ ap (λ z. Ok z) c.in-New.is)).may

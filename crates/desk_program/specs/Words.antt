@@ -4,8 +4,8 @@ use Rattle.std.specs.Option.{option_or}
 use Rattle.std.specs.Str.{bytes_eq}
 use Rattle.hazard_types.specs.Calendar.{stamp_at}
 use Rattle.hazard_types.specs.Characters.{is_office}
-use Rattle.warn_main.specs.declared.words.Command.{Command}
-use Rattle.warn_main.specs.declared.words.Command.TheVariants as command
+use Rattle.desk_program.specs.declared.words.Command.{Command}
+use Rattle.desk_program.specs.declared.words.Command.TheVariants as command
 
 -- `init`, `script`, `export`, `upgrade` or `board`
 abbrev pub single_word : List ℕ → Option Command

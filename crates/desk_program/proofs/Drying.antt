@@ -6,12 +6,12 @@ use Rattle.office_core.specs.Agreement.{ReadsAsTheBoard}
 use Rattle.office_core.specs.State.{State}
 use Rattle.program_ends.specs.Ends.{Telling}
 use Rattle.program_ends.specs.Lines.{ended_lines, fit}
-use Rattle.program_ends.specs.Runs.{Answered, IsLinesRun, LacksNext}
+use Rattle.program_ends.specs.Runs.{Answered, Breaks, IsBroken, IsLinesRun, IsUnbegun, LacksNext}
 use Rattle.program_ends.specs.declared.ends.End.TheVariants.{OutOfMemory}
-use Rattle.warn_main.specs.Runs.{IsDryRun}
-use Rattle.warn_main.specs.Training.{AnswersLine, Lacks, LacksLine, Replies, Trained, first_training}
-use Rattle.warn_main.specs.declared.words.Dry.{Dry}
-use Rattle.warn_main.proofs.OneAnswer.{HasOneAnswer, answered_once}
+use Rattle.desk_program.specs.Runs.{IsDryRun}
+use Rattle.desk_program.specs.Training.{AnswersLine, Lacks, LacksLine, Replies, Trained, first_training}
+use Rattle.desk_program.specs.declared.words.Dry.{Dry}
+use Rattle.desk_program.proofs.OneAnswer.{HasOneAnswer, answered_once}
 
 -- the lines are answered by the states, and the texts of the last one read as its board
 told_states : (at : ℕ) (d after : Trained) (lines : List (List ℕ)) (told : List ℕ) → d.at ≡ at → ReadsAsTheBoard d.state → Answered Replies d lines told after
@@ -27,12 +27,45 @@ told_states at d after (line ∷ lines) told e reads h =
     ((h.0, next.state, h.2, answered, h.4, rest.0), rest.1)
 
 lacking : (last z : Trained) (others : List (List ℕ)) → LacksNext Lacks last others z → LacksNext LacksLine last.state others z.state
-lacking last z others (inl same) = inl (ap (λ (t : Trained). t.state) same)
-lacking last z others (inr (line, more, is, same)) = inr (line, more, is, ap (λ (t : Trained). t.state) same)
+lacking last z others (line, more, is, same) = (line, more, is, ap (λ (t : Trained). t.state) same)
 
-same_or : {Q : Type 0} (last z : Trained) → (z ≡ last) ⊎ Q → (z.state ≡ last.state) ⊎ Q
-same_or last z (inl same) = inl (ap (λ (t : Trained). t.state) same)
-same_or last z (inr q) = inr q
+unbegun_states : (a z : Trained) (left left' : Option (List ℕ)) (read : List ℕ) (lines : List (List ℕ)) (s : State) → a.state ≡ s → IsUnbegun a z left left' read lines → IsUnbegun s z.state left left' read lines
+unbegun_states a z left left' read lines s is h = record { none = h.none; unread = h.unread; unanswered = h.unanswered; same = ap (λ (t : Trained). t.state) h.same ∙ is }
+
+same_at : (d after : Trained) (lines : List (List ℕ)) (told : List ℕ) → Answered Replies d lines told after → after.at ≡ d.at
+same_at d after [] told h = ap (λ (t : Trained). t.at) h.1
+same_at d after (line ∷ lines) told h = same_at h.1 after lines h.2 h.5 ∙ h.3.same
+
+-- where a write failed
+breaks_states : (at : ℕ) (d after : Trained) (lines : List (List ℕ)) (told written : List ℕ) (s : State) → d.at ≡ at → d.state ≡ s → ReadsAsTheBoard d.state → Breaks Replies d after lines told written → Breaks (AnswersLine at) s after.state lines told written
+breaks_states at d after lines told written s e is reads h =
+    let front = told_states at d h.state h.before h.whole e reads h.answered in
+    let same = same_at d h.state h.before h.whole h.answered in
+    record {
+      before = h.before;
+      line = h.line;
+      state = h.state.state;
+      whole = h.whole;
+      text = h.text;
+      front = h.front;
+      lines_are = h.lines_are;
+      answered = subst (λ (x : State). Answered (AnswersLine at) x h.before h.whole h.state.state) is front.0;
+      last = subst (λ (n : ℕ). AnswersLine n h.state.state (fit h.line) h.text after.state) (same ∙ e) h.last.answered;
+      told_is = h.told_is;
+      begins = h.begins;
+      written_is = h.written_is;
+    }
+
+broken_states : (at : ℕ) (d after : Trained) (lines : List (List ℕ)) (told : List ℕ) (taken taken' : Option (List ℕ)) (writes writes' : ℕ) (s : State) → d.at ≡ at → d.state ≡ s → ReadsAsTheBoard d.state
+    → IsBroken Replies d after lines told taken taken' writes writes' → IsBroken (AnswersLine at) s after.state lines told taken taken' writes writes'
+broken_states at d after lines told taken taken' writes writes' s e is reads h = record {
+  written = h.written;
+  fault = h.fault;
+  breaks = breaks_states at d after lines told h.written s e is reads h.breaks;
+  begins = h.begins;
+  once = h.once;
+  adds = h.adds;
+}
 
 pub dry_run : HasOneAnswer → (dry : Dry) (limit : ℕ) (desk after : Trained) (left left' taken taken' : Option (List ℕ)) (reads reads' writes writes' status : ℕ)
     → desk ≡ record { state = first_training dry.office; at = dry.minute } → ReadsAsTheBoard (first_training dry.office)
@@ -61,11 +94,18 @@ dry_run law dry limit desk after left left' taken taken' reads reads' writes wri
           read_fault = run.run.read_fault;
           too_long = run.run.too_long;
           state = λ e. ap (λ (t : Trained). t.state) (run.run.state e);
-          no_memory = λ e. lacking run.run.last after run.run.others (run.run.no_memory e);
-          next = λ e. same_or run.run.last after (run.run.next e);
+          no_memory = λ e. elim (run.run.no_memory e) [
+            | inl none ↦ inl (unbegun_states desk after left left' run.run.read run.run.lines (first_training dry.office) state none)
+            | inr next ↦ inr (lacking run.run.last after run.run.others next)
+          ];
+          next = λ e. elim (run.run.next e) [
+            | inl none ↦ inl (unbegun_states desk after left left' run.run.read run.run.lines (first_training dry.office) state none)
+            | inr more ↦ inr more
+          ];
           reasons = run.run.reasons;
         };
         telling = run.telling;
+        broken = λ e. broken_states dry.minute desk after run.run.lines run.told taken taken' writes writes' (first_training dry.office) at state (subst ReadsAsTheBoard (sym state) first) (run.broken e);
         rose = run.rose;
         steady = run.steady;
         read_fault = run.read_fault;
@@ -104,11 +144,12 @@ unbegun dry limit left taken taken' reads writes writes' status first telling =
           read_fault = λ e. absurd (cc);
           too_long = λ e. absurd (cc);
           state = λ e. refl;
-          no_memory = λ e. inl refl;
-          next = λ e. inl refl;
+          no_memory = λ e. inl (record { none = refl; unread = refl; unanswered = refl; same = refl });
+          next = λ e. inl (record { none = refl; unread = refl; unanswered = refl; same = refl });
           reasons = inr (inr (inr (inr refl)));
         };
         telling = telling;
+        broken = λ e. absurd (cc);
         rose = λ e. absurd (cc);
         steady = λ e. refl;
         read_fault = λ e.

@@ -6,15 +6,16 @@ ghost use Rattle.office_core.specs.Agreement.{ReadsAsTheBoard};
 ghost use Rattle.office_core.specs.Prepared.{MayCommit};
 ghost use Rattle.office_core.specs.State.{last_number};
 ghost use Rattle.office_core.specs.Step.{state_after};
-ghost use Rattle.warn_main.specs.Training.{AnswersIssue, IsTraining, Replies, Lacks, dry_desk, first_training};
+ghost use Rattle.program_ends.specs.Replies.{bytes_of};
+ghost use Rattle.desk_commands.specs.Lines.{refusal_line};
+ghost use Rattle.desk_program.specs.Training.{AnswersIssue, IsTraining, Replies, Lacks, dry_desk, first_training};
 
 use crate::words::Dry;
-use desk_commands::refusal_line;
 use desk_settings::training_settings;
-use hazard_types::{Class, Desk, Edition, List, Minute, Oom, Or, PutPart, Refusal, Request, Text};
+use hazard_types::{Class, Desk, Edition, Minute, Oom, Or, PutPart, Refusal, Request, Text};
 use office_core::{Office, Prepared, Ready, offices_begin_in_agreement};
-use program_ends::Answers;
-use request_json::read_training_issue;
+use program_ends::{Answers, Reply};
+use request_json::{read_training_issue, refusal_text};
 use std::alloc::Global;
 use std::marker::Model;
 
@@ -26,7 +27,7 @@ pub struct TrainingDesk {
 }
 
 impl Model for TrainingDesk {
-    ghost use Rattle.warn_main.specs.Training.{IsTraining, Trained};
+    ghost use Rattle.desk_program.specs.Training.{IsTraining, Trained};
 
     ghost Value = { Trained };
 
@@ -56,11 +57,11 @@ fn product_text(prepared: &Prepared) -> Result<Text, Oom>
     }
 }
 
-/// Commits an issue that was accepted, and hands out the text of its product, whose memory is taken first.
-fn accept(office: &mut Office, prepared: Prepared) -> Result<Text, Oom>
+/// Commits an issue that was accepted, and returns the text of its product, whose memory is taken first.
+fn accept(office: &mut Office, prepared: Prepared) -> Result<Reply, Oom>
     requires may { MayCommit office.old prepared }
     requires made { IsSome prepared.made }
-    ensures text { IfOk result (λ text. option_map (λ made. made.sent.text) prepared.made ≡ Some text) }
+    ensures text { IfOk result (λ reply. option_map (λ made. made.sent.text) prepared.made ≡ Some (bytes_of reply)) }
     ensures state { OnOk result (office.new.state ≡ state_after office.old.state prepared.entry prepared.made) }
     ensures number { OnOk result (last_number office.new.state prepared.entry.desk ≡ prepared.entry.seq) }
     ensures reads { OnOk result (ReadsAsTheBoard office.new.state) }
@@ -68,14 +69,27 @@ fn accept(office: &mut Office, prepared: Prepared) -> Result<Text, Oom>
 {
     let text = product_text(&prepared)?;
     office.commit(prepared);
-    Ok(text)
+    Ok(Reply::Whole(text))
+}
+
+/// The line of a refusal.
+fn refusal_reply(alloc: Global, refusal: &Refusal) -> Result<Reply, Oom>
+    ensures { IfOk result (λ reply. bytes_of reply ≡ refusal_line refusal.now) }
+{
+    let text = refusal_text(alloc, refusal)?;
+    Ok(Reply::Line(text))
 }
 
 /// What an issue is answered at a minute.
-fn answer_issue(alloc: Global, office: &mut Office, at: Minute, part: PutPart) -> Result<Text, Oom>
+fn answer_issue(
+    alloc: Global,
+    office: &mut Office,
+    at: Minute,
+    part: PutPart,
+) -> Result<Reply, Oom>
     requires form { IsIssuePart part }
     requires training { IsTraining office.old.state at }
-    ensures answered { IfOk result (λ text. AnswersIssue at office.old.state (Ok part) text office.new.state) }
+    ensures answered { IfOk result (λ reply. AnswersIssue at office.old.state (Ok part) (bytes_of reply) office.new.state) }
     ensures training { IsTraining office.new.state at }
     ensures lacked { OnErr result (office.new.state ≡ office.old.state) }
 {
@@ -84,7 +98,7 @@ fn answer_issue(alloc: Global, office: &mut Office, at: Minute, part: PutPart) -
     let reading = i64::from(at.get());
     let ready = match office.prepare(alloc, dry_desk(), number, &request, reading) {
         Ok(ready) => ready,
-        Err(Or::No(refusal)) => return refusal_line(alloc, &refusal),
+        Err(Or::No(refusal)) => return refusal_reply(alloc, &refusal),
         Err(Or::OutOfMemory) => return Err(Oom),
     };
     match ready {
@@ -118,18 +132,18 @@ impl Answers for TrainingDesk {
 
     ghost lacks = { Lacks };
 
-    fn answer(&mut self, alloc: Global, line: Option<&[u8]>) -> Result<Text, Oom> {
+    fn answer(&mut self, alloc: Global, line: Option<&[u8]>) -> Result<Reply, Oom> {
         // What stands between lines is known from here on.
         let _ = &self.office;
         let Some(line) = line else {
-            return refusal_line(alloc, &Refusal::LineTooLong);
+            return refusal_reply(alloc, &Refusal::LineTooLong);
         };
         if line.is_empty() {
-            return Ok(List::new(alloc));
+            return Ok(Reply::Nothing);
         }
         match read_training_issue(alloc, line) {
             Ok(part) => answer_issue(alloc, &mut self.office, self.at, part),
-            Err(Or::No(refusal)) => refusal_line(alloc, &refusal),
+            Err(Or::No(refusal)) => refusal_reply(alloc, &refusal),
             Err(Or::OutOfMemory) => Err(Oom),
         }
     }

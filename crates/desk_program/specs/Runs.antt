@@ -1,31 +1,19 @@
 -- What a run of the program reads, answers and tells.
-use Rattle.std.specs.Prelude.{◌≡◌, ◌≤◌, ◌⊎◌, ℕ, List, [], Option, Some}
+use Rattle.std.specs.Prelude.{◌≡◌, ◌≤◌, ◌⊎◌, ℕ, List, Option, MatchOption, IsSome}
 use Rattle.office_core.specs.Agreement.{ReadsAsTheBoard}
 use Rattle.office_core.specs.State.{State}
-use Rattle.program_ends.specs.Ends.{Telling}
+use Rattle.desk_traits.specs.Faults.{Rose}
+use Rattle.program_ends.specs.Ends.{IsUsage}
 use Rattle.program_ends.specs.Runs.{Answered, IsLinesRun}
-use Rattle.program_ends.specs.declared.ends.End.TheVariants.{Usage}
-use Rattle.warn_main.specs.Training.{AnswersLine, LacksLine, first_training}
+use Rattle.desk_program.specs.Words.{command_of}
+use Rattle.desk_program.specs.Training.{AnswersLine, LacksLine, first_training}
 use Rattle.desk_traits.specs.declared.clocks.Clock.{Ghosts as Clocks}
 use Rattle.desk_traits.specs.declared.disk.Disk.{Ghosts as Disks}
 use Rattle.desk_commands.specs.Commands.{IsBoardRun, IsExportRun, IsInitRun, IsScriptRun, IsUpgradeRun}
 use Rattle.desk_commands.specs.Opening.{IsUnopenedRun, IsUnread}
-use Rattle.warn_main.specs.declared.words.Command.{Command}
-use Rattle.warn_main.specs.declared.words.Command.TheVariants as command
-use Rattle.warn_main.specs.declared.words.Dry.{Dry}
-
--- no word was read as a command: nothing was read, and the end alone was told
-pub record IsUsage (left left' taken taken' : Option (List ℕ)) (reads reads' writes writes' status : ℕ) : Type 0 where
-  pub unread : left' ≡ left
-  pub steady : reads' ≡ reads
-  pub telling : Telling [] writes taken taken' writes' (Some Usage) status
-
--- memory lacked for the words: nothing was read or written
-pub record IsUntouched (left left' taken taken' : Option (List ℕ)) (reads reads' writes writes' status : ℕ) : Type 0 where
-  pub no_memory : status ≡ 12
-  pub unread : left' ≡ left
-  pub unwritten : taken' ≡ taken
-  pub steady : (reads' ≡ reads) × (writes' ≡ writes)
+use Rattle.desk_program.specs.declared.words.Command.{Command}
+use Rattle.desk_program.specs.declared.words.Command.TheVariants as command
+use Rattle.desk_program.specs.declared.words.Dry.{Dry}
 
 -- A run of `dry` over the lines of an input of at most this many bytes, by the office and the minute alone. Where memory lacks for the office itself, no line is read.
 pub record IsDryRun (dry : Dry) (limit : ℕ) (left left' taken taken' : Option (List ℕ)) (reads reads' writes writes' status : ℕ) : Type 0 where
@@ -55,3 +43,16 @@ module _ {D C : Type 0} (d : Disks D) (k : Clocks C) where
 -- It went well; or settings were refused, a journal was there, was not there or is damaged, the clock is out, memory lacked, the input is too long or the journal full.
 abbrev pub IsEndOfItsOwn : ℕ → Type 0
 IsEndOfItsOwn status = (status ≡ 0) ⊎ ((3 ≤ status) × (status ≤ 6)) ⊎ ((11 ≤ status) × (status ≤ 14))
+
+module _ {D C : Type 0} (d : Disks D) (k : Clocks C) where
+  -- The words were done, with an input of at most so many bytes, or are no command.
+  pub record DoesAsAsked (words : List (List ℕ)) (limit : ℕ) (disk next : D) (clock clock' : C) (left left' taken taken' : Option (List ℕ)) (reads reads' writes writes' status : ℕ) : Type 0 where
+    -- What was read, answered and told, and what became of the disk.
+    pub run : MatchOption (command_of words) (IsUsage left left' taken taken' reads reads' writes writes' status × (next ≡ disk) × (clock' ≡ clock))
+        (λ command. Does d k command limit disk next clock clock' left left' taken taken' reads reads' writes writes' status)
+    -- A fault is told only where a count rose.
+    pub read_fault : status ≡ 7 → Rose reads reads'
+    pub write_fault : status ≡ 8 → Rose writes writes'
+    pub disk_fault : status ≡ 9 → Rose (d.faults disk) (d.faults next)
+    -- Where no count rose, a command ends well, by what it found, or for want of memory.
+    pub complete : IsSome (command_of words) → ¬ Rose reads reads' → ¬ Rose writes writes' → ¬ Rose (d.faults disk) (d.faults next) → IsEndOfItsOwn status

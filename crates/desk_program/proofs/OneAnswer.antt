@@ -11,7 +11,7 @@ use Rattle.office_core.specs.declared.made.Made.{Made}
 use Rattle.program_ends.specs.Lines.{fit}
 use Rattle.program_ends.specs.Runs.{Answered}
 use Rattle.desk_commands.specs.Lines.{refusal_line}
-use Rattle.warn_main.specs.Training.{AnswersIssue, AnswersLine, IsAccepted, IsRefused, dry_desk, next_number}
+use Rattle.desk_program.specs.Training.{AnswersIssue, AnswersLine, IsAccepted, IsRefused, dry_desk, next_number}
 
 -- the office's law that a request has one answer, as far as a line needs it
 pub record HasOneAnswer : Type 0 where

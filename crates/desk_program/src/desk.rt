@@ -2,8 +2,8 @@
 ghost use Rattle.std.specs.Prelude.{◌≡◌, ◌⊎◌, ◌<◌, ◌+◌, ◌^◌, MatchOption, IsSome};
 ghost use Rattle.desk_traits.specs.Faults.{Rose};
 ghost use Rattle.program_ends.specs.Words.{words_behind};
-ghost use Rattle.warn_main.specs.Words.{command_of};
-ghost use Rattle.warn_main.specs.Runs.{Does, IsEndOfItsOwn, IsUsage, IsUntouched};
+ghost use Rattle.desk_program.specs.Words.{command_of};
+ghost use Rattle.desk_program.specs.Runs.{Does, IsEndOfItsOwn, IsUsage, IsUntouched};
 
 use crate::training::run_training;
 use crate::words::{Command, command_of};

@@ -1,7 +1,7 @@
 //! The command `dry`.
 ghost use Rattle.std.specs.Prelude.{◌+◌, ◌<◌, ◌^◌, IsTrue};
 ghost use Rattle.hazard_types.specs.Characters.{is_office};
-ghost use Rattle.warn_main.specs.Runs.{IsDryRun};
+ghost use Rattle.desk_program.specs.Runs.{IsDryRun};
 
 use crate::training_desk::TrainingDesk;
 use crate::words::Dry;

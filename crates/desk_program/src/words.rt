@@ -4,7 +4,7 @@ ghost use Rattle.std.specs.List.{list_all};
 ghost use Rattle.hazard_types.specs.Calendar.{is_digit};
 ghost use Rattle.hazard_types.specs.Places.{is_capital};
 ghost use Rattle.hazard_types.specs.Characters.{is_office};
-ghost use Rattle.warn_main.specs.Words.{IsCommand, board_words, command_of, dry_words, single_word};
+ghost use Rattle.desk_program.specs.Words.{IsCommand, board_words, command_of, dry_words, single_word};
 
 use hazard_types::{List, Minute, Text, read_stamp};
 
