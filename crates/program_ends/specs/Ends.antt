@@ -113,3 +113,16 @@ pub record IsTried (line : List ℕ) (taken taken' : Option (List ℕ)) (before 
   pub adds : Adds taken taken' front
   pub later : before ≤ now
   pub whole : ¬ Rose before now → front ≡ line
+
+-- no word was read as a command: nothing was read, and the end alone was told
+pub record IsUsage (left left' taken taken' : Option (List ℕ)) (reads reads' writes writes' status : ℕ) : Type 0 where
+  pub unread : left' ≡ left
+  pub steady : reads' ≡ reads
+  pub telling : Telling [] writes taken taken' writes' (Some Usage) status
+
+-- memory lacked for the words: nothing was read or written
+pub record IsUntouched (left left' taken taken' : Option (List ℕ)) (reads reads' writes writes' status : ℕ) : Type 0 where
+  pub no_memory : status ≡ 12
+  pub unread : left' ≡ left
+  pub unwritten : taken' ≡ taken
+  pub steady : (reads' ≡ reads) × (writes' ≡ writes)

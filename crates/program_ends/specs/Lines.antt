@@ -1,4 +1,4 @@
--- The lines of an input.
+-- The lines of an input, and how many bytes of it are read.
 use Rattle.std.specs.Prelude.{ℕ, ◌-◌, take, slice_index, ◌==◌, ◌&&◌, List, [], ◌∷◌, ◌++◌, Bool, length, nat_lt, if◌then◌else◌, Option, Some, None}
 
 -- a line without one CR at its end
@@ -34,3 +34,7 @@ pub record Pending : Type 0 where
 
 unfoldable pub pending_of : List ℕ → Pending
 pending_of line = record { kept = take 65537 line; is_longer = nat_lt 65537 (length line) }
+
+-- the most bytes of an input that is read to its end
+abbrev pub most_bytes : ℕ
+most_bytes = 1073741824

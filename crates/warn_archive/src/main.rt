@@ -2,17 +2,6 @@
 #![tactic(auto)]
 
 mod archive;
-mod entries;
-mod findings;
-mod input;
-mod laws;
-mod lines;
-mod page;
-mod products;
-mod report;
-mod tally;
-mod texts;
-mod words;
 
 use desk_traits::{StdSink, StdSource};
 use program_ends::{End, command_line, show_usage};
@@ -31,6 +20,3 @@ fn main(rt: HostRuntime) -> ExitCode {
     show_usage(&rt, status, USAGE);
     ExitCode::from(status)
 }
-
-#[cfg(test)]
-mod tests;

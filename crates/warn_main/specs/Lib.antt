@@ -1,3 +1,1 @@
-pub mod Words
-pub mod Training
-pub mod Runs
+pub mod Places

@@ -1,0 +1,16 @@
+use Rattle.std.proofs.Common.{map}
+use Rattle.product_decoder.specs.Decoded.{decode}
+use Rattle.product_decoder.specs.Feeding.{products_in}
+use Rattle.archive_report.proofs.Ending.{ends_rest}
+use Rattle.archive_report.proofs.Numbers.{tally_numbered}
+use Rattle.archive_report.proofs.report.tell_report.Goals as goal
+
+pub tell_rest-requires-clause-numbered : goal.tell_rest-requires-clause-numbered
+tell_rest-requires-clause-numbered g c =
+    let run = c.in_ok-tell_input.ensures.run in
+    tally_numbered c.args.asked.now (map decode (products_in run.read)) c.tell_input.new.tally run.ended.2.0
+
+pub returns-clause-run : goal.returns-clause-run
+returns-clause-run g c =
+    ends_rest c.args.asked.now c.args.limit c.tell_input.new.tally (g.S.Source.left c.args.input.now) (g.S.Source.left c.tell_input.new.input) (g.K.Sink.taken c.args.output.now) (g.K.Sink.taken c.tell_input.new.output) _ c.in_ok-tell_input.ensures.run
+    (g.K.Sink.taken c.tell_rest.new.output) c.tell_rest.result c.tell_rest.ensures.told c.tell_rest.ensures.count c.tell_rest.ensures.halted

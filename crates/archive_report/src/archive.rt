@@ -1,0 +1,37 @@
+//! A report by the words of a command.
+ghost use Rattle.std.specs.Prelude.{◌≤◌};
+ghost use Rattle.program_ends.specs.Lines.{most_bytes};
+ghost use Rattle.archive_report.specs.Runs.{DoesAsAsked};
+
+use crate::report::tell_report;
+use crate::words::asked_of;
+use desk_traits::{Sink, Source};
+use hazard_types::{List, Text};
+use program_ends::{End, end_at_once, end_run};
+use std::alloc::Global;
+
+/// The status of a report that lists something.
+const LISTED: u8 = 3;
+
+/// Does what the words say, with an input of at most `limit` bytes, and returns the status of the program.
+pub fn archive_within<S: Source, K: Sink>(
+    alloc: Global,
+    words: &List<Text>,
+    input: &mut S,
+    output: &mut K,
+    limit: usize,
+) -> u8
+    requires { limit ≤ most_bytes }
+    ensures { DoesAsAsked words.now limit (S.left input.old) (S.left input.new)
+        (K.taken output.old) (K.taken output.new) (S.faults input.old) (S.faults input.new)
+        (K.faults output.old) (K.faults output.new) result }
+{
+    let Some(asked) = asked_of(words) else {
+        return end_at_once(output, End::Usage);
+    };
+    match tell_report(alloc, &asked, limit, input, output) {
+        Ok(0) => 0,
+        Ok(_listed) => LISTED,
+        Err(stop) => end_run(output, Some(End::from(stop))),
+    }
+}

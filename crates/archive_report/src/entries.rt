@@ -1,0 +1,75 @@
+//! Lines of a report that stand for themselves: lives, gaps and rows.
+ghost use Rattle.std.specs.Prelude.{◌≡◌, ◌++◌, ℕ, List, flat_map, OnOk, IfErr};
+ghost use Rattle.program_ends.specs.Steps.{IsCauseOf};
+ghost use Rattle.archive_report.specs.Pieces.{Halts, Pages};
+
+use crate::lines::{put_gap, put_life};
+use crate::page::turn;
+use board_text::put_row;
+use desk_traits::Sink;
+use hazard_types::{Oom, Row, Text};
+use product_decoder::{GapFound, Track};
+use program_ends::Stop;
+use std::alloc::Global;
+
+/// What has a line of its own.
+pub trait Entry {
+    /// The line.
+    ghost line: { Self → List ℕ };
+
+    /// Adds the line.
+    ///
+    /// # Errors
+    ///
+    /// Want of memory: a front of the line may stand at the text's end then.
+    fn put(&self, alloc: Global, out: &mut Text) -> Result<(), Oom>
+        ensures { OnOk result (out.new ≡ out.old ++ line self.now) };
+}
+
+impl Entry for Track {
+    ghost use Rattle.archive_report.specs.Report.{life_line};
+
+    ghost line = { life_line };
+
+    fn put(&self, alloc: Global, out: &mut Text) -> Result<(), Oom> {
+        put_life(alloc, out, self)
+    }
+}
+
+impl Entry for GapFound {
+    ghost use Rattle.archive_report.specs.Report.{gap_line};
+
+    ghost line = { gap_line };
+
+    fn put(&self, alloc: Global, out: &mut Text) -> Result<(), Oom> {
+        put_gap(alloc, out, self)
+    }
+}
+
+impl Entry for Row {
+    ghost use Rattle.board_text.specs.Rows.{row_line};
+
+    ghost line = { row_line };
+
+    fn put(&self, alloc: Global, out: &mut Text) -> Result<(), Oom> {
+        put_row(alloc, out, self)
+    }
+}
+
+/// Tells the lines, in their order.
+pub fn tell_entries<E: Entry, K: Sink>(
+    alloc: Global,
+    out: &mut Text,
+    output: &mut K,
+    entries: &[E],
+) -> Result<(), Stop>
+    ensures told { OnOk result (Pages (K.taken output.old) (K.taken output.new) out.old out.new (flat_map E.line entries.now)) }
+    ensures halted { IfErr result (Halts (K.taken output.old) (K.taken output.new) (out.old ++ flat_map E.line entries.now)) }
+    ensures cause { IsCauseOf Stop.Write (K.faults output.old) (K.faults output.new) result }
+{
+    for entry in entries {
+        entry.put(alloc, out)?;
+        turn(alloc, out, output)?;
+    }
+    Ok(())
+}

@@ -1,0 +1,163 @@
+//! What stands in a report behind the lines of the products.
+ghost use Rattle.std.specs.Prelude.{◌≡◌, ◌≤◌, ◌++◌, ◌+◌, length, flat_map, IfOk, OnOk, IfErr};
+ghost use Rattle.std.specs.List.{All};
+ghost use Rattle.event_life.specs.Products.{rows_of};
+ghost use Rattle.event_life.specs.Shown.{shown_at};
+ghost use Rattle.desk_traits.specs.Streams.{Adds};
+ghost use Rattle.product_decoder.specs.ReaderModel.{lives_of, found_of, gaps_found};
+ghost use Rattle.program_ends.specs.Steps.{IsCauseOf};
+ghost use Rattle.archive_report.specs.Pieces.{Halts, Pages, count_listed, end_text, rest_text};
+ghost use Rattle.archive_report.specs.Readings.{IsNumbered};
+ghost use Rattle.archive_report.specs.Report.{life_line, breach_line, findings_text, shown_text, last_line};
+
+use crate::entries::tell_entries;
+use crate::lines::{put_breach, put_last, put_shown};
+use crate::page::{flush, turn};
+use crate::tally::Tally;
+use crate::words::Asked;
+use desk_traits::Sink;
+use hazard_types::{List, Text};
+use product_decoder::{Found, GapFound, Reader};
+use program_ends::Stop;
+use std::alloc::Global;
+
+/// Tells the lives.
+fn tell_lives<K: Sink>(
+    alloc: Global,
+    out: &mut Text,
+    output: &mut K,
+    reader: &Reader,
+) -> Result<(), Stop>
+    ensures told { OnOk result (Pages (K.taken output.old) (K.taken output.new) out.old out.new (flat_map life_line (lives_of reader.now.products))) }
+    ensures halted { IfErr result (Halts (K.taken output.old) (K.taken output.new) (out.old ++ flat_map life_line (lives_of reader.now.products))) }
+    ensures cause { IsCauseOf Stop.Write (K.faults output.old) (K.faults output.new) result }
+{
+    let lives = reader.lives(alloc)?;
+    tell_entries(alloc, out, output, lives.as_slice())
+}
+
+/// Tells the breaches. `numbers` are those of the products that were taken, among all.
+fn tell_breaches<K: Sink>(
+    alloc: Global,
+    out: &mut Text,
+    output: &mut K,
+    numbers: &[usize],
+    breaches: &[Found],
+) -> Result<(), Stop>
+    requires { All (IsNumbered (length numbers.now)) breaches.now }
+    ensures told { OnOk result (Pages (K.taken output.old) (K.taken output.new) out.old out.new (flat_map (breach_line numbers.now) breaches.now)) }
+    ensures halted { IfErr result (Halts (K.taken output.old) (K.taken output.new) (out.old ++ flat_map (breach_line numbers.now) breaches.now)) }
+    ensures cause { IsCauseOf Stop.Write (K.faults output.old) (K.faults output.new) result }
+{
+    for found in breaches {
+        put_breach(alloc, out, numbers, found)?;
+        turn(alloc, out, output)?;
+    }
+    Ok(())
+}
+
+/// How many faults, breaches and gaps there are.
+fn total(faults: usize, breaches: &[Found], gaps: &[GapFound]) -> usize
+    requires { faults ≤ 2000000000 }
+    ensures { result ≡ faults + length breaches.now + length gaps.now }
+{
+    faults + breaches.len() + gaps.len()
+}
+
+/// Tells the lives, breaches and gaps, and answers how many are listed with the faults.
+fn tell_findings<K: Sink>(
+    alloc: Global,
+    out: &mut Text,
+    output: &mut K,
+    tally: &Tally,
+) -> Result<usize, Stop>
+    requires numbered { All (IsNumbered (length tally.now.numbers)) (found_of tally.now.reader.products) }
+    requires few { tally.now.faults ≤ 2000000000 }
+    ensures told { OnOk result (Pages (K.taken output.old) (K.taken output.new) out.old out.new (findings_text tally.now.numbers tally.now.reader.products)) }
+    ensures count { IfOk result (λ n. n ≡ count_listed tally.now) }
+    ensures halted { IfErr result (Halts (K.taken output.old) (K.taken output.new) (out.old ++ findings_text tally.now.numbers tally.now.reader.products)) }
+    ensures cause { IsCauseOf Stop.Write (K.faults output.old) (K.faults output.new) result }
+{
+    tell_lives(alloc, out, output, &tally.reader)?;
+    let breaches = tally.reader.breaches(alloc)?;
+    let gaps = tally.reader.gaps(alloc)?;
+    tell_breaches(
+        alloc,
+        out,
+        output,
+        tally.numbers.as_slice(),
+        breaches.as_slice(),
+    )?;
+    tell_entries(alloc, out, output, gaps.as_slice())?;
+    Ok(total(tally.faults, breaches.as_slice(), gaps.as_slice()))
+}
+
+/// Tells the rows that are shown.
+fn tell_shown<K: Sink>(
+    alloc: Global,
+    out: &mut Text,
+    output: &mut K,
+    asked: &Asked,
+    reader: &Reader,
+) -> Result<(), Stop>
+    ensures told { OnOk result (Pages (K.taken output.old) (K.taken output.new) out.old out.new (shown_text asked.now.minute (shown_at asked.now.minute (rows_of reader.now.products)))) }
+    ensures halted { IfErr result (Halts (K.taken output.old) (K.taken output.new) (out.old ++ shown_text asked.now.minute (shown_at asked.now.minute (rows_of reader.now.products)))) }
+    ensures cause { IsCauseOf Stop.Write (K.faults output.old) (K.faults output.new) result }
+{
+    let rows = reader.shown(alloc, asked.minute)?;
+    put_shown(alloc, out, asked.minute, rows.len())?;
+    tell_entries(alloc, out, output, rows.as_slice())
+}
+
+/// Tells the last line.
+fn tell_last<K: Sink>(
+    alloc: Global,
+    out: &mut Text,
+    output: &mut K,
+    listed: usize,
+) -> Result<(), Stop>
+    ensures told { OnOk result (Adds (K.taken output.old) (K.taken output.new) (out.old ++ last_line listed)) }
+    ensures halted { IfErr result (Halts (K.taken output.old) (K.taken output.new) (out.old ++ last_line listed)) }
+    ensures cause { IsCauseOf Stop.Write (K.faults output.old) (K.faults output.new) result }
+{
+    put_last(alloc, out, listed)?;
+    flush(alloc, out, output)
+}
+
+/// Tells the rows that are shown, and how many faults, breaches and gaps are listed.
+fn tell_end<K: Sink>(
+    alloc: Global,
+    out: &mut Text,
+    output: &mut K,
+    asked: &Asked,
+    tally: &Tally,
+    listed: usize,
+) -> Result<(), Stop>
+    requires { listed ≡ count_listed tally.now }
+    ensures told { OnOk result (Adds (K.taken output.old) (K.taken output.new) (out.old ++ end_text asked.now tally.now)) }
+    ensures halted { IfErr result (Halts (K.taken output.old) (K.taken output.new) (out.old ++ end_text asked.now tally.now)) }
+    ensures cause { IsCauseOf Stop.Write (K.faults output.old) (K.faults output.new) result }
+{
+    tell_shown(alloc, out, output, asked, &tally.reader)?;
+    tell_last(alloc, out, output, listed)
+}
+
+/// Tells what the products come to, and answers how many faults, breaches and gaps are listed.
+pub fn tell_rest<K: Sink>(
+    alloc: Global,
+    asked: &Asked,
+    tally: &Tally,
+    output: &mut K,
+) -> Result<usize, Stop>
+    requires numbered { All (IsNumbered (length tally.now.numbers)) (found_of tally.now.reader.products) }
+    requires few { tally.now.faults ≤ 2000000000 }
+    ensures told { OnOk result (Adds (K.taken output.old) (K.taken output.new) (rest_text asked.now tally.now)) }
+    ensures count { IfOk result (λ n. n ≡ count_listed tally.now) }
+    ensures halted { IfErr result (Halts (K.taken output.old) (K.taken output.new) (rest_text asked.now tally.now)) }
+    ensures cause { IsCauseOf Stop.Write (K.faults output.old) (K.faults output.new) result }
+{
+    let mut out = List::new(alloc);
+    let listed = tell_findings(alloc, &mut out, output, tally)?;
+    tell_end(alloc, &mut out, output, asked, tally, listed)?;
+    Ok(listed)
+}

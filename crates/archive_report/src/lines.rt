@@ -1,0 +1,156 @@
+//! The lines of a report. Each is added to a text.
+ghost use Rattle.std.specs.Prelude.{◌≡◌, ◌++◌, length, OnOk};
+ghost use Rattle.product_decoder.specs.ReaderModel.{is_by, said_by};
+ghost use Rattle.archive_report.specs.Report.{title, counted_text, taken_line, faulty_line, product_line, life_line, breach_line, spaced, gap_line, shown_front, last_line};
+ghost use Rattle.archive_report.specs.Readings.{IsNumbered};
+
+use crate::tally::Reading;
+use crate::texts::{breach_name, put_fault, put_stamp, put_steps, put_where};
+use crate::words::Asked;
+use hazard_types::{Minute, Oom, Text, hazard_text, put_number, put_wide};
+use product_decoder::{Decoded, Found, GapFound, Track, ZonePair};
+use product_frame::FrameFault;
+use std::alloc::Global;
+
+fn is_by(asked: &Asked, pair: &ZonePair) -> bool
+    ensures { result ≡ is_by asked.now.office asked.now.class pair.now }
+{
+    pair.vtec.office == asked.office && pair.vtec.class == asked.class
+}
+
+/// How many lines are of the office and class.
+fn count_by(asked: &Asked, pairs: &[ZonePair]) -> usize
+    ensures { result ≡ length (said_by asked.now.office asked.now.class pairs.now) }
+{
+    let mut count = 0;
+    for pair in pairs {
+        if is_by(asked, pair) {
+            count += 1;
+        }
+    }
+    count
+}
+
+fn put_title(alloc: Global, out: &mut Text, number: usize) -> Result<(), Oom>
+    ensures { OnOk result (out.new ≡ out.old ++ title number) }
+{
+    out.extend(b"product ")?;
+    put_number(alloc, out, number)?;
+    out.push(b' ')
+}
+
+/// A minute and a count, which end a line.
+fn put_counted(alloc: Global, out: &mut Text, minute: Minute, count: usize) -> Result<(), Oom>
+    ensures { OnOk result (out.new ≡ out.old ++ counted_text minute count) }
+{
+    put_stamp(out, minute)?;
+    out.push(b' ')?;
+    put_number(alloc, out, count)?;
+    out.push(b'\n')
+}
+
+fn put_taken(
+    alloc: Global,
+    out: &mut Text,
+    asked: &Asked,
+    number: usize,
+    d: &Decoded,
+) -> Result<(), Oom>
+    ensures { OnOk result (out.new ≡ out.old ++ taken_line asked.now number d.now) }
+{
+    put_title(alloc, out, number)?;
+    out.extend(d.identifier.as_slice())?;
+    out.push(b' ')?;
+    put_counted(alloc, out, d.issue, count_by(asked, d.pairs.as_slice()))
+}
+
+fn put_faulty(alloc: Global, out: &mut Text, number: usize, fault: FrameFault) -> Result<(), Oom>
+    ensures { OnOk result (out.new ≡ out.old ++ faulty_line number fault) }
+{
+    put_title(alloc, out, number)?;
+    out.extend(b"fault ")?;
+    put_fault(alloc, out, fault)?;
+    out.push(b'\n')
+}
+
+/// The line of a product.
+pub fn put_product(
+    alloc: Global,
+    out: &mut Text,
+    asked: &Asked,
+    number: usize,
+    reading: &Reading,
+) -> Result<(), Oom>
+    ensures { OnOk result (out.new ≡ out.old ++ product_line asked.now number reading.now) }
+{
+    match reading {
+        Ok(d) => put_taken(alloc, out, asked, number, d),
+        Err(fault) => put_faulty(alloc, out, number, *fault),
+    }
+}
+
+/// The line of a life.
+pub fn put_life(alloc: Global, out: &mut Text, life: &Track) -> Result<(), Oom>
+    ensures { OnOk result (out.new ≡ out.old ++ life_line life.now) }
+{
+    out.extend(b"life ")?;
+    put_where(alloc, out, &life.event, &life.zone)?;
+    put_steps(out, life.steps.as_slice())?;
+    out.push(b'\n')
+}
+
+/// The line of a breach. `numbers` are those of the products that were taken, among all.
+pub fn put_breach(
+    alloc: Global,
+    out: &mut Text,
+    numbers: &[usize],
+    found: &Found,
+) -> Result<(), Oom>
+    requires { IsNumbered (length numbers.now) found.now }
+    ensures { OnOk result (out.new ≡ out.old ++ breach_line numbers.now found.now) }
+{
+    out.extend(b"breach ")?;
+    put_number(alloc, out, numbers[found.product as usize - 1])?;
+    out.push(b' ')?;
+    put_where(alloc, out, &found.event, &found.zone)?;
+    out.push(b' ')?;
+    out.extend(breach_name(found.breach))?;
+    out.push(b'\n')
+}
+
+/// A number behind a blank.
+fn put_spaced(alloc: Global, out: &mut Text, n: u16) -> Result<(), Oom>
+    ensures { OnOk result (out.new ≡ out.old ++ spaced n) }
+{
+    out.push(b' ')?;
+    put_wide(alloc, out, n)
+}
+
+/// The line of a gap.
+pub fn put_gap(alloc: Global, out: &mut Text, gap: &GapFound) -> Result<(), Oom>
+    ensures { OnOk result (out.new ≡ out.old ++ gap_line gap.now) }
+{
+    out.extend(b"gap ")?;
+    out.extend(&hazard_text(&gap.hazard))?;
+    put_spaced(alloc, out, gap.year)?;
+    put_spaced(alloc, out, gap.wanted)?;
+    put_spaced(alloc, out, gap.found)?;
+    out.push(b'\n')
+}
+
+/// What stands before the rows that are shown: their minute and count.
+pub fn put_shown(alloc: Global, out: &mut Text, minute: Minute, count: usize) -> Result<(), Oom>
+    ensures { OnOk result (out.new ≡ out.old ++ shown_front minute count) }
+{
+    out.extend(b"shown ")?;
+    put_counted(alloc, out, minute, count)
+}
+
+/// The last line.
+pub fn put_last(alloc: Global, out: &mut Text, listed: usize) -> Result<(), Oom>
+    ensures { OnOk result (out.new ≡ out.old ++ last_line listed) }
+{
+    out.extend(b"breaches ")?;
+    put_number(alloc, out, listed)?;
+    out.push(b'\n')
+}

@@ -1,0 +1,40 @@
+//! The text of a report that waits to be written.
+ghost use Rattle.std.specs.Prelude.{◌≡◌, [], OnOk, IfErr};
+ghost use Rattle.program_ends.specs.Steps.{IsCauseOf};
+ghost use Rattle.archive_report.specs.Pieces.{Halts, Pages};
+
+use desk_traits::{Failed, Sink, write_whole};
+use hazard_types::{List, Text};
+use program_ends::Stop;
+use std::alloc::Global;
+
+/// So many bytes do not wait.
+const ENOUGH: usize = 65_536;
+
+/// Writes what waits.
+pub fn flush<K: Sink>(alloc: Global, out: &mut Text, output: &mut K) -> Result<(), Stop>
+    ensures told { OnOk result (Pages (K.taken output.old) (K.taken output.new) out.old out.new []) }
+    ensures none { OnOk result (out.new ≡ []) }
+    ensures halted { IfErr result (Halts (K.taken output.old) (K.taken output.new) out.old) }
+    ensures cause { IsCauseOf Stop.Write (K.faults output.old) (K.faults output.new) result }
+{
+    match write_whole(output, out.as_slice()) {
+        Ok(()) => {
+            *out = List::new(alloc);
+            Ok(())
+        }
+        Err(Failed) => Err(Stop::Write),
+    }
+}
+
+/// Writes what waits where it is enough.
+pub fn turn<K: Sink>(alloc: Global, out: &mut Text, output: &mut K) -> Result<(), Stop>
+    ensures told { OnOk result (Pages (K.taken output.old) (K.taken output.new) out.old out.new []) }
+    ensures halted { IfErr result (Halts (K.taken output.old) (K.taken output.new) out.old) }
+    ensures cause { IsCauseOf Stop.Write (K.faults output.old) (K.faults output.new) result }
+{
+    if out.len() < ENOUGH {
+        return Ok(());
+    }
+    flush(alloc, out, output)
+}

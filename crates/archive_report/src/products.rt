@@ -1,0 +1,91 @@
+//! The products of an input are taken as they come, and their lines told.
+ghost use Rattle.std.specs.Prelude.{◌≡◌, ◌<◌, ◌+◌, true, false, length, Ok, [], IfOk, OnOk, IfErr};
+ghost use Rattle.product_decoder.specs.Decoded.{decode};
+ghost use Rattle.product_decoder.specs.Feeding.{GivesNone};
+ghost use Rattle.program_ends.specs.Steps.{IsCauseOf};
+ghost use Rattle.archive_report.specs.Pieces.{IsTally, TellsNext, TellsEach, TellsPiece, HaltsPiece};
+
+use crate::lines::put_product;
+use crate::tally::{Reading, Tally};
+use crate::words::Asked;
+use desk_traits::{Failed, Sink, write_whole};
+use hazard_types::{List, Oom, Or, Text};
+use product_decoder::{Feed, decode};
+use program_ends::Stop;
+use std::alloc::Global;
+
+fn read_product(alloc: Global, bytes: &[u8]) -> Result<Reading, Oom>
+    ensures { IfOk result (λ reading. reading ≡ decode bytes.now) }
+{
+    match decode(alloc, bytes) {
+        Ok(d) => Ok(Ok(d)),
+        Err(Or::No(fault)) => Ok(Err(fault)),
+        Err(Or::OutOfMemory) => Err(Oom),
+    }
+}
+
+/// Takes the next product that came out, and adds its line. Answers whether there was one.
+fn tell_next(
+    alloc: Global,
+    asked: &Asked,
+    feed: &mut Feed,
+    tally: &mut Tally,
+    out: &mut Text,
+) -> Result<bool, Oom>
+    requires tally { IsTally asked.now tally.old }
+    requires few { tally.old.count < 2000000000 }
+    ensures ended { feed.new.ended ≡ feed.old.ended }
+    ensures some { result ≡ Ok true → TellsNext asked.now feed.old feed.new tally.old tally.new out.old out.new }
+    ensures none { result ≡ Ok false → GivesNone feed.old feed.new × (tally.new ≡ tally.old) × (out.new ≡ out.old) }
+{
+    match feed.take(alloc)? {
+        Some(text) => {
+            let reading = read_product(alloc, text.as_slice())?;
+            put_product(alloc, out, asked, tally.count + 1, &reading)?;
+            tally.take(alloc, asked, &reading)?;
+            Ok(true)
+        }
+        None => Ok(false),
+    }
+}
+
+/// Takes each product that came out, and adds its line.
+fn tell_each(
+    alloc: Global,
+    asked: &Asked,
+    feed: &mut Feed,
+    tally: &mut Tally,
+    out: &mut Text,
+) -> Result<(), Oom>
+    requires tally { IsTally asked.now tally.old }
+    requires few { tally.old.count + length feed.old.rest < 2000000000 }
+    ensures { OnOk result (TellsEach asked.now feed.old feed.new tally.old tally.new out.old out.new) }
+{
+    let mut more = true;
+    while more {
+        more = tell_next(alloc, asked, feed, tally, out)?;
+    }
+    Ok(())
+}
+
+/// Takes each product that came out, and writes their lines.
+pub fn tell_products<K: Sink>(
+    alloc: Global,
+    asked: &Asked,
+    feed: &mut Feed,
+    tally: &mut Tally,
+    output: &mut K,
+) -> Result<(), Stop>
+    requires tally { IsTally asked.now tally.old }
+    requires few { tally.old.count + length feed.old.rest < 2000000000 }
+    ensures told { OnOk result (TellsPiece asked.now feed.old feed.new tally.old tally.new (K.taken output.old) (K.taken output.new)) }
+    ensures halted { IfErr result (λ why. HaltsPiece asked.now feed.old tally.old (K.taken output.old) (K.taken output.new) why) }
+    ensures cause { IsCauseOf Stop.Write (K.faults output.old) (K.faults output.new) result }
+{
+    let mut lines = List::new(alloc);
+    tell_each(alloc, asked, feed, tally, &mut lines)?;
+    match write_whole(output, lines.as_slice()) {
+        Ok(()) => Ok(()),
+        Err(Failed) => Err(Stop::Write),
+    }
+}

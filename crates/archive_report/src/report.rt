@@ -1,0 +1,31 @@
+//! The report of an input is told as it is read.
+ghost use Rattle.std.specs.Prelude.{◌≡◌, ◌≤◌};
+ghost use Rattle.program_ends.specs.Steps.{IsCauseOf};
+ghost use Rattle.program_ends.specs.Lines.{most_bytes};
+ghost use Rattle.archive_report.specs.Pieces.{TellsTo, Reports};
+
+use crate::findings::tell_rest;
+use crate::input::tell_input;
+use crate::tally::Tally;
+use crate::words::Asked;
+use desk_traits::{Sink, Source};
+use program_ends::Stop;
+use std::alloc::Global;
+
+/// Reads an input of at most `limit` bytes to its end, and tells its report. Answers how many faults, breaches and gaps are listed.
+pub fn tell_report<S: Source, K: Sink>(
+    alloc: Global,
+    asked: &Asked,
+    limit: usize,
+    input: &mut S,
+    output: &mut K,
+) -> Result<usize, Stop>
+    requires { limit ≤ most_bytes }
+    ensures run { TellsTo asked.now limit (S.left input.old) (S.left input.new) (K.taken output.old) (K.taken output.new) (Reports asked.now) result }
+    ensures read { IsCauseOf Stop.Read (S.faults input.old) (S.faults input.new) result }
+    ensures write { IsCauseOf Stop.Write (K.faults output.old) (K.faults output.new) result }
+{
+    let mut tally = Tally::new(alloc, asked);
+    tell_input(alloc, asked, limit, &mut tally, input, output)?;
+    tell_rest(alloc, asked, &tally, output)
+}

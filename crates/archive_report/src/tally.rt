@@ -1,0 +1,61 @@
+//! What the products of an input come to.
+ghost use Rattle.std.specs.Prelude.{◌≡◌, ◌<◌, ◌≤◌, OnOk, [], length};
+ghost use Rattle.archive_report.specs.Pieces.{IsTally, Counts};
+
+use crate::words::Asked;
+use hazard_types::{List, Oom};
+use product_decoder::{Decoded, Reader};
+use product_frame::FrameFault;
+use std::alloc::Global;
+
+/// What a product says, or its first fault.
+pub type Reading = Result<Decoded, FrameFault>;
+
+/// What the products so far come to.
+#[derive(Drop)]
+pub struct Tally {
+    /// The reader of those without a fault.
+    pub reader: Reader,
+    /// Their numbers among all, which count from 1.
+    pub numbers: List<usize>,
+    /// How many products there are.
+    pub count: usize,
+    /// How many of them have a fault.
+    pub faults: usize,
+}
+
+impl Tally {
+    /// There are no products yet.
+    pub fn new(alloc: Global, asked: &Asked) -> Self
+        ensures tally { IsTally asked.now result }
+        ensures products { result.reader.products ≡ [] }
+        ensures numbers { result.numbers ≡ [] }
+        ensures count { result.count ≡ 0 }
+        ensures faults { result.faults ≡ 0 }
+    {
+        Tally {
+            reader: Reader::new(alloc, asked.office, asked.class),
+            numbers: List::new(alloc),
+            count: 0,
+            faults: 0,
+        }
+    }
+
+    /// Takes what the next product says.
+    pub fn take(&mut self, alloc: Global, asked: &Asked, reading: &Reading) -> Result<(), Oom>
+        requires tally { IsTally asked.now self.old }
+        requires few { self.old.count < 2000000000 }
+        ensures tally { OnOk result (IsTally asked.now self.new) }
+        ensures counts { OnOk result (Counts asked.now reading.now self.old self.new) }
+    {
+        match reading {
+            Ok(d) => {
+                self.reader.take(alloc, d)?;
+                self.numbers.push(self.count + 1)?;
+            }
+            Err(_fault) => self.faults += 1,
+        }
+        self.count += 1;
+        Ok(())
+    }
+}

@@ -1,0 +1,101 @@
+//! The words of a report's lines. Each is added to a text, or the text has some of it where memory lacks.
+ghost use Rattle.std.specs.Prelude.{◌≡◌, ◌++◌, IfOk, OnOk, string_bytes};
+ghost use Rattle.hazard_types.specs.Calendar.{stamp_of};
+ghost use Rattle.vtec_string.specs.Letters.{action_code};
+ghost use Rattle.archive_report.specs.Texts.{where_text, steps_text, breach_name, fault_text};
+
+use event_life::Breach;
+use hazard_types::{Action, Event, Minute, Oom, Text, Zone, put_event, stamp, zone_text};
+use product_frame::FrameFault;
+use std::alloc::{AllocError, Global};
+
+/// An event in a zone.
+pub fn put_where(alloc: Global, out: &mut Text, event: &Event, zone: &Zone) -> Result<(), Oom>
+    ensures { OnOk result (out.new ≡ out.old ++ where_text event.now zone.now) }
+{
+    put_event(alloc, out, event)?;
+    out.push(b' ')?;
+    out.extend(&zone_text(zone))
+}
+
+/// The stamp of a minute.
+pub fn put_stamp(out: &mut Text, minute: Minute) -> Result<(), Oom>
+    ensures { OnOk result (out.new ≡ out.old ++ stamp_of minute) }
+{
+    out.extend(&stamp(minute))
+}
+
+fn action_code(action: Action) -> [u8; 3]
+    ensures { result ≡ action_code action }
+{
+    match action {
+        Action::New => *b"NEW",
+        Action::Con => *b"CON",
+        Action::Exa => *b"EXA",
+        Action::Ext => *b"EXT",
+        Action::Exb => *b"EXB",
+        Action::Upg => *b"UPG",
+        Action::Can => *b"CAN",
+        Action::Exp => *b"EXP",
+        Action::Cor => *b"COR",
+        Action::Rou => *b"ROU",
+    }
+}
+
+/// The steps of a life, each behind a blank.
+pub fn put_steps(out: &mut Text, steps: &[(Action, Minute)]) -> Result<(), Oom>
+    ensures { OnOk result (out.new ≡ out.old ++ steps_text steps.now) }
+{
+    for step in steps {
+        out.push(b' ')?;
+        out.extend(&action_code(step.0))?;
+        out.push(b'@')?;
+        put_stamp(out, step.1)?;
+    }
+    Ok(())
+}
+
+/// The name of a breach.
+pub fn breach_name(breach: Breach) -> &'static [u8]
+    ensures { result.now ≡ breach_name breach }
+{
+    match breach {
+        Breach::Reopened => b"Reopened",
+        Breach::NotOpening => b"NotOpening",
+        Breach::NumberHeld => b"NumberHeld",
+        Breach::ZeroBegin => b"ZeroBegin",
+        Breach::TooEarly => b"TooEarly",
+        Breach::NoLength => b"NoLength",
+        Breach::PeriodMoved => b"PeriodMoved",
+        Breach::PeriodSame => b"PeriodSame",
+        Breach::NotLive => b"NotLive",
+        Breach::BegunMoved => b"BegunMoved",
+        Breach::TooLate => b"TooLate",
+        Breach::NoHigher => b"NoHigher",
+        Breach::Twice => b"Twice",
+    }
+}
+
+/// A fault's name, and its line where there is one.
+#[tactic(auto, unfolding(crate::specs::Texts::fault_text))]
+fn fault_text(alloc: Global, fault: FrameFault) -> Result<String, AllocError>
+    ensures { IfOk result (λ s. string_bytes s ≡ fault_text fault) }
+{
+    match fault {
+        FrameFault::NoHeading => format!(in alloc; "NoHeading"),
+        FrameFault::NoIdentifier => format!(in alloc; "NoIdentifier"),
+        FrameFault::NoIssueTime => format!(in alloc; "NoIssueTime"),
+        FrameFault::IssueDisagrees => format!(in alloc; "IssueDisagrees"),
+        FrameFault::NoSegmentEnd { line } => format!(in alloc; "NoSegmentEnd {line}"),
+        FrameFault::BadUgc { line } => format!(in alloc; "BadUgc {line}"),
+        FrameFault::BadVtec { line } => format!(in alloc; "BadVtec {line}"),
+    }
+}
+
+/// A fault's name, and its line where there is one.
+pub fn put_fault(alloc: Global, out: &mut Text, fault: FrameFault) -> Result<(), Oom>
+    ensures { OnOk result (out.new ≡ out.old ++ fault_text fault) }
+{
+    let text = fault_text(alloc, fault)?;
+    out.extend(text.as_bytes())
+}

@@ -1,0 +1,37 @@
+-- The words of a command line.
+use Rattle.std.specs.Prelude.{ℕ, ◌&&◌, List, [], ◌∷◌, if◌then◌else◌, Option, None, Some, option_map, codes, IsTrue}
+use Rattle.std.specs.Option.{option_or}
+use Rattle.std.specs.Str.{bytes_eq}
+use Rattle.hazard_types.specs.Calendar.{stamp_at}
+use Rattle.hazard_types.specs.Characters.{is_office}
+use Rattle.desk_program.specs.declared.words.Command.{Command}
+use Rattle.desk_program.specs.declared.words.Command.TheVariants as command
+
+-- `init`, `script`, `export`, `upgrade` or `board`
+abbrev pub single_word : List ℕ → Option Command
+single_word word =
+    if bytes_eq word (codes "init") then Some command.Init
+    else if bytes_eq word (codes "script") then Some command.Script
+    else if bytes_eq word (codes "export") then Some command.Export
+    else if bytes_eq word (codes "upgrade") then Some command.Upgrade
+    else if bytes_eq word (codes "board") then Some (command.Board None)
+    else None
+
+-- `board --at STAMP`
+abbrev pub board_words : List ℕ → List ℕ → List ℕ → Option Command
+board_words a b c = if bytes_eq a (codes "board") && bytes_eq b (codes "--at") then option_map (λ m. command.Board (Some m)) (stamp_at c) else None
+
+-- `dry OFFICE STAMP`
+abbrev pub dry_words : List ℕ → List ℕ → List ℕ → Option Command
+dry_words a b c = if bytes_eq a (codes "dry") && is_office b then option_map (λ m. command.Dry (record { office = b; minute = m })) (stamp_at c) else None
+
+-- the command that the words are, all of them
+unfoldable pub command_of : List (List ℕ) → Option Command
+command_of (a ∷ []) = single_word a
+command_of (a ∷ b ∷ c ∷ []) = option_or (board_words a b c) (dry_words a b c)
+command_of _ = None
+
+-- its values have their forms
+abbrev pub IsCommand : Command → Type 0
+IsCommand (command.Dry dry) = IsTrue (is_office dry.office)
+IsCommand _ = Unit {0}

@@ -1,0 +1,45 @@
+//! What the words ask for is done.
+ghost use Rattle.std.specs.Prelude.{◌<◌, ◌+◌, ◌^◌};
+ghost use Rattle.desk_program.specs.Runs.{DoesAsAsked};
+
+use crate::training::run_training;
+use crate::words::{Command, command_of};
+use desk_commands::{Ended, run_board, run_export, run_init, run_script, run_upgrade};
+use desk_traits::{Clock, Disk, Sink, Source};
+use hazard_types::{List, Text};
+use program_ends::{End, end_at_once};
+use std::alloc::Global;
+
+/// Does what the words say, with an input of at most `limit` bytes. Returns the status of the program,
+/// and the disk.
+pub fn desk_within<S: Source, K: Sink, D: Disk, C: Clock>(
+    alloc: Global,
+    words: &List<Text>,
+    input: &mut S,
+    output: &mut K,
+    disk: D,
+    clock: &mut C,
+    limit: usize,
+) -> Ended<D>
+    requires { limit + 1 < 2 ^ 64 }
+    ensures { DoesAsAsked D.Disk C.Clock words.now limit disk result.disk clock.old clock.new
+        (S.left input.old) (S.left input.new) (K.taken output.old) (K.taken output.new)
+        (S.faults input.old) (S.faults input.new) (K.faults output.old) (K.faults output.new)
+        result.status }
+{
+    match command_of(words) {
+        None => Ended {
+            status: end_at_once(output, End::Usage),
+            disk,
+        },
+        Some(Command::Init) => run_init(alloc, input, output, disk),
+        Some(Command::Script) => run_script(alloc, limit, input, output, disk, clock),
+        Some(Command::Export) => run_export(alloc, output, disk),
+        Some(Command::Upgrade) => run_upgrade(alloc, output, disk),
+        Some(Command::Board(minute)) => run_board(alloc, minute, output, disk, clock),
+        Some(Command::Dry(dry)) => Ended {
+            status: run_training(alloc, &dry, limit, input, output),
+            disk,
+        },
+    }
+}

@@ -1,0 +1,31 @@
+//! The command `dry`.
+ghost use Rattle.std.specs.Prelude.{◌+◌, ◌<◌, ◌^◌, IsTrue};
+ghost use Rattle.hazard_types.specs.Characters.{is_office};
+ghost use Rattle.desk_program.specs.Runs.{IsDryRun};
+
+use crate::training_desk::TrainingDesk;
+use crate::words::Dry;
+use desk_traits::{Sink, Source};
+use office_core::{a_request_has_one_answer, offices_begin_in_agreement};
+use program_ends::{End, end_at_once, run_lines};
+use std::alloc::Global;
+
+/// Answers each line of an input of at most `limit` bytes by a training office, and answers the status of the program.
+pub fn run_training<S: Source, K: Sink>(
+    alloc: Global,
+    dry: &Dry,
+    limit: usize,
+    input: &mut S,
+    output: &mut K,
+) -> u8
+    requires office { IsTrue (is_office dry.now.office) }
+    requires limit { limit + 1 < 2 ^ 64 }
+    ensures { IsDryRun dry.now limit (S.left input.old) (S.left input.new) (K.taken output.old) (K.taken output.new) (S.faults input.old) (S.faults input.new) (K.faults output.old) (K.faults output.new) result }
+{
+    offices_begin_in_agreement();
+    a_request_has_one_answer();
+    match TrainingDesk::new(alloc, dry) {
+        Ok(mut desk) => run_lines(alloc, limit, &mut desk, input, output),
+        Err(_) => end_at_once(output, End::OutOfMemory),
+    }
+}

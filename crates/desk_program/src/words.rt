@@ -1,0 +1,119 @@
+//! The words of the command line.
+ghost use Rattle.std.specs.Prelude.{◌≡◌, ◌||◌, IsTrue, IfSome, Some, None, if◌then◌else◌};
+ghost use Rattle.std.specs.List.{list_all};
+ghost use Rattle.hazard_types.specs.Calendar.{is_digit};
+ghost use Rattle.hazard_types.specs.Places.{is_capital};
+ghost use Rattle.hazard_types.specs.Characters.{is_office};
+ghost use Rattle.desk_program.specs.Words.{IsCommand, board_words, command_of, dry_words, single_word};
+
+use hazard_types::{List, Minute, Text, read_stamp};
+
+/// Training at an office and a minute.
+#[derive(Clone, Copy, Debug)]
+pub struct Dry {
+    pub office: [u8; 4],
+    pub minute: Minute,
+}
+
+/// What the words ask for.
+#[derive(Clone, Copy, Debug)]
+pub enum Command {
+    /// Makes the journal of an office.
+    Init,
+    /// Answers requests, a line each.
+    Script,
+    /// Writes the texts of all products.
+    Export,
+    /// Goes over to edition Two.
+    Upgrade,
+    /// Writes the board, at a minute or now.
+    Board(Option<Minute>),
+    /// Training in memory.
+    Dry(Dry),
+}
+
+/// Whether all are capital letters or digits.
+fn are_office_letters(word: &[u8]) -> bool
+    ensures { result ≡ list_all (λ c. is_capital c || is_digit c) word.now }
+{
+    word.iter()
+        .all(|c| c.is_ascii_uppercase() || c.is_ascii_digit())
+}
+
+/// The office that a word names.
+#[tactic(auto, using(crate::proofs::Shapes::four_is))]
+fn office_of(word: &[u8]) -> Option<[u8; 4]>
+    ensures value { result ≡ (if is_office word.now then Some word.now else None) }
+    ensures office { IfSome result (λ office. IsTrue (is_office office)) }
+{
+    let [first, second, third, fourth] = word else {
+        return None;
+    };
+    if are_office_letters(word) {
+        Some([*first, *second, *third, *fourth])
+    } else {
+        None
+    }
+}
+
+/// The command of a single word.
+fn single_word(word: &[u8]) -> Option<Command>
+    ensures { result ≡ single_word word.now }
+{
+    if word == b"init".as_slice() {
+        Some(Command::Init)
+    } else if word == b"script".as_slice() {
+        Some(Command::Script)
+    } else if word == b"export".as_slice() {
+        Some(Command::Export)
+    } else if word == b"upgrade".as_slice() {
+        Some(Command::Upgrade)
+    } else if word == b"board".as_slice() {
+        Some(Command::Board(None))
+    } else {
+        None
+    }
+}
+
+/// The command `board --at STAMP`.
+fn board_words(command: &[u8], option: &[u8], stamp: &[u8]) -> Option<Command>
+    ensures { result ≡ board_words command.now option.now stamp.now }
+{
+    if command != b"board".as_slice() || option != b"--at".as_slice() {
+        return None;
+    }
+    let minute = read_stamp(stamp)?;
+    Some(Command::Board(Some(minute)))
+}
+
+/// The command `dry OFFICE STAMP`.
+fn dry_words(command: &[u8], office: &[u8], stamp: &[u8]) -> Option<Command>
+    ensures value { result ≡ dry_words command.now office.now stamp.now }
+    ensures forms { IfSome result IsCommand }
+{
+    if command != b"dry".as_slice() {
+        return None;
+    }
+    let office = office_of(office)?;
+    let minute = read_stamp(stamp)?;
+    Some(Command::Dry(Dry { office, minute }))
+}
+
+/// The command that the words are. None exactly where they are none.
+#[tactic(auto, unfolding(crate::specs::Words::command_of))]
+pub fn command_of(words: &List<Text>) -> Option<Command>
+    ensures value { result ≡ command_of words.now }
+    ensures forms { IfSome result IsCommand }
+{
+    match words.as_slice() {
+        [word] => single_word(word.as_slice()),
+        [first, second, third] => {
+            let board = board_words(first.as_slice(), second.as_slice(), third.as_slice());
+            if board.is_some() {
+                return board;
+            }
+            dry_words(first.as_slice(), second.as_slice(), third.as_slice())
+        }
+        _ => None,
+    }
+}

@@ -1,0 +1,89 @@
+//! A report over a source and a sink in memory.
+use archive_report::archive_within;
+use desk_traits::{MemSink, MemSource};
+use hazard_types::{List, Oom, Text};
+use program_ends::LIMIT;
+use std::alloc::Global;
+
+/// How an input comes, and which calls fail.
+#[derive(Drop)]
+pub struct Given {
+    /// The most bytes that a read gives.
+    pub piece: usize,
+    /// The most bytes of the input.
+    pub limit: usize,
+    pub bad_reads: List<u64>,
+    pub bad_writes: List<u64>,
+}
+
+/// What a report left.
+#[derive(Drop)]
+pub struct Run {
+    pub status: u8,
+    pub text: Text,
+}
+
+/// The words of a line.
+pub fn words_of(alloc: Global, line: &str) -> Result<List<Text>, Oom> {
+    let mut words = List::new(alloc);
+    for word in line.split_whitespace() {
+        words.push(List::from_slice(alloc, word.as_bytes())?)?;
+    }
+    Ok(words)
+}
+
+/// The report of an input.
+pub fn run_report(
+    alloc: Global,
+    words: &List<Text>,
+    input: &[u8],
+    given: &Given,
+) -> Result<Run, Oom> {
+    let mut source = MemSource::new(alloc, input, given.piece.max(1), &given.bad_reads)?;
+    let mut sink = MemSink::new(alloc, &given.bad_writes)?;
+    let limit = given.limit.min(LIMIT);
+    let status = archive_within(alloc, words, &mut source, &mut sink, limit);
+    let text = sink.taken().clone()?;
+    Ok(Run { status, text })
+}
+
+/// The report of an input that comes in pieces of this size, with no fault.
+fn whole_report(alloc: Global, words: &List<Text>, input: &[u8], piece: usize) -> Result<Run, Oom> {
+    let given = Given {
+        piece,
+        limit: LIMIT,
+        bad_reads: List::new(alloc),
+        bad_writes: List::new(alloc),
+    };
+    run_report(alloc, words, input, &given)
+}
+
+/// Whether two reports are the same.
+fn is_same(one: &Run, other: &Run) -> bool {
+    one.status == other.status && one.text == other.text
+}
+
+/// How many reports were made of an input that is cut off, and how many cuts have other reports in other pieces, or none.
+#[derive(Drop)]
+pub struct Tally {
+    pub cuts: usize,
+    pub differ: usize,
+}
+
+/// Makes the report of each front of an input, in pieces of one, seven and a thousand bytes.
+pub fn try_cuts(alloc: Global, words: &List<Text>, input: &[u8]) -> Result<Tally, Oom> {
+    let mut cuts = 0usize;
+    let mut differ = 0usize;
+    for length in 0..input.len() + 1 {
+        let front = &input[..length];
+        let single = whole_report(alloc, words, front, 1)?;
+        let seven = whole_report(alloc, words, front, 7)?;
+        let thousand = whole_report(alloc, words, front, 1000)?;
+        let reported = single.status == 0 || single.status == 3;
+        if !(reported && is_same(&single, &seven) && is_same(&single, &thousand)) {
+            differ = differ.saturating_add(1);
+        }
+        cuts = cuts.saturating_add(1);
+    }
+    Ok(Tally { cuts, differ })
+}

@@ -1,0 +1,98 @@
+//! The script of reports: each line's step is worked, and answered by text.
+use crate::runs::{Given, run_report, try_cuts, words_of};
+use crate::steps::{Step, step_of};
+use hazard_types::{List, Oom, Text};
+use program_ends::LIMIT;
+use std::alloc::Global;
+use worked_lines::Work;
+
+/// How many bytes a read gives where the script does not say.
+const PIECE: usize = 4096;
+
+/// The input, and what is given of the next report.
+#[derive(Drop)]
+pub struct Script {
+    input: Text,
+    given: Given,
+}
+
+/// What is given where the script does not say.
+fn nothing_given(alloc: Global) -> Given {
+    Given {
+        piece: PIECE,
+        limit: LIMIT,
+        bad_reads: List::new(alloc),
+        bad_writes: List::new(alloc),
+    }
+}
+
+impl Script {
+    pub fn new(alloc: Global) -> Self {
+        Script {
+            input: List::new(alloc),
+            given: nothing_given(alloc),
+        }
+    }
+
+    /// Lays the input behind itself.
+    fn double(&mut self) -> Result<(), Oom> {
+        let again = self.input.clone()?;
+        self.input.extend(again.as_slice())
+    }
+
+    /// A report, and its status.
+    fn report_step(&mut self, alloc: Global, line: &str) -> Result<String, Oom> {
+        let words = words_of(alloc, line)?;
+        let run = run_report(alloc, &words, self.input.as_slice(), &self.given)?;
+        self.given = nothing_given(alloc);
+        let mut answer = String::from_utf8_lossy(alloc, run.text.as_slice())?;
+        let status = run.status;
+        let line = format!(in alloc; "status {status}\n")?;
+        answer.push_str(line.as_str())?;
+        Ok(answer)
+    }
+
+    /// The reports of the input cut off behind each of its bytes.
+    fn cuts_step(&self, alloc: Global, line: &str) -> Result<String, Oom> {
+        let words = words_of(alloc, line)?;
+        let tally = try_cuts(alloc, &words, self.input.as_slice())?;
+        let cuts = tally.cuts;
+        let differ = tally.differ;
+        Ok(format!(in alloc; "{cuts} cuts, {differ} differ\n")?)
+    }
+
+    /// Works a step that is answered by nothing. Returns whether it was one.
+    fn prepare(&mut self, alloc: Global, step: &Step<'_>) -> Result<bool, Oom> {
+        match step {
+            Step::Remark => {}
+            Step::Line(text) => {
+                self.input.extend(text.as_bytes())?;
+                self.input.extend(b"\r\r\n")?;
+            }
+            Step::Unended(text) => self.input.extend(text.as_bytes())?,
+            Step::NoText => self.input = List::new(alloc),
+            Step::Again => self.double()?,
+            Step::Piece(size) => self.given.piece = *size,
+            Step::Limit(most) => self.given.limit = *most,
+            Step::BadRead(call) => self.given.bad_reads.push(*call)?,
+            Step::BadWrite(call) => self.given.bad_writes.push(*call)?,
+            Step::Report(_) | Step::Cuts(_) | Step::Unread => return Ok(false),
+        }
+        Ok(true)
+    }
+}
+
+impl Work for Script {
+    /// What a line is answered.
+    fn work(&mut self, alloc: Global, line: &str) -> Result<String, Oom> {
+        let step = step_of(line);
+        if self.prepare(alloc, &step)? {
+            return Ok(String::new(alloc));
+        }
+        match &step {
+            Step::Report(words) => self.report_step(alloc, words),
+            Step::Cuts(words) => self.cuts_step(alloc, words),
+            _ => Ok(format!(in alloc; "unread: {line}\n")?),
+        }
+    }
+}
