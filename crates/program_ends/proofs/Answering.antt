@@ -5,7 +5,7 @@ use Rattle.desk_traits.proofs.Pieces.{adds_both}
 use Rattle.program_ends.specs.declared.reading.Stop.{Stop}
 use Rattle.program_ends.specs.declared.reading.Stop.TheVariants as stop
 use Rattle.program_ends.specs.Lines.{fit}
-use Rattle.program_ends.specs.Runs.{Answered, LacksNext}
+use Rattle.program_ends.specs.Runs.{Answered, Breaks, LacksNext}
 use Rattle.program_ends.specs.Steps.{Halts, HaltsAt}
 
 pub adds_none : (taken : Option (List ℕ)) → Adds taken taken []
@@ -20,6 +20,23 @@ module _ {A : Type 0} (answers : A → Option (List ℕ) → List ℕ → A → 
   pub answered_one : (a b : A) (line text : List ℕ) → answers a (fit line) text b → Answered answers a (line ∷ []) text b
   answered_one a b line text h = (text, b, [], h, sym (append-nil text), (refl, refl))
 
+  -- behind lines whose texts were written whole
+  pub breaks_after : (a b z : A) (xs ys : List (List ℕ)) (v told written : List ℕ) → Answered answers a xs v b → Breaks answers b z ys told written → Breaks answers a z (xs ++ ys) (v ++ told) (v ++ written)
+  breaks_after a b z xs ys v told written p breaks = record {
+    before = xs ++ breaks.before;
+    line = breaks.line;
+    state = breaks.state;
+    whole = v ++ breaks.whole;
+    text = breaks.text;
+    front = breaks.front;
+    lines_are = ap (λ (l : List (List ℕ)). xs ++ l) breaks.lines_are ∙ sym (append_assoc xs breaks.before (breaks.line ∷ []));
+    answered = answered_append a b breaks.state xs breaks.before v breaks.whole p breaks.answered;
+    last = breaks.last;
+    told_is = ap (λ (t : List ℕ). v ++ t) breaks.told_is ∙ sym (append_assoc v breaks.whole breaks.text);
+    begins = breaks.begins;
+    written_is = ap (λ (t : List ℕ). v ++ t) breaks.written_is ∙ sym (append_assoc v breaks.whole breaks.front);
+  }
+
   unfoldable pub halts_after : (a b z : A) (xs ys : List (List ℕ)) (v : List ℕ) (taken mid taken' : Option (List ℕ)) (why : Stop) → Answered answers a xs v b → Adds taken mid v → Halts answers lacks b z ys mid taken' why → Halts answers lacks a z (xs ++ ys) taken taken' why
   halts_after a b z xs ys v taken mid taken' why p adds halts = record {
     done = xs ++ halts.done;
@@ -32,14 +49,13 @@ module _ {A : Type 0} (answers : A → Option (List ℕ) → List ℕ → A → 
     adds = adds_both _ _ _ _ _ _ adds halts.adds refl;
     begins = (halts.begins.0, ap (λ (t : List ℕ). v ++ t) halts.begins.1 ∙ sym (append_assoc v halts.written halts.begins.0));
     no_memory = λ e. let was = halts.no_memory e in (ap (λ (t : List ℕ). v ++ t) was.0, was.1);
-    write_fault = halts.write_fault;
+    write_fault = λ e. let was = halts.write_fault e in (was.0, breaks_after a b z xs halts.done v halts.told halts.written p was.1);
     reasons = halts.reasons;
   }
 
   -- the next of more lines
   pub lacks_within : (last : A) (others ys : List (List ℕ)) (z : A) → LacksNext lacks last others z → LacksNext lacks last (others ++ ys) z
-  lacks_within last others ys z (inl same) = inl same
-  lacks_within last others ys z (inr (line, more, is, at)) = inr (line, more ++ ys, ap (λ (l : List (List ℕ)). l ++ ys) is, at)
+  lacks_within last others ys z (line, more, is, at) = (line, more ++ ys, ap (λ (l : List (List ℕ)). l ++ ys) is, at)
 
   unfoldable pub halts_within : (a z : A) (xs ys all : List (List ℕ)) (taken taken' : Option (List ℕ)) (why : Stop) → all ≡ xs ++ ys → Halts answers lacks a z xs taken taken' why → Halts answers lacks a z all taken taken' why
   halts_within a z xs ys all taken taken' why is halts = record {
@@ -71,7 +87,7 @@ module _ {A : Type 0} (answers : A → Option (List ℕ) → List ℕ → A → 
         answered = (refl, refl);
         adds = rw was.0 (adds_none taken);
         begins = ([], refl);
-        no_memory = λ _. (refl, inr (line, more, refl, was.1));
+        no_memory = λ _. (refl, (line, more, refl, was.1));
         write_fault = λ e. absurd (cc);
         reasons = inl memory;
       }
@@ -88,23 +104,22 @@ module _ {A : Type 0} (answers : A → Option (List ℕ) → List ℕ → A → 
         adds = was.2.adds;
         begins = was.2.begins;
         no_memory = λ e. absurd (cc);
-        write_fault = λ _. refl;
+        write_fault = λ _. (
+          refl,
+          record {
+            before = [];
+            line = line;
+            state = a;
+            whole = [];
+            text = was.0;
+            front = was.2.front;
+            lines_are = refl;
+            answered = (refl, refl);
+            last = was.1;
+            told_is = refl;
+            begins = was.2.begins;
+            written_is = refl;
+          },
+        );
         reasons = inr write;
       }
-
-  -- before the next of the lines was judged
-  pub halts_before : (a : A) (lines : List (List ℕ)) (taken : Option (List ℕ)) (why : Stop) → why ≡ stop.OutOfMemory → Halts answers lacks a a lines taken taken why
-  halts_before a lines taken why memory = record {
-    done = [];
-    others = lines;
-    told = [];
-    last = a;
-    written = [];
-    first = refl;
-    answered = (refl, refl);
-    adds = adds_none taken;
-    begins = ([], refl);
-    no_memory = λ _. (refl, inl refl);
-    write_fault = λ e. absurd (cc);
-    reasons = inl memory;
-  }

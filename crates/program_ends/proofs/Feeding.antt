@@ -5,11 +5,10 @@ use Rattle.std.proofs.lemmas.List.{drop_more}
 use Rattle.desk_traits.specs.Streams.{Adds}
 use Rattle.desk_traits.proofs.Pieces.{adds_both}
 use Rattle.program_ends.specs.declared.reading.Stop.{Stop}
-use Rattle.program_ends.specs.declared.reading.Stop.TheVariants as stop
 use Rattle.program_ends.specs.Lines.{Pending, pending_of, lines_from, rest_from, without_return, fit}
 use Rattle.program_ends.specs.Runs.{Answered}
 use Rattle.program_ends.specs.Steps.{Feeds, Halts, HaltsAt, Replies}
-use Rattle.program_ends.proofs.Answering.{adds_none, answered_append, answered_one, halts_after, halts_next, halts_before}
+use Rattle.program_ends.proofs.Answering.{adds_none, answered_append, answered_one, halts_after, halts_next}
 
 -- i bytes of a chunk were fed, and this has come of a line: the lines that ended in them are answered, and the others are those of what is left
 pub record Fed {A : Type 0} (answers : A → Option (List ℕ) → List ℕ → A → Type 0) (a z : A) (begun chunk : List ℕ) (i : ℕ) (line : List ℕ) (taken taken' : Option (List ℕ)) : Type 0 where
@@ -63,11 +62,6 @@ module _ {A : Type 0} (answers : A → Option (List ℕ) → List ℕ → A → 
         let more = lines_from [] (drop (i + 1) chunk) in
         let lines : lines_from begun chunk ≡ fed.done ++ without_return line ∷ more = fed.lines ∙ ap (λ (l : List ℕ). fed.done ++ lines_from line l) (left_end lt byte) in
         rw lines (halts_after answers lacks a z y fed.done (without_return line ∷ more) fed.written taken mid new why fed.answered fed.adds (halts_next answers lacks z y (without_return line) more mid new why at at.reasons))
-
-    -- memory lacked for the next byte
-    pub fed_full : Fed answers a z begun chunk i line taken mid → (why : Stop) → why ≡ stop.OutOfMemory → Halts answers lacks a z (lines_from begun chunk) taken mid why
-    fed_full fed why memory =
-        rw fed.lines (halts_after answers lacks a z z fed.done (lines_from line (drop i chunk)) fed.written taken mid mid why fed.answered fed.adds (halts_before answers lacks z (lines_from line (drop i chunk)) mid why memory))
 
     -- the whole chunk was fed
     pub fed_all : Fed answers a z begun chunk i line taken mid → drop i chunk ≡ [] → (kept : Pending) → kept ≡ pending_of line → Feeds answers a z begun chunk kept taken mid

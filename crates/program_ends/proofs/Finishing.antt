@@ -1,11 +1,18 @@
 -- A run over lines whose end was told.
-use Rattle.std.proofs.Common.{ℕ, ◌≡◌, ◌≢◌, List, Option, Some, Result, Ok, Err, IsErrOf, refl, ◌⊎◌, rules, arith}
+use Rattle.std.proofs.Common.{ℕ, ◌≡◌, ◌≢◌, List, [], ◌∷◌, ◌++◌, Option, Some, Result, Ok, Err, IsErrOf, refl, ap, sym, ◌∙◌, ◌⊎◌, inl, inr, rules, arith}
+use Rattle.std.proofs.lemmas.Bool.Decides.{eqb_tells}
+use Rattle.desk_traits.specs.Faults.{Rose}
+use Rattle.desk_traits.specs.Streams.{Adds}
+use Rattle.desk_traits.proofs.Pieces.{adds_both}
+use Rattle.program_ends.specs.declared.ends.End.{End}
 use Rattle.program_ends.specs.declared.ends.End.TheVariants.{ReadFault, WriteFault}
 use Rattle.program_ends.specs.declared.reading.Stop.{Stop}
 use Rattle.program_ends.specs.declared.reading.Stop.TheVariants as stop
-use Rattle.program_ends.specs.Ends.{own_status, HasWritten, Telling}
-use Rattle.program_ends.specs.Runs.{IsLinesRun, end_in}
+use Rattle.program_ends.specs.Ends.{own_line, own_status, HasWritten, IsCut, Telling}
+use Rattle.program_ends.specs.Runs.{Breaks, IsBroken, IsLinesRun, end_in}
 use Rattle.program_ends.specs.Steps.{Runs, IsCauseOf}
+use Rattle.program_ends.proofs.Answering.{adds_none}
+use Rattle.program_ends.proofs.Telling.{begins_self}
 
 is_read : {T : Type 0} (r : Result T Stop) → IsErrOf r stop.Read → end_in r ≡ Some ReadFault
 is_read (Ok x) h = absurd (cc)
@@ -56,33 +63,76 @@ ends_so (Err stop.Write) status not_8 own never = absurd (not_8 own)
 ends_so (Err stop.TooLong) status not_8 own never = search rules
 ends_so (Err stop.OutOfMemory) status not_8 own never = search rules
 
+no_front : (front rest : List ℕ) → [] ≡ front ++ rest → front ≡ []
+no_front [] rest e = refl
+no_front (c ∷ front) rest e = absurd (cc)
+
+is_eight : (end : Option End) (status : ℕ) → end ≡ Some WriteFault → (status ≢ 8 → status ≡ own_status end) → status ≡ 8
+is_eight end status e own = elim (eqb_tells status 8) [
+  | inl h ↦ h.1
+  | inr h ↦ own h.1 ∙ ap own_status e
+]
+
+-- what the end of a run is told, over all that was written before
+abbrev pub Tells : Option (List ℕ) → Option (List ℕ) → ℕ → ℕ → Option End → ℕ → Type 0
+Tells mid taken' between writes' end status = (taken : Option (List ℕ)) (before : ℕ) (defined written : List ℕ) → Adds taken mid written → HasWritten defined written before between end → Telling defined before taken taken' writes' end status
+
+module _ (mid taken' : Option (List ℕ)) (writes between writes' : ℕ) (end : Option End) (status : ℕ) (tells : Tells mid taken' between writes' end status) (e : end ≡ Some WriteFault) (rose : Rose writes between) where
+  -- behind all that was written before
+  nothing : Telling [] writes mid taken' writes' end status
+  nothing = tells mid writes [] [] (adds_none mid) (record { whole = λ no. absurd (no e); cut = λ _. (rose, begins_self []) })
+
+  cut : IsCut ([] ++ own_line end) nothing.written writes writes'
+  cut = (nothing.told.cut (is_eight end status e (λ no. (nothing.told.others no).0))).1
+
+  -- the line of the write fault alone, or a front of it
+  alone : nothing.written ≡ cut.line
+  alone =
+      let none : own_line end ≡ [] = ap own_line e in
+      cut.parts ∙ ap (λ (l : List ℕ). l ++ cut.line) (no_front cut.front cut.some.0 (sym none ∙ cut.some.1))
+
+  pub broken_by : {A : Type 0} (answers : A → Option (List ℕ) → List ℕ → A → Type 0) (a z : A) (lines : List (List ℕ)) (told written : List ℕ) (taken : Option (List ℕ)) → Adds taken mid written → Breaks answers a z lines told written → IsBroken answers a z lines told taken taken' writes writes'
+  broken_by answers a z lines told written taken adds breaks = record {
+    written = written;
+    fault = cut.line;
+    breaks = breaks;
+    begins = cut.told;
+    once = cut.once;
+    adds = adds_both _ _ _ _ _ _ adds nothing.adds (ap (λ (l : List ℕ). written ++ l) alone);
+  }
+
 module _ {A T : Type 0} (answers : A → Option (List ℕ) → List ℕ → A → Type 0) (lacks : A → Option (List ℕ) → A → Type 0) (limit : ℕ) (a z : A) (left left' taken mid taken' : Option (List ℕ)) (reads reads' writes between writes' : ℕ)
     (r : Result T Stop) (status : ℕ) where
-  pub has_written : (run : Runs answers lacks limit a z left left' taken mid r) → IsCauseOf stop.Write writes between r → HasWritten run.told run.written writes between (end_in r)
+  has_written : (run : Runs answers lacks limit a z left left' taken mid r) → IsCauseOf stop.Write writes between r → HasWritten run.told run.written writes between (end_in r)
   has_written run cause = record {
     whole = λ no. (cause.steady (λ is. no (is_write r is)), run.whole (λ is. no (is_write r is)));
     cut = λ e. (cause.rose (write_is r e), run.begins);
   }
 
-  pub run_told : (run : Runs answers lacks limit a z left left' taken mid r) → IsCauseOf stop.Read reads reads' r → Telling run.told writes taken taken' writes' (end_in r) status
+  pub run_told : Runs answers lacks limit a z left left' taken mid r → IsCauseOf stop.Read reads reads' r → IsCauseOf stop.Write writes between r → Tells mid taken' between writes' (end_in r) status
       → IsLinesRun answers lacks limit a z left left' taken taken' reads reads' writes writes' status
-  run_told run cause telling = record {
-    end = end_in r;
-    told = run.told;
-    run = run.run;
-    telling = telling;
-    rose = λ e. cause.rose (read_is r e);
-    steady = λ no. cause.steady (λ is. no (is_read r is));
-    read_fault = λ e.
-        let own = telling.told.others (λ q. omega (arith, e, q)) in
-        let seven : 7 ≡ own_status (end_in r) = omega (arith, e, own.0) in
-        cause.rose (is_seven r seven);
-    write_fault = λ e. (telling.told.cut e).0;
-    complete = λ no_read no_write.
-        let not_8 : status ≢ 8 = λ e. no_write (telling.told.cut e).0 in
-        ends_so r status not_8 (telling.told.others not_8).0 (λ is. no_read (cause.rose is));
-    no_memory = λ e.
-        let own = telling.told.others (λ q. omega (arith, e, q)) in
-        let twelve : 12 ≡ own_status (end_in r) = omega (arith, e, own.0) in
-        (cause.steady (λ is. no_read r twelve (is_read r is)), own.1);
-  }
+  run_told run cause writing tells =
+      let telling = tells taken writes run.told run.written run.adds (has_written run writing) in
+      record {
+        end = end_in r;
+        told = run.told;
+        run = run.run;
+        telling = telling;
+        broken = λ e.
+            let is = write_is r e in
+            broken_by mid taken' writes between writes' (end_in r) status tells e (writing.rose is) answers a z run.run.lines run.told run.written taken run.adds (run.broken is);
+        rose = λ e. cause.rose (read_is r e);
+        steady = λ no. cause.steady (λ is. no (is_read r is));
+        read_fault = λ e.
+            let own = telling.told.others (λ q. omega (arith, e, q)) in
+            let seven : 7 ≡ own_status (end_in r) = omega (arith, e, own.0) in
+            cause.rose (is_seven r seven);
+        write_fault = λ e. (telling.told.cut e).0;
+        complete = λ no_read no_write.
+            let not_8 : status ≢ 8 = λ e. no_write (telling.told.cut e).0 in
+            ends_so r status not_8 (telling.told.others not_8).0 (λ is. no_read (cause.rose is));
+        no_memory = λ e.
+            let own = telling.told.others (λ q. omega (arith, e, q)) in
+            let twelve : 12 ≡ own_status (end_in r) = omega (arith, e, own.0) in
+            (cause.steady (λ is. no_read r twelve (is_read r is)), own.1);
+      }

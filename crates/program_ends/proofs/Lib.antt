@@ -1,6 +1,7 @@
 pub mod Keeping
 pub mod Telling
 pub mod Answering
+pub mod Mapping
 mod Feeding
 mod Running
 mod Finishing

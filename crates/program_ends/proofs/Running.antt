@@ -1,5 +1,5 @@
 -- Chunks that are read one after another, and how a run ends.
-use Rattle.std.proofs.Common.{ℕ, ◌≡◌, ◌≤◌, ◌<◌, ◌+◌, ◌==◌, true, false, cond, List, [], ◌∷◌, ◌++◌, length, take, drop, refl, ap, sym, ◌∙◌, append_assoc, append-nil, Option, Result, Ok, Err, IsErrAnd, OnOk, IfErr, ◌⊎◌, inl, inr, rules, arith, length-append}
+use Rattle.std.proofs.Common.{ℕ, ◌≡◌, ◌≤◌, ◌<◌, ◌+◌, ◌==◌, true, false, cond, List, [], ◌∷◌, ◌++◌, length, take, drop, refl, ap, sym, ◌∙◌, append_assoc, append-nil, Option, None, Some, Result, Ok, Err, IsErrAnd, OnOk, IfErr, ◌⊎◌, inl, inr, rules, arith, length-append}
 use Rattle.std.proofs.lemmas.Bool.Decides.{leb_tells}
 use Rattle.std.proofs.lemmas.List.{take-append-drop, take-append-le, length-take, take_all}
 use Rattle.std.proofs.Math.Seq.{take-append-add}
@@ -8,10 +8,10 @@ use Rattle.desk_traits.proofs.Pieces.{adds_both, takes_both}
 use Rattle.program_ends.specs.declared.reading.Stop.{Stop}
 use Rattle.program_ends.specs.declared.reading.Stop.TheVariants as stop
 use Rattle.program_ends.specs.Lines.{Pending, pending_of, lines_from, rest_from, lines_of, ended_lines, without_return, fit}
-use Rattle.program_ends.specs.Runs.{Answered, LacksNext}
+use Rattle.program_ends.specs.Runs.{Answered, IsUnbegun, LacksNext}
 use Rattle.program_ends.specs.Steps.{Feeds, Halts, HaltsAt, Replies, Runs}
 use Rattle.program_ends.proofs.Telling.{begins_self}
-use Rattle.program_ends.proofs.Answering.{answered_append, answered_one, halts_after, halts_within, halts_next}
+use Rattle.program_ends.proofs.Answering.{adds_none, answered_append, answered_one, halts_after, halts_within, halts_next}
 
 pub lines_append : (line a b : List ℕ) → lines_from line (a ++ b) ≡ lines_from line a ++ lines_from (rest_from line a) b
 lines_append line [] b = refl
@@ -50,6 +50,39 @@ pub record Ran {A : Type 0} (answers : A → Option (List ℕ) → List ℕ → 
   pub answered : Answered answers a (lines_from [] read) written z
   pub line_is : line ≡ pending_of (rest_from [] read)
   pub total_is : total ≡ length read
+
+takes_none : (left : Option (List ℕ)) → Takes left left []
+takes_none None = refl
+takes_none (Some bytes) = refl
+
+-- memory lacked before the first read
+pub unbegun : {A T : Type 0} (answers : A → Option (List ℕ) → List ℕ → A → Type 0) (lacks : A → Option (List ℕ) → A → Type 0) (limit : ℕ) (a : A) (left taken : Option (List ℕ)) → Runs {A = A} {T = T} answers lacks limit a a left left taken taken (Err stop.OutOfMemory)
+unbegun answers lacks limit a left taken = record {
+  told = [];
+  written = [];
+  run = record {
+    read = [];
+    lines = [];
+    others = [] ∷ [];
+    last = a;
+    takes = takes_none left;
+    within = omega arith;
+    first = refl;
+    answered = (refl, refl);
+    whole = inr ([], ap ended_lines (take_all limit [] (omega arith)));
+    ended = λ e. absurd (cc);
+    read_fault = λ e. absurd (cc);
+    too_long = λ e. absurd (cc);
+    state = λ _. refl;
+    no_memory = λ _. inl (record { none = refl; unread = refl; unanswered = refl; same = refl });
+    next = λ _. inl (record { none = refl; unread = refl; unanswered = refl; same = refl });
+    reasons = search rules;
+  };
+  adds = adds_none taken;
+  begins = begins_self [];
+  whole = λ _. refl;
+  broken = λ e. absurd (cc);
+}
 
 module _ {A : Type 0} (answers : A → Option (List ℕ) → List ℕ → A → Type 0) (lacks : A → Option (List ℕ) → A → Type 0) (limit : ℕ) (a z : A) (left mid taken mid' : Option (List ℕ)) (line : Pending) (total : ℕ)
     (ran : Ran answers a z left mid taken mid' line total) where
@@ -91,10 +124,9 @@ module _ {A : Type 0} (answers : A → Option (List ℕ) → List ℕ → A → 
       ]
 
   -- the line for which memory lacked is among those of the bytes
-  next_within : {Q : Type 0} (last y : A) (bytes : List ℕ) (done others : List (List ℕ)) → ended_lines bytes ≡ done ++ others → LacksNext lacks last others y
-      → (y ≡ last) ⊎ ((line : List ℕ) × (more : List (List ℕ)) × (ended_lines bytes ≡ done ++ line ∷ more)) ⊎ Q
-  next_within last y bytes done others first (inl same) = inl same
-  next_within last y bytes done others first (inr (line, more, is, at)) = inr (inl (line, more, first ∙ ap (λ (l : List (List ℕ)). done ++ l) is))
+  next_within : {P Q : Type 0} (last y : A) (bytes : List ℕ) (done others : List (List ℕ)) → ended_lines bytes ≡ done ++ others → LacksNext lacks last others y
+      → P ⊎ ((line : List ℕ) × (more : List (List ℕ)) × (ended_lines bytes ≡ done ++ line ∷ more)) ⊎ Q
+  next_within last y bytes done others first (line, more, is, at) = inr (inl (line, more, first ∙ ap (λ (l : List (List ℕ)). done ++ l) is))
 
   -- what was read within the limit
   read_front_all : total ≤ limit → take limit ran.read ≡ ran.read
@@ -126,6 +158,7 @@ module _ {A : Type 0} (answers : A → Option (List ℕ) → List ℕ → A → 
     adds = ran.adds;
     begins = begins_self ran.written;
     whole = λ _. refl;
+    broken = λ e. absurd (cc);
   }
 
   -- the input's end was read, and its last line answered
@@ -155,12 +188,13 @@ module _ {A : Type 0} (answers : A → Option (List ℕ) → List ℕ → A → 
     adds = adds_both _ _ _ _ _ _ ran.adds told.adds refl;
     begins = begins_self (ran.written ++ told.text);
     whole = λ _. refl;
+    broken = λ e. absurd (cc);
   }
 
   ends_halted : {T : Type 0} → (bytes : List ℕ) (left' : Option (List ℕ)) → Takes left left' bytes → length bytes ≤ limit + 1 → (y : A) (taken' : Option (List ℕ)) (why : Stop)
       → ((why ≡ stop.OutOfMemory) ⊎ (why ≡ stop.Write)) → (halts : Halts answers lacks a y (lines_of bytes) taken taken' why)
       → (((halts.others ≡ []) × IsAtEnd left' × (length bytes ≤ limit)) ⊎ ((more : List (List ℕ)) × (ended_lines (take limit bytes) ≡ halts.done ++ more)))
-      → (why ≡ stop.OutOfMemory → (y ≡ halts.last) ⊎ ((line : List ℕ) × (more : List (List ℕ)) × (ended_lines (take limit bytes) ≡ halts.done ++ line ∷ more)) ⊎ ((line : List ℕ) × (halts.others ≡ line ∷ []) × IsAtEnd left' × (length bytes ≤ limit)))
+      → (why ≡ stop.OutOfMemory → IsUnbegun a y left left' bytes halts.done ⊎ ((line : List ℕ) × (more : List (List ℕ)) × (ended_lines (take limit bytes) ≡ halts.done ++ line ∷ more)) ⊎ ((line : List ℕ) × (halts.others ≡ line ∷ []) × IsAtEnd left' × (length bytes ≤ limit)))
       → Runs {A = A} {T = T} answers lacks limit a y left left' taken taken' (Err why)
   ends_halted bytes left' takes within y taken' why (inl memory) halts whole next =
       rw memory (record {
@@ -180,13 +214,14 @@ module _ {A : Type 0} (answers : A → Option (List ℕ) → List ℕ → A → 
           read_fault = λ e. absurd (cc);
           too_long = λ e. absurd (cc);
           state = λ no. absurd (no refl);
-          no_memory = λ _. (halts.no_memory memory).1;
+          no_memory = λ _. inr (halts.no_memory memory).1;
           next = λ _. next memory;
           reasons = search rules;
         };
         adds = halts.adds;
         begins = halts.begins;
         whole = λ _. (halts.no_memory memory).0;
+        broken = λ e. absurd (cc);
       })
   ends_halted bytes left' takes within y taken' why (inr write) halts whole next =
       rw write (record {
@@ -205,7 +240,7 @@ module _ {A : Type 0} (answers : A → Option (List ℕ) → List ℕ → A → 
           ended = λ e. absurd (cc);
           read_fault = λ e. absurd (cc);
           too_long = λ e. absurd (cc);
-          state = λ _. halts.write_fault write;
+          state = λ _. (halts.write_fault write).0;
           no_memory = λ e. absurd (cc);
           next = λ e. absurd (cc);
           reasons = search rules;
@@ -213,6 +248,7 @@ module _ {A : Type 0} (answers : A → Option (List ℕ) → List ℕ → A → 
         adds = halts.adds;
         begins = halts.begins;
         whole = λ no. absurd (no refl);
+        broken = λ _. (halts.write_fault write).1;
       })
 
   -- the last line was not answered
@@ -228,7 +264,7 @@ module _ {A : Type 0} (answers : A → Option (List ℕ) → List ℕ → A → 
   last_whole few left' at_end y taken' why at (inr write) = inl (refl, at_end, omega (arith, ran.total_is))
 
   last_next : total ≤ limit → (left' : Option (List ℕ)) → IsAtEnd left' → (y : A) (taken' : Option (List ℕ)) (why : Stop) (at : HaltsAt answers lacks z y (fit (rest_from [] ran.read)) mid' taken' why) (reasons : (why ≡ stop.OutOfMemory) ⊎ (why ≡ stop.Write))
-      → why ≡ stop.OutOfMemory → (y ≡ (last_halts y taken' why at reasons).last) ⊎ ((line : List ℕ) × (more : List (List ℕ)) × (ended_lines (take limit ran.read) ≡ (last_halts y taken' why at reasons).done ++ line ∷ more))
+      → why ≡ stop.OutOfMemory → IsUnbegun a y left left' ran.read (last_halts y taken' why at reasons).done ⊎ ((line : List ℕ) × (more : List (List ℕ)) × (ended_lines (take limit ran.read) ≡ (last_halts y taken' why at reasons).done ++ line ∷ more))
       ⊎ ((line : List ℕ) × ((last_halts y taken' why at reasons).others ≡ line ∷ []) × IsAtEnd left' × (length ran.read ≤ limit))
   unfolding last_halts halts_after halts_next
   last_next few left' at_end y taken' why at (inl memory) e = inr (inr (rest_from [] ran.read, refl, at_end, omega (arith, ran.total_is)))
@@ -305,4 +341,5 @@ module _ {A : Type 0} (answers : A → Option (List ℕ) → List ℕ → A → 
         adds = adds_both _ _ _ _ _ _ ran.adds feeds.adds refl;
         begins = begins_self told;
         whole = λ _. refl;
+        broken = λ e. absurd (cc);
       }

@@ -64,7 +64,7 @@ module _ (taken mid : Option (List ℕ)) (before now : ℕ) (defined written : L
       record {
         written = written;
         adds = adds;
-        told = record { others = λ _. (refl, same.0, same.1 ∙ sym (append-nil defined)); cut = λ e. absurd (omega (arith, e)) };
+        told = record { others = λ _. (refl, same.0, same.1 ∙ sym (append-nil defined)); well = λ _. (refl, same.1); cut = λ e. absurd (omega (arith, e)) };
       }
 
   -- a run that a write fault ended, whose line was tried
@@ -78,6 +78,7 @@ module _ (taken mid : Option (List ℕ)) (before now : ℕ) (defined written : L
         adds = adds_both _ _ _ _ _ _ adds tried.adds refl;
         told = record {
           others = λ no. absurd (no refl);
+          well = λ e. absurd (cc);
           cut = λ _. (
             rose_later before now after cut.0 tried.later,
             record {
@@ -102,6 +103,7 @@ module _ (taken mid : Option (List ℕ)) (before now : ℕ) (defined written : L
         adds = adds_both _ _ _ _ _ _ adds line refl;
         told = record {
           others = λ _. (refl, steady ∙ same.0, ap (λ (t : List ℕ). t ++ fault_line end) same.1 ∙ ap (λ (t : List ℕ). defined ++ t) (sym mine.1));
+          well = λ e. absurd (cc);
           cut = λ e. absurd (mine.0 e);
         };
       }
@@ -120,6 +122,7 @@ module _ (taken mid : Option (List ℕ)) (before now : ℕ) (defined written : L
         adds = adds_both _ _ _ _ _ _ (adds_both _ _ _ _ _ _ adds some.adds refl) tried.adds refl;
         told = record {
           others = λ no. absurd (no refl);
+          well = λ e. absurd (cc);
           cut = λ _. (
             rose_later before between after first tried.later,
             record {

@@ -84,6 +84,8 @@ pub record IsCut (text written : List ℕ) (before now : ℕ) : Type 0 where
 pub record IsTold (defined written : List ℕ) (before now : ℕ) (end : Option End) (status : ℕ) : Type 0 where
   -- With another status than 8 the count is as before; the bytes stand, and then exactly the line of the fault.
   pub others : status ≢ 8 → (status ≡ own_status end) × (now ≡ before) × (written ≡ defined ++ own_line end)
+  -- A run that ended for no reason went well, and wrote exactly its bytes.
+  pub well : end ≡ None → (status ≡ 0) × (written ≡ defined)
   -- With 8 the count rose, and the output was cut somewhere.
   pub cut : status ≡ 8 → Rose before now × IsCut (defined ++ own_line end) written before now
 
@@ -104,7 +106,7 @@ pub record AddsFront (taken taken' : Option (List ℕ)) (text : List ℕ) : Type
   pub begins : Begins front text
   pub adds : Adds taken taken' front
 
--- a line was tried once: all of it was added, or a front of it before a fault
+-- all of a line was added, or a front of it before a fault
 pub record IsTried (line : List ℕ) (taken taken' : Option (List ℕ)) (before now : ℕ) : Type 0 where
   pub front : List ℕ
   pub begins : Begins front line

@@ -1,6 +1,7 @@
 pub mod Ends
 pub mod Lines
 pub mod Parting
+pub mod Replies
 pub mod Runs
 pub mod Steps
 pub mod Words

@@ -1,12 +1,12 @@
 -- What a run over the lines of an input reads, answers and tells.
 use Rattle.std.specs.Prelude.{◌≡◌, ◌≢◌, ◌≤◌, ◌⊎◌, ℕ, ◌+◌, ◌++◌, ◌∷◌, List, [], length, take, Option, None, Some, Result, Ok, Err}
 use Rattle.desk_traits.specs.Faults.{Rose}
-use Rattle.desk_traits.specs.Streams.{Takes, IsAtEnd}
+use Rattle.desk_traits.specs.Streams.{Adds, Takes, IsAtEnd}
 use Rattle.program_ends.specs.declared.ends.End.{End}
 use Rattle.program_ends.specs.declared.ends.End.TheVariants.{ReadFault, WriteFault, InputTooLong, OutOfMemory}
 use Rattle.program_ends.specs.declared.reading.Stop.{Stop}
 use Rattle.program_ends.specs.declared.reading.Stop.TheVariants as stop
-use Rattle.program_ends.specs.Ends.{Telling}
+use Rattle.program_ends.specs.Ends.{Begins, RoseTwice, Telling, write_fault_line}
 use Rattle.program_ends.specs.Lines.{ended_lines, lines_of, fit}
 
 -- The lines were answered one after another, each with a text and a state after it; this is all that was told, and the last state.
@@ -14,9 +14,31 @@ abbrev pub Answered : {A : Type 0} → (A → Option (List ℕ) → List ℕ →
 Answered answers a [] told z = (told ≡ []) × (z ≡ a)
 Answered answers a (line ∷ lines) told z = (text : List ℕ) × (b : _) × (rest : List ℕ) × answers a (fit line) text b × (told ≡ text ++ rest) × Answered answers b lines rest z
 
--- memory lacked before the next line was judged, or for the answer to it
+-- memory lacked for the answer to the next line
 abbrev pub LacksNext : {A : Type 0} → (A → Option (List ℕ) → A → Type 0) → A → List (List ℕ) → A → Type 0
-LacksNext lacks last others z = (z ≡ last) ⊎ ((line : List ℕ) × (more : List (List ℕ)) × (others ≡ line ∷ more) × lacks last (fit line) z)
+LacksNext lacks last others z = (line : List ℕ) × (more : List (List ℕ)) × (others ≡ line ∷ more) × lacks last (fit line) z
+
+-- memory lacked before the first read: nothing was read, and no line answered
+pub record IsUnbegun {A : Type 0} (a z : A) (left left' : Option (List ℕ)) (read : List ℕ) (lines : List (List ℕ)) : Type 0 where
+  pub none : read ≡ []
+  pub unread : left' ≡ left
+  pub unanswered : lines ≡ []
+  pub same : z ≡ a
+
+-- A write failed at the last of the lines that were answered: the texts of the lines before it were written whole, and of its own a front alone.
+pub record Breaks {A : Type 0} (answers : A → Option (List ℕ) → List ℕ → A → Type 0) (a z : A) (lines : List (List ℕ)) (told written : List ℕ) : Type 0 where
+  pub before : List (List ℕ)
+  pub line : List ℕ
+  pub state : A
+  pub whole : List ℕ
+  pub text : List ℕ
+  pub front : List ℕ
+  pub lines_are : lines ≡ before ++ line ∷ []
+  pub answered : Answered answers a before whole state
+  pub last : answers state (fit line) text z
+  pub told_is : told ≡ whole ++ text
+  pub begins : Begins front text
+  pub written_is : written ≡ whole ++ front
 
 -- The first lines of an input of at most this many bytes were answered until a run ended: well, or for a reason. This is all that was told, and the state after it.
 pub record AnswersUntil {A : Type 0} (answers : A → Option (List ℕ) → List ℕ → A → Type 0) (lacks : A → Option (List ℕ) → A → Type 0) (limit : ℕ) (a z : A) (left left' : Option (List ℕ)) (end : Option End) (told : List ℕ) : Type 0 where
@@ -37,10 +59,19 @@ pub record AnswersUntil {A : Type 0} (answers : A → Option (List ℕ) → List
   pub read_fault : end ≡ Some ReadFault → (length read ≤ limit) × (lines ≡ ended_lines read)
   pub too_long : end ≡ Some InputTooLong → (length read ≡ limit + 1) × (lines ≡ ended_lines (take limit read))
   pub state : end ≢ Some OutOfMemory → z ≡ last
-  pub no_memory : end ≡ Some OutOfMemory → LacksNext lacks last others z
-  -- the line that was judged when memory lacked is one that an LF within the limit ends, or the last one at the input's end
-  pub next : end ≡ Some OutOfMemory → (z ≡ last) ⊎ ((line : List ℕ) × (more : List (List ℕ)) × (ended_lines (take limit read) ≡ lines ++ line ∷ more)) ⊎ ((line : List ℕ) × (others ≡ line ∷ []) × IsAtEnd left' × (length read ≤ limit))
+  -- memory lacked before the first read, or for the answer to the next line, which is one that an LF within the limit ends, or the last one at the input's end
+  pub no_memory : end ≡ Some OutOfMemory → IsUnbegun a z left left' read lines ⊎ LacksNext lacks last others z
+  pub next : end ≡ Some OutOfMemory → IsUnbegun a z left left' read lines ⊎ ((line : List ℕ) × (more : List (List ℕ)) × (ended_lines (take limit read) ≡ lines ++ line ∷ more)) ⊎ ((line : List ℕ) × (others ≡ line ∷ []) × IsAtEnd left' × (length read ≤ limit))
   pub reasons : (end ≡ None) ⊎ (end ≡ Some ReadFault) ⊎ (end ≡ Some WriteFault) ⊎ (end ≡ Some InputTooLong) ⊎ (end ≡ Some OutOfMemory)
+
+-- Behind a failed write no further line is taken: what was written of the answers ends with a front of the last one, and behind it the line of the write fault was tried. Where the count rose by one alone, that line stands whole.
+pub record IsBroken {A : Type 0} (answers : A → Option (List ℕ) → List ℕ → A → Type 0) (a z : A) (lines : List (List ℕ)) (told : List ℕ) (taken taken' : Option (List ℕ)) (writes writes' : ℕ) : Type 0 where
+  pub written : List ℕ
+  pub fault : List ℕ
+  pub breaks : Breaks answers a z lines told written
+  pub begins : Begins fault write_fault_line
+  pub once : ¬ RoseTwice writes writes' → fault ≡ write_fault_line
+  pub adds : Adds taken taken' (written ++ fault)
 
 -- A whole run over the lines of an input: what was answered, what was told of its end, and the counts of both ends before and after.
 pub record IsLinesRun {A : Type 0} (answers : A → Option (List ℕ) → List ℕ → A → Type 0) (lacks : A → Option (List ℕ) → A → Type 0) (limit : ℕ) (a z : A) (left left' taken taken' : Option (List ℕ)) (reads reads' writes writes' : ℕ) (status : ℕ) : Type 0 where
@@ -48,6 +79,7 @@ pub record IsLinesRun {A : Type 0} (answers : A → Option (List ℕ) → List �
   pub told : List ℕ
   pub run : AnswersUntil answers lacks limit a z left left' end told
   pub telling : Telling told writes taken taken' writes' end status
+  pub broken : end ≡ Some WriteFault → IsBroken answers a z run.lines told taken taken' writes writes'
   -- the input's count rose exactly where a read ended the run
   pub rose : end ≡ Some ReadFault → Rose reads reads'
   pub steady : end ≢ Some ReadFault → reads' ≡ reads

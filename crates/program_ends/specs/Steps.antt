@@ -6,7 +6,7 @@ use Rattle.program_ends.specs.declared.reading.Stop.{Stop}
 use Rattle.program_ends.specs.declared.reading.Stop.TheVariants as stop
 use Rattle.program_ends.specs.Ends.{Begins, AddsFront}
 use Rattle.program_ends.specs.Lines.{Pending, pending_of, lines_from, rest_from}
-use Rattle.program_ends.specs.Runs.{Answered, LacksNext, AnswersUntil, end_in}
+use Rattle.program_ends.specs.Runs.{Answered, Breaks, LacksNext, AnswersUntil, end_in}
 
 -- A line was answered, and the text written.
 pub record Replies {A : Type 0} (answers : A → Option (List ℕ) → List ℕ → A → Type 0) (a z : A) (line : Option (List ℕ)) (taken taken' : Option (List ℕ)) : Type 0 where
@@ -39,7 +39,7 @@ pub record Halts {A : Type 0} (answers : A → Option (List ℕ) → List ℕ �
   pub adds : Adds taken taken' written
   pub begins : Begins written told
   pub no_memory : why ≡ stop.OutOfMemory → (written ≡ told) × LacksNext lacks last others z
-  pub write_fault : why ≡ stop.Write → z ≡ last
+  pub write_fault : why ≡ stop.Write → (z ≡ last) × Breaks answers a z done told written
   pub reasons : (why ≡ stop.OutOfMemory) ⊎ (why ≡ stop.Write)
 
 -- A run over lines until its end is told.
@@ -50,6 +50,7 @@ pub record Runs {A T : Type 0} (answers : A → Option (List ℕ) → List ℕ �
   pub adds : Adds taken taken' written
   pub begins : Begins written told
   pub whole : (IsErrOf result stop.Write → ⊥) → written ≡ told
+  pub broken : IsErrOf result stop.Write → Breaks answers a z run.lines told written
 
 -- the count rose where a run ended for this reason, and is as before where it did not
 pub record IsCauseOf {T : Type 0} (why : Stop) (before now : ℕ) (result : Result T Stop) : Type 0 where

@@ -9,7 +9,7 @@ use desk_traits::{Failed, Sink, write_whole};
 use itoa::Buffer;
 
 // Writes two pieces, or a front of them before a fault.
-fn write_both<K: Sink>(output: &mut K, first: &[u8], second: &[u8]) -> Result<(), Failed>
+pub(crate) fn write_both<K: Sink>(output: &mut K, first: &[u8], second: &[u8]) -> Result<(), Failed>
     ensures whole { OnOk result (Adds (K.taken output.old) (K.taken output.new) (first.now ++ second.now)) }
     ensures front { OnErr result (AddsFront (K.taken output.old) (K.taken output.new) (first.now ++ second.now)) }
     ensures cause { HasCause (K.faults output.old) (K.faults output.new) result }
@@ -48,7 +48,7 @@ fn write_fault<K: Sink>(output: &mut K, end: &End) -> Result<(), Failed>
     }
 }
 
-// Tries the line of a write fault once.
+// Writes the line of a write fault, or a front of it.
 fn tell_write_fault<K: Sink>(output: &mut K) -> u8
     ensures status { result ≡ 8 }
     ensures tried { IsTried write_fault_line (K.taken output.old) (K.taken output.new) (K.faults output.old) (K.faults output.new) }
@@ -57,9 +57,9 @@ fn tell_write_fault<K: Sink>(output: &mut K) -> u8
     8
 }
 
-/// Ends a run that went well, or for a reason, and answers the program's status. The line of the
-/// reason is tried once. A write fault, of that line too, is told by a line of its own, which is
-/// tried once.
+/// Ends a run that went well, or for a reason, and returns the program's status. The line of the
+/// reason is written. A write fault, of that line too, has a line of its own, of which a front may be
+/// written.
 pub fn end_run<K: Sink>(output: &mut K, end: Option<End>) -> u8
     ensures { (taken : Option (List ℕ)) (before : ℕ) (defined written : List ℕ) → Adds taken (K.taken output.old) written
         → HasWritten defined written before (K.faults output.old) end

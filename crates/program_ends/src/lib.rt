@@ -7,6 +7,7 @@ mod laws;
 mod line;
 mod lines;
 mod reading;
+mod reply;
 mod words;
 
 pub use ending::{end_at_once, end_run};
@@ -14,4 +15,5 @@ pub use ends::End;
 pub use laws::lines_make_up_the_input;
 pub use lines::{Answers, LIMIT, run_lines};
 pub use reading::{Stop, read_front};
+pub use reply::Reply;
 pub use words::{command_line, given_words, show_usage};

@@ -1,5 +1,5 @@
 //! The line that is being read, of which no more is kept than a line may have.
-ghost use Rattle.std.specs.Prelude.{◌≡◌, ◌++◌, ◌∷◌, [], ℕ, List, option_map, OnOk};
+ghost use Rattle.std.specs.Prelude.{◌≡◌, ◌++◌, ◌∷◌, [], ℕ, List, option_map, IfOk};
 ghost use Rattle.program_ends.specs.Lines.{without_return, fit, pending_of};
 
 use hazard_types::Oom;
@@ -17,9 +17,13 @@ pub struct Line {
 }
 
 impl Model for Line {
+    ghost use Rattle.std.specs.Prelude.{◌<◌};
+    ghost use Rattle.std.specs.Vec.{vec_capacity};
     ghost use Rattle.program_ends.specs.Lines.{Pending};
 
     ghost Value = { Pending };
+
+    ghost invariant = { λ l. 65536 < vec_capacity l.kept };
 
     ghost view = { λ l. record { kept = l.kept.items; is_longer = l.is_longer } };
 }
@@ -47,26 +51,31 @@ fn fit(line: &[u8]) -> Option<&[u8]>
 }
 
 impl Line {
+    /// An empty line, with the room for its 65,537 bytes.
+    ///
+    /// # Errors
+    ///
+    /// Out of memory.
     #[tactic(auto, unfolding(crate::specs::Lines::pending_of))]
-    pub fn new(alloc: Global) -> Self
-        ensures { result ≡ pending_of [] }
+    pub fn new(alloc: Global) -> Result<Self, Oom>
+        ensures { IfOk result (λ line. line ≡ pending_of []) }
     {
-        Line {
-            kept: Vec::new(alloc),
+        let kept = Vec::with_capacity(alloc, MOST_BYTES + 1)?;
+        Ok(Line {
+            kept,
             is_longer: false,
-        }
+        })
     }
 
     /// One byte more of the line.
-    pub fn push(&mut self, byte: u8) -> Result<(), Oom>
-        ensures { OnOk result ((line : List ℕ) → self.old ≡ pending_of line → self.new ≡ pending_of (line ++ byte ∷ [])) }
+    pub fn push(&mut self, byte: u8)
+        ensures { (line : List ℕ) → self.old ≡ pending_of line → self.new ≡ pending_of (line ++ byte ∷ []) }
     {
         if self.kept.len() <= MOST_BYTES {
-            self.kept.push(byte)?;
+            self.kept.push_reserved(byte);
         } else {
             self.is_longer = true;
         }
-        Ok(())
     }
 
     /// The beginning of the next line.

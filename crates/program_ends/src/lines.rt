@@ -1,6 +1,7 @@
 //! The run over the lines of a source.
 ghost use Rattle.std.specs.Prelude.{◌≡◌, ◌≤◌, ◌<◌, ◌+◌, ◌^◌, [], ℕ, List, Option, length, option_map, IfOk, OnOk, OnErr, IfErr};
 ghost use Rattle.program_ends.specs.Lines.{pending_of, lines_from};
+ghost use Rattle.program_ends.specs.Replies.{bytes_of};
 ghost use Rattle.program_ends.specs.Runs.{IsLinesRun};
 ghost use Rattle.program_ends.specs.Steps.{Feeds, Halts, Replies, HaltsAt, IsCauseOf, Runs};
 
@@ -8,8 +9,9 @@ use crate::ending::end_run;
 use crate::ends::End;
 use crate::line::Line;
 use crate::reading::{Stop, read_front};
-use desk_traits::{Failed, Sink, Source, write_whole};
-use hazard_types::{Oom, Text};
+use crate::reply::Reply;
+use desk_traits::{Failed, Sink, Source};
+use hazard_types::Oom;
 use std::alloc::Global;
 
 /// What answers the lines of an input, one after another.
@@ -20,9 +22,13 @@ pub trait Answers {
     /// Memory lacked for the answer to a line, which made this of the state.
     ghost lacks: { Self → Option (List ℕ) → Self → Type 0 };
 
-    /// Answers a line. An empty text is written for a line that gets no answer.
-    fn answer(&mut self, alloc: Global, line: Option<&[u8]>) -> Result<Text, Oom>
-        ensures answered { IfOk result (λ text. answers self.old (option_map (λ bytes. bytes.now) line.entry) text self.new) }
+    /// Answers a line.
+    ///
+    /// # Errors
+    ///
+    /// Out of memory for the answer, which ends the run.
+    fn answer(&mut self, alloc: Global, line: Option<&[u8]>) -> Result<Reply, Oom>
+        ensures answered { IfOk result (λ reply. answers self.old (option_map (λ bytes. bytes.now) line.entry) (bytes_of reply) self.new) }
         ensures lacked { OnErr result (lacks self.old (option_map (λ bytes. bytes.now) line.entry) self.new) };
 }
 
@@ -37,8 +43,8 @@ fn reply<K: Sink, A: Answers>(
     ensures halted { IfErr result (λ why. HaltsAt A.answers A.lacks answers.old answers.new (option_map (λ bytes. bytes.now) line.entry) (K.taken output.old) (K.taken output.new) why) }
     ensures cause { IsCauseOf Stop.Write (K.faults output.old) (K.faults output.new) result }
 {
-    let text = answers.answer(alloc, line)?;
-    match write_whole(output, text.as_slice()) {
+    let reply = answers.answer(alloc, line)?;
+    match reply.write(output) {
         Ok(()) => Ok(()),
         Err(Failed) => Err(Stop::Write),
     }
@@ -63,7 +69,7 @@ fn feed<K: Sink, A: Answers>(
             reply(alloc, answers, line.ended(), output)?;
             line.clear();
         } else {
-            line.push(*byte)?;
+            line.push(*byte);
         }
     }
     Ok(())
@@ -85,7 +91,7 @@ fn answer_lines<S: Source, K: Sink, A: Answers>(
     ensures read { IsCauseOf Stop.Read (S.faults input.old) (S.faults input.new) result }
     ensures write { IsCauseOf Stop.Write (K.faults output.old) (K.faults output.new) result }
 {
-    let mut line = Line::new(alloc);
+    let mut line = Line::new(alloc)?;
     let mut buffer = [0u8; 4096];
     let mut total = 0usize;
     // Each turn but the last reads a byte or more, so the turns are no more than the bytes.

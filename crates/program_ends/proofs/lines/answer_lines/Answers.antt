@@ -1,7 +1,7 @@
 use Rattle.std.proofs.Common.{◌≡◌, ◌≤◌, ◌+◌, ◌∙◌, [], ap, arith, length, take, ℕ, refl, Ok}
 use Rattle.std.proofs.lemmas.List.{length-take}
 use Rattle.program_ends.specs.Lines.{rest_from}
-use Rattle.program_ends.proofs.Running.{stops_by, front_part, ran_next, ends_read, ends_reply, ends_within, ends_long}
+use Rattle.program_ends.proofs.Running.{stops_by, front_part, ran_next, unbegun, ends_read, ends_reply, ends_within, ends_long}
 use Rattle.program_ends.proofs.lines.answer_lines.Goals as goal
 
 pub loop-turn-preserved : goal.loop-turn-preserved
@@ -43,7 +43,7 @@ returns-in_err-feed-clause-run g c =
     let count = c.in-Ok.count in
     let within : c.min-within.result ≤ count = omega (arith, c.min-within.ensures) in
     let part = front_part buffer count c.min-within.result within bytes.1 in
-    rw (stops_by c.from_residual.result c.in_err-feed.field-0.0 c.from_residual.ensures.1)
+    rw (stops_by c.from_residual-in_err-feed.result c.in_err-feed.field-0.0 c.from_residual-in_err-feed.ensures.1)
     (ends_within g.A.Answers.answers g.A.Answers.lacks c.args.limit c.args.answers.now c.loop-turn.answers (g.S.Source.left c.args.input.now) (g.S.Source.left c.loop-turn.input) (g.K.Sink.taken c.args.output.now) (g.K.Sink.taken c.loop-turn.output) c.loop-turn.line c.loop-turn.total ran
     (take count buffer) (take c.min-within.result buffer) c.min-within.result part (omega (arith, c.min-within.ensures, c.loop-turn.invariant.within)) (λ h. omega (arith, h, c.min-within.ensures, c.loop-turn.invariant.within, length-take count buffer)) (g.S.Source.left c.read_front.new.input) bytes.2
     (omega (arith, c.loop-turn.invariant.within, bytes.0, c.min-room.ensures, length-take count buffer)) c.feed.new.answers (g.K.Sink.taken c.feed.new.output) c.in_err-feed.field-0.0
@@ -68,3 +68,8 @@ pub returns-in-Err-clause-run : goal.returns-in-Err-clause-run
 returns-in-Err-clause-run g c =
     ends_read g.A.Answers.answers g.A.Answers.lacks c.args.limit c.args.answers.now c.loop-turn.answers (g.S.Source.left c.args.input.now) (g.S.Source.left c.loop-turn.input) (g.K.Sink.taken c.args.output.now) (g.K.Sink.taken c.loop-turn.output) c.loop-turn.line c.loop-turn.total c.loop-turn.invariant.ran
     c.loop-turn.invariant.within (g.S.Source.left c.read_front.new.input) c.in-Err.ensures.failed
+
+pub returns-in_err-line-clause-run : goal.returns-in_err-line-clause-run
+returns-in_err-line-clause-run g c =
+    rw (stops_by c.from_residual.result _ c.from_residual.ensures.1)
+    (unbegun g.A.Answers.answers g.A.Answers.lacks c.args.limit c.args.answers.now (g.S.Source.left c.args.input.now) (g.K.Sink.taken c.args.output.now))

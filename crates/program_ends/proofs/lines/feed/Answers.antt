@@ -2,7 +2,7 @@ use Rattle.std.proofs.Common.{◌∙◌, ◌++◌, ◌∷◌, [], get_or}
 use Rattle.program_ends.proofs.Feeding.{fed_end, fed_byte, fed_halts}
 use Rattle.program_ends.proofs.Running.{stops_by}
 use Rattle.program_ends.proofs.lines.feed.Goals as goal
-use Rattle.program_ends.proofs.lines.feed.Goals.{then-byte-eq10+in_ok-reply, else-byte-eq10+in_ok-push}
+use Rattle.program_ends.proofs.lines.feed.Goals.{then-byte-eq10+in_ok-reply, else-byte-eq10}
 
 pub returns-in_err-reply-clause-halted : goal.returns-in_err-reply-clause-halted
 returns-in_err-reply-clause-halted g c =
@@ -30,12 +30,12 @@ loop-byte-preserved g c =
                 );
             steady = w.in_ok-reply.ensures.cause.steady (λ e. absurd (cc)) ∙ c.loop-byte.invariant.steady;
           })
-      | else-byte-eq10+in_ok-push w ↦
+      | else-byte-eq10 w ↦
           rw (w.answers-is, w.line-is, w.output-is) (record {
             fed = λ begun e.
                 let fed = c.loop-byte.invariant.fed begun e in (
                   fed.0 ++ get_or chunk at 0 ∷ [],
-                  w.in_ok-push.ensures fed.0 fed.1,
+                  w.push.ensures fed.0 fed.1,
                   fed_byte g.A.Answers.answers g.A.Answers.lacks c.args.answers.now begun chunk (g.K.Sink.taken c.args.output.now) c.loop-byte.answers at fed.0 (g.K.Sink.taken c.loop-byte.output)
                       fed.2 c.loop-byte-test.true w.if-byte-eq10.false,
                 );
