@@ -1,0 +1,13 @@
+//! County notices: what the office tells its counties of tornado and severe thunderstorm watches, whose numbers are handed in.
+#![tactic(auto)]
+
+mod issuer;
+mod laws;
+mod lines;
+mod notice;
+mod notices;
+mod rules;
+
+pub use issuer::Issuer;
+pub use laws::accepted_commands_keep_the_rows;
+pub use notices::Notices;
