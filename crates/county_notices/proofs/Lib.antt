@@ -4,5 +4,6 @@ mod LawfulNotice
 mod LineLemmas
 mod PlainSegments
 mod RuleLemmas
+mod Shapes
 mod Unbroken
 mod Writable

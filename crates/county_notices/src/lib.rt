@@ -7,7 +7,10 @@ mod lines;
 mod notice;
 mod notices;
 mod rules;
+mod run;
+mod words;
 
 pub use issuer::Issuer;
 pub use laws::accepted_commands_keep_the_rows;
 pub use notices::Notices;
+pub use run::notice_run;
