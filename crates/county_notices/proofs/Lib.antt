@@ -1,8 +1,10 @@
 mod Answered
+mod HistoryLemmas
 mod HolderLemmas
 mod LawfulNotice
 mod LineLemmas
 mod PlainSegments
+mod ReadLemmas
 mod RuleLemmas
 mod Shapes
 mod Unbroken

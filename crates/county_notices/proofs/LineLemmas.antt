@@ -81,7 +81,7 @@ put_flood : (rows : List Row) (t : ℕ) (e : Event) (target : Target) (end : ℕ
 put_flood rows t e target end z None = refl
 put_flood rows t e target end z (Some row) = refl
 
-join_old : (rows : List Row) (t : ℕ) (e : Event) (end : ℕ) (z : Place) (o : Option Row) → is_new (put_line_on rows t e (put_of (Join e) end) z o).action ≡ false
+pub join_old : (rows : List Row) (t : ℕ) (e : Event) (end : ℕ) (z : Place) (o : Option Row) → is_new (put_line_on rows t e (put_of (Join e) end) z o).action ≡ false
 join_old rows t e end z None = either_action is_new (has_period rows e (put_period (put_of (Join e) end) t) t) Exa Exb refl refl
 join_old rows t e end z (Some row) = either_action is_new (same_at t row.period (put_period_on (put_of (Join e) end) t row)) Con Ext refl refl
 

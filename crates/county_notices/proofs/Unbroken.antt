@@ -1,5 +1,5 @@
 -- What a command says that breaks no rule.
-use Rattle.std.proofs.Common.{◌≡◌, ◌≤◌, not, ℕ, List, false, Option, Some, None, refl, cond, nat_lt, option_map}
+use Rattle.std.proofs.Common.{◌≡◌, ◌≤◌, length, not, ℕ, List, false, Option, Some, None, refl, cond, nat_lt, option_map}
 use Rattle.std.specs.List.{AllByRecursion, IsDistinct, find}
 use Rattle.std.specs.Option.{is_none}
 use Rattle.std.proofs.lemmas.Bool.{ltb-false, not-false}
@@ -30,6 +30,7 @@ pub record IsKept (s : Noticed) (c : Command) : Type 0 where
   pub number : event.etn ≡ c.number
   pub later : s.last ≤ c.at
   pub minute : c.at ≤ 52000000
+  pub some : 1 ≤ length c.zones
   pub once : IsDistinct same_zone c.zones
   pub period : has_bad_end c.at c.deed ≡ false
   pub fit : IsFitFor s.rows c.at event c.deed
@@ -43,6 +44,7 @@ map_none f (Some x) h = cc
 record IsKeptAlone (last : ℕ) (c : Command) : Type 0 where
   later : last ≤ c.at
   minute : c.at ≤ 52000000
+  some : 1 ≤ length c.zones
   once : IsDistinct same_zone c.zones
   period : has_bad_end c.at c.deed ≡ false
 
@@ -58,6 +60,7 @@ kept_alone last c h =
     record {
       later = ltb-false c.at last (not_refused (nat_lt c.at last) _ b.0);
       minute = ltb-false 52000000 c.at (not_refused (nat_lt 52000000 c.at) _ a.0);
+      some = zones.some;
       once = zones.once;
       period = not_refused (has_bad_end c.at c.deed) _ e.0;
     }
@@ -116,6 +119,7 @@ kept s c h =
       number = k.number;
       later = a.later;
       minute = a.minute;
+      some = a.some;
       once = a.once;
       period = a.period;
       fit = k.fit;

@@ -4,5 +4,6 @@ pub mod Lines
 pub mod NoticeHistory
 pub mod NoticeRuns
 pub mod Notices
+pub mod Reading
 pub mod Standing
 pub mod Words

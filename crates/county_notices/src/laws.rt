@@ -1,11 +1,17 @@
 //! Laws of the notices. The functions do nothing; their contracts are the laws.
-ghost use Rattle.std.specs.Prelude.{◌≡◌, ◌≤◌, [], None};
+ghost use Rattle.std.specs.Prelude.{◌≡◌, ◌≤◌, List, [], None};
 ghost use Rattle.notice_json.specs.declared.command.Command.{Command};
 ghost use Rattle.county_notices.specs.Commands.{Noticed, broken};
 ghost use Rattle.county_notices.specs.NoticeHistory.{after};
+ghost use Rattle.county_notices.specs.Reading.{IsHistory, Noted, ReadsAsNoted};
 ghost use Rattle.county_notices.specs.Standing.{IsStanding};
 
 /// The rows stand after a command that breaks no rule as they do before it.
 pub fn accepted_commands_keep_the_rows()
     ensures { (s : Noticed) (c : Command) → IsStanding s → c.number ≤ 9999 → broken s c ≡ None → IsStanding (after s c) }
+{}
+
+/// A reader of the notices of accepted commands alone finds lawful lives, the numbers that were handed in, and the rows that the commands leave.
+pub fn notices_read_as_noted()
+    ensures { (s : Noticed) (notes : List Noted) (z : Noticed) → IsStanding s → s.rows ≡ [] → IsHistory s notes z → ReadsAsNoted s.by.office notes z.rows }
 {}
