@@ -1,27 +1,22 @@
 -- What a reader finds in the notices of a history.
-use Rattle.std.proofs.Common.{◌≡◌, ◌∙◌, ◌≤◌, ◌⊎◌, inl, inr, ◌++◌, ℕ, suc, List, [], ◌∷◌, Bool, true, false, Option, Some, None, Result, Ok, Err, IsOk, refl, sym, ap, subst, cond, fold, length, arith, map}
-use Rattle.std.specs.List.{All, AllByRecursion, flat_map}
-use Rattle.std.proofs.lemmas.Bool.{both_ways}
+use Rattle.std.proofs.Common.{◌≡◌, ◌∙◌, ◌≤◌, ◌++◌, ℕ, List, [], ◌∷◌, false, Option, Some, None, Result, Ok, IsOk, refl, sym, ap, subst, fold, length, arith}
+use Rattle.std.specs.List.{AllByRecursion}
 use Rattle.std.proofs.lemmas.Cmp.{tied_itself}
 use Rattle.std.proofs.lemmas.List.Elements.{All-from_recursion}
-use Rattle.std.specs.declared.cmp.Ordering.TheVariants.{Equal}
-use Rattle.hazard_types.specs.Orders.{by_event}
 use Rattle.hazard_types.specs.Places.{Place}
 use Rattle.hazard_types.specs.declared.hazard.Event.{Event}
 use Rattle.hazard_types.specs.declared.line.Line.{Line}
 use Rattle.hazard_types.specs.declared.line.Row.{Row}
 use Rattle.hazard_types.proofs.OrderLaws.{by_event_total}
-use Rattle.event_life.specs.Lives.{AreLawful, IsLawfulFrom, judged_product}
-use Rattle.event_life.specs.Openings.{add_event, event_placed, opened_by, opened_from}
-use Rattle.event_life.specs.Products.{Product, is_new, lawful_of, row_at, rows_after, rows_with}
-use Rattle.hazard_board.specs.Consistent.{IsConsistent}
+use Rattle.event_life.specs.Lives.{IsLawfulFrom, judged_product}
+use Rattle.event_life.specs.Openings.{add_event, opened_by, opened_from}
+use Rattle.event_life.specs.Products.{Product, is_new, lawful_of, row_at, rows_with}
 use Rattle.hazard_board.proofs.ConsistentLemmas.{stays_consistent}
 use Rattle.hazard_board.proofs.NumberLemmas.{have_one_open}
 use Rattle.action_planner.specs.Lines.{is_near_end, joined_row}
 use Rattle.action_planner.proofs.LawfulKeys.{either_action}
 use Rattle.hazard_types.specs.declared.codes.Action.TheVariants.{Can, Exp}
 use Rattle.hazard_types.specs.declared.request.Target.TheVariants.{Join}
-use Rattle.notice_json.specs.Formed.{HasForm}
 use Rattle.notice_json.specs.declared.command.Command.{Command}
 use Rattle.notice_json.specs.declared.command.Deed.{Deed}
 use Rattle.notice_json.specs.declared.command.Deed.TheVariants as deed
@@ -29,14 +24,14 @@ use Rattle.product_decoder.specs.Decoded.{decode}
 use Rattle.product_frame.specs.Splitting.{IsOneProduct}
 use Rattle.segmenter.specs.Said.{lines_in_text}
 use Rattle.county_notices.specs.Commands.{Noticed}
-use Rattle.county_notices.specs.Lines.{event_by, lines_if, lines_in, lines_in_zones, lines_of, new_event, ending_lines}
+use Rattle.county_notices.specs.Lines.{event_by, lines_if, lines_in_zones, lines_of, new_event, ending_lines}
 use Rattle.county_notices.specs.NoticeHistory.{IsAccepted, after, first}
 use Rattle.county_notices.specs.Reading.{IsHistory, Noted, ReadsAsNoted, opened_by_deed, opened_in, product_in, products_in, texts_of}
 use Rattle.county_notices.specs.Standing.{IsStanding}
 use Rattle.county_notices.proofs.LawfulNotice.{good, standing_after}
 use Rattle.county_notices.proofs.LineLemmas.{join_old}
 use Rattle.county_notices.proofs.ReadLemmas.{IsReadAs, each_lawful, product_reads, saying, text_decodes, text_says}
-use Rattle.county_notices.proofs.Unbroken.{IsKept, kept}
+use Rattle.county_notices.proofs.Unbroken.{kept}
 
 -- ---- the event that a command opens
 

@@ -6,6 +6,7 @@ mod LineLemmas
 mod PlainSegments
 mod ReadLemmas
 mod RuleLemmas
+mod RunLemmas
 mod Shapes
 mod Unbroken
 mod Writable
