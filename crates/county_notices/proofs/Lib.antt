@@ -1,4 +1,6 @@
 mod Answered
+mod ApartProducts
+mod ApartRows
 mod HistoryLemmas
 mod HolderLemmas
 mod LawfulNotice

@@ -1,4 +1,5 @@
 pub mod Answers
+pub mod Apart
 pub mod Commands
 pub mod Lines
 pub mod NoticeHistory

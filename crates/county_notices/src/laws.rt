@@ -1,6 +1,10 @@
 //! Laws of the notices. The functions do nothing; their contracts are the laws.
 ghost use Rattle.std.specs.Prelude.{◌≡◌, ◌≤◌, List, [], None};
+ghost use Rattle.std.specs.List.{AllByRecursion};
+ghost use Rattle.event_life.specs.Openings.{opened_of};
+ghost use Rattle.event_life.specs.Products.{Product};
 ghost use Rattle.notice_json.specs.declared.command.Command.{Command};
+ghost use Rattle.county_notices.specs.Apart.{AreMerged, IsOfDesk, IsOfOthers, desks_events};
 ghost use Rattle.county_notices.specs.Commands.{Noticed, broken};
 ghost use Rattle.county_notices.specs.NoticeHistory.{after};
 ghost use Rattle.county_notices.specs.Reading.{IsHistory, Noted, ReadsAsNoted};
@@ -14,4 +18,10 @@ pub fn accepted_commands_keep_the_rows()
 /// A reader of the notices of accepted commands alone finds lawful lives, the numbers that were handed in, and the rows that the commands leave.
 pub fn notices_read_as_noted()
     ensures { (s : Noticed) (notes : List Noted) (z : Noticed) → IsStanding s → s.rows ≡ [] → IsHistory s notes z → ReadsAsNoted s.by.office notes z.rows }
+{}
+
+/// Notices, and whatever else is of hazards that the desk does not issue, put in between the products of a desk, change nothing of the events that these open: so the numbers of the desk's hazards have the gaps that they have without them.
+pub fn notices_leave_the_desks_numbers()
+    ensures { (desk others all : List Product) → AllByRecursion IsOfDesk desk → AllByRecursion IsOfOthers others → AreMerged desk others all →
+        desks_events (opened_of all) ≡ opened_of desk }
 {}

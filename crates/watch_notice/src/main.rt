@@ -1,9 +1,9 @@
 //! County notices: `watch_notice OFFICE ZONE`.
 #![tactic(auto)]
 
-use county_notices::notice_run;
+use county_notices::run_program;
 use desk_traits::{StdSink, StdSource};
-use program_ends::{End, command_line, given_words, show_usage};
+use program_ends::{End, command_line, show_usage};
 use std::io;
 use std::process::ExitCode;
 
@@ -15,7 +15,7 @@ fn main(rt: HostRuntime) -> ExitCode {
     };
     let mut input = StdSource::new(rt.reader());
     let mut output = StdSink::new(io::writer(&rt));
-    let status = county_notices::run_program(rt.alloc(), &words, &mut input, &mut output);
+    let status = run_program(rt.alloc(), &words, &mut input, &mut output);
     show_usage(&rt, status, USAGE);
     ExitCode::from(status)
 }
