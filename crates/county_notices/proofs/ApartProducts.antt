@@ -1,14 +1,13 @@
 -- Products of the desk's hazards, among others: what they open, and the rows of these hazards that they leave, is as without the others.
-use Rattle.std.proofs.Common.{◌≡◌, ◌∙◌, ◌⊎◌, inl, inr, ◌&&◌, ◌||◌, not, ℕ, List, [], ◌∷◌, ◌++◌, Bool, true, false, Option, Some, None, Ordering, Less, Equal, Greater, refl, sym, ap, subst, cond, filter, unwrap_or}
+use Rattle.std.proofs.Common.{◌≡◌, ◌∙◌, inl, inr, ◌&&◌, ◌||◌, not, ℕ, List, [], ◌∷◌, ◌++◌, Bool, true, false, Option, Some, None, Ordering, Less, Equal, Greater, refl, sym, ap, subst, cond, filter, map, unwrap_or}
 use Rattle.std.specs.List.{AllByRecursion, list_any}
 use Rattle.std.specs.List.Sorted.{IsStrictlySortedBy}
 use Rattle.std.specs.Option.{is_none, is_some}
 use Rattle.std.proofs.lemmas.Bool.{and_parts, both_ways, cases_Bool, false_from_ne_true}
 use Rattle.hazard_types.specs.Hazards.{facts_of}
-use Rattle.hazard_types.specs.Places.{Place}
-use Rattle.hazard_types.specs.Same.{same_event, same_zone}
+use Rattle.hazard_types.specs.Same.{same_hazard, same_zone}
+use Rattle.hazard_types.proofs.Equality.{hazard_one}
 use Rattle.hazard_types.specs.ZoneLines.{ZoneLine}
-use Rattle.hazard_types.specs.declared.codes.Family.{Family}
 use Rattle.hazard_types.specs.declared.facts.Facts.{Facts}
 use Rattle.hazard_types.specs.declared.hazard.Event.{Event}
 use Rattle.hazard_types.specs.declared.hazard.Hazard.{Hazard}
@@ -16,13 +15,12 @@ use Rattle.hazard_types.specs.declared.line.Line.{Line}
 use Rattle.hazard_types.specs.declared.line.Row.{Row}
 use Rattle.hazard_types.specs.declared.line.Vtec.{Vtec}
 use Rattle.hazard_types.specs.Orders.{by_event}
-use Rattle.event_life.specs.declared.life.Around.{Around}
 use Rattle.event_life.specs.declared.life.Breach.{Breach}
 use Rattle.event_life.specs.declared.life.Breach.TheVariants.{Twice}
 use Rattle.event_life.specs.declared.life.Life.{Life}
 use Rattle.event_life.specs.Higher.{family_of, is_above, may_yield, outranks}
 use Rattle.event_life.specs.Lives.{judged_product}
-use Rattle.event_life.specs.Openings.{add_event, event_placed, opened_by, opened_from}
+use Rattle.event_life.specs.Openings.{add_event, event_placed, is_numbered, numbers_of, opened_by, opened_from}
 use Rattle.event_life.specs.Periods.{is_live, overlaps}
 use Rattle.event_life.specs.Products.{Product, around_but_higher, around_of, breach_in, by_key, end_upgraded, event_of, event_of_issue, going_in, has_higher, is_new, is_overlapped, is_routine, is_second, is_upgrade, judged, judged_from, lawful_of, life_at, line_of, lines_of, put, put_all, put_but_upgrades, row_after, row_at, row_of, rows_after, rows_for_higher, rows_with, speaks_of}
 use Rattle.event_life.specs.Table.{breach_of_line, life_after}
@@ -103,7 +101,7 @@ module _ (rows : List Row) (t : ℕ) where
       let same : b ≡ test (breach_of_line (life_at (keep rows) line) line t (around_but_higher (keep rows) t line true)) = ap test (sym (breach_kept line true own.0)) in
       but_upgrades_kept (earlier ++ line ∷ []) lines (cond b (put (row_after rows t line) after) after) own.1 (sorted_by line after b up)
       ∙ ap (put_but_upgrades (keep rows) t (earlier ++ line ∷ []) lines) (but_upgrades_by earlier line lines after b own.0 up
-          ∙ ap (λ (x : Bool). cond x (put (row_after (keep rows) t line) (keep after)) (keep after)) same)
+      ∙ ap (λ (x : Bool). cond x (put (row_after (keep rows) t line) (keep after)) (keep after)) same)
 
   module _ (up : IsStrictlySortedBy by_key rows) where
     for_higher_kept : (lines : List Line) → AllByRecursion IsOwn lines → keep (rows_for_higher rows t lines) ≡ rows_for_higher (keep rows) t lines
@@ -204,7 +202,7 @@ lines_all b rows t (x ∷ said) all = (ap is_desks (event_hazard rows t x.vtec) 
 line_kept : (rows : List Row) (t : ℕ) (x : ZoneLine) → is_desks x.vtec.hazard ≡ true → line_of (keep rows) t x ≡ line_of rows t x
 line_kept rows t x own =
     let event : event_of (keep rows) t x.vtec ≡ event_of rows t x.vtec =
-        ap (λ (o : Option Event). cond (is_new x.vtec.action) (event_of_issue t x.vtec) (unwrap_or o (event_of_issue t x.vtec))) (going_kept rows t x.vtec.hazard x.vtec.etn own) in
+    ap (λ (o : Option Event). cond (is_new x.vtec.action) (event_of_issue t x.vtec) (unwrap_or o (event_of_issue t x.vtec))) (going_kept rows t x.vtec.hazard x.vtec.etn own) in
     λ i. record { action = x.vtec.action; event = event i; zone = x.zone; begin = x.vtec.begin; end = Rattle.event_life.specs.Products.end_of x.vtec.end; flood = x.flood }
 
 lines_kept : (rows : List Row) (t : ℕ) (said : List ZoneLine) → AllByRecursion (λ (x : ZoneLine). is_desks x.vtec.hazard ≡ true) said → lines_of (keep rows) t said ≡ lines_of rows t said
@@ -272,3 +270,22 @@ from_merged rows desk others (p ∷ all) up own other (inr m) =
 pub merged : (desk others all : List Product) → AllByRecursion IsOfDesk desk → AllByRecursion IsOfOthers others → AreMerged desk others all → desks_events (opened_from [] all) ≡ opened_from [] desk
 unfolding IsStrictlySortedBy
 merged desk others all own other m = from_merged [] desk others all tt own other m
+
+-- the numbers of one of the desk's hazards
+
+of_desk : (h : Hazard) (year : ℕ) (e : Event) → is_desks h ≡ true → is_numbered h year e ≡ true → is_desks_event e ≡ true
+of_desk h year e own n = ap is_desks (hazard_one e.hazard h (and_parts (same_hazard e.hazard h) _ n).0) ∙ own
+
+numbered_by : (h : Hazard) (year : ℕ) (e : Event) (events : List Event) (d : Bool) → is_desks h ≡ true → is_desks_event e ≡ d → filter (is_numbered h year) (desks_events events) ≡ filter (is_numbered h year) events →
+    filter (is_numbered h year) (cond d (e ∷ desks_events events) (desks_events events)) ≡ cond (is_numbered h year e) (e ∷ filter (is_numbered h year) events) (filter (is_numbered h year) events)
+numbered_by h year e events true own is more = ap (λ (es : List Event). cond (is_numbered h year e) (e ∷ es) es) more
+numbered_by h year e events false own is more =
+    let not_it : is_numbered h year e ≡ false = false_from_ne_true _ (λ n. both_ways _ is (of_desk h year e own n)) in
+    rw not_it more
+
+numbered_kept : (h : Hazard) (year : ℕ) (events : List Event) → is_desks h ≡ true → filter (is_numbered h year) (desks_events events) ≡ filter (is_numbered h year) events
+numbered_kept h year [] own = refl
+numbered_kept h year (e ∷ events) own = numbered_by h year e events (is_desks_event e) own refl (numbered_kept h year events own)
+
+pub numbers_kept : (h : Hazard) (year : ℕ) (events desk : List Event) → is_desks h ≡ true → desks_events events ≡ desk → numbers_of h year events ≡ numbers_of h year desk
+numbers_kept h year events desk own is = ap (λ (es : List Event). map (λ (e : Event). e.etn) es) (sym (numbered_kept h year events own)) ∙ ap (numbers_of h year) is

@@ -1,24 +1,20 @@
 -- Rows of hazards that the desk issues, among others: a line of such a hazard looks at no others.
-use Rattle.std.proofs.Common.{◌≡◌, ◌∙◌, ◌&&◌, ◌||◌, ◌==◌, not, ℕ, List, [], ◌∷◌, ◌++◌, Bool, true, false, Option, Some, None, Ordering, Less, Equal, Greater, refl, sym, ap, subst, cond, filter, find, fold, nat_lt, option_map}
+use Rattle.std.proofs.Common.{◌≡◌, ◌∙◌, ◌&&◌, ◌||◌, ◌==◌, ℕ, List, [], ◌∷◌, Bool, true, false, Option, Some, None, Ordering, Less, Equal, Greater, refl, sym, ap, cond, filter, find, fold, nat_lt, option_map}
 use Rattle.std.specs.List.{AllByRecursion, list_any}
 use Rattle.std.specs.List.Sorted.{IsStrictlySortedBy}
-use Rattle.std.specs.Option.{is_none, is_some}
-use Rattle.std.proofs.lemmas.Bool.{and_parts, and_left, both_ways, false_from_ne_true, or_parts}
-use Rattle.hazard_types.specs.Hazards.{facts_of}
+use Rattle.std.proofs.lemmas.Bool.{and_parts, both_ways, false_from_ne_true}
 use Rattle.hazard_types.specs.Places.{Place}
-use Rattle.hazard_types.specs.Same.{same_event, same_hazard, same_zone}
-use Rattle.hazard_types.specs.declared.facts.Facts.{Facts}
+use Rattle.hazard_types.specs.Same.{same_event, same_hazard}
 use Rattle.hazard_types.specs.declared.hazard.Event.{Event}
 use Rattle.hazard_types.specs.declared.hazard.Hazard.{Hazard}
 use Rattle.hazard_types.specs.declared.line.Line.{Line}
 use Rattle.hazard_types.specs.declared.line.Row.{Row}
 use Rattle.hazard_types.proofs.Equality.{event_one, hazard_one}
-use Rattle.event_life.specs.Higher.{outranks}
-use Rattle.event_life.specs.Periods.{is_live, keeps_open, overlaps, same_at}
+use Rattle.event_life.specs.Periods.{is_live, keeps_open, same_at}
 use Rattle.event_life.specs.Products.{by_key, going_in, has_rows, has_same, is_held, is_open, later_event, life_at, life_of, placed, put, row_at}
 use Rattle.event_life.specs.Table.{opened_period}
 use Rattle.event_life.proofs.Keys.{key_exact}
-use Rattle.event_life.proofs.Puts.{all_above, at_key, at_key-parts}
+use Rattle.event_life.proofs.Puts.{all_above, at_key}
 use Rattle.county_notices.specs.Apart.{is_desks}
 
 abbrev pub is_kept : Row → Bool

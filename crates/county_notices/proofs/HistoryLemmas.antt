@@ -23,12 +23,21 @@ use Rattle.notice_json.specs.declared.command.Deed.TheVariants as deed
 use Rattle.product_decoder.specs.Decoded.{decode}
 use Rattle.product_frame.specs.Splitting.{IsOneProduct}
 use Rattle.segmenter.specs.Said.{lines_in_text}
+use Rattle.std.specs.Option.{is_some}
+use Rattle.hazard_types.specs.declared.facts.Facts.{Facts}
+use Rattle.hazard_types.specs.declared.hazard.Hazard.{Hazard}
+use Rattle.segmenter.proofs.SaidLemmas.{in_text}
+use Rattle.action_planner.proofs.CasesWords.{has_from}
+use Rattle.action_planner.proofs.LawfulLists.{Has, all_has, contains_from, every}
+use Rattle.notice_json.specs.Commands.{hazard_of}
+use Rattle.notice_json.specs.declared.command.Watch.{Watch}
+use Rattle.county_notices.specs.Apart.{IsOfOthers, is_desks}
 use Rattle.county_notices.specs.Commands.{Noticed}
 use Rattle.county_notices.specs.Lines.{event_by, lines_if, lines_in_zones, lines_of, new_event, ending_lines}
 use Rattle.county_notices.specs.NoticeHistory.{IsAccepted, after, first}
 use Rattle.county_notices.specs.Reading.{IsHistory, Noted, ReadsAsNoted, opened_by_deed, opened_in, product_in, products_in, texts_of}
 use Rattle.county_notices.specs.Standing.{IsStanding}
-use Rattle.county_notices.proofs.LawfulNotice.{good, standing_after}
+use Rattle.county_notices.proofs.LawfulNotice.{no_facts, good, standing_after}
 use Rattle.county_notices.proofs.LineLemmas.{join_old}
 use Rattle.county_notices.proofs.ReadLemmas.{IsReadAs, each_lawful, product_reads, saying, text_decodes, text_says}
 use Rattle.county_notices.proofs.Unbroken.{kept}
@@ -78,6 +87,15 @@ record IsReadNotice (s : Noticed) (c : Command) (text : List ℕ) : Type 0 where
   apart : IsOneProduct text
   read : IsReadAs s.rows (lines_of s.rows c) c.at product
   opened : opened_by (lawful_of (judged_product s.rows product)) ≡ opened_by_deed c c.deed
+  others : IsOfOthers product
+
+-- watches are none of the desk's hazards
+not_desks : (e : Event) (w : Watch) → e.hazard ≡ hazard_of w → is_desks e.hazard ≡ false
+not_desks e w is = ap (λ (h : Hazard). is_desks h) is ∙ ap (λ (o : Option Facts). is_some o) (no_facts w)
+
+others_said : (office : List ℕ) (t : ℕ) (lines : List Line) → AllByRecursion (λ (line : Line). is_desks line.event.hazard ≡ false) lines → IsOfOthers (saying office t lines)
+others_said office t [] all = tt
+others_said office t (line ∷ lines) all = (all.0, others_said office t lines all.1)
 
 is_ok : {X E : Type 0} (r : Result X E) (x : X) → r ≡ Ok x → IsOk r
 is_ok r x h = rw h refl
@@ -97,6 +115,9 @@ read_notice s c text stands accepted =
       apart = n.one;
       read = read;
       opened = read.opened ∙ ap (λ (ls : List Line). opened_by ls) (ap (lines_if s.rows c) k.is) ∙ opened_is s.rows c k.event c.deed k.is k.some;
+      others = others_said s.by.office c.at (lines_in_text n.segments) (every (λ (line : Line). is_desks line.event.hazard ≡ false) (lines_in_text n.segments) (λ line there.
+          let here : Has lines line = has_from lines line ((in_text lines n.segments n.are line).0 (contains_from (lines_in_text n.segments) line there)) in
+          not_desks line.event c.watch (ap (λ (e : Event). e.hazard) (all_has (λ (l : Line). l.event ≡ k.event) lines line g.events here) ∙ k.hazard)));
     }
 
 -- ---- all of them
@@ -108,6 +129,7 @@ record AreRead (s : Noticed) (notes : List Noted) (z : Noticed) : Type 0 where
   lives : (e : Event) (place : Place) → IsLawfulFrom s.rows (products_in s.by.office (texts_of notes)) e place
   opened : opened_from s.rows (products_in s.by.office (texts_of notes)) ≡ opened_in notes
   rows : fold rows_with s.rows (products_in s.by.office (texts_of notes)) ≡ z.rows
+  others : AllByRecursion IsOfOthers (products_in s.by.office (texts_of notes))
 
 more_read : (s : Noticed) (n : Noted) (notes : List Noted) (z : Noticed) → IsReadNotice s n.command n.text → AreRead (after s n.command) notes z → AreRead s (n ∷ notes) z
 more_read s n notes z first rest =
@@ -123,10 +145,11 @@ more_read s n notes z first rest =
       opened = ap (opened_from s.rows) are ∙ ap (λ (es : List Event). es ++ opened_from (rows_with s.rows p) later) first.opened
           ∙ ap (λ (es : List Event). opened_by_deed n.command n.command.deed ++ es) (ap (λ (rs : List Row). opened_from rs later) rows ∙ rest.opened);
       rows = ap (fold rows_with s.rows) are ∙ ap (λ (rs : List Row). fold rows_with rs later) rows ∙ rest.rows;
+      others = subst (AllByRecursion IsOfOthers) (sym are) (first.others, rest.others);
     }
 
 are_read : (s : Noticed) (notes : List Noted) (z : Noticed) → IsStanding s → IsHistory s notes z → AreRead s notes z
-are_read s [] z stands h = record { whole = tt; apart = tt; lives = λ e place. tt; opened = refl; rows = ap (λ (x : Noticed). x.rows) (sym h) }
+are_read s [] z stands h = record { whole = tt; apart = tt; lives = λ e place. tt; opened = refl; rows = ap (λ (x : Noticed). x.rows) (sym h); others = tt }
 are_read s (n ∷ notes) z stands h =
     more_read s n notes z (read_notice s n.command n.text stands h.1) (are_read (after s n.command) notes z (standing_after s n.command stands h.0.last_number h.1.kept) h.2)
 
@@ -140,4 +163,5 @@ history_read s notes z stands none h =
       lives = λ e place. subst (λ (rs : List Row). IsLawfulFrom rs ps e place) none (r.lives e place);
       numbers = ap (λ (rs : List Row). opened_from rs ps) (sym none) ∙ r.opened;
       rows_are = ap (λ (rs : List Row). fold rows_with rs ps) (sym none) ∙ r.rows;
+      others = r.others;
     }

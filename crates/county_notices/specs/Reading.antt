@@ -1,6 +1,6 @@
 -- What someone finds who has the texts of the notices alone.
 use Rattle.std.specs.Prelude.{◌≡◌, ℕ, IsOk, List, [], ◌∷◌, map, Result, Ok, Err}
-use Rattle.std.specs.List.{All, flat_map}
+use Rattle.std.specs.List.{All, AllByRecursion, flat_map}
 use Rattle.hazard_types.specs.Places.{Place}
 use Rattle.hazard_types.specs.declared.codes.Class.TheVariants.{O}
 use Rattle.hazard_types.specs.declared.hazard.Event.{Event}
@@ -17,6 +17,7 @@ use Rattle.product_decoder.specs.ReaderModel.{product_of}
 use Rattle.product_decoder.specs.declared.types.Decoded.{Decoded}
 use Rattle.product_frame.specs.Splitting.{IsOneProduct}
 use Rattle.product_frame.specs.declared.frame.FrameFault.{FrameFault}
+use Rattle.county_notices.specs.Apart.{IsOfOthers}
 use Rattle.county_notices.specs.Commands.{Noticed}
 use Rattle.county_notices.specs.Lines.{new_event}
 use Rattle.county_notices.specs.NoticeHistory.{IsAccepted, after}
@@ -61,3 +62,5 @@ pub record ReadsAsNoted (office : List ℕ) (notes : List Noted) (rows : List Ro
   pub lives : (e : Event) (z : Place) → IsLawfulLife (products_read office notes) e z
   pub numbers : opened_of (products_read office notes) ≡ opened_in notes
   pub rows_are : rows_of (products_read office notes) ≡ rows
+  -- all lines are of watches, which are none of the hazards that the desk issues
+  pub others : AllByRecursion IsOfOthers (products_read office notes)
