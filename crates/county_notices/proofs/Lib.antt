@@ -1,0 +1,14 @@
+mod Answered
+mod ApartProducts
+mod ApartRows
+mod HistoryLemmas
+mod HolderLemmas
+mod LawfulNotice
+mod LineLemmas
+mod PlainSegments
+mod ReadLemmas
+mod RuleLemmas
+mod RunLemmas
+mod Shapes
+mod Unbroken
+mod Writable

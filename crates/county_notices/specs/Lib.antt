@@ -1,0 +1,10 @@
+pub mod Answers
+pub mod Apart
+pub mod Commands
+pub mod Lines
+pub mod NoticeHistory
+pub mod NoticeRuns
+pub mod Notices
+pub mod Reading
+pub mod Standing
+pub mod Words

@@ -1,0 +1,18 @@
+//! County notices: what the office tells its counties of tornado and severe thunderstorm watches, whose numbers are handed in.
+#![tactic(auto)]
+
+mod issuer;
+mod laws;
+mod lines;
+mod notice;
+mod notices;
+mod rules;
+mod run;
+mod words;
+
+pub use issuer::Issuer;
+pub use laws::{
+    accepted_commands_keep_the_rows, notices_leave_the_desks_numbers, notices_read_as_noted,
+};
+pub use notices::Notices;
+pub use run::{notice_run, notice_within, run_program};

@@ -1,0 +1,231 @@
+//! The lines of a command.
+ghost use Rattle.std.specs.Prelude.{◌≡◌, ◌++◌, IfOk, OnOk};
+ghost use Rattle.hazard_types.specs.declared.request.Target.TheVariants.{Fresh, Join};
+ghost use Rattle.action_planner.specs.Lines.{continuing_line, is_near_end, line_on, opening_line, printed_begin, put_line, put_period_on, unless_ended};
+ghost use Rattle.county_notices.specs.Lines.{new_event, open_event, event_by, put_of, ending_action, ending_lines, lines_in, lines_in_zones, lines_if, lines_of};
+
+use event_life::same_at;
+use hazard_board::Board;
+use hazard_types::{Action, End, Event, Line, List, Minute, Oom, Period, Row, Zone, year_of};
+use notice_json::{Command, Deed};
+use std::alloc::Global;
+
+/// The event that a command would open: of the number that was handed in, and of the year of its minute.
+pub fn new_event(command: &Command) -> Event
+    ensures { result ≡ new_event command.now }
+{
+    Event {
+        hazard: command.watch.hazard(),
+        etn: command.number,
+        year: year_of(command.at),
+    }
+}
+
+/// The open event of the hazard and number of a command.
+pub fn open_event(board: &Board, command: &Command) -> Option<Event>
+    ensures { result ≡ open_event board.now.rows command.now }
+{
+    board.going(command.watch.hazard(), command.number, command.at)
+}
+
+/// The event that a command speaks of.
+pub fn event_by(board: &Board, command: &Command) -> Option<Event>
+    ensures { result ≡ event_by board.now.rows command.now command.now.deed }
+{
+    match &command.deed {
+        Deed::Open(_) => Some(new_event(command)),
+        Deed::Join(_) | Deed::End => open_event(board, command),
+    }
+}
+
+/// A begin as a line prints it: None, which is printed as zeros, where it is at most the minute.
+fn printed_begin(begin: Minute, t: Minute) -> Option<Minute>
+    ensures { result ≡ printed_begin begin t }
+{
+    if begin.get() <= t.get() {
+        None
+    } else {
+        Some(begin)
+    }
+}
+
+/// The line of a new event in a zone.
+fn new_line(board: &Board, t: Minute, event: &Event, end: Minute, zone: &Zone) -> Line
+    ensures { result ≡ put_line board.now.rows t event.now (put_of (Fresh event.now.hazard) end) zone.now }
+{
+    Line {
+        action: Action::New,
+        event: *event,
+        zone: *zone,
+        begin: Some(t),
+        end: End::At(end),
+        flood: None,
+    }
+}
+
+/// The line of an event that joins a zone where no row stands that no line has ended: EXA where a live row of it has the same period, else EXB.
+fn entering_line(board: &Board, t: Minute, event: &Event, end: Minute, zone: &Zone) -> Line
+    ensures { result ≡ opening_line board.now.rows t event.now (put_of (Join event.now) end) zone.now }
+{
+    let period = Period {
+        begin: t,
+        end: End::At(end),
+    };
+    let action = if board.same_period(*event, period, t) {
+        Action::Exa
+    } else {
+        Action::Exb
+    };
+    Line {
+        action,
+        event: *event,
+        zone: *zone,
+        begin: Some(t),
+        end: End::At(end),
+        flood: None,
+    }
+}
+
+/// The period that a join gives to a row: on one that has begun the begin stays.
+fn joined_period(t: Minute, end: Minute, event: &Event, row: &Row) -> Period
+    ensures { result ≡ put_period_on (put_of (Join event.now) end) t row.now }
+{
+    let begin = if row.period.begin.get() <= t.get() {
+        row.period.begin
+    } else {
+        t
+    };
+    Period {
+        begin,
+        end: End::At(end),
+    }
+}
+
+/// The line of an event on a row that it has: CON where its period stays, else EXT.
+fn continuing_line(t: Minute, event: &Event, end: Minute, row: &Row) -> Line
+    ensures { result ≡ continuing_line t event.now (put_of (Join event.now) end) row.now }
+{
+    let period = joined_period(t, end, event, row);
+    let action = if same_at(t, &row.period, &period) {
+        Action::Con
+    } else {
+        Action::Ext
+    };
+    Line {
+        action,
+        event: *event,
+        zone: row.zone,
+        begin: printed_begin(period.begin, t),
+        end: period.end,
+        flood: None,
+    }
+}
+
+/// The row, where no line has ended it.
+fn unless_ended(row: Option<Row>) -> Option<Row>
+    ensures { result ≡ unless_ended row }
+{
+    match row {
+        Some(row) if !row.ended => Some(row),
+        _ => None,
+    }
+}
+
+/// The line of an event that joins a zone.
+fn join_line(board: &Board, t: Minute, event: &Event, end: Minute, zone: &Zone) -> Line
+    ensures { result ≡ put_line board.now.rows t event.now (put_of (Join event.now) end) zone.now }
+{
+    match unless_ended(board.row(*event, *zone)) {
+        None => entering_line(board, t, event, end, zone),
+        Some(row) => continuing_line(t, event, end, &row),
+    }
+}
+
+/// Whether the end is a minute within half an hour of this one either way.
+fn is_near_end(end: &End, t: Minute) -> bool
+    ensures { result ≡ is_near_end end.now t }
+{
+    match end {
+        End::At(minute) => minute.get() <= t.get() + 30 && t.get() <= minute.get() + 30,
+        End::Ufn => false,
+    }
+}
+
+/// EXP within half an hour of the row's end, either way, else CAN.
+fn ending_action(t: Minute, row: &Row) -> Action
+    ensures { result ≡ ending_action t row.now }
+{
+    if is_near_end(&row.period.end, t) {
+        Action::Exp
+    } else {
+        Action::Can
+    }
+}
+
+/// The line that says of a row what it is, by this action.
+fn line_on(action: Action, t: Minute, row: &Row) -> Line
+    ensures { result ≡ line_on action t row.now }
+{
+    Line {
+        action,
+        event: row.event,
+        zone: row.zone,
+        begin: printed_begin(row.period.begin, t),
+        end: row.period.end,
+        flood: row.flood,
+    }
+}
+
+/// Adds what an end says of a row: nothing where there is none.
+fn add_ending(lines: &mut List<Line>, t: Minute, row: &Option<Row>) -> Result<(), Oom>
+    ensures { OnOk result (lines.new ≡ lines.old ++ ending_lines t row.now) }
+{
+    match row {
+        None => Ok(()),
+        Some(row) => lines.extend(&[line_on(ending_action(t, row), t, row)]),
+    }
+}
+
+/// Adds what a command says of one of its zones.
+fn add_in_zone(
+    lines: &mut List<Line>,
+    board: &Board,
+    command: &Command,
+    event: &Event,
+    zone: &Zone,
+) -> Result<(), Oom>
+    ensures { OnOk result (lines.new ≡ lines.old ++ lines_in board.now.rows command.now.at event.now command.now.deed zone.now) }
+{
+    let t = command.at;
+    match &command.deed {
+        Deed::Open(end) => lines.extend(&[new_line(board, t, event, *end, zone)]),
+        Deed::Join(end) => lines.extend(&[join_line(board, t, event, *end, zone)]),
+        Deed::End => add_ending(lines, t, &board.row(*event, *zone)),
+    }
+}
+
+/// What a command says of each of its zones, of this event.
+fn lines_in_zones(
+    alloc: Global,
+    board: &Board,
+    command: &Command,
+    event: &Event,
+) -> Result<List<Line>, Oom>
+    ensures { IfOk result (λ lines. lines ≡ lines_in_zones board.now.rows command.now.at event.now command.now.deed command.now.zones) }
+{
+    let mut lines = List::new(alloc);
+    for zone in command.zones.as_slice() {
+        add_in_zone(&mut lines, board, command, event, zone)?;
+    }
+    Ok(lines)
+}
+
+/// The lines of a command. There are none where it speaks of no event.
+pub fn lines_of(alloc: Global, board: &Board, command: &Command) -> Result<List<Line>, Oom>
+    ensures { IfOk result (λ lines. lines ≡ lines_of board.now.rows command.now) }
+{
+    match event_by(board, command) {
+        Some(event) => lines_in_zones(alloc, board, command, &event),
+        None => Ok(List::new(alloc)),
+    }
+}

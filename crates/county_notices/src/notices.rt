@@ -1,0 +1,155 @@
+//! The notices of an office: what they have left so far, and what a line is answered.
+ghost use Rattle.std.specs.Prelude.{◌≡◌, ◌≤◌, Err, Ok, IfOk, IsTrue, OnErr, OnOk};
+ghost use Rattle.hazard_types.specs.Characters.{is_office};
+ghost use Rattle.hazard_types.specs.declared.or.Or.TheVariants.{No};
+ghost use Rattle.notice_json.specs.declared.refusal.NoticeRefusal.{NoticeRefusal as Reason};
+ghost use Rattle.program_ends.specs.Replies.{bytes_of};
+ghost use Rattle.county_notices.specs.Answers.{AnswersLine, AnswersCommand, LacksLine, refusal_line};
+ghost use Rattle.county_notices.specs.Lines.{lines_of};
+ghost use Rattle.county_notices.specs.NoticeHistory.{IsAccepted, IsRefused, after, first};
+
+use crate::issuer::Issuer;
+use crate::lines::lines_of;
+use crate::notice::notice_text;
+use crate::rules::broken;
+use hazard_board::Board;
+use hazard_types::{Line, List, Minute, Oom, Or, Text};
+use notice_json::{Command, NoticeRefusal, read_command, refusal_text};
+use program_ends::{Answers, Reply};
+use std::alloc::Global;
+use std::marker::Model;
+
+/// The most bytes of a notice.
+const MOST: usize = 65_536;
+
+/// An office's notices so far, by the rows that they have left and the minute of the last accepted command.
+#[derive(Drop)]
+pub struct Notices {
+    issuer: Issuer,
+    board: Board,
+    last: Minute,
+}
+
+impl Model for Notices {
+    ghost use Rattle.county_notices.specs.Commands.{Noticed};
+    ghost use Rattle.county_notices.specs.Standing.{IsStanding};
+
+    ghost Value = { Noticed };
+
+    ghost view = { λ n. record { by = n.issuer; rows = n.board.rows; last = n.last } };
+
+    ghost invariant = { λ n. IsStanding (record { by = n.issuer; rows = n.board.rows; last = n.last }) };
+}
+
+/// The lines of a command, and its notice.
+#[derive(Drop)]
+struct Judged {
+    lines: List<Line>,
+    text: Text,
+}
+
+/// A refusal as a line.
+fn told(alloc: Global, refusal: &NoticeRefusal) -> Result<Reply, Oom>
+    ensures { IfOk result (λ reply. bytes_of reply ≡ refusal_line refusal.now) }
+{
+    Ok(Reply::Line(refusal_text(alloc, refusal)?))
+}
+
+fn first_minute() -> Minute
+    ensures { result ≡ 0 }
+{
+    match Minute::new(0) {
+        Some(minute) => minute,
+        None => unreachable!(),
+    }
+}
+
+impl Notices {
+    /// An office before its first notice.
+    pub fn new(alloc: Global, issuer: Issuer) -> Self
+        requires { IsTrue (is_office issuer.office) }
+        ensures { result ≡ first issuer }
+    {
+        Notices {
+            issuer,
+            board: Board::new(alloc),
+            last: first_minute(),
+        }
+    }
+
+    /// The lines of a command and its notice.
+    ///
+    /// # Errors
+    ///
+    /// The first rule that it breaks.
+    fn judge(&self, alloc: Global, command: &Command) -> Result<Judged, Or<NoticeRefusal>>
+        requires { command.now.number ≤ 9999 }
+        ensures lines { IfOk result (λ judged. judged.lines ≡ lines_of self.now.rows command.now) }
+        ensures accepted { IfOk result (λ judged. IsAccepted self.now command.now judged.text) }
+        ensures refused { (r : Reason) → result ≡ Err (No r) → IsRefused self.now command.now r }
+    {
+        // What stands between commands is known from here on.
+        let _ = &self.board;
+        if let Some(refusal) = broken(&self.board, self.last, command) {
+            return Err(Or::No(refusal));
+        }
+        let lines = lines_of(alloc, &self.board, command)?;
+        let text = notice_text(alloc, &self.issuer, command.at, command.watch, &lines)?;
+        if text.len() > MOST {
+            return Err(Or::No(NoticeRefusal::TooLong { bytes: text.len() }));
+        }
+        Ok(Judged { lines, text })
+    }
+
+    /// Takes a command, and returns its notice.
+    ///
+    /// # Errors
+    ///
+    /// The first rule that it breaks. Nothing changes then, nor where memory lacks.
+    fn accept(&mut self, alloc: Global, command: &Command) -> Result<Text, Or<NoticeRefusal>>
+        requires { command.now.number ≤ 9999 }
+        ensures accepted { IfOk result (λ text. IsAccepted self.old command.now text) }
+        ensures left { OnOk result (self.new ≡ after self.old command.now) }
+        ensures refused { (r : Reason) → result ≡ Err (No r) → IsRefused self.old command.now r }
+        ensures kept { OnErr result (self.new ≡ self.old) }
+    {
+        let judged = self.judge(alloc, command)?;
+        self.board.reserve(judged.lines.len())?;
+        self.board.apply(&judged.lines, command.at);
+        self.last = command.at;
+        Ok(judged.text)
+    }
+
+    /// What a command is answered.
+    fn answer_command(&mut self, alloc: Global, command: &Command) -> Result<Reply, Oom>
+        requires { command.now.number ≤ 9999 }
+        ensures answered { IfOk result (λ reply. AnswersCommand self.old (Ok command.now) (bytes_of reply) self.new) }
+        ensures lacked { OnErr result (self.new ≡ self.old) }
+    {
+        match self.accept(alloc, command) {
+            Ok(text) => Ok(Reply::Whole(text)),
+            Err(Or::No(refusal)) => told(alloc, &refusal),
+            Err(Or::OutOfMemory) => Err(Oom),
+        }
+    }
+}
+
+impl Answers for Notices {
+    ghost answers = { AnswersLine };
+
+    ghost lacks = { LacksLine };
+
+    fn answer(&mut self, alloc: Global, line: Option<&[u8]>) -> Result<Reply, Oom> {
+        let Some(line) = line else {
+            return told(alloc, &NoticeRefusal::LineTooLong);
+        };
+        if line.is_empty() {
+            return Ok(Reply::Nothing);
+        }
+        match read_command(alloc, line) {
+            Ok(command) => self.answer_command(alloc, &command),
+            Err(Or::No(refusal)) => told(alloc, &refusal),
+            Err(Or::OutOfMemory) => Err(Oom),
+        }
+    }
+}

@@ -1,0 +1,314 @@
+//! Why a command is refused.
+ghost use Rattle.std.specs.Prelude.{◌≡◌, ◌≤◌, find, option_map};
+ghost use Rattle.event_life.specs.Products.{has_rows};
+ghost use Rattle.hazard_board.specs.Consistent.{IsConsistent};
+ghost use Rattle.action_planner.specs.Fitting.{are_zones};
+ghost use Rattle.action_planner.specs.Offences.{holds};
+ghost use Rattle.county_notices.specs.Commands.{broken_with, broken_by_itself, broken_by_rows, time_out, time_back, bad_zones, is_public, county_wanted, not_county, has_bad_end, bad_end, held_by, left_before, not_live, number_used, number_held, none_open, no_watch, was_left, is_gone, left_in, gone_in, left, gone};
+ghost use Rattle.county_notices.specs.Lines.{new_event};
+
+use crate::lines::{new_event, open_event};
+use action_planner::are_zones;
+use event_life::{is_live, keeps_open};
+use hazard_board::{Board, consistent_rows_stay_consistent};
+use hazard_types::{Event, Kind, Minute, Zone};
+use notice_json::{Command, Deed, NoticeRefusal};
+
+/// The last minute at which the office speaks.
+const LAST_MINUTE: u32 = 52_000_000;
+
+/// TimeOut: the minute is above the last one.
+fn time_out(command: &Command) -> Option<NoticeRefusal>
+    ensures { result ≡ time_out command.now }
+{
+    if LAST_MINUTE < command.at.get() {
+        Some(NoticeRefusal::TimeOut { minute: command.at })
+    } else {
+        None
+    }
+}
+
+/// TimeBack: the minute is before that of the last accepted command.
+fn time_back(last: Minute, command: &Command) -> Option<NoticeRefusal>
+    ensures { result ≡ time_back last command.now }
+{
+    if command.at.get() < last.get() {
+        Some(NoticeRefusal::TimeBack { last })
+    } else {
+        None
+    }
+}
+
+/// Whether there is at least one zone, and at most 600, each once.
+fn may_be_named(zones: &[Zone]) -> bool
+    ensures { result ≡ are_zones zones.now }
+{
+    are_zones(zones)
+}
+
+/// BadZones: none, more than 600, or one that stands twice.
+fn bad_zones(command: &Command) -> Option<NoticeRefusal>
+    ensures { result ≡ bad_zones command.now }
+{
+    if may_be_named(command.zones.as_slice()) {
+        None
+    } else {
+        Some(NoticeRefusal::BadZones)
+    }
+}
+
+/// The first public zone.
+fn first_public(zones: &[Zone]) -> Option<Zone>
+    ensures { result ≡ find is_public zones.now }
+{
+    for zone in zones {
+        if zone.kind() == Kind::Z {
+            return Some(*zone);
+        }
+    }
+    None
+}
+
+/// NotCounty: a public zone; the first one is named.
+fn not_county(command: &Command) -> Option<NoticeRefusal>
+    ensures { result ≡ not_county command.now }
+{
+    match first_public(command.zones.as_slice()) {
+        Some(zone) => Some(NoticeRefusal::NotCounty { zone }),
+        None => None,
+    }
+}
+
+fn has_bad_end(command: &Command) -> bool
+    ensures { result ≡ has_bad_end command.now.at command.now.deed }
+{
+    match &command.deed {
+        Deed::Open(end) | Deed::Join(end) => end.get() <= command.at.get(),
+        Deed::End => false,
+    }
+}
+
+/// BadEnd: the end is not after the minute.
+fn bad_end(command: &Command) -> Option<NoticeRefusal>
+    ensures { result ≡ bad_end command.now }
+{
+    if has_bad_end(command) {
+        Some(NoticeRefusal::BadEnd)
+    } else {
+        None
+    }
+}
+
+/// The first rule that the command breaks by itself. `last` is the minute of the last accepted command.
+#[tactic(auto, unfolding(crate::specs::Commands::broken_by_itself))]
+fn broken_by_itself(last: Minute, command: &Command) -> Option<NoticeRefusal>
+    ensures { result ≡ broken_by_itself last command.now }
+{
+    let found = time_out(command);
+    if found.is_some() {
+        return found;
+    }
+    let found = time_back(last, command);
+    if found.is_some() {
+        return found;
+    }
+    let found = bad_zones(command);
+    if found.is_some() {
+        return found;
+    }
+    let found = not_county(command);
+    if found.is_some() {
+        return found;
+    }
+    bad_end(command)
+}
+
+fn is_used(board: &Board, event: &Event) -> bool
+    ensures { result ≡ has_rows board.now.rows event.now }
+{
+    board.has(*event)
+}
+
+/// NumberUsed: the event that is to be opened has rows, ended ones among them.
+fn number_used(board: &Board, command: &Command) -> Option<NoticeRefusal>
+    ensures { result ≡ number_used board.now.rows command.now command.now.deed }
+{
+    match &command.deed {
+        Deed::Open(_) => {
+            let event = new_event(command);
+            if is_used(board, &event) {
+                Some(NoticeRefusal::NumberUsed { event })
+            } else {
+                None
+            }
+        }
+        Deed::Join(_) | Deed::End => None,
+    }
+}
+
+/// The open event of an earlier year that has the number.
+fn holder(board: &Board, command: &Command) -> Option<NoticeRefusal>
+    requires { IsConsistent board.now.rows command.now.at }
+    ensures { result ≡ option_map held_by (find (holds command.now.at (new_event command.now)) board.now.rows) }
+{
+    let event = new_event(command);
+    let holder = open_event(board, command)?;
+    if holder.year < event.year {
+        Some(NoticeRefusal::NumberHeld { event: holder })
+    } else {
+        None
+    }
+}
+
+/// NumberHeld: an open event of an earlier year has the number that is to be opened.
+fn number_held(board: &Board, command: &Command) -> Option<NoticeRefusal>
+    requires { IsConsistent board.now.rows command.now.at }
+    ensures { result ≡ number_held board.now.rows command.now command.now.deed }
+{
+    match &command.deed {
+        Deed::Open(_) => holder(board, command),
+        Deed::Join(_) | Deed::End => None,
+    }
+}
+
+/// That no event of the hazard and number is open.
+fn none_open(board: &Board, command: &Command) -> Option<NoticeRefusal>
+    ensures { result ≡ none_open board.now.rows command.now }
+{
+    match open_event(board, command) {
+        Some(_) => None,
+        None => Some(NoticeRefusal::NoWatch),
+    }
+}
+
+/// NoWatch: a join or an end, and no event of the hazard and number is open.
+fn no_watch(board: &Board, command: &Command) -> Option<NoticeRefusal>
+    ensures { result ≡ no_watch board.now.rows command.now command.now.deed }
+{
+    match &command.deed {
+        Deed::Open(_) => None,
+        Deed::Join(_) | Deed::End => none_open(board, command),
+    }
+}
+
+/// Whether the event has a row in the zone that no line has ended and that is not live.
+fn was_left(board: &Board, t: Minute, event: &Event, zone: &Zone) -> bool
+    ensures { result ≡ was_left board.now.rows t event.now zone.now }
+{
+    match board.row(*event, *zone) {
+        Some(row) => !row.ended && !is_live(&row, t),
+        None => false,
+    }
+}
+
+/// The first zone that the event has left before.
+fn first_left(board: &Board, t: Minute, event: &Event, zones: &[Zone]) -> Option<Zone>
+    ensures { result ≡ find (was_left board.now.rows t event.now) zones.now }
+{
+    for zone in zones {
+        if was_left(board, t, event, zone) {
+            return Some(*zone);
+        }
+    }
+    None
+}
+
+fn left_in(board: &Board, command: &Command, event: Option<Event>) -> Option<NoticeRefusal>
+    ensures { result ≡ left_in board.now.rows command.now event }
+{
+    let event = event?;
+    match first_left(board, command.at, &event, command.zones.as_slice()) {
+        Some(zone) => Some(NoticeRefusal::LeftBefore { zone }),
+        None => None,
+    }
+}
+
+/// LeftBefore: a join in a zone with a row that no line has ended and that is not live; the first one is named.
+fn left(board: &Board, command: &Command) -> Option<NoticeRefusal>
+    ensures { result ≡ left board.now.rows command.now command.now.deed }
+{
+    match &command.deed {
+        Deed::Join(_) => left_in(board, command, open_event(board, command)),
+        Deed::Open(_) | Deed::End => None,
+    }
+}
+
+/// Whether the event has no row in the zone that a line may still end.
+fn is_gone(board: &Board, t: Minute, event: &Event, zone: &Zone) -> bool
+    ensures { result ≡ is_gone board.now.rows t event.now zone.now }
+{
+    match board.row(*event, *zone) {
+        Some(row) => !keeps_open(&row, t),
+        None => true,
+    }
+}
+
+/// The first zone in which the event can't be ended.
+fn first_gone(board: &Board, t: Minute, event: &Event, zones: &[Zone]) -> Option<Zone>
+    ensures { result ≡ find (is_gone board.now.rows t event.now) zones.now }
+{
+    for zone in zones {
+        if is_gone(board, t, event, zone) {
+            return Some(*zone);
+        }
+    }
+    None
+}
+
+fn gone_in(board: &Board, command: &Command, event: Option<Event>) -> Option<NoticeRefusal>
+    ensures { result ≡ gone_in board.now.rows command.now event }
+{
+    let event = event?;
+    match first_gone(board, command.at, &event, command.zones.as_slice()) {
+        Some(zone) => Some(NoticeRefusal::NotLive { zone }),
+        None => None,
+    }
+}
+
+/// NotLive: an end in a zone without a row, on an ended one, or more than half an hour after its end; the first one is named.
+fn gone(board: &Board, command: &Command) -> Option<NoticeRefusal>
+    ensures { result ≡ gone board.now.rows command.now command.now.deed }
+{
+    match &command.deed {
+        Deed::End => gone_in(board, command, open_event(board, command)),
+        Deed::Open(_) | Deed::Join(_) => None,
+    }
+}
+
+/// The first rule that the command breaks by the rows.
+#[tactic(auto, unfolding(crate::specs::Commands::broken_by_rows))]
+fn broken_by_rows(board: &Board, command: &Command) -> Option<NoticeRefusal>
+    requires { IsConsistent board.now.rows command.now.at }
+    ensures { result ≡ broken_by_rows board.now.rows command.now }
+{
+    let found = number_used(board, command);
+    if found.is_some() {
+        return found;
+    }
+    let found = number_held(board, command);
+    if found.is_some() {
+        return found;
+    }
+    let found = no_watch(board, command);
+    if found.is_some() {
+        return found;
+    }
+    let found = left(board, command);
+    if found.is_some() {
+        return found;
+    }
+    gone(board, command)
+}
+
+/// The first rule that the command breaks, but for that on the length of its notice. `last` is the minute of the last accepted command.
+pub fn broken(board: &Board, last: Minute, command: &Command) -> Option<NoticeRefusal>
+    requires { IsConsistent board.now.rows last }
+    ensures { result ≡ broken_with board.now.rows last command.now }
+{
+    consistent_rows_stay_consistent();
+    let found = broken_by_itself(last, command);
+    if found.is_some() {
+        return found;
+    }
+    broken_by_rows(board, command)
+}
