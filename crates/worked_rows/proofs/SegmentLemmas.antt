@@ -1,5 +1,5 @@
 -- The segments of a plan can be written.
-use Rattle.std.proofs.Common.{◌≡◌, ◌≢◌, ℕ, ◌≤◌, List, [], ◌∷◌, ap, sym, subst}
+use Rattle.std.proofs.Common.{◌≢◌, ℕ, ◌≤◌, List, [], ap, subst}
 use Rattle.std.specs.List.{All, AllByRecursion}
 use Rattle.std.specs.List.Sorted.{IsStrictlySortedBy}
 use Rattle.std.proofs.lemmas.List.Elements.{All-contains}

@@ -1,6 +1,6 @@
 -- A day at the desk, and what may be sent on it.
 use Rattle.std.specs.Prelude.{◌≡◌, ◌≤◌, ◌+◌, ◌==◌, ◌||◌, ◌&&◌, ℕ, Bool, true, false, List, [], fold, length, get_or, count_by, min, if◌then◌else◌, Option, Some, None, unwrap_or}
-use Rattle.std.specs.List.{All, AllByRecursion, AllPairs}
+use Rattle.std.specs.List.{All, AllPairs}
 use Rattle.hazard_types.specs.contracts.codes.CategoryPartialEq.TheImpl as category
 use Rattle.hazard_types.specs.declared.codes.Category.{Category}
 use Rattle.hazard_types.specs.declared.codes.Category.TheVariants.{Flw, Fls}

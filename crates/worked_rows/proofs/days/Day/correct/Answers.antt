@@ -1,25 +1,18 @@
 -- What stood at the last minute stands now, and after the correction.
-use Rattle.std.proofs.Common.{rules, ◌≡◌, ◌∙◌, ◌+◌, ◌<◌, List, Some, count_by, get_or, length, ap, sym, subst}
-use Rattle.std.specs.List.{All, AllPairs}
+use Rattle.std.proofs.Common.{rules, ◌≡◌, ◌∙◌, ◌<◌, List, Some, get_or, length, ap, sym, subst}
+use Rattle.std.specs.List.{AllPairs}
 use Rattle.std.specs.List.Sorted.{IsStrictlySortedBy}
-use Rattle.hazard_types.specs.declared.hazard.Event.{Event}
 use Rattle.hazard_types.specs.declared.line.Line.{Line}
 use Rattle.hazard_types.specs.declared.line.Row.{Row}
 use Rattle.hazard_types.specs.declared.request.Sent.{Sent}
-use Rattle.event_life.specs.Openings.{is_numbered}
 use Rattle.event_life.specs.Products.{by_key, rows_after}
-use Rattle.event_numbers.specs.declared.Count.{Count}
-use Rattle.event_numbers.specs.Counts.{count_of, DrawsAll}
 use Rattle.segmenter.specs.Said.{IsApart}
-use Rattle.action_planner.specs.Conditions.{CanPlan}
 use Rattle.action_planner.specs.Corrections.{corrected_lines}
-use Rattle.action_planner.specs.Lines.{planned_lines}
-use Rattle.action_planner.specs.Placed.{placed, opened}
 use Rattle.action_planner.specs.Standing.{Stands}
-use Rattle.worked_rows.specs.Days.{HasApart, IsAt, Standing, last_of, letters_of, original_of}
-use Rattle.worked_rows.proofs.DayLemmas.{apart_at, may_plan, named, one_more, only_one}
+use Rattle.worked_rows.specs.Days.{IsAt, Standing, last_of, letters_of, original_of}
+use Rattle.worked_rows.proofs.DayLemmas.{apart_at, named, one_more, only_one}
 use Rattle.worked_rows.proofs.SegmentLemmas.{can_be_written}
-use Rattle.action_planner.specs.Corrections.{CanCorrect, broken_correction}
+use Rattle.action_planner.specs.Corrections.{broken_correction}
 use Rattle.worked_rows.proofs.days.Day.correct.Goals as goal
 
 pub plan_correction-requires : goal.plan_correction-requires

@@ -1,6 +1,6 @@
 -- What stood at the last minute stands now, and after the draft.
 use Rattle.std.proofs.Common.{◌≡◌, ◌∙◌, ◌+◌, List, count_by, ap, sym, subst}
-use Rattle.std.specs.List.{All, AllPairs}
+use Rattle.std.specs.List.{AllPairs}
 use Rattle.std.specs.List.Sorted.{IsStrictlySortedBy}
 use Rattle.hazard_types.specs.declared.hazard.Event.{Event}
 use Rattle.hazard_types.specs.declared.line.Line.{Line}
@@ -12,12 +12,11 @@ use Rattle.event_numbers.specs.declared.Count.{Count}
 use Rattle.event_numbers.specs.Counts.{count_of, DrawsAll}
 use Rattle.segmenter.specs.Said.{IsApart}
 use Rattle.action_planner.specs.Conditions.{CanPlan}
-use Rattle.action_planner.specs.Corrections.{corrected_lines}
 use Rattle.action_planner.specs.Lines.{planned_lines}
 use Rattle.action_planner.specs.Placed.{placed, opened}
 use Rattle.action_planner.specs.Standing.{Stands}
-use Rattle.worked_rows.specs.Days.{HasApart, Standing}
-use Rattle.worked_rows.proofs.DayLemmas.{apart_at, may_plan, one_more}
+use Rattle.worked_rows.specs.Days.{Standing}
+use Rattle.worked_rows.proofs.DayLemmas.{may_plan, one_more}
 use Rattle.worked_rows.proofs.SegmentLemmas.{can_be_written}
 use Rattle.worked_rows.proofs.days.Day.send.Goals as goal
 
