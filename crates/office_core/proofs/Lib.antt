@@ -19,7 +19,6 @@ pub mod FoundLemmas
 pub mod HeardLemmas
 pub mod MakingLemmas
 pub mod UpdateLemmas
-pub mod RoomLemmas
 mod DraftChanges
 pub mod BrokenLemmas
 pub mod ReadingLemmas

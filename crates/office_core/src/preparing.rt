@@ -23,12 +23,11 @@ use crate::soundness_laws::{
     sound_products_may_be_planned,
 };
 use event_numbers::Numbers;
-use hazard_board::Board;
+use hazard_board::{Board, openings};
 use hazard_types::{Desk, Entry, Minute, Oom, Or, Refusal, Request, Sent, equality_is_identity};
 use std::alloc::Global;
 
-/// Takes memory for a product: a row for each of its lines, a count for each event that it opens, and its own place.
-#[tactic(auto, using(crate::proofs::RoomLemmas::few_openings))]
+/// Takes memory for a product: a row for each line that opens one, a count for each event that it opens, and its own place.
 fn make_room(
     board: &mut Board,
     numbers: &mut Numbers,
@@ -45,7 +44,7 @@ fn make_room(
     ensures counts_room { OnOk result (length made.now.opened ≤ numbers.new.spare) }
     ensures products_room { OnOk result (1 ≤ vec_capacity products.new - vec_len products.new) }
 {
-    board.reserve(made.sent.lines.len())?;
+    board.reserve(openings(made.sent.lines.as_slice()))?;
     numbers.reserve(made.opened.len())?;
     products.reserve(1)?;
     Ok(())
