@@ -26,8 +26,3 @@ pub use stream_memory::{MemSink, MemSource};
 pub use streams::{Sink, Source, write_whole};
 pub use sure_disk::SureDisk;
 pub use sure_streams::{SureSink, SureSource};
-
-#[cfg(test)]
-mod disk_tests;
-#[cfg(test)]
-mod tests;

@@ -9,7 +9,7 @@ use std::io::{Read, Write};
 #[derive(Drop)]
 pub struct StdSource<R> {
     inner: R,
-    pub(crate) faults: u64,
+    faults: u64,
 }
 
 impl<R: Read> StdSource<R> {
@@ -40,7 +40,7 @@ impl<R: Read> Source for StdSource<R> {
 #[derive(Drop)]
 pub struct StdSink<W> {
     inner: W,
-    pub(crate) faults: u64,
+    faults: u64,
 }
 
 impl<W: Write> StdSink<W> {

@@ -36,7 +36,11 @@ fn call_of(alloc: Global, word: &str) -> Result<Option<Call>, Oom> {
     };
     let at = u64::from(at);
     if name == "read" {
-        return Ok(what.parse::<u16>().ok().map(|count| Call::Read { at, count }));
+        return Ok(
+            what.parse::<u16>()
+                .ok()
+                .map(|count| Call::Read { at, count }),
+        );
     }
     let Some(bytes) = bytes_of(alloc, what)? else {
         return Ok(None);

@@ -6,6 +6,7 @@ mod disks;
 mod journals;
 mod links;
 mod ports;
+mod real;
 mod script;
 mod streams;
 mod told;
@@ -16,5 +17,5 @@ use std::process::ExitCode;
 use worked_lines::work_lines;
 
 fn main(rt: HostRuntime) -> ExitCode {
-    work_lines(&rt, Script {})
+    work_lines(&rt, Script { rt: &rt })
 }

@@ -3,6 +3,7 @@ use crate::disks::{disk_row, sure_disk_row};
 use crate::journals::{journal_row, long_row, opened_row};
 use crate::links::{link_row, peer_row};
 use crate::ports::{dialer_row, port_row};
+use crate::real::{broken_row, file_row, network_row, std_row, system_clock_row};
 use crate::streams::{clock_row, sink_row, source_row, sure_sink_row, sure_source_row};
 use crate::told::told_by;
 use hazard_types::Oom;
@@ -11,7 +12,9 @@ use worked_lines::Work;
 
 /// Keeps nothing from line to line.
 #[derive(Drop)]
-pub struct Script {}
+pub struct Script<'a> {
+    pub rt: &'a HostRuntime,
+}
 
 /// The answer of a form, told by these words.
 fn told_row(alloc: Global, form: &str, words: &str, calls: &str) -> Result<String, Oom> {
@@ -30,29 +33,35 @@ fn told_row(alloc: Global, form: &str, words: &str, calls: &str) -> Result<Strin
         "journal" => journal_row(alloc, &told, calls),
         "opened" => opened_row(alloc, &told),
         "long" => long_row(alloc, &told),
+        "std" => std_row(alloc, &told, calls),
         _ => Ok(String::from_str(alloc, "unread")?),
     }
 }
 
 /// The answer of a line: `FORM WORDS : CALLS`.
-fn row(alloc: Global, line: &str) -> Result<String, Oom> {
+fn row(rt: &HostRuntime, line: &str) -> Result<String, Oom> {
+    let alloc = rt.alloc();
     let (made, calls) = line.split_once(" :").unwrap_or((line, ""));
     let (form, words) = made.split_once(' ').unwrap_or((made, ""));
     match form {
         "clock" => clock_row(alloc, words, calls),
         "port" => port_row(alloc, words, calls),
         "dialer" => dialer_row(alloc, words, calls),
+        "broken" => broken_row(alloc),
+        "file" => file_row(rt),
+        "system_clock" => system_clock_row(rt),
+        "network" => network_row(rt),
         _ => told_row(alloc, form, words, calls),
     }
 }
 
-impl Work for Script {
+impl<'a> Work for Script<'a> {
     /// A line that is empty or a remark is answered by nothing.
     fn work(&mut self, alloc: Global, line: &str) -> Result<String, Oom> {
         if line.is_empty() || line.starts_with('#') {
             return Ok(String::new(alloc));
         }
-        let mut answer = row(alloc, line)?;
+        let mut answer = row(self.rt, line)?;
         answer.push('\n')?;
         Ok(answer)
     }

@@ -12,7 +12,7 @@ loop-list-preserved c =
       ends = tt;
       place = omega (arith, ap length step, c.loop-list.invariant.place);
       doors = ap (λ (l : List DoorInMemory). l ++ doors_with c.next.new.self.rest.items (drop (c.loop-list.place + 1) c.args.failing.now)) made
-        ∙ made_on c.loop-list.doors.items c.in-Some.list c.next.new.self.rest.items c.args.failing.now c.loop-list.place (doors_with c.args.links c.args.failing.now) c.in_ok-told.told c.in_ok-told.ensures
+          ∙ made_on c.loop-list.doors.items c.in-Some.list c.next.new.self.rest.items c.args.failing.now c.loop-list.place (doors_with c.args.links c.args.failing.now) c.in_ok-told.told c.in_ok-told.ensures
           (subst (λ (l : List (List LinkInMemory)). c.loop-list.doors.items ++ doors_with l (drop c.loop-list.place c.args.failing.now) ≡ doors_with c.args.links c.args.failing.now) step c.loop-list.invariant.doors);
       untouched = all_tail (λ (l : List LinkInMemory). All IsUntouched l) c.in-Some.list c.next.new.self.rest.items (subst (λ (l : List (List LinkInMemory)). All (λ (l : List LinkInMemory). All IsUntouched l) l) step c.loop-list.invariant.untouched);
     }

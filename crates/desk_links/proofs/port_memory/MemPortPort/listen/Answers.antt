@@ -12,7 +12,7 @@ loop-preserved c =
       within = omega (arith, c.loop-test.true);
       room = omega (arith, c.push_reserved.ensures.capacity, c.loop.invariant.room);
       dealt = ap (λ (l : List DoorInMemory). l ++ dealt (c.args.doors - (c.loop.counter + 1)) c.next_door.new.doors.items) more
-        ∙ dealt_on c.loop.list.items (c.args.doors - c.loop.counter) (c.args.doors - (c.loop.counter + 1)) (dealt c.args.doors c.args.self.now.doors) c.loop.self-inside.doors.items c.next_door.new.doors.items c.in_ok-door.door fewer c.in_ok-door.ensures.first c.in_ok-door.ensures.others c.loop.invariant.dealt;
+          ∙ dealt_on c.loop.list.items (c.args.doors - c.loop.counter) (c.args.doors - (c.loop.counter + 1)) (dealt c.args.doors c.args.self.now.doors) c.loop.self-inside.doors.items c.next_door.new.doors.items c.in_ok-door.door fewer c.in_ok-door.ensures.first c.in_ok-door.ensures.others c.loop.invariant.dealt;
       idle = subst (λ (l : List DoorInMemory). All IsIdle l) (sym c.in_ok-door.ensures.others) (all_rest IsIdle c.loop.self-inside.doors.items c.loop.invariant.idle);
       back = c.loop.invariant.back;
       faults = c.loop.invariant.faults;
