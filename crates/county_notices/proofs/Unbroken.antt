@@ -17,7 +17,7 @@ use Rattle.notice_json.specs.declared.command.Command.{Command}
 use Rattle.notice_json.specs.declared.command.Deed.{Deed}
 use Rattle.notice_json.specs.declared.command.Deed.TheVariants as deed
 use Rattle.notice_json.specs.declared.refusal.NoticeRefusal.{NoticeRefusal}
-use Rattle.county_notices.specs.Commands.{Noticed, bad_end, bad_zones, broken, broken_by_itself, broken_by_rows, gone, gone_in, has_bad_end, held_by, is_gone, left, left_before, left_in, no_watch, not_county, not_live, number_held, number_used, time_back, time_out, was_left}
+use Rattle.county_notices.specs.Commands.{Noticed, bad_end, bad_zones, broken, broken_by_itself, broken_by_rows, gone_in, has_bad_end, held_by, is_gone, left_before, county_left, left_in, no_watch, not_county, county_gone, not_live, number_held, number_used, time_back, time_out, was_left}
 use Rattle.county_notices.specs.Lines.{event_by, new_event, open_event}
 use Rattle.county_notices.proofs.LineLemmas.{IsFitFor, MayBe, going_is}
 use Rattle.county_notices.proofs.RuleLemmas.{none_given, not_refused}
@@ -79,15 +79,15 @@ module _ (rows : List Row) (c : Command) where
   joined end None is h g = cc
   joined end (Some e) is h g =
       let going = going_is rows (hazard_of c.watch) c.number c.at e is in
-      record { event = e; is = is; hazard = going.hazard; number = going.number; fit = going.going; may = find_none (was_left rows c.at e) c.zones (map_none left_before (find (was_left rows c.at e) c.zones) g) }
+      record { event = e; is = is; hazard = going.hazard; number = going.number; fit = going.going; may = find_none (was_left rows c.at e) c.zones (map_none county_left (find (was_left rows c.at e) c.zones) g) }
 
   ended : (o : Option Event) → open_event rows c ≡ o → cond (is_none o) (Some Rattle.notice_json.specs.declared.refusal.NoticeRefusal.TheVariants.NoWatch) None ≡ None → gone_in rows c o ≡ None → IsKeptBy rows c deed.End
   ended None is h g = cc
   ended (Some e) is h g =
       let going = going_is rows (hazard_of c.watch) c.number c.at e is in
-      record { event = e; is = is; hazard = going.hazard; number = going.number; fit = going.going; may = find_none (is_gone rows c.at e) c.zones (map_none not_live (find (is_gone rows c.at e) c.zones) g) }
+      record { event = e; is = is; hazard = going.hazard; number = going.number; fit = going.going; may = find_none (is_gone rows c.at e) c.zones (map_none county_gone (find (is_gone rows c.at e) c.zones) g) }
 
-  kept_by : (d : Deed) → number_used rows c d ≡ None → number_held rows c d ≡ None → no_watch rows c d ≡ None → left rows c d ≡ None → gone rows c d ≡ None → IsKeptBy rows c d
+  kept_by : (d : Deed) → number_used rows c d ≡ None → number_held rows c d ≡ None → no_watch rows c d ≡ None → left_before rows c d ≡ None → not_live rows c d ≡ None → IsKeptBy rows c d
   kept_by (deed.Open end) used held free was gone_none =
       let e = new_event c in
       record {
@@ -109,8 +109,8 @@ kept s c h =
     let used = none_given (number_used s.rows c c.deed) _ p.1 in
     let held = none_given (number_held s.rows c c.deed) _ used.1 in
     let free = none_given (no_watch s.rows c c.deed) _ held.1 in
-    let was = none_given (left s.rows c c.deed) _ free.1 in
-    let none = none_given (gone s.rows c c.deed) _ was.1 in
+    let was = none_given (left_before s.rows c c.deed) _ free.1 in
+    let none = none_given (not_live s.rows c c.deed) _ was.1 in
     let k = kept_by s.rows c c.deed used.0 held.0 free.0 was.0 none.0 in
     record {
       event = k.event;

@@ -43,11 +43,11 @@ bad_zones c = refused_if (not (are_zones c.zones)) refusal.BadZones
 abbrev pub is_public : Place → Bool
 is_public z = kinds.eq-value.it z.kind kind.Z
 
-abbrev pub county_wanted : Place → NoticeRefusal
-county_wanted z = refusal.NotCounty z
+abbrev pub no_county : Place → NoticeRefusal
+no_county z = refusal.NotCounty z
 
 abbrev pub not_county : Command → Option NoticeRefusal
-not_county c = option_map county_wanted (find is_public c.zones)
+not_county c = option_map no_county (find is_public c.zones)
 
 -- BadEnd: the end is not after the minute
 abbrev pub has_bad_end : ℕ → Deed → Bool
@@ -89,41 +89,41 @@ has_lapsed t row = not row.ended && not (is_live t row)
 abbrev pub was_left : List Row → ℕ → Event → Place → Bool
 was_left rows t e z = has_row_by (has_lapsed t) (row_at rows e z)
 
-abbrev pub left_before : Place → NoticeRefusal
-left_before z = refusal.LeftBefore z
+abbrev pub county_left : Place → NoticeRefusal
+county_left z = refusal.LeftBefore z
 
 -- NotLive: an end in a zone without a row, on an ended one, or more than half an hour after its end
 abbrev pub is_gone : List Row → ℕ → Event → Place → Bool
 is_gone rows t e z = not (has_row_by (keeps_open t) (row_at rows e z))
 
-abbrev pub not_live : Place → NoticeRefusal
-not_live z = refusal.NotLive z
+abbrev pub county_gone : Place → NoticeRefusal
+county_gone z = refusal.NotLive z
 
 -- of the zones as written the first is named
 abbrev pub left_in : List Row → Command → Option Event → Option NoticeRefusal
 left_in rows c None = None
-left_in rows c (Some e) = option_map left_before (find (was_left rows c.at e) c.zones)
+left_in rows c (Some e) = option_map county_left (find (was_left rows c.at e) c.zones)
 
 abbrev pub gone_in : List Row → Command → Option Event → Option NoticeRefusal
 gone_in rows c None = None
-gone_in rows c (Some e) = option_map not_live (find (is_gone rows c.at e) c.zones)
+gone_in rows c (Some e) = option_map county_gone (find (is_gone rows c.at e) c.zones)
 
-abbrev pub left : List Row → Command → Deed → Option NoticeRefusal
-left rows c (deed.Open end) = None
-left rows c (deed.Join end) = left_in rows c (open_event rows c)
-left rows c deed.End = None
+abbrev pub left_before : List Row → Command → Deed → Option NoticeRefusal
+left_before rows c (deed.Open end) = None
+left_before rows c (deed.Join end) = left_in rows c (open_event rows c)
+left_before rows c deed.End = None
 
-abbrev pub gone : List Row → Command → Deed → Option NoticeRefusal
-gone rows c (deed.Open end) = None
-gone rows c (deed.Join end) = None
-gone rows c deed.End = gone_in rows c (open_event rows c)
+abbrev pub not_live : List Row → Command → Deed → Option NoticeRefusal
+not_live rows c (deed.Open end) = None
+not_live rows c (deed.Join end) = None
+not_live rows c deed.End = gone_in rows c (open_event rows c)
 
 -- The rules, in the order in which they are asked: those of the command by itself, then those by the rows. The one on the length of the notice is asked behind them.
 abbrev pub command_rules : ℕ → Command → List (Option NoticeRefusal)
 command_rules last c = time_out c ∷ time_back last c ∷ bad_zones c ∷ not_county c ∷ bad_end c ∷ []
 
 abbrev pub row_rules : List Row → Command → List (Option NoticeRefusal)
-row_rules rows c = number_used rows c c.deed ∷ number_held rows c c.deed ∷ no_watch rows c c.deed ∷ left rows c c.deed ∷ gone rows c c.deed ∷ []
+row_rules rows c = number_used rows c c.deed ∷ number_held rows c c.deed ∷ no_watch rows c c.deed ∷ left_before rows c c.deed ∷ not_live rows c c.deed ∷ []
 
 -- the first rule that is broken, with what it names
 unfoldable pub broken_by_itself : ℕ → Command → Option NoticeRefusal

@@ -49,7 +49,7 @@ struct Judged {
 }
 
 /// A refusal as a line.
-fn told(alloc: Global, refusal: &NoticeRefusal) -> Result<Reply, Oom>
+fn refusal_reply(alloc: Global, refusal: &NoticeRefusal) -> Result<Reply, Oom>
     ensures { IfOk result (λ reply. bytes_of reply ≡ refusal_line refusal.now) }
 {
     Ok(Reply::Line(refusal_text(alloc, refusal)?))
@@ -128,7 +128,7 @@ impl Notices {
     {
         match self.accept(alloc, command) {
             Ok(text) => Ok(Reply::Whole(text)),
-            Err(Or::No(refusal)) => told(alloc, &refusal),
+            Err(Or::No(refusal)) => refusal_reply(alloc, &refusal),
             Err(Or::OutOfMemory) => Err(Oom),
         }
     }
@@ -141,14 +141,14 @@ impl Answers for Notices {
 
     fn answer(&mut self, alloc: Global, line: Option<&[u8]>) -> Result<Reply, Oom> {
         let Some(line) = line else {
-            return told(alloc, &NoticeRefusal::LineTooLong);
+            return refusal_reply(alloc, &NoticeRefusal::LineTooLong);
         };
         if line.is_empty() {
             return Ok(Reply::Nothing);
         }
         match read_command(alloc, line) {
             Ok(command) => self.answer_command(alloc, &command),
-            Err(Or::No(refusal)) => told(alloc, &refusal),
+            Err(Or::No(refusal)) => refusal_reply(alloc, &refusal),
             Err(Or::OutOfMemory) => Err(Oom),
         }
     }

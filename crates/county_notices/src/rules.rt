@@ -4,7 +4,7 @@ ghost use Rattle.event_life.specs.Products.{has_rows};
 ghost use Rattle.hazard_board.specs.Consistent.{IsConsistent};
 ghost use Rattle.action_planner.specs.Fitting.{are_zones};
 ghost use Rattle.action_planner.specs.Offences.{holds};
-ghost use Rattle.county_notices.specs.Commands.{broken_with, broken_by_itself, broken_by_rows, time_out, time_back, bad_zones, is_public, county_wanted, not_county, has_bad_end, bad_end, held_by, left_before, not_live, number_used, number_held, none_open, no_watch, was_left, is_gone, left_in, gone_in, left, gone};
+ghost use Rattle.county_notices.specs.Commands.{broken_with, broken_by_itself, broken_by_rows, time_out, time_back, bad_zones, is_public, no_county, not_county, has_bad_end, bad_end, held_by, county_left, county_gone, number_used, number_held, none_open, no_watch, was_left, is_gone, left_in, gone_in, left_before, not_live};
 ghost use Rattle.county_notices.specs.Lines.{new_event};
 
 use crate::lines::{new_event, open_event};
@@ -224,8 +224,8 @@ fn left_in(board: &Board, command: &Command, event: Option<Event>) -> Option<Not
 }
 
 /// LeftBefore: a join in a zone with a row that no line has ended and that is not live; the first one is named.
-fn left(board: &Board, command: &Command) -> Option<NoticeRefusal>
-    ensures { result ≡ left board.now.rows command.now command.now.deed }
+fn left_before(board: &Board, command: &Command) -> Option<NoticeRefusal>
+    ensures { result ≡ left_before board.now.rows command.now command.now.deed }
 {
     match &command.deed {
         Deed::Join(_) => left_in(board, command, open_event(board, command)),
@@ -266,8 +266,8 @@ fn gone_in(board: &Board, command: &Command, event: Option<Event>) -> Option<Not
 }
 
 /// NotLive: an end in a zone without a row, on an ended one, or more than half an hour after its end; the first one is named.
-fn gone(board: &Board, command: &Command) -> Option<NoticeRefusal>
-    ensures { result ≡ gone board.now.rows command.now command.now.deed }
+fn not_live(board: &Board, command: &Command) -> Option<NoticeRefusal>
+    ensures { result ≡ not_live board.now.rows command.now command.now.deed }
 {
     match &command.deed {
         Deed::End => gone_in(board, command, open_event(board, command)),
@@ -293,11 +293,11 @@ fn broken_by_rows(board: &Board, command: &Command) -> Option<NoticeRefusal>
     if found.is_some() {
         return found;
     }
-    let found = left(board, command);
+    let found = left_before(board, command);
     if found.is_some() {
         return found;
     }
-    gone(board, command)
+    not_live(board, command)
 }
 
 /// The first rule that the command breaks, but for that on the length of its notice. `last` is the minute of the last accepted command.
