@@ -53,12 +53,25 @@ pub fn run_words(
     disk: SureDisk,
 ) -> Result<Run, Oom> {
     let words = words_of(alloc, line)?;
-    let mut source = MemSource::new(alloc, input.as_slice(), given.piece.max(1), &given.bad_reads)?;
+    let mut source = MemSource::new(
+        alloc,
+        input.as_slice(),
+        given.piece.max(1),
+        &given.bad_reads,
+    )?;
     let mut sink = MemSink::new(alloc, &given.bad_writes)?;
     let minutes = List::from_slice(alloc, &[MINUTE])?;
     let mut clock = SetClock::new(&minutes)?;
     let limit = given.limit.min(LIMIT);
-    let ended = desk_within(alloc, &words, &mut source, &mut sink, disk, &mut clock, limit);
+    let ended = desk_within(
+        alloc,
+        &words,
+        &mut source,
+        &mut sink,
+        disk,
+        &mut clock,
+        limit,
+    );
     let text = sink.taken().clone()?;
     Ok(Run {
         status: ended.status,
