@@ -9,6 +9,7 @@ mod Appending
 mod Answering
 mod Parting
 mod Telling
+mod Placing
 mod Replays
 mod Taking
 mod Opening

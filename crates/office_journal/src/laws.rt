@@ -22,10 +22,12 @@ impl<D: Disk> KeptOffice<D> {
     }
 }
 
-/// A file stands for one settings' file and one history, and is then neither damaged nor fresh.
+/// A file stands for one settings' file and one history, and is then neither damaged nor fresh. A damaged one is damaged
+/// at one place.
 pub fn files_hold_one_history()
     ensures one { (bytes file other : List ℕ) (h g : History) → ImageOf bytes file h → ImageOf bytes other g → (file ≡ other) × (h ≡ g) }
     ensures damaged { (bytes file : List ℕ) (h : History) (at : ℕ) → ImageOf bytes file h → IsDamagedAt bytes at → ⊥ }
+    ensures place { (bytes : List ℕ) (at other : ℕ) → IsDamagedAt bytes at → IsDamagedAt bytes other → at ≡ other }
     ensures fresh { (bytes file : List ℕ) (h : History) → ImageOf bytes file h → Fresh bytes → ⊥ }
 {
     a_request_has_one_answer();
