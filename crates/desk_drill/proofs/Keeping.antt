@@ -1,11 +1,14 @@
 -- What a drill keeps stands before its first request and behind each.
-use Rattle.std.proofs.Common.{◌≡◌, ◌≤◌, ◌<◌, ◌==◌, ◌∙◌, ◌+◌, ◌++◌, inl, inr, ℕ, ℤ, pos, Bool, true, false, cond, List, [], ◌∷◌, length, map, set, slice_index, nat_le, Option, None, Some, IsSome, refl, ap, sym, subst, arith, length-append}
+use Rattle.std.proofs.Common.{◌≡◌, ◌≤◌, ◌<◌, ◌==◌, ◌∙◌, ◌+◌, ◌++◌, inl, inr, ℕ, ℤ, pos, Bool, true, false, cond, List, [], ◌∷◌, length, map, set, slice_index, nat_le, Option, None, Some, IsSome, IfSome, OnOk, Result, Ok, Err, option_map, refl, ap, sym, subst, arith, length-append}
 use Rattle.std.specs.List.{AllByRecursion}
 use Rattle.std.specs.Option.{option_or}
 use Rattle.std.specs.Str.{bytes_eq}
+use Rattle.std.proofs.lemmas.List.{length-map}
 use Rattle.std.proofs.lemmas.Bool.Decides.{nat_tests}
 use Rattle.hazard_types.specs.declared.codes.Class.{Class}
 use Rattle.hazard_types.specs.declared.codes.Class.TheVariants as classes
+use Rattle.hazard_types.specs.declared.hazard.Event.{Event}
+use Rattle.hazard_types.specs.declared.refusal.Refusal.{Refusal}
 use Rattle.hazard_types.specs.declared.refusal.Refusal.TheVariants as refusal
 use Rattle.hazard_types.specs.declared.request.Edition.TheVariants.{One}
 use Rattle.hazard_types.specs.declared.request.Entry.{Entry}
@@ -19,7 +22,7 @@ use Rattle.product_decoder.specs.Decoded.{decode}
 use Rattle.office_core.specs.Agreement.{ReadsAsTheBoard, product_in, products_in, texts_of}
 use Rattle.office_core.specs.Making.{broken_product, issued, made_of, products_full}
 use Rattle.office_core.specs.State.{State, first_state, last_number, last_of, said_by, said_in}
-use Rattle.office_core.specs.Step.{Accepts, Repeats, entry_of, state_after}
+use Rattle.office_core.specs.Step.{Accepts, Refuses, Repeats, entry_of, state_after}
 use Rattle.office_core.specs.declared.heard.Heard.{Heard}
 use Rattle.office_core.specs.declared.heard.Said.{Said}
 use Rattle.office_core.specs.declared.made.Made.{Made}
@@ -29,8 +32,8 @@ use Rattle.desk_drill.specs.Requests.{Issued, desk_at}
 use Rattle.desk_drill.specs.Tellings.{fault_of, faults_in}
 use Rattle.desk_drill.specs.declared.desk.DrillDesk.{DrillDesk}
 use Rattle.desk_drill.specs.declared.texts.TextReader.{TextReader}
-use Rattle.desk_drill.proofs.Agreeing.{faults_more, products_more}
-use Rattle.desk_drill.proofs.Counting.{low_after, number_at, numbers_after, said_other}
+use Rattle.desk_drill.proofs.Agreeing.{faults_more, few_products, no_faults, products_more}
+use Rattle.desk_drill.proofs.Counting.{low_after, low_at, number_at, numbers_after, said_other}
 
 abbrev first : State
 first = first_state drill_settings classes.O One
@@ -182,3 +185,108 @@ answers_accepted d e place t part entry one accepts is goes = inr (record {
   accepted = accepts;
   after = same_drilled _ _ _ _ _ _ _ _ (goes.state ∙ ap (λ (x : Entry). state_after d.office.state x (Some one)) is) goes.accepted goes.refused goes.opened;
 })
+
+-- ---- a request of the desk at a place
+
+-- it was accepted, and made a product
+pub record IsTaken (s : State) (place t : ℕ) (part : PutPart) (entry : Entry) (made : Option Made) : Type 0 where
+  pub one : Made
+  pub is : made ≡ Some one
+  pub room : length s.products < 8192
+  pub accepts : Accepts s (desk_at place) (next_number s (desk_at place)) (Issue part) (pos t) entry.minute (Some one)
+  pub entry_is : entry ≡ entry_of s (desk_at place) (next_number s (desk_at place)) (Issue part) entry.minute (Some one)
+
+pub taken : (s' s : State) (d : List ℕ) (n place t : ℕ) (r : ℤ) (part : PutPart) (entry : Entry) (made : Option Made)
+    → s' ≡ s → d ≡ desk_at place → n ≡ next_number s (desk_at place) → r ≡ pos t
+    → Accepts s' d n (Issue part) r entry.minute made → entry ≡ entry_of s' d n (Issue part) entry.minute made → IsTaken s place t part entry made
+taken s' s d n place t r part entry made es ed en er a is =
+    let a1 = subst (λ (x : State). Accepts x d n (Issue part) r entry.minute made) es a in
+    let a2 = subst (λ (x : List ℕ). Accepts s x n (Issue part) r entry.minute made) ed a1 in
+    let a3 = subst (λ (x : ℕ). Accepts s (desk_at place) x (Issue part) r entry.minute made) en a2 in
+    let a4 = subst (λ (x : ℤ). Accepts s (desk_at place) (next_number s (desk_at place)) (Issue part) x entry.minute made) er a3 in
+    let f1 = subst (λ (x : State). entry ≡ entry_of x d n (Issue part) entry.minute made) es is in
+    let f2 = subst (λ (x : List ℕ). entry ≡ entry_of s x n (Issue part) entry.minute made) ed f1 in
+    let f3 = subst (λ (x : ℕ). entry ≡ entry_of s (desk_at place) x (Issue part) entry.minute made) en f2 in
+    let m = has_made s (desk_at place) (next_number s (desk_at place)) part (pos t) entry.minute made a4 in
+    record {
+      one = m.one;
+      is = m.is;
+      room = m.room;
+      accepts = subst (λ (o : Option Made). Accepts s (desk_at place) (next_number s (desk_at place)) (Issue part) (pos t) entry.minute o) m.is a4;
+      entry_is = subst (λ (o : Option Made). entry ≡ entry_of s (desk_at place) (next_number s (desk_at place)) (Issue part) entry.minute o) m.is f3;
+    }
+
+some_opened : (made : Option Made) (one : Made) (before now : List Event) → made ≡ Some one → option_map (λ (m : Made). before ++ m.opened) made ≡ Some now → now ≡ before ++ one.opened
+some_opened None one before now is h = absurd (cc)
+some_opened (Some m) one before now is h = cc
+
+some_read : (made : Option Made) (one : Made) (before now : TextReader) → made ≡ Some one → IfSome made (λ (m : Made). HasReadOne before m.sent.text now) → HasReadOne before one.sent.text now
+some_read made one before now is h = subst (λ (o : Option Made). IfSome o (λ (m : Made). HasReadOne before m.sent.text now)) is h
+
+-- it was committed, unless memory lacked
+pub accepted_if : {T E : Type 0} (result : Result T E) (d e : DrillDesk) (s' : State) (place t : ℕ) (part : PutPart) (entry : Entry) (made : Option Made)
+    → IsKept d → place < 4 → IsTaken d.office.state place t part entry made → s' ≡ d.office.state
+    → OnOk result (e.office.state ≡ state_after s' entry made) → OnOk result (last_number e.office.state entry.desk ≡ entry.seq) → OnOk result (ReadsAsTheBoard e.office.state)
+    → OnOk result (e.numbers ≡ set d.numbers place (slice_index d.numbers place + 1)) → OnOk result (e.last ≡ entry.minute) → OnOk result (e.accepted ≡ d.accepted + 1) → e.refused ≡ d.refused
+    → OnOk result (option_map (λ (m : Made). d.opened ++ m.opened) made ≡ Some e.opened) → OnOk result (IfSome made (λ (m : Made). HasReadOne d.texts m.sent.text e.texts))
+    → OnOk result (IsKept e × Answers (drilled_of d) (record { desk = desk_at place; part = part; minute = t }) (drilled_of e))
+accepted_if (Err x) d e s' place t part entry made kept low taken same state heard reads numbers minute accepted refused opened texts = tt
+accepted_if (Ok x) d e s' place t part entry made kept low taken same state heard reads numbers minute accepted refused opened texts =
+    let goes : Goes d e place entry taken.one = record {
+      state = state ∙ ap (λ (s : State). state_after s entry made) same ∙ ap (λ (o : Option Made). state_after d.office.state entry o) taken.is;
+      heard = heard;
+      reads = reads;
+      numbers = numbers;
+      minute = minute;
+      accepted = accepted;
+      refused = refused;
+      opened = some_opened made taken.one d.opened e.opened taken.is opened;
+      texts = some_read made taken.one d.texts e.texts taken.is texts;
+    } in
+    let of : IsEntryOf d.office.state place part entry = record {
+      desk = ap (λ (x : Entry). x.desk) taken.entry_is;
+      seq = ap (λ (x : Entry). x.seq) taken.entry_is;
+      request = ap (λ (x : Entry). x.request) taken.entry_is;
+    } in
+    (goes_on d e place part entry taken.one kept low taken.room of goes, answers_accepted d e place t part entry taken.one taken.accepts taken.entry_is goes)
+
+pub first_if : {T E : Type 0} (A B : Type 0) (result : Result T E) → OnOk result (A × B) → OnOk result A
+first_if A B (Ok x) h = h.0
+first_if A B (Err e) h = tt
+
+pub second_if : {T E : Type 0} (A B : Type 0) (result : Result T E) → OnOk result (A × B) → OnOk result B
+second_if A B (Ok x) h = h.1
+second_if A B (Err e) h = tt
+
+-- it was refused
+pub refused_core : (d : DrillDesk) (state : State) (desk : List ℕ) (n place t : ℕ) (r : ℤ) (part : PutPart) (x : Refusal)
+    → desk ≡ desk_at place → n ≡ next_number d.office.state (desk_at place) → r ≡ pos t → Refuses d.office.state desk n (Issue part) r x
+    → state ≡ d.office.state
+    → Answers (drilled_of d) (record { desk = desk_at place; part = part; minute = t }) (record { state = state; accepted = d.accepted; refused = d.refused + 1; opened = d.opened })
+refused_core d state desk n place t r part x ed en er broken same =
+    let s = d.office.state in
+    let b1 = subst (λ (y : List ℕ). Refuses s y n (Issue part) r x) ed broken in
+    let b2 = subst (λ (y : ℕ). Refuses s (desk_at place) y (Issue part) r x) en b1 in
+    let b3 = subst (λ (y : ℤ). Refuses s (desk_at place) (next_number s (desk_at place)) (Issue part) y x) er b2 in
+    inl (record { rule = x; broken = b3; after = same_drilled _ _ _ _ _ _ _ _ same refl refl refl })
+
+-- ---- bounds
+
+-- the number that a request gets
+pub next_is : (d : DrillDesk) (place : ℕ) → IsKept d → place < 4 → slice_index d.numbers place + 1 ≡ next_number d.office.state (desk_at place)
+next_is d place kept low = ap (λ (ns : List ℕ). slice_index ns place + 1) kept.numbered ∙ ap (λ (n : ℕ). n + 1) (number_at d.office.state place low)
+
+pub number_low : (d : DrillDesk) (place : ℕ) → IsKept d → length d.office.state.products < 8192 → slice_index d.numbers place < 8192
+number_low d place kept few = omega (arith, low_at d.accepted d.numbers place kept.low, kept.counted, few)
+
+pub accepted_low : (d : DrillDesk) → IsKept d → length d.office.state.products < 8192 → d.accepted < 8192
+accepted_low d kept few = omega (arith, kept.counted, few)
+
+pub products_low : (d : DrillDesk) → IsKept d → length d.office.state.products < 8192 → length d.texts.reader.products < 8192
+products_low d kept few =
+    let texts : length (texts_of d.office.state) ≡ length d.office.state.products = length-map d.office.state.products (λ (x : Sent). x.text) in
+    let read : length d.texts.reader.products ≡ length (products_in drill_office classes.O (texts_of d.office.state)) = ap length kept.read.products in
+    omega (arith, few_products drill_office classes.O (texts_of d.office.state), texts, read, few)
+
+pub no_fault : (d : DrillDesk) → IsKept d → d.texts.faults ≡ 0
+no_fault d kept = kept.read.faults ∙ no_faults d.office.state kept.reads
