@@ -11,6 +11,10 @@ use Rattle.program_ends.specs.declared.reading.Stop.{Stop}
 pub has_cut : (text : List ℕ) (n before now : ℕ) → Rose before now → HasWritten text (take n text) before now (Some WriteFault)
 has_cut text n before now rose = record { whole = λ no. absurd (no refl); cut = λ _. (rose, (drop n text, sym (take-append-drop n text))) }
 
+-- the text stands where no write failed
+pub has_all : (text : List ℕ) (before now : ℕ) → now ≡ before → HasWritten text text before now None
+has_all text before now same = record { whole = λ _. (same, refl); cut = λ no. absurd (cc) }
+
 pub adds_none : (taken : Option (List ℕ)) → Adds taken taken []
 adds_none None = refl
 adds_none (Some t) = ap (λ (l : List ℕ). Some l) (sym (append-nil t))

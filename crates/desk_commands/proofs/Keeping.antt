@@ -1,5 +1,5 @@
 -- What a run over a kept office leaves of its history.
-use Rattle.std.proofs.Common.{ℕ, ◌≡◌, ◌≤◌, ◌⊎◌, inl, inr, Bool, List, Option, None, Some}
+use Rattle.std.proofs.Common.{ℕ, ◌≡◌, ◌≤◌, ◌⊎◌, inl, inr, Bool, List, Option, None, Some, sym, subst}
 use Rattle.desk_settings.specs.declared.settings.Settings.{Settings}
 use Rattle.desk_traits.specs.Crash.{LeavesOnly}
 use Rattle.desk_traits.specs.declared.disk.Disk.{Ghosts as Disks}
@@ -9,12 +9,12 @@ use Rattle.hazard_types.specs.declared.codes.Class.TheVariants.{O}
 use Rattle.office_core.specs.Histories.{Entered, IsLegal, StandOnce, entries_of}
 use Rattle.office_core.specs.State.{State}
 use Rattle.office_journal.specs.Changes.{Change, Leaves}
+use Rattle.office_journal.specs.Grown.{Follows, IsBetween, KeepsHistory}
 use Rattle.office_journal.specs.Histories.{History, ImageOf, fits}
 use Rattle.office_journal.specs.Kept.{Holds, disk_of, state_of}
 use Rattle.office_journal.specs.declared.kept.KeptOffice.{KeptOffice}
-use Rattle.desk_commands.specs.Grown.{Follows, IsBetween, KeepsHistory}
+use Rattle.office_journal.proofs.Between.{Any, at_start, loosened}
 use Rattle.desk_commands.specs.Opening.{IsOpened}
-use Rattle.desk_commands.proofs.Between.{loosened}
 use Rattle.desk_commands.proofs.Scripting.{Carries}
 
 -- the office's law that requests stand once
@@ -31,26 +31,28 @@ module _ {D : Type 0} (d : Disks D)
   CrashLaw kept = (file : List ℕ) (h : History) (pending : Option Change) (c : List ℕ) → Holds d.seen d.may_leave kept file h pending → d.may_leave (disk_of kept) c → Leaves file h (λ change. pending ≡ Some change) c
 
   -- as the office was opened
-  pub opened_carries : (file : List ℕ) (h : History) (disk : D) (kept : KeptOffice D d) → CrashLaw kept → IsOpened d disk kept → Holds d.seen d.may_leave kept file h None → Carries d (d.faults disk) file h kept
-  opened_carries file h disk kept law opened holds = record {
+  pub opened_carries : (file : List ℕ) (h : History) (may : Change → Type 0) (disk : D) (kept : KeptOffice D d) → CrashLaw kept → IsOpened d disk kept → Holds d.seen d.may_leave kept file h None → Carries d (d.faults disk) file h may kept
+  opened_carries file h may disk kept law opened holds = record {
     pending = None;
     holds = holds;
     now = λ c left. loosened file h (λ (change : Change). None ≡ Some change) c (law file h None c holds left);
     reads = opened.reads;
     since = opened.later;
+    which = tt;
     cause = λ some. absurd (cc);
   }
 
-  pub keeps : RequestsStandOnce → (bytes file : List ℕ) (h last : History) (disk : D) (opened kept : KeptOffice D d) → CrashLaw kept → IsOpened d disk opened → ImageOf bytes file h
-      → Follows h last → Carries d (d.faults disk) file last kept → LeavesOnly d.moment d.left_since (disk_of opened) (disk_of kept) (IsBetween file h last)
-      → KeepsHistory d disk (disk_of kept) bytes file h last (state_of kept)
-  keeps stand_once bytes file h last disk opened kept law first found follows carries run = record {
+  pub keeps : RequestsStandOnce → (bytes file : List ℕ) (h last : History) (may : Change → Type 0) (disk : D) (opened kept : KeptOffice D d) → CrashLaw kept → IsOpened d disk opened → ImageOf bytes file h
+      → Follows h last → Carries d (d.faults disk) file last may kept → LeavesOnly d.moment d.left_since (disk_of opened) (disk_of kept) (IsBetween file h last)
+      → KeepsHistory d disk (disk_of opened) (disk_of kept) bytes file h last may (state_of kept)
+  keeps stand_once bytes file h last may disk opened kept law first found follows carries run = record {
     found = found;
     legal = carries.holds.history;
     follows = follows;
     once = stand_once (fits file) carries.holds.history.settings O last.entries carries.holds.history.last carries.holds.history.legal;
     reads = carries.reads;
     pending = carries.pending;
+    which = carries.which;
     cause = carries.cause;
     now = carries.holds.journal.file;
     told = carries.holds.journal.told;
@@ -59,4 +61,8 @@ module _ {D : Type 0} (d : Disks D)
     crashes = both d.moment d.left_since d.may_leave counts_now only_now earlier disk (disk_of opened) (disk_of kept) (d.may_leave disk) (λ (c : List ℕ). d.may_leave disk c ⊎ IsBetween file h last c) first.moments
         (weaker d.moment d.left_since d.may_leave counts_now only_now earlier (disk_of opened) (disk_of kept) (IsBetween file h last) (λ (c : List ℕ). d.may_leave disk c ⊎ IsBetween file h last c) (λ c between. inr between) run)
         (λ c left. inl left);
+    settled = λ before sync c left. elim (run.joins sync.at c sync.past left) [
+      | inl was ↦ at_start file h last Any c follows (inl (subst (λ (b : List ℕ). ImageOf b file h) (sym (sync.only c was)) found))
+      | inr now ↦ run.each c now
+    ];
   }

@@ -1,11 +1,10 @@
 mod Mapping
-mod Between
 mod Scripting
 mod Keeping
 mod Judging
-mod Unanswered
 mod Upgrading
 mod Later
+mod Readings
 mod Cutting
 mod Exporting
 mod Making

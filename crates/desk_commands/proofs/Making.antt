@@ -1,5 +1,5 @@
 -- How a journal is made, and why it is not.
-use Rattle.std.proofs.Common.{ℕ, ◌≡◌, ◌⊎◌, inl, inr, List, Option, None, Some, Err, refl, sym, subst}
+use Rattle.std.proofs.Common.{ℕ, ◌≡◌, ◌⊎◌, inl, inr, List, Option, None, Some, Err, refl, sym, ◌∙◌, subst}
 use Rattle.desk_settings.specs.Reading.{settings_of}
 use Rattle.desk_settings.specs.declared.fault.SettingsFault.{SettingsFault}
 use Rattle.desk_traits.specs.Crash.{LeavesOnly}
@@ -15,12 +15,17 @@ use Rattle.office_journal.specs.declared.faults.KeepFault.{KeepFault}
 use Rattle.office_journal.specs.declared.faults.KeepFault.TheVariants as keep
 use Rattle.office_journal.specs.declared.kept.KeptOffice.{KeptOffice}
 use Rattle.program_ends.specs.declared.ends.End.{End}
-use Rattle.desk_commands.specs.Commands.{IsMade, IsWhyUnmade}
+use Rattle.desk_commands.specs.Commands.{IsLeft, IsMade, IsWhyUnmade}
 use Rattle.desk_commands.specs.Unmade.{EndsAs}
 
 -- a fault that leaves the file as it was
 abbrev pub IsUndone : KeepFault → Type 0
 IsUndone fault = ((f : SettingsFault) × (fault ≡ keep.Settings f)) ⊎ (fault ≡ keep.NotFresh) ⊎ (fault ≡ keep.OutOfMemory)
+
+no_fault : (fault : KeepFault) → IsUndone fault → fault ≡ keep.DiskFault → ⊥
+no_fault fault (inl (f, is)) e = absurd (let q = sym is ∙ e in cc)
+no_fault fault (inr (inl is)) e = absurd (let q = sym is ∙ e in cc)
+no_fault fault (inr (inr is)) e = absurd (let q = sym is ∙ e in cc)
 
 image_alone : (file : List ℕ) (h : History) (c : List ℕ) → Leaves file h (λ (change : Change). None ≡ Some change) c → ImageOf c file h
 image_alone file h c (inl image) = image
@@ -41,18 +46,23 @@ module _ {D : Type 0} (d : Disks D) where
     only = λ bytes seen. (holds bytes seen).1;
   }
 
+  left_by : (fault : KeepFault) (disk next : D) → IsUndone fault → (IsUndone fault → d.seen next ≡ d.seen disk) → (IsUndone fault → LeavesOnly d.moment d.left_since disk next (d.may_leave disk)) → ((fault ≡ keep.DiskFault → ⊥) → d.faults next ≡ d.faults disk)
+      → IsLeft d disk next
+  left_by fault disk next undone same untouched steady = (same undone, untouched undone, steady (λ e. no_fault fault undone e))
+
   pub unmade : (disk next : D) (read : List ℕ) (fault : KeepFault) (end : End) → EndsAs fault end
       → ((f : SettingsFault) → fault ≡ keep.Settings f → settings_of read ≡ Err f)
       → ((bytes : List ℕ) (f : SettingsFault) → d.seen disk ≡ Some bytes → fault ≡ keep.Settings f → Fresh bytes)
       → ((bytes : List ℕ) → d.seen disk ≡ Some bytes → fault ≡ keep.NotFresh → Fresh bytes → ⊥)
       → (fault ≡ keep.DiskFault → Rose (d.faults disk) (d.faults next))
       → (IsUndone fault → d.seen next ≡ d.seen disk) → (IsUndone fault → LeavesOnly d.moment d.left_since disk next (d.may_leave disk))
+      → ((fault ≡ keep.DiskFault → ⊥) → d.faults next ≡ d.faults disk)
       → IsWhyUnmade d disk next read end
-  unmade disk next read (keep.Settings f) end (inl is) settings fresh not_fresh cause same untouched =
-      subst (λ (e : End). IsWhyUnmade d disk next read e) (sym is) (f, settings f refl, refl, (λ bytes seen. fresh bytes f seen refl), (same (inl (f, refl)), untouched (inl (f, refl))))
-  unmade disk next read (keep.Settings f) end (inr is) settings fresh not_fresh cause same untouched = subst (λ (e : End). IsWhyUnmade d disk next read e) (sym is) (same (inl (f, refl)), untouched (inl (f, refl)))
-  unmade disk next read keep.NotFresh end is settings fresh not_fresh cause same untouched = subst (λ (e : End). IsWhyUnmade d disk next read e) (sym is) ((λ bytes seen. not_fresh bytes seen refl), (same (inr (inl refl)), untouched (inr (inl refl))))
-  unmade disk next read keep.Fresh end is settings fresh not_fresh cause same untouched = absurd is
-  unmade disk next read (keep.Damaged at) end is settings fresh not_fresh cause same untouched = absurd is
-  unmade disk next read keep.DiskFault end is settings fresh not_fresh cause same untouched = subst (λ (e : End). IsWhyUnmade d disk next read e) (sym is) (cause refl)
-  unmade disk next read keep.OutOfMemory end is settings fresh not_fresh cause same untouched = subst (λ (e : End). IsWhyUnmade d disk next read e) (sym is) (same (inr (inr refl)), untouched (inr (inr refl)))
+  unmade disk next read (keep.Settings f) end (inl is) settings fresh not_fresh cause same untouched steady =
+      subst (λ (e : End). IsWhyUnmade d disk next read e) (sym is) (f, settings f refl, refl, (λ bytes seen. fresh bytes f seen refl), (left_by (keep.Settings f) disk next (inl (f, refl)) same untouched steady))
+  unmade disk next read (keep.Settings f) end (inr is) settings fresh not_fresh cause same untouched steady = subst (λ (e : End). IsWhyUnmade d disk next read e) (sym is) (left_by (keep.Settings f) disk next (inl (f, refl)) same untouched steady)
+  unmade disk next read keep.NotFresh end is settings fresh not_fresh cause same untouched steady = subst (λ (e : End). IsWhyUnmade d disk next read e) (sym is) ((λ bytes seen. not_fresh bytes seen refl), (left_by keep.NotFresh disk next (inr (inl refl)) same untouched steady))
+  unmade disk next read keep.Fresh end is settings fresh not_fresh cause same untouched steady = absurd is
+  unmade disk next read (keep.Damaged at) end is settings fresh not_fresh cause same untouched steady = absurd is
+  unmade disk next read keep.DiskFault end is settings fresh not_fresh cause same untouched steady = subst (λ (e : End). IsWhyUnmade d disk next read e) (sym is) (cause refl)
+  unmade disk next read keep.OutOfMemory end is settings fresh not_fresh cause same untouched steady = subst (λ (e : End). IsWhyUnmade d disk next read e) (sym is) (left_by keep.OutOfMemory disk next (inr (inr refl)) same untouched steady)

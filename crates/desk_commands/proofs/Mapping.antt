@@ -1,19 +1,58 @@
--- A run over lines told over what states show.
-use Rattle.std.proofs.Common.{ℕ, inl, inr, List, [], ◌∷◌, Option, ap}
-use Rattle.program_ends.specs.Runs.{Answered, IsLinesRun, LacksNext}
+-- A run over lines told over what states show, where memory never lacks for an answer.
+use Rattle.std.proofs.Common.{ℕ, ◌≡◌, inl, inr, List, [], ◌∷◌, Option, ap, ◌∙◌}
+use Rattle.program_ends.proofs.Mapping.{ends_at_last}
+use Rattle.program_ends.specs.Runs.{Answered, Breaks, IsBroken, IsLinesRun, IsUnbegun}
 
-module _ {A B : Type 0} (f : A → B) (answers : B → Option (List ℕ) → List ℕ → B → Type 0) (lacks : B → Option (List ℕ) → B → Type 0) where
-  answered : (a z : A) (lines : List (List ℕ)) (told : List ℕ) → Answered (λ (x : A) (line : Option (List ℕ)) (text : List ℕ) (y : A). answers (f x) line text (f y)) a lines told z → Answered answers (f a) lines told (f z)
+-- what no answer changes
+module _ {A N : Type 0} (name : A → N) (under : A → Option (List ℕ) → List ℕ → A → Type 0) (keeps : (x : A) (line : Option (List ℕ)) (text : List ℕ) (y : A) → under x line text y → name y ≡ name x)
+    (never : A → Option (List ℕ) → A → Type 0) (no : (x : A) (line : Option (List ℕ)) (y : A) → never x line y → ⊥) where
+  same_name : (a z : A) (lines : List (List ℕ)) (told : List ℕ) → Answered under a lines told z → name z ≡ name a
+  same_name a z [] told h = ap name h.1
+  same_name a z (line ∷ lines) told h = same_name h.1 z lines h.2 h.5 ∙ keeps a _ h.0 h.1 h.3
+
+  pub last_name : (limit : ℕ) (a z : A) (left left' taken taken' : Option (List ℕ)) (reads reads' writes writes' status : ℕ) → IsLinesRun under never limit a z left left' taken taken' reads reads' writes writes' status → name z ≡ name a
+  last_name limit a z left left' taken taken' reads reads' writes writes' status run =
+      ap name (ends_at_last under never no limit a z left left' run.end run.told run.run) ∙ same_name a run.run.last run.run.lines run.told run.run.answered
+
+module _ {A B : Type 0} (f : A → B) (under : A → Option (List ℕ) → List ℕ → A → Type 0) (answers : B → Option (List ℕ) → List ℕ → B → Type 0)
+    (says : (x : A) (line : Option (List ℕ)) (text : List ℕ) (y : A) → under x line text y → answers (f x) line text (f y))
+    (never : A → Option (List ℕ) → A → Type 0) (no : (x : A) (line : Option (List ℕ)) (y : A) → never x line y → ⊥) where
+  answered : (a z : A) (lines : List (List ℕ)) (told : List ℕ) → Answered under a lines told z → Answered answers (f a) lines told (f z)
   answered a z [] told h = (h.0, ap f h.1)
-  answered a z (line ∷ lines) told h = (h.0, f h.1, h.2, h.3, h.4, answered h.1 z lines h.2 h.5)
+  answered a z (line ∷ lines) told h = (h.0, f h.1, h.2, says a _ h.0 h.1 h.3, h.4, answered h.1 z lines h.2 h.5)
 
-  lacking : (last : A) (others : List (List ℕ)) (z : A) → LacksNext (λ (x : A) (line : Option (List ℕ)) (y : A). lacks (f x) line (f y)) last others z → LacksNext lacks (f last) others (f z)
-  lacking last others z (inl same) = inl (ap f same)
-  lacking last others z (inr h) = inr (h.0, h.1, h.2, h.3)
+  unbegun : (a z : A) (left left' : Option (List ℕ)) (read : List ℕ) (lines : List (List ℕ)) → IsUnbegun a z left left' read lines → IsUnbegun (f a) (f z) left left' read lines
+  unbegun a z left left' read lines h = record { none = h.none; unread = h.unread; unanswered = h.unanswered; same = ap f h.same }
+
+  breaks : (a z : A) (lines : List (List ℕ)) (told written : List ℕ) → Breaks under a z lines told written → Breaks answers (f a) (f z) lines told written
+  breaks a z lines told written h = record {
+    before = h.before;
+    line = h.line;
+    state = f h.state;
+    whole = h.whole;
+    text = h.text;
+    front = h.front;
+    lines_are = h.lines_are;
+    answered = answered a h.state h.before h.whole h.answered;
+    last = says h.state _ h.text z h.last;
+    told_is = h.told_is;
+    begins = h.begins;
+    written_is = h.written_is;
+  }
+
+  broken : (a z : A) (lines : List (List ℕ)) (told : List ℕ) (taken taken' : Option (List ℕ)) (writes writes' : ℕ) → IsBroken under a z lines told taken taken' writes writes' → IsBroken answers (f a) (f z) lines told taken taken' writes writes'
+  broken a z lines told taken taken' writes writes' h = record {
+    written = h.written;
+    fault = h.fault;
+    breaks = breaks a z lines told h.written h.breaks;
+    begins = h.begins;
+    once = h.once;
+    adds = h.adds;
+  }
 
   pub shown : (limit : ℕ) (a z : A) (left left' taken taken' : Option (List ℕ)) (reads reads' writes writes' status : ℕ)
-      → IsLinesRun (λ (x : A) (line : Option (List ℕ)) (text : List ℕ) (y : A). answers (f x) line text (f y)) (λ (x : A) (line : Option (List ℕ)) (y : A). lacks (f x) line (f y)) limit a z left left' taken taken' reads reads' writes writes' status
-      → IsLinesRun answers lacks limit (f a) (f z) left left' taken taken' reads reads' writes writes' status
+      → IsLinesRun under never limit a z left left' taken taken' reads reads' writes writes' status
+      → IsLinesRun answers (λ (s : B) (line : Option (List ℕ)) (y : B). ⊥) limit (f a) (f z) left left' taken taken' reads reads' writes writes' status
   shown limit a z left left' taken taken' reads reads' writes writes' status run = record {
     end = run.end;
     told = run.told;
@@ -31,14 +70,18 @@ module _ {A B : Type 0} (f : A → B) (answers : B → Option (List ℕ) → Lis
       too_long = run.run.too_long;
       state = λ e. ap f (run.run.state e);
       whole = run.run.whole;
-      no_memory = λ e. lacking run.run.last run.run.others z (run.run.no_memory e);
+      no_memory = λ e. elim (run.run.no_memory e) [
+        | inl none ↦ inl (unbegun a z left left' run.run.read run.run.lines none)
+        | inr next ↦ absurd (no run.run.last _ z next.3)
+      ];
       next = λ e. elim (run.run.next e) [
-        | inl same ↦ inl (ap f same)
+        | inl none ↦ inl (unbegun a z left left' run.run.read run.run.lines none)
         | inr more ↦ inr more
       ];
       reasons = run.run.reasons;
     };
     telling = run.telling;
+    broken = λ e. broken a z run.run.lines run.told taken taken' writes writes' (run.broken e);
     rose = run.rose;
     steady = run.steady;
     read_fault = run.read_fault;

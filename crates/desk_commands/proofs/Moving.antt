@@ -8,5 +8,5 @@ use Rattle.desk_commands.specs.Commands.{TellsBoard, UpgradeOutcome}
 pub told_at : (s : State) (reading at : ℤ) (writes : ℕ) (taken taken' : Option (List ℕ)) (writes' status : ℕ) → reading ≡ at → TellsBoard s reading writes taken taken' writes' status → TellsBoard s at writes taken taken' writes' status
 told_at s reading at writes taken taken' writes' status same told = subst (λ (z : ℤ). TellsBoard s z writes taken taken' writes' status) same told
 
-pub outcome_of : {D : Type 0} (d : Disks D) (disk other next : D) (old new : KeptOffice D d) (writes : ℕ) (taken taken' : Option (List ℕ)) (writes' status : ℕ) → other ≡ next → UpgradeOutcome d disk other old new writes taken taken' writes' status → UpgradeOutcome d disk next old new writes taken taken' writes' status
-outcome_of d disk other next old new writes taken taken' writes' status same told = subst (λ x. UpgradeOutcome d disk x old new writes taken taken' writes' status) same told
+pub outcome_of : {D : Type 0} (d : Disks D) (other next : D) (old new : KeptOffice D d) (writes : ℕ) (taken taken' : Option (List ℕ)) (writes' status : ℕ) → other ≡ next → UpgradeOutcome d other old new writes taken taken' writes' status → UpgradeOutcome d next old new writes taken taken' writes' status
+outcome_of d other next old new writes taken taken' writes' status same told = subst (λ x. UpgradeOutcome d x old new writes taken taken' writes' status) same told

@@ -13,6 +13,7 @@ use Rattle.office_core.specs.Agreement.{ReadsAsTheBoard}
 use Rattle.office_core.specs.Histories.{MayFollow}
 use Rattle.office_core.specs.State.{State, in_edition}
 use Rattle.office_journal.specs.Changes.{Change, Leaves, changed}
+use Rattle.office_journal.specs.Grown.{Follows, IsBetween, grown}
 use Rattle.office_journal.specs.Histories.{History}
 use Rattle.office_journal.specs.Kept.{Holds, disk_of, gate_of, state_of}
 use Rattle.office_journal.specs.Submitting.{MayTouch}
@@ -20,19 +21,12 @@ use Rattle.office_journal.specs.declared.answers.Upgrade.{Upgrade}
 use Rattle.office_journal.specs.declared.answers.Upgrade.TheVariants as upgrade
 use Rattle.office_journal.specs.declared.kept.KeptOffice.{KeptOffice}
 use Rattle.desk_commands.specs.Commands.{IsMarked, TellsUpgrade, UpgradeOutcome}
-use Rattle.desk_commands.specs.Grown.{IsBetween, grown}
-use Rattle.desk_commands.proofs.Between.{Any, grown_none, loosened, stays}
+use Rattle.office_journal.proofs.Between.{at_start, grown_follows}
+use Rattle.office_journal.proofs.Growing.{two_follows}
 use Rattle.desk_commands.proofs.Scripting.{Carries, unadded}
-
-to_two : (e : Edition) → MayFollow e Two
-to_two One = tt
-to_two Two = tt
 
 in_two : (s : State) → ReadsAsTheBoard s → ReadsAsTheBoard (in_edition Two s)
 in_two s reads = record { whole = reads.whole; apart = reads.apart; lives = reads.lives; gapless = reads.gapless; rows = reads.rows }
-
-rose_since : (before mid now : ℕ) → before ≤ mid → Rose mid now → Rose before now
-rose_since before mid now le rose = omega (arith, le, rose)
 
 module _ {D : Type 0} (d : Disks D) (old new : KeptOffice D d) where
   -- what `upgrade` says
@@ -60,66 +54,78 @@ module _ {D : Type 0} (d : Disks D) (old new : KeptOffice D d) where
       omega (arith, less)
 
   -- what it comes to
-  pub outcome : (u : Upgrade) (disk : D) (writes : ℕ) (taken taken' : Option (List ℕ)) (writes' status : ℕ) → Says u → d.faults disk ≤ d.faults (disk_of old) → TellsUpgrade u writes taken taken' writes' status
-      → UpgradeOutcome d disk (disk_of new) old new writes taken taken' writes' status
-  outcome upgrade.Done disk writes taken taken' writes' status says later told = inl (ap (λ (s : State). s.edition) (says.done refl).1, inr (has_room says), told)
-  outcome upgrade.Already disk writes taken taken' writes' status says later told = inl (ap (λ (s : State). s.edition) (says.state (λ q. absurd (cc))) ∙ says.already.0 refl, inl (says.already.0 refl), told)
-  outcome upgrade.Full disk writes taken taken' writes' status says later told =
-      inr (inl (ap (λ (s : State). s.edition) (says.state (λ q. absurd (cc))) ∙ (says.full refl).0, (says.full refl).0, (says.full refl).1, told))
-  outcome upgrade.DiskFault disk writes taken taken' writes' status says later told =
-      inr (inr (inl (ap (λ (s : State). s.edition) (says.state (λ q. absurd (cc))) ∙ (says.cause refl).0, (says.cause refl).0, rose_since (d.faults disk) (d.faults (disk_of old)) (d.faults (disk_of new)) later (says.cause refl).1, told)))
-  outcome upgrade.OutOfMemory disk writes taken taken' writes' status says later told =
+  pub outcome : (u : Upgrade) (writes : ℕ) (taken taken' : Option (List ℕ)) (writes' status : ℕ) → Says u → TellsUpgrade u writes taken taken' writes' status
+      → UpgradeOutcome d (disk_of new) old new writes taken taken' writes' status
+  outcome upgrade.Done writes taken taken' writes' status says told = inl (ap (λ (s : State). s.edition) (says.done refl).1, inr (has_room says), told)
+  outcome upgrade.Already writes taken taken' writes' status says told =
+      inl (ap (λ (s : State). s.edition) (says.state (λ q. absurd (cc))) ∙ says.already.0 refl, inl (says.already.0 refl, (says.untouched (λ q. absurd (cc)) (λ q. absurd (cc))).0), told)
+  outcome upgrade.Full writes taken taken' writes' status says told =
+      inr (inl (ap (λ (s : State). s.edition) (says.state (λ q. absurd (cc))) ∙ (says.full refl).0, (says.full refl).0, (says.full refl).1, (says.untouched (λ q. absurd (cc)) (λ q. absurd (cc))).0, told))
+  outcome upgrade.DiskFault writes taken taken' writes' status says told =
+      inr (inr (inl (ap (λ (s : State). s.edition) (says.state (λ q. absurd (cc))) ∙ (says.cause refl).0, (says.cause refl).0, (says.cause refl).1, told)))
+  outcome upgrade.OutOfMemory writes taken taken' writes' status says told =
       inr (inr (inr (ap (λ (s : State). s.edition) (says.state (λ q. absurd (cc))), (says.untouched (λ q. absurd (cc)) (λ q. absurd (cc))).0, told)))
 
   module _ (start : ℕ) (counts_now : (x : D) (c : List ℕ) → d.may_leave x c → d.left_since x (d.moment x) c)
       (only_now : (x : D) (c : List ℕ) → d.left_since x (d.moment x) c → d.may_leave x c)
       (earlier : (x : D) (t u : ℕ) (c : List ℕ) → t ≤ u → u ≤ d.moment x → d.left_since x u c → d.left_since x t c) where
+    abbrev pub IsMark : Change → Type 0
+    IsMark change = change ≡ Change.marked
+
     -- the history after it
     pub record Upgraded (file : List ℕ) (h : History) : Type 0 where
       pub last : History
       pub same : last.entries ≡ h.entries
-      pub edition : MayFollow h.edition last.edition
-      pub carries : Carries d start file last new
+      pub follows : Follows h last
+      pub carries : Carries d start file last IsMark new
       pub run : LeavesOnly d.moment d.left_since (disk_of old) (disk_of new) (IsBetween file h last)
 
-    unmarked : (u : Upgrade) (file : List ℕ) (h : History) (pending : Option Change) → Says u → u ≢ upgrade.Done → Carries d start file h old → Holds d.seen d.may_leave new file h pending → (IsSome pending → Rose start (d.faults (disk_of new))) → Upgraded file h
-    unmarked u file h pending says not carries holds cause =
-        let one = unadded d start counts_now only_now earlier file h (λ (change : Change). (carries.pending ≡ Some change) ⊎ ((change ≡ Change.marked) × (h.edition ≡ One))) old new pending holds
-        (subst ReadsAsTheBoard (sym (says.state not)) carries.reads) (omega (arith, carries.since, says.later)) cause (says.any_moment file h carries.pending carries.holds) in
-        record { last = grown h []; same = append-nil h.entries; edition = stays h.edition; carries = one.0; run = one.1 }
+    marks : (p next : Option Change) → IfSome p IsMark → MayTouch p Change.marked next → IfSome next IsMark
+    marks p None which may = tt
+    marks p (Some change) which (inl was) = subst (λ (o : Option Change). IfSome o IsMark) was which
+    marks p (Some change) which (inr is) = is
 
-    as_it_was : (u : Upgrade) (file : List ℕ) (h : History) → Says u → u ≢ upgrade.Done → u ≢ upgrade.DiskFault → Carries d start file h old → Upgraded file h
+    unmarked : (u : Upgrade) (file : List ℕ) (h : History) (pending : Option Change) → Says u → u ≢ upgrade.Done → Carries d start file h IsMark old → Holds d.seen d.may_leave new file h pending → IfSome pending IsMark
+        → (IsSome pending → Rose start (d.faults (disk_of new))) → Upgraded file h
+    unmarked u file h pending says not carries holds which cause =
+        let one = unadded d start counts_now only_now earlier file h (λ (change : Change). (carries.pending ≡ Some change) ⊎ ((change ≡ Change.marked) × (h.edition ≡ One))) IsMark old new pending holds
+        (subst ReadsAsTheBoard (sym (says.state not)) carries.reads) (omega (arith, carries.since, says.later)) which cause (says.any_moment file h carries.pending carries.holds) in
+        record { last = grown h []; same = append-nil h.entries; follows = grown_follows h []; carries = one.0; run = one.1 }
+
+    as_it_was : (u : Upgrade) (file : List ℕ) (h : History) → Says u → u ≢ upgrade.Done → u ≢ upgrade.DiskFault → Carries d start file h IsMark old → Upgraded file h
     as_it_was u file h says done failed carries =
         let same = says.untouched done failed in
-        unmarked u file h carries.pending says done carries (same.1 file h carries.pending carries.holds) (λ some. subst (λ (x : D). Rose start (d.faults x)) (sym same.0) (carries.cause some))
+        unmarked u file h carries.pending says done carries (same.1 file h carries.pending carries.holds) carries.which (λ some. subst (λ (x : D). Rose start (d.faults x)) (sym same.0) (carries.cause some))
 
-    pub upgraded : (u : Upgrade) (file : List ℕ) (h : History) → Says u → Carries d start file h old → Upgraded file h
+    pub upgraded : (u : Upgrade) (file : List ℕ) (h : History) → Says u → Carries d start file h IsMark old → Upgraded file h
     upgraded upgrade.Done file h says carries =
         let done = says.done refl in
         let held = (done.2 file h carries.pending carries.holds).0 in
         let P : Change → Type 0 = λ change. (carries.pending ≡ Some change) ⊎ ((change ≡ Change.marked) × (h.edition ≡ One)) in
         let last = changed h Change.marked in
+        let follows : Follows h last = record { entries = []; behind = sym (append-nil h.entries); edition = two_follows h.edition } in
         record {
           last = last;
           same = refl;
-          edition = to_two h.edition;
+          follows = follows;
           carries = record {
             pending = None;
             holds = held;
             now = λ c left. inl (record { state = state_of new; history = held.history; image = held.journal.rests c left });
             reads = subst ReadsAsTheBoard (sym done.1) (in_two (state_of old) carries.reads);
             since = omega (arith, carries.since, says.later);
+            which = tt;
             cause = λ some. absurd (cc);
           };
           run = weaker d.moment d.left_since d.may_leave counts_now only_now earlier (disk_of old) (disk_of new) (Leaves file h P) (IsBetween file h last)
-              (λ c leaves. ([], [], sym (append-nil h.entries), subst (λ (g : History). Leaves file g Any c) (sym (grown_none h)) (loosened file h P c leaves)))
+              (λ c leaves. at_start file h last P c follows leaves)
               (says.any_moment file h carries.pending carries.holds);
         }
     upgraded upgrade.Already file h says carries = as_it_was upgrade.Already file h says (λ q. absurd (cc)) (λ q. absurd (cc)) carries
     upgraded upgrade.Full file h says carries = as_it_was upgrade.Full file h says (λ q. absurd (cc)) (λ q. absurd (cc)) carries
     upgraded upgrade.DiskFault file h says carries =
         let held = says.failed refl file h carries.pending carries.holds in
-        unmarked upgrade.DiskFault file h held.0 says (λ q. absurd (cc)) carries held.2 (λ some. omega (arith, carries.since, (says.cause refl).1))
+        unmarked upgrade.DiskFault file h held.0 says (λ q. absurd (cc)) carries held.2 (marks carries.pending held.0 carries.which held.1) (λ some. omega (arith, carries.since, (says.cause refl).1))
     upgraded upgrade.OutOfMemory file h says carries = as_it_was upgrade.OutOfMemory file h says (λ q. absurd (cc)) (λ q. absurd (cc)) carries
 
     only_mark : (h : History) (file : List ℕ) (c : List ℕ) → Leaves file h (λ (change : Change). (None ≡ Some change) ⊎ ((change ≡ Change.marked) × (h.edition ≡ One))) c → Leaves file h (λ (change : Change). (change ≡ Change.marked) × (h.edition ≡ One)) c

@@ -1,5 +1,5 @@
 -- What the commands over a journal read, write and leave.
-use Rattle.std.specs.Prelude.{◌≡◌, ◌⊎◌, ◌++◌, ◌∷◌, ◌≤◌, ◌<◌, ◌+◌, ℕ, ℤ, pos, nat_abs, true, false, List, [], length, Option, None, Some, Result, Ok, Err, IfSome, codes}
+use Rattle.std.specs.Prelude.{◌≡◌, ◌⊎◌, ◌++◌, ◌∷◌, ◌≤◌, ◌<◌, ◌+◌, ◌-◌, ◌^◌, min, ℕ, ℤ, pos, nat_abs, true, false, List, [], length, Option, None, Some, Result, Ok, Err, IfSome, codes}
 use Rattle.std.specs.List.{flat_map}
 use Rattle.desk_settings.specs.Reading.{settings_of}
 use Rattle.desk_settings.specs.declared.fault.SettingsFault.{SettingsFault}
@@ -13,12 +13,12 @@ use Rattle.desk_traits.specs.Streams.{Adds, Takes, IsAtEnd}
 use Rattle.hazard_types.specs.declared.request.Edition.TheVariants.{One, Two}
 use Rattle.journal_core.specs.Image.{Fresh}
 use Rattle.office_core.specs.Agreement.{texts_of}
-use Rattle.office_core.specs.Histories.{Entered}
 use Rattle.office_core.specs.Rules.{is_out}
 use Rattle.office_core.specs.State.{State}
 use Rattle.board_text.specs.Rows.{board_text}
 use Rattle.event_life.specs.Shown.{shown_at}
 use Rattle.office_journal.specs.Changes.{Change, Leaves}
+use Rattle.office_journal.specs.Grown.{KeepsHistory, grown}
 use Rattle.office_journal.specs.Histories.{History, ImageOf, empty}
 use Rattle.office_journal.specs.Kept.{Holds, disk_of, gate_of, state_of}
 use Rattle.office_journal.specs.Making.{IsMakingOf}
@@ -26,15 +26,13 @@ use Rattle.office_journal.specs.declared.answers.Upgrade.{Upgrade}
 use Rattle.office_journal.specs.declared.answers.Upgrade.TheVariants as upgrade
 use Rattle.office_journal.specs.declared.kept.KeptOffice.{KeptOffice}
 use Rattle.program_ends.specs.Ends.{HasWritten, Telling}
-use Rattle.program_ends.specs.Lines.{fit}
-use Rattle.program_ends.specs.Runs.{IsLinesRun}
+use Rattle.program_ends.specs.Runs.{IsLinesRun, IsUnbegun}
 use Rattle.program_ends.specs.declared.ends.End.{End}
 use Rattle.program_ends.specs.declared.reading.Stop.{Stop}
 use Rattle.program_ends.specs.declared.reading.Stop.TheVariants as stop
 use Rattle.program_ends.specs.declared.ends.End.TheVariants.{WriteFault, OutOfMemory, ClockOut, DiskFault, JournalFull, SettingsRefused, AlreadyKept, ReadFault}
-use Rattle.desk_commands.specs.Grown.{KeepsHistory, grown}
 use Rattle.desk_commands.specs.Opening.{IsOpened}
-use Rattle.desk_commands.specs.Scripts.{Answers, AnswersLine, Goes, IsRead, Lacks, Scripted, with_entry}
+use Rattle.desk_commands.specs.Scripts.{Answers, Goes, HaveReadings, IsRead, MayPend, Said, Scripted, entries_in, failed_from, faults_in, texts_in}
 
 -- the text was written, or a front of it before a write fault
 abbrev pub IsTold : List ℕ → ℕ → Option (List ℕ) → Option (List ℕ) → ℕ → ℕ → Type 0
@@ -63,11 +61,6 @@ pub record AreTold (texts : List (List ℕ)) (writes : ℕ) (taken taken' : Opti
   pub reasons : ((end ≡ None) × (rest ≡ [])) ⊎ (end ≡ Some WriteFault) ⊎ (end ≡ Some OutOfMemory)
   pub telling : Telling (joined first) writes taken taken' writes' end status
 
--- Where memory lacked at the next of the lines that were not answered: nothing came of it, or its request was accepted, and this is its entry.
-abbrev pub Unanswered : {D C : Type 0} (d : Disks D) (k : Clocks C) → Scripted (KeptOffice D d) C → List (List ℕ) → Scripted (KeptOffice D d) C → Option Entered → Type 0
-Unanswered d k last others z added = ((z ≡ last) × (added ≡ None))
-    ⊎ ((line : List ℕ) × (more : List (List ℕ)) × (others ≡ line ∷ more) × (text : List ℕ) × (x : Entered) × AnswersLine d k last (fit line) text z (Some x) × (added ≡ Some x))
-
 -- The settings were read to the input's end, or to the byte behind the last that settings may have; or a read failed, or memory lacked, somewhere within.
 abbrev pub SettingsRead : Option (List ℕ) → Option (List ℕ) → ℕ → ℕ → Result (List ℕ) Stop → Type 0
 SettingsRead left left' reads reads' (Ok text) = Takes left left' text × (length text ≤ 1048577) × ((length text ≡ 1048577) ⊎ IsAtEnd left') × (reads' ≡ reads)
@@ -89,12 +82,12 @@ TellsUpgrade upgrade.Full writes taken taken' writes' status = Telling [] writes
 TellsUpgrade upgrade.DiskFault writes taken taken' writes' status = Telling [] writes taken taken' writes' (Some DiskFault) status
 TellsUpgrade upgrade.OutOfMemory writes taken taken' writes' status = Telling [] writes taken taken' writes' (Some OutOfMemory) status
 
--- What becomes of an upgrade: the edition is Two, and was before, or the mark has room; it has none, the disk failed in this call, or memory lacked, and the edition is as it was.
-abbrev pub UpgradeOutcome : {D : Type 0} (d : Disks D) → D → D → KeptOffice D d → KeptOffice D d → ℕ → Option (List ℕ) → Option (List ℕ) → ℕ → ℕ → Type 0
-UpgradeOutcome d disk next opened after writes taken taken' writes' status =
-    (((state_of after).edition ≡ Two) × (((state_of opened).edition ≡ Two) ⊎ (gate_of opened + 15 ≤ 268435456)) × IsTold (codes "edition 2\n") writes taken taken' writes' status)
-    ⊎ (((state_of after).edition ≡ One) × ((state_of opened).edition ≡ One) × (268435456 < gate_of opened + 15) × Telling [] writes taken taken' writes' (Some JournalFull) status)
-    ⊎ (((state_of after).edition ≡ One) × ((state_of opened).edition ≡ One) × Rose (d.faults disk) (d.faults next) × Telling [] writes taken taken' writes' (Some DiskFault) status)
+-- What becomes of an upgrade: the edition is Two, and was before, so that the disk is as it was, or the mark has room; it has none, the disk failed in this call, or memory lacked, and the edition is as it was. But for the disk's fault the disk is as it was then.
+abbrev pub UpgradeOutcome : {D : Type 0} (d : Disks D) → D → KeptOffice D d → KeptOffice D d → ℕ → Option (List ℕ) → Option (List ℕ) → ℕ → ℕ → Type 0
+UpgradeOutcome d next opened after writes taken taken' writes' status =
+    (((state_of after).edition ≡ Two) × ((((state_of opened).edition ≡ Two) × (next ≡ disk_of opened)) ⊎ (gate_of opened + 15 ≤ 268435456)) × IsTold (codes "edition 2\n") writes taken taken' writes' status)
+    ⊎ (((state_of after).edition ≡ One) × ((state_of opened).edition ≡ One) × (268435456 < gate_of opened + 15) × (next ≡ disk_of opened) × Telling [] writes taken taken' writes' (Some JournalFull) status)
+    ⊎ (((state_of after).edition ≡ One) × ((state_of opened).edition ≡ One) × Rose (d.faults (disk_of opened)) (d.faults next) × Telling [] writes taken taken' writes' (Some DiskFault) status)
     ⊎ (((state_of after).edition ≡ (state_of opened).edition) × (next ≡ disk_of opened) × Telling [] writes taken taken' writes' (Some OutOfMemory) status)
 
 -- The board at a minute: its text, or the clock's fault where the minute is out; or memory lacked.
@@ -109,27 +102,37 @@ abbrev pub IsBoardAt : {C : Type 0} (k : Clocks C) → Option ℕ → C → C �
 IsBoardAt k None clock next at = IsRead k clock next at
 IsBoardAt k (Some minute) clock next at = (at ≡ pos minute) × (next ≡ clock)
 
+-- a run over lines in which memory never lacks for an answer
+abbrev pub AnswersLines : {D C : Type 0} (d : Disks D) (k : Clocks C) → ℕ → Scripted (KeptOffice D d) C → Scripted (KeptOffice D d) C → Option (List ℕ) → Option (List ℕ) → Option (List ℕ) → Option (List ℕ) → ℕ → ℕ → ℕ → ℕ → ℕ → Type 0
+AnswersLines d k limit s z left left' taken taken' reads reads' writes writes' status = IsLinesRun (Answers d k) (λ x line y. ⊥) limit s z left left' taken taken' reads reads' writes writes' status
+
 module _ {D : Type 0} (d : Disks D) where
   -- Nothing was added: the history is the one that was found, and the disk stands as it did.
   abbrev pub Stays : D → D → KeptOffice D d → Type 0
-  Stays disk next kept = (bytes : List ℕ) → d.seen disk ≡ Some bytes → (file : List ℕ) × (h : History) × KeepsHistory d disk next bytes file h h (state_of kept)
+  Stays disk next kept = (bytes : List ℕ) → d.seen disk ≡ Some bytes → (file : List ℕ) × (h : History) × KeepsHistory d disk (disk_of kept) next bytes file h h (λ change. ⊥) (state_of kept)
 
   -- the input's lines were answered one after another by the office that was found
-  pub record IsScriptRun {C : Type 0} (k : Clocks C) (disk next : D) (clock : C) (limit : ℕ) (left left' taken taken' : Option (List ℕ)) (reads reads' writes writes' status : ℕ) : Type 0 where
+  pub record IsScriptRun {C : Type 0} (k : Clocks C) (disk next : D) (clock clock' : C) (limit : ℕ) (left left' taken taken' : Option (List ℕ)) (reads reads' writes writes' status : ℕ) : Type 0 where
     pub opened : KeptOffice D d
     pub first : IsOpened d disk opened
     -- office and clock at the end
     pub after : Scripted (KeptOffice D d) C
-    pub run : IsLinesRun (Answers d k) (Lacks d k) limit (record { kept = opened; clock = clock }) after left left' taken taken' reads reads' writes writes' status
-    -- the entries of the accepted lines, in order
-    pub entries : List Entered
-    pub goes : Goes d k (record { kept = opened; clock = clock }) run.run.lines run.told run.run.last entries
-    pub last : Option Entered
-    pub unanswered : Unanswered d k run.run.last run.run.others after last
+    pub clock_is : after.clock ≡ clock'
+    pub run : AnswersLines d k limit (record { kept = opened; clock = clock }) after left left' taken taken' reads reads' writes writes' status
+    -- what came of each line that was answered, in order
+    pub said : List Said
+    pub goes : Goes d k (record { kept = opened; clock = clock }) run.run.lines said after
+    pub told : run.told ≡ texts_in said
     pub handed : next ≡ disk_of after.kept
-    -- one legal history, which holds them behind what was found, and the disk
-    pub history : (bytes : List ℕ) → d.seen disk ≡ Some bytes → (file : List ℕ) × (h : History) × KeepsHistory d disk next bytes file h (grown h (entries ++ with_entry last [])) (state_of after.kept)
+    -- one legal history, which holds the entries of the accepted lines behind what was found, and the disk
+    pub history : (bytes : List ℕ) → d.seen disk ≡ Some bytes → (file : List ℕ) × (h : History) × KeepsHistory d disk (disk_of opened) next bytes file h (grown h (entries_in said)) (MayPend (failed_from [] said)) (state_of after.kept)
+    -- no more lines are told that the disk failed than its count rose
+    pub faults : min (d.faults disk + faults_in said) (2 ^ 64 - 1) ≤ d.faults next
     pub later : d.faults disk ≤ d.faults next
+    -- the first line that is not empty has the first reading ahead, and so on
+    pub readings : (ahead : List ℤ) → k.ahead clock ≡ Some ahead → HaveReadings ahead said
+    -- memory lacks before the first line alone, and then the disk's count is as before
+    pub no_memory : status ≡ 12 → IsUnbegun (record { kept = opened; clock = clock }) after left left' run.run.read run.run.lines × (d.faults next ≡ d.faults disk)
 
   -- the texts of the products were written one after another
   pub record IsExportRun (disk next : D) (taken taken' : Option (List ℕ)) (writes writes' status : ℕ) : Type 0 where
@@ -164,15 +167,15 @@ module _ {D : Type 0} (d : Disks D) where
     pub opened : KeptOffice D d
     pub first : IsOpened d disk opened
     pub after : KeptOffice D d
-    pub outcome : UpgradeOutcome d disk next opened after writes taken taken' writes' status
+    pub outcome : UpgradeOutcome d next opened after writes taken taken' writes' status
     pub handed : next ≡ disk_of after
     pub marked : (file : List ℕ) (h : History) → Holds d.seen d.may_leave opened file h None → IsMarked opened after file h
     pub later : d.faults disk ≤ d.faults next
-    pub history : (bytes : List ℕ) → d.seen disk ≡ Some bytes → (file : List ℕ) × (h last : History) × KeepsHistory d disk next bytes file h last (state_of after) × (last.entries ≡ h.entries) × (last.edition ≡ (state_of after).edition)
+    pub history : (bytes : List ℕ) → d.seen disk ≡ Some bytes → (file : List ℕ) × (h last : History) × KeepsHistory d disk (disk_of opened) next bytes file h last (λ change. change ≡ Change.marked) (state_of after) × (last.entries ≡ h.entries) × (last.edition ≡ (state_of after).edition)
 
-  -- the file is as it was, and so is what a crash leaves, at any moment
+  -- the file is as it was, and so are what a crash leaves, at any moment, and the count of faults
   abbrev pub IsLeft : D → D → Type 0
-  IsLeft disk next = (d.seen next ≡ d.seen disk) × LeavesOnly d.moment d.left_since disk next (d.may_leave disk)
+  IsLeft disk next = (d.seen next ≡ d.seen disk) × LeavesOnly d.moment d.left_since disk next (d.may_leave disk) × (d.faults next ≡ d.faults disk)
 
   -- Why no journal is made of settings that were read: they have this fault first, and the file is fresh; the file is not fresh; the disk failed in this call; or memory lacked. But for the disk's fault the file is left as it was.
   abbrev pub IsWhyUnmade : D → D → List ℕ → End → Type 0

@@ -1,6 +1,6 @@
 pub mod Lines
 pub mod Opening
 pub mod Scripts
-pub mod Grown
+pub mod Held
 pub mod Commands
 pub mod Unmade

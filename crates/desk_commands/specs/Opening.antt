@@ -8,7 +8,7 @@ use Rattle.journal_core.specs.Image.{Fresh}
 use Rattle.office_core.specs.Agreement.{ReadsAsTheBoard}
 use Rattle.office_journal.specs.Damage.{IsDamagedAt}
 use Rattle.office_journal.specs.Histories.{History, ImageOf}
-use Rattle.office_journal.specs.Kept.{Holds, disk_of, state_of}
+use Rattle.office_journal.specs.Kept.{HasHistory, Holds, disk_of, state_of}
 use Rattle.office_journal.specs.declared.kept.KeptOffice.{KeptOffice}
 use Rattle.program_ends.specs.Ends.{Telling}
 use Rattle.program_ends.specs.declared.ends.End.{End}
@@ -20,17 +20,20 @@ module _ {D : Type 0} (d : Disks D) where
     pub found : (bytes : List ℕ) → d.seen disk ≡ Some bytes → (file : List ℕ) × (h : History) × ImageOf bytes file h × Holds d.seen d.may_leave kept file h None
     pub reads : ReadsAsTheBoard (state_of kept)
     pub same : d.seen (disk_of kept) ≡ d.seen disk
+    -- whatever the disk tells
+    pub legal : (file : List ℕ) × (h : History) × HasHistory kept file h
+    pub steady : d.faults (disk_of kept) ≡ d.faults disk
     pub later : d.faults disk ≤ d.faults (disk_of kept)
     pub moments : LeavesOnly d.moment d.left_since disk (disk_of kept) (d.may_leave disk)
     -- what a crash since the first sync that answered might have left is what a read gives
     pub settled : (bytes before : List ℕ) → d.seen disk ≡ Some bytes → d.syncs disk ≡ Some before → Settles d.moment d.left_since d.syncs before bytes (disk_of kept)
 
-  -- Why no office is opened: the file is fresh, it is damaged at this byte, the disk failed in this call, or memory lacked.
+  -- Why no office is opened: the file is fresh, it is damaged at this byte, the disk failed in this call, or memory lacked, and the count of faults is as before.
   abbrev pub IsWhy : D → D → End → Type 0
   IsWhy disk next NoJournal = (bytes : List ℕ) → d.seen disk ≡ Some bytes → Fresh bytes
   IsWhy disk next (Damaged at) = (bytes : List ℕ) → d.seen disk ≡ Some bytes → IsDamagedAt bytes at
   IsWhy disk next DiskFault = Rose (d.faults disk) (d.faults next)
-  IsWhy disk next OutOfMemory = Unit {0}
+  IsWhy disk next OutOfMemory = d.faults next ≡ d.faults disk
   IsWhy disk next _ = ⊥
 
   -- the disk is as it was

@@ -1,5 +1,5 @@
 -- What the lines of a script are answered, and how the kept office grows by them.
-use Rattle.std.specs.Prelude.{◌≡◌, ◌⊎◌, ◌++◌, ◌≤◌, ℕ, ℤ, List, [], ◌∷◌, Option, None, Some, Result, Ok, Err}
+use Rattle.std.specs.Prelude.{◌≡◌, ◌⊎◌, ◌++◌, ◌+◌, ◌≤◌, ℕ, ℤ, List, [], ◌∷◌, Option, None, Some, Result, Ok, Err}
 use Rattle.desk_traits.specs.Clocks.{GivesTheSame, Ticks}
 use Rattle.desk_traits.specs.Crash.{LeavesOnly}
 use Rattle.desk_traits.specs.declared.clocks.Clock.{Ghosts as Clocks}
@@ -28,6 +28,80 @@ pub record Scripted (K C : Type 0) : Type 0 where
   pub kept : K
   pub clock : C
 
+-- what a line gave to the disk: nothing, an entry that stands in the journal since, or an entry under which the disk failed
+pub data Gave : Type 0 where
+  nothing : Gave
+  added : Entered → Gave
+  faulted : Entered → Gave
+
+-- what came of a line: the text of its answer, the reading at which it was judged, unless it is empty, and what it gave to the disk
+pub record Said : Type 0 where
+  pub text : List ℕ
+  pub reading : Option ℤ
+  pub gave : Gave
+
+-- all that is told
+abbrev pub texts_in : List Said → List ℕ
+texts_in [] = []
+texts_in (w ∷ said) = w.text ++ texts_in said
+
+abbrev pub with_added : Gave → List Entered → List Entered
+with_added Gave.nothing entries = entries
+with_added (Gave.added x) entries = x ∷ entries
+with_added (Gave.faulted x) entries = entries
+
+-- the entries that lines added, in order
+abbrev pub entries_in : List Said → List Entered
+entries_in [] = []
+entries_in (w ∷ said) = with_added w.gave (entries_in said)
+
+-- the entries under which the disk failed since an entry was last added
+abbrev pub failed_after : List Entered → Gave → List Entered
+failed_after failed Gave.nothing = failed
+failed_after failed (Gave.added x) = []
+failed_after failed (Gave.faulted x) = x ∷ failed
+
+abbrev pub failed_from : List Entered → List Said → List Entered
+failed_from failed [] = failed
+failed_from failed (w ∷ said) = failed_from (failed_after failed w.gave) said
+
+abbrev pub IsAmong : Entered → List Entered → Type 0
+IsAmong x [] = ⊥
+IsAmong x (y ∷ entries) = (x ≡ y) ⊎ IsAmong x entries
+
+-- What may be pending behind these lines: an entry under which the disk failed, since an entry was last added. So nothing is where the last entry that was given to the disk was added.
+abbrev pub MayPend : List Entered → Change → Type 0
+MayPend failed (Change.entry x) = IsAmong x failed
+MayPend failed Change.marked = ⊥
+
+abbrev pub one_if_failed : Gave → ℕ
+one_if_failed Gave.nothing = 0
+one_if_failed (Gave.added x) = 0
+one_if_failed (Gave.faulted x) = 1
+
+-- how many lines were answered that the disk failed
+abbrev pub faults_in : List Said → ℕ
+faults_in [] = 0
+faults_in (w ∷ said) = one_if_failed w.gave + faults_in said
+
+-- the reading of a line is the next of those ahead
+abbrev pub HasReading : List ℤ → Option ℤ → Type 0
+HasReading ahead None = Unit {0}
+HasReading [] (Some reading) = ⊥
+HasReading (next ∷ more) (Some reading) = reading ≡ next
+
+-- which is taken away, unless it is the last
+abbrev pub ahead_after : List ℤ → Option ℤ → List ℤ
+ahead_after ahead None = ahead
+ahead_after [] (Some reading) = []
+ahead_after (last ∷ []) (Some reading) = last ∷ []
+ahead_after (next ∷ second ∷ more) (Some reading) = second ∷ more
+
+-- these lines had these readings, where those are ahead: the first that is not empty has the first, the next one the next, and those beyond the last have the last
+abbrev pub HaveReadings : List ℤ → List Said → Type 0
+HaveReadings ahead [] = Unit {0}
+HaveReadings ahead (w ∷ said) = HasReading ahead w.reading × HaveReadings (ahead_after ahead w.reading) said
+
 -- the line of an answer
 abbrev pub answer_line : Answer → List ℕ
 answer_line (Accepted text) = ended text
@@ -47,11 +121,6 @@ pub record IsRead {C : Type 0} (k : Clocks C) (clock next : C) (reading : ℤ) :
   pub same : GivesTheSame (k.gives clock) (k.gives next)
   pub ticks : Ticks (k.ahead clock) (k.ahead next) reading
 
--- with one entry more, where there is one
-abbrev pub with_entry : Option Entered → List Entered → List Entered
-with_entry None entries = entries
-with_entry (Some x) entries = x ∷ entries
-
 module _ {D : Type 0} (d : Disks D) where
   -- what becomes of the request of a desk at a reading
   abbrev pub Submits : Asked → ℤ → KeptOffice D d → KeptOffice D d → Answer → Type 0
@@ -59,46 +128,45 @@ module _ {D : Type 0} (d : Disks D) where
       Becomes d.seen d.may_leave d.faults kept next (IsOffered (state_of kept) a.desk a.seq a.request reading)
       (λ text. (reply : Reply) × Repeats (state_of kept) a.desk a.seq a.request reply × (text ≡ reply_text reply)) (Refuses (state_of kept) a.desk a.seq a.request reading) answer
 
-  -- the entry that it adds, where it is accepted
-  abbrev pub entry_in : (a : Asked) (reading : ℤ) (kept next : KeptOffice D d) (answer : Answer) → Submits a reading kept next answer → Option Entered
-  entry_in a reading kept next (Accepted text) becomes = Some becomes.0
-  entry_in a reading kept next _ becomes = None
+  -- what it gives to the disk: its entry, where it is accepted or the disk fails
+  abbrev pub gave_in : (a : Asked) (reading : ℤ) (kept next : KeptOffice D d) (answer : Answer) → Submits a reading kept next answer → Gave
+  gave_in a reading kept next (Accepted text) becomes = Gave.added becomes.0
+  gave_in a reading kept next (Repeated text) becomes = Gave.nothing
+  gave_in a reading kept next (Refused x) becomes = Gave.nothing
+  gave_in a reading kept next DiskFault becomes = Gave.faulted becomes.0
+  gave_in a reading kept next OutOfMemory becomes = Gave.nothing
 
-  -- The request was submitted; its answer is told, and this entry was added. A crash at any moment of it leaves the history that the journal stands for, or that with one change, which was pending or is this request's entry.
-  pub record IsJudged (a : Asked) (reading : ℤ) (kept : KeptOffice D d) (text : List ℕ) (next : KeptOffice D d) (added : Option Entered) : Type 0 where
+  -- The request was submitted; its answer is told, and this was given to the disk. A crash at any moment of it leaves the history that the journal stands for, or that with one change, which was pending or is this request's entry.
+  pub record IsJudged (a : Asked) (reading : ℤ) (kept : KeptOffice D d) (text : List ℕ) (next : KeptOffice D d) (gave : Gave) : Type 0 where
     pub answer : Answer
     pub becomes : Submits a reading kept next answer
     pub told : text ≡ answer_line answer
-    pub entry : added ≡ entry_in a reading kept next answer becomes
+    pub given : gave ≡ gave_in a reading kept next answer becomes
     pub later : d.faults (disk_of kept) ≤ d.faults (disk_of next)
     pub moments : (file : List ℕ) (h : History) (pending : Option Change) → Holds d.seen d.may_leave kept file h pending
         → LeavesOnly d.moment d.left_since (disk_of kept) (disk_of next) (Leaves file h (λ change. (pending ≡ Some change) ⊎ IsAsked (state_of kept) a.desk a.seq a.request reading change))
 
   -- what is no request gets its fault
-  abbrev pub AnswersAsked : ℤ → KeptOffice D d → Result Asked Refusal → List ℕ → KeptOffice D d → Option Entered → Type 0
-  AnswersAsked reading kept (Err x) text next added = (text ≡ refusal_line x) × (next ≡ kept) × (added ≡ None)
-  AnswersAsked reading kept (Ok a) text next added = IsJudged a reading kept text next added
+  abbrev pub AnswersAsked : ℤ → KeptOffice D d → Result Asked Refusal → List ℕ → KeptOffice D d → Gave → Type 0
+  AnswersAsked reading kept (Err x) text next gave = (text ≡ refusal_line x) × (next ≡ kept) × (gave ≡ Gave.nothing)
+  AnswersAsked reading kept (Ok a) text next gave = IsJudged a reading kept text next gave
 
-  -- memory lacked before the request was judged
-  abbrev pub LacksMemory : KeptOffice D d → List ℕ → KeptOffice D d → Option Entered → Type 0
-  LacksMemory kept text next added = (text ≡ ended out_of_memory_text) × (next ≡ kept) × (added ≡ None)
+  -- memory lacked before the request was judged, or for the text of its fault
+  abbrev pub LacksMemory : KeptOffice D d → List ℕ → KeptOffice D d → Gave → Type 0
+  LacksMemory kept text next gave = (text ≡ ended out_of_memory_text) × (next ≡ kept) × (gave ≡ Gave.nothing)
 
   module _ {C : Type 0} (k : Clocks C) where
     -- a line is judged at a reading of its own, and may add an entry; an empty line gets no answer and no reading
-    abbrev pub AnswersLine : Scripted (KeptOffice D d) C → Option (List ℕ) → List ℕ → Scripted (KeptOffice D d) C → Option Entered → Type 0
-    AnswersLine s (Some []) text next added = (text ≡ []) × (next ≡ s) × (added ≡ None)
-    AnswersLine s line text next added = (reading : ℤ) × IsRead k s.clock next.clock reading
-        × (AnswersAsked reading s.kept (line_asks line) text next.kept added ⊎ LacksMemory s.kept text next.kept added)
+    abbrev pub AnswersLine : Scripted (KeptOffice D d) C → Option (List ℕ) → Said → Scripted (KeptOffice D d) C → Type 0
+    AnswersLine s (Some []) w next = (w.text ≡ []) × (next ≡ s) × (w.reading ≡ None) × (w.gave ≡ Gave.nothing)
+    AnswersLine s line w next = (reading : ℤ) × (w.reading ≡ Some reading) × IsRead k s.clock next.clock reading
+        × (AnswersAsked reading s.kept (line_asks line) w.text next.kept w.gave ⊎ LacksMemory s.kept w.text next.kept w.gave)
 
     abbrev pub Answers : Scripted (KeptOffice D d) C → Option (List ℕ) → List ℕ → Scripted (KeptOffice D d) C → Type 0
-    Answers s line text next = (added : Option Entered) × AnswersLine s line text next added
+    Answers s line text next = (w : Said) × (text ≡ w.text) × AnswersLine s line w next
 
-    -- Where memory lacks for a line's answer the run ends: nothing has changed, or the request was accepted and its answer is not told.
-    abbrev pub Lacks : Scripted (KeptOffice D d) C → Option (List ℕ) → Scripted (KeptOffice D d) C → Type 0
-    Lacks s line next = (next ≡ s) ⊎ ((text : List ℕ) × (x : Entered) × AnswersLine s line text next (Some x))
-
-    -- the lines are answered one after another; this is all that is told, and these are the entries that they add
-    abbrev pub Goes : Scripted (KeptOffice D d) C → List (List ℕ) → List ℕ → Scripted (KeptOffice D d) C → List Entered → Type 0
-    Goes s [] told z entries = (told ≡ []) × (z ≡ s) × (entries ≡ [])
-    Goes s (line ∷ lines) told z entries = (text : List ℕ) × (next : Scripted (KeptOffice D d) C) × (rest : List ℕ) × (added : Option Entered) × (more : List Entered)
-        × AnswersLine s (fit line) text next added × (told ≡ text ++ rest) × Goes next lines rest z more × (entries ≡ with_entry added more)
+    -- the lines are answered one after another, and this came of each
+    abbrev pub Goes : Scripted (KeptOffice D d) C → List (List ℕ) → List Said → Scripted (KeptOffice D d) C → Type 0
+    Goes s [] [] z = z ≡ s
+    Goes s (line ∷ lines) (w ∷ said) z = (next : Scripted (KeptOffice D d) C) × AnswersLine s (fit line) w next × Goes next lines said z
+    Goes s _ _ z = ⊥

@@ -4,3 +4,4 @@ pub mod Office
 pub mod Tellings
 pub mod Runs
 pub mod Keeping
+pub mod Words

@@ -9,6 +9,8 @@ mod requests;
 mod settings;
 mod summary;
 mod texts;
+mod words;
 
 pub use drill::{Drill, run_drill};
 pub use laws::texts_that_read_as_the_board_have_no_breach;
+pub use words::drill_in;

@@ -30,7 +30,7 @@ module _ {D C : Type 0} (d : Disks D) (k : Clocks C) where
   abbrev pub Does : Command → ℕ → D → D → C → C → Option (List ℕ) → Option (List ℕ) → Option (List ℕ) → Option (List ℕ) → ℕ → ℕ → ℕ → ℕ → ℕ → Type 0
   Does command.Init limit disk next clock clock' left left' taken taken' reads reads' writes writes' status = IsInitRun d disk next left left' taken taken' reads reads' writes writes' status × (clock' ≡ clock)
   Does command.Script limit disk next clock clock' left left' taken taken' reads reads' writes writes' status =
-      (IsUnread left left' reads reads' × IsUnopenedRun d disk next taken taken' writes writes' status × (clock' ≡ clock)) ⊎ IsScriptRun d k disk next clock limit left left' taken taken' reads reads' writes writes' status
+      (IsUnread left left' reads reads' × IsUnopenedRun d disk next taken taken' writes writes' status × (clock' ≡ clock)) ⊎ IsScriptRun d k disk next clock clock' limit left left' taken taken' reads reads' writes writes' status
   Does command.Export limit disk next clock clock' left left' taken taken' reads reads' writes writes' status =
       IsUnread left left' reads reads' × (clock' ≡ clock) × (IsUnopenedRun d disk next taken taken' writes writes' status ⊎ IsExportRun d disk next taken taken' writes writes' status)
   Does command.Upgrade limit disk next clock clock' left left' taken taken' reads reads' writes writes' status =

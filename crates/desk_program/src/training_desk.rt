@@ -81,12 +81,7 @@ fn refusal_reply(alloc: Global, refusal: &Refusal) -> Result<Reply, Oom>
 }
 
 /// What an issue is answered at a minute.
-fn answer_issue(
-    alloc: Global,
-    office: &mut Office,
-    at: Minute,
-    part: PutPart,
-) -> Result<Reply, Oom>
+fn answer_issue(alloc: Global, office: &mut Office, at: Minute, part: PutPart) -> Result<Reply, Oom>
     requires form { IsIssuePart part }
     requires training { IsTraining office.old.state at }
     ensures answered { IfOk result (λ reply. AnswersIssue at office.old.state (Ok part) (bytes_of reply) office.new.state) }

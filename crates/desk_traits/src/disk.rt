@@ -32,7 +32,8 @@ pub trait Disk {
         ensures seen { seen self.new ≡ seen self.old }
         ensures crash { Passes Same (moment self.old) (moment self.new) (may_leave self.old) (left_since self.old) (left_since self.new) }
         ensures syncs { syncs self.new ≡ syncs self.old }
-        ensures cause { HasCause (faults self.old) (faults self.new) result };
+        ensures cause { HasCause (faults self.old) (faults self.new) result }
+        ensures steady { OnOk result (faults self.new ≡ faults self.old) };
 
     /// The bytes from a place on, into the whole buffer.
     fn read_at(&mut self, at: u64, into: &mut [u8]) -> Result<(), Failed>
@@ -41,7 +42,8 @@ pub trait Disk {
         ensures seen { seen self.new ≡ seen self.old }
         ensures crash { Passes Same (moment self.old) (moment self.new) (may_leave self.old) (left_since self.old) (left_since self.new) }
         ensures syncs { syncs self.new ≡ syncs self.old }
-        ensures cause { HasCause (faults self.old) (faults self.new) result };
+        ensures cause { HasCause (faults self.old) (faults self.new) result }
+        ensures steady { OnOk result (faults self.new ≡ faults self.old) };
 
     /// Writes over what is there, and past the end.
     fn write_at(&mut self, at: u64, bytes: &[u8]) -> Result<(), Failed>
@@ -49,7 +51,8 @@ pub trait Disk {
         ensures seen { Writes at bytes.now (seen self.old) (seen self.new) result }
         ensures crash { Passes (Torn at (length bytes.now)) (moment self.old) (moment self.new) (may_leave self.old) (left_since self.old) (left_since self.new) }
         ensures syncs { syncs self.new ≡ syncs self.old }
-        ensures cause { HasCause (faults self.old) (faults self.new) result };
+        ensures cause { HasCause (faults self.old) (faults self.new) result }
+        ensures steady { OnOk result (faults self.new ≡ faults self.old) };
 
     /// After it a crash leaves what a read gives. A failed one makes nothing stable.
     fn sync(&mut self) -> Result<(), Failed>
@@ -57,7 +60,8 @@ pub trait Disk {
         ensures seen { seen self.new ≡ seen self.old }
         ensures crash { Passes Same (moment self.old) (moment self.new) (may_leave self.old) (left_since self.old) (left_since self.new) }
         ensures syncs { Answers (moment self.new) (syncs self.old) (syncs self.new) result }
-        ensures cause { HasCause (faults self.old) (faults self.new) result };
+        ensures cause { HasCause (faults self.old) (faults self.new) result }
+        ensures steady { OnOk result (faults self.new ≡ faults self.old) };
 
     /// A crash that changes nothing is one that may come.
     ghost seen_is_left: { (disk : Self) (file : List ℕ) → seen disk ≡ Some file → may_leave disk file };

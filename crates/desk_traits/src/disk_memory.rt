@@ -141,6 +141,7 @@ impl MemDisk {
         ensures told { told_of self.new ≡ told_of self.old }
         ensures later { self.old.faults ≤ self.new.faults }
         ensures rose { Rose self.old.faults self.new.faults }
+        ensures counted { self.new.faults ≡ next_count self.old.faults }
         ensures lacked { self.new.lacked ≡ (if noted then self.old.lacked else true) }
     {
         self.faults = self.faults.saturating_add(1);
@@ -157,6 +158,8 @@ impl MemDisk {
         ensures comes { Comes (IsToFail (told_of self.old)) self.old.calls.items self.new.calls.items good failed self.old.lacked self.new.lacked result }
         ensures later { self.old.faults ≤ self.new.faults }
         ensures cause { result ≡ false → Rose self.old.faults self.new.faults }
+        ensures steady { result ≡ true → self.new.faults ≡ self.old.faults }
+        ensures counted { result ≡ false → self.new.faults ≡ next_count self.old.faults }
     {
         if self.called() {
             let noted = note(&mut self.calls, failed);
@@ -201,6 +204,8 @@ impl Disk for MemDisk {
         ensures crash { Passes Same (⟦<MemDisk as Disk>⟧.moment self.old) (⟦<MemDisk as Disk>⟧.moment self.new) (⟦<MemDisk as Disk>⟧.may_leave self.old) (⟦<MemDisk as Disk>⟧.left_since self.old) (⟦<MemDisk as Disk>⟧.left_since self.new) }
         ensures syncs { ⟦<MemDisk as Disk>⟧.syncs self.new ≡ ⟦<MemDisk as Disk>⟧.syncs self.old }
         ensures cause { HasCause (⟦<MemDisk as Disk>⟧.faults self.old) (⟦<MemDisk as Disk>⟧.faults self.new) result }
+        ensures steady { OnOk result (⟦<MemDisk as Disk>⟧.faults self.new ≡ ⟦<MemDisk as Disk>⟧.faults self.old) }
+        ensures counted { OnErr result (⟦<MemDisk as Disk>⟧.faults self.new ≡ next_count (⟦<MemDisk as Disk>⟧.faults self.old)) }
         ensures counts { Counts self.old self.new Looked LookFailed result }
     {
         if self.asked(DiskCall::Looked, DiskCall::LookFailed) {
@@ -217,6 +222,8 @@ impl Disk for MemDisk {
         ensures crash { Passes Same (⟦<MemDisk as Disk>⟧.moment self.old) (⟦<MemDisk as Disk>⟧.moment self.new) (⟦<MemDisk as Disk>⟧.may_leave self.old) (⟦<MemDisk as Disk>⟧.left_since self.old) (⟦<MemDisk as Disk>⟧.left_since self.new) }
         ensures syncs { ⟦<MemDisk as Disk>⟧.syncs self.new ≡ ⟦<MemDisk as Disk>⟧.syncs self.old }
         ensures cause { HasCause (⟦<MemDisk as Disk>⟧.faults self.old) (⟦<MemDisk as Disk>⟧.faults self.new) result }
+        ensures steady { OnOk result (⟦<MemDisk as Disk>⟧.faults self.new ≡ ⟦<MemDisk as Disk>⟧.faults self.old) }
+        ensures counted { OnErr result (⟦<MemDisk as Disk>⟧.faults self.new ≡ next_count (⟦<MemDisk as Disk>⟧.faults self.old)) }
         ensures counts { Counts self.old self.new (Read at (length into.old)) (ReadFailed at (length into.old)) result }
     {
         let count = into.len();
@@ -237,6 +244,8 @@ impl Disk for MemDisk {
         ensures crash { Passes (Torn at (length bytes.now)) (⟦<MemDisk as Disk>⟧.moment self.old) (⟦<MemDisk as Disk>⟧.moment self.new) (⟦<MemDisk as Disk>⟧.may_leave self.old) (⟦<MemDisk as Disk>⟧.left_since self.old) (⟦<MemDisk as Disk>⟧.left_since self.new) }
         ensures syncs { ⟦<MemDisk as Disk>⟧.syncs self.new ≡ ⟦<MemDisk as Disk>⟧.syncs self.old }
         ensures cause { HasCause (⟦<MemDisk as Disk>⟧.faults self.old) (⟦<MemDisk as Disk>⟧.faults self.new) result }
+        ensures steady { OnOk result (⟦<MemDisk as Disk>⟧.faults self.new ≡ ⟦<MemDisk as Disk>⟧.faults self.old) }
+        ensures counted { OnErr result (⟦<MemDisk as Disk>⟧.faults self.new ≡ next_count (⟦<MemDisk as Disk>⟧.faults self.old)) }
         ensures counts { Counts self.old self.new (Wrote at bytes.now) (WriteFailed at bytes.now) result }
     {
         if self.called() {
@@ -259,6 +268,8 @@ impl Disk for MemDisk {
         ensures crash { Passes Same (⟦<MemDisk as Disk>⟧.moment self.old) (⟦<MemDisk as Disk>⟧.moment self.new) (⟦<MemDisk as Disk>⟧.may_leave self.old) (⟦<MemDisk as Disk>⟧.left_since self.old) (⟦<MemDisk as Disk>⟧.left_since self.new) }
         ensures syncs { Answers (⟦<MemDisk as Disk>⟧.moment self.new) (⟦<MemDisk as Disk>⟧.syncs self.old) (⟦<MemDisk as Disk>⟧.syncs self.new) result }
         ensures cause { HasCause (⟦<MemDisk as Disk>⟧.faults self.old) (⟦<MemDisk as Disk>⟧.faults self.new) result }
+        ensures steady { OnOk result (⟦<MemDisk as Disk>⟧.faults self.new ≡ ⟦<MemDisk as Disk>⟧.faults self.old) }
+        ensures counted { OnErr result (⟦<MemDisk as Disk>⟧.faults self.new ≡ next_count (⟦<MemDisk as Disk>⟧.faults self.old)) }
         ensures counts { Counts self.old self.new Synced SyncFailed result }
     {
         if self.asked(DiskCall::Synced, DiskCall::SyncFailed) {

@@ -23,6 +23,8 @@ impl<R: Read> Source for StdSource<R> {
 
     ghost faults = { λ s. s.faults };
 
+    ghost reads = { λ _ _. Unit {0} };
+
     fn read(&mut self, into: &mut [u8]) -> Result<usize, Failed> {
         match self.inner.read(into) {
             Ok(count) => Ok(count),
@@ -51,6 +53,12 @@ impl<W: Write> Sink for StdSink<W> {
     ghost taken = { λ _. None };
 
     ghost faults = { λ s. s.faults };
+
+    ghost writes = { λ _ _. Unit {0} };
+
+    ghost no_writes = { λ _. tt };
+
+    ghost more_writes = { λ _ _ _ _ _. tt };
 
     fn write(&mut self, bytes: &[u8]) -> Result<usize, Failed> {
         match self.inner.write(bytes) {

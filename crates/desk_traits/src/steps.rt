@@ -15,6 +15,7 @@ pub fn write_synced<D: Disk>(disk: &mut D, at: u64, bytes: &[u8]) -> Result<(), 
     ensures syncs { Answers (D.moment disk.new) (D.syncs disk.old) (D.syncs disk.new) result }
     ensures durable { OnOk result (Only (D.seen disk.new) (D.may_leave disk.new)) }
     ensures cause { HasCause (D.faults disk.old) (D.faults disk.new) result }
+    ensures steady { OnOk result (D.faults disk.new ≡ D.faults disk.old) }
 {
     disk.write_at(at, bytes)?;
     disk.sync()

@@ -1,5 +1,5 @@
 //! Sources and sinks in memory, which fail at exactly the calls that they are told, and a sink where memory lacks.
-ghost use Rattle.std.specs.Prelude.{◌≡◌, ◌≤◌, ◌↔◌, length, min, Some, IfOk, OnOk, IsErr, Contains, [], false};
+ghost use Rattle.std.specs.Prelude.{◌≡◌, ◌≤◌, ◌↔◌, length, min, Some, IfOk, OnOk, OnErr, IsErr, Contains, [], false};
 ghost use Rattle.desk_traits.specs.Faults.{HasCause, next_count};
 ghost use Rattle.desk_traits.specs.Streams.{Reads, Writes};
 ghost use Rattle.desk_traits.specs.StreamMemory.{FailsAsTold};
@@ -55,10 +55,14 @@ impl Source for MemSource {
 
     ghost faults = { λ s. s.faults };
 
+    ghost reads = { λ _ _. Unit {0} };
+
     fn read(&mut self, into: &mut [u8]) -> Result<usize, Failed>
         ensures bytes { Reads (Some self.old.left) (Some self.new.left) result into.new }
         ensures cause { HasCause self.old.faults self.new.faults result }
         ensures steady { OnOk result (self.new.faults ≡ self.old.faults) }
+        ensures counted { OnErr result (self.new.faults ≡ next_count self.old.faults) }
+        ensures beside { Unit {0} }
 
         // It fails at exactly the listed calls, and gives all that a piece and the buffer may hold at the others.
         ensures failing { IsErr result ↔ Contains self.old.failing (next_count self.old.calls) }
@@ -126,11 +130,19 @@ impl Sink for MemSink {
 
     ghost faults = { λ s. s.faults };
 
+    ghost writes = { λ _ _. Unit {0} };
+
+    ghost no_writes = { λ _. tt };
+
+    ghost more_writes = { λ _ _ _ _ _. tt };
+
     /// Takes the whole piece. A growth of its memory that is refused is a counted fault.
     fn write(&mut self, bytes: &[u8]) -> Result<usize, Failed>
         ensures bytes { Writes (Some self.old.taken) (Some self.new.taken) result bytes.now }
         ensures cause { HasCause self.old.faults self.new.faults result }
         ensures steady { OnOk result (self.new.faults ≡ self.old.faults) }
+        ensures counted { OnErr result (self.new.faults ≡ next_count self.old.faults) }
+        ensures beside { Unit {0} }
 
         // It fails at exactly the listed calls, and where memory lacks, and takes the whole piece at the others.
         ensures failing { FailsAsTold (Contains self.old.failing (next_count self.old.calls)) self.old.lacked self.new.lacked result }

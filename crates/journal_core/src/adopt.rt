@@ -80,6 +80,8 @@ fn read_record<D: Disk>(alloc: Global, disk: &mut D, at: u64, n: u64) -> Result<
     ensures crash { Passes Same (D.moment disk.old) (D.moment disk.new) (D.may_leave disk.old) (D.left_since disk.old) (D.left_since disk.new) }
     ensures later { D.faults disk.old ≤ D.faults disk.new }
     ensures cause { IsErrOf result ReadFault.Failing → Rose (D.faults disk.old) (D.faults disk.new) }
+    ensures steady { OnOk result (D.faults disk.new ≡ D.faults disk.old) }
+    ensures lacking { IsErrOf result ReadFault.Memory → D.faults disk.new ≡ D.faults disk.old }
 {
     let mut gate = [0; 1];
     disk.read_at(at, &mut gate)?;
@@ -110,6 +112,8 @@ fn scan<D: Disk>(alloc: Global, disk: &mut D, n: u64) -> Result<Found, ReadFault
     ensures crash { Passes Same (D.moment disk.old) (D.moment disk.new) (D.may_leave disk.old) (D.left_since disk.old) (D.left_since disk.new) }
     ensures later { D.faults disk.old ≤ D.faults disk.new }
     ensures cause { IsErrOf result ReadFault.Failing → Rose (D.faults disk.old) (D.faults disk.new) }
+    ensures steady { OnOk result (D.faults disk.new ≡ D.faults disk.old) }
+    ensures lacking { IsErrOf result ReadFault.Memory → D.faults disk.new ≡ D.faults disk.old }
 {
     let mut bodies: List<Text> = List::new(alloc);
     let mut at: u64 = 0;
@@ -141,6 +145,8 @@ pub(crate) fn find<D: Disk>(alloc: Global, disk: &mut D) -> Result<Found, ReadFa
     ensures crash { Passes Same (D.moment disk.old) (D.moment disk.new) (D.may_leave disk.old) (D.left_since disk.old) (D.left_since disk.new) }
     ensures later { D.faults disk.old ≤ D.faults disk.new }
     ensures cause { IsErrOf result ReadFault.Failing → Rose (D.faults disk.old) (D.faults disk.new) }
+    ensures steady { OnOk result (D.faults disk.new ≡ D.faults disk.old) }
+    ensures lacking { IsErrOf result ReadFault.Memory → D.faults disk.new ≡ D.faults disk.old }
 {
     match look(disk)? {
         Start::Short => Ok(Found::Unmade),

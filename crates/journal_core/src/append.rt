@@ -48,6 +48,9 @@ impl<D: Disk> Journal<D> {
         ensures later { D.faults (disk_of self.old) ≤ D.faults (disk_of self.new) }
         ensures cause { IsErrOf result AppendFault.DiskFault → Rose (D.faults (disk_of self.old)) (D.faults (disk_of self.new)) }
 
+        // But for that the count of its faults is as before.
+        ensures steady { OnOk result (D.faults (disk_of self.new) ≡ D.faults (disk_of self.old)) }
+
         // From now on each crash leaves the bodies with this one, and nothing is pending.
         ensures ok { (bodies : List (List ℕ)) (pending : Option (List ℕ)) → Keeps D.seen D.may_leave self.old bodies pending
             → OnOk result (Keeps D.seen D.may_leave self.new (bodies ++ body.now ∷ []) None × Only (D.seen (disk_of self.new)) (D.may_leave (disk_of self.new))) }
@@ -85,6 +88,7 @@ impl<D: Disk> Journal<D> {
         ensures any_moment { (bodies : List (List ℕ)) (pending : Option (List ℕ)) → Keeps D.seen D.may_leave self.old bodies pending
             → LeavesOnly D.moment D.left_since (disk_of self.old) (disk_of self.new) (Rests bodies pending) }
         ensures cause { HasCause (D.faults (disk_of self.old)) (D.faults (disk_of self.new)) result }
+        ensures steady { OnOk result (D.faults (disk_of self.new) ≡ D.faults (disk_of self.old)) }
     {
         if self.unsure {
             write_synced(&mut self.disk, self.gate, b".")?;
@@ -106,6 +110,7 @@ impl<D: Disk> Journal<D> {
         ensures any_moment { (bodies : List (List ℕ)) → Keeps D.seen D.may_leave self.old bodies None
             → LeavesOnly D.moment D.left_since (disk_of self.old) (disk_of self.new) (λ c. Image c bodies) }
         ensures cause { HasCause (D.faults (disk_of self.old)) (D.faults (disk_of self.new)) result }
+        ensures steady { OnOk result (D.faults (disk_of self.new) ≡ D.faults (disk_of self.old)) }
     {
         write_synced(&mut self.disk, self.gate + 1, body.framed())
     }
@@ -123,6 +128,7 @@ impl<D: Disk> Journal<D> {
         ensures any_moment { (bodies : List (List ℕ)) → IsStaged D.seen D.may_leave self.old.disk self.old.gate bodies body.now
             → LeavesOnly D.moment D.left_since (disk_of self.old) (disk_of self.new) (λ c. Half c bodies body.now) }
         ensures cause { HasCause (D.faults (disk_of self.old)) (D.faults (disk_of self.new)) result }
+        ensures steady { OnOk result (D.faults (disk_of self.new) ≡ D.faults (disk_of self.old)) }
     {
         self.unsure = true;
         write_synced(&mut self.disk, self.gate, b"G")?;

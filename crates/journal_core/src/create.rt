@@ -26,6 +26,7 @@ pub(crate) fn look<D: Disk>(disk: &mut D) -> Result<Start, Failed>
     ensures settled { (file before : List ℕ) → D.seen disk.old ≡ Some file → D.syncs disk.old ≡ Some before → OnOk result (Settles D.moment D.left_since D.syncs before file disk.new) }
     ensures crash { Passes Same (D.moment disk.old) (D.moment disk.new) (D.may_leave disk.old) (D.left_since disk.old) (D.left_since disk.new) }
     ensures cause { HasCause (D.faults disk.old) (D.faults disk.new) result }
+    ensures steady { OnOk result (D.faults disk.new ≡ D.faults disk.old) }
 {
     disk.sync()?;
     if disk.len()? < 2 {
@@ -54,6 +55,7 @@ fn first<D: Disk>(disk: &mut D, body: &Packet) -> Result<(), Failed>
     ensures made { IsBlank D.seen D.may_leave disk.old → OnOk result (IsMade D.seen D.may_leave disk.new body.now) }
     ensures any_moment { IsBlank D.seen D.may_leave disk.old → LeavesOnly D.moment D.left_since disk.old disk.new (IsMaking body.now) }
     ensures cause { HasCause (D.faults disk.old) (D.faults disk.new) result }
+    ensures steady { OnOk result (D.faults disk.new ≡ D.faults disk.old) }
 {
     write_synced(disk, 1, body.framed())?;
     write_synced(disk, 0, b"G")
@@ -71,6 +73,7 @@ pub(crate) fn make<D: Disk>(disk: &mut D, body: &Packet) -> Result<bool, Failed>
     ensures any_moment { (file : List ℕ) → D.seen disk.old ≡ Some file
         → LeavesOnly D.moment D.left_since disk.old disk.new (λ c. D.may_leave disk.old c ⊎ IsMaking body.now c) }
     ensures cause { HasCause (D.faults disk.old) (D.faults disk.new) result }
+    ensures steady { OnOk result (D.faults disk.new ≡ D.faults disk.old) }
 {
     match look(disk)? {
         Start::Other => Ok(false),

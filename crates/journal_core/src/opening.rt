@@ -30,6 +30,9 @@ impl<D: Disk> Journal<D> {
 
         // The disk failed in this call.
         ensures cause { HasCause (D.faults disk.old) (D.faults disk.new) result }
+
+        // But for that the count of its faults is as before.
+        ensures steady { OnOk result (D.faults disk.new ≡ D.faults disk.old) }
     {
         match look(disk)? {
             Start::Other => Ok(false),
@@ -60,6 +63,11 @@ impl<D: Disk> Journal<D> {
         // The disk failed in this call.
         ensures cause { IfErr result (λ e. e.1 ≡ CreateFault.DiskFault → Rose (D.faults disk) (D.faults e.0)) }
         ensures later { MatchResult result (λ journal. D.faults disk ≤ D.faults (disk_of journal)) (λ e. D.faults disk ≤ D.faults e.0) }
+
+        // But for that the count of its faults is as before.
+        ensures steady { MatchResult result
+            (λ journal. D.faults (disk_of journal) ≡ D.faults disk)
+            (λ e. e.1 ≡ CreateFault.NotFresh → D.faults e.0 ≡ D.faults disk) }
 
         // A crash at any moment of the call leaves what one at its start might have left, or a file that is being made.
         ensures any_moment { (file : List ℕ) → D.seen disk ≡ Some file
@@ -99,6 +107,11 @@ impl<D: Disk> Journal<D> {
         // The disk failed in this call.
         ensures cause { IfErr result (λ e. e.1 ≡ AdoptFault.DiskFault → Rose (D.faults disk) (D.faults e.0)) }
         ensures later { MatchResult result (λ r. D.faults disk ≤ D.faults (disk_of r.0)) (λ e. D.faults disk ≤ D.faults e.0) }
+
+        // But for that the count of its faults is as before.
+        ensures steady { MatchResult result
+            (λ r. D.faults (disk_of r.0) ≡ D.faults disk)
+            (λ e. (e.1 ≡ AdoptFault.DiskFault → ⊥) → D.faults e.0 ≡ D.faults disk) }
 
         // Whatever it answers, a read gives the same, and a crash since its start leaves what one at its start might have left.
         ensures seen { MatchResult result (λ r. D.seen (disk_of r.0) ≡ D.seen disk) (λ e. D.seen e.0 ≡ D.seen disk) }

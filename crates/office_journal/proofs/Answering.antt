@@ -1,18 +1,20 @@
 -- What becomes of a kept office between the start of a request and its answer: what is prepared leaves the state as it was.
-use Rattle.std.proofs.Common.{◌≡◌, ◌≢◌, ◌⊎◌, ◌+◌, ◌-◌, ◌^◌, min, inl, inr, ⊎_elim, ℕ, ℤ, List, Option, Some, option_map, refl, sym, ◌∙◌, ap, subst}
+use Rattle.std.proofs.Common.{◌≡◌, ◌≢◌, ◌⊎◌, ◌+◌, ◌-◌, ◌^◌, min, inl, inr, ⊎_elim, ℕ, ℤ, List, Option, None, Some, length, option_map, refl, sym, ◌∙◌, ap, subst}
 use Rattle.desk_traits.specs.Faults.{Rose}
 use Rattle.hazard_types.specs.declared.refusal.Refusal.{Refusal}
 use Rattle.hazard_types.specs.declared.request.Request.{Request}
 use Rattle.journal_core.specs.Kept.{Keeps}
+use Rattle.request_json.specs.Replies.{reply_text}
 use Rattle.office_core.specs.Histories.{Entered}
 use Rattle.office_core.specs.Prepared.{IsReady, Readied}
 use Rattle.office_core.specs.State.{State}
 use Rattle.office_core.specs.Step.{Accepts, entry_of, state_after}
 use Rattle.office_core.specs.Views.{OfficeView}
+use Rattle.office_journal.specs.Bodies.{entry_body}
 use Rattle.office_journal.specs.Changes.{Change, Leaves, body_of}
 use Rattle.office_journal.specs.Histories.{History, IsHistory, bodies}
-use Rattle.office_journal.specs.Kept.{Holds, disk_of, entries_of, gate_of, notes_of, state_of}
-use Rattle.office_journal.specs.Outcomes.{Becomes, HasEntered, HasFailed, IsAsBefore}
+use Rattle.office_journal.specs.Kept.{HasHistory, Holds, disk_of, entries_of, gate_of, notes_of, state_of}
+use Rattle.office_journal.specs.Outcomes.{Becomes, HasEntered, HasFailed, IsAsBefore, Names, StandsBeside}
 use Rattle.office_journal.specs.Submitting.{IsAsked, IsOffered, IsTooLong, entered}
 use Rattle.office_journal.specs.declared.answers.Answer.{Answer}
 use Rattle.office_journal.specs.declared.answers.Answer.TheVariants.{Accepted, Repeated, Refused, DiskFault, OutOfMemory}
@@ -42,6 +44,13 @@ module _ {D : Type 0} {d : _} (seen : D → Option (List ℕ)) (may_leave : D �
   gate_same : gate_of mid ≡ gate_of old
   gate_same = ap (λ j. j.gate) journal
 
+  history_on : (file : List ℕ) (h : History) → HasHistory old file h → HasHistory mid file h
+  history_on file h has = record {
+    history = subst (λ (z : State). IsHistory file h z) (sym state) has.history;
+    entries = entries ∙ has.entries;
+    gate = gate_same ∙ has.gate;
+  }
+
   -- with what was prepared, all is as it was
   pub still_as_before : IsAsBefore seen may_leave old mid
   still_as_before = record { disk = disk_same; gate = gate_same; state = state; entries = entries; notes = notes; held = holds_on }
@@ -57,19 +66,23 @@ module _ {D : Type 0} {d : _} (seen : D → Option (List ℕ)) (may_leave : D �
       held = λ file h pending holds. is.held file h pending (holds_on file h pending holds);
     }
 
-    entered_on : (x : Entered) → HasEntered seen may_leave mid new x → HasEntered seen may_leave old new x
-    entered_on x is = record {
-      state = is.state ∙ ap (λ (z : State). state_after z x.entry x.made) state;
-      entries = is.entries ∙ ap (λ (n : ℕ). n + 1) entries;
-      notes = is.notes ∙ notes;
-      reads = is.reads;
-      held = λ file h pending holds. is.held file h pending (holds_on file h pending holds);
-    }
-
     module _ (faults : D → ℕ) where
+      entered_on : (x : Entered) → HasEntered seen may_leave faults mid new x → HasEntered seen may_leave faults old new x
+      entered_on x is = record {
+        steady = subst (λ (z : D). faults (disk_of new) ≡ faults z) disk_same is.steady;
+        gate = is.gate ∙ ap (λ (n : ℕ). n + (5 + length (entry_body x))) gate_same;
+        state = is.state ∙ ap (λ (z : State). state_after z x.entry x.made) state;
+        entries = is.entries ∙ ap (λ (n : ℕ). n + 1) entries;
+        notes = is.notes ∙ notes;
+        reads = is.reads;
+        legal = λ file h has. is.legal file h (history_on file h has);
+        held = λ file h pending holds. is.held file h pending (holds_on file h pending holds);
+      }
+
       failed_on : (x : Entered) → HasFailed seen may_leave faults mid new x → HasFailed seen may_leave faults old new x
       failed_on x is = record {
         cause = subst (λ (z : D). Rose (faults z) (faults (disk_of new))) disk_same is.cause;
+        gate = is.gate ∙ gate_same;
         room = λ long. is.room (subst (λ (n : ℕ). IsTooLong n x) (sym gate_same) long);
         state = is.state ∙ state;
         entries = is.entries ∙ entries;
@@ -88,6 +101,16 @@ module _ {D : Type 0} {d : _} (seen : D → Option (List ℕ)) (may_leave : D �
         becomes_on (Refused r) (why, same) = (⊎_elim (λ never. absurd never) (λ full. inr (full.0, full.1, is_offered full.1 full.2, subst (λ (n : ℕ). IsTooLong n full.1) gate_same full.3)) why, as_before_on same)
         becomes_on DiskFault (x, is, has) = (x, is_offered x is, failed_on x has)
         becomes_on OutOfMemory same = as_before_on same
+
+  -- what stands beside the answer
+  pub names_on : (new : KeptOffice D d) (faults : D → ℕ) (p : Readied) (offered : Entered → Type 0) (kept : List ℕ → Type 0) (broken : Refusal → Type 0) → offered (entered p)
+      → (answer : Answer) (told : Option Readied) → Becomes seen may_leave faults mid new (λ x. x ≡ entered p) (λ text. ⊥) (λ x. ⊥) answer → StandsBeside answer p told → Names seen may_leave faults old new offered kept broken answer told
+  names_on new faults p offered kept broken so (Accepted text) told (x, is, reply, has) beside =
+      (p, beside, so, reply ∙ ap (λ (y : Entered). reply_text y.entry.reply) is, subst (λ (y : Entered). HasEntered seen may_leave faults old new y) is (entered_on new faults x has))
+  names_on new faults p offered kept broken so (Repeated text) told becomes beside = beside
+  names_on new faults p offered kept broken so (Refused x) told becomes beside = beside
+  names_on new faults p offered kept broken so DiskFault told becomes beside = beside
+  names_on new faults p offered kept broken so OutOfMemory told becomes beside = beside
 
 -- what a crash leaves while what was prepared is kept
 pub asked_less : (s : State) (desk : List ℕ) (seq : ℕ) (r : Request) (reading : ℤ) (x : Entered) → IsOffered s desk seq r reading x → (file : List ℕ) (h : History) (pending : Option Change) (c : List ℕ)

@@ -1,8 +1,8 @@
 -- What becomes of a kept office where the entry of what was prepared is appended.
-use Rattle.std.proofs.Common.{◌≡◌, ◌≤◌, ◌+◌, ◌⊎◌, inr, ℕ, ℤ, pos, List, [], ◌∷◌, ◌++◌, length, Option, None, Some, option_map, refl, sym, ◌∙◌, subst, arith, length-append}
+use Rattle.std.proofs.Common.{◌≡◌, ◌≤◌, ◌+◌, ◌⊎◌, inr, ℕ, ℤ, pos, List, [], ◌∷◌, ◌++◌, length, Option, None, Some, option_map, refl, sym, ◌∙◌, ap, subst, arith, length-append}
 use Rattle.desk_traits.specs.File.{Only}
 use Rattle.hazard_types.specs.declared.request.Request.{Request}
-use Rattle.journal_core.specs.Image.{IsOneOf}
+use Rattle.journal_core.specs.Image.{IsOneOf, records}
 use Rattle.journal_core.specs.Journal.{MayPend}
 use Rattle.journal_core.specs.Kept.{Keeps}
 use Rattle.office_core.specs.Histories.{Entered}
@@ -10,9 +10,10 @@ use Rattle.office_core.specs.Prepared.{Readied}
 use Rattle.office_core.specs.State.{State}
 use Rattle.office_core.specs.Step.{Accepts, state_after}
 use Rattle.office_core.specs.declared.made.Made.{Made}
+use Rattle.office_journal.specs.Bodies.{entry_body}
 use Rattle.office_journal.specs.Changes.{Change, Leaves, MayChange, body_of, changed}
 use Rattle.office_journal.specs.Histories.{History, IsHistory, bodies}
-use Rattle.office_journal.specs.Kept.{Holds, disk_of, entries_of, gate_of, state_of}
+use Rattle.office_journal.specs.Kept.{HasHistory, Holds, disk_of, entries_of, gate_of, state_of}
 use Rattle.office_journal.specs.Outcomes.{Becomes, IsAsBefore, IsUnkept}
 use Rattle.office_journal.specs.Submitting.{MayEnter, MayTouch, entered}
 use Rattle.office_journal.specs.declared.answers.Answer.{Answer}
@@ -20,6 +21,7 @@ use Rattle.office_journal.specs.declared.answers.Answer.TheVariants.{Accepted, R
 use Rattle.office_journal.specs.declared.kept.KeptOffice.{KeptOffice}
 use Rattle.office_journal.proofs.Carrying.{grown_bodies, left_between, pending_then}
 use Rattle.office_journal.proofs.Entering.{Follows, follows}
+use Rattle.office_journal.proofs.Growing.{bodies_grow, records_push}
 
 -- a request that is accepted at a reading is accepted at its own minute
 abbrev pub AreInTime : Type 0
@@ -77,6 +79,21 @@ module _ {D : Type 0} {d : _} (seen : D → Option (List ℕ)) (may_leave : D �
   -- what a crash leaves in between
   pub left_then : (c : List ℕ) → IsOneOf (bodies file h) (option_map body_of pending) body c → Leaves file h (λ change. (pending ≡ Some change) ⊎ (change ≡ Change.entry (entered p))) c
   left_then c one = left_between file h old.office.state holds.history pending (Change.entry (entered p)) body holds.change behind.may written (λ change. change ≡ Change.entry (entered p)) refl c one
+
+module _ {D : Type 0} {d : _} (old : KeptOffice D d) (p : Readied) (law : AreInTime) (may : MayEnter old.office p)
+    (body : List ℕ) (written : body ≡ body_of (Change.entry (entered p))) (room : gate_of old + 6 + length body ≤ 268435456) (file : List ℕ) (h : History) (has : HasHistory old file h) where
+  -- the history goes on by the entry
+  pub legal_then : (new : KeptOffice D d) → state_of new ≡ state_after (state_of old) p.entry p.made → entries_of new ≡ entries_of old + 1 → gate_of new ≡ gate_of old + (length body + 5)
+      → HasHistory new file (changed h (Change.entry (entered p)))
+  legal_then new state entries gate =
+      let behind = follows file h old.office has.history may.desk may.seq may.request may.reading p may.form may.ready
+      (law old.office.state may.desk may.seq may.request may.reading p.entry.minute p.made) (gate_of old) has.gate body written room in
+      let grows = ap (λ (l : List (List ℕ)). length (records l)) (bodies_grow file h (Change.entry (entered p)) old.office.state has.history behind.may) in
+      record {
+        history = subst (λ (z : State). IsHistory file (changed h (Change.entry (entered p))) z) (sym state) behind.after;
+        entries = one_more h.entries (entered p) (entries_of old) (entries_of new) has.entries entries;
+        gate = omega (arith, gate, ap length written, has.gate, records_push (bodies file h) (entry_body (entered p)), grows);
+      }
 
 -- where an entry is not appended, all is as it was
 pub as_before : {D : Type 0} {d : _} (seen : D → Option (List ℕ)) (may_leave : D → List ℕ → Type 0) (kept : KeptOffice D d) → IsAsBefore seen may_leave kept kept

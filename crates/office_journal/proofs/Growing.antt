@@ -1,5 +1,7 @@
 -- Histories that grow by one change, and their bodies.
-use Rattle.std.proofs.Common.{◌≡◌, ℕ, Bool, List, [], ◌∷◌, ◌++◌, refl, sym, ◌∙◌, ap, subst, append_assoc}
+use Rattle.std.proofs.Common.{◌≡◌, ◌+◌, ℕ, Bool, List, [], ◌∷◌, ◌++◌, length, refl, sym, ◌∙◌, ap, subst, append_assoc, arith, length-append}
+use Rattle.std.specs.Int.{w32, to_be_bytes}
+use Rattle.journal_core.specs.Image.{records, spelled}
 use Rattle.std.proofs.lemmas.List.{append-nil}
 use Rattle.hazard_types.specs.declared.request.Edition.{Edition}
 use Rattle.hazard_types.specs.declared.request.Edition.TheVariants.{One, Two}
@@ -9,6 +11,15 @@ use Rattle.office_core.specs.Step.{state_after}
 use Rattle.office_journal.specs.Bodies.{bodies_from, entry_body, mark, marks}
 use Rattle.office_journal.specs.Changes.{Change, MayChange, body_of, changed}
 use Rattle.office_journal.specs.Histories.{History, IsHistory, bodies, fits}
+
+length-spelled : (body : List ℕ) → length (spelled body) ≡ 4 + length body
+unfolding spelled
+length-spelled body = let four : length (to_be_bytes w32 (length body)) ≡ 4 = refl in omega (arith, length-append (to_be_bytes w32 (length body)) body, four)
+
+-- one more record
+pub records_push : (bs : List (List ℕ)) (b : List ℕ) → length (records (bs ++ b ∷ [])) ≡ length (records bs) + (5 + length b)
+records_push [] b = omega (arith, length-append (spelled b) [], length-spelled b)
+records_push (c ∷ bs) b = omega (arith, length-append (spelled c) (records (bs ++ b ∷ [])), length-append (spelled c) (records bs), records_push bs b)
 
 -- the edition of the last of entries that follow an edition
 pub last_edition : Edition → List Entered → Edition
@@ -59,7 +70,7 @@ pub follows_itself : (e : Edition) → MayFollow e e
 follows_itself One = tt
 follows_itself Two = tt
 
-two_follows : (e : Edition) → MayFollow e Two
+pub two_follows : (e : Edition) → MayFollow e Two
 two_follows One = tt
 two_follows Two = tt
 

@@ -1,4 +1,5 @@
-mod Growing
+pub mod Growing
+pub mod Between
 mod Carrying
 mod Beginning
 mod InTime

@@ -1,11 +1,11 @@
 -- The office that was opened holds the history of its journal.
-use Rattle.std.proofs.Common.{ℕ, List, Option, None, sym, subst}
-use Rattle.journal_core.specs.Image.{Image}
-use Rattle.journal_core.specs.Kept.{Keeps}
+use Rattle.std.proofs.Common.{ℕ, List, Option, None, ◌≡◌, length, sym, ◌∙◌, ap, subst}
+use Rattle.journal_core.specs.Image.{Image, records}
+use Rattle.journal_core.specs.Kept.{Keeps, gate_of}
 use Rattle.journal_core.specs.declared.journal.Journal.{Journal}
 use Rattle.office_journal.specs.Adopting.{IsOpened}
 use Rattle.office_journal.specs.Histories.{ImageOf, bodies}
-use Rattle.office_journal.specs.Kept.{Holds}
+use Rattle.office_journal.specs.Kept.{HasHistory, Holds}
 use Rattle.office_journal.specs.declared.kept.KeptOffice.{KeptOffice}
 
 pub holds_then : {D : Type 0} {d : _} (seen : D → Option (List ℕ)) (may_leave : D → List ℕ → Type 0) (journal : Journal D d) (all : List (List ℕ)) (kept : KeptOffice D d) (is : IsOpened journal all kept)
@@ -20,3 +20,10 @@ holds_then {D} {d} seen may_leave journal all kept is keeps = record {
 
 pub image_then : {D : Type 0} {d : _} (journal : Journal D d) (all : List (List ℕ)) (kept : KeptOffice D d) (is : IsOpened journal all kept) (bytes : List ℕ) → Image bytes all → ImageOf bytes is.file is.history
 image_then journal all kept is bytes image = record { state = kept.office.state; history = is.state; image = subst (Image bytes) is.are image }
+
+pub has_then : {D : Type 0} {d : _} (journal : Journal D d) (all : List (List ℕ)) (kept : KeptOffice D d) (is : IsOpened journal all kept) → gate_of journal ≡ length (records all) → HasHistory kept is.file is.history
+has_then {D} {d} journal all kept is gate = record {
+  history = is.state;
+  entries = is.entries;
+  gate = ap (λ (j : Journal D d). gate_of j) is.same ∙ gate ∙ ap (λ (bs : List (List ℕ)). length (records bs)) is.are;
+}

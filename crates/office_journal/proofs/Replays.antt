@@ -1,7 +1,6 @@
 -- An office that is read from bodies, one after another.
 use Rattle.std.proofs.Common.{if◌then◌else◌, ltb, inl, ◌≡◌, ◌≢◌, ◌≤◌, ℕ, pos, ◌+◌, Bool, true, false, List, [], ◌∷◌, ◌++◌, Option, Some, Result, Ok, Err, length, refl, sym, ◌∙◌, ap, subst, arith, length-append, inr, leb}
 use Rattle.std.proofs.lemmas.Bool.{leb-true, le-leb, ltb-false}
-use Rattle.std.specs.Int.{w32, to_be_bytes}
 use Rattle.hazard_types.specs.declared.codes.Class.TheVariants.{O}
 use Rattle.hazard_types.specs.declared.refusal.Refusal.{Refusal}
 use Rattle.hazard_types.specs.declared.request.Edition.{Edition}
@@ -11,7 +10,7 @@ use Rattle.desk_settings.specs.Reading.{settings_of}
 use Rattle.desk_settings.specs.declared.fault.SettingsFault.{SettingsFault}
 use Rattle.desk_settings.specs.declared.fault.SettingsFault.TheVariants.{TooLong}
 use Rattle.desk_settings.specs.declared.settings.Settings.{Settings}
-use Rattle.journal_core.specs.Image.{records, spelled}
+use Rattle.journal_core.specs.Image.{records}
 use Rattle.request_json.proofs.RequestsBack.{text_reads_back}
 use Rattle.request_json.specs.Form.{asked_of}
 use Rattle.request_json.specs.Formed.{HasForm}
@@ -29,20 +28,11 @@ use Rattle.office_journal.specs.Histories.{History, IsHistory, bodies, empty, fi
 use Rattle.office_journal.specs.Parts.{Enters, minute_in, request_in}
 use Rattle.office_journal.specs.Submitting.{entered}
 use Rattle.office_journal.specs.Replaying.{most}
-use Rattle.office_journal.proofs.Growing.{bodies_grow, follows_itself, history_grows, in_own}
+use Rattle.office_journal.proofs.Growing.{bodies_grow, follows_itself, history_grows, in_own, records_push}
 use Rattle.office_journal.proofs.Parting.{AreLines, AreOnce, entered_is, minute_of_body, minute_small, ok_is, request_of_body, some_is}
 use Rattle.office_journal.proofs.Telling.{bodies_grew}
 
 -- ---- sizes
-
-length-spelled : (body : List ℕ) → length (spelled body) ≡ 4 + length body
-unfolding spelled
-length-spelled body = let four : length (to_be_bytes w32 (length body)) ≡ 4 = refl in omega (arith, length-append (to_be_bytes w32 (length body)) body, four)
-
--- one more record
-pub records_push : (bs : List (List ℕ)) (b : List ℕ) → length (records (bs ++ b ∷ [])) ≡ length (records bs) + (5 + length b)
-records_push [] b = omega (arith, length-append (spelled b) [], length-spelled b)
-records_push (c ∷ bs) b = omega (arith, length-append (spelled c) (records (bs ++ b ∷ [])), length-append (spelled c) (records bs), records_push bs b)
 
 pub one_is_less : (e : Edition) → 268435456 ≤ most e
 one_is_less One = omega arith

@@ -1,5 +1,6 @@
 -- What contracts see of a kept office.
 use Rattle.std.specs.Prelude.{◌≡◌, ℕ, List, Option, length, option_map, IfSome}
+use Rattle.journal_core.specs.Image.{records}
 use Rattle.journal_core.specs.Kept.{Keeps}
 use Rattle.journal_core.specs.Kept as journal
 use Rattle.office_core.specs.State.{State}
@@ -23,7 +24,7 @@ state_of kept = kept.office.state
 abbrev pub entries_of : {D : Type 0} {d : _} → KeptOffice D d → ℕ
 entries_of kept = kept.entries
 
--- how many appends met a disk fault since the office was opened
+-- how many requests met a disk fault since the office was opened
 abbrev pub notes_of : {D : Type 0} {d : _} → KeptOffice D d → ℕ
 notes_of kept = kept.notes
 
@@ -33,3 +34,9 @@ pub record Holds {D : Type 0} {d : _} (seen : D → Option (List ℕ)) (may_leav
   pub history : IsHistory file h kept.office.state
   pub entries : kept.entries ≡ length h.entries
   pub change : IfSome pending (MayChange file h)
+
+-- whatever the disk tells: the office in memory is at the state of this history, whose records end at the last gate
+pub record HasHistory {D : Type 0} {d : _} (kept : KeptOffice D d) (file : List ℕ) (h : History) : Type 0 where
+  pub history : IsHistory file h (state_of kept)
+  pub entries : entries_of kept ≡ length h.entries
+  pub gate : gate_of kept ≡ length (records (bodies file h))

@@ -10,3 +10,4 @@ pub mod Parts
 pub mod Replaying
 pub mod Damage
 pub mod Adopting
+pub mod Grown

@@ -1,5 +1,5 @@
 -- What becomes of a kept office and its journal where a request is answered.
-use Rattle.std.specs.Prelude.{◌≡◌, ◌⊎◌, ◌+◌, ◌-◌, ◌^◌, ℕ, List, Option, None, IfSome, min}
+use Rattle.std.specs.Prelude.{◌≡◌, ◌⊎◌, ◌+◌, ◌-◌, ◌^◌, ℕ, List, Option, None, Some, IfSome, length, min}
 use Rattle.desk_traits.specs.Faults.{Rose}
 use Rattle.desk_traits.specs.File.{Only}
 use Rattle.hazard_types.specs.declared.refusal.Refusal.{Refusal}
@@ -7,12 +7,14 @@ use Rattle.hazard_types.specs.declared.refusal.Refusal.TheVariants.{JournalFull}
 use Rattle.request_json.specs.Replies.{reply_text}
 use Rattle.office_core.specs.Agreement.{ReadsAsTheBoard}
 use Rattle.office_core.specs.Histories.{Entered}
+use Rattle.office_core.specs.Prepared.{Readied}
 use Rattle.office_core.specs.Step.{state_after}
 use Rattle.office_core.specs.declared.heard.Said.{Said}
+use Rattle.office_journal.specs.Bodies.{entry_body}
 use Rattle.office_journal.specs.Changes.{Change, changed}
 use Rattle.office_journal.specs.Histories.{History}
-use Rattle.office_journal.specs.Kept.{Holds, disk_of, entries_of, gate_of, notes_of, state_of}
-use Rattle.office_journal.specs.Submitting.{IsTooLong, MayTouch}
+use Rattle.office_journal.specs.Kept.{HasHistory, Holds, disk_of, entries_of, gate_of, notes_of, state_of}
+use Rattle.office_journal.specs.Submitting.{IsTooLong, MayTouch, entered}
 use Rattle.office_journal.specs.declared.answers.Answer.{Answer}
 use Rattle.office_journal.specs.declared.answers.Answer.TheVariants.{Accepted, Repeated, Refused, DiskFault, OutOfMemory}
 use Rattle.office_journal.specs.declared.kept.KeptOffice.{KeptOffice}
@@ -27,11 +29,15 @@ pub record IsAsBefore {D : Type 0} {d : _} (seen : D → Option (List ℕ)) (may
   pub held : (file : List ℕ) (h : History) (pending : Option Change) → Holds seen may_leave old file h pending → Holds seen may_leave new file h pending
 
 -- the entry stands in the journal, durably, and the office is in the state behind it
-pub record HasEntered {D : Type 0} {d : _} (seen : D → Option (List ℕ)) (may_leave : D → List ℕ → Type 0) (old new : KeptOffice D d) (x : Entered) : Type 0 where
+pub record HasEntered {D : Type 0} {d : _} (seen : D → Option (List ℕ)) (may_leave : D → List ℕ → Type 0) (faults : D → ℕ) (old new : KeptOffice D d) (x : Entered) : Type 0 where
+  pub steady : faults (disk_of new) ≡ faults (disk_of old)
+  pub gate : gate_of new ≡ gate_of old + (5 + length (entry_body x))
   pub state : state_of new ≡ state_after (state_of old) x.entry x.made
   pub entries : entries_of new ≡ entries_of old + 1
   pub notes : notes_of new ≡ notes_of old
   pub reads : ReadsAsTheBoard (state_of new)
+  -- whatever the disk tells, a history goes on by the entry
+  pub legal : (file : List ℕ) (h : History) → HasHistory old file h → HasHistory new file (changed h (Change.entry x))
   pub held : (file : List ℕ) (h : History) (pending : Option Change) → Holds seen may_leave old file h pending
       → Holds seen may_leave new file (changed h (Change.entry x)) None × Only (seen (disk_of new)) (may_leave (disk_of new))
 
@@ -39,6 +45,7 @@ pub record HasEntered {D : Type 0} {d : _} (seen : D → Option (List ℕ)) (may
 pub record HasFailed {D : Type 0} {d : _} (seen : D → Option (List ℕ)) (may_leave : D → List ℕ → Type 0) (faults : D → ℕ) (old new : KeptOffice D d) (x : Entered) : Type 0 where
   pub cause : Rose (faults (disk_of old)) (faults (disk_of new))
   pub room : IsTooLong (gate_of old) x → ⊥
+  pub gate : gate_of new ≡ gate_of old
   pub state : state_of new ≡ state_of old
   pub entries : entries_of new ≡ entries_of old
   pub notes : notes_of new ≡ min (notes_of old + 1) (2 ^ 64 - 1)
@@ -64,8 +71,24 @@ IsAgain said OutOfMemory = Unit {0}
 -- what an answer says, where entries of these may be offered, these texts may be kept replies, and these rules may be broken
 module _ {D : Type 0} {d : _} (seen : D → Option (List ℕ)) (may_leave : D → List ℕ → Type 0) (faults : D → ℕ) (old new : KeptOffice D d) (offered : Entered → Type 0) (kept : List ℕ → Type 0) (broken : Refusal → Type 0) where
   abbrev pub Becomes : Answer → Type 0
-  Becomes (Accepted text) = (x : Entered) × offered x × (text ≡ reply_text x.entry.reply) × HasEntered seen may_leave old new x
+  Becomes (Accepted text) = (x : Entered) × offered x × (text ≡ reply_text x.entry.reply) × HasEntered seen may_leave faults old new x
   Becomes (Repeated text) = kept text × IsAsBefore seen may_leave old new
   Becomes (Refused x) = (broken x ⊎ ((x ≡ JournalFull) × (e : Entered) × offered e × IsTooLong (gate_of old) e)) × IsAsBefore seen may_leave old new
   Becomes DiskFault = (x : Entered) × offered x × HasFailed seen may_leave faults old new x
   Becomes OutOfMemory = IsAsBefore seen may_leave old new
+
+  -- beside an answer that accepts stands what was prepared, and its entry is the one that was added; beside another answer nothing stands
+  abbrev pub Names : Answer → Option Readied → Type 0
+  Names (Accepted text) told = (p : Readied) × (told ≡ Some p) × offered (entered p) × (text ≡ reply_text p.entry.reply) × HasEntered seen may_leave faults old new (entered p)
+  Names (Repeated text) told = told ≡ None
+  Names (Refused x) told = told ≡ None
+  Names DiskFault told = told ≡ None
+  Names OutOfMemory told = told ≡ None
+
+-- what was prepared, beside an answer that accepts alone
+abbrev pub StandsBeside : Answer → Readied → Option Readied → Type 0
+StandsBeside (Accepted text) p told = told ≡ Some p
+StandsBeside (Repeated text) p told = told ≡ None
+StandsBeside (Refused x) p told = told ≡ None
+StandsBeside DiskFault p told = told ≡ None
+StandsBeside OutOfMemory p told = told ≡ None

@@ -11,7 +11,7 @@ ghost use Rattle.office_core.specs.Agreement.{ReadsAsTheBoard};
 ghost use Rattle.office_journal.specs.Adopting.{Opens};
 ghost use Rattle.office_journal.specs.Damage.{IsDamagedAt};
 ghost use Rattle.office_journal.specs.Histories.{History, ImageOf};
-ghost use Rattle.office_journal.specs.Kept.{Holds, disk_of, notes_of, state_of};
+ghost use Rattle.office_journal.specs.Kept.{HasHistory, Holds, disk_of, notes_of, state_of};
 ghost use Rattle.office_journal.specs.declared.faults.KeepFault.TheVariants.{Damaged};
 ghost use Rattle.office_journal.specs.declared.faults.KeepFault.TheVariants as keep;
 
@@ -37,6 +37,9 @@ impl<D: Disk> KeptOffice<D> {
             → IfOk result (λ kept. (file : List ℕ) × (h : History) × ImageOf bytes file h × Holds D.seen D.may_leave kept file h None × (D.seen (disk_of kept) ≡ Some bytes)
             × Only (D.seen (disk_of kept)) (D.may_leave (disk_of kept))) }
 
+        // Whatever the disk tells, the office is at the state of a legal history, whose records end at the last gate.
+        ensures legal { IfOk result (λ kept. (file : List ℕ) × (h : History) × HasHistory kept file h) }
+
         // Someone who has the texts alone finds the board.
         ensures reads { IfOk result (λ kept. ReadsAsTheBoard (state_of kept)) }
 
@@ -56,6 +59,9 @@ impl<D: Disk> KeptOffice<D> {
         // The disk failed in this call.
         ensures cause { IfErr result (λ e. e.1 ≡ keep.DiskFault → Rose (D.faults disk) (D.faults e.0)) }
         ensures later { MatchResult result (λ kept. D.faults disk ≤ D.faults (disk_of kept)) (λ e. D.faults disk ≤ D.faults e.0) }
+
+        // But for that the count of its faults is as before.
+        ensures steady { MatchResult result (λ kept. D.faults (disk_of kept) ≡ D.faults disk) (λ e. (e.1 ≡ keep.DiskFault → ⊥) → D.faults e.0 ≡ D.faults disk) }
 
         // Whatever it answers, a read gives the same, and a crash since its start leaves what one at its start might have left.
         ensures seen { MatchResult result (λ kept. D.seen (disk_of kept) ≡ D.seen disk) (λ e. D.seen e.0 ≡ D.seen disk) }

@@ -71,6 +71,9 @@ impl<D: Disk> KeptOffice<D> {
         ensures cause { IfErr result (λ e. e.1 ≡ keep.DiskFault → Rose (D.faults disk) (D.faults e.0)) }
         ensures later { MatchResult result (λ kept. D.faults disk ≤ D.faults (disk_of kept)) (λ e. D.faults disk ≤ D.faults e.0) }
 
+        // But for that the count of its faults is as before.
+        ensures steady { MatchResult result (λ kept. D.faults (disk_of kept) ≡ D.faults disk) (λ e. (e.1 ≡ keep.DiskFault → ⊥) → D.faults e.0 ≡ D.faults disk) }
+
         // A crash at any moment of the call leaves what one at its start might have left, or a file that is being made.
         ensures any_moment { (bytes : List ℕ) → D.seen disk ≡ Some bytes
             → MatchResult result
@@ -128,6 +131,7 @@ fn make<D: Disk>(
     ensures untouched { IfErr result (λ e. (e.1 ≡ keep.NotFresh) ⊎ (e.1 ≡ keep.OutOfMemory) → LeavesOnly D.moment D.left_since disk e.0 (D.may_leave disk)) }
     ensures cause { IfErr result (λ e. e.1 ≡ keep.DiskFault → Rose (D.faults disk) (D.faults e.0)) }
     ensures later { MatchResult result (λ kept. D.faults disk ≤ D.faults (disk_of kept)) (λ e. D.faults disk ≤ D.faults e.0) }
+    ensures steady { MatchResult result (λ kept. D.faults (disk_of kept) ≡ D.faults disk) (λ e. (e.1 ≡ keep.DiskFault → ⊥) → D.faults e.0 ≡ D.faults disk) }
     ensures any_moment { (bytes : List ℕ) → D.seen disk ≡ Some bytes
         → MatchResult result
         (λ kept. LeavesOnly D.moment D.left_since disk (disk_of kept) (λ c. D.may_leave disk c ⊎ IsMakingOf text.now c))
@@ -153,6 +157,7 @@ fn first_journal<D: Disk>(disk: D, body: &Packet) -> Result<Journal<D>, (D, Keep
     ensures untouched { IfErr result (λ e. (e.1 ≡ keep.NotFresh) ⊎ (e.1 ≡ keep.OutOfMemory) → LeavesOnly D.moment D.left_since disk e.0 (D.may_leave disk)) }
     ensures cause { IfErr result (λ e. e.1 ≡ keep.DiskFault → Rose (D.faults disk) (D.faults e.0)) }
     ensures later { MatchResult result (λ journal. D.faults disk ≤ D.faults (journal_disk journal)) (λ e. D.faults disk ≤ D.faults e.0) }
+    ensures steady { MatchResult result (λ journal. D.faults (journal_disk journal) ≡ D.faults disk) (λ e. (e.1 ≡ keep.DiskFault → ⊥) → D.faults e.0 ≡ D.faults disk) }
     ensures any_moment { (bytes : List ℕ) → D.seen disk ≡ Some bytes
         → MatchResult result
         (λ journal. LeavesOnly D.moment D.left_since disk (journal_disk journal) (λ c. D.may_leave disk c ⊎ IsMaking body.now c))
@@ -183,6 +188,7 @@ fn go_over<D: Disk>(
     ensures err { IfErr result (λ e. e.1 ≡ keep.DiskFault) }
     ensures cause { IfErr result (λ e. Rose (D.faults (journal_disk journal)) (D.faults e.0)) }
     ensures later { MatchResult result (λ kept. D.faults (journal_disk journal) ≤ D.faults (disk_of kept)) (λ e. D.faults (journal_disk journal) ≤ D.faults e.0) }
+    ensures steady { IfOk result (λ kept. D.faults (disk_of kept) ≡ D.faults (journal_disk journal)) }
     ensures any_moment { (all : List (List ℕ)) → Keeps D.seen D.may_leave journal all None
         → MatchResult result
         (λ kept. LeavesOnly D.moment D.left_since (journal_disk journal) (disk_of kept) (IsOneOf all None mark))

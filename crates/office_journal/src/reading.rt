@@ -18,7 +18,7 @@ impl<D: Disk> KeptOffice<D> {
         self.entries
     }
 
-    /// How many requests and upgrades met a disk fault since the office was opened.
+    /// How many requests met a disk fault since the office was opened.
     pub fn fault_notes(&self) -> u64
         ensures { result ≡ notes_of self.now }
     {

@@ -1,5 +1,5 @@
 //! How a request is submitted to a kept office.
-ghost use Rattle.std.specs.Prelude.{◌≡◌, ◌≢◌, ◌⊎◌, ◌+◌, ◌-◌, ◌^◌, ◌≤◌, ℕ, ℤ, List, Option, Some, None, IfOk, IfErr, IfSome, is_some, length, true, min};
+ghost use Rattle.std.specs.Prelude.{◌≡◌, ◌≢◌, ◌⊎◌, ◌+◌, ◌-◌, ◌^◌, ◌≤◌, ℕ, ℤ, List, Option, Some, None, IfOk, IfErr, IfSome, is_some, length, option_map, true, min};
 ghost use Rattle.desk_traits.specs.Crash.{LeavesOnly};
 ghost use Rattle.desk_traits.specs.Faults.{Rose};
 ghost use Rattle.desk_traits.specs.File.{Only};
@@ -16,7 +16,7 @@ ghost use Rattle.office_core.specs.Step.{Refuses, Repeats, entry_of, state_after
 ghost use Rattle.office_journal.specs.Changes.{Change, Leaves, body_of, changed};
 ghost use Rattle.office_journal.specs.Histories.{History};
 ghost use Rattle.office_journal.specs.Kept.{Holds, disk_of, entries_of, gate_of, notes_of, state_of};
-ghost use Rattle.office_journal.specs.Outcomes.{Becomes, IsAgain, IsUnkept};
+ghost use Rattle.office_journal.specs.Outcomes.{Becomes, IsAgain, IsUnkept, Names, StandsBeside};
 ghost use Rattle.office_journal.specs.Submitting.{IsAsked, IsOffered, IsTooLong, MayEnter, MayTouch, entered};
 
 use crate::answers::Answer;
@@ -28,6 +28,18 @@ use journal_core::{AppendFault, Packet};
 use office_core::{Prepared, Ready, accepted_requests_are_accepted_at_their_minute};
 use request_json::reply_text;
 use std::alloc::Global;
+use std::snapshot::Snapshot;
+
+/// An answer, and what was prepared beside it where it accepts.
+fn beside(answer: Answer, p: Snapshot<Prepared>) -> (Answer, Option<Snapshot<Prepared>>)
+    ensures answer { result.0 ≡ answer }
+    ensures told { StandsBeside answer p.value (option_map (λ told. told.value) result.1) }
+{
+    match answer {
+        Answer::Accepted(text) => (Answer::Accepted(text), Some(p)),
+        other => (other, None),
+    }
+}
 
 impl<D: Disk> KeptOffice<D> {
     /// Submits a request of a desk under its number, at a reading of the clock. All memory is taken before the first call
@@ -52,15 +64,45 @@ impl<D: Disk> KeptOffice<D> {
             → LeavesOnly D.moment D.left_since (disk_of self.old) (disk_of self.new)
             (Leaves file h (λ change. (pending ≡ Some change) ⊎ IsAsked (state_of self.old) desk seq r.now reading change)) }
     {
+        let (answer, _told) = self.submit_told(alloc, desk, seq, r, reading);
+        answer
+    }
+
+    /// `submit`, and beside an answer that accepts what was prepared, for callers whose contracts name its entry. That has
+    /// no bytes.
+    pub fn submit_told(
+        &mut self,
+        alloc: Global,
+        desk: Desk,
+        seq: u32,
+        r: &Request,
+        reading: i64,
+    ) -> (Answer, Option<Snapshot<Prepared>>)
+        requires form { HasForm (record { desk = desk; seq = seq; request = r.now }) }
+
+        ensures becomes { Becomes D.seen D.may_leave D.faults self.old self.new (IsOffered (state_of self.old) desk seq r.now reading)
+            (λ text. (kept : Answered) × Repeats (state_of self.old) desk seq r.now kept × (text ≡ reply_text kept)) (Refuses (state_of self.old) desk seq r.now reading) result.0 }
+
+        // The entry that was added is that of what was prepared; beside another answer there is nothing.
+        ensures told { Names D.seen D.may_leave D.faults self.old self.new (IsOffered (state_of self.old) desk seq r.now reading)
+            (λ text. (kept : Answered) × Repeats (state_of self.old) desk seq r.now kept × (text ≡ reply_text kept)) (Refuses (state_of self.old) desk seq r.now reading) result.0 (option_map (λ told. told.value) result.1) }
+        ensures later { D.faults (disk_of self.old) ≤ D.faults (disk_of self.new) }
+        ensures any_moment { (file : List ℕ) (h : History) (pending : Option Change) → Holds D.seen D.may_leave self.old file h pending
+            → LeavesOnly D.moment D.left_since (disk_of self.old) (disk_of self.new)
+            (Leaves file h (λ change. (pending ≡ Some change) ⊎ IsAsked (state_of self.old) desk seq r.now reading change)) }
+    {
         self.a_crash_leaves_the_history();
         match self.office.prepare(alloc, desk, seq, r, reading) {
             Ok(ready) => match ready {
-                Ready::New(p) => self.keep(alloc, desk, seq, r, p),
-                Ready::Again => self.again(alloc, desk),
+                Ready::New(p) => {
+                    let told = Snapshot::of(&p);
+                    beside(self.keep(alloc, desk, seq, r, p), told)
+                }
+                Ready::Again => (self.again(alloc, desk), None),
             },
             Err(fault) => match fault {
-                Or::No(refusal) => Answer::Refused(refusal),
-                Or::OutOfMemory => Answer::OutOfMemory,
+                Or::No(refusal) => (Answer::Refused(refusal), None),
+                Or::OutOfMemory => (Answer::OutOfMemory, None),
             },
         }
     }

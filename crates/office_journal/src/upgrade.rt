@@ -1,5 +1,5 @@
 //! How an office goes over to edition Two.
-ghost use Rattle.std.specs.Prelude.{◌≡◌, ◌≢◌, ◌⊎◌, ◌↔◌, ◌+◌, ◌-◌, ◌^◌, ◌≤◌, ◌<◌, ℕ, List, Option, Some, None, min};
+ghost use Rattle.std.specs.Prelude.{◌≡◌, ◌≢◌, ◌⊎◌, ◌↔◌, ◌+◌, ◌≤◌, ◌<◌, ℕ, List, Option, Some, None};
 ghost use Rattle.desk_traits.specs.Crash.{LeavesOnly};
 ghost use Rattle.desk_traits.specs.Faults.{Rose};
 ghost use Rattle.desk_traits.specs.File.{Only};
@@ -29,21 +29,21 @@ impl<D: Disk> KeptOffice<D> {
         ensures full { result ≡ Upgrade.Full → ((state_of self.old).edition ≡ One) × (268435456 < gate_of self.old + 15) }
         ensures room { (state_of self.old).edition ≡ One → 268435456 < gate_of self.old + 15 → (result ≡ Upgrade.Full) ⊎ (result ≡ Upgrade.OutOfMemory) }
 
-        // The disk failed in this call. The office is as before but for one note, and at most one change is pending, which was so before or is the mark.
+        // The disk failed in this call. The office is as before, and at most one change is pending, which was so before or is the mark.
         ensures cause { result ≡ Upgrade.DiskFault → ((state_of self.old).edition ≡ One) × Rose (D.faults (disk_of self.old)) (D.faults (disk_of self.new)) }
         ensures failed { result ≡ Upgrade.DiskFault → (file : List ℕ) (h : History) (pending : Option Change) → Holds D.seen D.may_leave self.old file h pending
             → (next : Option Change) × MayTouch pending Change.marked next × Holds D.seen D.may_leave self.new file h next }
         ensures state { result ≢ Upgrade.Done → state_of self.new ≡ state_of self.old }
         ensures entries { entries_of self.new ≡ entries_of self.old }
-
-        // A disk fault counts as one note, up to the most that the count holds; nothing else does.
-        ensures notes { result ≢ Upgrade.DiskFault → notes_of self.new ≡ notes_of self.old }
-        ensures noted { result ≡ Upgrade.DiskFault → notes_of self.new ≡ min (notes_of self.old + 1) (2 ^ 64 - 1) }
+        ensures notes { notes_of self.new ≡ notes_of self.old }
 
         // Otherwise nothing is changed.
         ensures untouched { result ≢ Upgrade.Done → result ≢ Upgrade.DiskFault → (disk_of self.new ≡ disk_of self.old)
             × ((file : List ℕ) (h : History) (pending : Option Change) → Holds D.seen D.may_leave self.old file h pending → Holds D.seen D.may_leave self.new file h pending) }
         ensures later { D.faults (disk_of self.old) ≤ D.faults (disk_of self.new) }
+
+        // But for that the count of its faults is as before.
+        ensures steady { result ≢ Upgrade.DiskFault → D.faults (disk_of self.new) ≡ D.faults (disk_of self.old) }
 
         // A crash at any moment of the call leaves an image of the history, of it with the change that was pending, or of it with the mark.
         ensures any_moment { (file : List ℕ) (h : History) (pending : Option Change) → Holds D.seen D.may_leave self.old file h pending
@@ -63,10 +63,7 @@ impl<D: Disk> KeptOffice<D> {
                 Upgrade::Done
             }
             Err(AppendFault::Full) => Upgrade::Full,
-            Err(AppendFault::DiskFault) => {
-                self.notes = self.notes.saturating_add(1);
-                Upgrade::DiskFault
-            }
+            Err(AppendFault::DiskFault) => Upgrade::DiskFault,
         }
     }
 }

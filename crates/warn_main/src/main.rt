@@ -2,10 +2,9 @@
 #![tactic(auto)]
 
 mod desk;
-mod training;
-mod training_desk;
-mod words;
+mod place;
 
+use crate::place::{Place, place_of};
 use desk_traits::{Disk, FileDisk, StdSink, StdSource, SureDisk, SystemClock};
 use program_ends::{End, command_line, show_usage};
 use std::fs::File;
@@ -44,19 +43,12 @@ fn main(rt: HostRuntime) -> ExitCode {
     let Ok(words) = command_line(&rt) else {
         return ExitCode::from(End::OutOfMemory.status());
     };
-    match words.get(1) {
-        Some(path) if path.as_str() != "-" => {
-            let disk = file_disk(&rt, path.as_str());
-            run(&rt, &words, disk)
-        }
-        _ => match SureDisk::new(rt.alloc(), ROOM) {
+    match place_of(&words) {
+        Place::Unnamed => run(&rt, &words, FileDisk::new(None)),
+        Place::File(path) => run(&rt, &words, file_disk(&rt, path)),
+        Place::Memory => match SureDisk::new(rt.alloc(), ROOM) {
             Ok(disk) => run(&rt, &words, disk),
             Err(_) => ExitCode::from(End::OutOfMemory.status()),
         },
     }
 }
-
-#[cfg(test)]
-mod kept_tests;
-#[cfg(test)]
-mod tests;

@@ -64,6 +64,7 @@ fn is_same(one: &Run, other: &Run) -> bool {
 }
 
 /// How many reports were made of an input that is cut off, and how many cuts have other reports in other pieces, or none.
+#[derive(Drop)]
 pub struct Tally {
     pub cuts: usize,
     pub differ: usize,

@@ -28,6 +28,36 @@ pub fn older_journal(alloc: Global, settings: &[u8], entry: &[u8]) -> Result<Tex
     Ok(journal)
 }
 
+/// A journal with one record more behind its last one.
+pub fn with_record(alloc: Global, journal: &[u8], body: &[u8]) -> Result<Text, Oom> {
+    let records = records_of(journal);
+    let mut longer = List::from_slice(alloc, records)?;
+    add_record(&mut longer, body)?;
+    longer.push(CLOSE)?;
+    Ok(longer)
+}
+
+/// The records of a journal, without the byte that it ends with.
+pub fn records_of(journal: &[u8]) -> &[u8] {
+    match journal.split_last() {
+        Some((_close, records)) => records,
+        None => journal,
+    }
+}
+
+/// A copy of a file in which the byte that stands so many bytes from the end is another.
+pub fn with_byte(alloc: Global, file: &[u8], back: u64, byte: u8) -> Result<Text, Oom> {
+    let length = file.len() as u64;
+    let mut changed = List::new(alloc);
+    let mut rest = length;
+    for old in file {
+        let new = if rest == back { byte } else { *old };
+        changed.push(new)?;
+        rest = rest.saturating_sub(1);
+    }
+    Ok(changed)
+}
+
 /// The length of the body of the record at the head of these bytes.
 fn body_length(bytes: &[u8]) -> Option<u32> {
     if *bytes.first()? != GATE {

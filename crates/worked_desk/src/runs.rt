@@ -21,19 +21,22 @@ pub enum Command {
     Board(Option<Minute>),
 }
 
-/// How a disk fails: at a call, and at each behind a stop. The pick chooses what a crash leaves of its writes.
+/// How a disk fails: at a call, and at each behind a stop. The pick chooses what a crash leaves of its writes. And which
+/// write of the output fails.
 #[derive(Clone, Copy, Debug)]
 pub struct Faults {
     pub failing: Option<u64>,
     pub stop: Option<u64>,
     pub pick: Option<u64>,
+    pub unwritten: Option<u64>,
 }
 
-/// A disk that does not fail.
+/// A disk and an output that do not fail.
 pub const NO_FAULTS: Faults = Faults {
     failing: None,
     stop: None,
     pick: None,
+    unwritten: None,
 };
 
 /// What a command is run over: its input and the readings of its clock.
@@ -51,12 +54,18 @@ pub struct Run {
     pub disk: MemDisk,
 }
 
-/// A disk with a file and these faults.
-fn disk_of(alloc: Global, file: &[u8], faults: &Faults) -> Result<MemDisk, Oom> {
+/// The calls that fail: this one, or none.
+fn failing_calls(alloc: Global, call: Option<u64>) -> Result<List<u64>, Oom> {
     let mut failing: List<u64> = List::new(alloc);
-    if let Some(call) = faults.failing {
+    if let Some(call) = call {
         failing.push(call)?;
     }
+    Ok(failing)
+}
+
+/// A disk with a file and these faults.
+fn disk_of(alloc: Global, file: &[u8], faults: &Faults) -> Result<MemDisk, Oom> {
+    let failing = failing_calls(alloc, faults.failing)?;
     MemDisk::new(alloc, file, &failing, faults.stop, faults.pick.unwrap_or(0))
 }
 
@@ -97,7 +106,8 @@ pub fn run_command(
 ) -> Result<Run, Oom> {
     let none = List::new(alloc);
     let mut source = MemSource::new(alloc, given.input.as_slice(), PIECE, &none)?;
-    let mut sink = MemSink::new(alloc, &none)?;
+    let unwritten = failing_calls(alloc, faults.unwritten)?;
+    let mut sink = MemSink::new(alloc, &unwritten)?;
     let mut clock = clock_of(alloc, &given.readings)?;
     let disk = disk_of(alloc, file, faults)?;
     let ended = ended(alloc, command, &mut source, &mut sink, disk, &mut clock);

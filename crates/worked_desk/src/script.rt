@@ -1,6 +1,6 @@
 //! The script of a kept office's days: each line's step is worked, and answered by text.
 use crate::answers::{run_answer, sweep_answer, unread};
-use crate::files::{older_journal, record_text};
+use crate::files::{older_journal, record_text, with_byte, with_record};
 use crate::runs::{Command, Faults, Given, NO_FAULTS, Run, run_command};
 use crate::steps::{Ending, Step, Tried, reading_of, step_of};
 use crate::sweeps::sweep;
@@ -38,6 +38,14 @@ fn ending_bytes(ending: Ending) -> &'static [u8] {
         Ending::ReturnAndFeed => b"\r\n",
         Ending::Nothing => b"",
     }
+}
+
+/// Adds a line of so many bytes to a text.
+fn add_long(text: &mut Text, length: u64) -> Result<(), Oom> {
+    for _place in 0..length {
+        text.push(b'x')?;
+    }
+    text.push(b'\n')
 }
 
 /// The file behind a run: what a crash leaves, or what a read gives.
@@ -126,20 +134,51 @@ impl Script {
         Ok(())
     }
 
+    /// Adds a remark of so many bytes, at least one, to the settings.
+    fn add_comment(&mut self, length: u64) -> Result<(), Oom> {
+        self.settings.push(b'#')?;
+        add_long(&mut self.settings, length.saturating_sub(1))
+    }
+
+    /// Works a step that changes the file by hand. Answers whether it was one.
+    fn spoil(&mut self, alloc: Global, step: &Step<'_>) -> Result<bool, Oom> {
+        match step {
+            Step::File(text) => self.file = List::from_slice(alloc, text.as_bytes())?,
+            Step::Older(entry) => self.set_older(alloc, entry)?,
+            Step::Add(body) => {
+                self.file = with_record(alloc, self.file.as_slice(), body.as_bytes())?;
+            }
+            Step::Back(back, byte) => {
+                self.file = with_byte(alloc, self.file.as_slice(), *back, *byte)?;
+            }
+            _ => return Ok(false),
+        }
+        Ok(true)
+    }
+
+    /// Sets a fault of the next run. Answers whether the step was one.
+    fn set_fault(&mut self, step: &Step<'_>) -> bool {
+        match step {
+            Step::Failing(call) => self.faults.failing = Some(*call),
+            Step::Stop(call) => self.faults.stop = Some(*call),
+            Step::Pick(pick) => self.faults.pick = Some(*pick),
+            Step::Unwritten(call) => self.faults.unwritten = Some(*call),
+            _ => return false,
+        }
+        true
+    }
+
     /// Works a step that is answered by nothing. Answers whether it was one.
     fn prepare(&mut self, alloc: Global, step: &Step<'_>) -> Result<bool, Oom> {
         match step {
             Step::Remark => {}
             Step::Setting(line) => self.add_setting(line)?,
             Step::NoSettings => self.settings = List::new(alloc),
-            Step::File(text) => self.file = List::from_slice(alloc, text.as_bytes())?,
-            Step::Older(entry) => self.set_older(alloc, entry)?,
+            Step::Comment(length) => self.add_comment(*length)?,
             Step::Ask(line, ending) => self.ask(line, *ending)?,
+            Step::Long(length) => add_long(&mut self.given.input, *length)?,
             Step::At(words) => return self.set_readings(alloc, words),
-            Step::Failing(call) => self.faults.failing = Some(*call),
-            Step::Stop(call) => self.faults.stop = Some(*call),
-            Step::Pick(pick) => self.faults.pick = Some(*pick),
-            Step::Run(_) | Step::Sweep(_, _) | Step::Record | Step::Unread => return Ok(false),
+            _ => return Ok(false),
         }
         Ok(true)
     }
@@ -149,7 +188,7 @@ impl Work for Script {
     /// What a line is answered.
     fn work(&mut self, alloc: Global, line: &str) -> Result<String, Oom> {
         let step = step_of(line);
-        if self.prepare(alloc, &step)? {
+        if self.prepare(alloc, &step)? || self.spoil(alloc, &step)? || self.set_fault(&step) {
             return Ok(String::new(alloc));
         }
         match &step {

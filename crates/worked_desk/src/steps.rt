@@ -37,8 +37,18 @@ pub enum Step<'a> {
     Older(&'a str),
     /// A line of the next input.
     Ask(&'a str, Ending),
+    /// A line of the next input that has so many bytes.
+    Long(u64),
+    /// A remark of the settings that has so many bytes.
+    Comment(u64),
     /// The readings of the clock, as words.
     At(&'a str),
+    /// A record with this body, behind the file's last one.
+    Add(&'a str),
+    /// The byte of the file that stands so many bytes from its end is made this one.
+    Back(u64, u8),
+    /// The write of the next run's output that fails.
+    Unwritten(u64),
     /// The call of the next run's disk that fails.
     Failing(u64),
     /// The call behind which the next run's disk stops.
@@ -105,10 +115,19 @@ fn sweep_step(rest: &str) -> Option<Step<'_>> {
     }
 }
 
-/// The step of a fault of the next run's disk.
-fn fault_step<'a>(word: &str, rest: &'a str) -> Option<Step<'a>> {
+/// The step of a byte that is changed.
+fn back_step(rest: &str) -> Option<Step<'_>> {
+    let (place, byte) = rest.split_once(' ')?;
+    Some(Step::Back(number_of(place)?, byte.parse::<u8>().ok()?))
+}
+
+/// The step that a word says with a number: a long line, or a fault of the next run.
+fn numbered_step<'a>(word: &str, rest: &'a str) -> Option<Step<'a>> {
     let number = number_of(rest)?;
     match word {
+        "long" => Some(Step::Long(number)),
+        "comment" => Some(Step::Comment(number)),
+        "unwritten" => Some(Step::Unwritten(number)),
         "failing" => Some(Step::Failing(number)),
         "stop" => Some(Step::Stop(number)),
         "pick" => Some(Step::Pick(number)),
@@ -123,13 +142,15 @@ fn worded_step(line: &str) -> Option<Step<'_>> {
         "settings" => Some(Step::Setting(rest)),
         "file" => Some(Step::File(rest)),
         "older" => Some(Step::Older(rest)),
+        "add" => Some(Step::Add(rest)),
+        "back" => back_step(rest),
         "ask" => Some(Step::Ask(rest, Ending::Feed)),
         "return" => Some(Step::Ask(rest, Ending::ReturnAndFeed)),
         "unended" => Some(Step::Ask(rest, Ending::Nothing)),
         "at" => Some(Step::At(rest)),
         "board" => board_step(rest),
         "sweep" => sweep_step(rest),
-        _ => fault_step(word, rest),
+        _ => numbered_step(word, rest),
     }
 }
 

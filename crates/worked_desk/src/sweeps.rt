@@ -1,7 +1,8 @@
 //! Sweeps: each call of a disk fails in turn, and the disk stops behind each, whatever a crash leaves of the writes.
+use crate::files::records_of;
 use crate::runs::{Command, Faults, Given, NO_FAULTS, exported, run_command};
 use crate::steps::Tried;
-use hazard_types::{Oom, Text};
+use hazard_types::{List, Oom, Text};
 use std::alloc::Global;
 use std::str;
 
@@ -13,6 +14,9 @@ const DONE: u8 = 0;
 
 /// The status of a run that met a fault of its disk.
 const DISK_FAULT: u8 = 9;
+
+/// The line that tells a fault of the disk.
+const FAULT_LINE: &str = "{\"no\":\"D1\",\"rule\":\"DiskFault\"}";
 
 /// How many runs met a fault, and how many of them differ from the run without any.
 #[derive(Clone, Copy, Debug)]
@@ -76,23 +80,68 @@ fn is_fair(status: u8) -> bool {
     status == DONE || status == DISK_FAULT
 }
 
-/// Whether the first line of the answers that are wanted was answered.
-fn has_answered(answers: &[u8], wanted: &[u8]) -> bool {
-    match text_of(wanted).lines().next() {
-        Some(line) => text_of(answers).starts_with(line),
-        None => false,
+/// The lines of answers that tell no fault of the disk, one after another.
+fn without_faults(alloc: Global, answers: &str) -> Result<Text, Oom> {
+    let mut text = Text::new(alloc);
+    for answer in answers.lines() {
+        if answer != FAULT_LINE {
+            text.extend(answer.as_bytes())?;
+            text.push(b'\n')?;
+        }
     }
+    Ok(text)
 }
 
-/// Whether an input that meets these faults, and then a crash, is answered as without them when it is sent again.
-/// A first line that was answered stands in the file that the crash left, since the input begins with a line that
-/// is accepted.
+/// The lines of an input whose answers tell no fault of the disk, each with its reading. No line of the input is empty.
+fn undisturbed(alloc: Global, given: &Given, answers: &str) -> Result<Given, Oom> {
+    let mut input = Text::new(alloc);
+    let mut readings = List::new(alloc);
+    let mut lines = text_of(given.input.as_slice()).lines();
+    let mut ahead = given.readings.as_slice();
+    for answer in answers.lines() {
+        let reading = ahead.first().copied();
+        if let Some((_first, more)) = ahead.split_first() {
+            if !more.is_empty() {
+                ahead = more;
+            }
+        }
+        let line = lines.next().unwrap_or("");
+        if answer != FAULT_LINE {
+            input.extend(line.as_bytes())?;
+            input.push(b'\n')?;
+            readings.push(reading.unwrap_or(0))?;
+        }
+    }
+    Ok(Given { input, readings })
+}
+
+/// Whether each line that was answered without a fault of the disk was answered as where those with one had not been
+/// sent, and stands so in the file that a crash left.
+fn answers_are_kept(
+    alloc: Global,
+    wanted: &Wanted<'_>,
+    answers: &str,
+    left: &[u8],
+) -> Result<bool, Oom> {
+    let apart = undisturbed(alloc, wanted.given, answers)?;
+    let run = run_command(alloc, &Command::Script, &apart, wanted.file, &NO_FAULTS)?;
+    let told = without_faults(alloc, answers)?;
+    let kept = left.starts_with(records_of(run.disk.file().as_slice()));
+    Ok(told.as_slice() == run.text.as_slice() && kept)
+}
+
+/// Whether an input that meets these faults, and then a crash, keeps what it was answered, and is answered as without
+/// them when it is sent again.
 fn input_survives(alloc: Global, wanted: &Wanted<'_>, faults: &Faults) -> Result<bool, Oom> {
     let first = run_command(alloc, &Command::Script, wanted.given, wanted.file, faults)?;
     let fair = is_fair(first.status);
-    let answered = has_answered(first.text.as_slice(), wanted.outcome.answers.as_slice());
     let left = first.disk.crashed()?;
-    let kept = !answered || wanted.file.len() < left.len();
+    let answers = if first.status == DONE {
+        text_of(first.text.as_slice())
+    } else {
+        ""
+    };
+    let kept = answers_are_kept(alloc, wanted, answers, left.as_slice())?;
     let again = outcome_of(alloc, wanted.given, left.as_slice())?;
     Ok(fair && kept && again.is_same(&wanted.outcome))
 }
@@ -127,6 +176,7 @@ fn faults_at(call: u64, stops: bool, pick: u64) -> Faults {
         failing,
         stop,
         pick: Some(pick),
+        unwritten: None,
     }
 }
 

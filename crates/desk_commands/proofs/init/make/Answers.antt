@@ -9,4 +9,4 @@ returns-in-Ok-clause-made g c =
 pub returns-in-Err-clause-made : goal.returns-in-Err-clause-made
 returns-in-Err-clause-made g c =
     let ensures = c.in-Err.ensures in
-    unmade g.D.Disk c.args.disk c.in-Err.disk c.args.settings.now c.in-Err.fault c.end_of-end.result c.end_of-end.ensures ensures.settings ensures.settings_fresh ensures.not_fresh ensures.cause ensures.same ensures.untouched
+    unmade g.D.Disk c.args.disk c.in-Err.disk c.args.settings.now c.in-Err.fault c.end_of-end.result c.end_of-end.ensures ensures.settings ensures.settings_fresh ensures.not_fresh ensures.cause ensures.same ensures.untouched ensures.steady

@@ -1,13 +1,14 @@
-use Rattle.std.proofs.Common.{arith, ◌≤◌, ◌++◌, [], refl, sym, subst}
-use Rattle.office_journal.specs.Kept.{state_of}
-use Rattle.desk_commands.specs.Grown.{KeepsHistory, grown}
-use Rattle.desk_commands.specs.Scripts.{Answers, Lacks, Scripted, with_entry}
-use Rattle.desk_commands.proofs.Between.{stays}
+use Rattle.std.proofs.Common.{arith, ◌≡◌, ◌≤◌, ◌+◌, ◌-◌, ◌^◌, min, ℕ, List, [], Option, refl, ap, sym, ◌∙◌, subst}
+use Rattle.office_journal.specs.Changes.{Change}
+use Rattle.office_journal.specs.Grown.{KeepsHistory, grown}
+use Rattle.office_journal.specs.Kept.{disk_of, state_of}
+use Rattle.office_journal.proofs.Between.{grown_follows}
+use Rattle.program_ends.proofs.Mapping.{ends_at_last, twelve_unbegun}
+use Rattle.desk_commands.specs.Scripts.{Answers, Goes, MayPend, Scripted, entries_in, failed_from, faults_in}
 use Rattle.desk_commands.proofs.Keeping.{keeps, opened_carries}
-use Rattle.desk_commands.proofs.Mapping.{shown}
-use Rattle.desk_commands.proofs.Scripting.{gone, run_goes}
-use Rattle.desk_commands.proofs.Later.{ending_later, lines_later}
-use Rattle.desk_commands.proofs.Unanswered.{how}
+use Rattle.desk_commands.proofs.Scripting.{gone, lines_go}
+use Rattle.desk_commands.proofs.Later.{lines_count, rises_on}
+use Rattle.desk_commands.proofs.Readings.{lines_read}
 use Rattle.desk_commands.proofs.script.answer_script.Goals as goal
 
 pub returns : goal.returns
@@ -15,30 +16,42 @@ returns g c disk opened =
     let d = g.D.Disk in
     let k = g.C.Clock in
     let m = g.met.D.Disk in
-    let run = shown (λ s. record { kept = s.kept; clock = s.clock.now }) (Answers d k) (Lacks d k) c.args.limit _ _ _ _ _ _ _ _ _ _ _ c.run_lines-status.ensures in
+    let run = c.answer_lines-status.ensures in
     let first : Scripted _ _ = record { kept = c.args.kept; clock = c.args.clock.now } in
-    let after : Scripted _ _ = record { kept = c.run_lines-status.new.answers.kept; clock = c.run_lines-status.new.answers.clock.now } in
+    let after : Scripted _ _ = record { kept = c.answer_lines-status.new.kept; clock = c.answer_lines-status.new.clock } in
     let lines = gone d k first run.run.last run.run.lines run.told run.run.answered in
-    let last = how d k run.run.last run.run.others after run.end run.run.reasons run.run.state run.run.no_memory in
+    let said = lines.0 in
+    let last = ends_at_last (Answers d k) (λ s line y. ⊥) (λ s line y never. never) c.args.limit first after _ _ run.end run.told run.run in
+    let goes = subst (λ z. Goes d k first run.run.lines said z) (sym last) lines.2 in
+    let counted = lines_count d k first after run.run.lines said goes in
+    let rises = rises_on (faults_in said) (d.faults disk) (d.faults (disk_of c.args.kept)) (d.faults (disk_of after.kept)) opened.steady counted in
+    let none = twelve_unbegun (Answers d k) (λ s line y. ⊥) (λ s line y never. never) c.args.limit first after _ _ _ _ _ _ _ _ _ run in
     record {
       opened = c.args.kept;
       first = opened;
       after = after;
+      clock_is = refl;
       run = run;
-      entries = lines.0;
-      goes = lines.1;
-      last = last.0;
-      unanswered = last.1;
+      said = said;
+      goes = goes;
+      told = lines.1;
       handed = c.into_disk.ensures;
       history = λ bytes told.
           let found = opened.found bytes told in
-          let start = opened_carries d m.seen_is_left m.counts_now m.only_now m.earlier found.0 found.1 disk c.args.kept c.a_crash_leaves_the_history.ensures opened found.3 in
-          let goes = run_goes d (d.faults disk) m.counts_now m.only_now m.earlier k found.0 found.1 first run.run.last after run.run.lines run.run.others run.told lines.0 last.0 lines.1 last.1 start in (
-            found.0,
-            found.1,
-            subst (λ next. KeepsHistory d disk next bytes found.0 found.1 (grown found.1 (lines.0 ++ with_entry last.0 [])) (state_of after.kept)) (sym c.into_disk.ensures)
-                (keeps d m.seen_is_left m.counts_now m.only_now m.earlier c.requests_stand_once.ensures bytes found.0 found.1 (grown found.1 (lines.0 ++ with_entry last.0 [])) disk c.args.kept after.kept c.a_crash_leaves_the_history-2.ensures opened found.2
-                (record { entries = lines.0 ++ with_entry last.0 []; behind = refl; edition = stays found.1.edition }) goes.0 goes.1),
+          let file = found.0 in
+          let h = found.1 in
+          let grew = grown h (entries_in said) in
+          let may = MayPend (failed_from [] said) in
+          let start = opened_carries d m.seen_is_left m.counts_now m.only_now m.earlier file h (MayPend []) disk c.args.kept c.a_crash_leaves_the_history.ensures opened found.3 in
+          let went = lines_go d (d.faults disk) m.counts_now m.only_now m.earlier k file h [] first run.run.lines said after goes start in (
+            file,
+            h,
+            subst (λ next. KeepsHistory d disk (disk_of c.args.kept) next bytes file h grew may (state_of after.kept)) (sym c.into_disk.ensures)
+                (keeps d m.seen_is_left m.counts_now m.only_now m.earlier c.requests_stand_once.ensures bytes file h grew may disk c.args.kept after.kept c.a_crash_leaves_the_history-2.ensures opened found.2
+                (grown_follows h (entries_in said)) went.0 went.1),
           );
-      later = subst (λ next. d.faults disk ≤ d.faults next) (sym c.into_disk.ensures) (omega (arith, opened.later, lines_later d k first run.run.last run.run.lines run.told lines.0 lines.1, ending_later d k run.run.last run.run.others after last.0 last.1));
+      faults = subst (λ next. min (d.faults disk + faults_in said) (2 ^ 64 - 1) ≤ d.faults next) (sym c.into_disk.ensures) rises.counted;
+      later = subst (λ next. d.faults disk ≤ d.faults next) (sym c.into_disk.ensures) rises.later;
+      readings = λ ahead told. lines_read d k ahead first after run.run.lines said told goes;
+      no_memory = λ e. (none e, ap d.faults c.into_disk.ensures ∙ ap (λ (s : Scripted _ _). d.faults (disk_of s.kept)) (none e).same ∙ opened.steady);
     }

@@ -13,6 +13,7 @@ invariant-loop-at g l =
       syncs : d.syncs l.disk ≡ d.syncs l.fn.disk;
       crash : Passes Same (d.moment l.fn.disk) (d.moment l.disk) (d.may_leave l.fn.disk) (d.left_since l.fn.disk) (d.left_since l.disk);
       later : d.faults l.fn.disk ≤ d.faults l.disk;
+      steady : d.faults l.disk ≡ d.faults l.fn.disk;
       place : l.at ≡ length (records l.bodies);
       read : (f : List ℕ) → d.seen l.fn.disk ≡ Some f → (Fresh f → ⊥) → Reads l.at l.bodies f;
     }

@@ -1,10 +1,10 @@
-use Rattle.std.proofs.Common.{◌≡◌, ℕ, List, None, Some, sym, ◌∙◌, subst}
+use Rattle.std.proofs.Common.{◌≡◌, ℕ, List, None, Some, length, sym, ◌∙◌, ap, subst}
 use Rattle.desk_traits.specs.File.{Only}
-use Rattle.journal_core.specs.Image.{Image}
-use Rattle.journal_core.specs.Kept.{Keeps, disk_of}
+use Rattle.journal_core.specs.Image.{Image, records}
+use Rattle.journal_core.specs.Kept.{Keeps, disk_of, gate_of}
 use Rattle.journal_core.specs.declared.journal.Journal.{Journal}
 use Rattle.office_journal.specs.Adopting.{IsOpened}
-use Rattle.office_journal.proofs.Opening.{holds_then, image_then}
+use Rattle.office_journal.proofs.Opening.{has_then, holds_then, image_then}
 use Rattle.office_journal.proofs.kept.KeptOffice.adopt.Goals as goal
 
 pub returns-in-Ok-opened-clause-ok : goal.returns-in-Ok-opened-clause-ok
@@ -24,3 +24,12 @@ returns-in-Ok-opened-clause-ok g c bytes stands =
       subst (λ (j : Journal g.row.D.Denot d). d.seen (disk_of j) ≡ Some bytes) (sym is.same) (c.in-Ok.ensures.seen ∙ stands),
       subst (λ (j : Journal g.row.D.Denot d). Only (d.seen (disk_of j)) (d.may_leave (disk_of j))) (sym is.same) read.2,
     )
+
+pub returns-in-Ok-opened-clause-legal : goal.returns-in-Ok-opened-clause-legal
+returns-in-Ok-opened-clause-legal g c =
+    let journal = c.in-Ok.journal in
+    let kept = c.in-Ok-opened.kept in
+    let all = c.as_slice.result.now in
+    let is : IsOpened journal all kept = c.in-Ok-opened.ensures in
+    let gate : gate_of journal ≡ length (records all) = c.in-Ok.ensures.gate.0 ∙ ap (λ (bs : List (List ℕ)). length (records bs)) (sym c.as_slice.ensures) in
+    (is.file, is.history, has_then journal all kept is gate)

@@ -4,7 +4,7 @@ use Rattle.journal_core.specs.Image.{IsOneOf}
 use Rattle.office_journal.specs.Changes.{Change, Leaves, body_of}
 use Rattle.office_journal.specs.Histories.{bodies}
 use Rattle.office_journal.specs.Submitting.{entered}
-use Rattle.office_journal.proofs.Appending.{held_still, held_then, left_then}
+use Rattle.office_journal.proofs.Appending.{held_still, held_then, left_then, legal_then}
 use Rattle.office_journal.proofs.kept.KeptOffice.append.Goals as goal
 
 pub returns-in-Ok-clause-becomes : goal.returns-in-Ok-clause-becomes
@@ -14,10 +14,13 @@ returns-in-Ok-clause-becomes g c =
       refl,
       c.requires.reply,
       record {
+        steady = c.in-Ok.ensures.steady;
+        gate = omega (arith, c.in-Ok.ensures.gate, ap length c.requires.body);
         state = c.commit.ensures.state;
         entries = refl;
         notes = refl;
         reads = c.commit.ensures.reads;
+        legal = λ file h has. legal_then c.args.self.now c.args.p c.accepted_requests_are_accepted_at_their_minute.ensures c.requires.ready c.args.packet.now c.requires.body c.requires.room file h has _ c.commit.ensures.state refl c.in-Ok.ensures.gate;
         held = λ file h pending holds.
             held_then d.seen d.may_leave c.args.self.now c.args.p c.accepted_requests_are_accepted_at_their_minute.ensures c.requires.ready c.args.packet.now c.requires.body c.requires.room
             file h pending holds _ c.commit.ensures.state refl (c.in-Ok.ensures.ok (bodies file h) (option_map body_of pending) holds.journal);
@@ -41,6 +44,7 @@ returns-in-Err-DiskFault-clause-becomes g c =
       record {
         cause = c.in-Err-DiskFault.ensures.cause (ap Err c.in-Err-DiskFault.field-0-is);
         room = λ long. omega (arith, long, c.requires.room, ap length c.requires.body);
+        gate = c.in-Err-DiskFault.ensures.gate;
         state = refl;
         entries = refl;
         notes = c.saturating_add-self.ensures;
