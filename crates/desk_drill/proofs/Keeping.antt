@@ -106,9 +106,9 @@ texts_more (x ∷ sents) sent = ap (λ (texts : List (List ℕ)). x.text ∷ tex
 read_more : (before now : TextReader) (texts : List (List ℕ)) (text : List ℕ) → HasRead before texts → HasReadOne before text now → HasRead now (texts ++ text ∷ [])
 read_more before now texts text had one =
     let added : product_in before.reader.office before.reader.class (decode text) ≡ product_in drill_office classes.O (decode text)
-          = ap (λ (o : List ℕ). product_in o before.reader.class (decode text)) had.office ∙ ap (λ (c : Class). product_in drill_office c (decode text)) had.class in
+    = ap (λ (o : List ℕ). product_in o before.reader.class (decode text)) had.office ∙ ap (λ (c : Class). product_in drill_office c (decode text)) had.class in
     let old : before.reader.products ++ product_in before.reader.office before.reader.class (decode text) ≡ products_in drill_office classes.O texts ++ product_in drill_office classes.O (decode text)
-          = ap (λ (ps : List Product). ps ++ product_in before.reader.office before.reader.class (decode text)) had.products ∙ ap (λ (ps : List Product). products_in drill_office classes.O texts ++ ps) added in
+    = ap (λ (ps : List Product). ps ++ product_in before.reader.office before.reader.class (decode text)) had.products ∙ ap (λ (ps : List Product). products_in drill_office classes.O texts ++ ps) added in
     record {
       office = one.office ∙ had.office;
       class = one.class ∙ had.class;
@@ -154,9 +154,9 @@ goes_on d e place part entry one kept low few of goes =
     let own : last_number e.office.state (desk_at place) ≡ next_number s (desk_at place) = subst (λ (x : List ℕ). last_number e.office.state x ≡ next_number s (desk_at place)) of.desk (goes.heard ∙ of.seq) in
     let was : slice_index d.numbers place ≡ last_number s (desk_at place) = ap (λ (ns : List ℕ). slice_index ns place) kept.numbered ∙ number_at s place low in
     let set_is : e.numbers ≡ set (map (last_number s) drill_desks) place (last_number s (desk_at place) + 1)
-          = goes.numbers ∙ ap (λ (n : ℕ). set d.numbers place (n + 1)) was ∙ ap (λ (ns : List ℕ). set ns place (last_number s (desk_at place) + 1)) kept.numbered in
+    = goes.numbers ∙ ap (λ (n : ℕ). set d.numbers place (n + 1)) was ∙ ap (λ (ns : List ℕ). set ns place (last_number s (desk_at place) + 1)) kept.numbered in
     let others : (other : List ℕ) → bytes_eq (desk_at place) other ≡ false → last_number e.office.state other ≡ last_number s other
-          = λ other off. others_stay s e.office.state entry (Some one) other goes.state (subst (λ (x : List ℕ). bytes_eq x other ≡ false) (sym of.desk) off) in
+    = λ other off. others_stay s e.office.state entry (Some one) other goes.state (subst (λ (x : List ℕ). bytes_eq x other ≡ false) (sym of.desk) off) in
     record {
       numbered = set_is ∙ numbers_after s e.office.state place low others own;
       low = subst (λ (n : ℕ). AllByRecursion (λ (m : ℕ). m ≤ n) e.numbers) (sym goes.accepted) (subst (λ (ns : List ℕ). AllByRecursion (λ (m : ℕ). m ≤ d.accepted + 1) ns) (sym goes.numbers) (low_after d.accepted d.numbers place kept.low));

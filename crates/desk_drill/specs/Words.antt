@@ -1,5 +1,5 @@
 -- The words of a drill.
-use Rattle.std.specs.Prelude.{ℕ, ◌+◌, ◌-◌, ◌*◌, ◌^◌, ◌&&◌, List, [], ◌∷◌, Bool, fold, length, nat_lt, nat_le, if◌then◌else◌, Option, None, Some, codes}
+use Rattle.std.specs.Prelude.{ℕ, ◌+◌, ◌-◌, ◌*◌, ◌&&◌, List, Bool, fold, length, nat_le, if◌then◌else◌, Option, None, Some, codes}
 use Rattle.std.specs.List.{list_all}
 use Rattle.std.specs.Str.{bytes_eq}
 use Rattle.hazard_types.specs.Calendar.{is_digit}
@@ -11,7 +11,7 @@ with_digit n c = 10 * n + (c - 48)
 
 -- one or more decimal digits
 abbrev pub are_digits : List ℕ → Bool
-are_digits word = nat_lt 0 (length word) && list_all is_digit word
+are_digits word = nat_le 1 (length word) && list_all is_digit word
 
 -- the number that decimal digits spell, zeros in front or not
 abbrev pub spelled : List ℕ → ℕ

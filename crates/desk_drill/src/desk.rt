@@ -138,7 +138,10 @@ impl DrillDesk {
         let number = self.numbers[desk as usize] + 1;
         let request = Request::Issue(part);
         let reading = i64::from(minute.get());
-        match self.office.prepare(alloc, desk_at(desk), number, &request, reading) {
+        match self
+            .office
+            .prepare(alloc, desk_at(desk), number, &request, reading)
+        {
             Ok(Ready::New(prepared)) => self.accept(alloc, desk, prepared),
             Ok(Ready::Again) => unreachable!(),
             Err(Or::No(_refusal)) => {

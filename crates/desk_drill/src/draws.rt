@@ -3,6 +3,7 @@ ghost use Rattle.std.specs.Prelude.{◌≡◌};
 ghost use Rattle.desk_drill.specs.Draws.{drawn, next_draw};
 
 const FACTOR: u64 = 6_364_136_223_846_793_005;
+
 const STEP: u64 = 1_442_695_040_888_963_407;
 
 /// Draws numbers of 31 bits, one after another.

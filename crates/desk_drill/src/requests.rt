@@ -9,7 +9,9 @@ ghost use Rattle.desk_drill.specs.Keeping.{issued_by};
 ghost use Rattle.desk_drill.specs.Requests.{desk_at, hazard_at, letters_at, minute_at, no_texts, part_of, request_at, zone_at, zones_from};
 
 use crate::draws::Draws;
-use hazard_types::{Begin, Desk, End, Hazard, Kind, List, Minute, Oom, Phen, PutPart, Sig, Target, Texts, Zone};
+use hazard_types::{
+    Begin, Desk, End, Hazard, Kind, List, Minute, Oom, Phen, PutPart, Sig, Target, Texts, Zone,
+};
 use std::alloc::Global;
 
 /// The minute 180101T0000Z.

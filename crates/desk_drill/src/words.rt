@@ -1,5 +1,7 @@
 //! The words of a drill.
 ghost use Rattle.std.specs.Prelude.{◌≡◌, ◌≤◌, IfSome, Some, None, nat_le, if◌then◌else◌};
+ghost use Rattle.std.specs.List.{list_all};
+ghost use Rattle.hazard_types.specs.Calendar.{is_digit};
 ghost use Rattle.desk_drill.specs.Words.{are_digits, drill_in, number_in, with_digit};
 
 use crate::drill::Drill;
@@ -7,11 +9,18 @@ use crate::drill::Drill;
 /// The most requests of a drill.
 const MOST: u64 = 8192;
 
+/// Whether all are decimal digits.
+fn have_digits_alone(word: &[u8]) -> bool
+    ensures { result ≡ list_all is_digit word.now }
+{
+    word.iter().all(|c| c.is_ascii_digit())
+}
+
 /// Whether these are one or more decimal digits.
 fn are_digits(word: &[u8]) -> bool
     ensures { result ≡ are_digits word.now }
 {
-    !word.is_empty() && word.iter().all(|c| c.is_ascii_digit())
+    !word.is_empty() && have_digits_alone(word)
 }
 
 /// The number with one digit more, unless it is above `most` then.
@@ -36,7 +45,10 @@ fn number_in(word: &[u8], most: u64) -> Option<u64>
     }
     let mut number = 0;
     for digit in word {
-        number = with_digit(number, *digit, most)?;
+        match with_digit(number, *digit, most) {
+            Some(next) => number = next,
+            None => return None,
+        }
     }
     Some(number)
 }
