@@ -9,6 +9,7 @@ use Rattle.desk_program.specs.Words.{command_of}
 use Rattle.desk_program.specs.Training.{AnswersLine, LacksLine, first_training}
 use Rattle.desk_traits.specs.declared.clocks.Clock.{Ghosts as Clocks}
 use Rattle.desk_traits.specs.declared.disk.Disk.{Ghosts as Disks}
+use Rattle.desk_drill.specs.Runs.{IsDrillRun}
 use Rattle.desk_commands.specs.Commands.{IsBoardRun, IsExportRun, IsInitRun, IsScriptRun, IsUpgradeRun}
 use Rattle.desk_commands.specs.Opening.{IsUnopenedRun, IsUnread}
 use Rattle.desk_program.specs.declared.words.Command.{Command}
@@ -39,6 +40,8 @@ module _ {D C : Type 0} (d : Disks D) (k : Clocks C) where
       IsUnread left left' reads reads' × ((IsUnopenedRun d disk next taken taken' writes writes' status × (clock' ≡ clock)) ⊎ IsBoardRun d k minute disk next clock clock' taken taken' writes writes' status)
   Does (command.Dry dry) limit disk next clock clock' left left' taken taken' reads reads' writes writes' status =
       IsDryRun dry limit left left' taken taken' reads reads' writes writes' status × (next ≡ disk) × (clock' ≡ clock)
+  Does (command.Drill drill) limit disk next clock clock' left left' taken taken' reads reads' writes writes' status =
+      IsUnread left left' reads reads' × IsDrillRun drill.number drill.count writes taken taken' writes' status × (next ≡ disk) × (clock' ≡ clock)
 
 -- It went well; or settings were refused, a journal was there, was not there or is damaged, the clock is out, memory lacked, the input is too long or the journal full.
 abbrev pub IsEndOfItsOwn : ℕ → Type 0

@@ -1,9 +1,10 @@
 -- The words of a command line.
-use Rattle.std.specs.Prelude.{ℕ, ◌&&◌, List, [], ◌∷◌, if◌then◌else◌, Option, None, Some, option_map, codes, IsTrue}
+use Rattle.std.specs.Prelude.{ℕ, ◌≤◌, ◌&&◌, List, [], ◌∷◌, if◌then◌else◌, Option, None, Some, option_map, codes, IsTrue}
 use Rattle.std.specs.Option.{option_or}
 use Rattle.std.specs.Str.{bytes_eq}
 use Rattle.hazard_types.specs.Calendar.{stamp_at}
 use Rattle.hazard_types.specs.Characters.{is_office}
+use Rattle.desk_drill.specs.Words.{drill_in}
 use Rattle.desk_program.specs.declared.words.Command.{Command}
 use Rattle.desk_program.specs.declared.words.Command.TheVariants as command
 
@@ -25,13 +26,22 @@ board_words a b c = if bytes_eq a (codes "board") && bytes_eq b (codes "--at") t
 abbrev pub dry_words : List ℕ → List ℕ → List ℕ → Option Command
 dry_words a b c = if bytes_eq a (codes "dry") && is_office b then option_map (λ m. command.Dry (record { office = b; minute = m })) (stamp_at c) else None
 
+-- `drill NUMBER COUNT`
+abbrev pub drill_words : List ℕ → List ℕ → List ℕ → Option Command
+drill_words a b c = option_map (λ drill. command.Drill drill) (drill_in a b c)
+
+-- `board --at STAMP`, `dry OFFICE STAMP` or `drill NUMBER COUNT`
+abbrev pub three_words : List ℕ → List ℕ → List ℕ → Option Command
+three_words a b c = option_or (board_words a b c) (option_or (dry_words a b c) (drill_words a b c))
+
 -- the command that the words are, all of them
 unfoldable pub command_of : List (List ℕ) → Option Command
 command_of (a ∷ []) = single_word a
-command_of (a ∷ b ∷ c ∷ []) = option_or (board_words a b c) (dry_words a b c)
+command_of (a ∷ b ∷ c ∷ []) = three_words a b c
 command_of _ = None
 
 -- its values have their forms
 abbrev pub IsCommand : Command → Type 0
 IsCommand (command.Dry dry) = IsTrue (is_office dry.office)
+IsCommand (command.Drill drill) = drill.count ≤ 8192
 IsCommand _ = Unit {0}

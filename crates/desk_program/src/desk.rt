@@ -5,6 +5,7 @@ ghost use Rattle.desk_program.specs.Runs.{DoesAsAsked};
 use crate::training::run_training;
 use crate::words::{Command, command_of};
 use desk_commands::{Ended, run_board, run_export, run_init, run_script, run_upgrade};
+use desk_drill::run_drill;
 use desk_traits::{Clock, Disk, Sink, Source};
 use hazard_types::{List, Text};
 use program_ends::{End, end_at_once};
@@ -39,6 +40,10 @@ pub fn desk_within<S: Source, K: Sink, D: Disk, C: Clock>(
         Some(Command::Board(minute)) => run_board(alloc, minute, output, disk, clock),
         Some(Command::Dry(dry)) => Ended {
             status: run_training(alloc, &dry, limit, input, output),
+            disk,
+        },
+        Some(Command::Drill(drill)) => Ended {
+            status: run_drill(alloc, &drill, output),
             disk,
         },
     }

@@ -4,8 +4,9 @@ ghost use Rattle.std.specs.List.{list_all};
 ghost use Rattle.hazard_types.specs.Calendar.{is_digit};
 ghost use Rattle.hazard_types.specs.Places.{is_capital};
 ghost use Rattle.hazard_types.specs.Characters.{is_office};
-ghost use Rattle.desk_program.specs.Words.{IsCommand, board_words, command_of, dry_words, single_word};
+ghost use Rattle.desk_program.specs.Words.{IsCommand, board_words, command_of, drill_words, dry_words, single_word, three_words};
 
+use desk_drill::{Drill, drill_in};
 use hazard_types::{List, Minute, Text, read_stamp};
 
 /// Training at an office and a minute.
@@ -30,6 +31,8 @@ pub enum Command {
     Board(Option<Minute>),
     /// Training in memory.
     Dry(Dry),
+    /// Generated requests in memory.
+    Drill(Drill),
 }
 
 /// Whether all are capital letters or digits.
@@ -99,6 +102,31 @@ fn dry_words(command: &[u8], office: &[u8], stamp: &[u8]) -> Option<Command>
     Some(Command::Dry(Dry { office, minute }))
 }
 
+/// The command `drill NUMBER COUNT`.
+fn drill_words(command: &[u8], number: &[u8], count: &[u8]) -> Option<Command>
+    ensures value { result ≡ drill_words command.now number.now count.now }
+    ensures forms { IfSome result IsCommand }
+{
+    let drill = drill_in(command, number, count)?;
+    Some(Command::Drill(drill))
+}
+
+/// The command of three words.
+fn three_words(first: &[u8], second: &[u8], third: &[u8]) -> Option<Command>
+    ensures value { result ≡ three_words first.now second.now third.now }
+    ensures forms { IfSome result IsCommand }
+{
+    let board = board_words(first, second, third);
+    if board.is_some() {
+        return board;
+    }
+    let dry = dry_words(first, second, third);
+    if dry.is_some() {
+        return dry;
+    }
+    drill_words(first, second, third)
+}
+
 /// The command that the words are. None exactly where they are none.
 #[tactic(auto, unfolding(crate::specs::Words::command_of))]
 pub fn command_of(words: &List<Text>) -> Option<Command>
@@ -107,13 +135,11 @@ pub fn command_of(words: &List<Text>) -> Option<Command>
 {
     match words.as_slice() {
         [word] => single_word(word.as_slice()),
-        [first, second, third] => {
-            let board = board_words(first.as_slice(), second.as_slice(), third.as_slice());
-            if board.is_some() {
-                return board;
-            }
-            dry_words(first.as_slice(), second.as_slice(), third.as_slice())
-        }
+        [first, second, third] => three_words(
+            first.as_slice(),
+            second.as_slice(),
+            third.as_slice(),
+        ),
         _ => None,
     }
 }

@@ -16,7 +16,7 @@ const ROOM: usize = 1_048_700;
 
 /// The words of the program, a line each.
 const USAGE: &str =
-    "warn_main PATH init\nwarn_main PATH script\nwarn_main PATH export\nwarn_main PATH board\nwarn_main PATH board --at STAMP\nwarn_main PATH upgrade\nwarn_main PATH dry OFFICE STAMP\n";
+    "warn_main PATH init\nwarn_main PATH script\nwarn_main PATH export\nwarn_main PATH board\nwarn_main PATH board --at STAMP\nwarn_main PATH upgrade\nwarn_main PATH dry OFFICE STAMP\nwarn_main PATH drill NUMBER COUNT\n";
 
 /// Runs the program over a disk.
 fn run<D: Disk + Drop>(rt: &HostRuntime, words: &[String], disk: D) -> ExitCode {

@@ -1,0 +1,7 @@
+pub mod Agreeing
+pub mod Counting
+pub mod Digits
+pub mod Keeping
+pub mod OneAnswer
+pub mod Running
+pub mod Zones

@@ -1,0 +1,24 @@
+//! The numbers that a drill draws.
+ghost use Rattle.std.specs.Prelude.{◌≡◌};
+ghost use Rattle.desk_drill.specs.Draws.{drawn, next_draw};
+
+const FACTOR: u64 = 6_364_136_223_846_793_005;
+
+const STEP: u64 = 1_442_695_040_888_963_407;
+
+/// Draws numbers of 31 bits, one after another.
+#[derive(Clone, Copy, Debug)]
+pub struct Draws {
+    pub state: u64,
+}
+
+impl Draws {
+    /// The next number.
+    pub fn draw(&mut self) -> u64
+        ensures state { self.new.state ≡ next_draw self.old.state }
+        ensures value { result ≡ drawn self.new.state }
+    {
+        self.state = self.state.wrapping_mul(FACTOR).wrapping_add(STEP);
+        self.state >> 33
+    }
+}

@@ -1,0 +1,16 @@
+//! The drill: generated requests through an office in memory, whose texts are read as they are written.
+#![tactic(auto)]
+
+mod desk;
+mod draws;
+mod drill;
+mod laws;
+mod requests;
+mod settings;
+mod summary;
+mod texts;
+mod words;
+
+pub use drill::{Drill, run_drill};
+pub use laws::texts_that_read_as_the_board_have_no_breach;
+pub use words::drill_in;

@@ -1,0 +1,184 @@
+//! The requests of a drill, one after another.
+ghost use Rattle.std.specs.Prelude.{◌≡◌, ◌≤◌, ◌<◌, ◌+◌, ◌%◌, IfOk, IsTrue, OnOk};
+ghost use Rattle.std.specs.List.{All};
+ghost use Rattle.hazard_types.specs.Desks.{is_desk_name};
+ghost use Rattle.hazard_types.specs.Places.{IsPlace, are_letters};
+ghost use Rattle.request_json.specs.Formed.{IsHazard, IsIssuePart};
+ghost use Rattle.desk_drill.specs.Draws.{next_draw};
+ghost use Rattle.desk_drill.specs.Keeping.{issued_by};
+ghost use Rattle.desk_drill.specs.Requests.{desk_at, hazard_at, letters_at, minute_at, no_texts, part_of, request_at, zone_at, zones_from};
+
+use crate::draws::Draws;
+use hazard_types::{
+    Begin, Desk, End, Hazard, Kind, List, Minute, Oom, Phen, PutPart, Sig, Target, Texts, Zone,
+};
+use std::alloc::Global;
+
+/// The minute 180101T0000Z.
+const FIRST_MINUTE: u32 = 9_468_000;
+
+/// For how many minutes an issue is in effect.
+const LASTING: u32 = 240;
+
+/// How many zones an issue has.
+const ZONES: u32 = 6;
+
+/// A request of a drill: an issue of a desk, which is told by its place among the four, from 0.
+#[derive(Debug, Drop)]
+pub struct DrillRequest {
+    pub desk: u32,
+    pub part: PutPart,
+    pub minute: Minute,
+}
+
+/// The letters of zone i.
+fn letters_at(i: u32) -> [u8; 2]
+    ensures value { result ≡ letters_at i }
+    ensures letters { IsTrue (are_letters result) }
+{
+    if i < 999 {
+        *b"AA"
+    } else if i < 1998 {
+        *b"AB"
+    } else {
+        *b"AC"
+    }
+}
+
+/// Zone i, of the number i mod 999 + 1.
+fn zone_at(i: u32) -> Zone
+    ensures { result ≡ zone_at i }
+{
+    match Zone::new(letters_at(i), Kind::Z, (i % 999 + 1) as u16) {
+        Some(zone) => zone,
+        None => unreachable!(),
+    }
+}
+
+/// So many zones from zone i on.
+#[tactic(auto, using(crate::proofs::Zones::zones_more, crate::proofs::Zones::no_zones, crate::proofs::Zones::are_places))]
+pub fn zones_from(alloc: Global, i: u32, count: u32) -> Result<List<Zone>, Oom>
+    requires { i + count ≤ 4294967295 }
+    ensures value { IfOk result (λ zones. zones ≡ zones_from i count) }
+    ensures places { IfOk result (All IsPlace) }
+{
+    let mut zones = List::new(alloc);
+    for place in 0..count {
+        zones.push(zone_at(i + place))?;
+    }
+    Ok(zones)
+}
+
+/// The name of the desk at a place, from 0 on; the fourth is the last.
+fn name_at(place: u32) -> [u8; 2]
+    ensures value { result ≡ desk_at place }
+    ensures name { IsTrue (is_desk_name result) }
+{
+    if place == 0 {
+        *b"D1"
+    } else if place == 1 {
+        *b"D2"
+    } else if place == 2 {
+        *b"D3"
+    } else {
+        *b"D4"
+    }
+}
+
+/// The desk at a place.
+pub fn desk_at(place: u32) -> Desk
+    ensures { result ≡ desk_at place }
+{
+    match Desk::new(&name_at(place)) {
+        Some(desk) => desk,
+        None => unreachable!(),
+    }
+}
+
+/// The hazard of two letters and a significance.
+fn hazard(letters: [u8; 2], sig: Sig) -> Hazard
+    requires { IsTrue (are_letters letters) }
+    ensures value { result ≡ record { phen = letters; sig = sig } }
+    ensures form { IsHazard result }
+{
+    match Phen::new(letters) {
+        Some(phen) => Hazard { phen, sig },
+        None => unreachable!(),
+    }
+}
+
+/// The hazard at a place, from 0 on; the fifth is the last.
+fn hazard_at(place: u64) -> Hazard
+    ensures value { result ≡ hazard_at place }
+    ensures form { IsHazard result }
+{
+    if place == 0 {
+        hazard(*b"WS", Sig::W)
+    } else if place == 1 {
+        hazard(*b"WW", Sig::Y)
+    } else if place == 2 {
+        hazard(*b"HW", Sig::W)
+    } else if place == 3 {
+        hazard(*b"WI", Sig::Y)
+    } else {
+        hazard(*b"FG", Sig::Y)
+    }
+}
+
+/// A minute so many behind 180101T0000Z.
+fn minute_behind(count: u32) -> Minute
+    requires { count ≤ 50000 }
+    ensures { result ≡ 9468000 + count }
+{
+    match Minute::new(FIRST_MINUTE + count) {
+        Some(minute) => minute,
+        None => unreachable!(),
+    }
+}
+
+/// Empty texts.
+fn no_texts(alloc: Global) -> Texts
+    ensures { result ≡ no_texts }
+{
+    Texts {
+        what: List::new(alloc),
+        area: List::new(alloc),
+        impacts: List::new(alloc),
+        details: List::new(alloc),
+    }
+}
+
+/// What request i asks for, by what was drawn first and then.
+fn part_of(alloc: Global, a: u64, b: u64, i: u32) -> Result<PutPart, Oom>
+    requires { i ≤ 8192 }
+    ensures value { IfOk result (λ part. part ≡ part_of a b (minute_at i)) }
+    ensures form { IfOk result IsIssuePart }
+{
+    let zones = zones_from(alloc, (b % 1995) as u32, ZONES)?;
+    Ok(PutPart {
+        target: Target::Fresh(hazard_at(a % 5)),
+        zones,
+        begin: Begin::Now,
+        end: End::At(minute_behind(5 * i + LASTING)),
+        flood: None,
+        texts: no_texts(alloc),
+    })
+}
+
+/// Request i, by the next two numbers that are drawn.
+pub fn request_at(alloc: Global, i: u32, draws: &mut Draws) -> Result<DrillRequest, Oom>
+    requires { i ≤ 8192 }
+    ensures state { draws.new.state ≡ next_draw (next_draw draws.old.state) }
+    ensures value { IfOk result (λ r. issued_by r ≡ request_at i draws.old.state) }
+    ensures place { IfOk result (λ r. r.desk < 4) }
+    ensures form { IfOk result (λ r. IsIssuePart r.part) }
+{
+    let a = draws.draw();
+    let b = draws.draw();
+    let part = part_of(alloc, a, b, i)?;
+    Ok(DrillRequest {
+        desk: i % 4,
+        part,
+        minute: minute_behind(5 * i),
+    })
+}
