@@ -215,5 +215,8 @@ module _ {D : Type 0} (d : Disks D)
       grows = inl notes;
     }
 
-    pub came_of : (answer : Answer) (told : Option (Snapshot Readied)) → Told d old new a reading answer told → Notes answer told xs zs → CameOf d opened new a reading answer xs zs
-    came_of answer told is notes = came_by answer told is.becomes is.names is.later is.moments notes
+    -- the reading and the list of before may be told by other terms
+    pub came_of : (z : ℤ) (ys : List Happening) (answer : Answer) (told : Option (Snapshot Readied)) → z ≡ reading → ys ≡ xs → Told d old new a z answer told → Notes answer told ys zs → CameOf d opened new a reading answer xs zs
+    came_of z ys answer told at begin is notes =
+        let is' = subst (λ (n : ℤ). Told d old new a n answer told) at is in
+        came_by answer told is'.becomes is'.names is'.later is'.moments (subst (λ (l : List Happening). Notes answer told l zs) begin notes)

@@ -1,5 +1,6 @@
 -- What lists of happenings say, one list behind another.
-use Rattle.std.proofs.Common.{ℕ, ◌≡◌, ◌+◌, ◌≤◌, List, [], ◌∷◌, ◌++◌, length, refl, ap, arith}
+use Rattle.std.proofs.Common.{ℕ, ◌≡◌, ◌+◌, ◌≤◌, List, [], ◌∷◌, ◌++◌, length, refl, ap, arith, ◌-◌, ◌^◌, min, ◌<◌}
+use Rattle.desk_traits.specs.Faults.{Rose}
 use Rattle.office_core.specs.Histories.{Entered}
 use Rattle.office_core.specs.State.{State}
 use Rattle.office_core.specs.Step.{state_after}
@@ -47,3 +48,12 @@ gate_append gate (x ∷ xs) ys = gate_append (gate + (5 + length (entry_body x))
 pub lawful_append : (s : State) (xs ys : List Entered) → AreEntriesAt s xs → AreEntriesAt (state_behind s xs) ys → AreEntriesAt s (xs ++ ys)
 lawful_append s [] ys first second = second
 lawful_append s (x ∷ xs) ys first second = (first.0, lawful_append (state_after s x.entry x.made) xs ys first.1 second)
+
+behind_within : (n : ℕ) (xs : List Happening) → faults_behind n xs ≤ n + faults_in xs
+behind_within n [] = omega arith
+behind_within n (Entry p ∷ xs) = let h = behind_within 0 xs in omega arith
+behind_within n (Fault ∷ xs) = let h = behind_within (n + 1) xs in omega arith
+
+-- where the disk has failed since an entry was last added its count has risen
+pub rose_since : (before now : ℕ) (xs : List Happening) → 0 < faults_behind 0 xs → min (before + faults_in xs) (2 ^ 64 - 1) ≤ now → Rose before now
+rose_since before now xs some counted = let h = behind_within 0 xs in omega (arith, some, counted)

@@ -37,7 +37,10 @@ impl<D: Disk> Tied<KeptOffice<D>, Story<D>> {
     pub fn submit(&mut self, alloc: Global, asked: &Asked, reading: i64) -> Answer
         requires form { HasForm asked.now }
         ensures opened { self.new.story.opened.value ≡ self.old.story.opened.value }
-        ensures submitted { Submitted self.old.story.opened.value self.old.story.happenings.items self.new.story.happenings.items asked.now reading result }
+
+        // What each answer says is true after what had happened, and one happening more stands behind that at most.
+        ensures submitted { Submitted self.old.story.opened.value self.old.story.happenings.items
+            self.new.story.happenings.items asked.now reading result }
         ensures grows { GrowsByOneAtMost self.old.story.happenings.items self.new.story.happenings.items }
     {
         if self.story.happenings.reserve(1).is_err() {
@@ -56,7 +59,8 @@ impl<D: Disk> Tied<KeptOffice<D>, Story<D>> {
     ///
     /// Those of the kept office's `look`.
     pub fn look(&self, alloc: Global, q: &Query, reading: i64) -> Result<Text, Or<Refusal>>
-        ensures { Shown self.now.story.opened.value self.now.story.happenings.items self.now.story.happenings.items q.now reading result }
+        ensures { Shown self.now.story.opened.value self.now.story.happenings.items
+            self.now.story.happenings.items q.now reading result }
     {
         self.kept.look(alloc, q, reading)
     }
