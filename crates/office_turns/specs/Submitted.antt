@@ -21,6 +21,13 @@ use Rattle.office_turns.specs.Happenings.{gate_at, state_at}
 use Rattle.office_turns.specs.declared.happening.Happening.{Happening}
 use Rattle.office_turns.specs.declared.happening.Happening.TheVariants.{Entry, Fault}
 
+module _ {D : Type 0} {d : _} (base : KeptOffice D d) (before : List Happening) where
+  -- a look shows the state after what had happened, or is refused there, or there is no memory
+  abbrev pub Shown : Query → ℤ → Result (List ℕ) (Or Refusal) → Type 0
+  Shown q reading (Ok text) = Shows (state_at base before) q reading text
+  Shown q reading (Err (or.No broken)) = RefusesLook (state_at base before) q reading broken
+  Shown q reading (Err or.OutOfMemory) = Unit {0}
+
 module _ {D : Type 0} {d : _} (base : KeptOffice D d) (before after : List Happening) where
   -- The answer is the office's at the state after what had happened. An accepted request adds its entry, one under which the disk failed a fault, each other one nothing.
   abbrev pub Submitted : Asked → ℤ → Answer → Type 0
@@ -34,12 +41,6 @@ module _ {D : Type 0} {d : _} (base : KeptOffice D d) (before after : List Happe
   Submitted a reading DiskFault = (x : Entered) × IsOffered (state_at base before) a.desk a.seq a.request reading x × (IsTooLong (gate_at base before) x → ⊥) × (after ≡ before ++ Fault ∷ [])
   Submitted a reading OutOfMemory = after ≡ before
 
-  -- a look shows the state after what had happened, or is refused there, or there is no memory
-  abbrev pub Shown : Query → ℤ → Result (List ℕ) (Or Refusal) → Type 0
-  Shown q reading (Ok text) = Shows (state_at base before) q reading text
-  Shown q reading (Err (or.No broken)) = RefusesLook (state_at base before) q reading broken
-  Shown q reading (Err or.OutOfMemory) = Unit {0}
-
-  -- and it adds nothing
+  -- a look is answered so, and adds nothing
   abbrev pub Looked : Query → ℤ → Result (List ℕ) (Or Refusal) → Type 0
-  Looked q reading answer = Shown q reading answer × (after ≡ before)
+  Looked q reading answer = Shown base before q reading answer × (after ≡ before)

@@ -59,8 +59,7 @@ impl<D: Disk> Tied<KeptOffice<D>, Story<D>> {
     ///
     /// Those of the kept office's `look`.
     pub fn look(&self, alloc: Global, q: &Query, reading: i64) -> Result<Text, Or<Refusal>>
-        ensures { Shown self.now.story.opened.value self.now.story.happenings.items
-            self.now.story.happenings.items q.now reading result }
+        ensures { Shown self.now.story.opened.value self.now.story.happenings.items q.now reading result }
     {
         self.kept.look(alloc, q, reading)
     }
