@@ -1,0 +1,6 @@
+pub mod Tying
+pub mod Happenings
+pub mod Since
+pub mod Noting
+pub mod Submitted
+pub mod Turns

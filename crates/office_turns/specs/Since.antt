@@ -1,0 +1,61 @@
+-- What has become of a kept office since it was opened.
+use Rattle.std.specs.Prelude.{◌≡◌, ◌⊎◌, ◌+◌, ◌-◌, ◌^◌, ◌≤◌, ◌<◌, ℕ, ℤ, List, [], ◌∷◌, Option, Some, IfSome, length, min}
+use Rattle.desk_traits.specs.Crash.{LeavesOnly}
+use Rattle.desk_traits.specs.declared.disk.Disk.{Ghosts as Disks}
+use Rattle.hazard_types.specs.declared.request.Request.{Request}
+use Rattle.office_core.specs.Agreement.{ReadsAsTheBoard}
+use Rattle.office_core.specs.Histories.{Entered}
+use Rattle.office_core.specs.State.{State}
+use Rattle.office_core.specs.Step.{state_after}
+use Rattle.office_journal.specs.Changes.{Change}
+use Rattle.office_journal.specs.Grown.{IsBetween, grown}
+use Rattle.office_journal.specs.Histories.{History}
+use Rattle.office_journal.specs.Kept.{HasHistory, Holds, disk_of, entries_of, gate_of, state_of}
+use Rattle.office_journal.specs.Submitting.{IsOffered}
+use Rattle.office_journal.specs.declared.kept.KeptOffice.{KeptOffice}
+use Rattle.office_turns.specs.Happenings.{entries_in, faults_behind, faults_in, gate_at, state_at}
+use Rattle.office_turns.specs.declared.happening.Happening.{Happening}
+
+-- a request is accepted at the state at some reading of the clock, and this is its entry
+pub record IsEntryAt (s : State) (x : Entered) : Type 0 where
+  pub desk : List ℕ
+  pub seq : ℕ
+  pub request : Request
+  pub reading : ℤ
+  pub offered : IsOffered s desk seq request reading x
+
+-- each entry is one at the state of those before it
+abbrev pub AreEntriesAt : State → List Entered → Type 0
+AreEntriesAt s [] = Unit {0}
+AreEntriesAt s (x ∷ entries) = IsEntryAt s x × AreEntriesAt (state_after s x.entry x.made) entries
+
+-- Why a change is pending: it was at the opening, and no entry was added since; or the disk has failed under it since an entry was last added. Then it is an entry at the state of now.
+abbrev pub MayPend : Option Change → List Happening → State → Change → Type 0
+MayPend was happenings s change =
+    ((was ≡ Some change) × (entries_in happenings ≡ []))
+    ⊎ ((x : Entered) × (change ≡ Change.entry x) × IsEntryAt s x × (0 < faults_behind 0 happenings))
+
+module _ {D : Type 0} (d : Disks D) (opened kept : KeptOffice D d) where
+  -- the history that the journal held at the opening, with this change pending, has grown by what has happened
+  pub record IsHeld (file : List ℕ) (h : History) (happenings : List Happening) (was : Option Change) : Type 0 where
+    pub pending : Option Change
+    pub holds : Holds d.seen d.may_leave kept file (grown h (entries_in happenings)) pending
+    pub which : IfSome pending (MayPend was happenings (state_of kept))
+    -- a crash at any moment since leaves a front of it that holds the first, with at most one change behind it
+    pub crashes : LeavesOnly d.moment d.left_since (disk_of opened) (disk_of kept) (IsBetween file h (grown h (entries_in happenings)))
+
+  -- the office is what was opened, after what has happened
+  pub record IsSince (happenings : List Happening) : Type 0 where
+    pub state : state_of kept ≡ state_at opened happenings
+    pub gate : gate_of kept ≡ gate_at opened happenings
+    pub entries : entries_of kept ≡ entries_of opened + length (entries_in happenings)
+    pub lawful : AreEntriesAt (state_of opened) (entries_in happenings)
+    -- whatever the disk tells, the history has grown by the entries
+    pub legal : (file : List ℕ) (h : History) → HasHistory opened file h → HasHistory kept file (grown h (entries_in happenings))
+    pub reads : ReadsAsTheBoard (state_of opened) → ReadsAsTheBoard (state_of kept)
+    -- the disk's count of faults has risen by those that happened, and by them alone
+    pub later : d.faults (disk_of opened) ≤ d.faults (disk_of kept)
+    pub counted : min (d.faults (disk_of opened) + faults_in happenings) (2 ^ 64 - 1) ≤ d.faults (disk_of kept)
+    pub steady : faults_in happenings ≡ 0 → d.faults (disk_of kept) ≡ d.faults (disk_of opened)
+    -- where the disk tells what it holds
+    pub held : (file : List ℕ) (h : History) (was : Option Change) → Holds d.seen d.may_leave opened file h was → IsHeld file h happenings was

@@ -1,0 +1,67 @@
+//! A kept office beside its story.
+ghost use Rattle.std.specs.Prelude.{◌≡◌, []};
+ghost use Rattle.office_turns.specs.Since.{IsSince};
+
+use crate::happening::Happening;
+use crate::tied::{Tied, Told};
+use desk_traits::Disk;
+use office_journal::KeptOffice;
+use std::alloc::Global;
+use std::snapshot::Snapshot;
+use turn_lock::Storied;
+
+/// A kept office as it was opened, and what has happened to it since, in order.
+#[derive(Drop)]
+pub struct Story<D: Disk> {
+    pub opened: Snapshot<KeptOffice<D>>,
+    pub happenings: Vec<Happening>,
+}
+
+impl<D: Disk> Told<Story<D>> for KeptOffice<D> {
+    ghost ties = { λ kept story. IsSince D.Disk story.opened.value kept story.happenings.items };
+}
+
+/// A kept office, and what has happened to it since it was opened.
+pub type SharedOffice<D> = Tied<KeptOffice<D>, Story<D>>;
+
+impl<D: Disk> Tied<KeptOffice<D>, Story<D>> {
+    /// A kept office that is opened now, so that nothing has happened to it yet.
+    pub fn open(alloc: Global, kept: KeptOffice<D>) -> Self
+        ensures opened { result.story.opened.value ≡ kept }
+        ensures kept { result.kept ≡ kept }
+        ensures happenings { result.story.happenings.items ≡ [] }
+    {
+        kept.a_crash_leaves_the_history();
+        let opened = Snapshot::of(&kept);
+        Tied {
+            kept,
+            story: Story {
+                opened,
+                happenings: Vec::new(alloc),
+            },
+        }
+    }
+
+    /// The kept office, with what has become of it since it was opened.
+    pub fn into_kept(self) -> KeptOffice<D>
+        ensures same { result ≡ self.kept }
+        ensures since { IsSince D.Disk self.story.opened.value result self.story.happenings.items }
+    {
+        let Tied { kept, .. } = self;
+        kept
+    }
+}
+
+impl<D: Disk> Storied for Tied<KeptOffice<D>, Story<D>> {
+    type Base = KeptOffice<D>;
+
+    type Entry = Happening;
+
+    ghost base = { λ t. t.story.opened.value };
+
+    ghost story = { λ t. t.story.happenings.items };
+
+    fn count(&self) -> u64 {
+        self.story.happenings.len() as u64
+    }
+}

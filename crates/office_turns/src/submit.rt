@@ -1,0 +1,66 @@
+//! What may be asked of a shared office.
+ghost use Rattle.std.specs.Prelude.{◌≡◌, ◌<◌, vec_len, vec_capacity};
+ghost use Rattle.request_json.specs.Formed.{HasForm};
+ghost use Rattle.turn_lock.specs.Story.{GrowsByOneAtMost};
+ghost use Rattle.office_turns.specs.Noting.{Notes};
+ghost use Rattle.office_turns.specs.Submitted.{Shown, Submitted};
+
+use crate::happening::Happening;
+use crate::shared::Story;
+use crate::tied::Tied;
+use desk_traits::Disk;
+use hazard_types::{Or, Query, Refusal, Text};
+use office_core::Prepared;
+use office_journal::{Answer, KeptOffice};
+use request_json::Asked;
+use std::alloc::Global;
+use std::snapshot::Snapshot;
+
+/// Notes what an answer says to have happened. What was prepared stands beside an answer that accepts.
+fn note(happenings: &mut Vec<Happening>, answer: &Answer, told: Option<Snapshot<Prepared>>)
+    requires room { vec_len happenings.old < vec_capacity happenings.old }
+    ensures { Notes answer.now told happenings.old.items happenings.new.items }
+{
+    match answer {
+        Answer::Accepted(_) => {
+            if let Some(entry) = told {
+                happenings.push_reserved(Happening::Entry(entry));
+            }
+        }
+        Answer::DiskFault => happenings.push_reserved(Happening::Fault),
+        Answer::Repeated(_) | Answer::Refused(_) | Answer::OutOfMemory => {}
+    }
+}
+
+impl<D: Disk> Tied<KeptOffice<D>, Story<D>> {
+    /// Submits a request at a reading of the clock. All memory is taken before the first call of the disk.
+    pub fn submit(&mut self, alloc: Global, asked: &Asked, reading: i64) -> Answer
+        requires form { HasForm asked.now }
+        ensures opened { self.new.story.opened.value ≡ self.old.story.opened.value }
+
+        // What each answer says is true after what had happened, and one happening more stands behind that at most.
+        ensures submitted { Submitted self.old.story.opened.value self.old.story.happenings.items
+            self.new.story.happenings.items asked.now reading result }
+        ensures grows { GrowsByOneAtMost self.old.story.happenings.items self.new.story.happenings.items }
+    {
+        if self.story.happenings.reserve(1).is_err() {
+            return Answer::OutOfMemory;
+        }
+        let (answer, told) = self
+            .kept
+            .submit_told(alloc, asked.desk, asked.seq, &asked.request, reading);
+        note(&mut self.story.happenings, &answer, told);
+        answer
+    }
+
+    /// What is looked at, at a reading of the clock.
+    ///
+    /// # Errors
+    ///
+    /// Those of the kept office's `look`.
+    pub fn look(&self, alloc: Global, q: &Query, reading: i64) -> Result<Text, Or<Refusal>>
+        ensures { Shown self.now.story.opened.value self.now.story.happenings.items q.now reading result }
+    {
+        self.kept.look(alloc, q, reading)
+    }
+}

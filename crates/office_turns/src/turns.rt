@@ -1,0 +1,55 @@
+//! Turns at a lock over a shared office.
+ghost use Rattle.std.specs.Prelude.{◌≡◌};
+ghost use Rattle.request_json.specs.Formed.{HasForm};
+ghost use Rattle.office_turns.specs.Turns.{SubmitsInTurn};
+
+use crate::jobs::{Look, Submit};
+use crate::shared::Story;
+use crate::tied::Tied;
+use desk_traits::Disk;
+use office_journal::{Answer, KeptOffice};
+use request_json::Asked;
+use std::alloc::Global;
+use std::sync::Wait;
+use turn_lock::{Pass, TurnLock};
+
+/// Submits a request in a turn, which may wait until it comes.
+pub fn submit_in_turn<R: Wait, D: Disk>(
+    rt: &R,
+    lock: &TurnLock<Tied<KeptOffice<D>, Story<D>>>,
+    pass: &mut Pass<Tied<KeptOffice<D>, Story<D>>>,
+    alloc: Global,
+    asked: &Asked,
+    reading: i64,
+) -> Answer
+    requires pass { pass.old.lock ≡ lock.now }
+    requires form { HasForm asked.now }
+    ensures { SubmitsInTurn asked.now reading pass.old pass.new result }
+{
+    lock.turn(
+        rt,
+        pass,
+        Submit {
+            alloc,
+            asked,
+            reading,
+        },
+    )
+}
+
+fn may_cross<X: Send>(_value: &X) {}
+
+fn may_be_shared<X: Sync>(_value: &X) {}
+
+/// A lock over a shared office may be shared by threads; a pass and the jobs may cross them.
+fn cross<D: Disk + Send>(
+    lock: &TurnLock<Tied<KeptOffice<D>, Story<D>>>,
+    pass: &Pass<Tied<KeptOffice<D>, Story<D>>>,
+    submit: &Submit<'_>,
+    look: &Look<'_>,
+) {
+    may_be_shared(lock);
+    may_cross(pass);
+    may_cross(submit);
+    may_cross(look);
+}
