@@ -15,7 +15,7 @@ use Rattle.hazard_types.specs.declared.line.Line.{Line}
 use Rattle.hazard_types.specs.declared.line.Row.{Row}
 use Rattle.event_life.specs.declared.life.Life.{Life}
 use Rattle.event_life.specs.Higher.{are_kin}
-use Rattle.event_life.specs.Periods.{is_live}
+use Rattle.event_life.specs.Periods.{is_live, overlaps}
 use Rattle.event_life.specs.Products.{has_higher, is_new, is_routine, life_of, row_after, row_at, rows_after}
 use Rattle.event_life.specs.Reordered.{are_lawful}
 use Rattle.event_life.specs.Table.{flood_after, left_of_life, life_after}
@@ -57,9 +57,8 @@ no_kin g h w is =
 
 no_clash : (t : ℕ) (a b : Row) (w : Watch) → a.event.hazard ≡ hazard_of w → clash t a b ≡ false
 no_clash t a b w is = false_from_ne_true _ (λ h.
-    let p = and_parts (same_zone a.zone b.zone && Rattle.std.proofs.Common.not (same_event a.event b.event) && is_live t a && is_live t b && are_kin a.event.hazard b.event.hazard) _ h in
-    let q = and_parts (same_zone a.zone b.zone && Rattle.std.proofs.Common.not (same_event a.event b.event) && is_live t a && is_live t b) _ p.0 in
-    both_ways _ (no_kin a.event.hazard b.event.hazard w is) q.1)
+    let p = and_parts (same_zone a.zone b.zone && is_live t a && is_live t b && overlaps a.period b.period && Rattle.std.proofs.Common.not (same_event a.event b.event)) _ h in
+    both_ways _ (no_kin a.event.hazard b.event.hazard w is) p.1)
 
 none_clash : (t : ℕ) (a : Row) (w : Watch) (rows : List Row) → a.event.hazard ≡ hazard_of w → filter (clash t a) rows ≡ []
 none_clash t a w [] is = refl
