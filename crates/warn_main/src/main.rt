@@ -5,6 +5,7 @@ mod desk;
 mod place;
 
 use crate::place::{Place, place_of};
+use desk_links::{OpenGate, TcpPort};
 use desk_traits::{Disk, FileDisk, StdSink, StdSource, SureDisk, SystemClock};
 use program_ends::{End, command_line, show_usage};
 use std::fs::File;
@@ -16,15 +17,26 @@ const ROOM: usize = 1_048_700;
 
 /// The words of the program, a line each.
 const USAGE: &str =
-    "warn_main PATH init\nwarn_main PATH script\nwarn_main PATH export\nwarn_main PATH board\nwarn_main PATH board --at STAMP\nwarn_main PATH upgrade\nwarn_main PATH dry OFFICE STAMP\nwarn_main PATH drill NUMBER COUNT\n";
+    "warn_main PATH init\nwarn_main PATH script\nwarn_main PATH export\nwarn_main PATH board\nwarn_main PATH board --at STAMP\nwarn_main PATH upgrade\nwarn_main PATH dry OFFICE STAMP\nwarn_main PATH drill NUMBER COUNT\nwarn_main PATH serve --port N --workers W --connections M\n";
 
 /// Runs the program over a disk.
-fn run<D: Disk + Drop>(rt: &HostRuntime, words: &[String], disk: D) -> ExitCode {
+fn run<D: Disk + Send + Drop>(rt: &HostRuntime, words: &[String], disk: D) -> ExitCode {
     let mut input = StdSource::new(rt.reader());
     let mut output = StdSink::new(io::writer(rt));
     let alloc = rt.alloc();
+    let mut port = TcpPort::new(alloc, rt);
     let mut clock = SystemClock::new(rt);
-    let ended = desk::run_program(alloc, words, &mut input, &mut output, disk, &mut clock);
+    let ended = desk::run_program(
+        rt,
+        alloc,
+        words,
+        &mut input,
+        &mut output,
+        disk,
+        &mut port,
+        &mut clock,
+        &OpenGate,
+    );
     show_usage(rt, ended.status, USAGE);
     ExitCode::from(ended.status)
 }

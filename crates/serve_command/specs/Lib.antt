@@ -1,0 +1,3 @@
+pub mod Words
+pub mod Growing
+pub mod Serving
