@@ -1,8 +1,9 @@
 -- How a run of `serve` ends.
-use Rattle.std.proofs.Common.{ℕ, ℤ, ◌≡◌, ◌≢◌, inl, inr, List, [], Option, None, Some, length, refl, sym, ◌∙◌, subst, arith}
+use Rattle.std.proofs.Common.{ℕ, ℤ, ◌≡◌, ◌≢◌, ◌⊎◌, inl, inr, IsSome, List, [], Option, None, Some, length, refl, sym, ◌∙◌, subst, arith}
+use Rattle.std.specs.Prelude.{MatchOption}
 use Rattle.desk_traits.specs.Faults.{Rose}
 use Rattle.desk_traits.specs.declared.disk.Disk.{Ghosts as Disks}
-use Rattle.office_journal.specs.Kept.{entries_of, state_of}
+use Rattle.office_journal.specs.Kept as kept
 use Rattle.program_ends.specs.Ends.{Telling, own_status, status_of}
 use Rattle.program_ends.specs.declared.ends.End.{End}
 use Rattle.program_ends.specs.declared.ends.End.TheVariants.{Usage, SettingsRefused, AlreadyKept, NoJournal, Damaged, ReadFault, WriteFault, DiskFault, PortFault, ClockOut, OutOfMemory, InputTooLong, JournalFull}
@@ -15,6 +16,27 @@ use Rattle.warn_serve.specs.declared.serving.ServeEnd.{ServeEnd}
 use Rattle.warn_serve.specs.declared.serving.ServeEnd.TheVariants as serve
 use Rattle.serve_command.specs.Serving.{IsServeRun, Serves, TellsServed, summary}
 use Rattle.serve_command.specs.declared.words.Serving.{Serving}
+
+module _ {A : Type 0} where
+  -- what is said of the value that is there, or of none
+  pub present : (o : Option A) (x : A) (N : Type 0) (P : A → Type 0) → o ≡ Some x → P x → MatchOption o N P
+  present o x N P is holds = subst (λ (q : Option A). MatchOption q N P) (sym is) holds
+
+  pub absent : (o : Option A) (N : Type 0) (P : A → Type 0) → o ≡ None → N → MatchOption o N P
+  absent o N P is holds = subst (λ (q : Option A). MatchOption q N P) (sym is) holds
+
+  no_value : (o : Option A) → o ≡ None → IsSome o → ⊥
+  no_value None is some = absurd (cc)
+  no_value (Some x) is some = absurd (cc)
+
+  -- a command that is not the other is this one
+  pub given : {S : Type 0} (o : Option A) → o ≡ None → S ⊎ IsSome o → S
+  given o is (inl some) = some
+  given o is (inr some) = absurd (no_value o is some)
+
+-- what a port tells
+abbrev pub state_of : {P L : Type 0} → (P → ℕ) → (P → Option (List L)) → (P → ℕ) → P → PortState L
+state_of returned links faults port = record { returned = returned port; links = links port; faults = faults port }
 
 -- each status has its cause: a fault of the output, of the disk or of the port
 pub record HasCauses (disk_failed port_failed : Type 0) (writes writes' status : ℕ) : Type 0 where
@@ -112,7 +134,7 @@ module _ {D L : Type 0} (d : Disks D) (w : Ways L) (gives : ℤ → Type 0) (ser
   PortFailed = Rose port.faults port'.faults
 
   ran : IsServeRun d w gives serving disk next port port' taken taken' writes writes' status → HasCauses (Rose (d.faults disk) (d.faults next)) PortFailed writes writes' status
-  ran run = told_served (Rose (d.faults disk) (d.faults next)) PortFailed writes taken taken' writes' status run.end (summary (entries_of run.closed) (length (state_of run.closed).products))
+  ran run = told_served (Rose (d.faults disk) (d.faults next)) PortFailed writes taken taken' writes' status run.end (summary (kept.entries_of run.closed) (length (kept.state_of run.closed).products))
       (λ same. (subst (λ (e : ServeEnd). EndsAs port port' serving.connections (visits_of run.served.parts) e) same run.served.ends).1) run.told
 
   pub ends : Serves d w gives serving disk next port port' taken taken' writes writes' status → HasCauses (Rose (d.faults disk) (d.faults next)) PortFailed writes writes' status
