@@ -1,6 +1,6 @@
 mod Mapping
-mod Scripting
-mod Keeping
+pub mod Scripting
+pub mod Keeping
 mod Judging
 mod Upgrading
 mod Later

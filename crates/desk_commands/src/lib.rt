@@ -16,5 +16,7 @@ pub use ended::Ended;
 pub use export::run_export;
 pub use init::run_init;
 pub use lines::refusal_line;
+pub use opening::open;
 pub use script::run_script;
+pub use telling::tell;
 pub use upgrade::run_upgrade;
