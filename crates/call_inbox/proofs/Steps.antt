@@ -1,8 +1,7 @@
 -- Reading, step by step, and what is told.
-use Rattle.std.proofs.Common.{◌≡◌, ℕ, List, [], ◌++◌, refl, ap, sym, ◌∙◌, append_assoc, append-nil, subst, Option, None, Some, IfNone}
+use Rattle.std.proofs.Common.{◌≡◌, ℕ, List, [], refl, sym, ◌∙◌, append-nil, subst, Option, None, Some, IfNone}
 use Rattle.desk_traits.specs.Streams.{Takes}
-use Rattle.desk_traits.proofs.Pieces.{takes_both}
-use Rattle.call_inbox.specs.Next.{Tells, IsSteady}
+use Rattle.call_inbox.specs.Next.{Tells}
 use Rattle.call_inbox.specs.Reading.{HasRead}
 use Rattle.call_inbox.specs.declared.next.NextCall.{NextCall}
 use Rattle.call_inbox.specs.declared.next.NextCall.TheVariants.{Call, Refused, Closed, Cut, LinkFault, OutOfMemory}
@@ -19,14 +18,6 @@ read_nothing bytes bytes' left left' same kept = record {
   takes = subst (λ (l : Option (List ℕ)). Takes left l []) (sym kept) (takes_none left);
 }
 
--- one read after another
-pub read_both : (old mid new : List ℕ) (left left' left'' : Option (List ℕ)) → HasRead old mid left left' → HasRead mid new left' left'' → HasRead old new left left''
-read_both old mid new left left' left'' first second = record {
-  read = first.read ++ second.read;
-  stands = second.stands ∙ ap (λ (b : List ℕ). b ++ second.read) first.stands ∙ append_assoc old first.read second.read;
-  takes = takes_both left left' left'' first.read second.read (first.read ++ second.read) first.takes second.takes refl;
-}
-
 -- what is told where less was known of the end and of faults
 pub tells_more : (bytes : List ℕ) (ended failed ended' failed' : Type 0) (next : NextCall) → (ended → ended') → (failed → failed') → Tells bytes ended failed next → Tells bytes ended' failed' next
 tells_more bytes ended failed ended' failed' (Call call used last) e f t = t
@@ -35,14 +26,6 @@ tells_more bytes ended failed ended' failed' Closed e f t = (t.0, t.1, e t.2)
 tells_more bytes ended failed ended' failed' Cut e f t = (t.0, t.1, e t.2)
 tells_more bytes ended failed ended' failed' LinkFault e f t = f t
 tells_more bytes ended failed ended' failed' OutOfMemory e f t = t
-
-pub is_steady : (before now : ℕ) (next : NextCall) → now ≡ before → IsSteady before now next
-is_steady before now (Call call used last) same = same
-is_steady before now (Refused refusal) same = same
-is_steady before now Closed same = same
-is_steady before now Cut same = same
-is_steady before now LinkFault same = tt
-is_steady before now OutOfMemory same = same
 
 -- more follows where there is none
 pub none_more : {T : Type 0} (found : Option T) (P Q : Type 0) → (P → Q) → IfNone found P → IfNone found Q

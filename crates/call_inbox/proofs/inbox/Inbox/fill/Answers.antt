@@ -1,4 +1,4 @@
-use Rattle.std.proofs.Common.{◌≡◌, List, ℕ, ◌+◌, ◌++◌, take, drop, ap, ◌∙◌, rules}
+use Rattle.std.proofs.Common.{List, ℕ, ◌+◌, ◌++◌, take, drop, ap, ◌∙◌, rules}
 use Rattle.std.specs.Vec.{with_items}
 use Rattle.std.proofs.lemmas.List.{with_items_is, places}
 use Rattle.call_inbox.proofs.Places.{between, between_same, between_more}
