@@ -1,5 +1,4 @@
-use Rattle.std.proofs.Common.{◌≡◌, ◌<◌, ℕ, List, length, Some, refl}
-use Rattle.warn_http.specs.Calls.{IsUnfinished}
+use Rattle.std.proofs.Common.{refl}
 use Rattle.warn_http.proofs.Short.{no_cut_head, no_cut_body, missing_body, still_unfinished}
 use Rattle.warn_http.proofs.read.still_wants.Goals as goal
 
