@@ -1,14 +1,14 @@
 """Throws damaged input at the built programs and at others of the same names, and looks for a difference, outside the gate.
 
-    python3 bench/fuzz.py FOLDER [KINDS..] [--count N] [--seed S] [--programs FOLDER]
+    python3 bench/fuzz.py FOLDER [KINDS..] [--count N] [--seed S] [--show N] [--programs FOLDER]
 
 FOLDER has the other programs: `warn_main`, `warn_archive`, `watch_notice`. KINDS are those of `KINDS` below (all where none is
-given), N is how many inputs each kind gets (200), S where the generator begins (1). `--programs` has the programs of this
-repository, in place of those that stand below crates/.
+given). `--count` is how many inputs each kind gets (200), `--seed` where the generator begins (1), `--show` how many differences of
+a kind are printed (1). `--programs` has the programs of this repository, in place of those that stand below crates/.
 
 Both programs get the same words, the same bytes and a copy of the same journal. They must end with the same status, write the
-same bytes and leave the same journal. Of each kind the first difference is printed, with its input cut down to what still shows
-it, and how many inputs differed. Where the clock's minute changed between the two runs, both run again. Which of the two is
+same bytes and leave the same journal. Of each kind the first differences are printed, with their input cut down to what still shows
+them, and how many inputs differed. Where the clock's minute changed between the two runs, both run again. Which of the two is
 wrong is not said here.
 """
 import argparse
@@ -95,7 +95,9 @@ def damaged_lines(chance, lines):
 
 
 def damaged_json(chance, line):
-    """The line with a value changed, taken out or doubled, or with damaged bytes."""
+    """The line with a value changed, taken out or doubled, with damaged bytes, or about as long as a line may be."""
+    if chance.random() < 0.03:
+        return line[:1] + b" " * (chance.choice((65535, 65536, 65537, 65538)) - len(line)) + line[1:]
     members = re.findall(rb'"[a-z]+":(?:"[^"]*"|\[[^]]*\]|\{[^}]*\}|[0-9]+)', line)
     if chance.random() < 0.3 or not members:
         return damaged_bytes(chance, line)
@@ -116,8 +118,8 @@ TOML_LINES = [b"# remark", b"other = 1", b"[other]", b"[[zones]]", b"[zones]", b
               b"'MDZ009' = 'Literal'", b"a.b.c = 1", b"x = {a = 1, b = 2}", b"x = {a = 1,\n b = 2,}", b"x = [1, 2", b"= 1", b"x =", b"x = 1 y = 2", b"[a.b]\nc = 1", b"[\"a b\"]", b"\xef\xbb\xbf"]
 
 
-def settings(chance):
-    lines = sample("samples", "office.toml").split(b"\n")
+def settings(source):
+    chance, lines = source.chance, sample("samples", "office.toml").split(b"\n")
     for _ in range(chance.choice((0, 1, 1, 2, 3))):
         at = chance.randrange(len(lines))
         match chance.randrange(4):
@@ -128,6 +130,8 @@ def settings(chance):
             case _:
                 lines = damaged_lines(chance, lines) or [b""]
     given = chance.choice((b"\n", b"\n", b"\n", b"\r\n")).join(lines)
+    if chance.random() < 0.02:
+        given += b"\n#" + b"x" * (chance.choice((1048575, 1048576, 1048577, 1048578)) - len(given) - 2)
     journal = chance.choice((None, None, None, b"", b".", b"G", b".abc", b"hello", b"G\x00\x00\x00\x00."))
     return Case("warn_main", ["init"], given, journal)
 
@@ -157,8 +161,10 @@ def texts(chance):
 
 
 def period(chance, hazard):
-    end = "ufn" if hazard.startswith("FL") and chance.random() < 0.5 else stamp(chance.choice((-5, 0, 5, 60, 240, 600, 3000)))
-    return {"begin": chance.choice(("now", "now", "now", stamp(chance.randrange(-3, 120)))), "end": end}
+    minutes = chance.choice((5, 60, 240, 240, 600, 600, 3000, 3000)) if chance.random() < 0.95 else chance.choice((-5, 0))
+    end = "ufn" if chance.random() < (0.5 if hazard.startswith("FL") else 0.02) else stamp(minutes)
+    begin = "now" if chance.random() < 0.7 else stamp(chance.randrange(1, 240) if chance.random() < 0.9 else -3)
+    return {"begin": begin, "end": end}
 
 
 def put(chance, category):
@@ -168,66 +174,87 @@ def put(chance, category):
     return dict({"hazard": hazard, "zones": zones, **period(chance, hazard)}, **more, **({"texts": texts(chance)} if chance.random() < 0.5 else {}))
 
 
-def event(chance, category):
-    return "%s.%04d.%d" % (chance.choice(HAZARDS[category]), chance.randrange(1, 4), now().year)
+class Day:
+    """Requests of many desks, made by rounds: what one round is answered, the next one knows."""
 
+    def __init__(self, chance, answer):
+        """`answer` gives the replies to the lines of a script."""
+        self.chance, self.answer, self.lines = chance, answer, []
+        self.last, self.drafts, self.events, self.products = collections.Counter(), {}, ["WS.W.0001.%d" % now().year], 0
 
-def intent(chance, category, draft):
-    zones = chance.sample(COUNTIES if category in ("FLW", "FLS") else ZONES, chance.randrange(1, 4))
-    match chance.randrange(6):
-        case 0:
-            return {"do": "end", "draft": draft, "event": event(chance, category), "zones": zones}
-        case 1:
-            return {"do": "restate", "draft": draft, "event": event(chance, category), "zones": zones}
-        case 2:
-            joined = dict(put(chance, category), do="put", draft=draft, event=event(chance, category))
+    def round(self, size):
+        self.busy, asked = set(), []
+        for _ in range(size):
+            desk, request = self.next()
+            if desk not in self.busy:
+                self.busy.add(desk)
+                asked.append(dict({"desk": desk, "seq": self.last[desk] + 1}, **request))
+        self.lines += [json.dumps(it, separators=(",", ":")).encode() for it in asked]
+        for request, reply in zip(asked, self.answer(self.lines)[-len(asked):]):
+            self.learn(request, json.loads(reply))
+
+    def learn(self, request, reply):
+        if "ok" not in reply:
+            return
+        self.last[request["desk"]] = request["seq"]
+        self.events += reply.get("events", [])
+        self.products = reply.get("product", self.products)
+        if request["do"] == "open":
+            self.drafts[reply["draft"]] = (request["desk"], request["category"])
+        if request["do"] in ("send", "discard"):
+            self.drafts.pop(request["draft"], None)
+
+    def next(self):
+        """A desk and its next request, without desk and number."""
+        chance, desk, category = self.chance, self.chance.choice(DESKS), self.chance.choice(list(HAZARDS))
+        step = chance.randrange(10)
+        if step >= 4 and self.drafts:
+            draft = chance.choice(list(self.drafts))
+            owner, category = self.drafts[draft]
+            if step >= 8:
+                word = chance.choice(("send", "send", "send", "drop", "take", "discard"))
+                return owner if chance.random() < 0.9 else desk, dict({"do": word, "draft": draft}, **({"place": chance.randrange(2)} if word == "drop" else {}))
+            return owner, self.intent(draft, category)
+        if step == 0:
+            said = [{"event": self.event(category), "texts": texts(chance)} for _ in range(chance.randrange(3))]
+            return desk, {"do": "correct", "product": max(1, self.products - chance.choice((0, 0, 0, 1, 2))), "texts": said}
+        if step == 1:
+            return desk, dict({"do": "issue"}, **put(chance, category))
+        return desk, {"do": "open", "category": category}
+
+    def event(self, category):
+        """An event of the category, or any."""
+        fitting = [it for it in self.events if it[:4] in HAZARDS[category]]
+        return self.chance.choice(fitting if fitting and self.chance.random() < 0.9 else self.events)
+
+    def intent(self, draft, category):
+        chance, zones = self.chance, self.chance.sample(COUNTIES if category in ("FLW", "FLS") else ZONES[:5], self.chance.randrange(1, 4))
+        fitting = any(it[:4] in HAZARDS[category] for it in self.events)
+        step = chance.randrange(5) if fitting else chance.randrange(2)
+        if step == 0 and category not in ("FFA", "FLW", "FLS"):
+            return {"do": "routine", "draft": draft, "hazard": chance.choice(HAZARDS[category]), "zones": zones}
+        if step <= 1:
+            return dict(put(chance, category), do="put", draft=draft)
+        if step == 2:
+            joined = dict(put(chance, category), do="put", draft=draft, event=self.event(category))
             del joined["hazard"]
             return joined
-        case 3 if category not in ("FFA", "FLW", "FLS"):
-            return {"do": "routine", "draft": draft, "hazard": chance.choice(HAZARDS[category]), "zones": zones}
-        case _:
-            return dict(put(chance, category), do="put", draft=draft)
+        return {"do": chance.choice(("end", "restate")), "draft": draft, "event": self.event(category), "zones": zones}
 
 
-def day(chance, size):
-    """The requests of a day: each desk issues, corrects, or opens, fills and sends a draft, in turn with the others."""
-    drafts, asked, seqs = 0, [], collections.Counter()
-
-    def ask(desk, **more):
-        seqs[desk] += 1
-        asked.append(json.dumps(dict({"desk": desk, "seq": seqs[desk]}, **more), separators=(",", ":")).encode())
-    while len(asked) < size:
-        desk, category = chance.choice(DESKS), chance.choice(list(HAZARDS))
-        match chance.randrange(8):
-            case 0 | 1 | 2:
-                ask(desk, do="issue", **put(chance, category))
-            case 3:
-                ask(desk, do="correct", product=chance.randrange(1, 9), texts=[{"event": event(chance, category), "texts": texts(chance)}])
-            case 4:
-                ask(desk, do=chance.choice(("take", "discard", "send")), draft=chance.randrange(1, drafts + 2))
-            case _:
-                drafts += 1
-                ask(desk, do="open", category=category)
-                for _ in range(chance.randrange(1, 5)):
-                    ask(desk, **intent(chance, category, drafts))
-                if chance.random() < 0.3:
-                    ask(desk, do="drop", draft=drafts, place=chance.randrange(3))
-                if chance.random() < 0.8:
-                    ask(desk, do="send", draft=drafts)
-    return asked
-
-
-def requests(chance, journals):
-    """A script over a journal, of whose lines some are damaged; a refused line makes those behind it of its desk a gap."""
-    lines = [damaged_json(chance, line) if chance.random() < 0.06 else line for line in day(chance, chance.randrange(1, 60))]
+def requests(source):
+    """A script over a journal, of whose lines some are damaged."""
+    chance, journal = source.chance, source.chance.choice(source.made)
+    lines = source.day(journal, chance.randrange(1, 7))
+    lines = [damaged_json(chance, line) if chance.random() < 0.04 else line for line in lines]
     if chance.random() < 0.3:
         lines = damaged_lines(chance, lines)
     end = chance.choice((b"\n", b"\n", b"\r\n"))
-    return Case("warn_main", ["script"], end.join(lines) + chance.choice((end, b"", b"\r")), chance.choice(journals))
+    return Case("warn_main", ["script"], end.join(lines) + chance.choice((end, b"", b"\r")), journal)
 
 
-def training(chance):
-    lines = []
+def training(source):
+    chance, lines = source.chance, []
     for _ in range(chance.randrange(1, 40)):
         line = json.dumps(dict({"do": "issue"}, **put(chance, chance.choice(list(HAZARDS)))), separators=(",", ":")).encode()
         lines.append(damaged_json(chance, line) if chance.random() < 0.3 else line)
@@ -261,10 +288,11 @@ def damaged_journal(chance, file):
             return journal_of(damaged_lines(chance, records(file)), chance.choice((b".", b".", b"x", b"", b"G", b".trailing")))
 
 
-def journals(chance, made):
+def journals(source):
+    chance, journal = source.chance, source.chance.choice(source.made)
     words = chance.choice((["export"], ["board", "--at", stamp(chance.choice((0, 60, 600)))], ["board"], ["upgrade"], ["script"]))
-    given = b"\n".join(day(chance, 6)) + b"\n" if words == ["script"] else b""
-    return Case("warn_main", words, given, damaged_journal(chance, chance.choice(made)))
+    given = b"\n".join(source.day(journal, 1)) + b"\n" if words == ["script"] else b""
+    return Case("warn_main", words, given, damaged_journal(chance, journal))
 
 
 # ---- words, archives, notices
@@ -274,7 +302,8 @@ ODD_WORDS = ["", "-", "--at", "--at=", "--help", "0", "007", "7", "-1", "+1", "1
              "init", "script", "export", "board", "upgrade", "dry", "drill", "serve", "O", "T", "E", "X", "o", "Eastern", "UTC", "\u00e9"]
 
 
-def words(chance, made):
+def words(source):
+    chance = source.chance
     first = chance.choice((["init"], ["script"], ["export"], ["board"], ["board", "--at"], ["upgrade"], ["dry"], ["dry", "KLWX"], ["drill"], ["drill", "7"], []))
     program = chance.choice(("warn_main", "warn_main", "warn_archive", "watch_notice"))
     if program != "warn_main":
@@ -282,7 +311,7 @@ def words(chance, made):
     more = chance.choices(ODD_WORDS, k=chance.choice((0, 1, 1, 1, 2, 3)))
     if first == ["drill"] and len(more) == 2 or first == ["drill", "7"]:
         more = [chance.choice(("0", "1", "007", "30", "8193", "-1", "")) if it.isdigit() else it for it in more]
-    return Case(program, first + more, b"", chance.choice(made) if program == "warn_main" else None)
+    return Case(program, first + more, b"", chance.choice(source.made) if program == "warn_main" else None)
 
 
 ARCHIVES = [("samples", "archive.txt"), ("crates", "warn_archive", "stdin")]
@@ -295,8 +324,9 @@ CODES = [b"MDZ003>005-VAZ028-032330-", b"MDZ003-\r\n004-032330-", b"MDC005-021-0
          b"030 AM EST Thu Feb 29 2018", b"1030 AM XST Wed Jan 3 2018", b"NOON EST Wed Jan 3 2018", b"WSWLWX", b"", b" ", b"ABC"]
 
 
-def archives(chance, exports):
-    text = chance.choice([sample(*it) for it in ARCHIVES] + exports)
+def archives(source):
+    chance = source.chance
+    text = chance.choice([sample(*it) for it in ARCHIVES] + source.exports * 2)
     lines = text.split(b"\n")
     begin = chance.randrange(max(1, len(lines) - 120))
     if chance.random() < 0.7:
@@ -309,16 +339,22 @@ def archives(chance, exports):
     return Case("warn_archive", [office, chance.choice("OOOOT"), chance.choice((stamp(0), stamp(600), "180103T1700Z", "180104T0000Z"))], given, None)
 
 
-def notices(chance):
-    minute, lines = 0, []
-    for _ in range(chance.randrange(1, 40)):
-        minute += chance.choice((0, 0, 10, 60, 400))
-        line = {"at": stamp(minute), "do": chance.choice(("open", "join", "join", "end")), "hazard": chance.choice(("TO.A", "SV.A")),
-                "number": chance.choice((1, 2, 3, 9999)), "zones": chance.sample(COUNTIES + ["MDC%03d" % n for n in range(40, 50)], chance.randrange(1, 6))}
+def notices(source):
+    chance, minute, lines, ends = source.chance, 0, [], {}
+    for _ in range(chance.randrange(1, 50)):
+        minute += chance.choice((0, 0, 5, 10, 30, 60))
+        watch = chance.choice(list(ends)) if ends and chance.random() < 0.85 else (chance.choice(("TO.A", "SV.A")), chance.choice((1, 2, 3, 9999)))
+        known = ends.setdefault(watch, {})
+        zones = chance.sample(COUNTIES + list(known), chance.randrange(1, 4))
+        line = {"at": stamp(minute), "do": chance.choice(("join", "join", "join", "end")) if known and chance.random() < 0.95 else "open",
+                "hazard": watch[0], "number": watch[1], "zones": list(dict.fromkeys(zones))}
         if line["do"] != "end":
-            line["end"] = stamp(minute + chance.choice((-1, 30, 240, 240, 420, 600)))
+            same = [known[it] for it in zones if it in known]
+            end = chance.choice(same) if same and chance.random() < 0.5 else minute + chance.choice((30, 60, 120, 240, 240, 420) if chance.random() < 0.97 else (-1, 0))
+            line["end"] = stamp(end)
+            known.update({it: end for it in zones})
         line = json.dumps(line, separators=(",", ":")).encode()
-        lines.append(damaged_json(chance, line) if chance.random() < 0.15 else line)
+        lines.append(damaged_json(chance, line) if chance.random() < 0.1 else line)
     return Case("watch_notice", ["KLWX", chance.choice(("Eastern", "Central", "UTC", "Arizona"))], b"\n".join(lines) + chance.choice((b"\n", b"")), None)
 
 
@@ -329,14 +365,14 @@ HEADS = [b"GET /board HTTP/1.1\r\n\r\n", b"GET /products/1 HTTP/1.1\r\n\r\n", b"
          b"POST /requests HTTP/1.1\r\nContent-Length: 65537\r\n\r\n", b"GET /board HTTP/1.1\r\nConnection: close\r\n\r\n", b"GET /board HTTP/1.0\r\n\r\n", b"\r\n\r\n"]
 
 
-def streams(chance, made):
-    calls = []
-    for line in day(chance, chance.randrange(1, 12)):
+def streams(source):
+    chance, journal, calls = source.chance, source.chance.choice(source.made), []
+    for line in source.day(journal, 2):
         if chance.random() < 0.4:
             calls.append(chance.choice(HEADS))
         calls.append(b"POST /requests HTTP/1.1\r\nContent-Length: %d\r\n\r\n" % len(line) + line)
     port = str(chance.randrange(20000, 30000))
-    return Case("warn_main", ["serve", "--port", port, "--workers", "1", "--connections", "1"], b"".join(damaged_lines(chance, calls)), chance.choice(made))
+    return Case("warn_main", ["serve", "--port", port, "--workers", "1", "--connections", "1"], b"".join(damaged_lines(chance, calls)), journal)
 
 
 # ---- runs
@@ -435,17 +471,32 @@ class Pair:
         return case
 
 
-def kept_journals(pair, chance):
-    """Journals that the programs of this repository made, and the texts that they export: one without requests, and some with."""
-    made, exports = [], []
-    for size in (0, 5, 30, 60):
-        fresh = run(pair.path("warn_main"), Case("warn_main", ["init"], SETTINGS, None), pair.folder)
-        if fresh.status != 0:
-            raise SystemExit("init ended with status %s" % fresh.status)
-        filled = run(pair.path("warn_main"), Case("warn_main", ["script"], b"\n".join(day(chance, size)) + b"\n", fresh.journal), pair.folder)
-        made.append(filled.journal)
-        exports.append(run(pair.path("warn_main"), Case("warn_main", ["export"], b"", filled.journal), pair.folder).written)
-    return made, [it for it in exports if it]
+class Source:
+    """What the inputs of a kind are made from: journals in both editions, made by the programs of this repository, and their texts."""
+
+    def __init__(self, pair, seed):
+        self.pair, self.chance, self.made, self.exports = pair, random.Random(seed), [], []
+        for rounds, edition in ((0, 2), (2, 2), (6, 2), (12, 2), (0, 1), (6, 1)):
+            fresh = self.run(["init"], SETTINGS, None)
+            # A journal of edition One has no mark.
+            empty = fresh.journal if edition == 2 else journal_of(records(fresh.journal)[:1], b".")
+            filled = self.run(["script"], b"\n".join(self.day(empty, rounds)) + b"\n", empty).journal
+            self.made.append(filled)
+            self.exports.append(self.run(["export"], b"", filled).written)
+        self.exports = [it for it in self.exports if it]
+
+    def run(self, words, given, journal):
+        done = run(self.pair.path("warn_main"), Case("warn_main", words, given, journal), self.pair.folder)
+        if done.status != 0:
+            raise SystemExit("%s ended with status %s" % (words[0], done.status))
+        return done
+
+    def day(self, journal, rounds):
+        """Requests for the office of this journal, as if no request had come yet."""
+        day = Day(self.chance, lambda lines: self.run(["script"], b"\n".join(lines) + b"\n", journal).written.splitlines())
+        for _ in range(rounds):
+            day.round(8)
+        return day.lines
 
 
 def show(kind, seed, number, case, pair):
@@ -462,16 +513,14 @@ def show(kind, seed, number, case, pair):
     sys.stdout.flush()
 
 
-KINDS = {
-    "settings": lambda chance, made, exports: settings(chance),
-    "journals": lambda chance, made, exports: journals(chance, made),
-    "requests": lambda chance, made, exports: requests(chance, made),
-    "training": lambda chance, made, exports: training(chance),
-    "words": lambda chance, made, exports: words(chance, made),
-    "archives": lambda chance, made, exports: archives(chance, exports),
-    "notices": lambda chance, made, exports: notices(chance),
-    "streams": lambda chance, made, exports: streams(chance, made),
-}
+KINDS = {"settings": settings, "journals": journals, "requests": requests, "training": training, "words": words, "archives": archives,
+         "notices": notices, "streams": streams}
+
+
+def is_serving(source):
+    """Whether the program takes the words of `serve`."""
+    case = streams(source)._replace(given=b"")
+    return run(source.pair.path("warn_main"), case, source.pair.folder).status != 2
 
 
 def main():
@@ -480,25 +529,24 @@ def main():
     asked.add_argument("kinds", nargs="*", choices=[[], *KINDS])
     asked.add_argument("--count", type=int, default=200)
     asked.add_argument("--seed", type=int, default=1)
+    asked.add_argument("--show", type=int, default=1)
     asked.add_argument("--programs")
     asked = asked.parse_args()
     differing = 0
     with tempfile.TemporaryDirectory(dir="/dev/shm") as folder:
         pair = Pair(asked.programs, asked.folder, folder)
-        made, exports = kept_journals(pair, random.Random(asked.seed))
         for kind in asked.kinds or KINDS:
-            chance, found, statuses = random.Random("%s %d" % (kind, asked.seed)), 0, collections.Counter()
-            if kind == "streams" and run(pair.path("warn_main"), Case("warn_main", ["serve"] + ["x"] * 7, b"", None), folder).written == \
-                    run(pair.path("warn_main"), streams(chance, made)._replace(given=b""), folder).written:
+            source, found, statuses = Source(pair, "%s %d" % (kind, asked.seed)), 0, collections.Counter()
+            if kind == "streams" and not is_serving(source):
                 print("streams: the program does not serve yet")
                 continue
             for number in range(1, asked.count + 1):
-                case = KINDS[kind](chance, made, exports)
+                case = KINDS[kind](source)
                 mine, other = pair.outcomes(case)
                 statuses[mine.status] += 1
                 if mine != other:
                     found += 1
-                    if found == 1:
+                    if found <= asked.show:
                         show(kind, asked.seed, number, case, pair)
             told = ", ".join("%s: %d" % it for it in sorted(statuses.items(), key=str))
             print("%s, seed %d: %d inputs, %d differ; statuses %s" % (kind, asked.seed, asked.count, found, told), flush=True)

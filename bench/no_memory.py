@@ -8,8 +8,7 @@ The table says what came at which numbers. A run that ends otherwise than it may
 journal) ends the table with status 1.
 
 The programs take their memory by `malloc` and `realloc` of the C library, so a small library that is loaded before it counts the
-calls and refuses one; `cc` compiles it. `rt try --fail-alloc 1..` does the same without the library, but prints only the runs that
-fault, or that end with the whole run's status and other output.
+calls and refuses one; `cc` compiles it. (`rt try --fail-alloc N` refuses one without the library, but builds anew for each N.)
 """
 import datetime
 import json
@@ -17,6 +16,7 @@ import os
 import subprocess
 import sys
 import tempfile
+import textwrap
 import time
 
 TOP = os.path.join(os.path.dirname(os.path.abspath(__file__)), "..")
@@ -125,11 +125,11 @@ def in_one_minute(work):
 def ended(runs, outcome, whole):
     """The ends that every program may have: for the words nothing is written, and else the line of the fault alone."""
     if outcome == whole:
-        return "0, as a whole run"
+        return "ends as the whole run"
     if outcome == (12, b"", runs.journal):
-        return "12, nothing written"
+        return "status 12, nothing written"
     if outcome == (12, MEMORY, runs.journal):
-        return "12, its line alone"
+        return "status 12, its line alone"
     return None
 
 
@@ -137,7 +137,7 @@ def begun(runs, outcome, whole):
     """Or the beginning of the whole output, in lines, comes before the line of the fault."""
     front = outcome[1][:-len(MEMORY)]
     if outcome[0] == 12 and outcome[1].endswith(MEMORY) and front and whole[1].startswith(front) and front.endswith(b"\n"):
-        return "12, its line behind a beginning of the output"
+        return "status 12, its line behind a beginning of the output"
     return ended(runs, outcome, whole)
 
 
@@ -149,7 +149,7 @@ def answered(runs, outcome, whole):
         status, written, journal = runs.run(given=b"".join(lines[:at] + lines[at + 1:]))
         others = written.splitlines(True)
         if (status, others[:at] + [NO_ROOM] + others[at:], journal) == (0, replies, outcome[2]):
-            return "0, line %d is told M1" % (at + 1)
+            return "status 0, line %d is told M1" % (at + 1)
     return ended(runs, outcome, whole)
 
 
@@ -214,22 +214,25 @@ CASES = {
 def table(name, runs, judge):
     """Prints what came at which numbers. Whether each run ended as it may."""
     whole = in_one_minute(runs.run)
-    count, rows = runs.allocations(), []
+    count, came, defined = runs.allocations(), {}, True
 
     def kind_at(number):
         outcome, kept = runs.run(number), runs.run()
-        return outcome, judge(runs, outcome, kept)
+        return judge(runs, outcome, kept) or "NOT DEFINED: %r" % (outcome,)
     for number in range(1, count + 1):
-        outcome, kind = in_one_minute(lambda: kind_at(number))
-        if rows and rows[-1][2] == kind:
-            rows[-1][1] = number
+        kind = in_one_minute(lambda: kind_at(number))
+        spans = came.setdefault(kind, [])
+        if spans and spans[-1][1] == number - 1:
+            spans[-1][1] = number
         else:
-            rows.append([number, number, kind, outcome])
+            spans.append([number, number])
+        defined = defined and not kind.startswith("NOT DEFINED")
     print("%s: %d allocations; the whole run ends with status %d" % (name, count, whole[0]))
-    for first, last, kind, outcome in rows:
-        print("  %13s  %s" % (first if first == last else "%d to %d" % (first, last), kind or "NOT DEFINED: %r" % (outcome,)))
+    for kind, spans in came.items():
+        told = ", ".join("%d" % first if first == last else "%d to %d" % (first, last) for first, last in spans)
+        print(textwrap.fill("%s: %s" % (kind, told), 120, initial_indent="  ", subsequent_indent="    "))
     sys.stdout.flush()
-    return all(kind for _, _, kind, _ in rows)
+    return defined
 
 
 def main():
