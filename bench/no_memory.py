@@ -21,6 +21,7 @@ import time
 
 TOP = os.path.join(os.path.dirname(os.path.abspath(__file__)), "..")
 SECONDS = 60                # that a run may take
+SPANS = 12                  # of numbers that a line of the table names
 MEMORY = b"fault OutOfMemory\n"
 NO_ROOM = b'{"no":"M1","rule":"OutOfMemory"}\n'
 
@@ -201,9 +202,20 @@ def journal_with(folder, requests):
     return journal
 
 
+def desk(folder, words, given, requests, judge):
+    """A run of the desk's program over a journal in which these requests were accepted."""
+    return Runs(folder, "warn_main", words, given, journal_with(folder, requests)), judge
+
+
 CASES = {
-    "script over a small day": lambda folder: (Runs(folder, "warn_main", ["script"], small_day(), journal_with(folder, b"")), answered),
-    "opening a journal of 50 entries": lambda folder: (Runs(folder, "warn_main", ["script"], b"", journal_with(folder, fifty())), ended),
+    "script over a small day": lambda folder: desk(folder, ["script"], small_day(), b"", answered),
+    "opening a journal of 50 entries": lambda folder: desk(folder, ["script"], b"", fifty(), ended),
+    "export of ten products": lambda folder: desk(folder, ["export"], b"", fifty(), begun),
+    "board over them": lambda folder: desk(folder, ["board", "--at", stamp(2)], b"", fifty(), begun),
+    "init of the sample settings": lambda folder: (Runs(folder, "warn_main", ["init"], sample("samples", "office.toml"), b""), ended),
+    "dry over the training sample": lambda folder: (
+        Runs(folder, "warn_main", ["dry", "KLWX", "180103T1530Z"], sample("samples", "training.jsonl"), b""), begun),
+    "drill of 20 requests": lambda folder: (Runs(folder, "warn_main", ["drill", "7", "20"], b"", b""), ended),
     "warn_archive over a small archive": lambda folder: (Runs(folder, "warn_archive", ["KLWX", "O", "180103T1900Z"], sample("samples", "archive.txt")), begun),
     "watch_notice over three lines": lambda folder: (
         Runs(folder, "watch_notice", ["KLWX", "Eastern"], b"".join(sample("samples", "notices.jsonl").splitlines(True)[:3])), begun),
@@ -229,8 +241,11 @@ def table(name, runs, judge):
         defined = defined and not kind.startswith("NOT DEFINED")
     print("%s: %d allocations; the whole run ends with status %d" % (name, count, whole[0]))
     for kind, spans in came.items():
-        told = ", ".join("%d" % first if first == last else "%d to %d" % (first, last) for first, last in spans)
-        print(textwrap.fill("%s: %s" % (kind, told), 120, initial_indent="  ", subsequent_indent="    "))
+        told = ["%d" % first if first == last else "%d to %d" % (first, last) for first, last in spans]
+        if len(told) > SPANS:
+            told[SPANS // 2:-SPANS // 2] = [".."]
+        runs_so = sum(last - first + 1 for first, last in spans)
+        print(textwrap.fill("%s, %d runs: %s" % (kind, runs_so, ", ".join(told)), 120, initial_indent="  ", subsequent_indent="    "))
     sys.stdout.flush()
     return defined
 
