@@ -46,9 +46,11 @@ def stamp(minutes):
 
 # ---- damage
 
-ODD_BYTES = [b"\x00", b"\r", b"\n", b"\t", b" ", b"\x7f", b"\x80", b"\xff", b"\xc3\xa9", b"\xed\xa0\x80", b"\"", b"'", b"-", b">", b"/", b"$$", b"&&"]
-ODD_VALUES = [b"0", b"-1", b"1.0", b"1e0", b"-0", b"4294967295", b"4294967296", b"18446744073709551615", b"18446744073709551616", b"1e999", b"null",
-              b"true", b"\"\"", b"[]", b"{}", b"[[]]", b"\"\\ud800\"", b"\"\\u0041\"", b"\"a\\nb\"", b"\"ufn\"", b"\"now\"", b"\"000000T0000Z\""]
+ODD_BYTES = [b"\x00", b"\r", b"\n", b"\t", b" ", b"\x7f", b"\x80", b"\xff", b"\xc3\xa9", b"\xed\xa0\x80", b"\"", b"'", b"-", b">", b"/",
+             b"$$", b"&&"]
+ODD_VALUES = [b"0", b"-1", b"1.0", b"1e0", b"-0", b"4294967295", b"4294967296", b"18446744073709551615", b"18446744073709551616", b"1e999",
+              b"null", b"true", b"\"\"", b"[]", b"{}", b"[[]]", b"\"\\ud800\"", b"\"\\u0041\"", b"\"a\\nb\"", b"\"ufn\"", b"\"now\"",
+              b"\"000000T0000Z\""]
 
 
 def damaged_bytes(chance, text):
@@ -104,18 +106,22 @@ def damaged_json(chance, line):
     member = chance.choice(members)
     key, _, value = member.partition(b":")
     other = chance.choice(members).partition(b":")[2]
-    new = chance.choice((b"", key + b":" + chance.choice(ODD_VALUES), key + b":" + other, member + b"," + key + b":" + chance.choice(ODD_VALUES),
+    new = chance.choice((b"", key + b":" + chance.choice(ODD_VALUES), key + b":" + other,
+                         member + b"," + key + b":" + chance.choice(ODD_VALUES),
                          b'"x":1,' + member, b" " + key + b" :\t" + value + b" ", key + b":" + damaged_bytes(chance, value)))
     return line.replace(member, new, 1)
 
 
 # ---- settings
 
-TOML_VALUES = [b'"Lunar"', b'"UTC"', b"'K1X0'", b'""', b'"KLW"', b'"klwx"', b"1", b"1.5", b"true", b"[]", b"{}", b'"""\nABCD"""', b"'''WS\n'''", b'"\\u0041BC"', b'"A\\tB"',
-               b"1979-05-27", b"1979-05-27T07:32:00Z", b"0x41", b"inf", b'["A", "B"]', b'["A", "A"]', b'[\n"A",\n]', b'["a"]', b'["A", 1]', b'"' + b"x" * 66 + b'"', b'"' + b"x" * 67 + b'"',
-               b'"Caf\xc3\xa9"', b'"two  words"', b'"a-b"', b'"a1"', b'"' + b"a" * 41 + b'"', b'"\\x41"', b'"\\e"', b'"WWUS41"', b'"WWUS4"', b'"WWUS4A"']
-TOML_LINES = [b"# remark", b"other = 1", b"[other]", b"[[zones]]", b"[zones]", b"[headings]", b"zones.MDZ007 = \"Kent\"", b"MDZ000 = \"None\"", b"MDX003 = \"Kind\"", b"\"MDZ008\" = \"Quoted\"",
-              b"'MDZ009' = 'Literal'", b"a.b.c = 1", b"x = {a = 1, b = 2}", b"x = {a = 1,\n b = 2,}", b"x = [1, 2", b"= 1", b"x =", b"x = 1 y = 2", b"[a.b]\nc = 1", b"[\"a b\"]", b"\xef\xbb\xbf"]
+TOML_VALUES = [b'"Lunar"', b'"UTC"', b"'K1X0'", b'""', b'"KLW"', b'"klwx"', b"1", b"1.5", b"true", b"[]", b"{}", b'"""\nABCD"""',
+               b"'''WS\n'''", b'"\\u0041BC"', b'"A\\tB"', b"1979-05-27", b"1979-05-27T07:32:00Z", b"0x41", b"inf", b'["A", "B"]',
+               b'["A", "A"]', b'[\n"A",\n]', b'["a"]', b'["A", 1]', b'"' + b"x" * 66 + b'"', b'"' + b"x" * 67 + b'"', b'"Caf\xc3\xa9"',
+               b'"two  words"', b'"a-b"', b'"a1"', b'"' + b"a" * 41 + b'"', b'"\\x41"', b'"\\e"', b'"WWUS41"', b'"WWUS4"', b'"WWUS4A"']
+TOML_LINES = [b"# remark", b"other = 1", b"[other]", b"[[zones]]", b"[zones]", b"[headings]", b"zones.MDZ007 = \"Kent\"",
+              b"MDZ000 = \"None\"", b"MDX003 = \"Kind\"", b"\"MDZ008\" = \"Quoted\"", b"'MDZ009' = 'Literal'", b"a.b.c = 1",
+              b"x = {a = 1, b = 2}", b"x = {a = 1,\n b = 2,}", b"x = [1, 2", b"= 1", b"x =", b"x = 1 y = 2", b"[a.b]\nc = 1", b"[\"a b\"]",
+              b"\xef\xbb\xbf"]
 
 
 def settings(source):
@@ -141,8 +147,10 @@ def settings(source):
 DESKS = ["D%d" % n for n in range(1, 31)]
 ZONES = ["MDZ%03d" % n for n in range(3, 15)] + ["VAZ028", "VAZ029"]
 COUNTIES = ["MDC005", "MDC021", "MDC031", "VAC013"]
-HAZARDS = {"WSW": ["WS.W", "BZ.W", "IS.W", "LE.W", "WW.Y", "WS.A"], "NPW": ["HW.W", "WI.Y", "HW.A", "FZ.W", "FR.Y", "FG.Y"], "RFW": ["FW.W", "FW.A"],
-           "CFW": ["CF.W", "CF.Y", "CF.A", "SU.W", "SU.Y"], "MWW": ["SR.W", "GL.W", "SC.Y"], "FFA": ["FA.A"], "FLW": ["FL.W"], "FLS": ["FL.Y", "FL.W"]}
+HAZARDS = {"WSW": ["WS.W", "BZ.W", "IS.W", "LE.W", "WW.Y", "WS.A"], "NPW": ["HW.W", "WI.Y", "HW.A", "FZ.W", "FR.Y", "FG.Y"],
+           "RFW": ["FW.W", "FW.A"],
+           "CFW": ["CF.W", "CF.Y", "CF.A", "SU.W", "SU.Y"], "MWW": ["SR.W", "GL.W", "SC.Y"], "FFA": ["FA.A"], "FLW": ["FL.W"],
+           "FLS": ["FL.Y", "FL.W"]}
 SETTINGS = b"".join([b'office = "KLWX"\nsite = "LWX"\noffice_line = "National Weather Service"\nzone = "Eastern"\n',
                      b"desks = [%s]\n[headings]\n" % b", ".join(b'"%s"' % it.encode() for it in DESKS)]
                     + [b'%s = "WWUS4%d"\n' % (code.encode(), place) for place, code in enumerate(HAZARDS)] + [b"[zones]\n"]
@@ -150,14 +158,16 @@ SETTINGS = b"".join([b'office = "KLWX"\nsite = "LWX"\noffice_line = "National We
 
 
 def flood(chance):
-    return {"site": chance.choice(("FDKM2", "PTTP1")), "severity": chance.choice("N0123U"), "cause": chance.choice(("ER", "SM", "RS", "OO")),
-            "begin": chance.choice(("000000T0000Z", stamp(30))), "crest": chance.choice(("000000T0000Z", stamp(300))), "end": "000000T0000Z",
+    return {"site": chance.choice(("FDKM2", "PTTP1")), "severity": chance.choice("N0123U"),
+            "cause": chance.choice(("ER", "SM", "RS", "OO")), "begin": chance.choice(("000000T0000Z", stamp(30))),
+            "crest": chance.choice(("000000T0000Z", stamp(300))), "end": "000000T0000Z",
             "status": chance.choice(("NO", "NR", "UU", "OO"))}
 
 
 def texts(chance):
     words = ["Heavy snow.", "Winds to 50 mph", "and", "ice  accumulations", "of one quarter of an inch", "$", "&", "-", "x" * 70, " "]
-    return {name: " ".join(chance.choices(words, k=chance.randrange(1, 12))) for name in chance.sample(("what", "area", "impacts", "details"), chance.randrange(4))}
+    named = chance.sample(("what", "area", "impacts", "details"), chance.randrange(4))
+    return {name: " ".join(chance.choices(words, k=chance.randrange(1, 12))) for name in named}
 
 
 def period(chance, hazard):
@@ -171,7 +181,8 @@ def put(chance, category):
     hazard = chance.choice(HAZARDS[category]) if chance.random() < 0.95 else "WS.W"
     zones = chance.sample(COUNTIES if hazard.startswith("FL") else ZONES, chance.randrange(1, 4))
     more = {"flood": flood(chance)} if hazard in ("FA.A", "FL.W", "FL.Y") else {}
-    return dict({"hazard": hazard, "zones": zones, **period(chance, hazard)}, **more, **({"texts": texts(chance)} if chance.random() < 0.5 else {}))
+    return dict({"hazard": hazard, "zones": zones, **period(chance, hazard)}, **more,
+                **({"texts": texts(chance)} if chance.random() < 0.5 else {}))
 
 
 class Day:
@@ -213,7 +224,8 @@ class Day:
             owner, category = self.drafts[draft]
             if step >= 8:
                 word = chance.choice(("send", "send", "send", "drop", "take", "discard"))
-                return owner if chance.random() < 0.9 else desk, dict({"do": word, "draft": draft}, **({"place": chance.randrange(2)} if word == "drop" else {}))
+                place = {"place": chance.randrange(2)} if word == "drop" else {}
+                return owner if chance.random() < 0.9 else desk, dict({"do": word, "draft": draft}, **place)
             return owner, self.intent(draft, category)
         if step == 0:
             said = [{"event": self.event(category), "texts": texts(chance)} for _ in range(chance.randrange(3))]
@@ -297,14 +309,16 @@ def journals(source):
 
 # ---- words, archives, notices
 
-ODD_WORDS = ["", "-", "--at", "--at=", "--help", "0", "007", "7", "-1", "+1", "1.0", "8192", "8193", "1000", "18446744073709551615", "18446744073709551616",
-             "180103T1530Z", "180103T1530", "180230T0000Z", "000000T0000Z", "991231T2359Z", "981113T0240Z", "981113T0241Z", "KLWX", "klwx", "KLW", "KLWXX",
-             "init", "script", "export", "board", "upgrade", "dry", "drill", "serve", "O", "T", "E", "X", "o", "Eastern", "UTC", "\u00e9"]
+ODD_WORDS = ["", "-", "--at", "--at=", "--help", "0", "007", "7", "-1", "+1", "1.0", "8192", "8193", "1000", "18446744073709551615",
+             "18446744073709551616", "180103T1530Z", "180103T1530", "180230T0000Z", "000000T0000Z", "991231T2359Z", "981113T0240Z",
+             "981113T0241Z", "KLWX", "klwx", "KLW", "KLWXX", "init", "script", "export", "board", "upgrade", "dry", "drill", "serve", "O",
+             "T", "E", "X", "o", "Eastern", "UTC", "\u00e9"]
 
 
 def words(source):
     chance = source.chance
-    first = chance.choice((["init"], ["script"], ["export"], ["board"], ["board", "--at"], ["upgrade"], ["dry"], ["dry", "KLWX"], ["drill"], ["drill", "7"], []))
+    first = chance.choice((["init"], ["script"], ["export"], ["board"], ["board", "--at"], ["upgrade"], ["dry"], ["dry", "KLWX"], ["drill"],
+                           ["drill", "7"], []))
     program = chance.choice(("warn_main", "warn_main", "warn_archive", "watch_notice"))
     if program != "warn_main":
         first = [chance.choice(ODD_WORDS) for _ in range(chance.randrange(3))]
@@ -315,13 +329,17 @@ def words(source):
 
 
 ARCHIVES = [("samples", "archive.txt"), ("crates", "warn_archive", "stdin")]
-TTAAII = [b"WWUS41 KLWX 031530", b"WGUS61 KLWX 010000 CCA", b"WWUS41 KLWX  312359", b"wwus41 KLWX 031530", b"WWUS41 KLWX 320000", b"000", b"WWUS41 KLWX 031530 RRB"]
-CODES = [b"MDZ003>005-VAZ028-032330-", b"MDZ003-\r\n004-032330-", b"MDC005-021-040000-", b"MDZ003-003-032330-", b"MDZ005>003-032330-", b"MDZ003-000-032330-", b"MDZ003-004-322330-",
-         b"/O.CON.KLWX.WS.W.0001.000000T0000Z-180104T0000Z/", b"/O.CAN.KLWX.WS.W.0001.000000T0000Z-180104T0000Z/", b"/O.EXT.KLWX.WS.W.0001.000000T0000Z-180104T0600Z/",
-         b"/O.NEW.KLWX.WS.W.0001.180103T1530Z-180104T0000Z/", b"/O.UPG.KLWX.WW.Y.0001.000000T0000Z-180104T0000Z/", b"/O.EXB.KLWX.WS.W.0001.180103T1800Z-180104T0300Z/",
-         b"/O.ROU.KLWX.WS.W.0000.000000T0000Z-000000T0000Z/", b"/O.NEW.KLWX.FL.W.0002.180103T1530Z-000000T0000Z/", b"/FDKM2.2.ER.180103T1800Z.180104T0000Z.000000T0000Z.NO/",
-         b"/00000.0.ER.000000T0000Z.000000T0000Z.000000T0000Z.OO/", b"$$", b"&&", b"1030 AM EST Wed Jan 3 2018", b"1030 AM EST /930 AM CST/ Wed Jan 3 2018", b"1230 PM EDT Wed Jan 3 2018",
-         b"030 AM EST Thu Feb 29 2018", b"1030 AM XST Wed Jan 3 2018", b"NOON EST Wed Jan 3 2018", b"WSWLWX", b"", b" ", b"ABC"]
+TTAAII = [b"WWUS41 KLWX 031530", b"WGUS61 KLWX 010000 CCA", b"WWUS41 KLWX  312359", b"wwus41 KLWX 031530", b"WWUS41 KLWX 320000", b"000",
+          b"WWUS41 KLWX 031530 RRB"]
+CODES = [b"MDZ003>005-VAZ028-032330-", b"MDZ003-\r\n004-032330-", b"MDC005-021-040000-", b"MDZ003-003-032330-", b"MDZ005>003-032330-",
+         b"MDZ003-000-032330-", b"MDZ003-004-322330-", b"/O.CON.KLWX.WS.W.0001.000000T0000Z-180104T0000Z/",
+         b"/O.CAN.KLWX.WS.W.0001.000000T0000Z-180104T0000Z/", b"/O.EXT.KLWX.WS.W.0001.000000T0000Z-180104T0600Z/",
+         b"/O.NEW.KLWX.WS.W.0001.180103T1530Z-180104T0000Z/", b"/O.UPG.KLWX.WW.Y.0001.000000T0000Z-180104T0000Z/",
+         b"/O.EXB.KLWX.WS.W.0001.180103T1800Z-180104T0300Z/", b"/O.ROU.KLWX.WS.W.0000.000000T0000Z-000000T0000Z/",
+         b"/O.NEW.KLWX.FL.W.0002.180103T1530Z-000000T0000Z/", b"/FDKM2.2.ER.180103T1800Z.180104T0000Z.000000T0000Z.NO/",
+         b"/00000.0.ER.000000T0000Z.000000T0000Z.000000T0000Z.OO/", b"$$", b"&&", b"1030 AM EST Wed Jan 3 2018",
+         b"1030 AM EST /930 AM CST/ Wed Jan 3 2018", b"1230 PM EDT Wed Jan 3 2018", b"030 AM EST Thu Feb 29 2018",
+         b"1030 AM XST Wed Jan 3 2018", b"NOON EST Wed Jan 3 2018", b"WSWLWX", b"", b" ", b"ABC"]
 
 
 def archives(source):
@@ -336,33 +354,41 @@ def archives(source):
     lines = damaged_lines(chance, lines)
     given = chance.choice((b"\n", b"\n", b"\r\n", b"\r\r\n", b" \n")).join(lines)
     office = chance.choice(re.findall(rb"KLWX|KDMX|K[A-Z]{3}", text) or [b"KLWX"]).decode()
-    return Case("warn_archive", [office, chance.choice("OOOOT"), chance.choice((stamp(0), stamp(600), "180103T1700Z", "180104T0000Z"))], given, None)
+    return Case("warn_archive", [office, chance.choice("OOOOT"), chance.choice((stamp(0), stamp(600), "180103T1700Z", "180104T0000Z"))],
+                given, None)
 
 
 def notices(source):
     chance, minute, lines, ends = source.chance, 0, [], {}
     for _ in range(chance.randrange(1, 50)):
         minute += chance.choice((0, 0, 5, 10, 30, 60))
-        watch = chance.choice(list(ends)) if ends and chance.random() < 0.85 else (chance.choice(("TO.A", "SV.A")), chance.choice((1, 2, 3, 9999)))
+        watch = (chance.choice(("TO.A", "SV.A")), chance.choice((1, 2, 3, 9999)))
+        if ends and chance.random() < 0.85:
+            watch = chance.choice(list(ends))
         known = ends.setdefault(watch, {})
         zones = chance.sample(COUNTIES + list(known), chance.randrange(1, 4))
         line = {"at": stamp(minute), "do": chance.choice(("join", "join", "join", "end")) if known and chance.random() < 0.95 else "open",
                 "hazard": watch[0], "number": watch[1], "zones": list(dict.fromkeys(zones))}
         if line["do"] != "end":
             same = [known[it] for it in zones if it in known]
-            end = chance.choice(same) if same and chance.random() < 0.5 else minute + chance.choice((30, 60, 120, 240, 240, 420) if chance.random() < 0.97 else (-1, 0))
+            end = minute + chance.choice((30, 60, 120, 240, 240, 420) if chance.random() < 0.97 else (-1, 0))
+            if same and chance.random() < 0.5:
+                end = chance.choice(same)
             line["end"] = stamp(end)
             known.update({it: end for it in zones})
         line = json.dumps(line, separators=(",", ":")).encode()
         lines.append(damaged_json(chance, line) if chance.random() < 0.1 else line)
-    return Case("watch_notice", ["KLWX", chance.choice(("Eastern", "Central", "UTC", "Arizona"))], b"\n".join(lines) + chance.choice((b"\n", b"")), None)
+    return Case("watch_notice", ["KLWX", chance.choice(("Eastern", "Central", "UTC", "Arizona"))],
+                b"\n".join(lines) + chance.choice((b"\n", b"")), None)
 
 
 # ---- streams of calls
 
-HEADS = [b"GET /board HTTP/1.1\r\n\r\n", b"GET /products/1 HTTP/1.1\r\n\r\n", b"GET /products/after/0 HTTP/1.1\r\n\r\n", b"GET /drafts/1 HTTP/1.1\r\n\r\n", b"GET /preview/1 HTTP/1.1\r\n\r\n",
-         b"GET /products/4294967296 HTTP/1.1\r\n\r\n", b"PUT /requests HTTP/1.1\r\n\r\n", b"POST /requests HTTP/1.1\r\n\r\n", b"POST /requests HTTP/1.1\r\nTransfer-Encoding: chunked\r\n\r\n",
-         b"POST /requests HTTP/1.1\r\nContent-Length: 65537\r\n\r\n", b"GET /board HTTP/1.1\r\nConnection: close\r\n\r\n", b"GET /board HTTP/1.0\r\n\r\n", b"\r\n\r\n"]
+HEADS = [b"GET /board HTTP/1.1\r\n\r\n", b"GET /products/1 HTTP/1.1\r\n\r\n", b"GET /products/after/0 HTTP/1.1\r\n\r\n",
+         b"GET /drafts/1 HTTP/1.1\r\n\r\n", b"GET /preview/1 HTTP/1.1\r\n\r\n", b"GET /products/4294967296 HTTP/1.1\r\n\r\n",
+         b"PUT /requests HTTP/1.1\r\n\r\n", b"POST /requests HTTP/1.1\r\n\r\n",
+         b"POST /requests HTTP/1.1\r\nTransfer-Encoding: chunked\r\n\r\n", b"POST /requests HTTP/1.1\r\nContent-Length: 65537\r\n\r\n",
+         b"GET /board HTTP/1.1\r\nConnection: close\r\n\r\n", b"GET /board HTTP/1.0\r\n\r\n", b"\r\n\r\n"]
 
 
 def streams(source):
@@ -372,7 +398,8 @@ def streams(source):
             calls.append(chance.choice(HEADS))
         calls.append(b"POST /requests HTTP/1.1\r\nContent-Length: %d\r\n\r\n" % len(line) + line)
     port = str(chance.randrange(20000, 30000))
-    return Case("warn_main", ["serve", "--port", port, "--workers", "1", "--connections", "1"], b"".join(damaged_lines(chance, calls)), journal)
+    return Case("warn_main", ["serve", "--port", port, "--workers", "1", "--connections", "1"], b"".join(damaged_lines(chance, calls)),
+                journal)
 
 
 # ---- runs

@@ -98,7 +98,8 @@ class Runs:
             with open(path, "wb") as out:
                 out.write(self.journal)
             words.insert(0, path)
-        env = dict(os.environ, LD_PRELOAD=os.path.join(self.folder, "refuse.so"), REFUSED_CALL=str(refused), CALLS_FILE=os.path.join(self.folder, "calls"))
+        env = dict(os.environ, LD_PRELOAD=os.path.join(self.folder, "refuse.so"), REFUSED_CALL=str(refused),
+                   CALLS_FILE=os.path.join(self.folder, "calls"))
         done = subprocess.run([program(self.name)] + words, input=self.given if given is None else given, stdout=subprocess.PIPE,
                               stderr=subprocess.DEVNULL, env=env, timeout=SECONDS)
         left = None
@@ -170,12 +171,14 @@ def small_day():
     sent = {"desk": "A", "seq": 3, "do": "send", "draft": 1}
     return lines_of([
         {"desk": "A", "seq": 1, "do": "open", "category": "WSW"},
-        {"desk": "A", "seq": 2, "do": "put", "draft": 1, "hazard": "WS.W", "zones": ["MDZ003", "MDZ004", "MDZ005", "VAZ028"], "begin": "now", "end": end,
+        {"desk": "A", "seq": 2, "do": "put", "draft": 1, "hazard": "WS.W", "zones": ["MDZ003", "MDZ004", "MDZ005", "VAZ028"],
+         "begin": "now", "end": end,
          "texts": {"what": "Heavy snow."}},
         sent, sent,
         {"desk": "B", "seq": 1, "do": "issue", "hazard": "WS.W", "zones": ["MDZ003"], "begin": "now", "end": "ufn"},
         {"desk": "B", "seq": 1, "do": "issue", "hazard": "WI.Y", "zones": ["MDZ006"], "begin": "now", "end": end},
-        {"desk": "C", "seq": 1, "do": "correct", "product": 2, "texts": [{"event": "WI.Y.0001.20" + year, "texts": {"what": "Gusts to 50 mph."}}]},
+        {"desk": "C", "seq": 1, "do": "correct", "product": 2, "texts": [{"event": "WI.Y.0001.20" + year,
+                                                                          "texts": {"what": "Gusts to 50 mph."}}]},
     ])
 
 
@@ -186,8 +189,10 @@ def fifty():
         hazard = ["WS.W", "WI.Y", "FG.Y", "FZ.W", "HW.W"][turn % 5]
         zones, category = ["MDZ003", "MDZ004"] if turn < 5 else ["MDZ005", "VAZ028"], "WSW" if turn % 5 == 0 else "NPW"
         asked += [{"do": "open", "category": category},
-                  {"do": "put", "draft": turn + 1, "hazard": hazard, "zones": zones, "begin": stamp(20 * turn + 1), "end": stamp(20 * turn + 10)},
-                  {"do": "put", "draft": turn + 1, "hazard": hazard, "zones": ["MDZ006"], "begin": stamp(20 * turn + 1), "end": stamp(20 * turn + 10)},
+                  {"do": "put", "draft": turn + 1, "hazard": hazard, "zones": zones, "begin": stamp(20 * turn + 1),
+                   "end": stamp(20 * turn + 10)},
+                  {"do": "put", "draft": turn + 1, "hazard": hazard, "zones": ["MDZ006"], "begin": stamp(20 * turn + 1),
+                   "end": stamp(20 * turn + 10)},
                   {"do": "drop", "draft": turn + 1, "place": 1},
                   {"do": "send", "draft": turn + 1}]
     return lines_of(dict(it, desk="A", seq=seq) for seq, it in enumerate(asked, 1))
@@ -216,7 +221,8 @@ CASES = {
     "dry over the training sample": lambda folder: (
         Runs(folder, "warn_main", ["dry", "KLWX", "180103T1530Z"], sample("samples", "training.jsonl"), b""), begun),
     "drill of 20 requests": lambda folder: (Runs(folder, "warn_main", ["drill", "7", "20"], b"", b""), ended),
-    "warn_archive over a small archive": lambda folder: (Runs(folder, "warn_archive", ["KLWX", "O", "180103T1900Z"], sample("samples", "archive.txt")), begun),
+    "warn_archive over a small archive": lambda folder: (Runs(folder, "warn_archive", ["KLWX", "O", "180103T1900Z"],
+                                                              sample("samples", "archive.txt")), begun),
     "watch_notice over three lines": lambda folder: (
         Runs(folder, "watch_notice", ["KLWX", "Eastern"], b"".join(sample("samples", "notices.jsonl").splitlines(True)[:3])), begun),
     "serve over two workers": None,   # the program does not serve yet
