@@ -27,3 +27,4 @@ pub mod Keyed
 pub mod ByZoneLemmas
 pub mod QuietRows
 pub mod ZoneClashes
+pub mod KeySearch
