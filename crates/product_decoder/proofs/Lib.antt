@@ -5,3 +5,4 @@ pub mod StepLemmas
 pub mod Parting
 pub mod Holding
 pub mod Dividing
+pub mod OpeningLemmas

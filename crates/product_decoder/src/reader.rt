@@ -28,7 +28,7 @@ pub struct Reader {
     office: [u8; 4],
     class: Class,
     rows: Option<RowIndex>,
-    taken: List<Taken>,
+    pub(crate) taken: List<Taken>,
 }
 
 impl Model for Reader {
