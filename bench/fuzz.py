@@ -167,7 +167,12 @@ def flood(chance):
 def texts(chance):
     words = ["Heavy snow.", "Winds to 50 mph", "and", "ice  accumulations", "of one quarter of an inch", "$", "&", "-", "x" * 70, " "]
     named = chance.sample(("what", "area", "impacts", "details"), chance.randrange(4))
-    return {name: " ".join(chance.choices(words, k=chance.randrange(1, 12))) for name in named}
+    said = {name: " ".join(chance.choices(words, k=chance.randrange(1, 12))) for name in named}
+    if said and chance.random() < 0.1:
+        said[named[0]] += chance.choice((" $$", " &&", "\t", "\u007f", "\u00e9", " $ $"))
+    if said and chance.random() < 0.1:
+        said[named[-1]] = ("word " * 900)[:chance.choice((4095, 4096, 4097))]
+    return said
 
 
 def period(chance, hazard):
@@ -177,21 +182,50 @@ def period(chance, hazard):
     return {"begin": begin, "end": end}
 
 
+def zones_for(chance, floods):
+    """Zones of the kind that the hazard wants; or one of them twice, one that is not in the settings, or one of the other kind."""
+    zones = chance.sample(COUNTIES if floods else ZONES, chance.randrange(1, 4))
+    if chance.random() < 0.06:
+        zones.insert(chance.randrange(len(zones) + 1), chance.choice((zones[0], "MDZ099", "MDC099", "MDZ003", "MDC005")))
+    return zones
+
+
 def put(chance, category):
-    hazard = chance.choice(HAZARDS[category]) if chance.random() < 0.95 else "WS.W"
-    zones = chance.sample(COUNTIES if hazard.startswith("FL") else ZONES, chance.randrange(1, 4))
-    more = {"flood": flood(chance)} if hazard in ("FA.A", "FL.W", "FL.Y") else {}
-    return dict({"hazard": hazard, "zones": zones, **period(chance, hazard)}, **more,
-                **({"texts": texts(chance)} if chance.random() < 0.5 else {}))
+    hazard = chance.choice(HAZARDS[category]) if chance.random() < 0.95 else chance.choice(("WS.W", "TO.W", "FL.Y"))
+    asked = dict({"hazard": hazard, "zones": zones_for(chance, hazard.startswith("FL"))}, **period(chance, hazard))
+    if (hazard in ("FA.A", "FL.W", "FL.Y")) != (chance.random() < 0.03):
+        asked["flood"] = flood(chance)
+    if chance.random() < 0.5:
+        asked["texts"] = texts(chance)
+    return asked
+
+
+def records(file):
+    """The bodies of a journal's records."""
+    at, found = 0, []
+    while file[at:at + 1] == b"G":
+        size = int.from_bytes(file[at + 1:at + 5], "big")
+        found.append(file[at + 5:at + 5 + size])
+        at += 5 + size
+    return found
 
 
 class Day:
     """Requests of many desks, made by rounds: what one round is answered, the next one knows."""
 
-    def __init__(self, chance, answer):
-        """`answer` gives the replies to the lines of a script."""
+    def __init__(self, chance, journal, answer):
+        """`answer` gives the replies to the lines of a script over the journal."""
         self.chance, self.answer, self.lines = chance, answer, []
-        self.last, self.drafts, self.events, self.products = collections.Counter(), {}, ["WS.W.0001.%d" % now().year], 0
+        self.last, self.drafts, self.products, opened = collections.Counter(), {}, 0, 0
+        for body in records(journal)[1:]:
+            if body.startswith(b"edition"):
+                continue
+            request = json.loads(body.split(b"\n")[0].split(b" ", 1)[1])
+            opened += request["do"] == "open"
+            self.products += request["do"] in ("send", "issue", "correct")
+            self.learn(request, {"ok": request["do"], "draft": opened, "product": self.products})
+        opening = re.findall(rb"/O\.NEW\.KLWX\.(..\..\.[0-9]{4})\.", journal)
+        self.events = ["WS.W.0001.%d" % now().year] + ["%s.%d" % (it.decode(), now().year) for it in opening]
 
     def round(self, size):
         self.busy, asked = set(), []
@@ -208,7 +242,8 @@ class Day:
         if "ok" not in reply:
             return
         self.last[request["desk"]] = request["seq"]
-        self.events += reply.get("events", [])
+        if "events" in reply:
+            self.events += reply["events"]
         self.products = reply.get("product", self.products)
         if request["do"] == "open":
             self.drafts[reply["draft"]] = (request["desk"], request["category"])
@@ -271,16 +306,6 @@ def training(source):
         line = json.dumps(dict({"do": "issue"}, **put(chance, chance.choice(list(HAZARDS)))), separators=(",", ":")).encode()
         lines.append(damaged_json(chance, line) if chance.random() < 0.3 else line)
     return Case("warn_main", ["dry", "KLWX", stamp(0)], b"\n".join(lines) + chance.choice((b"\n", b"")), None)
-
-
-def records(file):
-    """The bodies of a journal's records."""
-    at, found = 0, []
-    while file[at:at + 1] == b"G":
-        size = int.from_bytes(file[at + 1:at + 5], "big")
-        found.append(file[at + 5:at + 5 + size])
-        at += 5 + size
-    return found
 
 
 def journal_of(bodies, last):
@@ -519,8 +544,8 @@ class Source:
         return done
 
     def day(self, journal, rounds):
-        """Requests for the office of this journal, as if no request had come yet."""
-        day = Day(self.chance, lambda lines: self.run(["script"], b"\n".join(lines) + b"\n", journal).written.splitlines())
+        """Requests for the office of this journal."""
+        day = Day(self.chance, journal, lambda lines: self.run(["script"], b"\n".join(lines) + b"\n", journal).written.splitlines())
         for _ in range(rounds):
             day.round(8)
         return day.lines
