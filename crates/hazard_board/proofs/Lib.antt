@@ -28,3 +28,4 @@ pub mod ByZoneLemmas
 pub mod QuietRows
 pub mod ZoneClashes
 pub mod KeySearch
+pub mod NewClashLemmas
