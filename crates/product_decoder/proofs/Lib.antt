@@ -1,7 +1,10 @@
 pub mod Said
+pub mod KnownLemmas
 pub mod TakingLemmas
 pub mod LawLemmas
 pub mod StepLemmas
+pub mod KeyLemmas
 pub mod Parting
 pub mod Holding
 pub mod Dividing
+pub mod OpeningLemmas

@@ -5,3 +5,4 @@ pub mod Steps
 pub mod Takings
 pub mod Feeding
 pub mod Holding
+pub mod Openings

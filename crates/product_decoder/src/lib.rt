@@ -4,6 +4,7 @@
 mod feed;
 mod findings;
 mod held;
+mod openings;
 mod read;
 mod reader;
 mod taken;
@@ -14,4 +15,4 @@ pub use feed::{Feed, lines_tell_the_products, products_of};
 pub use product_frame::split_products;
 pub use read::decode;
 pub use reader::Reader;
-pub use types::{Decoded, Found, GapFound, Track, ZonePair};
+pub use types::{Decoded, Found, GapFound, Opening, Track, ZonePair};

@@ -1,6 +1,6 @@
 //! What a product says, and what is found over a list of products.
 use event_life::Breach;
-use hazard_types::{Action, Event, Flood, Hazard, List, Minute, Text, Vtec, Zone};
+use hazard_types::{Action, Event, Flood, Hazard, List, Minute, Period, Text, Vtec, Zone};
 
 /// What a product says: its identifier, its issue minute, and its lines by segment, then zone, then pair.
 #[derive(Clone, Debug, Drop, PartialEq, Eq)]
@@ -42,4 +42,13 @@ pub struct GapFound {
     pub year: u16,
     pub wanted: u16,
     pub found: u16,
+}
+
+/// A lawful NEW, EXA or EXB line: the event and zone that it opened, the period, and the issue minute of its product.
+#[derive(Clone, Copy, Debug, PartialEq, Eq)]
+pub struct Opening {
+    pub event: Event,
+    pub zone: Zone,
+    pub period: Period,
+    pub issue: Minute,
 }

@@ -1,0 +1,8 @@
+use Rattle.std.proofs.Common.{◌≡◌, ◌++◌, drop}
+use Rattle.event_life.specs.Products.{lawful_of}
+use Rattle.product_decoder.specs.Openings.{openings_in}
+use Rattle.product_decoder.proofs.openings.openings_in.Given as goal
+
+-- what is left makes the list whole
+abbrev pub invariant-loop-found : goal.invariant-loop-found
+invariant-loop-found l = l.out ++ openings_in l.t (lawful_of (drop l.found-index l.judged)) ≡ openings_in l.t (lawful_of l.judged)

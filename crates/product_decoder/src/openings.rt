@@ -1,0 +1,107 @@
+//! What the product last taken did: its lawful lines, and those of them that open an event in a zone.
+ghost use Rattle.std.specs.Prelude.{◌≡◌, ◌++◌, ◌∷◌, [], IfOk, OnOk};
+ghost use Rattle.event_life.specs.Lives.{opens};
+ghost use Rattle.event_life.specs.Products.{lawful_of};
+ghost use Rattle.product_decoder.specs.Openings.{opening_of, openings_in, lawful_taken, openings_taken, last_lawful, last_openings};
+
+use crate::reader::Reader;
+use crate::taken::Taken;
+use crate::types::Opening;
+use event_life::{Breach, is_lawful, opened_period};
+use hazard_types::{Action, Line, List, Minute, Oom};
+use std::alloc::Global;
+
+/// Whether a line opens an event in its zone.
+fn opens(action: &Action) -> bool
+    ensures { result ≡ opens action.now }
+{
+    matches!(action, Action::New | Action::Exa | Action::Exb)
+}
+
+/// What a line opens in a product that was issued at this minute.
+fn opening_of(t: Minute, line: &Line) -> Opening
+    ensures { result ≡ opening_of t line.now }
+{
+    Opening {
+        event: line.event,
+        zone: line.zone,
+        period: opened_period(line, t),
+        issue: t,
+    }
+}
+
+/// Adds what a line opens, if it does.
+fn put_opening(out: &mut List<Opening>, t: Minute, line: &Line) -> Result<(), Oom>
+    ensures { OnOk result (out.new ≡ out.old ++ openings_in t (line.now ∷ [])) }
+{
+    if opens(&line.action) {
+        out.extend(&[opening_of(t, line)])?;
+    }
+    Ok(())
+}
+
+/// What the lawful lines of a product open.
+fn openings_in(
+    alloc: Global,
+    t: Minute,
+    judged: &[(Line, Option<Breach>)],
+) -> Result<List<Opening>, Oom>
+    ensures { IfOk result (λ openings. openings ≡ openings_in t (lawful_of judged.now)) }
+{
+    let mut out = List::new(alloc);
+    for found in judged {
+        if is_lawful(found) {
+            put_opening(&mut out, t, &found.0)?;
+        }
+    }
+    Ok(out)
+}
+
+/// The lawful lines of a product.
+fn lawful_in(alloc: Global, judged: &[(Line, Option<Breach>)]) -> Result<List<Line>, Oom>
+    ensures { IfOk result (λ lines. lines ≡ lawful_of judged.now) }
+{
+    let mut out = List::new(alloc);
+    for found in judged {
+        if is_lawful(found) {
+            out.extend(&[found.0])?;
+        }
+    }
+    Ok(out)
+}
+
+/// What the last of these products opened.
+fn last_openings(alloc: Global, taken: &[Taken]) -> Result<List<Opening>, Oom>
+    ensures { IfOk result (λ openings. openings ≡ openings_taken [] taken.now) }
+{
+    match taken.last() {
+        Some(product) => openings_in(alloc, product.issue, product.judged.as_slice()),
+        None => Ok(List::new(alloc)),
+    }
+}
+
+/// The lawful lines of the last of these products.
+fn last_lawful(alloc: Global, taken: &[Taken]) -> Result<List<Line>, Oom>
+    ensures { IfOk result (λ lines. lines ≡ lawful_taken [] taken.now) }
+{
+    match taken.last() {
+        Some(product) => lawful_in(alloc, product.judged.as_slice()),
+        None => Ok(List::new(alloc)),
+    }
+}
+
+impl Reader {
+    /// What the lawful NEW, EXA and EXB lines of the product last taken opened, in the order of the text. Nothing before the first.
+    pub fn openings(&self, alloc: Global) -> Result<List<Opening>, Oom>
+        ensures { IfOk result (λ openings. openings ≡ last_openings self.now.products) }
+    {
+        last_openings(alloc, self.taken.as_slice())
+    }
+
+    /// The lawful lines of the product last taken that touch a life, in the order of the text. None before the first.
+    pub fn lawful(&self, alloc: Global) -> Result<List<Line>, Oom>
+        ensures { IfOk result (λ lines. lines ≡ last_lawful self.now.products) }
+    {
+        last_lawful(alloc, self.taken.as_slice())
+    }
+}
