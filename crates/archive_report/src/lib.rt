@@ -17,3 +17,4 @@ mod words;
 
 pub use archive::archive_within;
 pub use laws::what_is_told_begins_the_report;
+pub use words::{Asked, asked_of};
