@@ -1,0 +1,13 @@
+mod Shapes
+mod Digits
+mod Sizes
+mod Lasts
+mod Joining
+mod Talking
+mod Placing
+mod Turning
+mod Ending
+mod Listening
+mod Asking
+mod Turned
+mod Following

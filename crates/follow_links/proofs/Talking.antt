@@ -1,0 +1,216 @@
+-- Talks on a link, one after another.
+use Rattle.std.proofs.Common.{◌≡◌, ◌≢◌, ◌∙◌, ◌+◌, ◌≤◌, ◌⊎◌, inl, inr, Option, Ok, Err, ℕ, Bool, true, false, List, [], ◌∷◌, ◌++◌, length, refl, sym, ap, arith, subst, append_assoc, append-nil, length-append}
+use Rattle.std.specs.Prelude.{IsErrOf}
+use Rattle.std.proofs.lemmas.List.{map-append}
+use Rattle.product_decoder.specs.ReaderModel.{Reading}
+use Rattle.follow_core.specs.Hearing.{place_of, having_heard}
+use Rattle.follow_links.specs.Answers.{Answer}
+use Rattle.follow_links.specs.Talks.{IsText, Onward, IsClosed, IsTalk, ask, bodies, after_all}
+use Rattle.follow_links.specs.declared.talk.LinkEnd.{LinkEnd}
+use Rattle.desk_traits.specs.Faults.{Rose}
+use Rattle.desk_traits.specs.Streams.{Takes, Adds}
+use Rattle.follow_links.specs.Rounding.{IsAsk, RoseIfFailed, Talks}
+use Rattle.follow_links.specs.Talks.{Leaves, asks_in}
+use Rattle.follow_links.specs.declared.talk.LinkEnd.TheVariants.{Spent, Closed, Failed, Ended, Bad, OutOfMemory}
+use Rattle.follow_links.proofs.Placing.{heard_place, after_more}
+use Rattle.follow_links.proofs.Joining.{takes_none, takes_more, adds_none, adds_more, rose_later}
+
+not_closed : Spent ≡ Closed → ⊥
+not_closed h = cc
+
+onward_more : (b : Bool) (more later : List ℕ) (answers : List Answer) (place : ℕ) (X Z : Type 0)
+    → Onward b (IsClosed more later answers Spent) (IsTalk place more later answers Spent) → (IsTalk place more later answers Spent → Z) → Onward b X Z
+onward_more true more later answers place X Z h f = absurd (not_closed h.3)
+onward_more false more later answers place X Z h f = f h
+
+pub talk_more : (place next : ℕ) (read written : List ℕ) (answers : List Answer) (read' written' : List ℕ) (answers' : List Answer) (end : LinkEnd)
+    → next ≡ place + length answers → IsTalk place read written answers Spent → IsTalk next read' written' answers' end
+    → IsTalk place (read ++ read') (written ++ written') (answers ++ answers') end
+talk_more place next read written [] read' written' answers' end is h more =
+    subst (λ (n : ℕ). IsTalk n (read ++ read') (written ++ written') answers' end) (omega (arith, is))
+    (subst (λ (r : List ℕ). IsTalk next (r ++ read') (written ++ written') answers' end) (sym h.0)
+    (subst (λ (w : List ℕ). IsTalk next read' (w ++ written') answers' end) (sym h.1) more))
+talk_more place next read written (a ∷ answers) read' written' answers' end is h more = (
+  h.0,
+  h.1 ++ read',
+  h.2 ++ written',
+  h.3,
+  ap (λ (r : List ℕ). r ++ read') h.4 ∙ append_assoc h.0 h.1 read',
+  ap (λ (w : List ℕ). w ++ written') h.5 ∙ append_assoc (ask place) h.2 written',
+  onward_more a.closes h.1 h.2 answers (place + 1) _ _ h.6 (λ t. talk_more (place + 1) next h.1 h.2 answers read' written' answers' end (omega (arith, is)) t more),
+)
+
+-- one answer, behind which the link stays open, or closes
+
+pub one_open : (place : ℕ) (read written body : List ℕ) → written ≡ ask place → IsText place read (record { status = 200; body = body; closes = false })
+    → IsTalk place read written (record { status = 200; body = body; closes = false } ∷ []) Spent
+one_open place read written body is t = (read, [], [], t, sym (append-nil read), is ∙ sym (append-nil (ask place)), (refl, refl))
+
+pub one_closed : (place : ℕ) (read written body : List ℕ) → written ≡ ask place → IsText place read (record { status = 200; body = body; closes = true })
+    → IsTalk place read written (record { status = 200; body = body; closes = true } ∷ []) Closed
+one_closed place read written body is t = (read, [], [], t, sym (append-nil read), is ∙ sym (append-nil (ask place)), (refl, refl, refl, refl))
+
+-- the place after a talk
+
+onward_place : (b : Bool) (more later : List ℕ) (answers : List Answer) (place : ℕ) (end : LinkEnd) (f : Reading)
+    → Onward b (IsClosed more later answers end) (IsTalk place more later answers end)
+    → (IsTalk place more later answers end → place_of (after_all f (bodies answers)) ≡ place + length answers)
+    → place_of f ≡ place → place_of (after_all f (bodies answers)) ≡ place + length answers
+onward_place true more later answers place end f h g is =
+    subst (λ (list : List Answer). place_of (after_all f (bodies list)) ≡ place + length list) (sym h.2) (omega (arith, is))
+onward_place false more later answers place end f h g is = g h
+
+pub place_after : (place : ℕ) (read written : List ℕ) (answers : List Answer) (end : LinkEnd) (f : Reading)
+    → IsTalk place read written answers end → place_of f ≡ place → place_of (after_all f (bodies answers)) ≡ place + length answers
+place_after place read written [] end f h is = omega (arith, is)
+place_after place read written (a ∷ answers) end f h is =
+    let next : place_of (having_heard f (place_of f) a.body) ≡ place + 1 = heard_place f a.body h.3.decodes ∙ ap (λ (n : ℕ). n + 1) is in
+    let rest = onward_place a.closes h.1 h.2 answers (place + 1) end (having_heard f (place_of f) a.body) h.6
+    (λ t. place_after (place + 1) h.1 h.2 answers end (having_heard f (place_of f) a.body) t next) next in
+    omega (arith, rest)
+
+-- Texts were taken so far, and the link is open.
+pub record Going (came came' left left' taken taken' : Option (List ℕ)) (reads reads' writes writes' : ℕ) (old new : Reading) (rounds rounds' : ℕ) : Type 0 where
+  pub answers : List Answer
+  pub read : List ℕ
+  pub written : List ℕ
+  pub takes : Takes left left' read
+  pub adds : Adds taken taken' written
+  pub talk : IsTalk (place_of old) read written answers Spent
+  pub follower : new ≡ after_all old (bodies answers)
+  pub counted : length answers + rounds' ≡ rounds
+  pub later : (reads ≤ reads') × (writes ≤ writes')
+  pub same : came' ≡ came
+
+pub going_none : (came left taken : Option (List ℕ)) (reads writes : ℕ) (f : Reading) (rounds : ℕ) → Going came came left left taken taken reads reads writes writes f f rounds rounds
+going_none came left taken reads writes f rounds = record {
+  answers = [];
+  read = [];
+  written = [];
+  takes = takes_none left;
+  adds = adds_none taken;
+  talk = (refl, refl);
+  follower = refl;
+  counted = omega arith;
+  later = (omega arith, omega arith);
+  same = refl;
+}
+
+push_body : (old mid : Reading) (answers : List Answer) (a : Answer) → mid ≡ after_all old (bodies answers) → having_heard mid (place_of mid) a.body ≡ after_all old (bodies (answers ++ a ∷ []))
+push_body old mid answers a is =
+    ap (λ (f : Reading). having_heard f (place_of f) a.body) is
+    ∙ (sym (after_more old (bodies answers) (a.body ∷ []))
+    ∙ ap (after_all old) (sym (map-append (λ (b : Answer). b.body) answers (a ∷ []))))
+
+module _ (came mid_came end_came left mid_left end_left taken mid_taken end_taken : Option (List ℕ)) (reads mid_reads end_reads writes mid_writes end_writes : ℕ) (old mid new : Reading) (rounds mid_rounds end_rounds : ℕ) where
+  mid_place : (g : Going came mid_came left mid_left taken mid_taken reads mid_reads writes mid_writes old mid rounds mid_rounds) → place_of mid ≡ place_of old + length g.answers
+  mid_place g = ap place_of g.follower ∙ place_after (place_of old) g.read g.written g.answers Spent old g.talk refl
+
+  pub going_text : Going came mid_came left mid_left taken mid_taken reads mid_reads writes mid_writes old mid rounds mid_rounds
+      → (a : IsAsk mid_left end_left mid_taken end_taken mid new (Ok false)) → RoseIfFailed {T = Bool} mid_reads end_reads mid_writes end_writes (Ok false) → end_came ≡ mid_came → end_rounds + 1 ≡ mid_rounds
+      → Going came end_came left end_left taken end_taken reads end_reads writes end_writes old new rounds end_rounds
+  going_text g a r same one =
+      let body = a.gives.1.0 in
+      let answer : Answer = record { status = 200; body = body; closes = false } in
+      record {
+        answers = g.answers ++ answer ∷ [];
+        read = g.read ++ a.read;
+        written = g.written ++ a.written;
+        takes = takes_more left mid_left end_left g.read a.read g.takes a.takes;
+        adds = adds_more taken mid_taken end_taken g.written a.written g.adds a.adds;
+        talk = talk_more (place_of old) (place_of mid) g.read g.written g.answers a.read a.written (answer ∷ []) Spent (mid_place g) g.talk (one_open (place_of mid) a.read a.written body a.gives.0 a.gives.1.1);
+        follower = a.gives.1.2 ∙ push_body old mid g.answers answer g.follower;
+        counted = omega (arith, g.counted, one, length-append g.answers (answer ∷ []));
+        later = (omega (arith, g.later.0, r.later.0), omega (arith, g.later.1, r.later.1));
+        same = same ∙ g.same;
+      }
+
+  pub going_closed : Going came mid_came left mid_left taken mid_taken reads mid_reads writes mid_writes old mid rounds mid_rounds
+      → (a : IsAsk mid_left end_left mid_taken end_taken mid new (Ok true)) → end_came ≡ mid_came → end_rounds + 1 ≡ mid_rounds
+      → Talks came end_came left end_left taken end_taken reads end_reads writes end_writes old new rounds end_rounds Closed
+  going_closed g a same one =
+      let body = a.gives.1.0 in
+      let answer : Answer = record { status = 200; body = body; closes = true } in
+      record {
+        answers = g.answers ++ answer ∷ [];
+        read = g.read ++ a.read;
+        written = g.written ++ a.written;
+        takes = takes_more left mid_left end_left g.read a.read g.takes a.takes;
+        adds = adds_more taken mid_taken end_taken g.written a.written g.adds a.adds;
+        talk = talk_more (place_of old) (place_of mid) g.read g.written g.answers a.read a.written (answer ∷ []) Closed (mid_place g) g.talk (one_closed (place_of mid) a.read a.written body a.gives.0 a.gives.1.1);
+        follower = a.gives.1.2 ∙ push_body old mid g.answers answer g.follower;
+        counted = omega (arith, g.counted, one, length-append g.answers (answer ∷ []));
+        spent = λ h. absurd (not_spent h);
+        rose = λ h. absurd (not_failed h);
+        same = same ∙ g.same;
+      }
+    where
+      not_spent : Closed ≡ Spent → ⊥
+      not_spent h = cc
+
+      not_failed : Closed ≡ Failed → ⊥
+      not_failed h = cc
+
+  pub going_spent : Going came mid_came left mid_left taken mid_taken reads mid_reads writes mid_writes old mid rounds mid_rounds → mid_rounds ≡ 0
+      → Talks came mid_came left mid_left taken mid_taken reads mid_reads writes mid_writes old mid rounds mid_rounds Spent
+  going_spent g none = record {
+    answers = g.answers;
+    read = g.read;
+    written = g.written;
+    takes = g.takes;
+    adds = g.adds;
+    talk = g.talk;
+    follower = g.follower;
+    counted = omega (arith, g.counted);
+    spent = λ h. none;
+    rose = λ h. absurd (open_still h);
+    same = g.same;
+  }
+    where
+      open_still : Spent ≡ Failed → ⊥
+      open_still h = cc
+
+  pub going_ended : (end : LinkEnd) → Going came mid_came left mid_left taken mid_taken reads mid_reads writes mid_writes old mid rounds mid_rounds
+      → (a : IsAsk mid_left end_left mid_taken end_taken mid new (Err end)) → RoseIfFailed {T = Bool} mid_reads end_reads mid_writes end_writes (Err end) → end_came ≡ mid_came → end_rounds + 1 ≡ mid_rounds
+      → Talks came end_came left end_left taken end_taken reads end_reads writes end_writes old new rounds end_rounds end
+  going_ended end g a r same one = record {
+    answers = g.answers ++ [];
+    read = g.read ++ a.read;
+    written = g.written ++ a.written;
+    takes = takes_more left mid_left end_left g.read a.read g.takes a.takes;
+    adds = adds_more taken mid_taken end_taken g.written a.written g.adds a.adds;
+    talk = talk_more (place_of old) (place_of mid) g.read g.written g.answers a.read a.written [] end (mid_place g) g.talk a.gives.0;
+    follower = a.gives.1 ∙ (g.follower ∙ ap (λ (list : List Answer). after_all old (bodies list)) (sym (append-nil g.answers)));
+    counted = omega (arith, g.counted, one, ap length (append-nil g.answers), asks_one end a.gives.0 a.gives.2);
+    spent = λ h. absurd (a.gives.2 h);
+    rose = λ h. rose_back (r.rose (failed_is h));
+    same = same ∙ g.same;
+  }
+    where
+      asks_one : (e : LinkEnd) → Leaves (place_of mid) a.read a.written e → e ≢ Spent → asks_in e ≡ 1
+      asks_one Spent h n = absurd (n refl)
+      asks_one Closed h n = absurd h
+      asks_one Failed h n = refl
+      asks_one Ended h n = refl
+      asks_one Bad h n = refl
+      asks_one OutOfMemory h n = refl
+
+      failed_is : end ≡ Failed → IsErrOf {T = Bool} (Err end) Failed
+      failed_is h = ap (λ (e : LinkEnd). Err e) h
+
+      rose_back : Rose mid_reads end_reads ⊎ Rose mid_writes end_writes → Rose reads end_reads ⊎ Rose writes end_writes
+      rose_back (inl x) = inl (rose_later reads mid_reads end_reads g.later.0 x)
+      rose_back (inr x) = inr (rose_later writes mid_writes end_writes g.later.1 x)
+
+  -- the same, by what the ask answered
+
+  pub going_step : (closes : Bool) → closes ≡ false → Going came mid_came left mid_left taken mid_taken reads mid_reads writes mid_writes old mid rounds mid_rounds
+      → IsAsk mid_left end_left mid_taken end_taken mid new (Ok closes) → RoseIfFailed {T = Bool} mid_reads end_reads mid_writes end_writes (Ok closes) → end_came ≡ mid_came → end_rounds + 1 ≡ mid_rounds
+      → Going came end_came left end_left taken end_taken reads end_reads writes end_writes old new rounds end_rounds
+  going_step closes is g a r same one =
+      going_text g (subst (λ (b : Bool). IsAsk mid_left end_left mid_taken end_taken mid new (Ok b)) is a) (subst (λ (b : Bool). RoseIfFailed {T = Bool} mid_reads end_reads mid_writes end_writes (Ok b)) is r) same one
+
+  pub closed_step : (closes : Bool) → closes ≡ true → Going came mid_came left mid_left taken mid_taken reads mid_reads writes mid_writes old mid rounds mid_rounds
+      → IsAsk mid_left end_left mid_taken end_taken mid new (Ok closes) → end_came ≡ mid_came → end_rounds + 1 ≡ mid_rounds
+      → Talks came end_came left end_left taken end_taken reads end_reads writes end_writes old new rounds end_rounds Closed
+  closed_step closes is g a same one = going_closed g (subst (λ (b : Bool). IsAsk mid_left end_left mid_taken end_taken mid new (Ok b)) is a) same one

@@ -1,0 +1,67 @@
+-- What a run does as its words ask.
+use Rattle.std.specs.Prelude.{◌≡◌, ◌≤◌, ◌⊎◌, ◌++◌, ◌+◌, ℕ, List, [], length, Option, Some, None}
+use Rattle.hazard_types.specs.declared.line.Row.{Row}
+use Rattle.event_life.specs.Products.{rows_of}
+use Rattle.event_life.specs.Shown.{shown_at}
+use Rattle.product_decoder.specs.ReaderModel.{Reading}
+use Rattle.follow_core.specs.Hearing.{products_in}
+use Rattle.follow_links.specs.Rounds.{Courses, texts_in, fails}
+use Rattle.follow_links.specs.Telling.{IsToldAs, report, bad_line, spent_line, memory_line, usage_line}
+use Rattle.follow_links.specs.Words.{asked_of}
+use Rattle.follow_links.specs.declared.rounds.Stop.{Stop}
+use Rattle.follow_links.specs.declared.rounds.Stop.TheVariants.{Spent, Ended, Bad, OutOfMemory}
+use Rattle.follow_links.specs.declared.words.Asked.{Asked}
+
+-- what is told where a run stopped so at a place, with these rows
+abbrev pub text_of : Stop → ℕ → ℕ → List Row → List ℕ
+text_of Spent place minute rows = report place minute rows ++ spent_line
+text_of Ended place minute rows = report place minute rows
+text_of Bad place minute rows = bad_line place
+text_of OutOfMemory place minute rows = memory_line
+
+abbrev pub status_of : Stop → ℕ
+status_of Spent = 15
+status_of Ended = 0
+status_of Bad = 16
+status_of OutOfMemory = 12
+
+-- it is told, or that memory lacked for it
+abbrev pub IsToldAt : Stop → ℕ → ℕ → List Row → Option (List ℕ) → Option (List ℕ) → ℕ → ℕ → ℕ → Type 0
+IsToldAt stop place minute rows taken taken' before now status =
+    IsToldAs (text_of stop place minute rows) (status_of stop) taken taken' before now status
+    ⊎ IsToldAs memory_line 12 taken taken' before now status
+
+-- a follower of the office and class that has taken nothing
+abbrev pub first_of : Asked → Reading
+first_of asked = record { office = asked.office; class = asked.class; products = [] }
+
+-- the rows that a reader of the texts shows
+abbrev pub rows_shown : Asked → List (List ℕ) → List Row
+rows_shown asked texts = shown_at asked.minute (rows_of (products_in asked.office asked.class texts))
+
+-- The rounds that the words ask for, the links that came back from them, and what was told.
+pub record IsFollowed {L : Type 0} (came left taken : L → Option (List ℕ)) (asked : Asked) (back back' : Option (List L)) (faults faults' : ℕ) (told told' : Option (List ℕ)) (before now status : ℕ) : Type 0 where
+  pub stop : Stop
+  pub follower : Reading
+  pub course : Courses came left taken back back' faults faults' (first_of asked) follower asked.rounds stop
+  -- the texts that were taken are as many as the place, and what is shown is what a reader of them shows
+  pub ends : IsToldAt stop (length (texts_in course.turns)) asked.minute (rows_shown asked (texts_in course.turns)) told told' before now status
+  -- rounds are spent only by texts that were taken, and by dials and links that failed
+  pub spent : stop ≡ Spent → asked.rounds ≤ length (texts_in course.turns) + fails course.turns
+
+-- what was asked for, by the words: other words dial nothing
+abbrev pub FollowsAs : {L : Type 0} → (L → Option (List ℕ)) → (L → Option (List ℕ)) → (L → Option (List ℕ)) → Option Asked → Option (List L) → Option (List L) → ℕ → ℕ → Option (List ℕ) → Option (List ℕ) → ℕ → ℕ → ℕ → Type 0
+FollowsAs came left taken None back back' faults faults' told told' before now status =
+    (back' ≡ back) × (faults' ≡ faults) × IsToldAs usage_line 2 told told' before now status
+FollowsAs came left taken (Some asked) back back' faults faults' told told' before now status =
+    IsFollowed came left taken asked back back' faults faults' told told' before now status
+
+abbrev pub Follows : {L : Type 0} → (L → Option (List ℕ)) → (L → Option (List ℕ)) → (L → Option (List ℕ)) → List (List ℕ) → Option (List L) → Option (List L) → ℕ → ℕ → Option (List ℕ) → Option (List ℕ) → ℕ → ℕ → ℕ → Type 0
+Follows came left taken words back back' faults faults' told told' before now status =
+    FollowsAs came left taken (asked_of words) back back' faults faults' told told' before now status
+
+-- memory lacked for the words: nothing was dialed or written
+pub record IsUnbegun {L : Type 0} (back back' : Option (List L)) (faults faults' : ℕ) (told told' : Option (List ℕ)) (before now status : ℕ) : Type 0 where
+  pub no_memory : status ≡ 12
+  pub undialed : (back' ≡ back) × (faults' ≡ faults)
+  pub unwritten : (told' ≡ told) × (now ≡ before)

@@ -1,0 +1,69 @@
+//! The head of an answer, by httparse.
+ghost use Rattle.std.specs.Prelude.{◌≡◌, ◌≤◌, length};
+ghost use Rattle.httparse.specs.Spans.{IsResponseOf, IsResponseWithin};
+ghost use Rattle.follow_links.specs.Readings.{Says};
+
+use crate::fields::{closes, length_in};
+use httparse::spans::{HeaderSpan, ResponseSpans, parse_response};
+use httparse::{Error, Status};
+
+/// More fields than a head of 8,192 bytes can hold.
+pub const ROOM: usize = 2731;
+
+/// The most bytes of a head.
+pub const MOST_BYTES: usize = 8192;
+
+/// What a head says of its answer.
+#[derive(Clone, Copy, Debug)]
+pub struct Shape {
+    /// Where the body begins, and how many bytes it has.
+    pub from: usize,
+    pub body: u32,
+    pub status: u16,
+    /// The link closes behind the answer.
+    pub closes: bool,
+}
+
+/// The head at the front of the bytes.
+#[derive(Clone, Copy, Debug)]
+pub enum Head {
+    More,
+    Bad,
+    Whole(Shape),
+}
+
+/// What the spans of a whole head say.
+fn shape_of(bytes: &[u8], fields: &[HeaderSpan], spans: &ResponseSpans) -> Head
+    requires within { IsResponseWithin bytes.now fields.now spans.now }
+    requires is { IsResponseOf bytes.now fields.now spans.now }
+    ensures { Says bytes.now result }
+{
+    let fields = &fields[..spans.headers];
+    if spans.code != 200 && spans.code != 404 {
+        return Head::Bad;
+    }
+    match length_in(bytes, fields) {
+        Some(body) => Head::Whole(Shape {
+            from: spans.len,
+            body: body as u32,
+            status: spans.code,
+            closes: closes(bytes, fields),
+        }),
+        None => Head::Bad,
+    }
+}
+
+/// Reads the head at the front of at most 8,192 bytes.
+pub fn head_of(bytes: &[u8], fields: &mut [HeaderSpan]) -> Head
+    requires short { length bytes.now ≤ 8192 }
+    requires room { length fields.old ≡ 2731 }
+    ensures says { Says bytes.now result }
+    ensures kept { length fields.new ≡ 2731 }
+{
+    match parse_response(bytes, fields) {
+        Ok(Status::Complete(spans)) => shape_of(bytes, fields, &spans),
+        Ok(Status::Partial) => Head::More,
+        Err(Error::TooManyHeaders) => unreachable!(),
+        Err(_) => Head::Bad,
+    }
+}

@@ -1,0 +1,15 @@
+//! A subscriber over links: it asks a server for the office's products, one after another, and tells the board that they give.
+#![tactic(auto)]
+
+mod answers;
+mod asks;
+mod fields;
+mod reading;
+mod rounds;
+mod run;
+mod talk;
+mod telling;
+mod words;
+
+pub use run::{follow_run, run_program};
+pub use words::port_in;

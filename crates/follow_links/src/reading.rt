@@ -1,0 +1,126 @@
+//! One answer is read off a link, and nothing behind it.
+ghost use Rattle.std.specs.Prelude.{◌≡◌, ◌≤◌, ◌<◌, [], length, take, IfOk, OnOk, OnErr};
+ghost use Rattle.desk_traits.specs.Faults.{HasCause};
+ghost use Rattle.desk_traits.specs.Streams.{Takes};
+ghost use Rattle.follow_links.specs.Readings.{ReadsMore, ReadsBody, ReadsHead, ReadsAnswer, IsCause, IsBeside};
+
+use crate::answers::{Head, MOST_BYTES, Shape, head_of};
+use desk_links::Peer;
+use desk_traits::Failed;
+use hazard_types::{Oom, Text};
+use httparse::spans::HeaderSpan;
+
+/// Why no whole answer was read.
+#[derive(Clone, Copy, Debug, PartialEq, Eq)]
+pub enum Miss {
+    /// The link failed, or ended.
+    Failed,
+    Bad,
+    OutOfMemory,
+}
+
+impl From<Oom> for Miss {
+    ghost use Rattle.follow_links.specs.declared.reading.Miss.TheVariants.{OutOfMemory};
+
+    ghost from_gives = { λ _ m. m ≡ OutOfMemory };
+
+    fn from(_: Oom) -> Self {
+        Miss::OutOfMemory
+    }
+}
+
+/// Reads at most `room` bytes into the front of the buffer.
+fn hear_front<L: Peer>(link: &mut L, buffer: &mut [u8], room: usize) -> Result<usize, Failed>
+    requires some { 1 ≤ room }
+    requires within { room ≤ length buffer.old }
+    ensures taken { IfOk result (λ count. (1 ≤ count) × (count ≤ room) × (count ≤ length buffer.new) × Takes (L.Source.left link.old) (L.Source.left link.new) (take count buffer.new)) }
+    ensures failed { OnErr result (L.Source.left link.new ≡ L.Source.left link.old) }
+    ensures cause { HasCause (L.Source.faults link.old) (L.Source.faults link.new) result }
+    ensures steady { OnOk result (L.Source.faults link.new ≡ L.Source.faults link.old) }
+    ensures beside { L.Source.reads link.old link.new }
+{
+    let count = link.hear(&mut buffer[..room])?;
+    Ok(count)
+}
+
+/// Reads at least one byte and at most so many.
+fn read_more<L: Peer>(link: &mut L, bytes: &mut Text, most: usize) -> Result<(), Miss>
+    requires { 1 ≤ most }
+    ensures read { ReadsMore (L.Source.left link.old) (L.Source.left link.new) bytes.old bytes.new most result }
+    ensures cause { IsCause (L.Source.faults link.old) (L.Source.faults link.new) result }
+    ensures beside { IsBeside (L.Sink.taken link.old) (L.Sink.taken link.new) (L.Sink.faults link.old) (L.Sink.faults link.new) (L.came link.old) (L.came link.new) }
+{
+    let mut buffer = [0u8; 4096];
+    let room = most.min(4096);
+    match hear_front(link, &mut buffer, room) {
+        Ok(count) => bytes.extend(&buffer[..count])?,
+        Err(Failed) => return Err(Miss::Failed),
+    }
+    Ok(())
+}
+
+/// Reads a head, a byte at a time, so that nothing behind it is read.
+fn read_head<L: Peer>(
+    link: &mut L,
+    fields: &mut [HeaderSpan],
+    bytes: &mut Text,
+) -> Result<Shape, Miss>
+    requires none { bytes.old ≡ [] }
+    requires room { length fields.old ≡ 2731 }
+    ensures read { ReadsHead (L.Source.left link.old) (L.Source.left link.new) bytes.new result }
+    ensures kept { length fields.new ≡ 2731 }
+    ensures cause { IsCause (L.Source.faults link.old) (L.Source.faults link.new) result }
+    ensures beside { IsBeside (L.Sink.taken link.old) (L.Sink.taken link.new) (L.Sink.faults link.old) (L.Sink.faults link.new) (L.came link.old) (L.came link.new) }
+{
+    while bytes.len() < MOST_BYTES {
+        if let Err(miss) = read_more(link, bytes, 1) {
+            return Err(miss);
+        }
+        match head_of(bytes.as_slice(), fields) {
+            Head::More => {}
+            Head::Bad => return Err(Miss::Bad),
+            Head::Whole(shape) => return Ok(shape),
+        }
+    }
+    Err(Miss::Bad)
+}
+
+/// Reads until there are so many bytes.
+fn read_body<L: Peer>(link: &mut L, bytes: &mut Text, wanted: usize) -> Result<(), Miss>
+    requires { length bytes.old ≤ wanted }
+    ensures read { ReadsBody (L.Source.left link.old) (L.Source.left link.new) bytes.old bytes.new wanted result }
+    ensures cause { IsCause (L.Source.faults link.old) (L.Source.faults link.new) result }
+    ensures beside { IsBeside (L.Sink.taken link.old) (L.Sink.taken link.new) (L.Sink.faults link.old) (L.Sink.faults link.new) (L.came link.old) (L.came link.new) }
+{
+    while bytes.len() < wanted {
+        let most = wanted - bytes.len();
+        if let Err(miss) = read_more(link, bytes, most) {
+            return Err(miss);
+        }
+    }
+    Ok(())
+}
+
+/// Reads one answer.
+///
+/// # Errors
+///
+/// A link that failed or ended before the answer was whole, an answer whose head is bad, and out of memory.
+pub fn read_answer<L: Peer>(
+    link: &mut L,
+    fields: &mut [HeaderSpan],
+    bytes: &mut Text,
+) -> Result<Shape, Miss>
+    requires none { bytes.old ≡ [] }
+    requires room { length fields.old ≡ 2731 }
+    ensures read { ReadsAnswer (L.Source.left link.old) (L.Source.left link.new) bytes.new result }
+    ensures kept { length fields.new ≡ 2731 }
+    ensures cause { IsCause (L.Source.faults link.old) (L.Source.faults link.new) result }
+    ensures beside { IsBeside (L.Sink.taken link.old) (L.Sink.taken link.new) (L.Sink.faults link.old) (L.Sink.faults link.new) (L.came link.old) (L.came link.new) }
+{
+    let shape = read_head(link, fields, bytes)?;
+    match read_body(link, bytes, shape.from + shape.body as usize) {
+        Ok(()) => Ok(shape),
+        Err(miss) => Err(miss),
+    }
+}

@@ -1,0 +1,59 @@
+//! Rounds of questions, over one link after another.
+ghost use Rattle.std.specs.Prelude.{◌≡◌, ◌<◌, ◌≤◌, ◌+◌, ◌^◌, length};
+ghost use Rattle.follow_links.specs.Rounds.{Courses};
+
+use crate::answers::ROOM;
+use crate::talk::{LinkEnd, talk};
+use desk_links::Dialer;
+use desk_traits::Failed;
+use follow_core::Follower;
+use httparse::spans::EMPTY_HEADER_SPAN;
+use std::alloc::Global;
+
+/// Why a run asks no more.
+#[derive(Clone, Copy, Debug, PartialEq, Eq)]
+pub enum Stop {
+    /// All rounds were made.
+    Spent,
+    /// The office has no further product.
+    Ended,
+    /// An answer is bad.
+    Bad,
+    OutOfMemory,
+}
+
+/// Asks for the products behind those that the follower has, in at most so many rounds. A round is a dial that
+/// failed, or a question on a link.
+pub fn follow_rounds<D: Dialer>(
+    alloc: Global,
+    dialer: &mut D,
+    follower: &mut Follower,
+    rounds: u32,
+) -> Stop
+    requires none_out { D.given dialer.old ≡ D.returned dialer.old }
+    requires few { D.returned dialer.old + rounds < 2 ^ 32 }
+    ensures back { D.given dialer.new ≡ D.returned dialer.new }
+    ensures course { Courses D.Link.came D.Link.Source.left D.Link.Sink.taken (D.links dialer.old) (D.links dialer.new) (D.faults dialer.old) (D.faults dialer.new) follower.old follower.new rounds result }
+{
+    let Ok(mut fields) = Vec::from_elem(alloc, EMPTY_HEADER_SPAN, ROOM) else {
+        return Stop::OutOfMemory;
+    };
+    let mut left = rounds;
+    while left > 0 {
+        match dialer.dial() {
+            Err(Failed) => left -= 1,
+            Ok(mut link) => {
+                let end = talk(alloc, &mut link, follower, fields.as_mut_slice(), &mut left);
+                dialer.back(link);
+                match end {
+                    LinkEnd::Closed | LinkEnd::Failed => {}
+                    LinkEnd::Spent => return Stop::Spent,
+                    LinkEnd::Ended => return Stop::Ended,
+                    LinkEnd::Bad => return Stop::Bad,
+                    LinkEnd::OutOfMemory => return Stop::OutOfMemory,
+                }
+            }
+        }
+    }
+    Stop::Spent
+}

@@ -1,0 +1,136 @@
+//! What is asked and heard on one link.
+ghost use Rattle.std.specs.Prelude.{◌≡◌, ◌↔◌, length, IsTrue};
+ghost use Rattle.follow_links.specs.Answers.{no_product};
+ghost use Rattle.follow_links.specs.Rounding.{IsAsk, IsTaken, Talks, RoseIfFailed, end_of};
+ghost use Rattle.follow_links.specs.Readings.{IsShaped};
+
+use crate::answers::Shape;
+use crate::asks::ask_text;
+use crate::reading::{Miss, read_answer};
+use desk_links::Peer;
+use desk_traits::write_whole;
+use follow_core::Follower;
+use hazard_types::{Or, Text};
+use httparse::spans::HeaderSpan;
+use std::alloc::Global;
+
+/// How a link is left.
+#[derive(Clone, Copy, Debug, PartialEq, Eq)]
+pub enum LinkEnd {
+    /// No round is left, and the link is open.
+    Spent,
+    /// The last answer closed it.
+    Closed,
+    /// It failed, or ended within an answer.
+    Failed,
+    /// The office has no further product.
+    Ended,
+    /// An answer is bad.
+    Bad,
+    OutOfMemory,
+}
+
+/// How a link is left where no whole answer was read.
+fn end_of(miss: Miss) -> LinkEnd
+    ensures { result ≡ end_of miss }
+{
+    match miss {
+        Miss::Failed => LinkEnd::Failed,
+        Miss::Bad => LinkEnd::Bad,
+        Miss::OutOfMemory => LinkEnd::OutOfMemory,
+    }
+}
+
+/// The body of the answer that there is no further product.
+const NO_PRODUCT: &[u8] = b"{\"no\":\"E14\",\"rule\":\"NoProduct\"}";
+
+/// The most products of an office.
+const MOST: u32 = 8192;
+
+/// Whether a body says that there is no further product.
+fn says_end(body: &[u8]) -> bool
+    ensures { IsTrue result ↔ (body.now ≡ no_product) }
+{
+    body == NO_PRODUCT
+}
+
+/// Takes the text of a whole answer. Answers whether the link closes behind it.
+fn take_answer(
+    alloc: Global,
+    follower: &mut Follower,
+    shape: &Shape,
+    bytes: &[u8],
+) -> Result<bool, LinkEnd>
+    requires { IsShaped bytes.now shape.now }
+    ensures { IsTaken follower.old follower.new bytes.now result }
+{
+    let body = &bytes[shape.from..];
+    if shape.status == 404 {
+        if says_end(body) {
+            return Err(LinkEnd::Ended);
+        }
+        return Err(LinkEnd::Bad);
+    }
+    let place = follower.place();
+    if place >= MOST {
+        return Err(LinkEnd::Bad);
+    }
+    match follower.hear(alloc, place, body) {
+        Ok(_heard) => Ok(shape.closes),
+        Err(Or::No(_)) => Err(LinkEnd::Bad),
+        Err(Or::OutOfMemory) => Err(LinkEnd::OutOfMemory),
+    }
+}
+
+/// Asks once, and takes the answer. Answers whether the link closes behind it.
+fn ask_once<L: Peer>(
+    alloc: Global,
+    link: &mut L,
+    follower: &mut Follower,
+    fields: &mut [HeaderSpan],
+) -> Result<bool, LinkEnd>
+    requires room { length fields.old ≡ 2731 }
+    ensures asked { IsAsk (L.Source.left link.old) (L.Source.left link.new) (L.Sink.taken link.old) (L.Sink.taken link.new) follower.old follower.new result }
+    ensures kept { length fields.new ≡ 2731 }
+    ensures cause { RoseIfFailed (L.Source.faults link.old) (L.Source.faults link.new) (L.Sink.faults link.old) (L.Sink.faults link.new) result }
+    ensures came { L.came link.new ≡ L.came link.old }
+{
+    let Ok(ask) = ask_text(alloc, follower.place()) else {
+        return Err(LinkEnd::OutOfMemory);
+    };
+    if write_whole(link, ask.as_slice()).is_err() {
+        return Err(LinkEnd::Failed);
+    }
+    let mut bytes = Text::new(alloc);
+    match read_answer(link, fields, &mut bytes) {
+        Ok(shape) => take_answer(alloc, follower, &shape, bytes.as_slice()),
+        Err(miss) => Err(end_of(miss)),
+    }
+}
+
+/// Asks on a link until it is left. Each ask takes one of the rounds that are left.
+pub fn talk<L: Peer>(
+    alloc: Global,
+    link: &mut L,
+    follower: &mut Follower,
+    fields: &mut [HeaderSpan],
+    left: &mut u32,
+) -> LinkEnd
+    requires room { length fields.old ≡ 2731 }
+    ensures talks { Talks (L.came link.old) (L.came link.new) (L.Source.left link.old) (L.Source.left link.new) (L.Sink.taken link.old) (L.Sink.taken link.new)
+        (L.Source.faults link.old) (L.Source.faults link.new) (L.Sink.faults link.old) (L.Sink.faults link.new) follower.old follower.new left.old left.new result }
+    ensures kept { length fields.new ≡ 2731 }
+{
+    while *left > 0 {
+        *left -= 1;
+        match ask_once(alloc, link, follower, fields) {
+            Ok(closes) => {
+                if closes {
+                    return LinkEnd::Closed;
+                }
+            }
+            Err(end) => return end,
+        }
+    }
+    LinkEnd::Spent
+}

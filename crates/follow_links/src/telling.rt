@@ -1,0 +1,80 @@
+//! What a run tells.
+ghost use Rattle.std.specs.Prelude.{◌≡◌, ◌≢◌, ◌++◌, ◌⊎◌, ℕ, List as Seq, None, Some, IfOk, OnOk};
+ghost use Rattle.desk_traits.specs.Streams.{Adds};
+ghost use Rattle.program_ends.specs.Ends.{HasWritten};
+ghost use Rattle.event_life.specs.Products.{rows_of};
+ghost use Rattle.event_life.specs.Shown.{shown_at};
+ghost use Rattle.follow_core.specs.Hearing.{place_of};
+ghost use Rattle.follow_links.specs.Telling.{IsToldAs, bad_line, report, place_line, shown_front};
+
+use board_text::put_board;
+use desk_traits::{Sink, write_whole};
+use follow_core::Follower;
+use hazard_types::{Minute, Oom, Text, put_number, stamp};
+use program_ends::{End, end_run};
+use std::alloc::Global;
+
+/// Writes a text, or a front of it before a fault.
+fn write_text<K: Sink>(output: &mut K, text: &[u8]) -> Option<End>
+    ensures written { (written : Seq ℕ) × Adds (K.taken output.old) (K.taken output.new) written × HasWritten text.now written (K.faults output.old) (K.faults output.new) result }
+    ensures ends { (result ≡ None) ⊎ (result ≡ Some End.WriteFault) }
+{
+    match write_whole(output, text) {
+        Ok(()) => None,
+        Err(_) => Some(End::WriteFault),
+    }
+}
+
+/// Writes what a run tells, and answers its status, or that of a write fault.
+pub fn tell<K: Sink>(output: &mut K, text: &[u8], status: u8) -> u8
+    requires { status ≢ 8 }
+    ensures { IsToldAs text.now status (K.taken output.old) (K.taken output.new) (K.faults output.old) (K.faults output.new) result }
+{
+    let end = write_text(output, text);
+    let ended = end_run(output, end);
+    if ended == 0 { status } else { ended }
+}
+
+/// The line of a bad answer.
+pub fn bad_line(alloc: Global, place: u32) -> Result<Text, Oom>
+    ensures { IfOk result (λ text. text ≡ bad_line place) }
+{
+    let mut text = Text::new(alloc);
+    text.extend(b"fault BadAnswer ")?;
+    put_number(alloc, &mut text, place as usize)?;
+    text.push(b'\n')?;
+    Ok(text)
+}
+
+/// The line of the place.
+fn put_place(alloc: Global, out: &mut Text, place: u32) -> Result<(), Oom>
+    ensures { OnOk result (out.new ≡ out.old ++ place_line place) }
+{
+    out.extend(b"place ")?;
+    put_number(alloc, out, place as usize)?;
+    out.push(b'\n')
+}
+
+/// What stands before the rows: the minute, and their count.
+fn put_shown(alloc: Global, out: &mut Text, minute: Minute, count: usize) -> Result<(), Oom>
+    ensures { OnOk result (out.new ≡ out.old ++ shown_front minute count) }
+{
+    out.extend(b"shown ")?;
+    out.extend(&stamp(minute))?;
+    out.push(b' ')?;
+    put_number(alloc, out, count)?;
+    out.push(b'\n')
+}
+
+/// The place of a follower, and the rows that it shows at a minute; then a last line.
+pub fn report(alloc: Global, follower: &Follower, minute: Minute, last: &[u8]) -> Result<Text, Oom>
+    ensures { IfOk result (λ text. text ≡ report (place_of follower.now) minute (shown_at minute (rows_of follower.now.products)) ++ last.now) }
+{
+    let rows = follower.shown(alloc, minute)?;
+    let mut text = Text::new(alloc);
+    put_place(alloc, &mut text, follower.place())?;
+    put_shown(alloc, &mut text, minute, rows.len())?;
+    put_board(alloc, &mut text, rows.as_slice())?;
+    text.extend(last)?;
+    Ok(text)
+}
