@@ -2,8 +2,9 @@
 
     python3 bench/costs.py [NAMES..] [--beside FOLDER]
 
-NAMES are those of the measurements below (all where none is given): live, random, drill, year, script, long. FOLDER has
-another `warn_main`, which is given the same words, and for `year` a program `year PRODUCTS ZONES SEED`, which writes a journal.
+NAMES are those of the measurements below (all where none is given): live, random, drill, year, script, long, counties, joins.
+FOLDER has another `warn_main` and `watch_notice`, which are given the same words, and for `year` a program
+`year PRODUCTS ZONES SEED`, which writes a journal.
 Seconds are of processor time, the least of three runs. Growth is the exponent between the two largest sizes.
 """
 import datetime
@@ -171,10 +172,40 @@ def long_draft(measured, folder):
                  lines_of(asked + [{"desk": "A", "seq": 66, "do": "send", "draft": 1}] * 20), fresh(folder))
 
 
+def county(number):
+    return "A%sC%03d" % (chr(ord("A") + number // 999), number % 999 + 1)
+
+
+def watch(at, do, number, counties, end):
+    return {"at": stamp(at), "do": do, "hazard": "TO.A", "number": number, "zones": [county(n) for n in counties], "end": stamp(end)}
+
+
+def counties(count):
+    """Watches that stand side by side, each in as many counties as there are watches."""
+    return lines_of(watch(n, "open", n + 1, range(count), n + 2000) for n in range(count))
+
+
+def joins(count):
+    """Watches of three hundred counties, each joined five times by sixty more for another time."""
+    asked = []
+    for n in range(count // 6):
+        asked.append(watch(60 * n, "open", n + 1, range(300), 60 * n + 600))
+        for more in range(5):
+            asked.append(watch(60 * n + more + 1, "join", n + 1, range(300 + 60 * more, 360 + 60 * more), 60 * n + 700 + more))
+    return lines_of(asked)
+
+
+def notices(make, sizes, name, folder):
+    measured = Measured(program("watch_notice"), os.path.join(folder, "watch_notice") if folder else None)
+    for size in sizes:
+        measured.row("%d %s" % (size, name), size, ["KLWX", "Eastern"], make(size))
+    measured.growth()
+
+
 def main():
-    words, other = beside(sys.argv[1:])
+    words, there = beside(sys.argv[1:])
     mine = program("warn_main")
-    other = os.path.join(other, "warn_main") if other else None
+    other = os.path.join(there, "warn_main") if there else None
     with tempfile.TemporaryDirectory(dir="/dev/shm") as folder:
         kinds = {
             "live": lambda: dry(Measured(mine, other), live, (125, 250, 500, 1000), "warnings live side by side in one zone"),
@@ -183,6 +214,8 @@ def main():
             "year": lambda: year(Measured(mine, other), folder),
             "script": lambda: script(Measured(mine, other), folder),
             "long": lambda: long_draft(Measured(mine, other), folder),
+            "counties": lambda: notices(counties, (150, 300, 600), "watches in as many counties", there),
+            "joins": lambda: notices(joins, (90, 180, 360), "lines that open and join watches", there),
         }
         for name in words or kinds:
             kinds[name]()

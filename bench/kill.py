@@ -49,13 +49,21 @@ def bodies(file):
     return found
 
 
-def entries(path):
-    """Number and word of each entry, without settings and mark."""
+def asked(path):
+    """The request of each entry, without settings and mark."""
     with open(path, "rb") as file:
         found = bodies(file.read())
-    texts = [re.sub(rb"^\S+ ", b"", body.split(b"\n")[0]) for body in found[2:]]
-    asked = [json.loads(text) for text in texts]
-    return [(it["seq"], it["do"]) for it in asked]
+    return [json.loads(re.sub(rb"^\S+ ", b"", body.split(b"\n")[0])) for body in found[2:]]
+
+
+def entries(path):
+    """Number and word of each entry."""
+    return [(it["seq"], it["do"]) for it in asked(path)]
+
+
+def entry_desks(path):
+    """Desk and number of each entry."""
+    return [(it["desk"], it["seq"]) for it in asked(path)]
 
 
 def parts(step, turn):

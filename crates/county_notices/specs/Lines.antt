@@ -3,7 +3,7 @@ use Rattle.std.specs.Prelude.{ℕ, List, [], ◌∷◌, ◌++◌, if◌then◌el
 use Rattle.hazard_types.specs.Days.{year_of}
 use Rattle.hazard_types.specs.Places.{Place}
 use Rattle.hazard_types.specs.declared.codes.Action.{Action}
-use Rattle.hazard_types.specs.declared.codes.Action.TheVariants.{Can, Exp}
+use Rattle.hazard_types.specs.declared.codes.Action.TheVariants.{New, Can, Exp}
 use Rattle.hazard_types.specs.declared.hazard.Event.{Event}
 use Rattle.hazard_types.specs.declared.line.Line.{Line}
 use Rattle.hazard_types.specs.declared.line.Row.{Row}
@@ -13,7 +13,7 @@ use Rattle.hazard_types.specs.declared.request.PutPart.{PutPart}
 use Rattle.hazard_types.specs.declared.request.Target.{Target}
 use Rattle.hazard_types.specs.declared.request.Target.TheVariants.{Fresh, Join}
 use Rattle.event_life.specs.Products.{going_in, row_at}
-use Rattle.action_planner.specs.Lines.{is_near_end, line_on, put_line}
+use Rattle.action_planner.specs.Lines.{is_near_end, line_on, opening_action, put_line}
 use Rattle.action_planner.specs.Texts.{no_texts}
 use Rattle.notice_json.specs.Commands.{hazard_of}
 use Rattle.notice_json.specs.declared.command.Command.{Command}
@@ -37,6 +37,12 @@ event_by rows c deed.End = open_event rows c
 -- a put as a draft has it: it begins now, and ends at a minute
 abbrev pub put_of : Target → ℕ → PutPart
 put_of target end = record { target = target; zones = []; begin = Now; end = At end; flood = None; texts = no_texts }
+
+-- the action of an event in the zones that a command brings it into; an end brings it into none
+abbrev pub entering_action : List Row → ℕ → Event → Deed → Action
+entering_action rows t e (deed.Open end) = New
+entering_action rows t e (deed.Join end) = opening_action rows t e (put_of (Join e) end) (Join e)
+entering_action rows t e deed.End = New
 
 -- EXP within half an hour of the end, either way, else CAN
 abbrev pub ending_action : ℕ → Row → Action

@@ -1,8 +1,8 @@
 //! The lines of a command.
 ghost use Rattle.std.specs.Prelude.{◌≡◌, ◌++◌, IfOk, OnOk};
 ghost use Rattle.hazard_types.specs.declared.request.Target.TheVariants.{Fresh, Join};
-ghost use Rattle.action_planner.specs.Lines.{continuing_line, is_near_end, line_on, opening_line, printed_begin, put_line, put_period_on, unless_ended};
-ghost use Rattle.county_notices.specs.Lines.{new_event, open_event, event_by, put_of, ending_action, ending_lines, lines_in, lines_in_zones, lines_if, lines_of};
+ghost use Rattle.action_planner.specs.Lines.{continuing_line, is_near_end, line_on, opening_action, opening_line_by, printed_begin, put_line, put_period_on, unless_ended};
+ghost use Rattle.county_notices.specs.Lines.{new_event, open_event, event_by, put_of, entering_action, ending_action, ending_lines, lines_in, lines_in_zones, lines_if, lines_of};
 
 use event_life::same_at;
 use hazard_board::Board;
@@ -63,19 +63,30 @@ fn new_line(board: &Board, t: Minute, event: &Event, end: Minute, zone: &Zone) -
     }
 }
 
-/// The line of an event that joins a zone where no row stands that no line has ended: EXA where a live row of it has the same period, else EXB.
-fn entering_line(board: &Board, t: Minute, event: &Event, end: Minute, zone: &Zone) -> Line
-    ensures { result ≡ opening_line board.now.rows t event.now (put_of (Join event.now) end) zone.now }
+/// The action of an event in the zones that it comes into. A join is EXA where a live row of the event has the same period, else EXB.
+fn entering_action(board: &Board, command: &Command, event: &Event) -> Action
+    ensures { result ≡ entering_action board.now.rows command.now.at event.now command.now.deed }
 {
-    let period = Period {
-        begin: t,
-        end: End::At(end),
-    };
-    let action = if board.same_period(*event, period, t) {
-        Action::Exa
-    } else {
-        Action::Exb
-    };
+    match &command.deed {
+        Deed::Open(_) | Deed::End => Action::New,
+        Deed::Join(end) => {
+            let period = Period {
+                begin: command.at,
+                end: End::At(*end),
+            };
+            if board.same_period(*event, period, command.at) {
+                Action::Exa
+            } else {
+                Action::Exb
+            }
+        }
+    }
+}
+
+/// The line of an event that joins a zone where no row stands that no line has ended.
+fn entering_line(action: Action, t: Minute, event: &Event, end: Minute, zone: &Zone) -> Line
+    ensures { result ≡ opening_line_by action t event.now (put_of (Join event.now) end) zone.now }
+{
     Line {
         action,
         event: *event,
@@ -131,12 +142,20 @@ fn unless_ended(row: Option<Row>) -> Option<Row>
     }
 }
 
-/// The line of an event that joins a zone.
-fn join_line(board: &Board, t: Minute, event: &Event, end: Minute, zone: &Zone) -> Line
+/// The line of an event that joins a zone, by the action with which it comes into one.
+fn join_line(
+    board: &Board,
+    t: Minute,
+    event: &Event,
+    end: Minute,
+    entering: Action,
+    zone: &Zone,
+) -> Line
+    requires { entering ≡ opening_action board.now.rows t event.now (put_of (Join event.now) end) (Join event.now) }
     ensures { result ≡ put_line board.now.rows t event.now (put_of (Join event.now) end) zone.now }
 {
     match unless_ended(board.row(*event, *zone)) {
-        None => entering_line(board, t, event, end, zone),
+        None => entering_line(entering, t, event, end, zone),
         Some(row) => continuing_line(t, event, end, &row),
     }
 }
@@ -192,14 +211,16 @@ fn add_in_zone(
     board: &Board,
     command: &Command,
     event: &Event,
+    entering: Action,
     zone: &Zone,
 ) -> Result<(), Oom>
+    requires { entering ≡ entering_action board.now.rows command.now.at event.now command.now.deed }
     ensures { OnOk result (lines.new ≡ lines.old ++ lines_in board.now.rows command.now.at event.now command.now.deed zone.now) }
 {
     let t = command.at;
     match &command.deed {
         Deed::Open(end) => lines.extend(&[new_line(board, t, event, *end, zone)]),
-        Deed::Join(end) => lines.extend(&[join_line(board, t, event, *end, zone)]),
+        Deed::Join(end) => { lines.extend(&[join_line(board, t, event, *end, entering, zone)]) },
         Deed::End => add_ending(lines, t, &board.row(*event, *zone)),
     }
 }
@@ -213,9 +234,10 @@ fn lines_in_zones(
 ) -> Result<List<Line>, Oom>
     ensures { IfOk result (λ lines. lines ≡ lines_in_zones board.now.rows command.now.at event.now command.now.deed command.now.zones) }
 {
+    let entering = entering_action(board, command, event);
     let mut lines = List::new(alloc);
     for zone in command.zones.as_slice() {
-        add_in_zone(&mut lines, board, command, event, zone)?;
+        add_in_zone(&mut lines, board, command, event, entering, zone)?;
     }
     Ok(lines)
 }

@@ -27,3 +27,5 @@ pub mod Keyed
 pub mod ByZoneLemmas
 pub mod QuietRows
 pub mod ZoneClashes
+pub mod KeySearch
+pub mod NewClashLemmas

@@ -2,9 +2,9 @@
 use Rattle.std.specs.Prelude.{◌&&◌, ℕ, Bool, List, filter, count_by}
 use Rattle.std.specs.List.{list_any}
 use Rattle.std.specs.declared.cmp.Ordering.{Ordering}
-use Rattle.std.specs.Ordering.{on}
+use Rattle.std.specs.Ordering.{on, ordering_then}
 use Rattle.hazard_types.specs.Orders.{by_event}
-use Rattle.hazard_types.specs.Places.{Place}
+use Rattle.hazard_types.specs.Places.{Place, by_place}
 use Rattle.hazard_types.specs.Same.{same_zone, same_event}
 use Rattle.hazard_types.specs.declared.hazard.Event.{Event}
 use Rattle.hazard_types.specs.declared.line.Line.{Line}
@@ -37,3 +37,7 @@ by_row_event = on (λ (r : Row). r.event) by_event
 -- how many of the lines are NEW, EXA or EXB
 abbrev pub openings : List Line → ℕ
 openings lines = count_by (λ (line : Line). opens line.action) lines
+
+-- how a row stands by that of an event in a zone
+abbrev pub stands_by : Event → Place → Row → Ordering
+stands_by e z r = ordering_then (by_place r.zone z) (by_event r.event e)

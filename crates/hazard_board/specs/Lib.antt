@@ -8,3 +8,4 @@ pub mod Spots
 pub mod Seats
 pub mod Shelves
 pub mod ByZone
+pub mod NewClashes

@@ -1,5 +1,6 @@
 //! Clashes of rows.
 ghost use Rattle.std.specs.Prelude.{◌≡◌, ◌∷◌, find, filter, option_map, true, IfOk};
+ghost use Rattle.std.specs.List.{list_any};
 ghost use Rattle.std.specs.List.Sorted.{IsStrictlySortedBy};
 ghost use Rattle.event_life.specs.Products.{by_key};
 ghost use Rattle.event_life.specs.Higher.{are_kin, may_yield};
@@ -7,6 +8,7 @@ ghost use Rattle.hazard_board.specs.Board.{slice_of};
 ghost use Rattle.hazard_board.specs.ByZone.{lines_of};
 ghost use Rattle.hazard_board.specs.Clashes.{clash, clash_of, first_clash, earlier_clash, may_clash};
 ghost use Rattle.hazard_board.specs.Consistent.{collide, EachToLater};
+ghost use Rattle.hazard_board.specs.NewClashes.{is_same, stands, clash_either, clashes_among, new_clash};
 ghost use Rattle.hazard_board.specs.Taken.{rows_taken};
 
 use crate::by_zone::{lines_by_zone, lines_in};
@@ -107,6 +109,51 @@ fn those_that_may_clash(alloc: Global, rows: &[Row], t: Minute) -> Result<Vec<Ro
         .collect(alloc)
 }
 
+/// Whether the row is the one that is found, if any.
+fn is_same(found: &Option<Row>, row: &Row) -> bool
+    ensures { result ≡ is_same found.now row.now }
+{
+    match found {
+        Some(old) => *old == *row,
+        None => false,
+    }
+}
+
+/// Whether the row is among the rows as it is.
+fn stands(rows: &Shelves, row: &Row) -> bool
+    ensures { result ≡ stands rows.now.rows row.now }
+{
+    is_same(&rows.row_at(&row.event, &row.zone), row)
+}
+
+/// Whether the two rows clash, in either order.
+fn clash_either(t: Minute, a: &Row, b: &Row) -> bool
+    ensures { result ≡ clash_either t a.now b.now }
+{
+    clash(t, a, b) || clash(t, b, a)
+}
+
+/// Whether the row clashes with one of some.
+fn clashes_among(t: Minute, some: &[Row], row: &Row) -> bool
+    ensures { result ≡ clashes_among t some.now row.now }
+{
+    some.iter().any(|other| clash_either(t, row, other))
+}
+
+/// Whether the row is new, or not as it was, and clashes with one of some.
+fn new_clash(t: Minute, rows: &Shelves, some: &[Row], row: &Row) -> bool
+    ensures { result ≡ new_clash t rows.now.rows some.now row.now }
+{
+    !stands(rows, row) && clashes_among(t, some, row)
+}
+
+/// Whether one of the rows is new, or not as it was, and clashes with another.
+fn has_new_clash(t: Minute, rows: &Shelves, some: &[Row]) -> bool
+    ensures { result ≡ list_any (new_clash t rows.now.rows some.now) some.now }
+{
+    some.iter().any(|row| new_clash(t, rows, some, row))
+}
+
 /// Of two clashes the one in the earlier zone.
 fn earlier_clash(best: Option<Clash>, found: Option<Clash>) -> Option<Clash>
     ensures { result ≡ earlier_clash best found }
@@ -126,7 +173,7 @@ fn earlier_clash(best: Option<Clash>, found: Option<Clash>) -> Option<Clash>
     }
 }
 
-/// The first clash in a zone after the lines, of which these are the zone's own.
+/// The first clash in a zone after the lines, of which these are the zone's own. All pairs are gone through only where a row that is new, or not as it was, clashes: the others were apart.
 fn clash_in(
     alloc: Global,
     rows: &Shelves,
@@ -136,11 +183,15 @@ fn clash_in(
     z: &Zone,
 ) -> Result<Option<Clash>, Oom>
     requires order { IsStrictlySortedBy by_key rows.now.rows }
+    requires apart { EachToLater (λ a b. collide a b ≡ true → ⊥) rows.now.rows }
     requires own { own.now ≡ lines_of z.now lines.now }
     ensures { IfOk result (λ found. found ≡ first_clash t (slice_of z.now (rows_taken rows.now.rows t lines.now))) }
 {
     let after = zone_taken(alloc, rows, lines, own, t, z)?;
     let some = those_that_may_clash(alloc, &after, t)?;
+    if !has_new_clash(t, rows, &some) {
+        return Ok(None);
+    }
     Ok(first_clash(&some, t))
 }
 

@@ -1,15 +1,14 @@
 //! Rows and their places in lists that stand in order, by binary search.
-ghost use Rattle.std.specs.Prelude.{◌≡◌, ◌≤◌, ◌<◌, length, filter, find, OnOk, OnErr};
+ghost use Rattle.std.specs.Prelude.{◌≡◌, ◌≤◌, ◌<◌, length, filter, OnOk, OnErr};
 ghost use Rattle.std.specs.List.{prefix_len};
 ghost use Rattle.std.specs.List.Sorted.{IsStrictlySortedBy};
-ghost use Rattle.std.specs.Ordering.{is_lt, is_le};
+ghost use Rattle.std.specs.Ordering.{is_lt, is_le, ordering_then};
 ghost use Rattle.std.specs.Vec.{vec_capacity};
 ghost use Rattle.hazard_types.specs.Orders.{by_event};
 ghost use Rattle.hazard_types.specs.Places.{by_place};
-ghost use Rattle.hazard_types.specs.Same.{same_event};
-ghost use Rattle.event_life.specs.Products.{by_key, put};
+ghost use Rattle.event_life.specs.Products.{by_key, put, row_at};
 ghost use Rattle.event_life.specs.Seats.{IsSeat, seated};
-ghost use Rattle.hazard_board.specs.Board.{by_row_event, slice_of};
+ghost use Rattle.hazard_board.specs.Board.{by_row_event, slice_of, stands_by};
 
 use hazard_types::{Event, Oom, Row, Zone};
 use std::cmp::Ordering;
@@ -52,37 +51,59 @@ pub fn slice_of<'a>(rows: &'a [Row], z: &Zone) -> &'a [Row]
     &rest[..count]
 }
 
-/// How many rows of a zone are of events before this one.
-fn events_before(rows: &[Row], e: &Event) -> usize
-    requires { IsStrictlySortedBy by_row_event rows.now }
-    ensures value { result ≡ prefix_len (λ row. is_lt (by_event row.event e.now)) rows.now }
+/// The first order, or where it is a tie that of two events, which are not compared otherwise.
+pub fn then_by_event(first: Ordering, a: &Event, b: &Event) -> Ordering
+    ensures { result ≡ ordering_then first (by_event a.now b.now) }
+{
+    match first {
+        Ordering::Less => Ordering::Less,
+        Ordering::Equal => a.order(b),
+        Ordering::Greater => Ordering::Greater,
+    }
+}
+
+/// How a row stands by that of an event in a zone.
+fn stands_by(row: &Row, e: &Event, z: &Zone) -> Ordering
+    ensures { result ≡ stands_by e.now z.now row.now }
+{
+    then_by_event(row.zone.cmp(z), &row.event, e)
+}
+
+/// How many of the rows come before that of an event in a zone.
+fn keys_below(rows: &[Row], e: &Event, z: &Zone) -> usize
+    requires { IsStrictlySortedBy by_key rows.now }
+    ensures value { result ≡ prefix_len (λ row. is_lt (stands_by e.now z.now row)) rows.now }
     ensures bound { result ≤ length rows.now }
 {
     rows.partition_point(
         |row: &Row| -> bool
-            ensures { result ≡ is_lt (by_event row.now.event e.entry.now) }
-        { row.event.order(e).is_lt() },
+            ensures { result ≡ is_lt (stands_by e.entry.now z.entry.now row.now) }
+        { stands_by(row, e, z).is_lt() },
     )
 }
 
-/// The row of an event among the rows of one zone.
-pub fn row_of_event(rows: &[Row], e: &Event) -> Option<Row>
-    requires { IsStrictlySortedBy by_row_event rows.now }
-    ensures { result ≡ find (λ row. same_event row.event e.now) rows.now }
+/// The row of an event in a zone.
+pub fn row_at(rows: &[Row], e: &Event, z: &Zone) -> Option<Row>
+    requires { IsStrictlySortedBy by_key rows.now }
+    ensures { result ≡ row_at rows.now e.now z.now }
 {
-    let place = events_before(rows, e);
+    let place = keys_below(rows, e, z);
     if place >= rows.len() {
         return None;
     }
     let row = &rows[place];
-    if row.event == *e { Some(*row) } else { None }
+    if stands_by(row, e, z).is_eq() {
+        Some(*row)
+    } else {
+        None
+    }
 }
 
 /// How two rows stand in the order by zone, then event.
 fn order(a: &Row, b: &Row) -> Ordering
     ensures { result ≡ by_key a.now b.now }
 {
-    a.zone.cmp(&b.zone).then(a.event.order(&b.event))
+    then_by_event(a.zone.cmp(&b.zone), &a.event, &b.event)
 }
 
 /// How many of the rows come before this one.

@@ -10,7 +10,7 @@ ghost use Rattle.hazard_board.specs.Board.{by_row_event, slice_of};
 ghost use Rattle.hazard_board.specs.Shelves.{on_shelves, by_from, through, least_room, HaveRoom, AreShelved, AreKept, IsCut, IsZoneAt};
 ghost use Rattle.hazard_board.specs.declared.shelves.Shelf.{Shelf as AnyShelf};
 
-use crate::searches::{put, row_of_event, rows_before, rows_through, slice_of};
+use crate::searches::{put, row_at, rows_before, rows_through, slice_of};
 use event_life::is_live;
 use hazard_types::{Event, Minute, Oom, Row, Zone};
 use std::alloc::{AllocError, Global};
@@ -254,7 +254,7 @@ impl Shelves {
     pub fn row_at(&self, e: &Event, z: &Zone) -> Option<Row>
         ensures { result ≡ row_at self.now.rows e.now z.now }
     {
-        row_of_event(self.slice_of(z), e)
+        row_at(self.shelf(z), e, z)
     }
 
     /// Puts a row in the place of the one of its zone and event, or in its own place. Only the rows of its shelf move.

@@ -9,6 +9,7 @@ ghost use Rattle.event_life.specs.Products.{by_key};
 ghost use Rattle.hazard_board.specs.Board.{has_period};
 ghost use Rattle.hazard_board.specs.Spots.{by_year, by_spot, spots_of, put_spot, put_spot_if, spot_seated, IsSpotSeat, first_of, rows_on, has_same, has_same_if, AreSpots};
 
+use crate::searches::then_by_event;
 use crate::shelves::Shelves;
 use event_life::{is_live, same_at};
 use hazard_types::{Event, Minute, Oom, Period, Row, Zone};
@@ -25,7 +26,7 @@ pub struct Spot {
 fn order_by_year(a: &Event, b: &Event) -> Ordering
     ensures { result ≡ by_year a.now b.now }
 {
-    a.year.cmp(&b.year).then(a.etn.cmp(&b.etn)).then(a.order(b))
+    then_by_event(a.year.cmp(&b.year).then(a.etn.cmp(&b.etn)), a, b)
 }
 
 /// How two spots stand in the order by event, then zone.

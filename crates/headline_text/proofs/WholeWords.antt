@@ -47,11 +47,11 @@ unbroken (c ∷ cs) h = rw (h.0.no_break, unbroken cs h.1) refl
 has_room : (n : ℕ) → n < 66 → nat_lt n 66 ≡ true
 has_room n h = grind (arith, nat_tests)
 
-fill_within : (cs : List ℕ) (column : ℕ) → column + length cs ≤ 66 → fill column cs ≡ cs
+pub fill_within : (cs : List ℕ) (column : ℕ) → column + length cs ≤ 66 → fill column cs ≡ cs
 fill_within [] column h = refl
 fill_within (c ∷ cs) column h = rw (has_room column (omega (arith, h))) (ap (λ (xs : List ℕ). c ∷ xs) (fill_within cs (column + 1) (omega (arith, h))))
 
-behind_within : (cs : List ℕ) (column : ℕ) → column + length cs ≤ 66 → behind column cs ≡ column + length cs
+pub behind_within : (cs : List ℕ) (column : ℕ) → column + length cs ≤ 66 → behind column cs ≡ column + length cs
 behind_within [] column h = omega arith
 behind_within (c ∷ cs) column h =
     let next = behind_within cs (column + 1) (omega (arith, h)) in

@@ -66,6 +66,10 @@ fn fill(out: &mut Text, column: usize, word: &[u8]) -> Result<usize, Oom>
     ensures column { IfOk result (λ next. next ≡ behind column word.now) }
     ensures within { IfOk result (λ next. next ≤ 66) }
 {
+    if word.len() <= WIDTH - column {
+        out.extend(word)?;
+        return Ok(column + word.len());
+    }
     let mut next = column;
     for byte in word {
         next = put_byte(out, next, *byte)?;
@@ -91,7 +95,7 @@ fn put(out: &mut Text, column: usize, word: &[u8]) -> Result<usize, Oom>
 pub fn wrapped(alloc: Global, text: &[u8]) -> Result<Text, Oom>
     ensures { IfOk result (λ lines. lines ≡ wrapped text.now) }
 {
-    let mut out = Text::new(alloc);
+    let mut out = Text::from_vec(Vec::with_capacity(alloc, text.len())?);
     let mut column = 0;
     let mut start = 0;
     for (i, byte) in text.iter().enumerate() {

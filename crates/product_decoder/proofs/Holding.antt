@@ -1,17 +1,15 @@
 -- What a feed holds, as plain bytes: what is scanned, given and left.
-use Rattle.std.proofs.Common.{◌≡◌, ◌∙◌, ℕ, ◌+◌, ◌-◌, ◌≤◌, ◌<◌, ◌==◌, ◌||◌, Bool, true, false, List, [], ◌∷◌, ◌++◌, length, take, drop, get_or, append-nil, append_assoc, length-drop, length-append, drop-drop, Option, Some, None, Result, Ok, Err, refl, ap, sym, subst, arith, inl, inr}
+use Rattle.std.proofs.Common.{◌≡◌, ◌∙◌, ℕ, ◌+◌, ◌-◌, ◌≤◌, ◌<◌, ◌==◌, ◌||◌, Bool, true, false, List, [], ◌∷◌, ◌++◌, length, take, drop, get_or, append-nil, append_assoc, length-drop, length-append, drop-drop, Option, Some, None, Result, Ok, Err, refl, ap, sym, subst, arith}
 use Rattle.std.specs.Prelude.{is_some, ◌≢◌, IfOk, OnOk, OnErr}
 use Rattle.std.specs.List.{slice_range, list_any, concat}
-use Rattle.std.proofs.lemmas.Bool.{cases_Bool, eqb-true, ne_eqb}
+use Rattle.std.proofs.lemmas.Bool.{eqb-true, ne_eqb}
 use Rattle.std.proofs.lemmas.List.{take_more, get_or-drop}
 use Rattle.std.proofs.lemmas.List.Folds.{drop_split, list_any-append}
 use Rattle.std.proofs.Math.Seq.{take-length, take-add}
 use Rattle.product_frame.specs.LineRules.{are_ended, ends_behind}
-use Rattle.product_frame.specs.Parts.{heading_of}
-use Rattle.product_frame.specs.Text.{line_of}
 use Rattle.product_frame.proofs.EndToEnd.{ends_append, ends_end}
 use Rattle.product_frame.proofs.LineKinds.{no_heading_length}
-use Rattle.product_decoder.specs.Feeding.{Parts, onto, has_heading, part, products_in, IsQuiet, IsPlain, IsHeaded, Keeps, ComesFirst, IsFinished, IsWaiting, IsHeld, IsFound, IsNotFound}
+use Rattle.product_decoder.specs.Feeding.{Parts, onto, has_heading, part, products_in, IsQuiet, IsPlain, IsHeaded, Keeps, ComesFirst, IsHeld, IsFound, IsNotFound}
 use Rattle.product_decoder.specs.Holding.{IsTrimmed, IsOne, IsBegun, Moves, TakesWhole, TakesLast}
 use Rattle.product_decoder.proofs.Parting.{grafted, part_behind, plain_none, plain_more, headed_more, quiet_line}
 

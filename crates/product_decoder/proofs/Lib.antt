@@ -1,7 +1,9 @@
 pub mod Said
+pub mod KnownLemmas
 pub mod TakingLemmas
 pub mod LawLemmas
 pub mod StepLemmas
+pub mod KeyLemmas
 pub mod Parting
 pub mod Holding
 pub mod Dividing

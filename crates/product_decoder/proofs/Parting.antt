@@ -1,14 +1,13 @@
 -- Parts of texts that are laid end to end, and of single lines.
-use Rattle.std.proofs.Common.{◌≡◌, ◌∙◌, ℕ, ◌+◌, ◌==◌, ◌&&◌, ◌||◌, Bool, true, false, cond, List, [], ◌∷◌, ◌++◌, length, inl, inr, append-nil, append_assoc, refl, ap, sym, subst}
-use Rattle.std.specs.List.{list_any, concat}
+use Rattle.std.proofs.Common.{◌≡◌, ◌∙◌, ℕ, ◌==◌, ◌&&◌, ◌||◌, Bool, true, false, List, [], ◌∷◌, ◌++◌, inl, inr, refl, ap}
+use Rattle.std.specs.List.{list_any}
 use Rattle.std.specs.Prelude.{is_some}
 use Rattle.std.proofs.lemmas.Bool.{cases_Bool}
-use Rattle.std.proofs.lemmas.List.Folds.{list_any-append}
 use Rattle.product_frame.specs.LineRules.{are_ended, ends_behind}
 use Rattle.product_frame.specs.Parts.{heading_of}
 use Rattle.product_frame.specs.Text.{line_of, before}
 use Rattle.product_frame.proofs.EndToEnd.{ends_append}
-use Rattle.product_decoder.specs.Feeding.{Parts, onto, has_heading, part, products_in, IsQuiet, IsPlain, IsHeaded}
+use Rattle.product_decoder.specs.Feeding.{Parts, onto, has_heading, part, IsQuiet, IsPlain, IsHeaded}
 
 -- parts, and those of what follows
 

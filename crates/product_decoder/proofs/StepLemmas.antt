@@ -51,9 +51,6 @@ kept_at : (es : List (Living × Kept)) (k : Living) → kept_of (lookup (is_at (
 kept_at [] k = refl
 kept_at (e ∷ es) k = at_first (is_at (by_living k) e.0) e (lookup (is_at (by_living k)) es) (lookup (is_at (by_living k)) (steps_view es)) (kept_at es k)
 
-pub steps_found : (es : List (Living × Kept)) (k : Living) (o : Option Kept) → o ≡ lookup (is_at (by_living k)) es → kept_of o ≡ steps_at (steps_view es) k
-steps_found es k o is = ap kept_of is ∙ kept_at es k
-
 kept_or : (o : Option Kept) (d r : Kept) → r ≡ unwrap_or o d → d.items ≡ [] → r.items ≡ kept_of o
 kept_or None d r is empty = rw is empty
 kept_or (Some w) d r is empty = ap (λ (v : Kept). v.items) is
@@ -114,7 +111,7 @@ module _ {K V : Type 0} (cmp : K → K → Ordering) (total : IsTotalOrder cmp) 
 
 -- events and zones
 
-by_living_total : IsTotalOrder by_living
+pub by_living_total : IsTotalOrder by_living
 by_living_total = then_total (on_total (λ (l : Living). l.event) by_event_total) (on_total (λ (l : Living). l.zone) by_place_total)
 
 both_tied : (o p : Ordering) → ordering_then o p ≡ Equal → (o ≡ Equal) × (p ≡ Equal)
@@ -122,7 +119,7 @@ both_tied Less p h = cc
 both_tied Equal p h = (refl, h)
 both_tied Greater p h = cc
 
-by_living_ties : (a b : Living) → by_living a b ≡ Equal → a ≡ b
+pub by_living_ties : (a b : Living) → by_living a b ≡ Equal → a ≡ b
 by_living_ties a b h =
     let p = both_tied (by_event a.event b.event) _ h in
     let event_is = by_event_ties a.event b.event p.0 in

@@ -104,10 +104,10 @@ module _ (office : List ℕ) (class : Class) where
   track_told : (taken : List Taken) → AreJudged office class [] taken → (l : Living) → track_in taken l ≡ life_in (products_taken office class taken) l
   track_told taken h l = ap (λ (steps : List (Action × ℕ)). record { event = l.event; zone = l.zone; steps = steps }) (steps_told [] taken l.event l.zone h)
 
-  pub lives_read : (held : Option (List Row)) (rows : List Row) (taken : List Taken) → IsRead office class held taken → rows ≡ rows_of (products_taken office class taken) → map (track_in taken) (living_in rows) ≡ lives_of (products_taken office class taken)
+  pub lives_read : (held : Option (List Row)) (taken : List Taken) → IsRead office class held taken → map (track_in taken) (living_in (rows_taken taken)) ≡ lives_of (products_taken office class taken)
   unfolding lives_of
-  lives_read held rows taken h rows_are =
-      ap (λ (rows : List Row). map (track_in taken) (living_in rows)) rows_are
+  lives_read held taken h =
+      ap (λ (rows : List Row). map (track_in taken) (living_in rows)) (rows_read held taken h)
       ∙ ap (λ (f : Living → Track). map f (living_in (rows_of (products_taken office class taken)))) (λ i l. track_told taken h.judged l i)
 
   pub breaches_read : (held : Option (List Row)) (taken : List Taken) → IsRead office class held taken → breaches_in 1 taken ≡ found_of (products_taken office class taken)

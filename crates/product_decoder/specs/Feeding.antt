@@ -1,5 +1,5 @@
 -- The products of a stream, line by line, and what a feed keeps of it.
-use Rattle.std.specs.Prelude.{◌≡◌, ◌==◌, ◌&&◌, ◌≤◌, ◌<◌, ℕ, Bool, true, false, List, [], ◌∷◌, ◌++◌, length, map, drop, if◌then◌else◌, Option, Some, None, is_some}
+use Rattle.std.specs.Prelude.{◌≡◌, ◌==◌, ◌&&◌, ◌≤◌, ◌<◌, ℕ, Bool, true, false, List, [], ◌∷◌, ◌++◌, length, map, drop, Option, Some, None, is_some}
 use Rattle.std.specs.List.{list_any, concat, slice_range}
 use Rattle.hazard_types.specs.declared.line.Span.{Span}
 use Rattle.product_frame.specs.LineRules.{are_ended}

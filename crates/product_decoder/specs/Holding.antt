@@ -1,6 +1,5 @@
 -- How what a feed holds changes.
-use Rattle.std.specs.Prelude.{◌≡◌, ◌<◌, ℕ, Bool, true, false, List, [], ◌∷◌, ◌++◌, length, drop, Option, Some, None}
-use Rattle.std.specs.List.{slice_range}
+use Rattle.std.specs.Prelude.{◌≡◌, ◌<◌, ℕ, List, [], ◌∷◌, ◌++◌, length, drop, Option, Some, None}
 use Rattle.product_decoder.specs.declared.held.Held.{Held}
 use Rattle.product_decoder.specs.declared.held.Scan.{Scan}
 use Rattle.product_decoder.specs.declared.held.Scan.TheVariants.{Heading, Line}

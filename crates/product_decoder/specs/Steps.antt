@@ -42,3 +42,11 @@ track_at steps l = record { event = l.event; zone = l.zone; steps = steps_at ste
 -- what the map of the code holds
 abbrev pub steps_view : List (Living × Vec Step Global) → Steps
 steps_view es = map (λ e. (e.0, e.1.items)) es
+
+-- the life that steps tell
+abbrev pub track_told : Living × List Step → Track
+track_told e = record { event = e.0.event; zone = e.0.zone; steps = e.1 }
+
+-- the same of what the map of the code holds
+abbrev pub track_of : Living × Vec Step Global → Track
+track_of e = track_told (e.0, e.1.items)

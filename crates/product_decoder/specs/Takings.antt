@@ -12,12 +12,22 @@ use Rattle.hazard_types.specs.declared.period.End.TheVariants.{At, Ufn}
 use Rattle.event_life.specs.declared.life.Breach.{Breach}
 use Rattle.event_life.specs.Lives.{judged_product, steps_of}
 use Rattle.event_life.specs.Openings.{opened_by}
-use Rattle.event_life.specs.Products.{Product, lawful_of, put_all, rows_with, rows_of}
+use Rattle.event_life.specs.Products.{Product, event_of, end_of, lawful_of, put_all, rows_with, rows_of}
+use Rattle.product_decoder.specs.declared.taken.Known.{Known}
 use Rattle.product_decoder.specs.declared.taken.Taken.{Taken}
 use Rattle.product_decoder.specs.declared.tracks.Living.{Living}
 use Rattle.product_decoder.specs.declared.types.Found.{Found}
 use Rattle.product_decoder.specs.declared.types.Track.{Track}
 use Rattle.product_decoder.specs.ReaderModel.{found_in}
+
+-- an event that is known is that of its line
+abbrev pub IsKnown : List Row → ℕ → Option Known → Type 0
+IsKnown rows t None = Unit {0}
+IsKnown rows t (Some k) = k.event ≡ event_of rows t k.vtec
+
+-- what a line of a text says of this event
+abbrev pub line_of_event : Event → ZoneLine → Line
+line_of_event e said = record { action = said.vtec.action; event = e; zone = said.zone; begin = said.vtec.begin; end = end_of said.vtec.end; flood = said.flood }
 
 -- the end that a text has: none is until further notice
 abbrev pub minute_of : End → Option ℕ

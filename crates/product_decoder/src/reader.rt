@@ -111,8 +111,7 @@ impl Reader {
         ensures value { IfOk result (λ tracks. tracks ≡ lives_of self.now.products) }
         ensures sorted { IfOk result (λ tracks. IsStrictlySortedBy by_life tracks) }
     {
-        let rows = self.rows_after(alloc)?;
-        tracks_in(alloc, rows.as_slice(), self.taken.as_slice())
+        tracks_in(alloc, self.taken.as_slice())
     }
 
     /// The lines in breach, product by product, and within one in the order of the text.

@@ -1,13 +1,13 @@
 //! What is taken of a product: its lines of an office and class, judged by the rows before it.
 ghost use Rattle.std.specs.Prelude.{◌≡◌, IfOk};
 ghost use Rattle.event_life.specs.Lives.{judged_product};
-ghost use Rattle.event_life.specs.Products.{lines_of};
-ghost use Rattle.product_decoder.specs.ReaderModel.{is_by, said_by, product_of};
-ghost use Rattle.product_decoder.specs.Takings.{product_taken, rows_taken};
+ghost use Rattle.event_life.specs.Products.{event_of, end_of, line_of, lines_of};
+ghost use Rattle.product_decoder.specs.ReaderModel.{is_by, line_said, said_by, product_of};
+ghost use Rattle.product_decoder.specs.Takings.{IsKnown, line_of_event, product_taken, rows_taken};
 
 use crate::types::{Decoded, ZonePair};
 use event_life::Breach;
-use hazard_types::{Class, Line, List, Minute, Oom};
+use hazard_types::{Class, End, Event, Line, List, Minute, Oom, Vtec};
 use row_index::RowIndex;
 use std::alloc::Global;
 
@@ -25,6 +25,63 @@ fn is_by(office: &[u8; 4], class: &Class, pair: &ZonePair) -> bool
     pair.vtec.office == *office && pair.vtec.class == *class
 }
 
+/// The event that a P-VTEC line is of.
+#[derive(Clone, Copy)]
+pub struct Known {
+    pub vtec: Vtec,
+    pub event: Event,
+}
+
+/// The event that a P-VTEC line is of. `known` is that of one before it in the product, which mostly says the same.
+fn event_of(rows: &RowIndex, t: Minute, known: &Option<Known>, vtec: &Vtec) -> Event
+    requires { IsKnown rows.now t known.now }
+    ensures { result ≡ event_of rows.now t vtec.now }
+{
+    match known {
+        Some(before) => {
+            if before.vtec == *vtec {
+                before.event
+            } else {
+                rows.event_of(t, vtec)
+            }
+        }
+        None => rows.event_of(t, vtec),
+    }
+}
+
+/// The end that a text prints: none is until further notice.
+fn end_of(end: &Option<Minute>) -> End
+    ensures { result ≡ end_of end.now }
+{
+    match end {
+        Some(minute) => End::At(*minute),
+        None => End::Ufn,
+    }
+}
+
+/// What a line of a text says of this event in a zone.
+fn line_of_event(event: &Event, pair: &ZonePair) -> Line
+    ensures { result ≡ line_of_event event.now (line_said pair.now) }
+{
+    Line {
+        action: pair.vtec.action,
+        event: *event,
+        zone: pair.zone,
+        begin: pair.vtec.begin,
+        end: end_of(&pair.vtec.end),
+        flood: pair.flood,
+    }
+}
+
+/// What a line of a text says of its event in a zone. `known` is the event of one before it in the product.
+fn line_of(rows: &RowIndex, t: Minute, known: &Option<Known>, pair: &ZonePair) -> Line
+    requires { IsKnown rows.now t known.now }
+    ensures { result ≡ line_of rows.now t (line_said pair.now) }
+{
+    let event = event_of(rows, t, known, &pair.vtec);
+    line_of_event(&event, pair)
+}
+
 /// What the lines of an office and class say of their events.
 fn lines_by(
     alloc: Global,
@@ -37,9 +94,14 @@ fn lines_by(
     ensures { IfOk result (λ lines. lines ≡ lines_of rows.now t (said_by office.now class.now pairs.now)) }
 {
     let mut lines = List::new(alloc);
+    let mut known = None;
     for pair in pairs {
         if is_by(office, class, pair) {
-            lines.extend(&[rows.line_of(t, &pair.zone, &pair.vtec, &pair.flood)])?;
+            let line = line_of(rows, t, &known, pair);
+            let event = line.event;
+            let vtec = pair.vtec;
+            lines.extend(&[line])?;
+            known = Some(Known { vtec, event });
         }
     }
     Ok(lines)

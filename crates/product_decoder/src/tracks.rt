@@ -2,47 +2,34 @@
 ghost use Rattle.std.specs.Prelude.{◌≡◌, map, IfOk, OnOk};
 ghost use Rattle.std.specs.List.Sorted.{IsStrictlySortedBy};
 ghost use Rattle.product_decoder.specs.Lives.{living_in, by_life};
-ghost use Rattle.product_decoder.specs.Steps.{living_of, with_line, with_product, steps_of_all, steps_at, track_at, steps_view};
-ghost use Rattle.product_decoder.specs.Takings.{track_in};
+ghost use Rattle.product_decoder.specs.Steps.{living_of, with_line, with_product, steps_of_all, track_of, steps_view};
+ghost use Rattle.product_decoder.specs.Takings.{track_in, rows_taken};
 
 use crate::taken::Taken;
 use crate::types::Track;
 use event_life::is_lawful;
-use hazard_types::{Action, Event, Line, List, Minute, Oom, Row, Zone};
+use hazard_types::{Action, Line, List, Minute, Oom};
+use row_index::{EventKey, ZoneKey};
 use std::alloc::Global;
-use std::collections::{BTreeMap, BTreeSet};
+use std::collections::BTreeMap;
 
 /// An event in a zone: in order by event, then zone.
-#[derive(Clone, Copy, Debug, PartialEq, Eq, PartialOrd, Ord)]
+#[derive(Clone, Copy, PartialEq, Eq, PartialOrd, Ord)]
 pub struct Living {
-    pub event: Event,
-    pub zone: Zone,
+    pub event: EventKey,
+    pub zone: ZoneKey,
 }
 
 /// The steps of each event in a zone.
 type Steps = BTreeMap<Living, Vec<(Action, Minute)>>;
-
-/// The events in zones that have a row.
-fn living_in(alloc: Global, rows: &[Row]) -> Result<BTreeSet<Living>, Oom>
-    ensures { IfOk result (λ living. living.keys ≡ living_in rows.now) }
-{
-    let mut living = BTreeSet::new(alloc);
-    for row in rows {
-        living.insert(Living {
-            event: row.event,
-            zone: row.zone,
-        })?;
-    }
-    Ok(living)
-}
 
 /// The event and zone of a line.
 fn living_of(line: &Line) -> Living
     ensures { result ≡ living_of line.now }
 {
     Living {
-        event: line.event,
-        zone: line.zone,
+        event: EventKey { event: line.event },
+        zone: ZoneKey { zone: line.zone },
     }
 }
 
@@ -80,39 +67,26 @@ fn steps_of_all(alloc: Global, taken: &[Taken]) -> Result<Steps, Oom>
     Ok(steps)
 }
 
-/// The steps of an event in a zone.
-fn steps_at<'a>(steps: &'a Steps, living: &Living) -> &'a [(Action, Minute)]
-    ensures { result.now ≡ steps_at (steps_view steps.now.entries) living.now }
-{
-    match steps.get(living) {
-        Some(steps) => steps.as_slice(),
-        None => &[],
-    }
-}
-
-/// The life of each event in a zone.
-fn tracks_of(alloc: Global, living: BTreeSet<Living>, steps: &Steps) -> Result<List<Track>, Oom>
-    ensures value { IfOk result (λ tracks. tracks ≡ map (track_at (steps_view steps.now.entries)) living.keys) }
-    ensures sorted { IfOk result (λ tracks. IsStrictlySortedBy by_life tracks) }
+/// The life of each event in a zone, from its steps.
+fn tracks_of(alloc: Global, steps: Steps) -> Result<List<Track>, Oom>
+    ensures { IfOk result (λ tracks. tracks ≡ map track_of steps.entries) }
 {
     let mut tracks = List::new(alloc);
-    for life in living {
-        let steps = List::from_slice(alloc, steps_at(steps, &life))?;
+    for (life, steps) in steps {
         tracks.push(Track {
-            event: life.event,
-            zone: life.zone,
-            steps,
+            event: life.event.event,
+            zone: life.zone.zone,
+            steps: List::from_vec(steps),
         })?;
     }
     Ok(tracks)
 }
 
-/// The life of each row. `taken` are the products that left the rows.
-pub fn tracks_in(alloc: Global, rows: &[Row], taken: &[Taken]) -> Result<List<Track>, Oom>
-    ensures value { IfOk result (λ tracks. tracks ≡ map (track_in taken.now) (living_in rows.now)) }
+/// The life of each row that the products left.
+pub fn tracks_in(alloc: Global, taken: &[Taken]) -> Result<List<Track>, Oom>
+    ensures value { IfOk result (λ tracks. tracks ≡ map (track_in taken.now) (living_in (rows_taken taken.now))) }
     ensures sorted { IfOk result (λ tracks. IsStrictlySortedBy by_life tracks) }
 {
-    let living = living_in(alloc, rows)?;
     let steps = steps_of_all(alloc, taken)?;
-    tracks_of(alloc, living, &steps)
+    tracks_of(alloc, steps)
 }

@@ -21,7 +21,7 @@ use Rattle.event_life.specs.Products.{by_key, put, row_at}
 use Rattle.event_life.proofs.Keys.{then_parts}
 use Rattle.row_index.specs.declared.lasting.Lasting.{Lasting}
 use Rattle.row_index.specs.declared.seats.Spot.{Spot}
-use Rattle.row_index.specs.declared.seats.Spot.TheVariants.{Front, At, Back}
+use Rattle.row_index.specs.declared.seats.Spot.TheVariants.{At}
 use Rattle.row_index.specs.contracts.lasting.LastingOrd.TheImpl.Laws as lasting_laws
 use Rattle.row_index.specs.contracts.seats.SpotOrd.TheImpl as spot
 use Rattle.row_index.specs.Lastings.{by_lasting, place_of, lasting_of, lasts_from, lasts_to, lasts, bare_row, rows_told, lasting_rows}

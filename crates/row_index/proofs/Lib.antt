@@ -1,4 +1,4 @@
-mod Tests
+pub mod Tests
 mod Seated
 mod LeftLemmas
 mod Opened

@@ -18,11 +18,12 @@ use Rattle.hazard_types.specs.declared.line.Row.{Row}
 use Rattle.hazard_types.proofs.Equality.{hazard_one, hazard_itself, event_one, event_itself}
 use Rattle.hazard_types.proofs.OrderLaws.{by_hazard_total, by_hazard_ties, numbers_tied}
 use Rattle.event_life.specs.Periods.{keeps_open}
-use Rattle.event_life.specs.Products.{by_key, put, has_rows, is_open, is_held, later_event, going_in}
+use Rattle.event_life.specs.Products.{by_key, put, row_at, has_rows, is_open, is_held, later_event, going_in}
 use Rattle.event_life.proofs.Keys.{then_parts}
-use Rattle.event_life.proofs.Members.{IsIn, any_in, in_any, one_way}
+use Rattle.event_life.proofs.Members.{IsIn, any_in, in_any, one_way, find_in}
+use Rattle.event_life.proofs.Puts.{at_key, at_key-parts}
 use Rattle.row_index.specs.declared.numbers.Number.{Number}
-use Rattle.row_index.specs.Numbers.{number_of, by_number, has_number, lists_of, list_at, with_event, AreOpened}
+use Rattle.row_index.specs.Numbers.{number_of, by_number, has_number, lists_of, list_at, with_event, events_with, AreOpened}
 use Rattle.row_index.specs.Steps.{latest_open}
 use Rattle.row_index.proofs.Tests.{any_same, any_put_plain, or_false}
 
@@ -187,6 +188,23 @@ opened_by false events rows row k h up opened q =
 
 pub opened-put : (events : Lists) (rows : List Row) (row : Row) → IsStrictlySortedBy by_key rows → AreOpened events rows → AreOpened (put_known events row) (put row rows)
 opened-put events rows row up opened k q = opened_by (is_at (by_number k) (number_of row.event)) events rows row k refl up opened q
+
+-- a row in the place of one of its event tells no other event
+opened-kept : (events : Lists) (rows : List Row) (row old : Row) → IsStrictlySortedBy by_key rows → row_at rows row.event row.zone ≡ Some old → AreOpened events rows → AreOpened events (put row rows)
+opened-kept events rows row old up found opened k q =
+    let own = find_in (at_key row.event row.zone) rows old found in
+    let event_is = (at_key-parts row.event row.zone old own.1).0 in
+    opened k q
+    ∙ known (of_number k q row) (list_any (of_number k q) rows) (λ h. in_any (of_number k q) rows old own.0 (subst (λ (e : Event). (same_hazard e.hazard k.hazard && (e.etn == k.etn) && q e) ≡ true) (sym event_is) h))
+    ∙ sym (put_plain k q row rows up)
+  where
+    known : (a b : Bool) → (a ≡ true → b ≡ true) → b ≡ (a || b)
+    known true b f = f refl
+    known false b f = refl
+
+pub opened-with : (before : Option Row) (events : Lists) (rows : List Row) (row : Row) → IsStrictlySortedBy by_key rows → before ≡ row_at rows row.event row.zone → AreOpened events rows → AreOpened (events_with before row.event events) (put row rows)
+opened-with None events rows row up found opened = opened-put events rows row up opened
+opened-with (Some old) events rows row up found opened = opened-kept events rows row old up (sym found) opened
 
 -- what is asked of the events of a number
 

@@ -1,6 +1,6 @@
 -- Hazards and numbers, the events that have them, and what the maps of an index hold of its rows.
-use Rattle.std.specs.Prelude.{◌==◌, ◌&&◌, not, Bool, List, [], ◌∷◌, ◌++◌, if◌then◌else◌, map, unwrap_or, Vec}
-use Rattle.std.specs.BTreeMap.{is_at}
+use Rattle.std.specs.Prelude.{◌==◌, ◌&&◌, not, Bool, List, [], ◌∷◌, ◌++◌, if◌then◌else◌, map, unwrap_or, Option, Some, None, Vec}
+use Rattle.std.specs.BTreeMap.{insert_entry, is_at}
 use Rattle.std.specs.List.{list_any}
 use Rattle.std.specs.List.Sorted.{IsStrictlySortedBy}
 use Rattle.std.specs.Map.{lookup, values_of}
@@ -47,6 +47,11 @@ list_at cmp es k = unwrap_or (lookup (is_at (cmp k)) es) []
 -- one event more, unless it is among them
 abbrev pub with_event : Event → List Event → List Event
 with_event e events = if list_any (λ d. same_event d e) events then events else events ++ e ∷ []
+
+-- the lists with the event of a row, unless a row of it stood in its place before
+abbrev pub events_with : Option Row → Event → List (Number × List Event) → List (Number × List Event)
+events_with None e es = insert_entry by_number es (number_of e) (with_event e (list_at by_number es (number_of e)))
+events_with (Some old) e es = es
 
 -- the events of each hazard and number are those of its rows
 abbrev pub AreOpened : List (Number × List Event) → List Row → Type 0

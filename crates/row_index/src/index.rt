@@ -5,7 +5,7 @@ ghost use Rattle.hazard_types.specs.declared.line.Line.{Line as LineValue};
 ghost use Rattle.std.specs.Map.{values_of};
 ghost use Rattle.event_life.specs.declared.life.Breach.TheVariants.{Twice};
 ghost use Rattle.event_life.specs.declared.life.Life.{Life as LifeValue};
-ghost use Rattle.event_life.specs.Products.{put, line_of, row_at, row_after, is_open, going_in, has_rows, is_held, has_same, is_routine, is_upgrade, is_second, life_at, around_but_higher, has_higher, breach_in, judged, lawful_of, put_all, put_but_upgrades};
+ghost use Rattle.event_life.specs.Products.{put, line_of, row_at, row_after, is_open, going_in, event_of, has_rows, is_held, has_same, is_routine, is_upgrade, is_second, life_at, around_but_higher, has_higher, breach_in, judged, lawful_of, put_all, put_but_upgrades};
 ghost use Rattle.event_life.specs.Seats.{may_count};
 ghost use Rattle.event_life.specs.Shown.{shown_at};
 ghost use Rattle.event_life.specs.Table.{breach_of_line};
@@ -15,7 +15,8 @@ ghost use Rattle.row_index.specs.Steps.{IsChanged, around_new, around_joining, a
 use crate::higher::{Changed, any_upgrades, rivals, upgraded_by};
 use crate::lasting::{Lastings, relast};
 use crate::look::{is_new, later_event, life_of, nothing_around, of_event, opens};
-use crate::numbers::{Events, Number, events_at, has_event, number_of, put_event};
+use crate::numbers::{Events, Number, events_at, has_event, number_of, put_event_of};
+use crate::parts::HazardKey;
 use crate::seats::{Seated, add_seat, all_rows, count_row, has_seat, put_seated, row_in};
 use crate::standing::{Standings, has_same_among, is_open_among, restand};
 use event_life::{Around, Breach, is_lawful, is_routine, is_upgrade, life_step, opened_period};
@@ -141,12 +142,24 @@ impl RowIndex {
         ensures { result ≡ event_going self.now t vtec.now }
     {
         let number = Number {
-            hazard: vtec.hazard,
+            hazard: HazardKey {
+                hazard: vtec.hazard,
+            },
             etn: vtec.etn,
         };
         match vtec.action {
             Action::New => None,
             _ => self.going_in(t, &number),
+        }
+    }
+
+    /// The event that a line of a text is of. The rows are those just before its product, `t` is the product's issue minute.
+    pub fn event_of(&self, t: Minute, vtec: &Vtec) -> Event
+        ensures { result ≡ event_of self.now t vtec.now }
+    {
+        match self.event_going(t, vtec) {
+            Some(event) => event,
+            None => event_life::event_of(&[], t, vtec),
         }
     }
 
@@ -352,7 +365,7 @@ impl RowIndex {
         } = self;
         let mut before = None;
         put_seated(&mut seated, row, &mut before)?;
-        put_event(alloc, &mut events, &row.event)?;
+        put_event_of(alloc, &mut events, &before, &row.event)?;
         restand(&mut standing, &before, row)?;
         relast(&mut lasting, &before, row)?;
         Ok(RowIndex {

@@ -6,6 +6,7 @@ ghost use Rattle.row_index.specs.Steps.{restood};
 
 use crate::keys::{add_key, take_key};
 use crate::look::stays;
+use crate::parts::{EventKey, ZoneKey};
 use crate::seats::Spot;
 use hazard_types::{End, Minute, Oom, Period, Row, Zone};
 use std::alloc::{AllocError, Global};
@@ -14,7 +15,7 @@ use std::collections::BTreeSet;
 /// Where a row stands among all rows, which are in order by zone, then end, then spot, then begin.
 #[derive(Clone, Copy, PartialEq, Eq, PartialOrd, Ord)]
 pub struct Lasting {
-    pub zone: Zone,
+    pub zone: ZoneKey,
     pub end: End,
     pub spot: Spot,
     pub begin: Minute,
@@ -27,9 +28,9 @@ fn lasting_of(row: &Row) -> Lasting
     ensures { result ≡ lasting_of row.now }
 {
     let end = row.period.end;
-    let spot = Spot::At(row.event);
+    let spot = Spot::At(EventKey { event: row.event });
     Lasting {
-        zone: row.zone,
+        zone: ZoneKey { zone: row.zone },
         end,
         spot,
         begin: row.period.begin,
@@ -41,9 +42,9 @@ fn last(lastings: &mut Lastings, row: &Row) -> Result<(), Oom>
     ensures { OnOk result (lastings.new.keys ≡ insert_key by_lasting lastings.old.keys (lasting_of row.now)) }
 {
     let end = row.period.end;
-    let spot = Spot::At(row.event);
+    let spot = Spot::At(EventKey { event: row.event });
     let lasting = Lasting {
-        zone: row.zone,
+        zone: ZoneKey { zone: row.zone },
         end,
         spot,
         begin: row.period.begin,
@@ -79,7 +80,7 @@ fn places_in(
     let front = Spot::Front;
     let end = End::At(t);
     let from = Lasting {
-        zone: *zone,
+        zone: ZoneKey { zone: *zone },
         end,
         spot: front,
         begin: t,
@@ -87,7 +88,7 @@ fn places_in(
     let back = Spot::Back;
     let end = End::Ufn;
     let to = Lasting {
-        zone: *zone,
+        zone: ZoneKey { zone: *zone },
         end,
         spot: back,
         begin: t,
@@ -105,8 +106,8 @@ fn put_told(rows: &mut Vec<Row>, place: &Lasting) -> Result<(), AllocError>
             end: place.end,
         };
         rows.push(Row {
-            event,
-            zone: place.zone,
+            event: event.event,
+            zone: place.zone.zone,
             period,
             flood: None,
             ended: false,

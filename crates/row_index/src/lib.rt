@@ -7,7 +7,9 @@ mod keys;
 mod lasting;
 mod look;
 mod numbers;
+mod parts;
 mod seats;
 mod standing;
 
 pub use index::RowIndex;
+pub use parts::{EventKey, ZoneKey};

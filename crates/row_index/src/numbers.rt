@@ -3,16 +3,17 @@ ghost use Rattle.std.specs.Prelude.{◌≡◌, ◌++◌, ◌∷◌, [], OnOk};
 ghost use Rattle.std.specs.BTreeMap.{insert_entry};
 ghost use Rattle.std.specs.List.{list_any};
 ghost use Rattle.hazard_types.specs.Same.{same_event};
-ghost use Rattle.row_index.specs.Numbers.{number_of, by_number, lists_of, list_at, with_event};
+ghost use Rattle.row_index.specs.Numbers.{number_of, by_number, lists_of, list_at, with_event, events_with};
 
-use hazard_types::{Event, Hazard, Oom};
+use crate::parts::HazardKey;
+use hazard_types::{Event, Oom, Row};
 use std::alloc::Global;
 use std::collections::BTreeMap;
 
 /// A hazard and a number, which events of several years may have.
 #[derive(Clone, Copy, PartialEq, Eq, PartialOrd, Ord)]
 pub struct Number {
-    pub hazard: Hazard,
+    pub hazard: HazardKey,
     pub etn: u16,
 }
 
@@ -24,7 +25,9 @@ pub fn number_of(event: &Event) -> Number
     ensures { result ≡ number_of event.now }
 {
     Number {
-        hazard: event.hazard,
+        hazard: HazardKey {
+            hazard: event.hazard,
+        },
         etn: event.etn,
     }
 }
@@ -52,6 +55,21 @@ pub fn put_event(alloc: Global, events: &mut Events, event: &Event) -> Result<()
 {
     let known = events.entry(number_of(event))?.or_insert(Vec::new(alloc));
     add_event(known, event)
+}
+
+/// Puts the event of a row among those of its hazard and number, unless a row of it stood there before.
+pub fn put_event_of(
+    alloc: Global,
+    events: &mut Events,
+    before: &Option<Row>,
+    event: &Event,
+) -> Result<(), Oom>
+    ensures { OnOk result (lists_of events.new.entries ≡ events_with before.now event.now (lists_of events.old.entries)) }
+{
+    match before {
+        Some(_old) => Ok(()),
+        None => put_event(alloc, events, event),
+    }
 }
 
 /// The events of a hazard and number.

@@ -7,6 +7,7 @@ ghost use Rattle.row_index.specs.Numbers.{is_in_zone};
 ghost use Rattle.row_index.specs.Seating.{AreSeated, seat_at, has_seat, seats_with};
 
 use crate::keys::add_key;
+use crate::parts::{EventKey, ZoneKey};
 use hazard_types::{Event, Line, Oom, Row, Zone};
 use std::alloc::{AllocError, Global};
 use std::collections::{BTreeMap, BTreeSet};
@@ -15,14 +16,14 @@ use std::collections::{BTreeMap, BTreeSet};
 #[derive(Clone, Copy, PartialEq, Eq, PartialOrd, Ord)]
 pub enum Spot {
     Front,
-    At(Event),
+    At(EventKey),
     Back,
 }
 
 /// Where a row stands among all rows. Seats are in order by zone, then spot.
 #[derive(Clone, Copy, PartialEq, Eq, PartialOrd, Ord)]
 pub struct Seat {
-    pub zone: Zone,
+    pub zone: ZoneKey,
     pub spot: Spot,
 }
 
@@ -36,8 +37,8 @@ fn seat_at(event: &Event, zone: &Zone) -> Seat
     ensures { result ≡ seat_at event.now zone.now }
 {
     Seat {
-        zone: *zone,
-        spot: Spot::At(*event),
+        zone: ZoneKey { zone: *zone },
+        spot: Spot::At(EventKey { event: *event }),
     }
 }
 
@@ -53,9 +54,9 @@ pub fn add_seat(seats: &mut Seats, counts: bool, line: &Line) -> Result<(), Oom>
     ensures { OnOk result (seats.new.keys ≡ seats_with counts line.now seats.old.keys) }
 {
     if counts {
-        let spot = Spot::At(line.event);
+        let spot = Spot::At(EventKey { event: line.event });
         let seat = Seat {
-            zone: line.zone,
+            zone: ZoneKey { zone: line.zone },
             spot,
         };
         add_key(seats, seat)?;
@@ -95,9 +96,9 @@ pub fn put_seated(seated: &mut Seated, row: &Row, before: &mut Option<Row>) -> R
     ensures rows { OnOk result (values_of seated.new.entries ≡ put row.now (values_of seated.old.entries)) }
     ensures seated { OnOk result (AreSeated seated.new.entries) }
 {
-    let spot = Spot::At(row.event);
+    let spot = Spot::At(EventKey { event: row.event });
     let seat = Seat {
-        zone: row.zone,
+        zone: ZoneKey { zone: row.zone },
         spot,
     };
     set(seated, seat, row, before)
@@ -122,11 +123,11 @@ pub fn rows_in(alloc: Global, seated: &Seated, zone: &Zone) -> Result<Vec<Row>, 
     ensures { IfOk result (λ rows. rows.items ≡ filter (is_in_zone zone.now) (values_of seated.now.entries)) }
 {
     let front = Seat {
-        zone: *zone,
+        zone: ZoneKey { zone: *zone },
         spot: Spot::Front,
     };
     let back = Seat {
-        zone: *zone,
+        zone: ZoneKey { zone: *zone },
         spot: Spot::Back,
     };
     seated

@@ -9,15 +9,16 @@ ghost use Rattle.row_index.specs.declared.standing.Corner.TheVariants as corner;
 
 use crate::keys::{add_key, any_between, take_key};
 use crate::look::stays;
+use crate::parts::{EventKey, ZoneKey};
 use event_life::ends_after;
-use hazard_types::{End, Event, Minute, Oom, Period, Row, Zone};
+use hazard_types::{End, Event, Minute, Oom, Period, Row};
 use std::collections::BTreeSet;
 
 /// A place among the rows of an event with one period: in front of all zones, at a zone, or behind them all.
 #[derive(Clone, Copy, PartialEq, Eq, PartialOrd, Ord)]
 pub enum Corner {
     Front,
-    At(Zone),
+    At(ZoneKey),
     Back,
 }
 
@@ -39,7 +40,7 @@ pub enum Term {
 /// Where a row stands among all rows, which are in order by event, then term.
 #[derive(Clone, Copy, PartialEq, Eq, PartialOrd, Ord)]
 pub struct Standing {
-    pub event: Event,
+    pub event: EventKey,
     pub term: Term,
 }
 
@@ -51,7 +52,7 @@ fn place_of(event: &Event, end: End, begin: Minute, corner: Corner) -> Standing
 {
     let stay = Stay { end, begin, corner };
     Standing {
-        event: *event,
+        event: EventKey { event: *event },
         term: Term::At(stay),
     }
 }
@@ -63,7 +64,7 @@ fn standing_of(row: &Row) -> Standing
         &row.event,
         row.period.end,
         row.period.begin,
-        Corner::At(row.zone),
+        Corner::At(ZoneKey { zone: row.zone }),
     )
 }
 
@@ -87,12 +88,12 @@ pub fn is_open_among(standings: &Standings, t: Minute, event: &Event) -> bool
     let stay = Stay { end, begin, corner };
     let first = Term::At(stay);
     let from = Standing {
-        event: *event,
+        event: EventKey { event: *event },
         term: first,
     };
     let behind = Term::Back;
     let to = Standing {
-        event: *event,
+        event: EventKey { event: *event },
         term: behind,
     };
     any_between(standings, from, to)
@@ -117,7 +118,7 @@ fn any_with(
     };
     let low = Term::At(low);
     let from = Standing {
-        event: *event,
+        event: EventKey { event: *event },
         term: low,
     };
     let back = Corner::Back;
@@ -128,7 +129,7 @@ fn any_with(
     };
     let high = Term::At(high);
     let to = Standing {
-        event: *event,
+        event: EventKey { event: *event },
         term: high,
     };
     any_between(standings, from, to)
@@ -153,7 +154,7 @@ fn stand(standings: &mut Standings, row: &Row) -> Result<(), Oom>
     ensures { OnOk result (standings.new.keys ≡ insert_key by_standing standings.old.keys (standing_of row.now)) }
 {
     let end = row.period.end;
-    let corner = Corner::At(row.zone);
+    let corner = Corner::At(ZoneKey { zone: row.zone });
     let stay = Stay {
         end,
         begin: row.period.begin,
@@ -161,7 +162,7 @@ fn stand(standings: &mut Standings, row: &Row) -> Result<(), Oom>
     };
     let term = Term::At(stay);
     let standing = Standing {
-        event: row.event,
+        event: EventKey { event: row.event },
         term,
     };
     add_key(standings, standing)

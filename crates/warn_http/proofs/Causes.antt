@@ -218,15 +218,14 @@ front_size bytes front is = ap length is ∙ length-take most_bytes bytes
 
 pub whole_answer : (bytes front : List ℕ) (headers : List HeaderSpan) (spans : RequestSpans) (answer : HttpRead)
     → front ≡ take most_bytes bytes → Says front headers (head_read.Whole spans)
-    → (answer ≡ answer_to spans.len (length bytes) (wanted_at front headers spans)) ⊎ (answer ≡ read.OutOfMemory)
+    → answer ≡ answer_to spans.len (length bytes) (wanted_at front headers spans)
     → IsAnswer bytes answer
-whole_answer bytes front headers spans answer is says (inl e) =
+whole_answer bytes front headers spans answer is says e =
     let at : IsRequestAt (take most_bytes bytes) headers spans says.0.0 =
     subst (λ (b : List ℕ). IsRequestAt b headers spans says.0.0) is says.0.1 in
     let f : answer ≡ answer_to spans.len (length bytes) (wanted_at (take most_bytes bytes) headers spans) =
     e ∙ ap (λ (b : List ℕ). answer_to spans.len (length bytes) (wanted_at b headers spans)) is in
     answers bytes answer (subst (Causes bytes) (sym f) (spans_cause bytes headers spans says.0.0 at says.2))
-whole_answer bytes front headers spans answer is says (inr e) = answers bytes answer (subst (Causes bytes) (sym e) tt)
 
 pub more_answer_to : (bytes front : List ℕ) (headers : List HeaderSpan) → front ≡ take most_bytes bytes
     → Says front headers head_read.More → IsAnswer bytes read.More

@@ -1,5 +1,5 @@
 -- Calls that are not whole: how long they are, and how many bytes they want.
-use Rattle.std.proofs.Common.{◌≡◌, ℕ, ◌+◌, ◌-◌, ◌<◌, ◌≤◌, ◌⊎◌, inl, inr, Bool, true, false, cond, List, [], ◌∷◌, ◌++◌, length, take, refl, ap, sym, ◌∙◌, subst, arith, append-nil, length-append, Option, Some, None, Ok, Err, nat_le}
+use Rattle.std.proofs.Common.{◌≡◌, ℕ, ◌+◌, ◌-◌, ◌<◌, ◌≤◌, ◌⊎◌, inl, inr, Bool, true, false, cond, List, [], ◌∷◌, ◌++◌, length, take, refl, ap, sym, ◌∙◌, subst, arith, length-append, Option, Some, None, Ok, Err, nat_le}
 use Rattle.std.proofs.lemmas.List.{length-take}
 use Rattle.std.proofs.lemmas.Bool.{leb-true, lt-ltb}
 use Rattle.std.specs.Str.{bytes_eq}
@@ -20,7 +20,7 @@ use Rattle.warn_http.specs.declared.fields.Stated.TheVariants.{Absent, Bytes, To
 use Rattle.warn_http.specs.declared.routes.Aim.{Aim}
 use Rattle.warn_http.specs.declared.routes.Aim.TheVariants.{Post, Look}
 use Rattle.warn_http.specs.declared.wants.Wanted.{Wanted}
-use Rattle.warn_http.specs.Readings.{Says, pairs_at, missing}
+use Rattle.warn_http.specs.Readings.{Says, HasNoHead, pairs_at, missing}
 use Rattle.warn_http.specs.declared.heads.Head.TheVariants.{Whole}
 use Rattle.warn_http.proofs.Fronts.{head_reads, head_stays, one_head}
 use Rattle.warn_http.proofs.Causes.{headless, few_fields}
@@ -154,15 +154,21 @@ module _ (bytes front : List ℕ) (headers : List HeaderSpan) (spans : RequestSp
       by (inr none) = absurd (omega (arith, none, cut.cut, total))
 
 -- fewer bytes than are missing leave a call unfinished
-pub still_unfinished : (bytes : List ℕ) (wants : ℕ) → (IsCutHead bytes → wants ≡ 1)
+pub still_unfinished : (bytes : List ℕ) (wants n : ℕ) → (IsCutHead bytes → ⊥)
     → ((cut : IsCutBody bytes) → length bytes + wants ≡ length (print_request cut.head) + cut.wants.body)
-    → IsUnfinished bytes → (more : List ℕ) → length more < wants → IsUnfinished (bytes ++ more)
-still_unfinished bytes wants head body (inl cut) [] few = subst IsUnfinished (sym (append-nil bytes)) (inl cut)
-still_unfinished bytes wants head body (inl cut) (c ∷ more) few = absurd (omega (arith, few, head cut))
-still_unfinished bytes wants head body (inr cut) more few = inr (record {
-  head = cut.head;
-  wants = cut.wants;
-  stands = head_stays bytes more cut.head cut.stands;
-  asks = cut.asks;
-  cut = omega (arith, few, body cut, length-append bytes more);
-})
+    → IsUnfinished bytes → (more : List ℕ) → Some wants ≡ Some n → length more < n → IsUnfinished (bytes ++ more)
+still_unfinished bytes wants n head body (inl cut) more is few = absurd (head cut)
+still_unfinished bytes wants n head body (inr cut) more is few =
+    let same : wants ≡ n = cc in
+    inr (record {
+      head = cut.head;
+      wants = cut.wants;
+      stands = head_stays bytes more cut.head cut.stands;
+      asks = cut.asks;
+      cut = omega (arith, few, same, body cut, length-append bytes more);
+    })
+
+-- where no head is whole, no body is cut
+pub no_cut_body : (bytes front : List ℕ) → front ≡ take most_bytes bytes → HasNoHead front → IsCutBody bytes → ⊥
+no_cut_body bytes front is none cut =
+    none cut.head cut.stands.rest (subst (λ (b : List ℕ). ReadsRequest b cut.head cut.stands.rest) (sym is) cut.stands.reads) cut.stands.few

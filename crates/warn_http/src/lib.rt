@@ -9,6 +9,7 @@ mod numbers;
 mod outcomes;
 mod read;
 mod routes;
+mod table;
 mod wants;
 
 pub use answers::{BodyKind, is_status, refusal_status, write_answer};
@@ -17,3 +18,4 @@ pub use laws::{
 };
 pub use outcomes::{Outcome, disk_fault_answer, kind_of, no_memory_answer, write_call_answer};
 pub use read::{Call, HttpRead, read_call, still_wants};
+pub use table::Routes;

@@ -1,5 +1,5 @@
 //! The call at the front of a link's bytes.
-ghost use Rattle.std.specs.Prelude.{◌≡◌, ◌≤◌, ◌<◌, ◌+◌, ◌^◌, ◌⊎◌, ◌++◌, ℕ, List, length, take, IsUtf8};
+ghost use Rattle.std.specs.Prelude.{◌≡◌, ◌≤◌, ◌<◌, ◌+◌, ◌^◌, ◌++◌, ℕ, List, length, take, IsUtf8, IfSome, Some, None};
 ghost use Rattle.httparse.specs.Spans.{IsRequestWithin, span_bytes};
 ghost use Rattle.httparse.specs.Grammar.{print_request};
 ghost use Rattle.warn_http.specs.Heads.{stated, IsCutHead};
@@ -9,8 +9,9 @@ ghost use Rattle.warn_http.specs.Readings.{wanted_at, answer_to, pairs_at, missi
 use crate::fields::{Stated, stated_length};
 use crate::heads::{Head, MOST_BYTES, MOST_FIELDS, read_head, whole_head};
 use crate::routes::Aim;
+use crate::table::Routes;
 use crate::wants::{Wanted, want_of};
-use hazard_types::{Or, Query, Refusal, Span};
+use hazard_types::{Query, Refusal, Span};
 use httparse::spans::{EMPTY_HEADER_SPAN, HeaderSpan, RequestSpans};
 use std::alloc::Global;
 
@@ -65,7 +66,7 @@ fn answer_to(size: usize, total: usize, wanted: &Wanted) -> HttpRead
 
 /// The answer to a whole head within the limits, among `total` bytes.
 fn answer(
-    alloc: Global,
+    routes: &Routes,
     front: &[u8],
     total: usize,
     spans: &RequestSpans,
@@ -74,12 +75,11 @@ fn answer(
     requires within { IsRequestWithin front.now headers.now spans.now }
     requires target { IsUtf8 (span_bytes front.now spans.now.path) }
     requires total { length front.now ≤ total }
-    ensures { (result ≡ answer_to spans.now.len total (wanted_at front.now headers.now spans.now)) ⊎ (result ≡ HttpRead.OutOfMemory) }
+    ensures { result ≡ answer_to spans.now.len total (wanted_at front.now headers.now spans.now) }
 {
-    match want_of(alloc, front, spans, headers) {
+    match want_of(routes, front, spans, headers) {
         Ok(wanted) => answer_to(spans.len, total, &wanted),
-        Err(Or::No(refusal)) => HttpRead::Refused(refusal),
-        Err(Or::OutOfMemory) => HttpRead::OutOfMemory,
+        Err(refusal) => HttpRead::Refused(refusal),
     }
 }
 
@@ -99,13 +99,13 @@ fn front_of(bytes: &[u8]) -> &[u8]
 /// Reads the call at the front of a link's bytes: a head of at most 8,192 bytes and 32 fields, and a
 /// body of at most 65,536 bytes. The body of a `POST` lies in `bytes`; one sent with a `GET` is passed
 /// over. Refused are F1 to F6, in that order; where F1 and F2 both hold, either comes.
-pub fn read_call(alloc: Global, bytes: &[u8]) -> HttpRead
+pub fn read_call(alloc: Global, routes: &Routes, bytes: &[u8]) -> HttpRead
     ensures { IsAnswer bytes.now result }
 {
     let front = front_of(bytes);
     let mut headers = [EMPTY_HEADER_SPAN; MOST_FIELDS];
     match read_head(alloc, front, &mut headers) {
-        Head::Whole(spans) => answer(alloc, front, bytes.len(), &spans, &headers),
+        Head::Whole(spans) => answer(routes, front, bytes.len(), &spans, &headers),
         Head::More => HttpRead::More,
         Head::Bad => HttpRead::Refused(Refusal::BadHead),
         Head::TooLong => HttpRead::Refused(Refusal::HeadTooLong),
@@ -137,21 +137,21 @@ fn stated_by(front: &[u8], spans: &RequestSpans, headers: &[HeaderSpan]) -> Stat
     stated_length(front, &headers[..spans.headers])
 }
 
-/// How many more bytes there must be at least before an unfinished call can be whole: those that are
-/// missing of its body, where its head is whole, or else 1. It takes no memory.
-pub fn still_wants(bytes: &[u8]) -> usize
-    ensures some { 0 < result }
-    ensures head { IsCutHead bytes.now → result ≡ 1 }
-    ensures body { (cut : IsCutBody bytes.now) → length bytes.now + result ≡ length (print_request cut.head) + cut.wants.body }
-    ensures fewer { IsUnfinished bytes.now → (more : List ℕ) → length more < result → IsUnfinished (bytes.now ++ more) }
+/// How many more bytes there must be at least before an unfinished call with a whole head can be
+/// whole: those that are missing of its body. None where its head is not whole. It takes no memory.
+pub fn still_wants(bytes: &[u8]) -> Option<usize>
+    ensures some { IfSome result (λ n. 0 < n) }
+    ensures head { IsCutHead bytes.now → result ≡ None }
+    ensures body { (cut : IsCutBody bytes.now) → (n : ℕ) × (result ≡ Some n) × (length bytes.now + n ≡ length (print_request cut.head) + cut.wants.body) }
+    ensures fewer { IsUnfinished bytes.now → (n : ℕ) (more : List ℕ) → result ≡ Some n → length more < n → IsUnfinished (bytes.now ++ more) }
 {
     let front = front_of(bytes);
     let mut headers = [EMPTY_HEADER_SPAN; MOST_FIELDS];
     match whole_head(front, &mut headers) {
         Some(spans) => {
             let stated = stated_by(front, &spans, &headers);
-            missing(spans.len, bytes.len(), stated)
+            Some(missing(spans.len, bytes.len(), stated))
         }
-        None => 1,
+        None => None,
     }
 }

@@ -1,6 +1,6 @@
 //! The routes, over matchit's router.
 ghost use Rattle.std.specs.Prelude.{◌≡◌, IfOk};
-ghost use Rattle.warn_http.specs.Routes.{desk_routes, number_behind, aim_at, aim_of, method_of};
+ghost use Rattle.warn_http.specs.Routes.{desk_routes, number_behind, aim_at, method_of};
 
 use crate::numbers::{Number, number_of};
 use hazard_types::Query;
@@ -25,7 +25,7 @@ pub enum Aim {
     Look(Query),
 }
 
-/// The desk's routes.
+/// The table of the desk's routes.
 pub fn routes(alloc: Global) -> Result<Router<Place>, InsertError>
     ensures table { IfOk result (λ router. router ≡ desk_routes) }
 {
@@ -86,7 +86,8 @@ fn preview_at(path: &[u8]) -> Option<Aim>
     }
 }
 
-fn aim_at(place: Place, path: &[u8]) -> Option<Aim>
+/// What a path asks for that has this place of the table.
+pub fn aim_at(place: Place, path: &[u8]) -> Option<Aim>
     ensures { result ≡ aim_at place path.now }
 {
     match place {
@@ -96,18 +97,6 @@ fn aim_at(place: Place, path: &[u8]) -> Option<Aim>
         Place::After => after_at(path),
         Place::Draft => draft_at(path),
         Place::Preview => preview_at(path),
-    }
-}
-
-/// What a request target asks for; None where it has no route, or no number below 2^32.
-#[tactic(auto, unfolding(crate::specs::Routes::aim_of))]
-pub fn aim_of(router: &Router<Place>, path: &str) -> Option<Aim>
-    requires { router.now ≡ desk_routes }
-    ensures { result ≡ aim_of path.now }
-{
-    match router.at(path) {
-        Ok(found) => aim_at(*found.value, path.as_bytes()),
-        Err(_) => None,
     }
 }
 

@@ -1,15 +1,14 @@
 //! What the head of a call wants.
 ghost use Rattle.std.specs.Prelude.{◌≡◌, IsUtf8};
 ghost use Rattle.httparse.specs.Spans.{IsRequestWithin, span_bytes};
-ghost use Rattle.hazard_types.specs.Given.{Gives};
 ghost use Rattle.warn_http.specs.Wants.{sized, framed, with_method, judged, wanted};
 ghost use Rattle.warn_http.specs.Readings.{wanted_at};
 
 use crate::fields::{Stated, closes, has_field, stated_length};
-use crate::routes::{Aim, aim_of, method_of, routes};
-use hazard_types::{Or, Refusal};
+use crate::routes::{Aim, method_of};
+use crate::table::Routes;
+use hazard_types::Refusal;
 use httparse::spans::{HeaderSpan, RequestSpans};
-use std::alloc::Global;
 use std::str;
 
 /// What a head asks for, how many bytes of body follow, and whether the link closes after it.
@@ -82,18 +81,15 @@ fn judged(
 /// What the parts of a head want that the spans cover.
 #[tactic(auto, unfolding(crate::specs::Wants::wanted))]
 pub fn want_of(
-    alloc: Global,
+    routes: &Routes,
     front: &[u8],
     spans: &RequestSpans,
     headers: &[HeaderSpan],
-) -> Result<Wanted, Or<Refusal>>
+) -> Result<Wanted, Refusal>
     requires within { IsRequestWithin front.now headers.now spans.now }
     requires target { IsUtf8 (span_bytes front.now spans.now.path) }
-    ensures { Gives result (wanted_at front.now headers.now spans.now) }
+    ensures { result ≡ wanted_at front.now headers.now spans.now }
 {
-    let Ok(router) = routes(alloc) else {
-        return Err(Or::OutOfMemory);
-    };
     let Ok(path) = str::from_utf8(spans.path.of(front)) else {
         unreachable!()
     };
@@ -101,10 +97,7 @@ pub fn want_of(
     let method = spans.method.of(front);
     let encoded = has_field(front, fields, b"transfer-encoding");
     let length = stated_length(front, fields);
-    let aim = aim_of(&router, path);
+    let aim = routes.aim_of(path);
     let last = closes(spans.version, front, fields);
-    match judged(method, encoded, length, aim, last) {
-        Ok(wanted) => Ok(wanted),
-        Err(refusal) => Err(Or::No(refusal)),
-    }
+    judged(method, encoded, length, aim, last)
 }

@@ -9,5 +9,8 @@ use std::process::ExitCode;
 use worked_lines::work_lines;
 
 fn main(rt: HostRuntime) -> ExitCode {
-    work_lines(&rt, Script)
+    match Script::new(rt.alloc()) {
+        Ok(script) => work_lines(&rt, script),
+        Err(_) => ExitCode::FAILURE,
+    }
 }

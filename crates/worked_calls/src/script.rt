@@ -2,7 +2,9 @@
 use crate::bytes::{bytes_of, shown};
 use hazard_types::{Oom, Query, Text};
 use std::alloc::{AllocError, Global};
-use warn_http::{BodyKind, Call, HttpRead, is_status, read_call, refusal_status, write_answer};
+use warn_http::{
+    BodyKind, Call, HttpRead, Routes, is_status, read_call, refusal_status, write_answer,
+};
 use worked_lines::{Work, refusal_named};
 
 /// What a call asks for.
@@ -49,11 +51,11 @@ fn goes_on(read: &HttpRead) -> Option<usize> {
 }
 
 /// The calls of a stream of these bytes, and what ends them.
-fn stream_text(alloc: Global, bytes: &[u8]) -> Result<String, AllocError> {
+fn stream_text(alloc: Global, routes: &Routes, bytes: &[u8]) -> Result<String, AllocError> {
     let mut text = String::new(alloc);
     let mut left = bytes;
     for _ in 0..10_000u32 {
-        let read = read_call(alloc, left);
+        let read = read_call(alloc, routes, left);
         let answer = read_text(alloc, &read)?;
         text.push_str(answer.as_str())?;
         let Some(used) = goes_on(&read) else {
@@ -91,9 +93,18 @@ fn answer_text(alloc: Global, words: &str) -> Result<Option<Text>, Oom> {
     Ok(Some(text))
 }
 
-/// The script, of which nothing is kept from one line to the next.
+/// The script, of which nothing but the routes is kept from one line to the next.
 #[derive(Drop)]
-pub struct Script;
+pub struct Script {
+    routes: Routes,
+}
+
+impl Script {
+    pub fn new(alloc: Global) -> Result<Self, Oom> {
+        let routes = Routes::new(alloc)?;
+        Ok(Script { routes })
+    }
+}
 
 impl Work for Script {
     /// What comes of a line.
@@ -101,12 +112,13 @@ impl Work for Script {
         match line.split_once(' ') {
             Some(("read", text)) => {
                 let bytes = bytes_of(alloc, text)?;
-                let answer = read_text(alloc, &read_call(alloc, bytes.as_slice()))?;
+                let read = read_call(alloc, &self.routes, bytes.as_slice());
+                let answer = read_text(alloc, &read)?;
                 Ok(format!(in alloc; "{answer}\n")?)
             }
             Some(("stream", text)) => {
                 let bytes = bytes_of(alloc, text)?;
-                let answer = stream_text(alloc, bytes.as_slice())?;
+                let answer = stream_text(alloc, &self.routes, bytes.as_slice())?;
                 Ok(format!(in alloc; "{answer}\n")?)
             }
             Some(("answer", words)) => match answer_text(alloc, words)? {

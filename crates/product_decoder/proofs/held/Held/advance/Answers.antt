@@ -1,5 +1,5 @@
 -- What the scan finds is given up to the next heading line.
-use Rattle.std.proofs.Common.{◌≡◌, ◌∙◌, List, ℕ, length, drop, Some, refl, ap, sym, subst}
+use Rattle.std.proofs.Common.{◌∙◌, List, ℕ, length, drop, Some, refl, ap, sym, subst}
 use Rattle.std.specs.List.{slice_range}
 use Rattle.product_decoder.specs.Feeding.{IsHeld, IsFound, IsNotFound}
 use Rattle.product_decoder.specs.Holding.{Moves, rest_of}

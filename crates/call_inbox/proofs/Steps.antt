@@ -1,0 +1,33 @@
+-- Reading, step by step, and what is told.
+use Rattle.std.proofs.Common.{◌≡◌, ℕ, List, [], refl, sym, ◌∙◌, append-nil, subst, Option, None, Some, IfNone}
+use Rattle.desk_traits.specs.Streams.{Takes}
+use Rattle.call_inbox.specs.Next.{Tells}
+use Rattle.call_inbox.specs.Reading.{HasRead}
+use Rattle.call_inbox.specs.declared.next.NextCall.{NextCall}
+use Rattle.call_inbox.specs.declared.next.NextCall.TheVariants.{Call, Refused, Closed, Cut, LinkFault, OutOfMemory}
+
+takes_none : (left : Option (List ℕ)) → Takes left left []
+takes_none None = refl
+takes_none (Some rest) = refl
+
+-- nothing was read
+pub read_nothing : (bytes bytes' : List ℕ) (left left' : Option (List ℕ)) → bytes' ≡ bytes → left' ≡ left → HasRead bytes bytes' left left'
+read_nothing bytes bytes' left left' same kept = record {
+  read = [];
+  stands = same ∙ sym (append-nil bytes);
+  takes = subst (λ (l : Option (List ℕ)). Takes left l []) (sym kept) (takes_none left);
+}
+
+-- what is told where less was known of the end and of faults
+pub tells_more : (bytes : List ℕ) (ended failed ended' failed' : Type 0) (next : NextCall) → (ended → ended') → (failed → failed') → Tells bytes ended failed next → Tells bytes ended' failed' next
+tells_more bytes ended failed ended' failed' (Call call used last) e f t = t
+tells_more bytes ended failed ended' failed' (Refused refusal) e f t = t
+tells_more bytes ended failed ended' failed' Closed e f t = (t.0, t.1, e t.2)
+tells_more bytes ended failed ended' failed' Cut e f t = (t.0, t.1, e t.2)
+tells_more bytes ended failed ended' failed' LinkFault e f t = f t
+tells_more bytes ended failed ended' failed' OutOfMemory e f t = t
+
+-- more follows where there is none
+pub none_more : {T : Type 0} (found : Option T) (P Q : Type 0) → (P → Q) → IfNone found P → IfNone found Q
+none_more None P Q f p = f p
+none_more (Some x) P Q f p = p

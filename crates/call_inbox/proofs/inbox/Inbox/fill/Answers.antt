@@ -1,0 +1,37 @@
+use Rattle.std.proofs.Common.{List, ℕ, ◌+◌, ◌++◌, take, drop, ap, ◌∙◌, rules}
+use Rattle.std.specs.Vec.{with_items}
+use Rattle.std.proofs.lemmas.List.{with_items_is, places}
+use Rattle.call_inbox.proofs.Places.{between, between_same, between_more}
+use Rattle.call_inbox.proofs.Steps.{read_nothing}
+use Rattle.call_inbox.proofs.inbox.Inbox.fill.Goals as goal
+
+pub returns-in_err-count-clause-read : goal.returns-in_err-count-clause-read
+returns-in_err-count-clause-read g c =
+    let first = c.self.inside.buffer in
+    let moved = c.places_with_room-start.new.buffer in
+    let filled = c.read_behind.new.buffer in
+    let start = c.places_with_room-start.result.0 in
+    let end = c.places_with_room-start.result.1 in
+    let moved_is = with_items_is first moved (search (rules, places)) in
+    let filled_is = with_items_is (with_items first moved) filled (search (rules, places)) in
+    let stood = c.places_with_room-start.ensures.same ∙ ap (λ (b : List ℕ). between b c.self.inside.start c.self.inside.end) c.as_mut_slice.ensures.value ∙ c.self.view_is in
+    let front = c.read_behind.ensures.front ∙ ap (take end) (c.as_mut_slice-2.ensures.value ∙ moved_is) in
+    read_nothing _ _ _ _ (ap (λ (b : List ℕ). between b start end) filled_is ∙ between_same moved filled start end c.places_with_room-start.ensures.order front ∙ stood) c.in_err-count.ensures.bytes
+
+pub returns-clause-read : goal.returns-clause-read
+returns-clause-read g c =
+    let first = c.self.inside.buffer in
+    let moved = c.places_with_room-start.new.buffer in
+    let filled = c.read_behind.new.buffer in
+    let start = c.places_with_room-start.result.0 in
+    let end = c.places_with_room-start.result.1 in
+    let n = c.in_ok-count.count in
+    let moved_is = with_items_is first moved (search (rules, places)) in
+    let filled_is = with_items_is (with_items first moved) filled (search (rules, places)) in
+    let stood = c.places_with_room-start.ensures.same ∙ ap (λ (b : List ℕ). between b c.self.inside.start c.self.inside.end) c.as_mut_slice.ensures.value ∙ c.self.view_is in
+    let front = c.read_behind.ensures.front ∙ ap (take end) (c.as_mut_slice-2.ensures.value ∙ moved_is) in
+    record {
+      read = take n (drop end filled);
+      stands = ap (λ (b : List ℕ). between b start (end + n)) filled_is ∙ between_more moved filled start end n c.places_with_room-start.ensures.order front ∙ ap (λ (b : List ℕ). b ++ take n (drop end filled)) stood;
+      takes = c.in_ok-count.ensures.bytes.1;
+    }

@@ -1,0 +1,123 @@
+//! What was read from a link and not yet used.
+ghost use Rattle.std.specs.Prelude.{◌≡◌, ◌≤◌, ◌<◌, ◌+◌, ◌-◌, [], length, take, drop, IfOk, OnOk};
+ghost use Rattle.desk_traits.specs.Faults.{HasCause};
+ghost use Rattle.desk_traits.specs.Streams.{Reads, IsAtEnd};
+ghost use Rattle.call_inbox.specs.Reading.{HasRead};
+
+use desk_links::Link;
+use desk_traits::Failed;
+use hazard_types::Oom;
+use std::alloc::Global;
+use std::marker::Model;
+
+/// The most bytes of a head.
+pub const MOST_HEAD: usize = 8_192;
+
+/// The most bytes of a body.
+const MOST_BODY: usize = 65_536;
+
+/// The most bytes of a call.
+pub const MOST_CALL: usize = MOST_HEAD + MOST_BODY;
+
+/// The bytes that were read from a link and not yet used, at most 73,728.
+#[derive(Drop)]
+pub struct Inbox {
+    buffer: Vec<u8>,
+    start: usize,
+    end: usize,
+}
+
+impl Model for Inbox {
+    ghost use Rattle.std.specs.Prelude.{◌≡◌, ◌≤◌, ◌-◌, ℕ, List, length, take, drop};
+
+    ghost Value = { List ℕ };
+
+    ghost view = { λ i. take (i.end - i.start) (drop i.start i.buffer.items) };
+
+    ghost invariant = { λ i. (i.start ≤ i.end) × (i.end ≤ 73728) × (length i.buffer.items ≡ 73728) };
+}
+
+impl Inbox {
+    /// An inbox with no bytes. It takes all its memory at once.
+    pub fn new(alloc: Global) -> Result<Self, Oom>
+        ensures { IfOk result (λ inbox. inbox ≡ []) }
+    {
+        let buffer = Vec::from_elem(alloc, 0, MOST_CALL)?;
+        Ok(Inbox {
+            buffer,
+            start: 0,
+            end: 0,
+        })
+    }
+
+    /// The bytes.
+    pub fn as_slice(&self) -> &[u8]
+        ensures { result.now ≡ self.now }
+    {
+        &self.buffer[self.start..self.end]
+    }
+
+    /// Takes so many bytes away, from the front.
+    pub fn skip(&mut self, count: usize)
+        requires { count ≤ length self.old }
+        ensures { self.new ≡ drop count self.old }
+    {
+        self.start += count;
+    }
+
+    /// Reads some bytes of the link behind those that are there, and answers how many: none at the
+    /// end.
+    ///
+    /// # Errors
+    ///
+    /// `Failed` where nothing was read; the link's count of faults rose.
+    pub(crate) fn fill<L: Link>(&mut self, link: &mut L) -> Result<usize, Failed>
+        requires { length self.old < 73728 }
+        ensures read { HasRead self.old self.new (L.Source.left link.old) (L.Source.left link.new) }
+        ensures count { IfOk result (λ n. length self.new ≡ length self.old + n) }
+        ensures end { IfOk result (λ n. n ≡ 0 → IsAtEnd (L.Source.left link.new)) }
+        ensures cause { HasCause (L.Source.faults link.old) (L.Source.faults link.new) result }
+        ensures steady { OnOk result (L.Source.faults link.new ≡ L.Source.faults link.old) }
+        ensures unwritten { L.Sink.taken link.new ≡ L.Sink.taken link.old }
+        ensures write_faults { L.Sink.faults link.new ≡ L.Sink.faults link.old }
+        ensures came { L.came link.new ≡ L.came link.old }
+    {
+        let (start, end) = places_with_room(self.buffer.as_mut_slice(), self.start, self.end);
+        self.start = start;
+        self.end = end;
+        let count = read_behind(link, self.buffer.as_mut_slice(), end)?;
+        self.end = end + count;
+        Ok(count)
+    }
+}
+
+// Moves the bytes between two places to the buffer's front where they stand at its end, and answers
+// between which places they then stand.
+fn places_with_room(buffer: &mut [u8], start: usize, end: usize) -> (usize, usize)
+    requires order { start ≤ end }
+    requires within { end ≤ length buffer.old }
+    requires fewer { end - start < length buffer.old }
+    ensures len { length buffer.new ≡ length buffer.old }
+    ensures order { result.0 ≤ result.1 }
+    ensures room { result.1 < length buffer.new }
+    ensures same { take (result.1 - result.0) (drop result.0 buffer.new) ≡ take (end - start) (drop start buffer.old) }
+{
+    if end < buffer.len() {
+        return (start, end);
+    }
+    buffer.copy_within(start..end, 0);
+    (0, end - start)
+}
+
+// Reads some bytes of the link into the buffer, from a place on.
+fn read_behind<L: Link>(link: &mut L, buffer: &mut [u8], end: usize) -> Result<usize, Failed>
+    requires { end < length buffer.old }
+    ensures len { length buffer.new ≡ length buffer.old }
+    ensures front { take end buffer.new ≡ take end buffer.old }
+    ensures bytes { Reads (L.Source.left link.old) (L.Source.left link.new) result (drop end buffer.new) }
+    ensures cause { HasCause (L.Source.faults link.old) (L.Source.faults link.new) result }
+    ensures steady { OnOk result (L.Source.faults link.new ≡ L.Source.faults link.old) }
+    ensures beside { L.Source.reads link.old link.new }
+{
+    link.read(&mut buffer[end..])
+}

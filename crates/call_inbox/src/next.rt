@@ -1,0 +1,108 @@
+//! The next call of a link.
+ghost use Rattle.std.specs.Prelude.{◌≡◌, ◌≤◌, ◌<◌, length, IfSome, IfNone, ⊤};
+ghost use Rattle.desk_traits.specs.Faults.{Rose};
+ghost use Rattle.desk_traits.specs.Streams.{IsAtEnd};
+ghost use Rattle.warn_http.specs.Calls.{IsUnfinished};
+ghost use Rattle.call_inbox.specs.Next.{Tells, IsSteady};
+ghost use Rattle.call_inbox.specs.Reading.{HasRead};
+
+use crate::inbox::Inbox;
+use crate::watch::Watch;
+use desk_links::Link;
+use desk_traits::Failed;
+use hazard_types::Refusal;
+use std::alloc::Global;
+use warn_http::{Call, HttpRead, Routes, read_call, unfinished_calls_are_short};
+
+/// What comes next on a link.
+#[derive(Clone, Debug, Drop, PartialEq, Eq)]
+pub enum NextCall {
+    /// A whole call: what it asks for, how many bytes its head and body take, and whether the link
+    /// closes after it. Its bytes stand at the front of the inbox, until they are skipped.
+    Call { call: Call, used: usize, last: bool },
+    /// An F rule refuses the call.
+    Refused(Refusal),
+    /// The input has ended, and no byte of a call stands in the inbox.
+    Closed,
+    /// The input has ended in the midst of a call.
+    Cut,
+    /// A read failed.
+    LinkFault,
+    OutOfMemory,
+}
+
+// What is told of the call at the front of the bytes: nothing where it is not whole.
+fn next_in(alloc: Global, routes: &Routes, bytes: &[u8]) -> Option<NextCall>
+    ensures some { IfSome result (Tells bytes.now ⊥ ⊥) }
+    ensures none { IfNone result (IsUnfinished bytes.now) }
+{
+    match read_call(alloc, routes, bytes) {
+        HttpRead::Call { call, used, last } => Some(NextCall::Call { call, used, last }),
+        HttpRead::More => None,
+        HttpRead::Refused(refusal) => Some(NextCall::Refused(refusal)),
+        HttpRead::OutOfMemory => Some(NextCall::OutOfMemory),
+    }
+}
+
+// The same at the input's end.
+fn next_at_end(alloc: Global, routes: &Routes, bytes: &[u8]) -> NextCall
+    ensures { Tells bytes.now ⊤ ⊥ result }
+{
+    match next_in(alloc, routes, bytes) {
+        Some(next) => next,
+        None if bytes.is_empty() => NextCall::Closed,
+        None => NextCall::Cut,
+    }
+}
+
+// The same where it is worth judging: nothing where more bytes are to be read.
+fn next_when_due(
+    alloc: Global,
+    routes: &Routes,
+    bytes: &[u8],
+    watch: &mut Watch,
+) -> Option<NextCall>
+    requires { watch.old.seen ≤ length bytes.now }
+    ensures some { IfSome result (Tells bytes.now ⊥ ⊥) }
+    ensures room { IfNone result (length bytes.now < 73728) }
+    ensures seen { watch.new.seen ≡ length bytes.now }
+{
+    unfinished_calls_are_short();
+    if watch.is_due(bytes) {
+        *watch = Watch::behind(bytes);
+        next_in(alloc, routes, bytes)
+    } else {
+        watch.seen = bytes.len();
+        None
+    }
+}
+
+/// The next call of a link, behind the bytes that were skipped. It reads on until the call at the
+/// front of the inbox is whole or refused, and writes nothing.
+pub fn next_call<L: Link>(
+    alloc: Global,
+    routes: &Routes,
+    inbox: &mut Inbox,
+    link: &mut L,
+) -> NextCall
+    ensures read { HasRead inbox.old inbox.new (L.Source.left link.old) (L.Source.left link.new) }
+    ensures next { Tells inbox.new (IsAtEnd (L.Source.left link.new)) (Rose (L.Source.faults link.old) (L.Source.faults link.new)) result }
+    ensures later { L.Source.faults link.old ≤ L.Source.faults link.new }
+    ensures steady { IsSteady (L.Source.faults link.old) (L.Source.faults link.new) result }
+    ensures unwritten { L.Sink.taken link.new ≡ L.Sink.taken link.old }
+    ensures write_faults { L.Sink.faults link.new ≡ L.Sink.faults link.old }
+    ensures came { L.came link.new ≡ L.came link.old }
+{
+    let mut watch = Watch::new();
+    loop {
+        let next = next_when_due(alloc, routes, inbox.as_slice(), &mut watch);
+        if let Some(next) = next {
+            return next;
+        }
+        match inbox.fill(link) {
+            Ok(0) => return next_at_end(alloc, routes, inbox.as_slice()),
+            Ok(_) => {}
+            Err(Failed) => return NextCall::LinkFault,
+        }
+    }
+}

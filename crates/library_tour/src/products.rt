@@ -1,0 +1,93 @@
+//! Products, read one by one and then together.
+use crate::values::{put_minute, put_place, text_of};
+use hazard_types::{Class, Minute, Oom, Or, Text, read_stamp};
+use product_decoder::{Reader, Track, decode};
+use product_frame::FrameFault;
+use std::alloc::{AllocError, Global};
+
+/// What a product's text says in short, or its first fault.
+fn put_product(alloc: Global, out: &mut String, text: &[u8]) -> Result<(), Oom> {
+    match decode(alloc, text) {
+        Ok(product) => {
+            let identifier = text_of(product.identifier.as_slice());
+            let lines = product.pairs.len();
+            write!(out, "product {identifier}")?;
+            put_minute(out, product.issue)?;
+            writeln!(out, " {lines}")?;
+        }
+        Err(Or::No(fault)) => writeln!(out, "product {fault:?}")?,
+        Err(Or::OutOfMemory) => return Err(Oom),
+    }
+    Ok(())
+}
+
+/// A reader that has taken two products of the office KLWX, or the first fault of the first text that has one.
+fn reader_of(alloc: Global, first: &[u8], second: &[u8]) -> Result<Reader, Or<FrameFault>> {
+    let mut reader = Reader::new(alloc, *b"KLWX", Class::O);
+    let product = decode(alloc, first)?;
+    reader.take(alloc, &product)?;
+    let product = decode(alloc, second)?;
+    reader.take(alloc, &product)?;
+    Ok(reader)
+}
+
+fn put_life(out: &mut String, life: &Track) -> Result<(), AllocError> {
+    out.push_str("life")?;
+    put_place(out, &life.event, &life.zone)?;
+    for step in life.steps.as_slice() {
+        let action = step.0;
+        write!(out, " {action:?}")?;
+        put_minute(out, step.1)?;
+    }
+    out.push('\n')
+}
+
+/// What a reader has found: the life of each event in each zone, the lines in breach, and the rows that are live at a minute.
+fn put_findings(
+    alloc: Global,
+    out: &mut String,
+    reader: &Reader,
+    minute: Minute,
+) -> Result<(), Oom> {
+    for life in reader.lives(alloc)?.as_slice() {
+        put_life(out, life)?;
+    }
+    for found in reader.breaches(alloc)?.as_slice() {
+        let product = found.product;
+        let breach = found.breach;
+        write!(out, "breach {product}")?;
+        put_place(out, &found.event, &found.zone)?;
+        writeln!(out, " {breach:?}")?;
+    }
+    for row in reader.shown(alloc, minute)?.as_slice() {
+        out.push_str("shown")?;
+        put_place(out, &row.event, &row.zone)?;
+        out.push('\n')?;
+    }
+    Ok(())
+}
+
+/// What comes of two products, one by one, and then together.
+fn put_both(
+    alloc: Global,
+    out: &mut String,
+    first: &[u8],
+    second: &[u8],
+) -> Result<(), Or<FrameFault>> {
+    put_product(alloc, out, first)?;
+    put_product(alloc, out, second)?;
+    let reader = reader_of(alloc, first, second)?;
+    if let Some(minute) = read_stamp(b"180103T1700Z") {
+        put_findings(alloc, out, &reader, minute)?;
+    }
+    Ok(())
+}
+
+/// What comes of a text that is no product, and of the first two texts.
+pub fn put_products(alloc: Global, out: &mut String, texts: &[Text]) -> Result<(), Or<FrameFault>> {
+    put_product(alloc, out, b"no product\n")?;
+    match texts {
+        [first, second, ..] => put_both(alloc, out, first.as_slice(), second.as_slice()),
+        _ => Ok(()),
+    }
+}

@@ -1,0 +1,4 @@
+mod Going
+mod Serving
+mod Calling
+mod Working

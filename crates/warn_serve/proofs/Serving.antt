@@ -1,0 +1,139 @@
+-- What one call makes of a link: it goes on, or it ends.
+use Rattle.std.proofs.Common.{ℕ, ◌≡◌, ◌≤◌, inl, inr, true, List, [], ◌++◌, drop, refl, ap, sym, ◌∙◌, subst, arith, Option, None, Some}
+use Rattle.std.proofs.lemmas.Bool.{false≢true}
+use Rattle.desk_traits.specs.Faults.{Rose}
+use Rattle.desk_traits.specs.Streams.{Adds, Takes}
+use Rattle.hazard_types.specs.declared.refusal.Refusal.{Refusal}
+use Rattle.warn_http.specs.Calls.{Called, IsCall, IsRefused, LiesIn}
+use Rattle.warn_http.specs.declared.read.Call.{Call}
+use Rattle.warn_http.specs.declared.read.Call.TheVariants.{Post, Look}
+use Rattle.warn_serve.specs.Answers.{refused_answer}
+use Rattle.warn_serve.specs.Links.{EndsSo, HasCount, HasEnded, HasFailed, IsLater, LinkState}
+use Rattle.warn_serve.specs.Steps.{IsUnwritten, Sends, ServesNext, StopsSo, WritesAlone}
+use Rattle.warn_serve.specs.declared.links.LinkEnd.{LinkEnd}
+use Rattle.warn_serve.specs.declared.links.LinkEnd.TheVariants.{Closed, Cut, Spent, LinkFault, OutOfMemory}
+use Rattle.warn_serve.proofs.Going.{adds_none}
+
+-- a body that lies in a call lies in the bytes of which it is a front
+pub lies_in : (used size : ℕ) (call : Call) → used ≤ size → LiesIn used call → LiesIn size call
+lies_in used size (Post span) within lies = (lies.0, (let l = lies.1 in omega arith))
+lies_in used size (Look query) within lies = tt
+
+taken_alone : (old mid new : LinkState) (written : List ℕ) → IsUnwritten old mid → WritesAlone mid new written → Adds old.taken new.taken written
+taken_alone old mid new written a b = subst (λ (t : Option (List ℕ)). Adds t new.taken written) a.taken b.adds
+
+left_alone : (old mid new : LinkState) (read written : List ℕ) → Takes old.left mid.left read → WritesAlone mid new written → Takes old.left new.left read
+left_alone old mid new read written t b = subst (λ (l : Option (List ℕ)). Takes old.left l read) (sym b.left) t
+
+later_alone : (old mid new : LinkState) (written : List ℕ) → IsUnwritten old mid → WritesAlone mid new written → IsLater old new
+later_alone old mid new written a b = record {
+  came = b.came ∙ a.came;
+  reads = (let r = a.later in let s = b.reads in omega arith);
+  writes = (let w = a.writes in let l = b.later in omega arith);
+}
+
+failed_alone : (old mid new : LinkState) → IsUnwritten old mid → HasFailed mid new → HasFailed old new
+failed_alone old mid new a failed = let r = a.later in let w = a.writes in omega arith
+
+-- a read failed
+pub failed_read : (old new : LinkState) → IsUnwritten old new → Rose old.reads new.reads → HasFailed old new
+failed_read old new a rose = let w = a.writes in omega arith
+
+-- a write failed
+pub failed_write : (old new : LinkState) → new.reads ≡ old.reads → Rose old.writes new.writes → HasFailed old new
+failed_write old new reads rose = omega arith
+
+module _ {P : Type 0} (answers : Called → P → P → List ℕ → Type 0) where
+  -- the link ended, and nothing more was judged or written
+  pub ends_at : (old new : LinkState) (pass : P) (held inbox read : List ℕ) (end : LinkEnd)
+      → inbox ≡ held ++ read → Takes old.left new.left read → IsUnwritten old new → HasCount end 0
+      → EndsSo answers (HasEnded new) (HasFailed old new) inbox pass pass [] end → StopsSo answers old new pass pass held end
+  ends_at old new pass held inbox read end stands takes quiet early ends = record {
+    read = read;
+    takes = takes;
+    tail = [];
+    adds = subst (λ (t : Option (List ℕ)). Adds t new.taken []) quiet.taken (adds_none new.taken);
+    early = early;
+    ends = subst (λ (b : List ℕ). EndsSo answers (HasEnded new) (HasFailed old new) b pass pass [] end) stands ends;
+    later = record { came = quiet.came; reads = quiet.later; writes = (let w = quiet.writes in omega arith) };
+  }
+
+  -- an answer was sent to a call
+  pub call_sent : (old mid new : LinkState) (pass pass' : P) (held inbox held' read : List ℕ) (c : Called) (answer : List ℕ) (result : Option LinkEnd)
+      → inbox ≡ held ++ read → Takes old.left mid.left read → IsUnwritten old mid → mid.reads ≡ old.reads
+      → IsCall inbox c → answers c pass pass' answer → held' ≡ drop c.used inbox
+      → Sends mid new answer c.last result → ServesNext answers old new pass pass' held held' result
+  call_sent old mid new pass pass' held inbox held' read c answer None stands takes quiet steady call judged behind sent = record {
+    read = read;
+    takes = left_alone old mid new read answer takes sent.1;
+    answer = answer;
+    one = record { called = c; stands = subst (λ (b : List ℕ). IsCall b c) stands call; judged = judged };
+    stays_open = sent.0;
+    adds = taken_alone old mid new answer quiet sent.1;
+    behind = behind ∙ ap (drop c.used) stands;
+    steady = record { came = sent.1.came ∙ quiet.came; reads = sent.1.reads ∙ steady; writes = sent.2 ∙ quiet.writes };
+  }
+  call_sent old mid new pass pass' held inbox held' read c answer (Some Closed) stands takes quiet steady call judged behind sent = record {
+    read = read;
+    takes = left_alone old mid new read answer takes sent.1;
+    tail = answer;
+    adds = taken_alone old mid new answer quiet sent.1;
+    early = omega arith;
+    ends = inr (inl (record { last_call = record { called = c; stands = subst (λ (b : List ℕ). IsCall b c) stands call; judged = judged }; closes = sent.0 }));
+    later = later_alone old mid new answer quiet sent.1;
+  }
+  call_sent old mid new pass pass' held inbox held' read c answer (Some Cut) stands takes quiet steady call judged behind sent = absurd sent
+  call_sent old mid new pass pass' held inbox held' read c answer (Some Spent) stands takes quiet steady call judged behind sent = absurd sent
+  call_sent old mid new pass pass' held inbox held' read c answer (Some LinkFault) stands takes quiet steady call judged behind sent = record {
+    read = read;
+    takes = left_alone old mid new read sent.1 takes sent.3;
+    tail = sent.1;
+    adds = taken_alone old mid new sent.1 quiet sent.3;
+    early = omega arith;
+    ends = (failed_alone old mid new quiet sent.0, inr (record { answer = answer; front = sent.2; whose = inl (record { called = c; stands = subst (λ (b : List ℕ). IsCall b c) stands call; judged = judged }) }));
+    later = later_alone old mid new sent.1 quiet sent.3;
+  }
+  call_sent old mid new pass pass' held inbox held' read c answer (Some OutOfMemory) stands takes quiet steady call judged behind sent = record {
+    read = read;
+    takes = left_alone old mid new read [] takes sent;
+    tail = [];
+    adds = taken_alone old mid new [] quiet sent;
+    early = omega arith;
+    ends = inr (record { answer = answer; next_call = record { called = c; stands = subst (λ (b : List ℕ). IsCall b c) stands call; judged = judged }; unwritten = refl });
+    later = later_alone old mid new [] quiet sent;
+  }
+
+  -- a refusal was sent
+  pub refusal_sent : (old mid new : LinkState) (pass : P) (held inbox held' read : List ℕ) (broken : Refusal) (result : Option LinkEnd)
+      → inbox ≡ held ++ read → Takes old.left mid.left read → IsUnwritten old mid → IsRefused inbox broken
+      → Sends mid new (refused_answer broken true) true result → ServesNext answers old new pass pass held held' result
+  refusal_sent old mid new pass held inbox held' read broken None stands takes quiet refused sent = absurd (false≢true (sym sent.0))
+  refusal_sent old mid new pass held inbox held' read broken (Some Closed) stands takes quiet refused sent = record {
+    read = read;
+    takes = left_alone old mid new read (refused_answer broken true) takes sent.1;
+    tail = refused_answer broken true;
+    adds = taken_alone old mid new (refused_answer broken true) quiet sent.1;
+    early = omega arith;
+    ends = inr (inr (record { broken = broken; refused = subst (λ (b : List ℕ). IsRefused b broken) stands refused; told = refl; unused = refl }));
+    later = later_alone old mid new (refused_answer broken true) quiet sent.1;
+  }
+  refusal_sent old mid new pass held inbox held' read broken (Some Cut) stands takes quiet refused sent = absurd sent
+  refusal_sent old mid new pass held inbox held' read broken (Some Spent) stands takes quiet refused sent = absurd sent
+  refusal_sent old mid new pass held inbox held' read broken (Some LinkFault) stands takes quiet refused sent = record {
+    read = read;
+    takes = left_alone old mid new read sent.1 takes sent.3;
+    tail = sent.1;
+    adds = taken_alone old mid new sent.1 quiet sent.3;
+    early = omega arith;
+    ends = (failed_alone old mid new quiet sent.0, inr (record { answer = refused_answer broken true; front = sent.2; whose = inr (broken, subst (λ (b : List ℕ). IsRefused b broken) stands refused, refl, refl) }));
+    later = later_alone old mid new sent.1 quiet sent.3;
+  }
+  refusal_sent old mid new pass held inbox held' read broken (Some OutOfMemory) stands takes quiet refused sent = record {
+    read = read;
+    takes = left_alone old mid new read [] takes sent;
+    tail = [];
+    adds = taken_alone old mid new [] quiet sent;
+    early = omega arith;
+    ends = inl (record { unused = refl; unwritten = refl });
+    later = later_alone old mid new [] quiet sent;
+  }

@@ -1,0 +1,141 @@
+-- What is done over a link, whatever answers its calls and whatever that makes of a pass.
+use Rattle.std.specs.Prelude.{◌≡◌, ◌≤◌, ◌<◌, ◌⊎◌, ℕ, true, List, [], ◌∷◌, ◌++◌, length, map, Option}
+use Rattle.hazard_types.specs.declared.refusal.Refusal.{Refusal}
+use mathlib.Core.List.{IsPrefix}
+use Rattle.desk_links.specs.Links.{both_counts}
+use Rattle.desk_traits.specs.Faults.{Rose}
+use Rattle.desk_traits.specs.Streams.{Adds, IsAtEnd, Takes}
+use Rattle.warn_http.specs.Calls.{Called, IsCall, IsCut, IsRefused, IsUnfinished, most_calls}
+use Rattle.warn_serve.specs.Answers.{refused_answer}
+use Rattle.warn_serve.specs.declared.links.LinkEnd.{LinkEnd}
+use Rattle.warn_serve.specs.declared.links.LinkEnd.TheVariants.{Closed, Cut, Spent, LinkFault, OutOfMemory}
+
+-- what a link tells of its bytes, and how many of its reads and of its writes have failed
+pub record LinkState : Type 0 where
+  -- the bytes that came, those read and those left
+  pub came : Option (List ℕ)
+  pub left : Option (List ℕ)
+  pub taken : Option (List ℕ)
+  pub reads : ℕ
+  pub writes : ℕ
+
+-- what a kind of links tells so
+pub record Ways (L : Type 0) : Type 0 where
+  pub came : L → Option (List ℕ)
+  pub left : L → Option (List ℕ)
+  pub taken : L → Option (List ℕ)
+  pub reads : L → ℕ
+  pub writes : L → ℕ
+
+abbrev pub ways : {L : Type 0} → (L → Option (List ℕ)) → (L → Option (List ℕ)) → (L → Option (List ℕ)) → (L → ℕ) → (L → ℕ) → Ways L
+ways came left taken reads writes = record { came = came; left = left; taken = taken; reads = reads; writes = writes }
+
+abbrev pub state_of : {L : Type 0} → Ways L → L → LinkState
+state_of w link = record { came = w.came link; left = w.left link; taken = w.taken link; reads = w.reads link; writes = w.writes link }
+
+-- its input has ended
+abbrev pub HasEnded : LinkState → Type 0
+HasEnded link = IsAtEnd link.left
+
+-- its count of faults has risen
+abbrev pub HasFailed : LinkState → LinkState → Type 0
+HasFailed old new = Rose (both_counts old.reads old.writes) (both_counts new.reads new.writes)
+
+-- nothing else came, and no count has fallen
+pub record IsLater (old new : LinkState) : Type 0 where
+  pub came : new.came ≡ old.came
+  pub reads : old.reads ≤ new.reads
+  pub writes : old.writes ≤ new.writes
+
+-- a call, and the answer that was written to it
+pub record Said : Type 0 where
+  pub called : Called
+  pub answer : List ℕ
+
+abbrev pub calls_of : List Said → List Called
+calls_of said = map (λ s. s.called) said
+
+-- the answers, one after another
+abbrev pub answers_of : List Said → List ℕ
+answers_of [] = []
+answers_of (s ∷ said) = s.answer ++ answers_of said
+
+-- how many calls were answered before a link ended so: its most, or fewer
+abbrev pub HasCount : LinkEnd → ℕ → Type 0
+HasCount Closed n = n < most_calls
+HasCount Cut n = n < most_calls
+HasCount Spent n = n ≡ most_calls
+HasCount LinkFault n = n < most_calls
+HasCount OutOfMemory n = n < most_calls
+
+module _ {P : Type 0} (answers : Called → P → P → List ℕ → Type 0) where
+  -- the calls are answered so, one after another
+  abbrev pub Answered : P → List Said → P → Type 0
+  Answered old [] new = new ≡ old
+  Answered old (s ∷ said) new = (mid : P) × answers s.called old mid s.answer × Answered mid said new
+
+  -- the call at the front of the bytes is judged so
+  pub record IsJudged (rest : List ℕ) (mid new : P) (answer : List ℕ) : Type 0 where
+    pub called : Called
+    pub stands : IsCall rest called
+    pub judged : answers called mid new answer
+
+  -- Why the link ended, behind the calls that were answered and left it open: `rest` are the bytes behind them, and `tail` is what was written behind their answers.
+  module _ (at_end failed : Type 0) (rest : List ℕ) (mid new : P) (tail : List ℕ) where
+    -- nothing more was judged or written
+    pub record IsAll : Type 0 where
+      pub unused : new ≡ mid
+      pub unwritten : tail ≡ []
+
+    -- one call more was answered, after which the link closes
+    pub record IsClosing : Type 0 where
+      pub last_call : IsJudged rest mid new tail
+      pub closes : last_call.called.last ≡ true
+
+    -- the call at the front is refused, and this is told
+    pub record IsRefusing : Type 0 where
+      pub broken : Refusal
+      pub refused : IsRefused rest broken
+      pub told : tail ≡ refused_answer broken true
+      pub unused : new ≡ mid
+
+    -- a front of one answer more was written, to a call or to one that is refused
+    pub record IsBroken : Type 0 where
+      pub answer : List ℕ
+      pub front : IsPrefix tail answer
+      pub whose : IsJudged rest mid new answer ⊎ ((broken : Refusal) × IsRefused rest broken × (answer ≡ refused_answer broken true) × (new ≡ mid))
+
+    -- one call more was judged, and memory lacked for its answer
+    pub record IsUnanswered : Type 0 where
+      pub answer : List ℕ
+      pub next_call : IsJudged rest mid new answer
+      pub unwritten : tail ≡ []
+
+    abbrev pub EndsSo : LinkEnd → Type 0
+    EndsSo Closed = (at_end × (rest ≡ []) × IsUnfinished rest × IsAll) ⊎ (IsClosing ⊎ IsRefusing)
+    EndsSo Cut = at_end × (0 < length rest) × IsUnfinished rest × IsAll
+    EndsSo Spent = IsAll
+    EndsSo LinkFault = failed × (IsAll ⊎ IsBroken)
+    EndsSo OutOfMemory = IsAll ⊎ IsUnanswered
+
+  -- What is done over a link of which `read` was read and on which `written` was written. `at_end` says that the input has ended, `failed` that the link has failed.
+  pub record IsLinkRun (at_end failed : Type 0) (read written : List ℕ) (old new : P) (end : LinkEnd) : Type 0 where
+    -- the calls that were answered, after each of which the link stayed open
+    pub said : List Said
+    pub rest : List ℕ
+    pub mid : P
+    pub tail : List ℕ
+    pub cut : IsCut read (calls_of said) rest
+    pub answered : Answered old said mid
+    pub told : written ≡ answers_of said ++ tail
+    pub count : HasCount end (length said)
+    pub ends : EndsSo at_end failed rest mid new tail end
+
+  -- all that is done over a link
+  pub record IsServedLink (old new : LinkState) (pass pass' : P) (end : LinkEnd) : Type 0 where
+    pub read : List ℕ
+    pub written : List ℕ
+    pub takes : Takes old.left new.left read
+    pub adds : Adds old.taken new.taken written
+    pub run : IsLinkRun (HasEnded new) (HasFailed old new) read written pass pass' end
+    pub later : IsLater old new

@@ -1,0 +1,190 @@
+//! The calls of one link.
+ghost use Rattle.std.specs.Prelude.{◌≡◌, ◌≤◌, ℕ, List, [], OnOk, length, take, true};
+ghost use Rattle.desk_traits.specs.Faults.{HasCause};
+ghost use Rattle.desk_traits.specs.Streams.{Adds};
+ghost use Rattle.turn_lock.specs.Passes.{KeepsRights};
+ghost use Rattle.warn_http.specs.Calls.{LiesIn, posted_in};
+ghost use Rattle.warn_serve.specs.Answers.{bytes_of, refused_answer};
+ghost use Rattle.warn_serve.specs.Calls.{AnswersAsked, AnswersCall};
+ghost use Rattle.warn_serve.specs.Links.{IsServedLink, state_of, ways};
+ghost use Rattle.warn_serve.specs.Steps.{Sends, ServesNext};
+ghost use Rattle.warn_serve.specs.Wholes.{AnswersLink, IsWhole};
+
+use crate::answers::{AnswerBytes, refused_answer};
+use crate::calls::answer_call;
+use call_inbox::{Inbox, NextCall, next_call};
+use desk_links::{Gate, Link};
+use desk_traits::{Clock, Disk, Failed, write_whole};
+use hazard_types::{Oom, Refusal};
+use office_turns::SharedOffice;
+use std::alloc::Global;
+use std::sync::Wait;
+use turn_lock::{Pass, TurnLock};
+use warn_http::{Call, Routes};
+
+/// The most calls that a link serves.
+pub const MOST_CALLS: u64 = 10_000;
+
+/// How a link ended.
+#[derive(Clone, Copy, Debug, PartialEq, Eq)]
+pub enum LinkEnd {
+    /// The input ended between calls, a call asked to close, or one was refused.
+    Closed,
+    /// The input ended within a call.
+    Cut,
+    /// The most calls were served, of which none closed the link.
+    Spent,
+    /// A read or a write failed.
+    LinkFault,
+    OutOfMemory,
+}
+
+/// Writes an answer, or a front of it before a fault.
+fn send<L: Link>(link: &mut L, answer: &AnswerBytes) -> Result<(), Failed>
+    ensures whole { OnOk result (Adds (L.Sink.taken link.old) (L.Sink.taken link.new) (bytes_of answer.now)) }
+    ensures front { (n : ℕ) × (n ≤ length (bytes_of answer.now)) × Adds (L.Sink.taken link.old) (L.Sink.taken link.new) (take n (bytes_of answer.now)) }
+    ensures cause { HasCause (L.Sink.faults link.old) (L.Sink.faults link.new) result }
+    ensures steady { OnOk result (L.Sink.faults link.new ≡ L.Sink.faults link.old) }
+    ensures unread { L.Source.left link.new ≡ L.Source.left link.old }
+    ensures reads { L.Source.faults link.new ≡ L.Source.faults link.old }
+    ensures came { L.came link.new ≡ L.came link.old }
+{
+    write_whole(link, answer.as_slice())
+}
+
+/// Writes an answer, after which the link closes or stays open.
+fn finish<L: Link>(link: &mut L, answer: &AnswerBytes, last: bool) -> Option<LinkEnd>
+    ensures { Sends (state_of (ways L.came L.left L.taken L.Source.faults L.Sink.faults) link.old) (state_of (ways L.came L.left L.taken L.Source.faults L.Sink.faults) link.new) (bytes_of answer.now) last result }
+{
+    match send(link, answer) {
+        Ok(()) if last => Some(LinkEnd::Closed),
+        Ok(()) => None,
+        Err(Failed) => Some(LinkEnd::LinkFault),
+    }
+}
+
+/// Tells that the call at the front is refused, after which the link closes.
+fn refuse<L: Link>(alloc: Global, link: &mut L, refusal: Refusal) -> Option<LinkEnd>
+    ensures { Sends (state_of (ways L.came L.left L.taken L.Source.faults L.Sink.faults) link.old) (state_of (ways L.came L.left L.taken L.Source.faults L.Sink.faults) link.new) (refused_answer refusal true) true result }
+{
+    match refused_answer(alloc, refusal, true) {
+        Ok(answer) => finish(link, &answer, true),
+        Err(Oom) => Some(LinkEnd::OutOfMemory),
+    }
+}
+
+/// Answers a call, whose body lies in `bytes`: the end of the link, or nothing where it stays open.
+fn serve_call<R: Wait, D: Disk, L: Link, C: Clock>(
+    rt: &R,
+    alloc: Global,
+    lock: &TurnLock<SharedOffice<D>>,
+    pass: &mut Pass<SharedOffice<D>>,
+    link: &mut L,
+    clock: &C,
+    bytes: &[u8],
+    call: Call,
+    last: bool,
+) -> Option<LinkEnd>
+    requires pass { pass.old.lock ≡ lock.now }
+    requires within { LiesIn (length bytes.now) call }
+    ensures kept { KeepsRights pass.old pass.new }
+    ensures sent { (answer : List ℕ) × AnswersAsked last pass.old pass.new answer (C.gives clock.now) call (posted_in bytes.now call)
+        × Sends (state_of (ways L.came L.left L.taken L.Source.faults L.Sink.faults) link.old) (state_of (ways L.came L.left L.taken L.Source.faults L.Sink.faults) link.new) answer last result }
+{
+    match answer_call(rt, alloc, lock, pass, clock, bytes, call, last) {
+        Ok(answer) => finish(link, &answer, last),
+        Err(Oom) => Some(LinkEnd::OutOfMemory),
+    }
+}
+
+/// Reads and answers the next call of a link, number `number`: the end of the link, or nothing where
+/// it stays open.
+fn serve_next<R: Wait, D: Disk, L: Link, C: Clock, G: Gate>(
+    rt: &R,
+    alloc: Global,
+    lock: &TurnLock<SharedOffice<D>>,
+    pass: &mut Pass<SharedOffice<D>>,
+    routes: &Routes,
+    inbox: &mut Inbox,
+    link: &mut L,
+    clock: &C,
+    gate: &G,
+    number: u64,
+) -> Option<LinkEnd>
+    requires pass { pass.old.lock ≡ lock.now }
+    ensures kept { KeepsRights pass.old pass.new }
+    ensures served { ServesNext (AnswersCall (C.gives clock.now)) (state_of (ways L.came L.left L.taken L.Source.faults L.Sink.faults) link.old) (state_of (ways L.came L.left L.taken L.Source.faults L.Sink.faults) link.new) pass.old pass.new inbox.old inbox.new result }
+{
+    match next_call(alloc, routes, inbox, link) {
+        NextCall::Call { call, used, last } => {
+            gate.enter(number);
+            let bytes = inbox.as_slice();
+            let end = serve_call(rt, alloc, lock, pass, link, clock, bytes, call, last);
+            gate.leave(number);
+            inbox.skip(used);
+            end
+        }
+        NextCall::Refused(refusal) => refuse(alloc, link, refusal),
+        NextCall::Closed => Some(LinkEnd::Closed),
+        NextCall::Cut => Some(LinkEnd::Cut),
+        NextCall::LinkFault => Some(LinkEnd::LinkFault),
+        NextCall::OutOfMemory => Some(LinkEnd::OutOfMemory),
+    }
+}
+
+/// Serves the calls of a link, from its first one on.
+fn serve_calls<R: Wait, D: Disk, L: Link, C: Clock, G: Gate>(
+    rt: &R,
+    alloc: Global,
+    lock: &TurnLock<SharedOffice<D>>,
+    pass: &mut Pass<SharedOffice<D>>,
+    routes: &Routes,
+    inbox: &mut Inbox,
+    link: &mut L,
+    clock: &C,
+    gate: &G,
+) -> LinkEnd
+    requires pass { pass.old.lock ≡ lock.now }
+    requires empty { inbox.old ≡ [] }
+    ensures kept { KeepsRights pass.old pass.new }
+    ensures served { IsServedLink (AnswersCall (C.gives clock.now)) (state_of (ways L.came L.left L.taken L.Source.faults L.Sink.faults) link.old) (state_of (ways L.came L.left L.taken L.Source.faults L.Sink.faults) link.new) pass.old pass.new result }
+{
+    for index in 0..MOST_CALLS {
+        let number = index + 1;
+        match serve_next(
+            rt, alloc, lock, pass, routes, inbox, link, clock, gate, number,
+        ) {
+            None => {}
+            Some(end) => return end,
+        }
+    }
+    LinkEnd::Spent
+}
+
+/// Serves a link: reads its calls, at most 10,000, answers each in a turn at the office, at a reading
+/// of the clock of its own, and tells how the link ended. The gate is told of each call, by its number
+/// from 1 on. What is answered for a disk fault, and for want of memory, takes no memory.
+pub fn serve_link<R: Wait, D: Disk, L: Link, C: Clock, G: Gate>(
+    rt: &R,
+    alloc: Global,
+    lock: &TurnLock<SharedOffice<D>>,
+    pass: &mut Pass<SharedOffice<D>>,
+    link: &mut L,
+    clock: &C,
+    gate: &G,
+) -> LinkEnd
+    requires pass { pass.old.lock ≡ lock.now }
+    ensures kept { KeepsRights pass.old pass.new }
+    ensures whole { IsWhole result → AnswersLink (AnswersCall (C.gives clock.now)) (state_of (ways L.came L.left L.taken L.Source.faults L.Sink.faults) link.old) (state_of (ways L.came L.left L.taken L.Source.faults L.Sink.faults) link.new) pass.old pass.new }
+    ensures served { IsServedLink (AnswersCall (C.gives clock.now)) (state_of (ways L.came L.left L.taken L.Source.faults L.Sink.faults) link.old) (state_of (ways L.came L.left L.taken L.Source.faults L.Sink.faults) link.new) pass.old pass.new result }
+{
+    let Ok(mut inbox) = Inbox::new(alloc) else {
+        return LinkEnd::OutOfMemory;
+    };
+    let Ok(routes) = Routes::new(alloc) else {
+        return LinkEnd::OutOfMemory;
+    };
+    serve_calls(
+        rt, alloc, lock, pass, &routes, &mut inbox, link, clock, gate,
+    )
+}
