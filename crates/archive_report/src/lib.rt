@@ -16,6 +16,5 @@ mod texts;
 mod words;
 
 pub use archive::archive_within;
-pub use words::{Asked, asked_of};
 pub use laws::what_is_told_begins_the_report;
 pub use words::{Asked, asked_of};

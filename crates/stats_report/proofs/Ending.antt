@@ -42,29 +42,69 @@ module _ (asked : Asked) (limit : ℕ) (left left' taken : Option (List ℕ)) (t
   -- the run stopped while the input was read
   pub ends_reading : {T : Type 0} (why : Stop) → ReadsTo {T = T} asked limit left left' tally (Err why) → TellsTo {T = T} asked limit left left' taken taken (Err why)
   ends_reading stop.Read t = record {
-    read = t.read; text = []; written = []; takes = t.takes; adds = adds_none taken; within = t.within; ended = tt;
-    read_fault = λ e. (t.read_fault e, refl); too_long = λ e. absurd (cc); no_memory = λ e. absurd (cc); write_fault = λ e. absurd (cc);
-    begins = none_begins; whole = λ _. refl;
+    read = t.read;
+    text = [];
+    written = [];
+    takes = t.takes;
+    adds = adds_none taken;
+    within = t.within;
+    ended = tt;
+    read_fault = λ e. (t.read_fault e, refl);
+    too_long = λ e. absurd (cc);
+    no_memory = λ e. absurd (cc);
+    write_fault = λ e. absurd (cc);
+    begins = none_begins;
+    whole = λ _. refl;
   }
   ends_reading stop.Write t = absurd (t.unwritten refl)
   ends_reading stop.TooLong t = record {
-    read = t.read; text = []; written = []; takes = t.takes; adds = adds_none taken; within = t.within; ended = tt;
-    read_fault = λ e. absurd (cc); too_long = λ e. (t.too_long e, refl); no_memory = λ e. absurd (cc); write_fault = λ e. absurd (cc);
-    begins = none_begins; whole = λ _. refl;
+    read = t.read;
+    text = [];
+    written = [];
+    takes = t.takes;
+    adds = adds_none taken;
+    within = t.within;
+    ended = tt;
+    read_fault = λ e. absurd (cc);
+    too_long = λ e. (t.too_long e, refl);
+    no_memory = λ e. absurd (cc);
+    write_fault = λ e. absurd (cc);
+    begins = none_begins;
+    whole = λ _. refl;
   }
   ends_reading stop.OutOfMemory t = record {
-    read = t.read; text = []; written = []; takes = t.takes; adds = adds_none taken; within = t.within; ended = tt;
-    read_fault = λ e. absurd (cc); too_long = λ e. absurd (cc); no_memory = λ _. refl; write_fault = λ e. absurd (cc);
-    begins = none_begins; whole = λ _. refl;
+    read = t.read;
+    text = [];
+    written = [];
+    takes = t.takes;
+    adds = adds_none taken;
+    within = t.within;
+    ended = tt;
+    read_fault = λ e. absurd (cc);
+    too_long = λ e. absurd (cc);
+    no_memory = λ _. refl;
+    write_fault = λ e. absurd (cc);
+    begins = none_begins;
+    whole = λ _. refl;
   }
 
   module _ {T : Type 0} (x : T) (t : ReadsTo {T = T} asked limit left left' tally (Ok x)) where
     -- memory lacked for the text
     pub ends_texting : {U : Type 0} → TellsTo {T = U} asked limit left left' taken taken (Err stop.OutOfMemory)
     ends_texting = record {
-      read = t.read; text = []; written = []; takes = t.takes; adds = adds_none taken; within = t.within; ended = tt;
-      read_fault = λ e. absurd (cc); too_long = λ e. absurd (cc); no_memory = λ _. refl; write_fault = λ e. absurd (cc);
-      begins = none_begins; whole = λ _. refl;
+      read = t.read;
+      text = [];
+      written = [];
+      takes = t.takes;
+      adds = adds_none taken;
+      within = t.within;
+      ended = tt;
+      read_fault = λ e. absurd (cc);
+      too_long = λ e. absurd (cc);
+      no_memory = λ _. refl;
+      write_fault = λ e. absurd (cc);
+      begins = none_begins;
+      whole = λ _. refl;
     }
 
     module _ (text : List ℕ) (taken' : Option (List ℕ)) (is : text ≡ stats_text tally.stamp tally.reader.products tally.faults) where
@@ -73,16 +113,36 @@ module _ (asked : Asked) (limit : ℕ) (left left' taken : Option (List ℕ)) (t
 
       pub ends_whole : {U : Type 0} (u : U) → Adds taken taken' text → TellsTo asked limit left left' taken taken' (Ok u)
       ends_whole u adds = record {
-        read = t.read; text = text; written = text; takes = t.takes; adds = adds; within = t.within; ended = (t.ended.0, t.ended.1, whole_is);
-        read_fault = λ e. absurd (cc); too_long = λ e. absurd (cc); no_memory = λ e. absurd (cc); write_fault = λ e. absurd (cc);
-        begins = begins_self text; whole = λ _. refl;
+        read = t.read;
+        text = text;
+        written = text;
+        takes = t.takes;
+        adds = adds;
+        within = t.within;
+        ended = (t.ended.0, t.ended.1, whole_is);
+        read_fault = λ e. absurd (cc);
+        too_long = λ e. absurd (cc);
+        no_memory = λ e. absurd (cc);
+        write_fault = λ e. absurd (cc);
+        begins = begins_self text;
+        whole = λ _. refl;
       }
 
       pub ends_writing : {U : Type 0} (front : List ℕ) → Begins front text → Adds taken taken' front → TellsTo {T = U} asked limit left left' taken taken' (Err stop.Write)
       ends_writing front begins adds = record {
-        read = t.read; text = text; written = front; takes = t.takes; adds = adds; within = t.within; ended = tt;
-        read_fault = λ e. absurd (cc); too_long = λ e. absurd (cc); no_memory = λ e. absurd (cc); write_fault = λ _. (t.ended.0, t.ended.1, whole_is);
-        begins = begins; whole = λ no. absurd (no refl);
+        read = t.read;
+        text = text;
+        written = front;
+        takes = t.takes;
+        adds = adds;
+        within = t.within;
+        ended = tt;
+        read_fault = λ e. absurd (cc);
+        too_long = λ e. absurd (cc);
+        no_memory = λ e. absurd (cc);
+        write_fault = λ _. (t.ended.0, t.ended.1, whole_is);
+        begins = begins;
+        whole = λ no. absurd (no refl);
       }
 
 eight : (status : ℕ) → (status ≡ 8) ⊎ (status ≢ 8)

@@ -204,8 +204,7 @@ module _ (stamp from : ℕ) (products : List Product) (p : Product) (is : from �
       let own_minutes = ap (λ (e : Event). minutes_of stamp products e after.row.zone) event_is ∙ ap (λ (z : Place). minutes_of stamp products line.event z) zone_is in
       let new : IsMoved after = omega (arith, minutes, left, within, own_left, own_minutes) in
       let put_es : Spots = insert_entry by_spot es (spot_of after.row) after in
-      let same : put_es ≡ changed stamp from p.issue es line = ap (λ (k : Spot). insert_entry by_spot es k after) spot_is in
-      (
+      let same : put_es ≡ changed stamp from p.issue es line = ap (λ (k : Spot). insert_entry by_spot es k after) spot_is in (
         record { own = own; within = omega (arith, minutes, left, within); few = omega (arith, minutes, few) },
         record {
           rows = ap rows_in (sym same) ∙ rows_put after es moved.spotted ∙ ap (λ (rows : List Row). put after.row rows) moved.rows ∙ ap (λ (r : Row). put r (put_all before p.issue done before)) row_is ∙ sym (put_all_last before p.issue done line before);

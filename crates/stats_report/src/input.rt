@@ -26,12 +26,7 @@ fn read_product(alloc: Global, bytes: &[u8]) -> Result<Reading, Oom>
 }
 
 /// Takes the next product that came out. Answers whether there was one.
-fn take_next(
-    alloc: Global,
-    asked: &Asked,
-    feed: &mut Feed,
-    tally: &mut Tally,
-) -> Result<bool, Oom>
+fn take_next(alloc: Global, asked: &Asked, feed: &mut Feed, tally: &mut Tally) -> Result<bool, Oom>
     requires kept { IsKept tally.old }
     requires own { IsFor asked.now tally.old }
     requires few { tally.old.count < 2000000000 }
@@ -50,12 +45,7 @@ fn take_next(
 }
 
 /// Takes each product that came out.
-fn take_each(
-    alloc: Global,
-    asked: &Asked,
-    feed: &mut Feed,
-    tally: &mut Tally,
-) -> Result<(), Oom>
+fn take_each(alloc: Global, asked: &Asked, feed: &mut Feed, tally: &mut Tally) -> Result<(), Oom>
     requires kept { IsKept tally.old }
     requires own { IsFor asked.now tally.old }
     requires few { tally.old.count + length feed.old.rest < 2000000000 }

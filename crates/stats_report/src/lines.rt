@@ -134,12 +134,6 @@ pub fn text_of(alloc: Global, tally: &Tally) -> Result<Text, Oom>
     let mut out = List::new(alloc);
     put_hazards(alloc, &mut out, &totals, opened, hazards)?;
     put_zones(alloc, &mut out, &totals, opened, zones)?;
-    put_end(
-        alloc,
-        &mut out,
-        opened.count,
-        totals.minutes,
-        tally.faults,
-    )?;
+    put_end(alloc, &mut out, opened.count, totals.minutes, tally.faults)?;
     Ok(out)
 }

@@ -5,10 +5,10 @@ ghost use Rattle.program_ends.specs.Lines.{most_bytes};
 ghost use Rattle.program_ends.specs.Words.{words_behind};
 ghost use Rattle.stats_report.specs.Runs.{DoesAsAsked};
 
-use stats_report::stats_within;
 use desk_traits::{Sink, Source};
 use hazard_types::{List, Text};
 use program_ends::{End, LIMIT, given_words};
+use stats_report::stats_within;
 use std::alloc::Global;
 
 /// Does what the words say, with an input of at most 1,073,741,824 bytes, and returns the status of the program.
