@@ -28,12 +28,12 @@ use Rattle.stats_report.proofs.Taking.{Readings}
 -- the text of a tally of the products of an input
 pub text_is : (asked : Asked) (read text : List ℕ) (tally : Tally) → IsTallied asked (map decode (products_in read)) tally → text ≡ stats_text tally.stamp tally.reader.products tally.faults → text ≡ statistics asked read
 unfolding statistics
-text_is asked read text tally is text_is =
+text_is asked read text tally is told =
     let rs = readings_told read in
     let stamp = is.own.stamp in
     let products = is.products ∙ ap (products_of asked) (sym rs) in
     let faults = is.faults ∙ ap faults_in (sym rs) in
-    text_is ∙ (λ i. stats_text (stamp i) (products i) (faults i))
+    told ∙ (λ i. stats_text (stamp i) (products i) (faults i))
 
 module _ (asked : Asked) (limit : ℕ) (left left' taken : Option (List ℕ)) (tally : Tally) where
   none_begins : Begins [] []
@@ -178,15 +178,15 @@ module _ {T : Type 0} (asked : Asked) (limit : ℕ) (left left' taken mid : Opti
     others = inl refl;
   }
 
+-- where nothing was to be written before it, the line of a fault stands alone
+front_nil : (text line written : List ℕ) → text ≡ [] → written ≡ text ++ line → written ≡ line
+front_nil text line written none is = is ∙ ap (λ (t : List ℕ). t ++ line) none
+
+cut_nil : (writes writes' : ℕ) (text line written : List ℕ) → text ≡ [] → IsCut (text ++ line) written writes writes' → IsCut line written writes writes'
+cut_nil writes writes' text line written none cut = subst (λ (t : List ℕ). IsCut t written writes writes') (ap (λ (t : List ℕ). t ++ line) none) cut
+
 module _ {T : Type 0} (asked : Asked) (limit : ℕ) (left left' taken mid taken' : Option (List ℕ)) (reads reads' writes writes' status : ℕ) where
   -- a run that ended early, for each reason
-
-  front_nil : (text line written : List ℕ) → text ≡ [] → written ≡ text ++ line → written ≡ line
-  front_nil text line written none is = is ∙ ap (λ (t : List ℕ). t ++ line) none
-
-  cut_nil : (text line written : List ℕ) → text ≡ [] → IsCut (text ++ line) written writes writes' → IsCut line written writes writes'
-  cut_nil text line written none cut = subst (λ (t : List ℕ). IsCut t written writes writes') (ap (λ (t : List ℕ). t ++ line) none) cut
-
   read_failed : (t : TellsTo {T = T} asked limit left left' taken mid (Err stop.Read)) → Rose reads reads' → Telling t.text writes taken taken' writes' (Some ReadFault) status → IsStatsRun asked limit left left' taken taken' reads reads' writes writes' status
   read_failed t rose telling =
       let own : status ≢ 8 → status ≡ 7 = λ no. (telling.told.others no).0 in
@@ -202,7 +202,7 @@ module _ {T : Type 0} (asked : Asked) (limit : ℕ) (left left' taken mid taken'
         read_fault = λ e. let told = telling.told.others (λ h. omega (arith, e, h)) in (rose, told.1, few, front_nil t.text (fault_line ReadFault) telling.written none told.2);
         too_long = λ e. absurd (no_other status 7 13 own (λ q. omega (arith, q)) (λ q. omega (arith, q)) e);
         no_memory = λ e. absurd (no_other status 7 12 own (λ q. omega (arith, q)) (λ q. omega (arith, q)) e);
-        write_fault = λ e. ((telling.told.cut e).0, (fault_line ReadFault, inr (inl (refl, rose, few)), cut_nil t.text (fault_line ReadFault) telling.written none (telling.told.cut e).1));
+        write_fault = λ e. ((telling.told.cut e).0, (fault_line ReadFault, inr (inl (refl, rose, few)), cut_nil writes writes' t.text (fault_line ReadFault) telling.written none (telling.told.cut e).1));
         others = elim (eight status) [ inl h ↦ inr (inr (inl h)) | inr h ↦ inr (inl (own h)) ];
       }
 
@@ -221,7 +221,7 @@ module _ {T : Type 0} (asked : Asked) (limit : ℕ) (left left' taken mid taken'
         read_fault = λ e. absurd (no_other status 13 7 own (λ q. omega (arith, q)) (λ q. omega (arith, q)) e);
         too_long = λ e. let told = telling.told.others (λ h. omega (arith, e, h)) in (steady, told.1, full, front_nil t.text (fault_line InputTooLong) telling.written none told.2);
         no_memory = λ e. absurd (no_other status 13 12 own (λ q. omega (arith, q)) (λ q. omega (arith, q)) e);
-        write_fault = λ e. ((telling.told.cut e).0, (fault_line InputTooLong, inr (inr (inl (refl, steady, full))), cut_nil t.text (fault_line InputTooLong) telling.written none (telling.told.cut e).1));
+        write_fault = λ e. ((telling.told.cut e).0, (fault_line InputTooLong, inr (inr (inl (refl, steady, full))), cut_nil writes writes' t.text (fault_line InputTooLong) telling.written none (telling.told.cut e).1));
         others = elim (eight status) [ inl h ↦ inr (inr (inl h)) | inr h ↦ inr (inr (inr (inr (own h)))) ];
       }
 
@@ -239,7 +239,7 @@ module _ {T : Type 0} (asked : Asked) (limit : ℕ) (left left' taken mid taken'
         read_fault = λ e. absurd (no_other status 12 7 own (λ q. omega (arith, q)) (λ q. omega (arith, q)) e);
         too_long = λ e. absurd (no_other status 12 13 own (λ q. omega (arith, q)) (λ q. omega (arith, q)) e);
         no_memory = λ e. let told = telling.told.others (λ h. omega (arith, e, h)) in (steady, told.1, front_nil t.text (fault_line OutOfMemory) telling.written none told.2);
-        write_fault = λ e. ((telling.told.cut e).0, (fault_line OutOfMemory, inr (inr (inr (refl, steady))), cut_nil t.text (fault_line OutOfMemory) telling.written none (telling.told.cut e).1));
+        write_fault = λ e. ((telling.told.cut e).0, (fault_line OutOfMemory, inr (inr (inr (refl, steady))), cut_nil writes writes' t.text (fault_line OutOfMemory) telling.written none (telling.told.cut e).1));
         others = elim (eight status) [ inl h ↦ inr (inr (inl h)) | inr h ↦ inr (inr (inr (inl (own h)))) ];
       }
 
