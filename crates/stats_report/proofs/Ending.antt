@@ -1,0 +1,302 @@
+-- A whole run, once its end was told.
+use Rattle.std.proofs.Common.{◌≡◌, ◌≢◌, ◌∙◌, ◌⊎◌, inl, inr, ℕ, ◌+◌, ◌≤◌, ◌==◌, List, [], ◌++◌, length, map, refl, ap, sym, subst, append-nil, arith, Option, Some, Result, Ok, Err}
+use Rattle.std.proofs.lemmas.Bool.{cases_Bool}
+use Rattle.std.proofs.lemmas.Bool.Decides.{nat_tests}
+use Rattle.desk_traits.specs.Faults.{Rose}
+use Rattle.desk_traits.specs.Streams.{Adds, IsAtEnd}
+use Rattle.product_decoder.specs.Decoded.{decode}
+use Rattle.product_decoder.specs.Feeding.{products_in}
+use Rattle.program_ends.specs.Ends.{fault_line, Begins, AddsFront, HasWritten, Telling, IsCut}
+use Rattle.program_ends.specs.Runs.{end_of}
+use Rattle.program_ends.specs.Steps.{IsCauseOf}
+use Rattle.program_ends.specs.declared.ends.End.{End}
+use Rattle.program_ends.specs.declared.ends.End.TheVariants.{ReadFault, WriteFault, InputTooLong, OutOfMemory}
+use Rattle.program_ends.specs.declared.reading.Stop.{Stop}
+use Rattle.program_ends.specs.declared.reading.Stop.TheVariants as stop
+use Rattle.program_ends.proofs.Answering.{adds_none}
+use Rattle.program_ends.proofs.Telling.{begins_self}
+use Rattle.archive_report.specs.declared.words.Asked.{Asked}
+use Rattle.archive_report.specs.Report.{products_of, faults_in, readings_of}
+use Rattle.archive_report.proofs.Fronts.{readings_told}
+use Rattle.event_life.specs.Products.{Product}
+use Rattle.stats_report.specs.Readings.{statistics, IsTallied, ReadsTo, TellsTo}
+use Rattle.stats_report.specs.Report.{stats_text}
+use Rattle.stats_report.specs.Runs.{WasTold, IsStatsRun}
+use Rattle.stats_report.specs.declared.tally.Tally.{Tally}
+use Rattle.stats_report.proofs.Taking.{Readings}
+
+-- the text of a tally of the products of an input
+pub text_is : (asked : Asked) (read text : List ℕ) (tally : Tally) → IsTallied asked (map decode (products_in read)) tally → text ≡ stats_text tally.stamp tally.reader.products tally.faults → text ≡ statistics asked read
+unfolding statistics
+text_is asked read text tally is told =
+    let rs = readings_told read in
+    let stamp = is.own.stamp in
+    let products = is.products ∙ ap (products_of asked) (sym rs) in
+    let faults = is.faults ∙ ap faults_in (sym rs) in
+    told ∙ (λ i. stats_text (stamp i) (products i) (faults i))
+
+module _ (asked : Asked) (limit : ℕ) (left left' taken : Option (List ℕ)) (tally : Tally) where
+  none_begins : Begins [] []
+  none_begins = begins_self []
+
+  -- the run stopped while the input was read
+  pub ends_reading : {T : Type 0} (why : Stop) → ReadsTo {T = T} asked limit left left' tally (Err why) → TellsTo {T = T} asked limit left left' taken taken (Err why)
+  ends_reading stop.Read t = record {
+    read = t.read;
+    text = [];
+    written = [];
+    takes = t.takes;
+    adds = adds_none taken;
+    within = t.within;
+    ended = tt;
+    read_fault = λ e. (t.read_fault e, refl);
+    too_long = λ e. absurd (cc);
+    no_memory = λ e. absurd (cc);
+    write_fault = λ e. absurd (cc);
+    begins = none_begins;
+    whole = λ _. refl;
+  }
+  ends_reading stop.Write t = absurd (t.unwritten refl)
+  ends_reading stop.TooLong t = record {
+    read = t.read;
+    text = [];
+    written = [];
+    takes = t.takes;
+    adds = adds_none taken;
+    within = t.within;
+    ended = tt;
+    read_fault = λ e. absurd (cc);
+    too_long = λ e. (t.too_long e, refl);
+    no_memory = λ e. absurd (cc);
+    write_fault = λ e. absurd (cc);
+    begins = none_begins;
+    whole = λ _. refl;
+  }
+  ends_reading stop.OutOfMemory t = record {
+    read = t.read;
+    text = [];
+    written = [];
+    takes = t.takes;
+    adds = adds_none taken;
+    within = t.within;
+    ended = tt;
+    read_fault = λ e. absurd (cc);
+    too_long = λ e. absurd (cc);
+    no_memory = λ _. refl;
+    write_fault = λ e. absurd (cc);
+    begins = none_begins;
+    whole = λ _. refl;
+  }
+
+  module _ {T : Type 0} (x : T) (t : ReadsTo {T = T} asked limit left left' tally (Ok x)) where
+    -- memory lacked for the text
+    pub ends_texting : {U : Type 0} → TellsTo {T = U} asked limit left left' taken taken (Err stop.OutOfMemory)
+    ends_texting = record {
+      read = t.read;
+      text = [];
+      written = [];
+      takes = t.takes;
+      adds = adds_none taken;
+      within = t.within;
+      ended = tt;
+      read_fault = λ e. absurd (cc);
+      too_long = λ e. absurd (cc);
+      no_memory = λ _. refl;
+      write_fault = λ e. absurd (cc);
+      begins = none_begins;
+      whole = λ _. refl;
+    }
+
+    module _ (text : List ℕ) (taken' : Option (List ℕ)) (is : text ≡ stats_text tally.stamp tally.reader.products tally.faults) where
+      whole_is : text ≡ statistics asked t.read
+      whole_is = text_is asked t.read text tally t.ended.2 is
+
+      pub ends_whole : {U : Type 0} (u : U) → Adds taken taken' text → TellsTo asked limit left left' taken taken' (Ok u)
+      ends_whole u adds = record {
+        read = t.read;
+        text = text;
+        written = text;
+        takes = t.takes;
+        adds = adds;
+        within = t.within;
+        ended = (t.ended.0, t.ended.1, whole_is);
+        read_fault = λ e. absurd (cc);
+        too_long = λ e. absurd (cc);
+        no_memory = λ e. absurd (cc);
+        write_fault = λ e. absurd (cc);
+        begins = begins_self text;
+        whole = λ _. refl;
+      }
+
+      pub ends_writing : {U : Type 0} (front : List ℕ) → Begins front text → Adds taken taken' front → TellsTo {T = U} asked limit left left' taken taken' (Err stop.Write)
+      ends_writing front begins adds = record {
+        read = t.read;
+        text = text;
+        written = front;
+        takes = t.takes;
+        adds = adds;
+        within = t.within;
+        ended = tt;
+        read_fault = λ e. absurd (cc);
+        too_long = λ e. absurd (cc);
+        no_memory = λ e. absurd (cc);
+        write_fault = λ _. (t.ended.0, t.ended.1, whole_is);
+        begins = begins;
+        whole = λ no. absurd (no refl);
+      }
+
+eight : (status : ℕ) → (status ≡ 8) ⊎ (status ≢ 8)
+eight status = elim (cases_Bool (status == 8)) [
+  | inl h ↦ inl (grind (arith, nat_tests))
+  | inr h ↦ inr (λ e. grind (arith, nat_tests))
+]
+
+no_other : (status own k : ℕ) → (status ≢ 8 → status ≡ own) → own ≢ k → k ≢ 8 → status ≡ k → ⊥
+no_other status own k told p q e = p (sym (told (λ h. q (sym e ∙ h))) ∙ e)
+
+module _ {T : Type 0} (asked : Asked) (limit : ℕ) (left left' taken mid : Option (List ℕ)) (reads reads' writes between : ℕ) where
+  -- what a run has written when it halts
+  pub has_told : (why : Stop) → (t : TellsTo {T = T} asked limit left left' taken mid (Err why)) → IsCauseOf {T = T} stop.Write writes between (Err why) → HasWritten t.text t.written writes between (Some (end_of why))
+  has_told stop.Read t cause = record { whole = λ _. (cause.steady (λ e. absurd (cc)), t.whole (λ e. absurd (cc))); cut = λ e. absurd (cc) }
+  has_told stop.Write t cause = record { whole = λ no. absurd (no refl); cut = λ _. (cause.rose refl, t.begins) }
+  has_told stop.TooLong t cause = record { whole = λ _. (cause.steady (λ e. absurd (cc)), t.whole (λ e. absurd (cc))); cut = λ e. absurd (cc) }
+  has_told stop.OutOfMemory t cause = record { whole = λ _. (cause.steady (λ e. absurd (cc)), t.whole (λ e. absurd (cc))); cut = λ e. absurd (cc) }
+
+  -- a run that told all
+  pub run_whole : (x : T) → TellsTo asked limit left left' taken mid (Ok x) → reads' ≡ reads → between ≡ writes → IsStatsRun asked limit left left' taken mid reads reads' writes between 0
+  run_whole x t read_steady write_steady = record {
+    read = t.read;
+    written = t.written;
+    takes = t.takes;
+    adds = t.adds;
+    within = t.within;
+    told = λ _. (t.ended.0, t.ended.1, t.whole (λ e. absurd (cc)) ∙ t.ended.2, read_steady, write_steady);
+    read_fault = λ e. absurd (omega (arith, e));
+    too_long = λ e. absurd (omega (arith, e));
+    no_memory = λ e. absurd (omega (arith, e));
+    write_fault = λ e. absurd (omega (arith, e));
+    others = inl refl;
+  }
+
+-- where nothing was to be written before it, the line of a fault stands alone
+front_nil : (text line written : List ℕ) → text ≡ [] → written ≡ text ++ line → written ≡ line
+front_nil text line written none is = is ∙ ap (λ (t : List ℕ). t ++ line) none
+
+cut_nil : (writes writes' : ℕ) (text line written : List ℕ) → text ≡ [] → IsCut (text ++ line) written writes writes' → IsCut line written writes writes'
+cut_nil writes writes' text line written none cut = subst (λ (t : List ℕ). IsCut t written writes writes') (ap (λ (t : List ℕ). t ++ line) none) cut
+
+module _ {T : Type 0} (asked : Asked) (limit : ℕ) (left left' taken mid taken' : Option (List ℕ)) (reads reads' writes writes' status : ℕ) where
+  -- a run that ended early, for each reason
+  read_failed : (t : TellsTo {T = T} asked limit left left' taken mid (Err stop.Read)) → Rose reads reads' → Telling t.text writes taken taken' writes' (Some ReadFault) status → IsStatsRun asked limit left left' taken taken' reads reads' writes writes' status
+  read_failed t rose telling =
+      let own : status ≢ 8 → status ≡ 7 = λ no. (telling.told.others no).0 in
+      let few = (t.read_fault refl).0 in
+      let none = (t.read_fault refl).1 in
+      record {
+        read = t.read;
+        written = telling.written;
+        takes = t.takes;
+        adds = telling.adds;
+        within = t.within;
+        told = λ e. absurd (no_other status 7 0 own (λ q. omega (arith, q)) (λ q. omega (arith, q)) e);
+        read_fault = λ e. let told = telling.told.others (λ h. omega (arith, e, h)) in (rose, told.1, few, front_nil t.text (fault_line ReadFault) telling.written none told.2);
+        too_long = λ e. absurd (no_other status 7 13 own (λ q. omega (arith, q)) (λ q. omega (arith, q)) e);
+        no_memory = λ e. absurd (no_other status 7 12 own (λ q. omega (arith, q)) (λ q. omega (arith, q)) e);
+        write_fault = λ e. ((telling.told.cut e).0, (fault_line ReadFault, inr (inl (refl, rose, few)), cut_nil writes writes' t.text (fault_line ReadFault) telling.written none (telling.told.cut e).1));
+        others = elim (eight status) [ inl h ↦ inr (inr (inl h)) | inr h ↦ inr (inl (own h)) ];
+      }
+
+  too_long : (t : TellsTo {T = T} asked limit left left' taken mid (Err stop.TooLong)) → reads' ≡ reads → Telling t.text writes taken taken' writes' (Some InputTooLong) status → IsStatsRun asked limit left left' taken taken' reads reads' writes writes' status
+  too_long t steady telling =
+      let own : status ≢ 8 → status ≡ 13 = λ no. (telling.told.others no).0 in
+      let full = (t.too_long refl).0 in
+      let none = (t.too_long refl).1 in
+      record {
+        read = t.read;
+        written = telling.written;
+        takes = t.takes;
+        adds = telling.adds;
+        within = t.within;
+        told = λ e. absurd (no_other status 13 0 own (λ q. omega (arith, q)) (λ q. omega (arith, q)) e);
+        read_fault = λ e. absurd (no_other status 13 7 own (λ q. omega (arith, q)) (λ q. omega (arith, q)) e);
+        too_long = λ e. let told = telling.told.others (λ h. omega (arith, e, h)) in (steady, told.1, full, front_nil t.text (fault_line InputTooLong) telling.written none told.2);
+        no_memory = λ e. absurd (no_other status 13 12 own (λ q. omega (arith, q)) (λ q. omega (arith, q)) e);
+        write_fault = λ e. ((telling.told.cut e).0, (fault_line InputTooLong, inr (inr (inl (refl, steady, full))), cut_nil writes writes' t.text (fault_line InputTooLong) telling.written none (telling.told.cut e).1));
+        others = elim (eight status) [ inl h ↦ inr (inr (inl h)) | inr h ↦ inr (inr (inr (inr (own h)))) ];
+      }
+
+  no_memory : (t : TellsTo {T = T} asked limit left left' taken mid (Err stop.OutOfMemory)) → reads' ≡ reads → Telling t.text writes taken taken' writes' (Some OutOfMemory) status → IsStatsRun asked limit left left' taken taken' reads reads' writes writes' status
+  no_memory t steady telling =
+      let own : status ≢ 8 → status ≡ 12 = λ no. (telling.told.others no).0 in
+      let none = t.no_memory refl in
+      record {
+        read = t.read;
+        written = telling.written;
+        takes = t.takes;
+        adds = telling.adds;
+        within = t.within;
+        told = λ e. absurd (no_other status 12 0 own (λ q. omega (arith, q)) (λ q. omega (arith, q)) e);
+        read_fault = λ e. absurd (no_other status 12 7 own (λ q. omega (arith, q)) (λ q. omega (arith, q)) e);
+        too_long = λ e. absurd (no_other status 12 13 own (λ q. omega (arith, q)) (λ q. omega (arith, q)) e);
+        no_memory = λ e. let told = telling.told.others (λ h. omega (arith, e, h)) in (steady, told.1, front_nil t.text (fault_line OutOfMemory) telling.written none told.2);
+        write_fault = λ e. ((telling.told.cut e).0, (fault_line OutOfMemory, inr (inr (inr (refl, steady))), cut_nil writes writes' t.text (fault_line OutOfMemory) telling.written none (telling.told.cut e).1));
+        others = elim (eight status) [ inl h ↦ inr (inr (inl h)) | inr h ↦ inr (inr (inr (inl (own h)))) ];
+      }
+
+  write_failed : (t : TellsTo {T = T} asked limit left left' taken mid (Err stop.Write)) → reads' ≡ reads → Telling t.text writes taken taken' writes' (Some WriteFault) status → IsStatsRun asked limit left left' taken taken' reads reads' writes writes' status
+  write_failed t steady telling =
+      let own : status ≢ 8 → status ≡ 8 = λ no. (telling.told.others no).0 in
+      let is : status ≡ 8 = elim (eight status) [ inl h ↦ h | inr h ↦ own h ] in
+      let all = t.write_fault refl in
+      record {
+        read = t.read;
+        written = telling.written;
+        takes = t.takes;
+        adds = telling.adds;
+        within = t.within;
+        told = λ e. absurd (omega (arith, e, is));
+        read_fault = λ e. absurd (omega (arith, e, is));
+        too_long = λ e. absurd (omega (arith, e, is));
+        no_memory = λ e. absurd (omega (arith, e, is));
+        write_fault = λ e. ((telling.told.cut e).0, (t.text, inl (all.2, all.0, all.1, steady), subst (λ (w : List ℕ). IsCut w telling.written writes writes') (append-nil t.text) (telling.told.cut e).1));
+        others = inr (inr (inl is));
+      }
+
+  run_halted : (why : Stop) (t : TellsTo {T = T} asked limit left left' taken mid (Err why)) → IsCauseOf {T = T} stop.Read reads reads' (Err why) → Telling t.text writes taken taken' writes' (Some (end_of why)) status
+      → IsStatsRun asked limit left left' taken taken' reads reads' writes writes' status
+  run_halted stop.Read t cause telling = read_failed t (cause.rose refl) telling
+  run_halted stop.Write t cause telling = write_failed t (cause.steady (λ e. absurd (cc))) telling
+  run_halted stop.TooLong t cause telling = too_long t (cause.steady (λ e. absurd (cc))) telling
+  run_halted stop.OutOfMemory t cause telling = no_memory t (cause.steady (λ e. absurd (cc))) telling
+
+  -- a run that halted, once its end was told
+  pub run_ended : (between : ℕ) (why : Stop) (end : End) → TellsTo {T = T} asked limit left left' taken mid (Err why) → IsCauseOf {T = T} stop.Read reads reads' (Err why) → IsCauseOf {T = T} stop.Write writes between (Err why) → end ≡ end_of why
+      → ((past : Option (List ℕ)) (before : ℕ) (defined written : List ℕ) → Adds past mid written → HasWritten defined written before between (Some end) → Telling defined before past taken' writes' (Some end) status)
+      → IsStatsRun asked limit left left' taken taken' reads reads' writes writes' status
+  run_ended between why end t read write is tells =
+      let has = has_told asked limit left left' taken mid reads reads' writes between why t write in
+      let told = tells taken writes t.text t.written t.adds (subst (λ (e : End). HasWritten t.text t.written writes between (Some e)) (sym is) has) in
+      run_halted why t read (subst (λ (e : End). Telling t.text writes taken taken' writes' (Some e) status) is told)
+
+-- what the statuses of a run say by themselves
+
+module _ (asked : Asked) (limit : ℕ) (left left' taken taken' : Option (List ℕ)) (reads reads' writes writes' status : ℕ) (run : IsStatsRun asked limit left left' taken taken' reads reads' writes writes' status) where
+  pub not_two : status ≡ 2 → ⊥
+  not_two e = none run.others
+    where
+      none : (status ≡ 0) ⊎ (status ≡ 7) ⊎ (status ≡ 8) ⊎ (status ≡ 12) ⊎ (status ≡ 13) → ⊥
+      none (inl h) = omega (arith, e, h)
+      none (inr (inl h)) = omega (arith, e, h)
+      none (inr (inr (inl h))) = omega (arith, e, h)
+      none (inr (inr (inr (inl h)))) = omega (arith, e, h)
+      none (inr (inr (inr (inr h)))) = omega (arith, e, h)
+
+  pub run_complete : ¬ Rose reads reads' → ¬ Rose writes writes' → (status ≡ 0) ⊎ (status ≡ 12) ⊎ (status ≡ 13)
+  run_complete no_read no_write = some run.others
+    where
+      some : (status ≡ 0) ⊎ (status ≡ 7) ⊎ (status ≡ 8) ⊎ (status ≡ 12) ⊎ (status ≡ 13) → (status ≡ 0) ⊎ (status ≡ 12) ⊎ (status ≡ 13)
+      some (inl h) = inl h
+      some (inr (inl h)) = absurd (no_read (run.read_fault h).0)
+      some (inr (inr (inl h))) = absurd (no_write (run.write_fault h).0)
+      some (inr (inr (inr (inl h)))) = inr (inl h)
+      some (inr (inr (inr (inr h)))) = inr (inr h)

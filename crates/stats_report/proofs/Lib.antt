@@ -1,0 +1,12 @@
+pub mod Counting
+pub mod Governing
+pub mod Found
+pub mod Own
+pub mod Moving
+pub mod Amounts
+pub mod Folding
+pub mod Keeping
+pub mod Taking
+pub mod Reading
+pub mod Ending
+pub mod Sharing

@@ -1,0 +1,15 @@
+-- The row that a line leaves of its own row alone.
+use Rattle.std.proofs.Common.{◌≡◌, List, [], ◌∷◌, ℕ, Option, Some, None, refl}
+use Rattle.hazard_types.specs.declared.line.Line.{Line}
+use Rattle.hazard_types.specs.declared.line.Row.{Row}
+use Rattle.hazard_types.proofs.Equality.{zone_itself, event_itself}
+use Rattle.event_life.specs.Products.{row_after}
+use Rattle.stats_report.specs.Spots.{row_left}
+
+pub row_told : (r : Row) (line : Line) (t : ℕ) → r.event ≡ line.event → r.zone ≡ line.zone → row_after (r ∷ []) t line ≡ row_left (Some r) line t
+unfolding row_left
+row_told r line t e z = rw (e, z, event_itself line.event, zone_itself line.zone) refl
+
+pub none_told : (line : Line) (t : ℕ) → row_after [] t line ≡ row_left None line t
+unfolding row_left
+none_told line t = refl

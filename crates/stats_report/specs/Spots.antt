@@ -1,0 +1,93 @@
+-- Rows at their spots, each with the minutes that are counted for it.
+use Rattle.std.specs.Prelude.{◌≡◌, ◌≤◌, ℕ, ◌+◌, ◌-◌, List, [], ◌∷◌, map, Option, Some, None, option_map, IfSome}
+use Rattle.std.specs.BTreeMap.{insert_entry, is_at}
+use Rattle.std.specs.List.{AllByRecursion}
+use Rattle.std.specs.Map.{lookup}
+use Rattle.std.specs.declared.cmp.Ordering.{Ordering}
+use Rattle.std.specs.Ordering.{on, then_cmp}
+use Rattle.hazard_types.specs.Orders.{by_event}
+use Rattle.hazard_types.specs.Places.{Place, by_place}
+use Rattle.hazard_types.specs.declared.hazard.Event.{Event}
+use Rattle.hazard_types.specs.declared.line.Line.{Line}
+use Rattle.hazard_types.specs.declared.line.Row.{Row}
+use Rattle.event_life.specs.declared.life.Life.{Life}
+use Rattle.event_life.specs.Products.{Product, life_of, row_of, rows_of}
+use Rattle.event_life.specs.Table.{life_after}
+use Rattle.stats_report.specs.Minutes.{minutes_of, minutes_left}
+use Rattle.stats_report.specs.declared.standing.Spot.{Spot}
+use Rattle.stats_report.specs.declared.standing.Counted.{Counted}
+
+-- by zone, then event
+abbrev pub by_spot : Spot → Spot → Ordering
+by_spot = then_cmp (on (λ (s : Spot). s.zone) by_place) (on (λ (s : Spot). s.event) by_event)
+
+abbrev pub spot_at : Event → Place → Spot
+spot_at e z = record { zone = z; event = e }
+
+-- the spot of a row, and that of a line
+abbrev pub spot_of : Row → Spot
+spot_of r = spot_at r.event r.zone
+
+abbrev pub spot_said : Line → Spot
+spot_said line = spot_at line.event line.zone
+
+abbrev pub Spots : Type 0
+Spots = List (Spot × Counted)
+
+abbrev pub rows_in : Spots → List Row
+rows_in es = map (λ (e : Spot × Counted). e.1.row) es
+
+-- each row is at its own spot
+abbrev pub AreSpotted : Spots → Type 0
+AreSpotted es = AllByRecursion (λ (e : Spot × Counted). e.0 ≡ spot_of e.1.row) es
+
+-- each has its minutes
+abbrev pub AreExact : ℕ → List Product → Spots → Type 0
+AreExact stamp products es = AllByRecursion (λ (e : Spot × Counted). e.1.minutes ≡ minutes_of stamp products e.1.row.event e.1.row.zone) es
+
+-- the rows of products at their spots, each with its minutes before the stamp
+pub record IsCounted (stamp : ℕ) (products : List Product) (es : Spots) : Type 0 where
+  pub rows : rows_in es ≡ rows_of products
+  pub spotted : AreSpotted es
+  pub exact : AreExact stamp products es
+
+-- What a line changes.
+
+abbrev pub counted_at : Spots → Line → Option Counted
+counted_at es line = lookup (is_at (by_spot (spot_said line))) es
+
+abbrev pub row_counted : Option Counted → Option Row
+row_counted before = option_map (λ (c : Counted). c.row) before
+
+abbrev pub minutes_counted : Option Counted → ℕ
+minutes_counted None = 0
+minutes_counted (Some c) = c.minutes
+
+-- the row that a line leaves
+unfoldable pub row_left : Option Row → Line → ℕ → Row
+row_left before line t = row_of line (life_after (option_map life_of before) line t)
+
+-- the minutes from one on are those that the line leaves
+abbrev pub counted_after : ℕ → ℕ → ℕ → Line → Option Counted → Counted
+counted_after stamp from t line before = record {
+  row = row_left (row_counted before) line t;
+  minutes = (minutes_counted before - minutes_left stamp from (row_counted before)) + minutes_left stamp from (Some (row_left (row_counted before) line t));
+}
+
+abbrev pub changed : ℕ → ℕ → ℕ → Spots → Line → Spots
+changed stamp from t es line = insert_entry by_spot es (spot_said line) (counted_after stamp from t line (counted_at es line))
+
+-- the row is of the line's event in its zone
+abbrev pub IsOwn : Line → Option Row → Type 0
+IsOwn line before = IfSome before (λ r. (r.event ≡ line.event) × (r.zone ≡ line.zone))
+
+-- a line may change what is counted: it is of the row's event and zone, and what is left is among what is counted
+pub record MayChange (stamp from : ℕ) (line : Line) (before : Option Counted) : Type 0 where
+  pub own : IsOwn line (row_counted before)
+  pub within : minutes_left stamp from (row_counted before) ≤ minutes_counted before
+  pub few : minutes_counted before ≤ stamp
+
+-- so may these lines, one after another
+abbrev pub MayChangeAll : ℕ → ℕ → ℕ → Spots → List Line → Type 0
+MayChangeAll stamp from t es [] = Unit {0}
+MayChangeAll stamp from t es (line ∷ lines) = MayChange stamp from line (counted_at es line) × MayChangeAll stamp from t (changed stamp from t es line) lines

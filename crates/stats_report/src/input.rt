@@ -1,0 +1,99 @@
+//! An input is read piece by piece, and its products counted.
+ghost use Rattle.std.specs.Prelude.{◌≡◌, ◌≤◌, ◌<◌, ◌+◌, true, false, length, Ok, IfOk, OnOk};
+ghost use Rattle.product_decoder.specs.Decoded.{decode};
+ghost use Rattle.product_decoder.specs.Feeding.{GivesNone};
+ghost use Rattle.program_ends.specs.Lines.{most_bytes};
+ghost use Rattle.program_ends.specs.Steps.{IsCauseOf};
+ghost use Rattle.stats_report.specs.Readings.{IsFresh, TakesNext, TakesEach, ReadsTo};
+ghost use Rattle.stats_report.specs.Tallies.{IsKept, IsFor};
+
+use crate::tally::{Reading, Tally};
+use archive_report::Asked;
+use desk_traits::{Failed, Source};
+use hazard_types::{Oom, Or};
+use product_decoder::{Feed, decode};
+use program_ends::{Stop, read_front};
+use std::alloc::Global;
+
+fn read_product(alloc: Global, bytes: &[u8]) -> Result<Reading, Oom>
+    ensures { IfOk result (λ reading. reading ≡ decode bytes.now) }
+{
+    match decode(alloc, bytes) {
+        Ok(d) => Ok(Ok(d)),
+        Err(Or::No(fault)) => Ok(Err(fault)),
+        Err(Or::OutOfMemory) => Err(Oom),
+    }
+}
+
+/// Takes the next product that came out. Answers whether there was one.
+fn take_next(alloc: Global, asked: &Asked, feed: &mut Feed, tally: &mut Tally) -> Result<bool, Oom>
+    requires kept { IsKept tally.old }
+    requires own { IsFor asked.now tally.old }
+    requires few { tally.old.count < 2000000000 }
+    ensures ended { feed.new.ended ≡ feed.old.ended }
+    ensures some { result ≡ Ok true → TakesNext asked.now feed.old feed.new tally.old tally.new }
+    ensures none { result ≡ Ok false → GivesNone feed.old feed.new × (tally.new ≡ tally.old) }
+{
+    match feed.take(alloc)? {
+        Some(text) => {
+            let reading = read_product(alloc, text.as_slice())?;
+            tally.take(alloc, asked, &reading)?;
+            Ok(true)
+        }
+        None => Ok(false),
+    }
+}
+
+/// Takes each product that came out.
+fn take_each(alloc: Global, asked: &Asked, feed: &mut Feed, tally: &mut Tally) -> Result<(), Oom>
+    requires kept { IsKept tally.old }
+    requires own { IsFor asked.now tally.old }
+    requires few { tally.old.count + length feed.old.rest < 2000000000 }
+    ensures { OnOk result (TakesEach asked.now feed.old feed.new tally.old tally.new) }
+{
+    let mut more = true;
+    while more {
+        more = take_next(alloc, asked, feed, tally)?;
+    }
+    Ok(())
+}
+
+/// Reads an input of at most `limit` bytes to its end, and counts its products. One byte more than the limit is read, and is no product's.
+pub fn count_input<S: Source>(
+    alloc: Global,
+    asked: &Asked,
+    limit: usize,
+    tally: &mut Tally,
+    input: &mut S,
+) -> Result<(), Stop>
+    requires limit { limit ≤ most_bytes }
+    requires kept { IsKept tally.old }
+    requires own { IsFor asked.now tally.old }
+    requires fresh { IsFresh tally.old }
+    ensures run { ReadsTo asked.now limit (S.left input.old) (S.left input.new) tally.new result }
+    ensures read { IsCauseOf Stop.Read (S.faults input.old) (S.faults input.new) result }
+{
+    let mut feed = Feed::new(alloc);
+    let mut buffer = [0u8; 4096];
+    let mut total = 0usize;
+    // Each turn but the last reads a byte or more, so the turns are no more than the bytes.
+    for _turn in 0..limit + 1 {
+        let room = (limit + 1 - total).min(buffer.len());
+        let count = match read_front(input, &mut buffer, room) {
+            Ok(count) => count,
+            Err(Failed) => return Err(Stop::Read),
+        };
+        if count == 0 {
+            feed.end();
+            take_each(alloc, asked, &mut feed, tally)?;
+            return Ok(());
+        }
+        if count > limit - total {
+            return Err(Stop::TooLong);
+        }
+        feed.push(alloc, &buffer[..count])?;
+        take_each(alloc, asked, &mut feed, tally)?;
+        total += count;
+    }
+    unreachable!()
+}

@@ -1,0 +1,15 @@
+//! Statistics of an office's texts: the minutes in effect, the openings and their leads, by hazard and by zone.
+#![tactic(auto)]
+
+mod input;
+mod laws;
+mod lines;
+mod opened;
+mod standing;
+mod stats;
+mod sums;
+mod tally;
+mod totals;
+
+pub use laws::{minutes_add_up, the_greatest_issue_minute_governs};
+pub use stats::stats_within;
