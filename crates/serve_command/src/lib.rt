@@ -1,9 +1,11 @@
-//! The command `serve`: its words, and what becomes of the history of a journal's office by what happens to it.
+//! The command `serve`: its words, and the office of a journal served over the links of a port.
 #![tactic(auto)]
 
 mod growing;
 mod numbers;
+mod serving;
 mod words;
 
 pub use growing::an_opened_office_keeps_its_history;
+pub use serving::run_serve;
 pub use words::{Serving, serving_of};

@@ -1,20 +1,27 @@
 //! The top call.
-ghost use Rattle.std.specs.Prelude.{◌≡◌, ◌⊎◌};
+ghost use Rattle.std.specs.Prelude.{◌≡◌, ◌⊎◌, None};
 ghost use Rattle.program_ends.specs.Ends.{IsUntouched};
 ghost use Rattle.program_ends.specs.Lines.{most_bytes};
 ghost use Rattle.program_ends.specs.Words.{words_behind};
-ghost use Rattle.desk_program.specs.Runs.{DoesAsAsked};
+ghost use Rattle.desk_program.specs.Runs.{DoesAsAsked as DoesAlone};
+ghost use Rattle.warn_serve.specs.Links.{ways};
+ghost use Rattle.serve_command.specs.Words.{serving_of};
+ghost use Rattle.warn_main.specs.Runs.{DoesAsAsked};
 
 use desk_commands::Ended;
+use desk_links::{Gate, Port};
 use desk_program::desk_within;
 use desk_traits::{Clock, Disk, Sink, Source};
 use hazard_types::{List, Text};
 use program_ends::{End, LIMIT, given_words};
+use serve_command::{run_serve, serving_of};
 use std::alloc::Global;
+use std::sync::Wait;
+use std::thread::Threads;
 
-/// Does what the words say, with an input of at most 1,073,741,824 bytes. Returns the status of the
-/// program, and the disk.
-pub fn desk_run<S: Source, K: Sink, D: Disk, C: Clock>(
+/// Does what the words say that are no `serve`, with an input of at most 1,073,741,824 bytes. Returns the
+/// status of the program, and the disk.
+pub fn desk_alone<S: Source, K: Sink, D: Disk, C: Clock>(
     alloc: Global,
     words: &List<Text>,
     input: &mut S,
@@ -22,7 +29,8 @@ pub fn desk_run<S: Source, K: Sink, D: Disk, C: Clock>(
     disk: D,
     clock: &mut C,
 ) -> Ended<D>
-    ensures { DoesAsAsked D.Disk C.Clock words.now most_bytes disk result.disk clock.old clock.new
+    requires { serving_of words.now ≡ None }
+    ensures { DoesAlone D.Disk C.Clock words.now most_bytes disk result.disk clock.old clock.new
         (S.left input.old) (S.left input.new) (K.taken output.old) (K.taken output.new)
         (S.faults input.old) (S.faults input.new) (K.faults output.old) (K.faults output.new)
         result.status }
@@ -30,26 +38,80 @@ pub fn desk_run<S: Source, K: Sink, D: Disk, C: Clock>(
     desk_within(alloc, words, input, output, disk, clock, LIMIT)
 }
 
+/// Does what the words say, with an input of at most 1,073,741,824 bytes. Returns the status of the
+/// program, and the disk.
+pub fn desk_run<
+    R: Threads + Wait + Sync,
+    S: Source,
+    K: Sink,
+    D: Disk + Send,
+    P: Port,
+    C: Clock + Sync,
+    G: Gate + Sync,
+>(
+    rt: &R,
+    alloc: Global,
+    words: &List<Text>,
+    input: &mut S,
+    output: &mut K,
+    disk: D,
+    port: &mut P,
+    clock: &mut C,
+    gate: &G,
+) -> Ended<D>
+    requires { P.returned port.old ≡ 0 }
+    ensures done { DoesAsAsked D.Disk C.Clock
+        (ways P.Door.Link.came P.Door.Link.left P.Door.Link.taken P.Door.Link.Source.faults P.Door.Link.Sink.faults)
+        words.now most_bytes disk result.disk clock.old clock.new
+        (record { returned = P.returned port.old; links = P.links port.old; faults = P.faults port.old })
+        (record { returned = P.returned port.new; links = P.links port.new; faults = P.faults port.new })
+        (S.left input.old) (S.left input.new) (K.taken output.old) (K.taken output.new)
+        (S.faults input.old) (S.faults input.new) (K.faults output.old) (K.faults output.new)
+        result.status }
+    ensures port { serving_of words.now ≡ None → port.new ≡ port.old }
+{
+    match serving_of(words) {
+        Some(serving) => run_serve(rt, alloc, &serving, output, disk, port, clock, gate),
+        None => desk_alone(alloc, words, input, output, disk, clock),
+    }
+}
+
 /// Does what a command line says, of which the program's name and the journal's path come first. Out of
 /// memory for the words, the status is 12, and nothing is read or written.
-pub fn run_program<S: Source, K: Sink, D: Disk, C: Clock>(
+pub fn run_program<
+    R: Threads + Wait + Sync,
+    S: Source,
+    K: Sink,
+    D: Disk + Send,
+    P: Port,
+    C: Clock + Sync,
+    G: Gate + Sync,
+>(
+    rt: &R,
     alloc: Global,
     command_line: &[String],
     input: &mut S,
     output: &mut K,
     disk: D,
+    port: &mut P,
     clock: &mut C,
+    gate: &G,
 ) -> Ended<D>
+    requires { P.returned port.old ≡ 0 }
     ensures { (IsUntouched (S.left input.old) (S.left input.new) (K.taken output.old) (K.taken output.new)
         (S.faults input.old) (S.faults input.new) (K.faults output.old) (K.faults output.new) result.status
-        × (result.disk ≡ disk) × (clock.new ≡ clock.old))
-        ⊎ DoesAsAsked D.Disk C.Clock (words_behind 2 command_line.now) most_bytes disk result.disk
-        clock.old clock.new (S.left input.old) (S.left input.new) (K.taken output.old) (K.taken output.new)
+        × (result.disk ≡ disk) × (clock.new ≡ clock.old) × (port.new ≡ port.old))
+        ⊎ DoesAsAsked D.Disk C.Clock
+        (ways P.Door.Link.came P.Door.Link.left P.Door.Link.taken P.Door.Link.Source.faults P.Door.Link.Sink.faults)
+        (words_behind 2 command_line.now) most_bytes disk result.disk clock.old clock.new
+        (record { returned = P.returned port.old; links = P.links port.old; faults = P.faults port.old })
+        (record { returned = P.returned port.new; links = P.links port.new; faults = P.faults port.new })
+        (S.left input.old) (S.left input.new) (K.taken output.old) (K.taken output.new)
         (S.faults input.old) (S.faults input.new) (K.faults output.old) (K.faults output.new)
         result.status }
 {
     match given_words(alloc, command_line, 2) {
-        Ok(words) => desk_run(alloc, &words, input, output, disk, clock),
+        Ok(words) => desk_run(rt, alloc, &words, input, output, disk, port, clock, gate),
         Err(_) => Ended {
             status: End::OutOfMemory.status(),
             disk,

@@ -1,4 +1,9 @@
 mod Going
-mod Serving
+mod Saying
 mod Calling
 mod Working
+mod Gathering
+mod Returning
+mod Listing
+mod Sharing
+mod Opened

@@ -4,3 +4,6 @@ pub mod Links
 pub mod Wholes
 pub mod Steps
 pub mod Workers
+pub mod Sharing
+pub mod Served
+pub mod Gathered

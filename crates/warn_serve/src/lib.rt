@@ -1,11 +1,14 @@
-//! The office served over links: the answer to a call, the calls of one link, and a worker over the
-//! links of a door.
+//! The office served over links: the answer to a call, the calls of one link, a worker over the links
+//! of a door, and workers over the doors of a port who share one kept office.
 #![tactic(auto)]
 
 mod answers;
 mod calls;
+mod hiring;
 mod links;
+mod serving;
 mod workers;
 
 pub use links::{LinkEnd, MOST_CALLS, serve_link};
+pub use serving::{ServeEnd, serve};
 pub use workers::{WorkerEnd, worker};

@@ -2,7 +2,7 @@ use Rattle.std.proofs.Common.{take, drop}
 use Rattle.std.proofs.lemmas.List.{take-append-drop}
 use Rattle.warn_serve.specs.Answers.{bytes_of}
 use Rattle.warn_serve.specs.Links.{state_of, ways}
-use Rattle.warn_serve.proofs.Serving.{failed_write}
+use Rattle.warn_serve.proofs.Saying.{failed_write}
 use Rattle.warn_serve.proofs.links.finish.Goals as goal
 
 pub returns-in-Err : goal.returns-in-Err

@@ -4,7 +4,7 @@ use Rattle.warn_serve.specs.Calls.{AnswersAsked, AnswersCall}
 use Rattle.warn_serve.specs.Links.{state_of, ways}
 use Rattle.warn_serve.specs.Steps.{IsUnwritten}
 use Rattle.warn_serve.specs.declared.links.LinkEnd.TheVariants.{Closed, Cut, LinkFault}
-use Rattle.warn_serve.proofs.Serving.{call_sent, ends_at, failed_read, refusal_sent}
+use Rattle.warn_serve.proofs.Saying.{call_sent, ends_at, failed_read, refusal_sent}
 use Rattle.warn_serve.proofs.links.serve_next.Goals as goal
 
 pub returns-in-Call-clause-served : goal.returns-in-Call-clause-served

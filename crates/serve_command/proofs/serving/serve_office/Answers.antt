@@ -1,0 +1,25 @@
+use Rattle.std.proofs.Common.{ℕ, ◌≡◌, ◌≤◌, arith, sym, subst}
+use Rattle.warn_serve.specs.Links.{ways}
+use Rattle.warn_serve.specs.Served.{IsServed, PortState}
+use Rattle.serve_command.proofs.serving.serve_office.Goals as goal
+
+pub returns : goal.returns
+returns g c disk opened =
+    let d = g.D.Disk in
+    let p = g.P.Port in
+    let link = g.P.Door.Link in
+    let first : PortState _ = record { returned = p.returned c.args.port.now; links = p.links c.args.port.now; faults = p.faults c.args.port.now } in
+    let last : PortState _ = record { returned = p.returned c.serve-kept.new.port; links = p.links c.serve-kept.new.port; faults = p.faults c.serve-kept.new.port } in
+    let closed = c.serve-kept.result.0 in
+    let served = subst (λ (n : ℕ). IsServed d (ways link.Link.came link.Source.left link.Sink.taken link.Source.faults link.Sink.faults) (g.C.Clock.gives c.args.clock.now) c.args.kept closed n first last c.serve-kept.result.1) c.from-2.ensures c.serve-kept.ensures in
+    record {
+      opened = c.args.kept;
+      first = opened;
+      closed = closed;
+      end = c.serve-kept.result.1;
+      served = served;
+      told = c.tell_served-status.ensures;
+      handed = c.into_disk.ensures;
+      history = c.an_opened_office_keeps_its_history.ensures disk c.args.kept served.happenings opened served.since;
+      later = subst (λ next. d.faults disk ≤ d.faults next) (sym c.into_disk.ensures) (let a = opened.later in let b = served.since.later in omega arith);
+    }

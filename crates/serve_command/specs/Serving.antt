@@ -1,0 +1,45 @@
+-- What `serve` does: the office of a journal is served over the links of a port, and what the journal and the port are then.
+use Rattle.std.specs.Prelude.{◌≡◌, ◌≤◌, ◌⊎◌, ◌++◌, ℕ, ℤ, List, [], length, Option, Some, codes, decimal}
+use Rattle.desk_traits.specs.declared.disk.Disk.{Ghosts as Disks}
+use Rattle.office_journal.specs.Kept.{disk_of, entries_of, state_of}
+use Rattle.office_journal.specs.declared.kept.KeptOffice.{KeptOffice}
+use Rattle.program_ends.specs.Ends.{Telling}
+use Rattle.program_ends.specs.declared.ends.End.TheVariants.{OutOfMemory, PortFault}
+use Rattle.desk_commands.specs.Commands.{IsTold}
+use Rattle.desk_commands.specs.Opening.{IsOpened, IsUnopenedRun}
+use Rattle.warn_serve.specs.Links.{Ways}
+use Rattle.warn_serve.specs.Served.{IsServed, PortState}
+use Rattle.warn_serve.specs.declared.serving.ServeEnd.{ServeEnd}
+use Rattle.warn_serve.specs.declared.serving.ServeEnd.TheVariants as serve
+use Rattle.serve_command.specs.Growing.{HasGrown}
+use Rattle.serve_command.specs.declared.words.Serving.{Serving}
+
+-- the line of an office with so many requests and products
+unfoldable pub summary : ℕ → ℕ → List ℕ
+summary requests products = codes "requests " ++ decimal requests ++ codes " products " ++ decimal products ++ codes "\n"
+
+-- What is told: the line of the office at the end, where all connections were served, unless memory lacks for it; or the port's fault, or want of memory.
+abbrev pub TellsServed : ServeEnd → List ℕ → ℕ → Option (List ℕ) → Option (List ℕ) → ℕ → ℕ → Type 0
+TellsServed serve.Done line writes taken taken' writes' status = IsTold line writes taken taken' writes' status ⊎ Telling [] writes taken taken' writes' (Some OutOfMemory) status
+TellsServed serve.PortFault line writes taken taken' writes' status = Telling [] writes taken taken' writes' (Some PortFault) status
+TellsServed serve.OutOfMemory line writes taken taken' writes' status = Telling [] writes taken taken' writes' (Some OutOfMemory) status
+
+module _ {D L : Type 0} (d : Disks D) (w : Ways L) (gives : ℤ → Type 0) where
+  -- the office that the disk holds was opened and served
+  pub record IsServeRun (serving : Serving) (disk next : D) (port port' : PortState L) (taken taken' : Option (List ℕ)) (writes writes' status : ℕ) : Type 0 where
+    pub opened : KeptOffice D d
+    pub first : IsOpened d disk opened
+    -- the office when all its workers had ended
+    pub closed : KeptOffice D d
+    pub end : ServeEnd
+    pub served : IsServed d w gives opened closed serving.connections port port' end
+    pub told : TellsServed end (summary (entries_of closed) (length (state_of closed).products)) writes taken taken' writes' status
+    pub handed : next ≡ disk_of closed
+    -- one legal history, which holds the requests that were accepted on the links behind what was found, and the disk
+    pub history : HasGrown d disk opened closed served.happenings
+    pub later : d.faults disk ≤ d.faults next
+
+  -- it was; or no office was opened, and the port is as it was
+  abbrev pub Serves : Serving → D → D → PortState L → PortState L → Option (List ℕ) → Option (List ℕ) → ℕ → ℕ → ℕ → Type 0
+  Serves serving disk next port port' taken taken' writes writes' status =
+      (IsUnopenedRun d disk next taken taken' writes writes' status × (port' ≡ port)) ⊎ IsServeRun serving disk next port port' taken taken' writes writes' status

@@ -1,0 +1,138 @@
+//! The command `serve`.
+ghost use Rattle.std.specs.Prelude.{◌≡◌, IfOk, length};
+ghost use Rattle.office_journal.specs.Kept.{entries_of, state_of};
+ghost use Rattle.desk_commands.specs.Opening.{IsOpened};
+ghost use Rattle.warn_serve.specs.Links.{ways};
+ghost use Rattle.serve_command.specs.Serving.{IsServeRun, Serves, TellsServed, summary};
+ghost use Rattle.serve_command.specs.Words.{IsServing};
+
+use crate::growing::an_opened_office_keeps_its_history;
+use crate::words::Serving;
+use desk_commands::{Ended, open, tell};
+use desk_links::{Gate, Port};
+use desk_traits::{Clock, Disk, Sink};
+use hazard_types::{List, Oom, Text, put_number};
+use office_journal::KeptOffice;
+use program_ends::{End, end_at_once};
+use std::alloc::Global;
+use std::sync::Wait;
+use std::thread::Threads;
+use warn_serve::{ServeEnd, serve};
+
+/// The line of an office with so many requests and products.
+#[tactic(auto, unfolding(crate::specs::Serving::summary))]
+fn summary(alloc: Global, requests: u64, products: u32) -> Result<Text, Oom>
+    ensures { IfOk result (λ text. text ≡ summary requests products) }
+{
+    let mut text = List::new(alloc);
+    text.extend(b"requests ")?;
+    put_number(alloc, &mut text, requests as usize)?;
+    text.extend(b" products ")?;
+    put_number(alloc, &mut text, products as usize)?;
+    text.extend(b"\n")?;
+    Ok(text)
+}
+
+/// Tells how the service of an office ended, and returns the status of the program.
+fn tell_served<K: Sink, D: Disk>(
+    alloc: Global,
+    output: &mut K,
+    kept: &KeptOffice<D>,
+    end: ServeEnd,
+) -> u8
+    ensures { TellsServed end (summary (entries_of kept.now) (length (state_of kept.now).products))
+        (K.faults output.old) (K.taken output.old) (K.taken output.new) (K.faults output.new) result }
+{
+    match end {
+        ServeEnd::Done => match summary(alloc, kept.entries(), kept.products()) {
+            Ok(line) => tell(output, line.as_slice()),
+            Err(Oom) => end_at_once(output, End::OutOfMemory),
+        },
+        ServeEnd::PortFault => end_at_once(output, End::PortFault),
+        ServeEnd::OutOfMemory => end_at_once(output, End::OutOfMemory),
+    }
+}
+
+/// Serves an office that was opened.
+fn serve_office<
+    R: Threads + Wait + Sync,
+    K: Sink,
+    D: Disk + Send,
+    P: Port,
+    C: Clock + Sync,
+    G: Gate + Sync,
+>(
+    rt: &R,
+    alloc: Global,
+    serving: &Serving,
+    output: &mut K,
+    kept: KeptOffice<D>,
+    port: &mut P,
+    clock: &C,
+    gate: &G,
+) -> Ended<D>
+    requires form { IsServing serving.now }
+    requires unused { P.returned port.old ≡ 0 }
+    ensures { (disk : D) → IsOpened D.Disk disk kept →
+        IsServeRun D.Disk
+        (ways P.Door.Link.came P.Door.Link.left P.Door.Link.taken P.Door.Link.Source.faults P.Door.Link.Sink.faults)
+        (C.gives clock.now) serving.now disk result.disk
+        (record { returned = P.returned port.old; links = P.links port.old; faults = P.faults port.old })
+        (record { returned = P.returned port.new; links = P.links port.new; faults = P.faults port.new })
+        (K.taken output.old) (K.taken output.new) (K.faults output.old) (K.faults output.new) result.status }
+{
+    let (kept, end) = serve(
+        rt,
+        alloc,
+        kept,
+        port,
+        serving.port,
+        usize::from(serving.workers),
+        u64::from(serving.connections),
+        clock,
+        gate,
+    );
+    an_opened_office_keeps_its_history(&kept);
+    let status = tell_served(alloc, output, &kept, end);
+    Ended {
+        status,
+        disk: kept.into_disk(),
+    }
+}
+
+/// Serves the office whose journal the disk holds over the links of a port, and then tells how many requests and products
+/// it has.
+pub fn run_serve<
+    R: Threads + Wait + Sync,
+    K: Sink,
+    D: Disk + Send,
+    P: Port,
+    C: Clock + Sync,
+    G: Gate + Sync,
+>(
+    rt: &R,
+    alloc: Global,
+    serving: &Serving,
+    output: &mut K,
+    disk: D,
+    port: &mut P,
+    clock: &C,
+    gate: &G,
+) -> Ended<D>
+    requires form { IsServing serving.now }
+    requires unused { P.returned port.old ≡ 0 }
+    ensures { Serves D.Disk
+        (ways P.Door.Link.came P.Door.Link.left P.Door.Link.taken P.Door.Link.Source.faults P.Door.Link.Sink.faults)
+        (C.gives clock.now) serving.now disk result.disk
+        (record { returned = P.returned port.old; links = P.links port.old; faults = P.faults port.old })
+        (record { returned = P.returned port.new; links = P.links port.new; faults = P.faults port.new })
+        (K.taken output.old) (K.taken output.new) (K.faults output.old) (K.faults output.new) result.status }
+{
+    match open(alloc, disk) {
+        Ok(kept) => serve_office(rt, alloc, serving, output, kept, port, clock, gate),
+        Err((disk, end)) => Ended {
+            status: end_at_once(output, end),
+            disk,
+        },
+    }
+}

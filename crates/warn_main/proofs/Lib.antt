@@ -1,0 +1,2 @@
+mod Portless
+mod Served

@@ -1,0 +1,154 @@
+//! Workers, each with a share of one pass and of the links.
+ghost use Rattle.std.specs.Prelude.{◌≡◌, ◌≤◌, ◌<◌, ◌+◌, [], ℕ, All, length, map, slice_index_or, vec_len};
+ghost use Rattle.warn_serve.specs.Calls.{AnswersCall};
+ghost use Rattle.warn_serve.specs.Gathered.{DoesShare, IsFresh, KeepsWhole, TakesBack, total_of};
+ghost use Rattle.warn_serve.specs.Links.{ways};
+ghost use Rattle.warn_serve.specs.Served.{port_of};
+ghost use Rattle.warn_serve.specs.Workers.{door_of};
+ghost use Rattle.desk_links.specs.Links.{IsUnused};
+
+use crate::workers::{WorkerEnd, worker};
+use desk_links::{Door, Gate, Port};
+use desk_traits::{Clock, Disk};
+use office_turns::SharedOffice;
+use std::alloc::Global;
+use std::sync::Wait;
+use std::thread;
+use std::thread::Threads;
+use turn_lock::{Pass, Storied, TurnLock};
+
+/// A worker: its pass, its door, how many links it has to serve, and how it ended.
+#[derive(Drop)]
+pub(crate) struct Worker<T: Storied, Dr> {
+    pub(crate) pass: Pass<T>,
+    pub(crate) door: Dr,
+    pub(crate) share: u64,
+    pub(crate) end: WorkerEnd,
+}
+
+/// The share of the next of so many workers in the links that are left: those before take one more
+/// where they can't be shared evenly.
+fn share_of(left: u64, workers: u64) -> u64
+    requires { 0 < workers }
+    ensures most { result ≤ left }
+    ensures all { workers ≡ 1 → result ≡ left }
+{
+    left.div_ceil(workers)
+}
+
+/// A worker for each door, with its share of the pass and of the links. Where memory lacks for one
+/// its door goes back to the port, and those behind it take its links. Tells how many links are left
+/// without a worker.
+pub(crate) fn hire<D: Disk, P: Port>(
+    alloc: Global,
+    lock: &TurnLock<SharedOffice<D>>,
+    pass: &mut Pass<SharedOffice<D>>,
+    port: &mut P,
+    doors: Vec<P::Door>,
+    connections: u64,
+) -> (Vec<Worker<SharedOffice<D>, P::Door>>, u64)
+    requires lock { pass.old.lock ≡ lock.now }
+    requires shares { vec_len doors < pass.old.shares }
+    requires unused { All (λ door. IsUnused (P.Door.given door) (P.Door.returned door) (P.Door.faults door) (P.Door.links door)) doors.items }
+    requires few { P.returned port.old ≤ 1000000 }
+    ensures kept { KeepsWhole pass.old pass.new }
+    ensures shares { pass.new.shares + vec_len result.0 ≡ pass.old.shares }
+    ensures fresh { All (λ w. IsFresh pass.old w.pass (door_of P.Door.given P.Door.returned P.Door.links P.Door.faults w.door) w.share connections) result.0.items }
+    ensures total { total_of (map (λ w. w.share) result.0.items) + result.1 ≡ connections }
+    ensures port { TakesBack (port_of P.returned P.links P.faults port.old) (port_of P.returned P.links P.faults port.new) [] }
+{
+    let mut workers = Vec::new(alloc);
+    let mut left = connections;
+    let mut waiting = doors.len() as u64;
+    for door in doors {
+        let share = share_of(left, waiting);
+        waiting -= 1;
+        if workers.reserve(1).is_err() {
+            port.back(door);
+            continue;
+        }
+        let Ok(part) = lock.split(pass) else {
+            port.back(door);
+            continue;
+        };
+        left -= share;
+        workers.push_reserved(Worker {
+            pass: part,
+            door,
+            share,
+            end: WorkerEnd::Done(0),
+        });
+    }
+    (workers, left)
+}
+
+/// A worker serves its share of the links.
+fn work<R: Wait, D: Disk, Dr: Door, C: Clock, G: Gate>(
+    rt: &R,
+    alloc: Global,
+    lock: &TurnLock<SharedOffice<D>>,
+    one: &mut Worker<SharedOffice<D>, Dr>,
+    clock: &C,
+    gate: &G,
+)
+    requires lock { one.old.pass.lock ≡ lock.now }
+    requires few { one.old.share ≤ 1000000 }
+    requires none_given { Dr.given one.old.door ≡ 0 }
+    requires none_returned { Dr.returned one.old.door ≡ 0 }
+    ensures share { one.new.share ≡ one.old.share }
+    ensures does { DoesShare (ways Dr.Link.came Dr.Link.left Dr.Link.taken Dr.Link.Source.faults Dr.Link.Sink.faults) (AnswersCall (C.gives clock.now)) one.old.share
+        (door_of Dr.given Dr.returned Dr.links Dr.faults one.old.door)
+        (door_of Dr.given Dr.returned Dr.links Dr.faults one.new.door) one.old.pass one.new.pass one.new.end }
+{
+    let share = one.share;
+    one.end = worker(
+        rt,
+        alloc,
+        lock,
+        &mut one.pass,
+        &mut one.door,
+        share,
+        clock,
+        gate,
+    );
+}
+
+/// Each worker serves its share of the links, in a thread of its own where one can be made.
+pub(crate) fn work_all<
+    R: Threads + Wait + Sync,
+    D: Disk + Send,
+    Dr: Door + Send,
+    C: Clock + Sync,
+    G: Gate + Sync,
+>(
+    rt: &R,
+    alloc: Global,
+    lock: &TurnLock<SharedOffice<D>>,
+    workers: &mut [Worker<SharedOffice<D>, Dr>],
+    clock: &C,
+    gate: &G,
+)
+    requires lock { All (λ w. w.pass.lock ≡ lock.now) workers.old }
+    requires few { All (λ w. w.share ≤ 1000000) workers.old }
+    requires none_given { All (λ w. Dr.given w.door ≡ 0) workers.old }
+    requires none_returned { All (λ w. Dr.returned w.door ≡ 0) workers.old }
+    ensures count { length workers.new ≡ length workers.old }
+    ensures share { (i : ℕ) (w : _) → i < length workers.old → (slice_index_or workers.new i w).share ≡ (slice_index_or workers.old i w).share }
+    ensures does { (i : ℕ) (w : _) → i < length workers.old → DoesShare (ways Dr.Link.came Dr.Link.left Dr.Link.taken Dr.Link.Source.faults Dr.Link.Sink.faults) (AnswersCall (C.gives clock.now)) (slice_index_or workers.old i w).share
+        (door_of Dr.given Dr.returned Dr.links Dr.faults (slice_index_or workers.old i w).door)
+        (door_of Dr.given Dr.returned Dr.links Dr.faults (slice_index_or workers.new i w).door)
+        (slice_index_or workers.old i w).pass (slice_index_or workers.new i w).pass (slice_index_or workers.new i w).end }
+{
+    thread::for_each_mut(
+        rt,
+        workers,
+        16,
+        &|_: usize, one: &mut Worker<SharedOffice<D>, Dr>|
+            requires { (one.old.pass.lock ≡ lock.now) × (one.old.share ≤ 1000000) × (Dr.given one.old.door ≡ 0) × (Dr.returned one.old.door ≡ 0) }
+            ensures share { one.new.share ≡ one.old.share }
+            ensures does { DoesShare (ways Dr.Link.came Dr.Link.left Dr.Link.taken Dr.Link.Source.faults Dr.Link.Sink.faults) (AnswersCall (C.gives clock.entry.now)) one.old.share
+                (door_of Dr.given Dr.returned Dr.links Dr.faults one.old.door)
+                (door_of Dr.given Dr.returned Dr.links Dr.faults one.new.door) one.old.pass one.new.pass one.new.end }
+        { work(rt, alloc, lock, one, clock, gate) },
+    );
+}

@@ -1,0 +1,182 @@
+//! The whole service: workers over the doors of a port share one kept office.
+ghost use Rattle.std.specs.Prelude.{◌≡◌, ◌≤◌, ◌<◌, ◌+◌, All, map, vec_len};
+ghost use Rattle.warn_serve.specs.Calls.{AnswersCall};
+ghost use Rattle.warn_serve.specs.Gathered.{HasDone, IsFresh, IsGathered, end_after, short_of, total_of};
+ghost use Rattle.warn_serve.specs.Links.{ways};
+ghost use Rattle.warn_serve.specs.Served.{IsServed, port_of};
+ghost use Rattle.warn_serve.specs.Workers.{door_of};
+
+use crate::hiring::{Worker, hire, work_all};
+use crate::workers::WorkerEnd;
+use desk_links::{Gate, Port};
+use desk_traits::{Clock, Disk, Failed};
+use hazard_types::Or;
+use office_journal::KeptOffice;
+use office_turns::SharedOffice;
+use std::alloc::Global;
+use std::sync::Wait;
+use std::thread::Threads;
+use turn_lock::{Pass, TurnLock};
+
+/// How serving ended.
+#[derive(Clone, Copy, Debug, PartialEq, Eq)]
+pub enum ServeEnd {
+    /// All links were served, and none of them ended for want of memory.
+    Done,
+    /// The port or one of its doors failed.
+    PortFault,
+    OutOfMemory,
+}
+
+/// An end, where for so many links memory lacked.
+fn short_of(end: ServeEnd, lacks: u64) -> ServeEnd
+    ensures { result ≡ short_of end lacks }
+{
+    match end {
+        ServeEnd::Done => {
+            if lacks == 0 {
+                ServeEnd::Done
+            } else {
+                ServeEnd::OutOfMemory
+            }
+        }
+        ServeEnd::PortFault => ServeEnd::PortFault,
+        ServeEnd::OutOfMemory => ServeEnd::OutOfMemory,
+    }
+}
+
+/// An end, after one worker more that ended so.
+fn end_after(end: ServeEnd, worked: WorkerEnd) -> ServeEnd
+    ensures { result ≡ end_after end worked }
+{
+    match worked {
+        WorkerEnd::Done(lacks) => short_of(end, lacks),
+        WorkerEnd::PortFault => ServeEnd::PortFault,
+    }
+}
+
+/// Takes in the passes of all workers, gives their doors back, and tells how serving ended.
+fn gather<D: Disk, P: Port, C: Clock>(
+    lock: &TurnLock<SharedOffice<D>>,
+    pass: &mut Pass<SharedOffice<D>>,
+    port: &mut P,
+    workers: Vec<Worker<SharedOffice<D>, P::Door>>,
+    clock: &C,
+) -> ServeEnd
+    requires lock { pass.old.lock ≡ lock.now }
+    requires done { All (λ w. HasDone (ways P.Door.Link.came P.Door.Link.left P.Door.Link.taken P.Door.Link.Source.faults P.Door.Link.Sink.faults) (AnswersCall (C.gives clock.now))
+        pass.old w.share (door_of P.Door.given P.Door.returned P.Door.links P.Door.faults w.door) w.pass w.end) workers.items }
+    requires few { P.returned port.old + total_of (map (λ w. w.share) workers.items) ≤ 1000000 }
+    ensures shares { pass.new.shares ≡ pass.old.shares + vec_len workers }
+    ensures gathered { IsGathered (ways P.Door.Link.came P.Door.Link.left P.Door.Link.taken P.Door.Link.Source.faults P.Door.Link.Sink.faults) (AnswersCall (C.gives clock.now))
+        (total_of (map (λ w. w.share) workers.items)) (port_of P.returned P.links P.faults port.old) (port_of P.returned P.links P.faults port.new) pass.old pass.new result }
+{
+    let mut end = ServeEnd::Done;
+    for worker in workers {
+        let Worker {
+            pass: part,
+            door,
+            end: worked,
+            ..
+        } = worker;
+        lock.join(pass, part);
+        port.back(door);
+        end = end_after(end, worked);
+    }
+    end
+}
+
+/// The workers serve their shares, and their passes and doors are taken in.
+fn serve_shares<R: Threads + Wait + Sync, D: Disk + Send, P: Port, C: Clock + Sync, G: Gate + Sync>(
+    rt: &R,
+    alloc: Global,
+    lock: &TurnLock<SharedOffice<D>>,
+    pass: &mut Pass<SharedOffice<D>>,
+    port: &mut P,
+    mut workers: Vec<Worker<SharedOffice<D>, P::Door>>,
+    clock: &C,
+    gate: &G,
+) -> ServeEnd
+    requires lock { pass.old.lock ≡ lock.now }
+    requires fresh { All (λ w. IsFresh pass.old w.pass (door_of P.Door.given P.Door.returned P.Door.links P.Door.faults w.door) w.share 1000000) workers.items }
+    requires few { P.returned port.old + total_of (map (λ w. w.share) workers.items) ≤ 1000000 }
+    ensures shares { pass.new.shares ≡ pass.old.shares + vec_len workers }
+    ensures gathered { IsGathered (ways P.Door.Link.came P.Door.Link.left P.Door.Link.taken P.Door.Link.Source.faults P.Door.Link.Sink.faults) (AnswersCall (C.gives clock.now))
+        (total_of (map (λ w. w.share) workers.items)) (port_of P.returned P.links P.faults port.old) (port_of P.returned P.links P.faults port.new) pass.old pass.new result }
+{
+    work_all(rt, alloc, lock, workers.as_mut_slice(), clock, gate);
+    gather(lock, pass, port, workers, clock)
+}
+
+/// Serves so many links of the port's doors, by a worker for each door.
+fn serve_port<R: Threads + Wait + Sync, D: Disk + Send, P: Port, C: Clock + Sync, G: Gate + Sync>(
+    rt: &R,
+    alloc: Global,
+    lock: &TurnLock<SharedOffice<D>>,
+    pass: &mut Pass<SharedOffice<D>>,
+    port: &mut P,
+    number: u16,
+    workers: usize,
+    connections: u64,
+    clock: &C,
+    gate: &G,
+) -> ServeEnd
+    requires lock { pass.old.lock ≡ lock.now }
+    requires shares { pass.old.shares ≡ 1024 }
+    requires workers { workers ≤ 16 }
+    requires connections { (1 ≤ connections) × (connections ≤ 1000000) }
+    requires unused { P.returned port.old ≡ 0 }
+    ensures shares { pass.new.shares ≡ 1024 }
+    ensures gathered { IsGathered (ways P.Door.Link.came P.Door.Link.left P.Door.Link.taken P.Door.Link.Source.faults P.Door.Link.Sink.faults) (AnswersCall (C.gives clock.now))
+        connections (port_of P.returned P.links P.faults port.old) (port_of P.returned P.links P.faults port.new) pass.old pass.new result }
+{
+    let doors = match port.listen(number, workers) {
+        Ok(doors) => doors.into_vec(),
+        Err(Or::No(Failed)) => return ServeEnd::PortFault,
+        Err(Or::OutOfMemory) => return ServeEnd::OutOfMemory,
+    };
+    let (hired, left) = hire(alloc, lock, pass, port, doors, connections);
+    let end = serve_shares(rt, alloc, lock, pass, port, hired, clock, gate);
+    short_of(end, left)
+}
+
+/// Serves so many links of the doors of a port, 1 to 1,000,000, over one kept office, by 1 to 16
+/// workers, and tells how that ended. The office comes back, after all that happened to it. Where
+/// memory lacks for a worker the others serve fewer links, or all of them.
+pub fn serve<R: Threads + Wait + Sync, D: Disk + Send, P: Port, C: Clock + Sync, G: Gate + Sync>(
+    rt: &R,
+    alloc: Global,
+    kept: KeptOffice<D>,
+    port: &mut P,
+    number: u16,
+    workers: usize,
+    connections: u64,
+    clock: &C,
+    gate: &G,
+) -> (KeptOffice<D>, ServeEnd)
+    requires workers { (1 ≤ workers) × (workers ≤ 16) }
+    requires connections { (1 ≤ connections) × (connections ≤ 1000000) }
+    requires unused { P.returned port.old ≡ 0 }
+    ensures { IsServed D.Disk (ways P.Door.Link.came P.Door.Link.left P.Door.Link.taken P.Door.Link.Source.faults P.Door.Link.Sink.faults) (C.gives clock.now) kept result.0 connections
+        (port_of P.returned P.links P.faults port.old) (port_of P.returned P.links P.faults port.new) result.1 }
+{
+    let shared = SharedOffice::open(alloc, kept);
+    let (lock, mut pass) = match TurnLock::start(alloc, shared) {
+        Ok(made) => made,
+        Err(shared) => return (shared.into_kept(), ServeEnd::OutOfMemory),
+    };
+    let end = serve_port(
+        rt,
+        alloc,
+        &lock,
+        &mut pass,
+        port,
+        number,
+        workers,
+        connections,
+        clock,
+        gate,
+    );
+    let closed = lock.close(pass);
+    (closed.into_kept(), end)
+}
