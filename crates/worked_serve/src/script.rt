@@ -15,7 +15,6 @@ use std::net::{Net, TcpListener, TcpStream};
 use std::sync::Wait;
 use std::thread::Threads;
 use std::time::Clock;
-use worked_lines::Work;
 
 /// The settings, what the next run stands on, and the bytes of the link, the links of the door and the doors that were
 /// written so far. And whether the next run's gate holds the first call.
@@ -178,11 +177,9 @@ impl<'a, R: Clock + Threads + Wait + Sync + Net<Listener = TcpListener, Stream =
             _ => unread(alloc, line),
         }
     }
-}
 
-impl<'a, R: Clock + Threads + Wait + Sync + Net<Listener = TcpListener, Stream = TcpStream>> Work
-    for Script<'a, R> {
-    fn work(&mut self, alloc: Global, line: &str) -> Result<String, Oom> {
+    /// What a line of the script is answered.
+    pub fn answer(&mut self, alloc: Global, line: &str) -> Result<String, Oom> {
         if line.is_empty() || line.starts_with('#') || self.prepare(alloc, line)? {
             return Ok(String::new(alloc));
         }
