@@ -1,0 +1,54 @@
+//! A gate that holds a call.
+use desk_links::Gate;
+use std::sync::atomic::{AtomicU64, Ordering};
+
+/// The most times that a gate looks whether another call was answered.
+const MOST_LOOKS: u64 = 1_000_000_000;
+
+/// Holds the first call that comes, until another one was answered, where it is told to.
+#[derive(Drop)]
+pub struct HoldingGate {
+    holds: bool,
+    entered: AtomicU64,
+    answered: AtomicU64,
+    spent: AtomicU64,
+}
+
+impl HoldingGate {
+    pub fn new(holds: bool) -> Self {
+        HoldingGate {
+            holds,
+            entered: AtomicU64::new(0),
+            answered: AtomicU64::new(0),
+            spent: AtomicU64::new(0),
+        }
+    }
+
+    /// Waits until a call was answered, and notes where none was within the most looks.
+    fn wait(&self) {
+        for _ in 0..MOST_LOOKS {
+            if 0 < self.answered.load(Ordering::SeqCst) {
+                return;
+            }
+        }
+        let _ = self.spent.fetch_add(1, Ordering::SeqCst);
+    }
+
+    /// Whether a call was held for the most looks in vain.
+    pub fn is_spent(&self) -> bool {
+        0 < self.spent.load(Ordering::SeqCst)
+    }
+}
+
+impl Gate for HoldingGate {
+    fn enter(&self, _call: u64) {
+        let before = self.entered.fetch_add(1, Ordering::SeqCst);
+        if self.holds && before == 0 {
+            self.wait();
+        }
+    }
+
+    fn leave(&self, _call: u64) {
+        let _ = self.answered.fetch_add(1, Ordering::SeqCst);
+    }
+}
