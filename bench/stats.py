@@ -68,7 +68,7 @@ with tempfile.TemporaryDirectory() as place:
             growth = ""
             if before:
                 growth = ", exponent %.2f" % (math.log(seconds / before[1]) / math.log(bytes_in / before[0]))
-            print("%s, %.1f MB, %d products: %.2f s%s, %.2f times warn_archive, peak %s, status %d%s"
-                  % (name, bytes_in / 1048576, count, seconds, growth, seconds / max(other, 0.001), kilobytes(memory), status,
+            print("%s, %.1f MB, %s products: %.2f s%s, %.2f times warn_archive, peak %s, status %d%s"
+                  % (name, bytes_in / 1048576, count or "all its", seconds, growth, seconds / max(other, 0.001), kilobytes(memory), status,
                      ratio((seconds, written, memory, status), folder, stats, path)))
             before = bytes_in, seconds
