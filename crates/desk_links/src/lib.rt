@@ -1,6 +1,7 @@
 //! Links, doors, ports and gates: the outside of a program that serves calls.
 #![tactic(auto)]
 
+mod ahead;
 mod dialer;
 mod dialer_memory;
 mod gate;

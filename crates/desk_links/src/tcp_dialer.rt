@@ -1,18 +1,21 @@
 //! The dialer of the system, over TCP on this machine's own address. It is trusted.
-ghost use Rattle.std.specs.Prelude.{◌≡◌, ◌<◌, ◌-◌, ◌^◌, ◌+◌, min, None, length, IfOk, OnOk};
+ghost use Rattle.std.specs.Prelude.{◌≡◌, ◌≢◌, ◌<◌, ◌-◌, ◌^◌, ◌+◌, ◌++◌, [], take, min, None, length, IfOk, OnOk};
 ghost use Rattle.desk_traits.specs.Faults.{HasCause};
 ghost use Rattle.desk_traits.specs.Streams.{Reads};
 
+use crate::ahead::Ahead;
 use crate::dialer::{Dialer, Peer};
 use crate::link::Link;
 use crate::tcp::TcpLink;
 use desk_traits::{Failed, Sink, Source};
 use std::net::{Ipv4Addr, Net, SocketAddr, SocketAddrV4, TcpListener, TcpStream};
 
-/// A stream whose reads fail where the other side's bytes end.
+/// A stream whose reads fail where the other side's bytes end. It takes what the system has of them,
+/// up to 4,096 bytes, and hands out those that are asked for; the others wait for the next read.
 #[derive(Drop)]
 pub struct TcpPeer {
     link: TcpLink,
+    ahead: Ahead,
 }
 
 impl Source for TcpPeer {
@@ -28,14 +31,18 @@ impl Source for TcpPeer {
         ensures steady { OnOk result (self.new.link.read_faults ≡ self.old.link.read_faults) }
         ensures beside { self.new.link.write_faults ≡ self.old.link.write_faults }
         ensures some { IfOk result (λ n. 0 < length into.old → 0 < n) }
+
+        // What waits is handed out first, in its order, and nothing of it is lost.
+        ensures waiting { self.old.ahead ≢ [] → IfOk result (λ n. self.old.ahead ≡ take n into.new ++ self.new.ahead) }
     {
-        match self.link.read(into)? {
-            0 if !into.is_empty() => {
+        if self.ahead.is_empty() && !into.is_empty() {
+            self.ahead.fill(&mut self.link)?;
+            if self.ahead.is_empty() {
                 self.link.read_faults = self.link.read_faults.saturating_add(1);
-                Err(Failed)
+                return Err(Failed);
             }
-            count => Ok(count),
         }
+        Ok(self.ahead.hand_out(into))
     }
 }
 
@@ -121,6 +128,7 @@ impl<R: Net<Listener = TcpListener, Stream = TcpStream>> Dialer for TcpDialer<R>
                 self.given += 1;
                 Ok(TcpPeer {
                     link: TcpLink::over(stream),
+                    ahead: Ahead::none(),
                 })
             }
             Err(_) => {
