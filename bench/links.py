@@ -1,61 +1,51 @@
 """Measures how the bytes of a call come: a head of 8 KiB and a body of 64 KiB in one piece, and byte by byte, outside the gate.
 
-usage: python3 bench/links.py [CALLS]    over crates/warn_main as built last (PROGRAM names another program); 5 calls each way
+usage: python3 bench/links.py [CALLS]    over crates/worked_serve as built last (PROGRAM names another program); 100 calls
 
-A server with one worker answers the calls, which are no JSON, so that the office is not asked. Seconds are of the server's
-processor time. The system may hand several bytes over at once, so the second figure is a bound for what a slow peer costs.
+The link stands in memory, so that no call of the system is measured. Each call posts a body that is no JSON, and is answered
+400. Seconds are of the processor; what the program takes to write the calls out and to serve none of them is taken off.
 """
-import os
-import socket
+import subprocess
 import sys
+import tempfile
 
-from serve import Server, more
-from measure import program
+from measure import program, run
 
 HEAD, BODY = 8192, 65536
+SETTINGS = ["office = \"KLWX\"", "site = \"LWX\"", "office_line = \"National Weather Service Baltimore MD\"",
+            "zone = \"Eastern\"", "desks = [\"A\"]", "[headings]", "WSW = \"WWUS41\"", "[zones]", "MDZ003 = \"Washington\""]
 
 
-def call():
-    """A posted call: its head padded by a field to 8,192 bytes, its body no JSON."""
-    front = b"POST /requests HTTP/1.1\r\nContent-Length: %d\r\nX-Pad: " % BODY
-    return front + b"x" * (HEAD - len(front) - 4) + b"\r\n\r\n" + b"{" * BODY
+def script(calls, runs):
+    """The rows of an office, of so many calls on a link, and of what is done with them."""
+    front = "POST /requests HTTP/1.1\r\nContent-Length: %d\r\n" % BODY
+    padding = "x" * (HEAD - len(front) - len("X-Pad: \r\n\r\n"))
+    call = ["head POST /requests HTTP/1.1", "head Content-Length: %d" % BODY, "head X-Pad: " + padding, "head",
+            "bytes " + "{" * BODY]
+    rows = ["settings " + line for line in SETTINGS] + ["init", "at 180103T1000Z"] + call * calls + runs
+    return "".join(row + "\n" for row in rows)
 
 
-def answer(link):
-    held = b""
-    while b"\r\n\r\n" not in held or not held.endswith(b"}"):
-        held += more(link)
-    return held
-
-
-def spent(server):
-    with open("/proc/%d/stat" % server.work.pid) as file:
-        fields = file.read().rsplit(")", 1)[1].split()
-    return (int(fields[11]) + int(fields[12])) / os.sysconf("SC_CLK_TCK")
-
-
-def seconds(path, calls, step):
-    """The server's seconds for a call that comes in pieces of so many bytes."""
-    server = Server(path, "/dev/shm", 1, 1)
-    link = server.link()
-    link.setsockopt(socket.IPPROTO_TCP, socket.TCP_NODELAY, 1)
-    before, sent = spent(server), call()
-    for _ in range(calls):
-        for at in range(0, len(sent), step):
-            link.sendall(sent[at:at + step])
-        if b" 400 " not in answer(link).split(b"\r\n")[0]:
-            raise SystemExit("another answer")
-    taken = (spent(server) - before) / calls
-    link.close()
-    server.check("requests 0 products 0")
-    return taken
+def seconds(path, calls, runs):
+    """The processor's seconds of a script, and what it is answered."""
+    with tempfile.NamedTemporaryFile("w", suffix=".rows", newline="") as rows:
+        rows.write(script(calls, runs))
+        rows.flush()
+        taken = min(run([path], rows.name)[0] for _ in range(3))
+        answer = subprocess.run([path], stdin=open(rows.name), capture_output=True, check=True).stdout
+    return taken, answer.decode().splitlines()[-1]
 
 
 def main():
-    calls = int(sys.argv[1]) if len(sys.argv) > 1 else 5
-    path = program("warn_main")
-    whole, bytewise = seconds(path, calls * 20, HEAD + BODY), seconds(path, calls, 1)
-    print("in one piece: %.2f ms a call; byte by byte: %.1f ms" % (whole * 1000, bytewise * 1000))
+    calls = int(sys.argv[1]) if len(sys.argv) > 1 else 100
+    path = program("worked_serve")
+    none, _ = seconds(path, calls, ["words"])
+    whole, answer = seconds(path, calls, ["tally"])
+    bytewise, same = seconds(path, calls, ["tally 1"])
+    if answer != same or not answer.startswith("answers "):
+        raise SystemExit("other answers: %s / %s" % (answer, same))
+    one, each = (whole - none) / calls, (bytewise - none) / calls
+    print("%s\nin one piece: %.3f ms a call; byte by byte: %.3f ms; %.1f times" % (answer, one * 1000, each * 1000, each / one))
 
 
 if __name__ == "__main__":

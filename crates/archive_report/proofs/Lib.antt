@@ -1,4 +1,3 @@
-pub mod Shapes
 pub mod Numbers
 pub mod Fronts
 pub mod Paging

@@ -1,12 +1,9 @@
 //! The words of the command line.
-ghost use Rattle.std.specs.Prelude.{◌≡◌, ◌||◌, Some, None, if◌then◌else◌};
-ghost use Rattle.std.specs.List.{list_all};
-ghost use Rattle.hazard_types.specs.Calendar.{is_digit};
-ghost use Rattle.hazard_types.specs.Places.{is_capital};
-ghost use Rattle.hazard_types.specs.Characters.{is_office};
+ghost use Rattle.std.specs.Prelude.{◌≡◌};
 ghost use Rattle.archive_report.specs.Words.{asked_of};
 
 use hazard_types::{Class, List, Minute, Text, classes, find, read_stamp};
+use program_ends::office_of;
 
 /// Whose lines a report tells, and the minute whose rows it shows.
 #[derive(Clone, Copy, Debug)]
@@ -14,29 +11,6 @@ pub struct Asked {
     pub office: [u8; 4],
     pub class: Class,
     pub minute: Minute,
-}
-
-/// Whether all are capital letters or digits.
-fn are_office_letters(word: &[u8]) -> bool
-    ensures { result ≡ list_all (λ c. is_capital c || is_digit c) word.now }
-{
-    word.iter()
-        .all(|c| c.is_ascii_uppercase() || c.is_ascii_digit())
-}
-
-/// The office that a word names.
-#[tactic(auto, using(crate::proofs::Shapes::four_is))]
-fn office_of(word: &[u8]) -> Option<[u8; 4]>
-    ensures { result ≡ (if is_office word.now then Some word.now else None) }
-{
-    let [first, second, third, fourth] = word else {
-        return None;
-    };
-    if are_office_letters(word) {
-        Some([*first, *second, *third, *fourth])
-    } else {
-        None
-    }
 }
 
 /// The office, the class and the minute of the words `OFFICE CLASS STAMP`.

@@ -9,6 +9,5 @@ mod PlainSegments
 mod ReadLemmas
 mod RuleLemmas
 mod RunLemmas
-mod Shapes
 mod Unbroken
 mod Writable

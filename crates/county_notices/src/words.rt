@@ -1,38 +1,12 @@
 //! The words of the command line.
-ghost use Rattle.std.specs.Prelude.{◌≡◌, ◌||◌, IfSome, IsTrue, Some, None, if◌then◌else◌};
-ghost use Rattle.std.specs.List.{list_all};
-ghost use Rattle.hazard_types.specs.Calendar.{is_digit};
+ghost use Rattle.std.specs.Prelude.{◌≡◌, IfSome, IsTrue};
 ghost use Rattle.hazard_types.specs.Characters.{is_office};
-ghost use Rattle.hazard_types.specs.Places.{is_capital};
 ghost use Rattle.desk_settings.specs.Forms.{local_zone_in};
 ghost use Rattle.county_notices.specs.Words.{issuer_of};
 
 use crate::issuer::Issuer;
 use hazard_types::{List, LocalZone, Text};
-
-/// Whether all are capital letters or digits.
-fn are_office_letters(word: &[u8]) -> bool
-    ensures { result ≡ list_all (λ c. is_capital c || is_digit c) word.now }
-{
-    word.iter()
-        .all(|c| c.is_ascii_uppercase() || c.is_ascii_digit())
-}
-
-/// The office that a word names.
-#[tactic(auto, using(crate::proofs::Shapes::four_is))]
-fn office_of(word: &[u8]) -> Option<[u8; 4]>
-    ensures value { result ≡ (if is_office word.now then Some word.now else None) }
-    ensures office { IfSome result (λ office. IsTrue (is_office office)) }
-{
-    let [first, second, third, fourth] = word else {
-        return None;
-    };
-    if are_office_letters(word) {
-        Some([*first, *second, *third, *fourth])
-    } else {
-        None
-    }
-}
+use program_ends::office_of;
 
 /// The zone that a word names.
 fn local_zone_in(word: &[u8]) -> Option<LocalZone>

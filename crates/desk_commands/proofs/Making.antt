@@ -1,22 +1,40 @@
 -- How a journal is made, and why it is not.
-use Rattle.std.proofs.Common.{ℕ, ◌≡◌, ◌⊎◌, inl, inr, List, Option, None, Some, Err, refl, sym, ◌∙◌, subst}
+use Rattle.std.proofs.Common.{ℕ, ◌≡◌, ◌≤◌, ◌⊎◌, if◌then◌else◌, ltb, Bool, true, false, inl, inr, List, length, Option, None, Some, Result, Ok, Err, refl, sym, ◌∙◌, subst, arith}
+use Rattle.std.proofs.lemmas.Bool.{ltb-false}
 use Rattle.desk_settings.specs.Reading.{settings_of}
 use Rattle.desk_settings.specs.declared.fault.SettingsFault.{SettingsFault}
+use Rattle.desk_settings.specs.declared.fault.SettingsFault.TheVariants.{TooLong}
+use Rattle.desk_settings.specs.declared.settings.Settings.{Settings}
 use Rattle.desk_traits.specs.Crash.{LeavesOnly}
 use Rattle.desk_traits.specs.declared.disk.Disk.{Ghosts as Disks}
 use Rattle.desk_traits.specs.Faults.{Rose}
 use Rattle.desk_traits.specs.File.{Only}
+use Rattle.desk_traits.specs.Streams.{IsAtEnd}
 use Rattle.hazard_types.specs.declared.request.Edition.TheVariants.{Two}
 use Rattle.journal_core.specs.Image.{Fresh}
 use Rattle.office_journal.specs.Changes.{Change, Leaves}
 use Rattle.office_journal.specs.Histories.{History, ImageOf, empty}
 use Rattle.office_journal.specs.Kept.{Holds, disk_of}
+use Rattle.office_journal.specs.Making.{IsMadeFor}
 use Rattle.office_journal.specs.declared.faults.KeepFault.{KeepFault}
 use Rattle.office_journal.specs.declared.faults.KeepFault.TheVariants as keep
 use Rattle.office_journal.specs.declared.kept.KeptOffice.{KeptOffice}
 use Rattle.program_ends.specs.declared.ends.End.{End}
 use Rattle.desk_commands.specs.Commands.{IsLeft, IsMade, IsWhyUnmade}
 use Rattle.desk_commands.specs.Unmade.{EndsAs}
+
+not_long : (b : Bool) (r : Result Settings SettingsFault) (settings : Settings) → (if b then Err TooLong else r) ≡ Ok settings → b ≡ false
+not_long true r settings e = cc
+not_long false r settings e = refl
+
+settings_short : (read : List ℕ) (settings : Settings) → settings_of read ≡ Ok settings → length read ≤ 1048576
+unfolding settings_of
+settings_short read settings e = ltb-false 1048576 (length read) (not_long (ltb 1048576 (length read)) _ settings e)
+
+-- what was read to the byte behind the last of settings is none
+pub read_whole : (read : List ℕ) (left' : Option (List ℕ)) (settings : Settings) → settings_of read ≡ Ok settings → (length read ≡ 1048577) ⊎ IsAtEnd left' → IsAtEnd left'
+read_whole read left' settings is (inl long) = absurd (omega (arith, long, settings_short read settings is))
+read_whole read left' settings is (inr end) = end
 
 -- a fault that leaves the file as it was
 abbrev pub IsUndone : KeepFault → Type 0
@@ -36,8 +54,9 @@ module _ {D : Type 0} (d : Disks D) where
       → ((file : List ℕ) (h : History) (pending : Option Change) (c : List ℕ) → Holds d.seen d.may_leave kept file h pending → d.may_leave (disk_of kept) c → Leaves file h (λ change. pending ≡ Some change) c)
       → ((bytes : List ℕ) → d.seen disk ≡ Some bytes → Fresh bytes)
       → ((bytes : List ℕ) → d.seen disk ≡ Some bytes → Holds d.seen d.may_leave kept read (empty Two) None × Only (d.seen (disk_of kept)) (d.may_leave (disk_of kept)))
-      → IsMade d disk (disk_of kept) read
-  made seen_is_left disk kept read law fresh holds = record {
+      → IsMadeFor read kept → IsMade d disk (disk_of kept) read
+  made seen_is_left disk kept read law fresh holds for = record {
+    settings = (for.settings, for.read);
     fresh = fresh;
     image = λ bytes seen.
         let held = (holds bytes seen).0 in

@@ -3,6 +3,7 @@ use Rattle.std.specs.Prelude.{◌≡◌, ◌⊎◌, ◌++◌, ◌∷◌, ◌≤�
 use Rattle.std.specs.List.{flat_map}
 use Rattle.desk_settings.specs.Reading.{settings_of}
 use Rattle.desk_settings.specs.declared.fault.SettingsFault.{SettingsFault}
+use Rattle.desk_settings.specs.declared.settings.Settings.{Settings}
 use Rattle.desk_settings.specs.declared.fault.SettingsFault.TheVariants.{NotToml, Missing, BadValue, Twice, TooLong}
 use Rattle.desk_traits.specs.Crash.{LeavesOnly}
 use Rattle.desk_traits.specs.declared.clocks.Clock.{Ghosts as Clocks}
@@ -187,6 +188,8 @@ module _ {D : Type 0} (d : Disks D) where
 
   -- the disk reads as the image of the empty history in edition Two, and so does what a crash leaves
   pub record IsMade (disk next : D) (read : List ℕ) : Type 0 where
+    -- what was read are settings, whatever the disk tells
+    pub settings : (settings : Settings) × (settings_of read ≡ Ok settings)
     pub fresh : (bytes : List ℕ) → d.seen disk ≡ Some bytes → Fresh bytes
     pub image : (bytes : List ℕ) → d.seen disk ≡ Some bytes → (now : List ℕ) × (d.seen next ≡ Some now) × ImageOf now read (empty Two)
     pub only : (bytes : List ℕ) → d.seen disk ≡ Some bytes → Only (d.seen next) (d.may_leave next)
@@ -198,7 +201,7 @@ module _ {D : Type 0} (d : Disks D) where
     pub within : length read ≤ 1048577
     pub outcome :
         ((length read ≡ 1048577) ⊎ IsAtEnd left') × (reads' ≡ reads)
-        × ((IsMade disk next read × IsTold (codes "ready\n") writes taken taken' writes' status)
+        × ((IsMade disk next read × IsAtEnd left' × IsTold (codes "ready\n") writes taken taken' writes' status)
         ⊎ ((end : End) × IsWhyUnmade disk next read end × Telling [] writes taken taken' writes' (Some end) status))
         ⊎ (next ≡ disk) × (((reads' ≡ reads) × Telling [] writes taken taken' writes' (Some OutOfMemory) status)
         ⊎ (Rose reads reads' × Telling [] writes taken taken' writes' (Some ReadFault) status))

@@ -1,6 +1,5 @@
 pub mod Agreeing
 pub mod Counting
-pub mod Digits
 pub mod Keeping
 pub mod OneAnswer
 pub mod Running

@@ -1,4 +1,3 @@
 pub mod Drying
 pub mod OneAnswer
-pub mod Shapes
 pub mod TrainingLemmas

@@ -1,13 +1,10 @@
 //! The words of the command line.
-ghost use Rattle.std.specs.Prelude.{◌≡◌, ◌||◌, IsTrue, IfSome, Some, None, if◌then◌else◌};
-ghost use Rattle.std.specs.List.{list_all};
-ghost use Rattle.hazard_types.specs.Calendar.{is_digit};
-ghost use Rattle.hazard_types.specs.Places.{is_capital};
-ghost use Rattle.hazard_types.specs.Characters.{is_office};
+ghost use Rattle.std.specs.Prelude.{◌≡◌, IfSome};
 ghost use Rattle.desk_program.specs.Words.{IsCommand, board_words, command_of, drill_words, dry_words, single_word, three_words};
 
 use desk_drill::{Drill, drill_in};
 use hazard_types::{List, Minute, Text, read_stamp};
+use program_ends::office_of;
 
 /// Training at an office and a minute.
 #[derive(Clone, Copy, Debug)]
@@ -33,30 +30,6 @@ pub enum Command {
     Dry(Dry),
     /// Generated requests in memory.
     Drill(Drill),
-}
-
-/// Whether all are capital letters or digits.
-fn are_office_letters(word: &[u8]) -> bool
-    ensures { result ≡ list_all (λ c. is_capital c || is_digit c) word.now }
-{
-    word.iter()
-        .all(|c| c.is_ascii_uppercase() || c.is_ascii_digit())
-}
-
-/// The office that a word names.
-#[tactic(auto, using(crate::proofs::Shapes::four_is))]
-fn office_of(word: &[u8]) -> Option<[u8; 4]>
-    ensures value { result ≡ (if is_office word.now then Some word.now else None) }
-    ensures office { IfSome result (λ office. IsTrue (is_office office)) }
-{
-    let [first, second, third, fourth] = word else {
-        return None;
-    };
-    if are_office_letters(word) {
-        Some([*first, *second, *third, *fourth])
-    } else {
-        None
-    }
 }
 
 /// The command of a single word.

@@ -1,5 +1,3 @@
-mod Shapes
-mod Digits
 mod Sizes
 mod Lasts
 mod Joining

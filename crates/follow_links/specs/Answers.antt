@@ -5,7 +5,7 @@ use Rattle.std.specs.List.{list_any}
 use Rattle.std.specs.Str.{bytes_eq}
 use Rattle.httparse.specs.Grammar.{ResponseHead, print_response, ReadsResponse, HasNoResponse, NeverHasResponse, MayBecomeResponse, status_code}
 use Rattle.httparse.specs.Spans.{name_and_value}
-use Rattle.follow_links.specs.Numbers.{number_in}
+use Rattle.program_ends.specs.Numbers.{number_in}
 
 -- a field's name, and its value without the blanks round it
 abbrev pub Pair : Type 0

@@ -1,21 +1,12 @@
 -- The words of a command line.
-use Rattle.std.specs.Prelude.{ℕ, ◌==◌, List, [], ◌∷◌, if◌then◌else◌, Option, Some, None}
+use Rattle.std.specs.Prelude.{ℕ, List, [], ◌∷◌, if◌then◌else◌, Option, Some, None}
 use Rattle.hazard_types.specs.Calendar.{stamp_at}
 use Rattle.hazard_types.specs.Codes.{value_beside}
 use Rattle.hazard_types.specs.Tables.{class_rows}
 use Rattle.hazard_types.specs.declared.codes.Class.{Class}
 use Rattle.hazard_types.specs.Characters.{is_office}
-use Rattle.follow_links.specs.Numbers.{number_in}
+use Rattle.program_ends.specs.Numbers.{count_in}
 use Rattle.follow_links.specs.declared.words.Asked.{Asked}
-
--- a number that is not zero
-abbrev pub some_count : Option ℕ → Option ℕ
-some_count None = None
-some_count (Some n) = if n == 0 then None else Some n
-
--- a decimal number from 1 to this
-abbrev pub count_in : ℕ → List ℕ → Option ℕ
-count_in most word = some_count (number_in most word)
 
 -- all values, where there are all
 abbrev pub asked_by : List ℕ → Option Class → Option ℕ → Option ℕ → Option ℕ → Option Asked

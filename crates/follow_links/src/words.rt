@@ -1,13 +1,9 @@
 //! The words of the command line.
-ghost use Rattle.std.specs.Prelude.{◌≡◌, ◌≤◌, ◌<◌, ◌||◌, Some, None, IfSome, if◌then◌else◌};
-ghost use Rattle.std.specs.List.{list_all};
-ghost use Rattle.hazard_types.specs.Calendar.{is_digit};
-ghost use Rattle.hazard_types.specs.Places.{is_capital};
-ghost use Rattle.hazard_types.specs.Characters.{is_office};
-ghost use Rattle.follow_links.specs.Words.{asked_of, count_in};
+ghost use Rattle.std.specs.Prelude.{◌≡◌, ◌≤◌, IfSome};
+ghost use Rattle.follow_links.specs.Words.{asked_of};
 
-use crate::fields::number_in;
 use hazard_types::{Class, List, Minute, Text, classes, find, read_stamp};
+use program_ends::{count_in, office_of};
 
 /// Whose products are followed, the minute whose rows are shown, the server's port, and the rounds.
 #[derive(Clone, Copy, Debug)]
@@ -17,38 +13,6 @@ pub struct Asked {
     pub minute: Minute,
     pub port: u16,
     pub rounds: u32,
-}
-
-/// Whether all are capital letters or digits.
-fn are_office_letters(word: &[u8]) -> bool
-    ensures { result ≡ list_all (λ c. is_capital c || is_digit c) word.now }
-{
-    word.iter()
-        .all(|c| c.is_ascii_uppercase() || c.is_ascii_digit())
-}
-
-/// The office that a word names.
-#[tactic(auto, using(crate::proofs::Shapes::four_is))]
-fn office_of(word: &[u8]) -> Option<[u8; 4]>
-    ensures { result ≡ (if is_office word.now then Some word.now else None) }
-{
-    let [first, second, third, fourth] = word else {
-        return None;
-    };
-    if are_office_letters(word) {
-        Some([*first, *second, *third, *fourth])
-    } else {
-        None
-    }
-}
-
-/// A decimal number from 1 to `most`.
-fn count_in(word: &[u8], most: u64) -> Option<u64>
-    ensures value { result ≡ count_in most word.now }
-    ensures within { IfSome result (λ n. n ≤ most) }
-{
-    let number = number_in(word, most)?;
-    if number == 0 { None } else { Some(number) }
 }
 
 /// The office, the class, the minute, the port and the rounds of the words `OFFICE CLASS STAMP PORT ROUNDS`.

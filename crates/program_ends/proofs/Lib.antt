@@ -6,3 +6,5 @@ mod Feeding
 mod Running
 mod Finishing
 mod Parts
+pub mod Digits
+pub mod Shapes

@@ -1,5 +1,6 @@
 pub mod Ends
 pub mod Lines
+pub mod Numbers
 pub mod Parting
 pub mod Replies
 pub mod Runs

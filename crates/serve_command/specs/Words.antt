@@ -2,28 +2,20 @@
 use Rattle.std.specs.Prelude.{◌≤◌, ℕ, Bool, List, [], ◌∷◌, length, take, drop, nat_le, if◌then◌else◌, Option, None, Some, option_map, codes}
 use Rattle.std.specs.Option.{option_or}
 use Rattle.std.specs.Str.{bytes_eq}
-use Rattle.desk_drill.specs.Words.{number_in}
+use Rattle.program_ends.specs.Numbers.{count_in}
 use Rattle.serve_command.specs.declared.words.Given.{Given}
 use Rattle.serve_command.specs.declared.words.Given.TheVariants.{Port, Workers, Connections}
 use Rattle.serve_command.specs.declared.words.Serving.{Serving}
 
--- a number from 1 to the most, in decimal digits
-abbrev pub from_one : Option ℕ → Option ℕ
-from_one None = None
-from_one (Some n) = if nat_le 1 n then Some n else None
-
-abbrev pub number_from_one : ℕ → List ℕ → Option ℕ
-number_from_one most word = from_one (number_in most word)
-
 -- what each option gives by its value
 abbrev pub port_in : List ℕ → Option Given
-port_in value = option_map (λ n. Port n) (number_from_one 65535 value)
+port_in value = option_map (λ n. Port n) (count_in 65535 value)
 
 abbrev pub workers_in : List ℕ → Option Given
-workers_in value = option_map (λ n. Workers n) (number_from_one 16 value)
+workers_in value = option_map (λ n. Workers n) (count_in 16 value)
 
 abbrev pub connections_in : List ℕ → Option Given
-connections_in value = option_map (λ n. Connections n) (number_from_one 1000000 value)
+connections_in value = option_map (λ n. Connections n) (count_in 1000000 value)
 
 -- what a word gives that is an option's name
 abbrev pub named_by : List ℕ → List ℕ → Option Given

@@ -2,7 +2,6 @@
 #![tactic(auto)]
 
 mod growing;
-mod numbers;
 mod serving;
 mod words;
 

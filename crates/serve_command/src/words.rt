@@ -4,8 +4,8 @@ ghost use Rattle.serve_command.specs.declared.words.Given.TheVariants.{Port, Wor
 ghost use Rattle.serve_command.specs.Words.{IsGiven, IsServing, first_given, joined_by, named_by, one_of, options_given, serving_given, serving_of};
 ghost use Rattle.serve_command.specs.Words.{connections_in, connections_of, port_in, port_of, workers_in, workers_of};
 
-use crate::numbers::number_from_one;
 use hazard_types::{List, Text};
+use program_ends::count_in;
 
 /// A port of this machine, from 1, how many workers serve it, 1 to 16, and how many connections they serve together, 1 to
 /// 1,000,000.
@@ -25,10 +25,10 @@ pub enum Given {
 }
 
 /// The most workers.
-const MOST_WORKERS: u32 = 16;
+const MOST_WORKERS: u64 = 16;
 
 /// The most connections.
-const MOST_CONNECTIONS: u32 = 1_000_000;
+const MOST_CONNECTIONS: u64 = 1_000_000;
 
 impl Given {
     fn port(&self) -> Option<u16>
@@ -63,7 +63,7 @@ fn port_in(value: &[u8]) -> Option<Given>
     ensures value { result ≡ port_in value.now }
     ensures form { IfSome result IsGiven }
 {
-    let port = number_from_one(value, u32::from(u16::MAX))?;
+    let port = count_in(value, 65_535)?;
     Some(Given::Port(port as u16))
 }
 
@@ -71,7 +71,7 @@ fn workers_in(value: &[u8]) -> Option<Given>
     ensures value { result ≡ workers_in value.now }
     ensures form { IfSome result IsGiven }
 {
-    let workers = number_from_one(value, MOST_WORKERS)?;
+    let workers = count_in(value, MOST_WORKERS)?;
     Some(Given::Workers(workers as u8))
 }
 
@@ -79,8 +79,8 @@ fn connections_in(value: &[u8]) -> Option<Given>
     ensures value { result ≡ connections_in value.now }
     ensures form { IfSome result IsGiven }
 {
-    let connections = number_from_one(value, MOST_CONNECTIONS)?;
-    Some(Given::Connections(connections))
+    let connections = count_in(value, MOST_CONNECTIONS)?;
+    Some(Given::Connections(connections as u32))
 }
 
 /// What an option of two words gives, as `--port N`.

@@ -1,2 +1,3 @@
 mod Portless
 mod Served
+pub mod Sure

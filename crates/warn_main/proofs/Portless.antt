@@ -94,7 +94,7 @@ module _ {D : Type 0} (d : Disks D) where
   made : (disk next : D) (left left' taken taken' : Option (List ℕ)) (reads reads' writes writes' status : ℕ) → IsInitRun d disk next left left' taken taken' reads reads' writes writes' status → status ≢ 10
   made disk next left left' taken taken' reads reads' writes writes' status run = elim run.outcome [
     | inl whole ↦ elim whole.2 [
-      | inl well ↦ told_well (codes "ready\n") writes taken taken' writes' status well.1
+      | inl well ↦ told_well (codes "ready\n") writes taken taken' writes' status well.2
       | inr why ↦ told [] writes taken taken' writes' status (Some why.0) why.2 (λ ten. subst (λ (e : End). IsWhyUnmade d disk next run.read e) (ports why.0 ten) why.1)
     ]
     | inr cut ↦ elim cut.1 [

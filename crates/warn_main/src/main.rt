@@ -2,6 +2,7 @@
 #![tactic(auto)]
 
 mod desk;
+mod laws;
 mod place;
 
 use crate::place::{Place, place_of};

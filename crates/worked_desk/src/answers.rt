@@ -24,6 +24,14 @@ pub fn run_answer(
     Ok(answer)
 }
 
+/// What a command wrote from so many bytes on: its last line, how many bytes it is in all, and its status.
+pub fn cut_answer(alloc: Global, count: usize, written: &Text, status: u8) -> Result<String, Oom> {
+    let text = String::from_utf8_lossy(alloc, written.as_slice())?;
+    let last = text.as_str().lines().last().unwrap_or("");
+    let bytes = written.len();
+    Ok(format!(in alloc; "from {count}: {last}, {bytes} bytes, status {status}\n")?)
+}
+
 /// What a sweep counted.
 pub fn sweep_answer(alloc: Global, tally: &Tally) -> Result<String, Oom> {
     let runs = tally.runs;

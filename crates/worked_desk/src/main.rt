@@ -3,6 +3,7 @@
 #![tactic(auto)]
 
 mod answers;
+mod cuts;
 mod files;
 mod runs;
 mod script;

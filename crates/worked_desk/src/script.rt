@@ -1,8 +1,9 @@
 //! The script of a kept office's days: each line's step is worked, and answered by text.
 use crate::answers::{run_answer, sweep_answer, unread};
+use crate::cuts::cuts;
 use crate::files::{older_journal, record_text, with_byte, with_record};
 use crate::runs::{Command, Faults, Given, NO_FAULTS, Run, run_command};
-use crate::steps::{Ending, Step, Tried, reading_of, step_of};
+use crate::steps::{Cutting, Ending, Step, Tried, reading_of, step_of};
 use crate::sweeps::sweep;
 use desk_traits::MemDisk;
 use hazard_types::{List, Oom, Text};
@@ -128,6 +129,14 @@ impl Script {
         sweep_answer(alloc, &tally)
     }
 
+    fn cuts_step(&self, alloc: Global, cutting: Cutting) -> Result<String, Oom> {
+        let bytes = match cutting {
+            Cutting::File => self.file.as_slice(),
+            Cutting::Settings => self.settings.as_slice(),
+        };
+        cuts(alloc, cutting, bytes)
+    }
+
     /// Makes the file the journal of an office of edition One.
     fn set_older(&mut self, alloc: Global, entry: &str) -> Result<(), Oom> {
         self.file = older_journal(alloc, self.settings.as_slice(), entry.as_bytes())?;
@@ -194,6 +203,7 @@ impl Work for Script {
         match &step {
             Step::Run(command) => self.run_step(alloc, command),
             Step::Sweep(tried, calls) => self.sweep_step(alloc, *tried, *calls),
+            Step::Cuts(cutting) => self.cuts_step(alloc, *cutting),
             Step::Record => record_text(alloc, self.file.as_slice()),
             _ => unread(alloc, line),
         }

@@ -20,6 +20,17 @@ pub enum Tried {
     Input,
     /// An upgrade.
     Upgrade,
+    /// The pending input, each line of it twice.
+    Twice,
+}
+
+/// What is cut at each byte.
+#[derive(Clone, Copy, Debug)]
+pub enum Cutting {
+    /// The file, of which the texts are then exported.
+    File,
+    /// The settings, of which a journal is then made.
+    Settings,
 }
 
 /// A step of a script.
@@ -59,6 +70,8 @@ pub enum Step<'a> {
     Run(Command),
     /// Each of the first calls of a disk fails in turn, and the disk stops behind each.
     Sweep(Tried, u8),
+    /// What is left of a cut at each byte is tried.
+    Cuts(Cutting),
     /// The last record of the file is shown.
     Record,
     /// A line that is no step.
@@ -90,6 +103,8 @@ fn bare_step(word: &str) -> Option<Step<'_>> {
         "file" => Step::File(""),
         "ask" => Step::Ask("", Ending::Feed),
         "record" => Step::Record,
+        "cuts" => Step::Cuts(Cutting::File),
+        "cuts settings" => Step::Cuts(Cutting::Settings),
         "init" => Step::Run(Command::Init),
         "script" => Step::Run(Command::Script),
         "export" => Step::Run(Command::Export),
@@ -106,10 +121,11 @@ fn board_step(stamp: &str) -> Option<Step<'_>> {
     Some(Step::Run(Command::Board(Some(minute))))
 }
 
-/// The step of a sweep over a script, or over an upgrade.
+/// The step of a sweep over a script, over one whose lines come twice, or over an upgrade.
 fn sweep_step(rest: &str) -> Option<Step<'_>> {
     match rest.split_once(' ') {
         Some(("upgrade", calls)) => Some(Step::Sweep(Tried::Upgrade, calls_of(calls)?)),
+        Some(("twice", calls)) => Some(Step::Sweep(Tried::Twice, calls_of(calls)?)),
         Some(_) => None,
         None => Some(Step::Sweep(Tried::Input, calls_of(rest)?)),
     }

@@ -215,6 +215,76 @@ fn sweep_upgrade(alloc: Global, given: &Given, file: &[u8], calls: u8) -> Result
     Ok(tally)
 }
 
+/// The input with each line of it twice, each at the reading of the line. No line of the input is empty.
+fn with_lines_twice(alloc: Global, given: &Given) -> Result<Given, Oom> {
+    let mut input = Text::new(alloc);
+    let mut readings = List::new(alloc);
+    let mut ahead = given.readings.as_slice();
+    for line in text_of(given.input.as_slice()).lines() {
+        let reading = ahead.first().copied().unwrap_or(0);
+        if let Some((_first, more)) = ahead.split_first() {
+            if !more.is_empty() {
+                ahead = more;
+            }
+        }
+        for _time in 0..2 {
+            input.extend(line.as_bytes())?;
+            input.push(b'\n')?;
+            readings.push(reading)?;
+        }
+    }
+    Ok(Given { input, readings })
+}
+
+/// Whether each line was answered at its second time as over a disk without faults, and at its first time so too, or that
+/// the disk failed.
+fn second_answers_are_good(answers: &str, wanted: &str) -> bool {
+    let mut answers = answers.lines();
+    for good in wanted.lines() {
+        let first = answers.next().unwrap_or("");
+        let second = answers.next().unwrap_or("");
+        if second != good || (first != good && first != FAULT_LINE) {
+            return false;
+        }
+    }
+    answers.next().is_none()
+}
+
+/// Whether an input of which each line comes twice in one run is answered, and leaves the products, as without a fault,
+/// or the fault ends the opening.
+fn lines_survive(
+    alloc: Global,
+    wanted: &Wanted<'_>,
+    twice: &Given,
+    faults: &Faults,
+) -> Result<bool, Oom> {
+    let run = run_command(alloc, &Command::Script, twice, wanted.file, faults)?;
+    if run.status != DONE {
+        return Ok(run.status == DISK_FAULT);
+    }
+    let outcome = &wanted.outcome;
+    let answers = text_of(run.text.as_slice());
+    let good = second_answers_are_good(answers, text_of(outcome.answers.as_slice()));
+    let products = exported(alloc, twice, run.disk.file().as_slice())?;
+    Ok(good && products.as_slice() == outcome.products.as_slice())
+}
+
+/// The pending input is sent with each line twice over a disk that fails at each call.
+fn sweep_twice(alloc: Global, given: &Given, file: &[u8], calls: u8) -> Result<Tally, Oom> {
+    let wanted = Wanted {
+        given,
+        file,
+        outcome: outcome_of(alloc, given, file)?,
+    };
+    let twice = with_lines_twice(alloc, given)?;
+    let mut tally = Tally { runs: 0, differ: 0 };
+    for call in 1..=calls {
+        let faults = faults_at(u64::from(call), false, 0);
+        tally.count(lines_survive(alloc, &wanted, &twice, &faults)?);
+    }
+    Ok(tally)
+}
+
 /// What a sweep over so many calls of a disk counts.
 pub fn sweep(
     alloc: Global,
@@ -226,5 +296,6 @@ pub fn sweep(
     match tried {
         Tried::Input => sweep_input(alloc, given, file, calls),
         Tried::Upgrade => sweep_upgrade(alloc, given, file, calls),
+        Tried::Twice => sweep_twice(alloc, given, file, calls),
     }
 }

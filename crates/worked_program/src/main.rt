@@ -5,6 +5,7 @@
 mod runs;
 mod script;
 mod steps;
+mod sweeps;
 
 use crate::script::Script;
 use std::process::ExitCode;

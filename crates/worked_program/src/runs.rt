@@ -1,6 +1,8 @@
 //! A run over a source, a sink and a disk in memory.
 use desk_program::desk_within;
-use desk_traits::{MemSink, MemSource, SetClock, SureDisk};
+use desk_traits::{
+    Disk, MemSink, MemSource, SetClock, Sink, Source, SureDisk, SureSink, SureSource,
+};
 use hazard_types::{List, Oom, Text};
 use program_ends::LIMIT;
 use std::alloc::Global;
@@ -30,9 +32,27 @@ pub struct Run {
     pub disk: SureDisk,
 }
 
+/// How a run ended, and its disk.
+#[derive(Drop)]
+pub struct Left {
+    pub status: u8,
+    pub disk: SureDisk,
+}
+
 /// A disk with no file.
 pub fn new_disk(alloc: Global) -> Result<SureDisk, Oom> {
     SureDisk::new(alloc, ROOM)
+}
+
+/// Another disk with the same file.
+pub fn copy_of(alloc: Global, disk: &mut SureDisk) -> Result<SureDisk, Oom> {
+    let mut copy = new_disk(alloc)?;
+    let length = disk.len().unwrap_or(0);
+    let length = usize::try_from(length).unwrap_or(0).min(ROOM);
+    let mut file = Vec::from_elem(alloc, 0u8, length)?;
+    let _read = disk.read_at(0, file.as_mut_slice());
+    let _written = copy.write_at(0, file.as_slice());
+    Ok(copy)
 }
 
 /// The words of a line.
@@ -44,6 +64,32 @@ fn words_of(alloc: Global, line: &str) -> Result<List<Text>, Oom> {
     Ok(words)
 }
 
+/// Does what the words of a line ask for.
+fn end_of<S: Source, K: Sink>(
+    alloc: Global,
+    line: &str,
+    source: &mut S,
+    sink: &mut K,
+    disk: SureDisk,
+    limit: usize,
+) -> Result<Left, Oom> {
+    let words = words_of(alloc, line)?;
+    let minutes = List::from_slice(alloc, &[MINUTE])?;
+    let mut clock = SetClock::new(&minutes)?;
+    let limit = limit.min(LIMIT);
+    let ended = desk_within(alloc, &words, source, sink, disk, &mut clock, limit);
+    Ok(Left {
+        status: ended.status,
+        disk: ended.disk,
+    })
+}
+
+/// A run by the words of a line over ends that cannot fail: its status, and the disk.
+pub fn run_surely(alloc: Global, line: &str, input: &Text, disk: SureDisk) -> Result<Left, Oom> {
+    let mut source = SureSource::new(alloc, input.as_slice())?;
+    end_of(alloc, line, &mut source, &mut SureSink, disk, LIMIT)
+}
+
 /// A run by the words of a line.
 pub fn run_words(
     alloc: Global,
@@ -52,7 +98,6 @@ pub fn run_words(
     given: &Given,
     disk: SureDisk,
 ) -> Result<Run, Oom> {
-    let words = words_of(alloc, line)?;
     let mut source = MemSource::new(
         alloc,
         input.as_slice(),
@@ -60,18 +105,7 @@ pub fn run_words(
         &given.bad_reads,
     )?;
     let mut sink = MemSink::new(alloc, &given.bad_writes)?;
-    let minutes = List::from_slice(alloc, &[MINUTE])?;
-    let mut clock = SetClock::new(&minutes)?;
-    let limit = given.limit.min(LIMIT);
-    let ended = desk_within(
-        alloc,
-        &words,
-        &mut source,
-        &mut sink,
-        disk,
-        &mut clock,
-        limit,
-    );
+    let ended = end_of(alloc, line, &mut source, &mut sink, disk, given.limit)?;
     let text = sink.taken().clone()?;
     Ok(Run {
         status: ended.status,

@@ -1,6 +1,7 @@
 //! The script of runs: each line's step is worked, and answered by text.
-use crate::runs::{Given, new_disk, run_words};
+use crate::runs::{Given, new_disk, run_surely, run_words};
 use crate::steps::{Step, step_of};
+use crate::sweeps::{Failing, sweep};
 use desk_traits::SureDisk;
 use hazard_types::{List, Oom, Text};
 use program_ends::LIMIT;
@@ -79,12 +80,43 @@ impl Script {
         Ok(())
     }
 
+    /// The disk, or a new one where there is none.
+    fn take_disk(&mut self, alloc: Global) -> Result<SureDisk, Oom> {
+        match self.disk.take() {
+            Some(disk) => Ok(disk),
+            None => new_disk(alloc),
+        }
+    }
+
+    /// A run by these words over ends that cannot fail: its status. The input is used up.
+    fn sure_step(&mut self, alloc: Global, words: &str) -> Result<String, Oom> {
+        let disk = self.take_disk(alloc)?;
+        let ended = run_surely(alloc, words, &self.input, disk)?;
+        self.input = List::new(alloc);
+        self.disk = Some(ended.disk);
+        let status = ended.status;
+        Ok(format!(in alloc; "status {status}\n")?)
+    }
+
+    /// Runs by these words in which each of the first calls fails in turn: what they come to. The disk stays as it is.
+    fn sweep_step(
+        &mut self,
+        alloc: Global,
+        failing: Failing,
+        calls: u32,
+        words: &str,
+    ) -> Result<String, Oom> {
+        let mut disk = self.take_disk(alloc)?;
+        let tally = sweep(alloc, failing, calls, words, &self.input, &mut disk)?;
+        self.disk = Some(disk);
+        let ended = tally.ended;
+        let differ = tally.differ;
+        Ok(format!(in alloc; "{calls} runs, {ended} ended by a fault, {differ} differ\n")?)
+    }
+
     /// A run by these words: what it wrote, or its last line, and its status. The input is used up.
     fn run_step(&mut self, alloc: Global, words: &str, shows_all: bool) -> Result<String, Oom> {
-        let disk = match self.disk.take() {
-            Some(disk) => disk,
-            None => new_disk(alloc)?,
-        };
+        let disk = self.take_disk(alloc)?;
         let run = run_words(alloc, words, &self.input, &self.given, disk)?;
         self.input = List::new(alloc);
         self.given = nothing_given(alloc);
@@ -110,7 +142,9 @@ impl Script {
             Step::Limit(most) => self.given.limit = *most,
             Step::BadRead(call) => self.given.bad_reads.push(*call)?,
             Step::BadWrite(call) => self.given.bad_writes.push(*call)?,
-            Step::Run(_) | Step::Last(_) | Step::Unread => return Ok(false),
+            Step::Run(_) | Step::Last(_) | Step::Sure(_) | Step::Sweep(..) | Step::Unread => {
+                return Ok(false);
+            }
         }
         Ok(true)
     }
@@ -126,6 +160,8 @@ impl Work for Script {
         match &step {
             Step::Run(words) => self.run_step(alloc, words, true),
             Step::Last(words) => self.run_step(alloc, words, false),
+            Step::Sure(words) => self.sure_step(alloc, words),
+            Step::Sweep(failing, calls, words) => self.sweep_step(alloc, *failing, *calls, words),
             _ => Ok(format!(in alloc; "unread: {line}\n")?),
         }
     }

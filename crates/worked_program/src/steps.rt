@@ -1,4 +1,5 @@
 //! The steps of a script, one a line.
+use crate::sweeps::Failing;
 
 /// A step of a script.
 #[derive(Clone, Copy, Debug)]
@@ -25,6 +26,10 @@ pub enum Step<'a> {
     Run(&'a str),
     /// A run by these words, of which the last line is shown.
     Last(&'a str),
+    /// A run by these words over ends that cannot fail.
+    Sure(&'a str),
+    /// Runs by these words, in which each of the first calls fails in turn.
+    Sweep(Failing, u32, &'a str),
     /// A line that is no step.
     Unread,
 }
@@ -54,6 +59,18 @@ fn numbered_step<'a>(word: &str, rest: &str) -> Option<Step<'a>> {
     }
 }
 
+/// The step of a sweep: which calls fail, how many are tried, and the words.
+fn sweep_step(rest: &str) -> Option<Step<'_>> {
+    let (kind, rest) = rest.split_once(' ')?;
+    let (calls, words) = rest.split_once(' ')?;
+    let calls = calls.parse::<u32>().ok()?;
+    match kind {
+        "reads" => Some(Step::Sweep(Failing::Reads, calls, words)),
+        "writes" => Some(Step::Sweep(Failing::Writes, calls, words)),
+        _ => None,
+    }
+}
+
 /// The step that a line's first word says, with what stands behind it.
 fn worded_step(line: &str) -> Option<Step<'_>> {
     let (word, rest) = line.split_once(' ')?;
@@ -63,6 +80,8 @@ fn worded_step(line: &str) -> Option<Step<'_>> {
         "unended" => Some(Step::Line(rest, "")),
         "run" => Some(Step::Run(rest)),
         "last" => Some(Step::Last(rest)),
+        "sure" => Some(Step::Sure(rest)),
+        "sweep" => sweep_step(rest),
         _ => numbered_step(word, rest),
     }
 }

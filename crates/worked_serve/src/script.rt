@@ -1,4 +1,6 @@
 //! The script: each line adds to what is given for the next run, or is a run, which uses that up.
+ghost use Rattle.std.specs.Prelude.{◌≤◌};
+
 use crate::answers::unread;
 use crate::calls::add_calls;
 use crate::gate::HoldingGate;
@@ -15,6 +17,16 @@ use std::net::{Net, TcpListener, TcpStream};
 use std::sync::Wait;
 use std::thread::Threads;
 use std::time::Clock;
+
+/// How many bytes a link gives at once: as a word says, or all.
+fn piece_of(word: &str) -> usize
+    ensures { 1 ≤ result }
+{
+    match word.parse::<usize>() {
+        Ok(piece) if piece > 0 => piece,
+        _ => usize::MAX,
+    }
+}
 
 /// The settings, what the next run stands on, and the bytes of the link, the links of the door and the doors that were
 /// written so far. And whether the next run's gate holds the first call.
@@ -120,10 +132,12 @@ impl<'a, R: Clock + Threads + Wait + Sync + Net<Listener = TcpListener, Stream =
         Ok(String::from_str(alloc, word)?)
     }
 
-    /// Serves the link, and keeps the file that it leaves.
-    fn serve_link(&mut self, alloc: Global) -> Result<Option<LinkRun>, Oom> {
+    /// Serves the link, in pieces of so many bytes, and keeps the file that it leaves.
+    fn serve_link(&mut self, alloc: Global, piece: usize) -> Result<Option<LinkRun>, Oom>
+        requires { 1 ≤ piece }
+    {
         let bytes = self.bytes.as_slice();
-        let run = run_link(self.rt, alloc, &self.given, bytes, usize::MAX)?;
+        let run = run_link(self.rt, alloc, &self.given, bytes, piece)?;
         if let Some(run) = &run {
             self.given.file = run.file.clone()?;
         }
@@ -159,11 +173,11 @@ impl<'a, R: Clock + Threads + Wait + Sync + Net<Listener = TcpListener, Stream =
         let (word, rest) = line.split_once(' ').unwrap_or((line, ""));
         match word {
             "init" => self.make_journal(alloc),
-            "link" => match self.serve_link(alloc)? {
+            "link" => match self.serve_link(alloc, usize::MAX)? {
                 Some(run) => link_answer(alloc, &run),
                 None => unread(alloc, line),
             },
-            "tally" => match self.serve_link(alloc)? {
+            "tally" => match self.serve_link(alloc, piece_of(rest))? {
                 Some(run) => tally_answer(alloc, &run),
                 None => unread(alloc, line),
             },

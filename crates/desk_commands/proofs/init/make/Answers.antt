@@ -4,7 +4,7 @@ use Rattle.desk_commands.proofs.init.make.Goals as goal
 pub returns-in-Ok-clause-made : goal.returns-in-Ok-clause-made
 returns-in-Ok-clause-made g c =
     let ensures = c.in-Ok.ensures in
-    made g.D.Disk g.met.D.Disk.seen_is_left c.args.disk c.in-Ok.kept c.args.settings.now c.a_crash_leaves_the_history.ensures ensures.fresh ensures.ok
+    made g.D.Disk g.met.D.Disk.seen_is_left c.args.disk c.in-Ok.kept c.args.settings.now c.a_crash_leaves_the_history.ensures ensures.fresh ensures.ok ensures.made
 
 pub returns-in-Err-clause-made : goal.returns-in-Err-clause-made
 returns-in-Err-clause-made g c =

@@ -1,4 +1,5 @@
 use Rattle.std.proofs.Common.{List, ℕ, Ok, inl, inr, subst, sym}
+use Rattle.desk_commands.proofs.Making.{read_whole}
 use Rattle.desk_commands.specs.Commands.{SettingsRead}
 use Rattle.desk_commands.proofs.init.run_init.Goals as goal
 
@@ -11,7 +12,7 @@ returns-in-Ok-make g c =
       read = c.as_slice.result.now;
       takes = took.0;
       within = took.1;
-      outcome = inl (took.2, took.3, inl (ensures.made, c.tell.ensures));
+      outcome = inl (took.2, took.3, inl (ensures.made, read_whole c.as_slice.result.now (source.left c.read_settings.new.input) ensures.made.settings.0 ensures.made.settings.1 took.2, c.tell.ensures));
       later = ensures.later;
       crashes = ensures.crashes;
     })

@@ -1,6 +1,6 @@
 use Rattle.std.proofs.Common.{◌≡◌, ◌≤◌, drop, fold}
-use Rattle.desk_drill.specs.Words.{spelled, with_digit}
-use Rattle.desk_drill.proofs.words.number_in.Given as goal
+use Rattle.program_ends.specs.Numbers.{spelled, with_digit}
+use Rattle.program_ends.proofs.numbers.number_in.Given as goal
 
 -- the digits that are left make the number whole
 abbrev pub invariant-loop-digit : goal.invariant-loop-digit

@@ -2,7 +2,7 @@
 use Rattle.std.proofs.Common.{◌≡◌, ◌≤◌, ◌<◌, ◌+◌, ℕ, List, [], ◌∷◌, fold, drop, length, slice_index, suc, nat_le, Bool, true, false, cond, ◌&&◌, ◌∙◌, Option, Some, None, refl, ap, sym, subst, arith}
 use Rattle.std.proofs.Math.Seq.{drop-cons}
 use Rattle.std.proofs.lemmas.Bool.Decides.{nat_tests}
-use Rattle.follow_links.specs.Numbers.{are_digits, number_in, spelled, with_digit}
+use Rattle.program_ends.specs.Numbers.{are_digits, number_in, spelled, with_digit}
 
 pub grows : (n : ℕ) (digits : List ℕ) → n ≤ fold with_digit n digits
 grows n [] = omega arith

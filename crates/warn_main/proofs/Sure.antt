@@ -1,0 +1,35 @@
+-- Ends whose counts of faults are always zero.
+use Rattle.std.proofs.Common.{◌≡◌, ◌≢◌, ◌≤◌, ◌+◌, ◌-◌, ◌^◌, ℕ, ℤ, min, refl, arith}
+use Rattle.desk_traits.specs.Faults.{Rose}
+use Rattle.desk_traits.specs.declared.clocks.Clock.{Ghosts as Clocks}
+use Rattle.desk_traits.specs.declared.disk.Disk.{Ghosts as Disks}
+use Rattle.warn_main.specs.Sure.{EndsWithoutDiskFault, EndsWithoutReadFault, EndsWithoutWriteFault, SaysNoDiskFault, ServesNoDiskFault}
+use Rattle.warn_serve.specs.Links.{Ways}
+
+unmoved : (before now : ℕ) → before ≡ 0 → now ≡ 0 → Rose before now → ⊥
+unmoved before now old new rose = omega (arith, old, new, rose)
+
+none_failed : (before now count : ℕ) → before ≡ 0 → now ≡ 0 → min (before + count) (2 ^ 64 - 1) ≤ now → count ≡ 0
+none_failed before now count old new few = omega (arith, old, new, few)
+
+module _ {D C L : Type 0} (d : Disks D) (k : Clocks C) (w : Ways L) (steady : (x : D) → d.faults x ≡ 0) where
+  pub ends : EndsWithoutDiskFault d k w
+  ends words limit disk next clock clock' port port' left left' taken taken' reads reads' writes writes' status run is =
+      unmoved (d.faults disk) (d.faults next) (steady disk) (steady next) (run.disk_fault is)
+
+  pub says : SaysNoDiskFault d k w
+  says disk next clock clock' limit left left' taken taken' reads reads' writes writes' status run =
+      none_failed (d.faults disk) (d.faults next) _ (steady disk) (steady next) run.faults
+
+  pub serves : (gives : ℤ → Type 0) → ServesNoDiskFault d k w gives
+  serves gives serving disk next port port' taken taken' writes writes' status run =
+      none_failed _ _ _ (steady _) (steady _) run.served.since.counted
+
+module _ {D C L : Type 0} (d : Disks D) (k : Clocks C) (w : Ways L) where
+  pub reads_well : (before now : ℕ) → before ≡ 0 → now ≡ 0 → EndsWithoutReadFault d k w before now
+  reads_well before now old new words limit disk next clock clock' port port' left left' taken taken' writes writes' status run is =
+      unmoved before now old new (run.read_fault is)
+
+  pub writes_well : (before now : ℕ) → before ≡ 0 → now ≡ 0 → EndsWithoutWriteFault d k w before now
+  writes_well before now old new words limit disk next clock clock' port port' left left' taken taken' reads reads' status run is =
+      unmoved before now old new (run.write_fault is)
