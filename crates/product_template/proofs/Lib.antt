@@ -6,3 +6,4 @@ pub mod ZoneNames
 pub mod BodyRules
 pub mod Writable
 pub mod Lines
+pub mod Longer

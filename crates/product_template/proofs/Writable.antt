@@ -219,22 +219,23 @@ as_many : {X Y Z : Type 0} (f : X → Y) (g : X → Z) (xs : List X) → length 
 as_many f g [] = refl
 as_many f g (x ∷ xs) = ap suc (as_many f g xs)
 
-pub writable : (settings : Settings) (class : Class) (plan : Plan) (t : ℕ) (edition : Edition) → CanBeText settings class plan t → IsWritable (frame_of settings class plan t) (block_of settings plan t) (bodies_of settings class plan t edition)
-writable settings class plan t edition can =
+pub writable : (settings : Settings) (class : Class) (plan : Plan) (texts : List EventTexts) (t : ℕ) (edition : Edition) → CanBeText settings class plan t → All ArePrintable texts
+    → IsWritable (frame_of settings class plan t) (block_of settings plan t) (map (body_of settings class texts t edition) plan.segments)
+writable settings class plan texts t edition can printable =
     let le : t ≤ 52000000 = can.minute in
     let forms = can.forms in
     let heading = heading_parts (slice_index_or settings.headings (category_place plan.category) []) (heading_at settings.headings plan.category forms.eight forms.heading_forms) in
     let segments = recursion_from_All CanBeSegment plan.segments can.segments in
     let names = recursion_from_All (λ n. is_zone_name n ≡ true) (values_of settings.zones) forms.name_forms in
-    let texts = recursion_from_All ArePrintable plan.texts can.texts in
+    let each = recursion_from_All ArePrintable texts printable in
     record {
       heading = record { six = heading.0; ttaaii = heading.1; office = forms.office_form; day = day_is t (omega arith); letters = letters_three plan.bbb can.letter };
       minute = omega arith;
       near = (t, omega arith, omega arith, omega arith, refl);
       identifier = identifier_is plan.category settings.site forms.site_form;
       segments = All-from_recursion IsSegmentWritten _ (segments_written class settings.office t plan.segments forms.office_form le segments);
-      each_body = All-from_recursion IsBody _ (bodies_well settings class plan.texts t edition plan.segments names segments (λ e. recursion_from_All (HasNames settings) plan.segments (can.names e)) texts);
-      as_many = as_many (body_of settings class plan.texts t edition) (segment_of class settings.office t) plan.segments;
+      each_body = All-from_recursion IsBody _ (bodies_well settings class texts t edition plan.segments names segments (λ e. recursion_from_All (HasNames settings) plan.segments (can.names e)) each);
+      as_many = as_many (body_of settings class texts t edition) (segment_of class settings.office t) plan.segments;
       name = title_is plan.category plan.bbb;
       office_line = office_line_is settings.office_line forms.line_form;
       zone = settings.zone;
@@ -245,10 +246,10 @@ pub text_framed : (settings : Settings) (class : Class) (plan : Plan) (t : ℕ) 
     → FrameOf (text_of settings class plan t edition) (frame_of settings class plan t)
 unfolding text_of
 text_framed settings class plan t edition can back =
-    written_frame (text_of settings class plan t edition) (frame_of settings class plan t) (block_of settings plan t) (bodies_of settings class plan t edition) (writable settings class plan t edition can) back refl
+    written_frame (text_of settings class plan t edition) (frame_of settings class plan t) (block_of settings plan t) (bodies_of settings class plan t edition) (writable settings class plan plan.texts t edition can can.texts) back refl
 
 pub text_alone : (settings : Settings) (class : Class) (plan : Plan) (t : ℕ) (edition : Edition) → CanBeText settings class plan t → All ReadsBack (map (segment_of class settings.office t) plan.segments)
     → IsOneProduct (text_of settings class plan t edition)
 unfolding text_of
 text_alone settings class plan t edition can back =
-    written_one (text_of settings class plan t edition) (frame_of settings class plan t) (block_of settings plan t) (bodies_of settings class plan t edition) (writable settings class plan t edition can) back refl
+    written_one (text_of settings class plan t edition) (frame_of settings class plan t) (block_of settings plan t) (bodies_of settings class plan t edition) (writable settings class plan plan.texts t edition can can.texts) back refl

@@ -1,3 +1,4 @@
 pub mod Bodies
 pub mod Conditions
+pub mod Lengths
 pub mod Text

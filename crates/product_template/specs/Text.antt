@@ -8,6 +8,7 @@ use Rattle.hazard_types.specs.declared.codes.Class.{Class}
 use Rattle.hazard_types.specs.declared.line.SegLine.{SegLine}
 use Rattle.hazard_types.specs.declared.line.Segment.{Segment}
 use Rattle.hazard_types.specs.declared.request.Edition.{Edition}
+use Rattle.hazard_types.specs.declared.request.EventTexts.{EventTexts}
 use Rattle.hazard_types.specs.declared.request.Plan.{Plan}
 use Rattle.desk_clock.specs.LocalText.{local_line_of}
 use Rattle.desk_settings.specs.Looking.{category_place}
@@ -75,6 +76,10 @@ block_of settings plan t = record { name = product_name plan.category ++ correct
 
 abbrev pub bodies_of : Settings → Class → Plan → ℕ → Edition → List Body
 bodies_of settings class plan t edition = map (body_of settings class plan.texts t edition) plan.segments
+
+-- with these texts on the plan's events
+abbrev pub text_with : Settings → Class → Plan → List EventTexts → ℕ → Edition → List ℕ
+text_with settings class plan texts t edition = layout_of (frame_of settings class plan t) (block_of settings plan t) (map (body_of settings class texts t edition) plan.segments)
 
 unfoldable pub text_of : Settings → Class → Plan → ℕ → Edition → List ℕ
 text_of settings class plan t edition = layout_of (frame_of settings class plan t) (block_of settings plan t) (bodies_of settings class plan t edition)

@@ -70,14 +70,16 @@ fn put_when(
     }
 }
 
-fn put_front(alloc: Global, out: &mut Text, texts: &Texts) -> Result<(), Oom>
+/// Adds what stands before the time of an event.
+pub fn put_front(alloc: Global, out: &mut Text, texts: &Texts) -> Result<(), Oom>
     ensures { OnOk result (out.new ≡ out.old ++ front_text texts.now) }
 {
     put_bullet(alloc, out, b"* WHAT...", &texts.what)?;
     put_bullet(alloc, out, b"* WHERE...", &texts.area)
 }
 
-fn put_back(alloc: Global, out: &mut Text, texts: &Texts) -> Result<(), Oom>
+/// Adds what stands behind the time of an event.
+pub fn put_back(alloc: Global, out: &mut Text, texts: &Texts) -> Result<(), Oom>
     ensures { OnOk result (out.new ≡ out.old ++ back_text texts.now) }
 {
     put_bullet(alloc, out, b"* IMPACTS...", &texts.impacts)?;

@@ -5,6 +5,7 @@ mod bodies;
 mod bullets;
 mod frame;
 mod laws;
+mod lengths;
 mod names;
 mod text;
 

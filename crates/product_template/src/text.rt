@@ -5,31 +5,34 @@ ghost use Rattle.hazard_types.specs.declared.refusal.Refusal.{Refusal as Reason}
 ghost use Rattle.hazard_types.specs.declared.refusal.Refusal.TheVariants.{TooLong};
 ghost use Rattle.product_frame.specs.Frame.{FrameOf};
 ghost use Rattle.product_frame.specs.Splitting.{IsOneProduct};
-ghost use Rattle.product_template.specs.Conditions.{CanBeText};
-ghost use Rattle.product_template.specs.Text.{frame_of, text_of};
+ghost use Rattle.std.specs.List.{All};
+ghost use Rattle.product_template.specs.Conditions.{ArePrintable, CanBeText};
+ghost use Rattle.product_template.specs.Text.{frame_of, text_of, text_with};
 
 use crate::bodies::bodies_of;
 use crate::frame::{block_of, frame_of};
+use crate::lengths::{each_told, may_be_long, more, told_in_segments};
 use desk_settings::Settings;
-use hazard_types::{Class, Edition, Minute, Oom, Or, Plan, Refusal, Text};
+use hazard_types::{Class, Edition, EventTexts, Minute, Oom, Or, Plan, Refusal, Text};
 use product_frame::frame_text;
 use std::alloc::Global;
 
 /// The most bytes of a product text.
 const MOST: usize = 65_536;
 
-/// The text of a plan, however long.
-#[tactic(auto, unfolding(crate::specs::Text::text_of))]
+/// The text of a plan with these texts on its events, however long.
 fn whole_text(
     alloc: Global,
     settings: &Settings,
     class: Class,
     plan: &Plan,
+    texts: &[EventTexts],
     t: Minute,
     edition: Edition,
 ) -> Result<Text, Oom>
-    requires { CanBeText settings.now class plan.now t }
-    ensures value { IfOk result (λ text. text ≡ text_of settings.now class plan.now t edition) }
+    requires can { CanBeText settings.now class plan.now t }
+    requires printable { All ArePrintable texts.now }
+    ensures value { IfOk result (λ text. text ≡ text_with settings.now class plan.now texts.now t edition) }
     ensures frame { IfOk result (λ text. FrameOf text (frame_of settings.now class plan.now t)) }
     ensures one { IfOk result IsOneProduct }
 {
@@ -39,7 +42,7 @@ fn whole_text(
         alloc,
         settings,
         class,
-        plan.texts.as_slice(),
+        texts,
         t,
         edition,
         plan.segments.as_slice(),
@@ -47,7 +50,26 @@ fn whole_text(
     frame_text(alloc, &frame, &block, &bodies)
 }
 
+/// The length of a plan's text. The texts on an event are laid out once, in however many lines they stand.
+fn text_length(
+    alloc: Global,
+    settings: &Settings,
+    class: Class,
+    plan: &Plan,
+    t: Minute,
+    edition: Edition,
+) -> Result<usize, Oom>
+    requires { CanBeText settings.now class plan.now t }
+    ensures { IfOk result (λ n. n ≡ length (text_of settings.now class plan.now t edition)) }
+{
+    let told = each_told(alloc, plan.texts.as_slice())?;
+    let said = told_in_segments(told.as_slice(), plan.segments.as_slice())?;
+    let bare = whole_text(alloc, settings, class, plan, &[], t, edition)?;
+    more(bare.len(), said)
+}
+
 /// The text of a plan in a product of minute `t`. The one refusal is TooLong, exactly where it has more than 65,536 bytes.
+#[tactic(auto, unfolding(crate::specs::Text::text_of))]
 pub fn product_text(
     alloc: Global,
     settings: &Settings,
@@ -67,7 +89,14 @@ pub fn product_text(
     // Its one heading line is its first line, and each line has its end.
     ensures one_product { IfOk result IsOneProduct }
 {
-    let text = whole_text(alloc, settings, class, plan, t, edition)?;
+    if may_be_long(plan, MOST) {
+        let bytes = text_length(alloc, settings, class, plan, t, edition)?;
+        if bytes > MOST {
+            return Err(Or::No(Refusal::TooLong { bytes }));
+        }
+    }
+    let texts = plan.texts.as_slice();
+    let text = whole_text(alloc, settings, class, plan, texts, t, edition)?;
     if text.len() > MOST {
         return Err(Or::No(Refusal::TooLong { bytes: text.len() }));
     }

@@ -1,0 +1,30 @@
+-- How many bytes forecasters' texts have in a product text.
+use Rattle.std.specs.Prelude.{ℕ, List, [], ◌∷◌, ◌++◌, ◌+◌, length, if◌then◌else◌}
+use Rattle.hazard_types.specs.Same.{same_event}
+use Rattle.hazard_types.specs.declared.hazard.Event.{Event}
+use Rattle.hazard_types.specs.declared.line.SegLine.{SegLine}
+use Rattle.hazard_types.specs.declared.line.Segment.{Segment}
+use Rattle.hazard_types.specs.declared.request.EventTexts.{EventTexts}
+use Rattle.hazard_types.specs.declared.request.Texts.{Texts}
+use Rattle.product_template.specs.Bodies.{front_text, back_text}
+use Rattle.product_template.specs.declared.lengths.Told.{Told}
+
+-- the bullets of texts
+unfoldable pub texts_length : Texts → ℕ
+texts_length texts = length (front_text texts ++ back_text texts)
+
+abbrev pub told_of : EventTexts → Told
+told_of x = record { event = x.event; bytes = texts_length x.texts }
+
+-- the first texts on an event
+abbrev pub told_on : List Told → Event → ℕ
+told_on [] e = 0
+told_on (x ∷ told) e = if same_event x.event e then x.bytes else told_on told e
+
+abbrev pub told_in_lines : List Told → List SegLine → ℕ
+told_in_lines told [] = 0
+told_in_lines told (l ∷ lines) = told_on told l.event + told_in_lines told lines
+
+abbrev pub told_in_segments : List Told → List Segment → ℕ
+told_in_segments told [] = 0
+told_in_segments told (s ∷ segments) = told_in_lines told s.lines + told_in_segments told segments

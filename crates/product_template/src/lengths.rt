@@ -1,0 +1,108 @@
+//! How long a text is, known without laying forecasters' texts out in each line.
+ghost use Rattle.std.specs.Prelude.{◌≡◌, ◌+◌, map, length, IfOk};
+ghost use Rattle.product_template.specs.Lengths.{texts_length, told_of, told_on, told_in_lines, told_in_segments};
+
+use crate::bullets::{put_back, put_front};
+use hazard_types::{Event, EventTexts, List, Oom, Plan, SegLine, Segment, Text, Texts};
+use std::alloc::Global;
+
+/// How many bytes the bullets of an event's texts have.
+#[derive(Clone, Copy, Debug, PartialEq, Eq)]
+pub struct Told {
+    pub event: Event,
+    pub bytes: usize,
+}
+
+/// The sum, which has no place in memory either where it is none.
+pub fn more(sum: usize, amount: usize) -> Result<usize, Oom>
+    ensures { IfOk result (λ n. n ≡ sum + amount) }
+{
+    match sum.checked_add(amount) {
+        Some(more) => Ok(more),
+        None => Err(Oom),
+    }
+}
+
+/// The bytes of the bullets of texts.
+#[tactic(auto, unfolding(crate::specs::Lengths::texts_length))]
+fn texts_length(alloc: Global, texts: &Texts) -> Result<usize, Oom>
+    ensures { IfOk result (λ n. n ≡ texts_length texts.now) }
+{
+    let mut text = Text::new(alloc);
+    put_front(alloc, &mut text, texts)?;
+    put_back(alloc, &mut text, texts)?;
+    Ok(text.len())
+}
+
+/// The bytes of the bullets of an event's texts.
+fn told_of(alloc: Global, entry: &EventTexts) -> Result<Told, Oom>
+    ensures { IfOk result (λ told. told ≡ told_of entry.now) }
+{
+    let bytes = texts_length(alloc, &entry.texts)?;
+    Ok(Told {
+        event: entry.event,
+        bytes,
+    })
+}
+
+/// The bytes of the bullets of each event's texts, each laid out once.
+pub fn each_told(alloc: Global, texts: &[EventTexts]) -> Result<List<Told>, Oom>
+    ensures { IfOk result (λ told. told ≡ map told_of texts.now) }
+{
+    let mut told = List::new(alloc);
+    for entry in texts {
+        told.push(told_of(alloc, entry)?)?;
+    }
+    Ok(told)
+}
+
+/// The bytes of the bullets of the first texts on an event.
+fn told_on(told: &[Told], event: &Event) -> usize
+    ensures { result ≡ told_on told.now event.now }
+{
+    for entry in told {
+        if entry.event == *event {
+            return entry.bytes;
+        }
+    }
+    0
+}
+
+/// The bytes of the bullets of lines.
+fn told_in_lines(told: &[Told], lines: &[SegLine]) -> Result<usize, Oom>
+    ensures { IfOk result (λ n. n ≡ told_in_lines told.now lines.now) }
+{
+    let mut sum = 0;
+    for line in lines {
+        sum = more(sum, told_on(told, &line.event))?;
+    }
+    Ok(sum)
+}
+
+/// The bytes of the bullets of the lines of segments.
+pub fn told_in_segments(told: &[Told], segments: &[Segment]) -> Result<usize, Oom>
+    ensures { IfOk result (λ n. n ≡ told_in_segments told.now segments.now) }
+{
+    let mut sum = 0;
+    for segment in segments {
+        sum = more(sum, told_in_lines(told, segment.lines.as_slice())?)?;
+    }
+    Ok(sum)
+}
+
+/// Whether the texts come to more than so many bytes, were each of them said in each line: a guess,
+/// which decides alone in which way a length is found.
+pub fn may_be_long(plan: &Plan, most: usize) -> bool {
+    let mut said: usize = 0;
+    for entry in plan.texts.as_slice() {
+        let texts = &entry.texts;
+        for text in [&texts.what, &texts.area, &texts.impacts, &texts.details] {
+            said = said.saturating_add(text.len());
+        }
+    }
+    let mut lines: usize = 0;
+    for segment in plan.segments.as_slice() {
+        lines = lines.saturating_add(segment.lines.len());
+    }
+    said.saturating_mul(lines) > most
+}
