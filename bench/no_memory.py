@@ -13,6 +13,7 @@ calls and refuses one; `cc` compiles it. (`rt try --fail-alloc N` refuses one wi
 import datetime
 import json
 import os
+import socket
 import subprocess
 import sys
 import tempfile
@@ -21,9 +22,11 @@ import time
 
 TOP = os.path.join(os.path.dirname(os.path.abspath(__file__)), "..")
 SECONDS = 60                # that a run may take
+LINKS = 2                   # that a served run takes
 SPANS = 12                  # of numbers that a line of the table names
 MEMORY = b"fault OutOfMemory\n"
 NO_ROOM = b'{"no":"M1","rule":"OutOfMemory"}\n'
+NO_ROOM_AT_A_LINK = b"HTTP/1.1 503 Service Unavailable\r\nContent-Type: application/json\r\nContent-Length: 32\r\n\r\n" + NO_ROOM[:-1]
 
 LIBRARY = r"""
 #include <errno.h>
@@ -98,19 +101,59 @@ class Runs:
             with open(path, "wb") as out:
                 out.write(self.journal)
             words.insert(0, path)
-        env = dict(os.environ, LD_PRELOAD=os.path.join(self.folder, "refuse.so"), REFUSED_CALL=str(refused),
-                   CALLS_FILE=os.path.join(self.folder, "calls"))
         done = subprocess.run([program(self.name)] + words, input=self.given if given is None else given, stdout=subprocess.PIPE,
-                              stderr=subprocess.DEVNULL, env=env, timeout=SECONDS)
+                              stderr=subprocess.DEVNULL, env=self.refusing(refused), timeout=SECONDS)
         left = None
         if self.journal is not None:
             with open(path, "rb") as file:
                 left = file.read()
         return done.returncode, done.stdout, left
 
+    def refusing(self, refused):
+        """The environment of a program whose allocation of that number is refused."""
+        return dict(os.environ, LD_PRELOAD=os.path.join(self.folder, "refuse.so"), REFUSED_CALL=str(refused),
+                    CALLS_FILE=os.path.join(self.folder, "calls"))
+
     def allocations(self):
         with open(os.path.join(self.folder, "calls")) as file:
             return int(file.read())
+
+
+class Served(Runs):
+    """Runs of `serve` with two workers, over two links, one after the other, which post the same request."""
+
+    def __init__(self, folder, request, journal):
+        super().__init__(folder, "warn_main", [], request, journal)
+
+    def run(self, refused=0, given=None):
+        """Status, bytes written, journal left, and what each link was answered, or None."""
+        path = os.path.join(self.folder, "journal")
+        with open(path, "wb") as out:
+            out.write(self.journal)
+        with socket.socket() as it:
+            it.bind(("127.0.0.1", 0))
+            port = it.getsockname()[1]
+        words = [path, "serve", "--port", str(port), "--workers", "2", "--connections", str(LINKS)]
+        work = subprocess.Popen([program(self.name)] + words, stdin=subprocess.DEVNULL, stdout=subprocess.PIPE,
+                                stderr=subprocess.DEVNULL, env=self.refusing(refused))
+        answers = [self.answer(work, port) for _ in range(LINKS)]
+        written = work.communicate(timeout=SECONDS)[0]
+        with open(path, "rb") as file:
+            return work.returncode, written, file.read(), answers
+
+    def answer(self, work, port):
+        """What a link that posts the request is answered; None where it is not."""
+        while work.poll() is None:
+            try:
+                with socket.create_connection(("127.0.0.1", port), timeout=SECONDS) as link:
+                    link.sendall(b"POST /requests HTTP/1.1\r\nContent-Length: %d\r\n\r\n%s" % (len(self.given), self.given))
+                    link.shutdown(socket.SHUT_WR)
+                    return b"".join(iter(lambda: link.recv(65536), b"")) or None
+            except ConnectionRefusedError:
+                time.sleep(0.002)
+            except OSError:
+                return None
+        return None
 
 
 def in_one_minute(work):
@@ -155,6 +198,28 @@ def answered(runs, outcome, whole):
     return ended(runs, outcome, whole)
 
 
+def served(runs, outcome, whole):
+    """Each link is answered as ever, or M1, or not at all; the journal has the request, or is as before; the end says so."""
+    status, written, left, answers = outcome
+    if outcome == whole:
+        return "ends as the whole run"
+    kinds = {None: "no answer", whole[3][0]: "its reply", NO_ROOM_AT_A_LINK: "M1"}
+    if any(it not in kinds for it in answers) or left not in (runs.journal, whole[2]):
+        return None
+    entered = left == whole[2]
+    if whole[3][0] in answers and not entered:
+        return None
+    well = (0, b"requests 1 products 1\n" if entered else b"requests 0 products 0\n")
+    links = ", ".join(kinds[it] for it in answers)
+    if (status, written) == well and None not in answers:
+        return "status 0; the links: %s" % links
+    if (status, written) == (12, MEMORY):
+        return "status 12, its line; the links: %s" % links
+    if (status, written) == (12, b"") and answers == [None] * LINKS and not entered:
+        return "status 12, nothing written"
+    return None
+
+
 # ---- the cases
 
 def stamp(hours):
@@ -180,6 +245,11 @@ def small_day():
         {"desk": "C", "seq": 1, "do": "correct", "product": 2, "texts": [{"event": "WI.Y.0001.20" + year,
                                                                           "texts": {"what": "Gusts to 50 mph."}}]},
     ])
+
+
+def one_issue():
+    """A request that makes a product, without its line feed."""
+    return lines_of([{"desk": "A", "seq": 1, "do": "issue", "hazard": "WS.W", "zones": ["MDZ003"], "begin": "now", "end": stamp(10)}])[:-1]
 
 
 def fifty():
@@ -225,7 +295,7 @@ CASES = {
                                                               sample("samples", "archive.txt")), begun),
     "watch_notice over three lines": lambda folder: (
         Runs(folder, "watch_notice", ["KLWX", "Eastern"], b"".join(sample("samples", "notices.jsonl").splitlines(True)[:3])), begun),
-    "serve over two workers": None,   # the program does not serve yet
+    "serve over two links": lambda folder: (Served(folder, one_issue(), journal_with(folder, b"")), served),
 }
 
 
@@ -265,9 +335,6 @@ def main():
         whole = True
         for name, case in CASES.items():
             if sys.argv[1:] and not any(it in name for it in sys.argv[1:]):
-                continue
-            if case is None:
-                print("%s: to come" % name)
                 continue
             whole = table(name, *case(folder)) and whole
     sys.exit(0 if whole else 1)
