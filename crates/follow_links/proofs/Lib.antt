@@ -1,4 +1,5 @@
 mod Shapes
+mod Ports
 mod Digits
 mod Sizes
 mod Lasts
