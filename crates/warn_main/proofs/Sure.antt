@@ -12,17 +12,17 @@ unmoved before now old new rose = omega (arith, old, new, rose)
 none_failed : (before now count : ℕ) → before ≡ 0 → now ≡ 0 → min (before + count) (2 ^ 64 - 1) ≤ now → count ≡ 0
 none_failed before now count old new few = omega (arith, old, new, few)
 
-module _ {D C L : Type 0} (d : Disks D) (k : Clocks C) (w : Ways L) (steady : (x : D) → d.faults x ≡ 0) where
-  pub ends : EndsWithoutDiskFault d k w
-  ends words limit disk next clock clock' port port' left left' taken taken' reads reads' writes writes' status run is =
+module _ {D : Type 0} (d : Disks D) (steady : (x : D) → d.faults x ≡ 0) where
+  pub ends : {C L : Type 0} (k : Clocks C) (w : Ways L) → EndsWithoutDiskFault d k w
+  ends k w words limit disk next clock clock' port port' left left' taken taken' reads reads' writes writes' status run is =
       unmoved (d.faults disk) (d.faults next) (steady disk) (steady next) (run.disk_fault is)
 
-  pub says : SaysNoDiskFault d k w
-  says disk next clock clock' limit left left' taken taken' reads reads' writes writes' status run =
+  pub says : {C : Type 0} (k : Clocks C) → SaysNoDiskFault d k
+  says k disk next clock clock' limit left left' taken taken' reads reads' writes writes' status run =
       none_failed (d.faults disk) (d.faults next) _ (steady disk) (steady next) run.faults
 
-  pub serves : (gives : ℤ → Type 0) → ServesNoDiskFault d k w gives
-  serves gives serving disk next port port' taken taken' writes writes' status run =
+  pub serves : {L : Type 0} (w : Ways L) (gives : ℤ → Type 0) → ServesNoDiskFault d w gives
+  serves w gives serving disk next port port' taken taken' writes writes' status run =
       none_failed _ _ _ (steady _) (steady _) run.served.since.counted
 
 module _ {D C L : Type 0} (d : Disks D) (k : Clocks C) (w : Ways L) where

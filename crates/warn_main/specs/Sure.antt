@@ -11,21 +11,23 @@ use Rattle.warn_main.specs.Runs.{DoesAsAsked}
 use Rattle.warn_serve.specs.Links.{Ways}
 use Rattle.warn_serve.specs.Served.{PortState}
 
-module _ {D C L : Type 0} (d : Disks D) (k : Clocks C) (w : Ways L) where
-  -- no run over the disk ends with a disk fault
-  abbrev pub EndsWithoutDiskFault : Type 0
-  EndsWithoutDiskFault = (words : List (List ℕ)) (limit : ℕ) (disk next : D) (clock clock' : C) (port port' : PortState L) (left left' taken taken' : Option (List ℕ)) (reads reads' writes writes' status : ℕ)
-      → DoesAsAsked d k w words limit disk next clock clock' port port' left left' taken taken' reads reads' writes writes' status → status ≢ 9
-
+module _ {D C : Type 0} (d : Disks D) (k : Clocks C) where
   -- no line of a script over the disk is answered that the disk failed
   abbrev pub SaysNoDiskFault : Type 0
   SaysNoDiskFault = (disk next : D) (clock clock' : C) (limit : ℕ) (left left' taken taken' : Option (List ℕ)) (reads reads' writes writes' status : ℕ)
       (run : IsScriptRun d k disk next clock clock' limit left left' taken taken' reads reads' writes writes' status) → faults_in run.said ≡ 0
 
+module _ {D L : Type 0} (d : Disks D) (w : Ways L) where
   -- no call of a link over the disk is answered that the disk failed
   abbrev pub ServesNoDiskFault : (ℤ → Type 0) → Type 0
   ServesNoDiskFault gives = (serving : Serving) (disk next : D) (port port' : PortState L) (taken taken' : Option (List ℕ)) (writes writes' status : ℕ)
       (run : IsServeRun d w gives serving disk next port port' taken taken' writes writes' status) → turns.faults_in run.served.happenings ≡ 0
+
+module _ {D C L : Type 0} (d : Disks D) (k : Clocks C) (w : Ways L) where
+  -- no run over the disk ends with a disk fault
+  abbrev pub EndsWithoutDiskFault : Type 0
+  EndsWithoutDiskFault = (words : List (List ℕ)) (limit : ℕ) (disk next : D) (clock clock' : C) (port port' : PortState L) (left left' taken taken' : Option (List ℕ)) (reads reads' writes writes' status : ℕ)
+      → DoesAsAsked d k w words limit disk next clock clock' port port' left left' taken taken' reads reads' writes writes' status → status ≢ 9
 
   -- no run ends with a read fault where the input has such a count at the start and at the end
   abbrev pub EndsWithoutReadFault : ℕ → ℕ → Type 0

@@ -10,9 +10,8 @@ use desk_traits::{Clock, Disk, Sink, Source, SureDisk, SureSink, SureSource};
 pub fn sure_ends_tell_no_fault<D: Disk, P: Port, C: Clock>()
     ensures disk { EndsWithoutDiskFault ⟦<SureDisk as Disk>⟧ C.Clock
         (ways P.Door.Link.came P.Door.Link.left P.Door.Link.taken P.Door.Link.Source.faults P.Door.Link.Sink.faults) }
-    ensures lines { SaysNoDiskFault ⟦<SureDisk as Disk>⟧ C.Clock
-        (ways P.Door.Link.came P.Door.Link.left P.Door.Link.taken P.Door.Link.Source.faults P.Door.Link.Sink.faults) }
-    ensures calls { (clock : C) → ServesNoDiskFault ⟦<SureDisk as Disk>⟧ C.Clock
+    ensures lines { SaysNoDiskFault ⟦<SureDisk as Disk>⟧ C.Clock }
+    ensures calls { (clock : C) → ServesNoDiskFault ⟦<SureDisk as Disk>⟧
         (ways P.Door.Link.came P.Door.Link.left P.Door.Link.taken P.Door.Link.Source.faults P.Door.Link.Sink.faults) (C.gives clock) }
     ensures input { (source next : SureSource) → EndsWithoutReadFault D.Disk C.Clock
         (ways P.Door.Link.came P.Door.Link.left P.Door.Link.taken P.Door.Link.Source.faults P.Door.Link.Sink.faults)
