@@ -21,7 +21,7 @@ pub trait Entry {
     ///
     /// # Errors
     ///
-    /// Want of memory: a front of the line may stand at the text's end then.
+    /// Out of memory: the text may then end with the beginning of the line.
     fn put(&self, alloc: Global, out: &mut Text) -> Result<(), Oom>
         ensures { OnOk result (out.new ≡ out.old ++ line self.now) };
 }

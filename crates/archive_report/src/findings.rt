@@ -64,7 +64,7 @@ fn total(faults: usize, breaches: &[Found], gaps: &[GapFound]) -> usize
     faults + breaches.len() + gaps.len()
 }
 
-/// Tells the lives, breaches and gaps, and answers how many are listed with the faults.
+/// Adds the lives, breaches and gaps, and returns how many are listed with the faults.
 fn tell_findings<K: Sink>(
     alloc: Global,
     out: &mut Text,
@@ -142,7 +142,7 @@ fn tell_end<K: Sink>(
     tell_last(alloc, out, output, listed)
 }
 
-/// Tells what the products come to, and answers how many faults, breaches and gaps are listed.
+/// Adds what the products come to, and returns how many faults, breaches and gaps are listed.
 pub fn tell_rest<K: Sink>(
     alloc: Global,
     asked: &Asked,

@@ -12,8 +12,8 @@ use product_decoder::Feed;
 use program_ends::{Stop, read_front};
 use std::alloc::Global;
 
-/// Reads an input of at most `limit` bytes to its end, and tells the line of each product. The products that are finished within
-/// a piece are told before the next read. One byte more than the limit is read, and is no product's.
+/// Reads an input of at most `limit` bytes to its end, and writes the line of each product. The products that are finished within
+/// a piece are written before the next read. One byte more than the limit is read, and is no product's.
 pub fn tell_input<S: Source, K: Sink>(
     alloc: Global,
     asked: &Asked,

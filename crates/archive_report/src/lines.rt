@@ -118,7 +118,7 @@ pub fn put_breach(
     out.push(b'\n')
 }
 
-/// A number behind a blank.
+/// A number after a blank.
 fn put_spaced(alloc: Global, out: &mut Text, n: u16) -> Result<(), Oom>
     ensures { OnOk result (out.new ≡ out.old ++ spaced n) }
 {

@@ -24,7 +24,7 @@ fn read_product(alloc: Global, bytes: &[u8]) -> Result<Reading, Oom>
     }
 }
 
-/// Takes the next product that came out, and adds its line. Answers whether there was one.
+/// Takes the next product that came out, and adds its line. Returns whether there was one.
 fn tell_next(
     alloc: Global,
     asked: &Asked,

@@ -12,7 +12,7 @@ use desk_traits::{Sink, Source};
 use program_ends::Stop;
 use std::alloc::Global;
 
-/// Reads an input of at most `limit` bytes to its end, and tells its report. Answers how many faults, breaches and gaps are listed.
+/// Reads an input of at most `limit` bytes to its end, and writes its report. Returns how many faults, breaches and gaps are listed.
 pub fn tell_report<S: Source, K: Sink>(
     alloc: Global,
     asked: &Asked,

@@ -42,7 +42,7 @@ fn action_code(action: Action) -> [u8; 3]
     }
 }
 
-/// The steps of a life, each behind a blank.
+/// The steps of a life, each after a blank.
 pub fn put_steps(out: &mut Text, steps: &[(Action, Minute)]) -> Result<(), Oom>
     ensures { OnOk result (out.new ≡ out.old ++ steps_text steps.now) }
 {

@@ -5,7 +5,7 @@ ghost use Rattle.archive_report.specs.Words.{asked_of};
 use hazard_types::{Class, List, Minute, Text, classes, find, read_stamp};
 use program_ends::office_of;
 
-/// Whose lines a report tells, and the minute whose rows it shows.
+/// Whose lines a report has, and the minute whose rows it shows.
 #[derive(Clone, Copy, Debug)]
 pub struct Asked {
     pub office: [u8; 4],

@@ -8,7 +8,7 @@ use office_journal::{KeepFault, KeptOffice};
 use program_ends::End;
 use std::alloc::Global;
 
-/// Opens the office whose journal the disk holds, or tells why there is none.
+/// Opens the office whose journal the disk holds, or returns why there is none.
 pub fn open<D: Disk>(alloc: Global, disk: D) -> Result<KeptOffice<D>, (D, End)>
     ensures opened { MatchResult result (IsOpened D.Disk disk) (λ e. IsUnopened D.Disk disk e.0 e.1) }
     ensures end { IfErr result (λ e. is_write_fault e.1 ≡ false) }

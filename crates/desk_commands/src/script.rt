@@ -26,7 +26,7 @@ pub struct Script<'a, D: Disk, C: Clock> {
     clock: &'a mut C,
 }
 
-/// The reply that tells a refusal, or that memory lacks for its text.
+/// The reply to a refused line, or the one that memory ran out for its text.
 fn refusal_reply(alloc: Global, refusal: &Refusal) -> Reply
     ensures { (bytes_of result ≡ refusal_line refusal.now) ⊎ (bytes_of result ≡ ended out_of_memory_text) }
 {

@@ -4,7 +4,7 @@ ghost use Rattle.desk_commands.specs.Commands.{IsTold};
 use desk_traits::{Failed, Sink, write_whole};
 use program_ends::{End, end_run};
 
-/// Writes a text, ends the run, and answers the status of the program.
+/// Writes a text, ends the run, and returns the status of the program.
 pub fn tell<K: Sink>(output: &mut K, text: &[u8]) -> u8
     ensures { IsTold text.now (K.faults output.old) (K.taken output.old) (K.taken output.new) (K.faults output.new) result }
 {

@@ -43,7 +43,7 @@ fn first_minute() -> Minute
     }
 }
 
-/// The events that a product opens, of which it is told in its reply.
+/// The events that a product opens, as its reply names them.
 fn events_of(prepared: &Prepared) -> &[Event]
     requires made { IsSome prepared.now.made }
     requires reply { prepared.now.entry.reply ≡ sent_reply prepared.now.made }

@@ -23,7 +23,7 @@ const LASTING: u32 = 240;
 /// How many zones an issue has.
 const ZONES: u32 = 6;
 
-/// A request of a drill: an issue of a desk, which is told by its place among the four, from 0.
+/// A request of a drill: an issue of a desk, which is known by its place among the four, from 0.
 #[derive(Debug, Drop)]
 pub struct DrillRequest {
     pub desk: u32,
@@ -125,7 +125,7 @@ fn hazard_at(place: u64) -> Hazard
     }
 }
 
-/// A minute so many behind 180101T0000Z.
+/// The minute so many after 180101T0000Z.
 fn minute_behind(count: u32) -> Minute
     requires { count ≤ 50000 }
     ensures { result ≡ 9468000 + count }

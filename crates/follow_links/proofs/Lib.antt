@@ -1,3 +1,4 @@
+mod Ports
 mod Sizes
 mod Lasts
 mod Joining

@@ -1,12 +1,12 @@
 -- What is read of an answer, step by step.
-use Rattle.std.proofs.Common.{◌≡◌, ◌∙◌, ◌≤◌, ◌<◌, ◌+◌, ◌⊎◌, inl, inr, true, ℕ, List, [], ◌++◌, length, take, drop, Option, Some, Ok, Err, refl, sym, ap, arith, subst, append-nil, length-append}
+use Rattle.std.proofs.Common.{◌≡◌, ◌∙◌, ◌≤◌, ◌<◌, ◌+◌, ◌⊎◌, inl, inr, true, ℕ, List, [], ◌∷◌, ◌++◌, length, take, drop, Option, Some, Ok, Err, refl, sym, ap, arith, subst, append-nil, length-append}
 use Rattle.std.proofs.lemmas.List.{take-append-drop}
 use Rattle.desk_traits.specs.Faults.{Rose}
 use Rattle.desk_traits.specs.Streams.{Takes}
 use Rattle.httparse.specs.Grammar.{ResponseHead, print_response, ReadsResponse, HasNoResponse, MayBecomeResponse}
 use Rattle.program_ends.specs.declared.ends.End.TheVariants.{WriteFault}
 use Rattle.program_ends.specs.Ends.{HasWritten}
-use Rattle.follow_links.specs.Answers.{HasBadHead, IsFront, is_known}
+use Rattle.follow_links.specs.Answers.{HasBadHead, WasCutHead, IsFront, is_known}
 use Rattle.follow_links.specs.Readings.{HasShape, Says, Gains, ReadsMore, ReadsBody, ReadsHead, ReadsAnswer}
 use Rattle.follow_links.specs.declared.answers.Head.TheVariants.{Bad, Whole}
 use Rattle.follow_links.specs.declared.answers.Shape.{Shape}
@@ -34,6 +34,11 @@ head_stops left mid end now new most miss.Failed t none may few h = (
 head_stops left mid end now new most miss.Bad t none may few h = absurd h
 head_stops left mid end now new most miss.OutOfMemory t none may few h = (now ++ h.0, takes_more left mid end now h.0 t h.1)
 
+one_byte : (piece : List ℕ) → 1 ≤ length piece → length piece ≤ 1 → (byte : ℕ) × (piece ≡ byte ∷ [])
+one_byte [] some few = absurd (omega (arith, some))
+one_byte (byte ∷ []) some few = (byte, refl)
+one_byte (byte ∷ other ∷ more) some few = absurd (omega (arith, few))
+
 -- one byte more
 module _ (left mid end : Option (List ℕ)) (now new : List ℕ) where
   pub byte_taken : Takes left mid now → Gains mid end now new 1 → Takes left end new
@@ -44,9 +49,18 @@ module _ (left mid end : Option (List ℕ)) (now new : List ℕ) where
       let nothing = nothing_behind now g.piece h rest none (omega (arith, g.some, g.few)) (subst (λ (b : List ℕ). ReadsResponse b h rest) g.behind r) in
       subst (ReadsResponse new h) nothing r
 
-  pub bad_head : HasNoResponse now → Gains mid end now new 1 → Says new Bad → HasBadHead new
-  bad_head none g (inl never) = inl never
-  bad_head none g (inr b) = inr (inr (b.0, all_read b.0 b.1 none g b.2, b.3))
+  pub few_more : length now < 8192 → Gains mid end now new 1 → length new ≤ 8192
+  few_more few g = omega (arith, few, g.few, ap length g.behind, length-append now g.piece)
+
+  -- before it a head could still come
+  pub was_cut : HasNoResponse now → length now < 8192 → (now ≡ []) ⊎ MayBecomeResponse now → Gains mid end now new 1 → WasCutHead new
+  was_cut none few may g =
+      let byte = one_byte g.piece g.some g.few in
+      (now, byte.0, g.behind ∙ ap (λ (b : List ℕ). now ++ b) byte.1, (none, few, may))
+
+  pub bad_head : HasNoResponse now → length now < 8192 → (now ≡ []) ⊎ MayBecomeResponse now → Gains mid end now new 1 → Says new Bad → HasBadHead new
+  bad_head none few may g (inl never) = (inl never, was_cut none few may g)
+  bad_head none few may g (inr b) = (inr (inr (b.0, all_read b.0 b.1 none g b.2, b.3)), was_cut none few may g)
 
   pub whole_head : HasNoResponse now → length now < 8192 → Gains mid end now new 1 → (s : Shape) → Says new (Whole s)
       → (h : ResponseHead) × ReadsResponse new h [] × (length (print_response h) ≤ 8192) × HasShape h s

@@ -1,5 +1,5 @@
 -- The answers of a server, by httparse's grammar of heads and Content-Length.
-use Rattle.std.specs.Prelude.{◌≡◌, ◌≤◌, ◌<◌, ◌⊎◌, ℕ, ◌==◌, ◌||◌, ◌&&◌, Bool, true, false, List, [], ◌∷◌, length, map, codes, Option, Some, None, if◌then◌else◌}
+use Rattle.std.specs.Prelude.{◌≡◌, ◌≤◌, ◌<◌, ◌⊎◌, ℕ, ◌==◌, ◌||◌, ◌&&◌, Bool, true, false, List, [], ◌∷◌, ◌++◌, length, map, codes, Option, Some, None, if◌then◌else◌}
 use Rattle.std.specs.Char.{to_ascii_lowercase}
 use Rattle.std.specs.List.{list_any}
 use Rattle.std.specs.Str.{bytes_eq}
@@ -65,12 +65,24 @@ pub record IsAnswer (bytes : List ℕ) (a : Answer) : Type 0 where
 abbrev pub IsBadlyHeaded : ResponseHead → Type 0
 IsBadlyHeaded h = (length_in (fields_of h) ≡ None) ⊎ (is_known (status_code h) ≡ false)
 
+-- no byte, or a front of a head
+abbrev pub IsCutHead : List ℕ → Type 0
+IsCutHead bytes = HasNoResponse bytes × (length bytes < 8192) × ((bytes ≡ []) ⊎ MayBecomeResponse bytes)
+
 -- whatever follows, they begin with no head; or with none of at most 8,192 bytes; or they are a bad one
-abbrev pub HasBadHead : List ℕ → Type 0
-HasBadHead bytes =
+abbrev pub IsBadHead : List ℕ → Type 0
+IsBadHead bytes =
     NeverHasResponse bytes
     ⊎ (((8192 ≤ length bytes) × HasNoResponse bytes)
     ⊎ ((h : ResponseHead) × ReadsResponse bytes h [] × IsBadlyHeaded h))
+
+-- before its last byte it could still become one
+abbrev pub WasCutHead : List ℕ → Type 0
+WasCutHead bytes = (front : List ℕ) × (last : ℕ) × (bytes ≡ front ++ last ∷ []) × IsCutHead front
+
+-- a bad head, told at the byte that decides it
+abbrev pub HasBadHead : List ℕ → Type 0
+HasBadHead bytes = IsBadHead bytes × WasCutHead bytes
 
 -- a head, and less than its body
 pub record IsCutBody (bytes : List ℕ) : Type 0 where
@@ -82,10 +94,6 @@ pub record IsCutBody (bytes : List ℕ) : Type 0 where
   pub length_is : length_in (fields_of head) ≡ Some wanted
   pub known : is_known (status_code head) ≡ true
   pub cut : length body < wanted
-
--- no byte, or a front of a head
-abbrev pub IsCutHead : List ℕ → Type 0
-IsCutHead bytes = HasNoResponse bytes × (length bytes < 8192) × ((bytes ≡ []) ⊎ MayBecomeResponse bytes)
 
 -- the bytes are no whole answer, and may become one
 abbrev pub IsFront : List ℕ → Type 0

@@ -23,3 +23,4 @@ mod DraftChanges
 pub mod BrokenLemmas
 pub mod ReadingLemmas
 pub mod ReadyLemmas
+pub mod PreparedLemmas

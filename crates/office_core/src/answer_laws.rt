@@ -1,10 +1,12 @@
-//! Laws: a request has one answer, and its minute serves as its reading.
+//! Laws: a request has one answer, its minute serves as its reading, and what is prepared stays so while others are prepared.
 ghost use Rattle.std.specs.Prelude.{◌≡◌, ◌≤◌, ℕ, ℤ, pos, List, Option};
 ghost use Rattle.hazard_types.specs.declared.refusal.Refusal.{Refusal};
 ghost use Rattle.hazard_types.specs.declared.request.Reply.{Reply};
 ghost use Rattle.hazard_types.specs.declared.request.Request.{Request};
+ghost use Rattle.office_core.specs.Prepared.{MayCommit, Readied};
 ghost use Rattle.office_core.specs.State.{State};
 ghost use Rattle.office_core.specs.Step.{Accepts, Refuses, Repeats};
+ghost use Rattle.office_core.specs.Views.{IsRoomier, OfficeView};
 ghost use Rattle.office_core.specs.declared.made.Made.{Made};
 
 /// A request that is accepted makes one thing at one minute, and one that is refused breaks one first rule. No request is answered in two of the three ways.
@@ -26,4 +28,9 @@ pub fn a_request_has_one_answer()
 pub fn accepted_requests_are_accepted_at_their_minute()
     ensures { (s : State) (desk : List ℕ) (seq : ℕ) (r : Request) (reading : ℤ) (t : ℕ) (made : Option Made) →
         s.last ≤ 52000000 → Accepts s desk seq r reading t made → Accepts s desk seq r (pos t) t made }
+{}
+
+/// What was prepared may be committed by an office that has since prepared other requests, as long as none was committed: state and counts are the same, and the room is as large at least.
+pub fn what_is_prepared_may_wait()
+    ensures { (o now : OfficeView) (p : Readied) → now.state ≡ o.state → now.counts ≡ o.counts → IsRoomier o.room now.room → MayCommit o p → MayCommit now p }
 {}

@@ -68,7 +68,7 @@ impl<D: Disk> KeptOffice<D> {
         ensures any_moment { MatchResult result (λ kept. LeavesOnly D.moment D.left_since disk (disk_of kept) (D.may_leave disk)) (λ e. LeavesOnly D.moment D.left_since disk e.0 (D.may_leave disk)) }
     {
         match Journal::adopt(alloc, disk) {
-            Ok((journal, bodies)) => match opened(alloc, journal, bodies.as_slice()) {
+            Ok((journal, bodies)) => match office_of(alloc, journal, bodies.as_slice()) {
                 Ok(kept) => Ok(kept),
                 Err(fault) => Err(fault),
             },
@@ -78,7 +78,7 @@ impl<D: Disk> KeptOffice<D> {
 }
 
 /// Opens the office of a journal that has these bodies.
-fn opened<D: Disk>(
+fn office_of<D: Disk>(
     alloc: Global,
     journal: Journal<D>,
     all: &[Text],

@@ -20,7 +20,7 @@ pub(crate) fn record_length(body: &[u8]) -> u64
     5 + body.len() as u64
 }
 
-/// The minute whose stamp a body begins with, behind which a byte stands.
+/// The minute whose stamp a body begins with, where a byte comes after it.
 pub(crate) fn minute_in(body: &[u8]) -> Option<Minute>
     ensures minute { result ≡ minute_in body.now }
     ensures long { OnSome result (13 ≤ length body.now) }

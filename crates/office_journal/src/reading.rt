@@ -45,7 +45,7 @@ impl<D: Disk> KeptOffice<D> {
     /// # Errors
     ///
     /// `ClockOut` at the board and a preview, `NoProduct`, `NoDraft`, the first rule that a preview's lines or text break,
-    /// or want of memory.
+    /// or out of memory.
     pub fn look(&self, alloc: Global, q: &Query, reading: i64) -> Result<Text, Or<Refusal>>
         ensures shows { IfOk result (λ text. Shows (state_of self.now) q.now reading text) }
         ensures refused { (x : Refused) → result ≡ Err (No x) → RefusesLook (state_of self.now) q.now reading x }

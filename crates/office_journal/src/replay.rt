@@ -28,7 +28,7 @@ pub(crate) struct Replayed {
     pub(crate) size: u64,
 }
 
-/// Reads an office from the bodies of its journal, or tells the place of the first one that fails.
+/// Reads an office from the bodies of its journal, or returns the place of the first one that fails.
 pub(crate) fn replay(alloc: Global, all: &[Text]) -> Result<Replayed, Or<u64>>
     requires some { 0 < length all.now }
     ensures { Replays all.now result }
@@ -43,7 +43,7 @@ pub(crate) fn replay(alloc: Global, all: &[Text]) -> Result<Replayed, Or<u64>>
     }
 }
 
-/// Takes the bodies behind the settings' file, one after another.
+/// Takes the bodies after the settings' file, one after another.
 fn go_on(
     alloc: Global,
     mut found: Replayed,
@@ -105,7 +105,7 @@ fn is_body_of(
 }
 
 /// What an office prepares for the request in a body, where the body is that of its entry.
-fn judged(alloc: Global, office: &mut Office, body: &[u8]) -> Result<Option<Prepared>, Oom>
+fn judge_body(alloc: Global, office: &mut Office, body: &[u8]) -> Result<Option<Prepared>, Oom>
     requires ids { office.old.state.begun < 4294967295 }
     ensures state { office.new.state ≡ office.old.state }
     ensures judges { IfOk result (Judges office.new office.old.state body.now) }
@@ -116,13 +116,13 @@ fn judged(alloc: Global, office: &mut Office, body: &[u8]) -> Result<Option<Prep
     };
     let read = asked_in(alloc, body)?;
     match read {
-        Some(asked) => judged_as(alloc, office, body, &asked, minute),
+        Some(asked) => judge_as(alloc, office, body, &asked, minute),
         None => Ok(None),
     }
 }
 
 /// What an office prepares for a request that was read from a body, where the body is that of its entry.
-fn judged_as(
+fn judge_as(
     alloc: Global,
     office: &mut Office,
     body: &[u8],
@@ -172,14 +172,14 @@ impl Replayed {
         }))
     }
 
-    /// Whether a body is the mark, and may stand behind what was taken.
+    /// Whether a body is the mark, and may come after what was taken.
     fn goes_over(&self, body: &[u8]) -> bool
         ensures { Decides result ((body.now ≡ mark) × (self.now.office.state.edition ≡ One)) }
     {
         body == b"edition 2".as_slice() && self.office.edition() == Edition::One
     }
 
-    /// Takes the next body, and answers whether it may stand there.
+    /// Takes the next body, and returns whether it may stand there.
     fn take(&mut self, alloc: Global, body: &[u8]) -> Result<bool, Oom>
         requires begun { self.old.office.state.begun ≤ self.old.entries }
         requires recorded { self.old.entries ≤ self.old.size }
@@ -196,7 +196,7 @@ impl Replayed {
         self.take_entry(alloc, body)
     }
 
-    /// Takes the body of an entry, and answers whether it may stand there.
+    /// Takes the body of an entry, and returns whether it may stand there.
     fn take_entry(&mut self, alloc: Global, body: &[u8]) -> Result<bool, Oom>
         requires begun { self.old.office.state.begun ≤ self.old.entries }
         requires recorded { self.old.entries ≤ self.old.size }
@@ -206,7 +206,7 @@ impl Replayed {
         if self.size + 1 + record_length(body) > LIMIT {
             return Ok(false);
         }
-        let read = judged(alloc, &mut self.office, body)?;
+        let read = judge_body(alloc, &mut self.office, body)?;
         match read {
             Some(p) => {
                 self.office.commit(p);

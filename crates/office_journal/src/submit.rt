@@ -96,7 +96,7 @@ impl<D: Disk> KeptOffice<D> {
             Ok(ready) => match ready {
                 Ready::New(p) => {
                     let told = Snapshot::of(&p);
-                    beside(self.keep(alloc, desk, seq, r, p), told)
+                    beside(self.append_prepared(alloc, desk, seq, r, p), told)
                 }
                 Ready::Again => (self.again(alloc, desk), None),
             },
@@ -130,7 +130,7 @@ impl<D: Disk> KeptOffice<D> {
     }
 
     /// The reply to what was prepared, and the body of its entry.
-    fn texts(
+    fn reply_and_body(
         &self,
         alloc: Global,
         desk: &Desk,
@@ -148,7 +148,7 @@ impl<D: Disk> KeptOffice<D> {
     }
 
     /// The reply to what was prepared, and its entry ready to be appended where it has room; or the answer where it has none.
-    fn written(
+    fn reply_and_packet(
         &self,
         alloc: Global,
         desk: &Desk,
@@ -162,7 +162,7 @@ impl<D: Disk> KeptOffice<D> {
         ensures room { IfOk result (λ written. gate_of self.now + 6 + length written.1 ≤ 268435456) }
         ensures unkept { IfErr result (IsUnkept (gate_of self.now) (entered p.now)) }
     {
-        let Ok((reply, body)) = self.texts(alloc, desk, seq, r, p) else {
+        let Ok((reply, body)) = self.reply_and_body(alloc, desk, seq, r, p) else {
             return Err(Answer::OutOfMemory);
         };
         if !self.journal.room(body.len()) {
@@ -175,7 +175,14 @@ impl<D: Disk> KeptOffice<D> {
     }
 
     /// Keeps what was prepared, where its entry has room.
-    fn keep(&mut self, alloc: Global, desk: Desk, seq: u32, r: &Request, p: Prepared) -> Answer
+    fn append_prepared(
+        &mut self,
+        alloc: Global,
+        desk: Desk,
+        seq: u32,
+        r: &Request,
+        p: Prepared,
+    ) -> Answer
         requires form { HasForm (record { desk = desk; seq = seq; request = r.now }) }
         requires ready { (reading : ℤ) × IsReady self.old.office desk seq r.now reading p }
         ensures becomes { Becomes D.seen D.may_leave D.faults self.old self.new (λ x. x ≡ entered p) (λ text. ⊥) (λ x. ⊥) result }
@@ -184,7 +191,7 @@ impl<D: Disk> KeptOffice<D> {
             → LeavesOnly D.moment D.left_since (disk_of self.old) (disk_of self.new) (Leaves file h (λ change. (pending ≡ Some change) ⊎ (change ≡ Change.entry (entered p)))) }
     {
         self.a_crash_leaves_the_history();
-        match self.written(alloc, &desk, seq, r, &p) {
+        match self.reply_and_packet(alloc, &desk, seq, r, &p) {
             Ok((reply, packet)) => self.append(&packet, p, reply),
             Err(answer) => answer,
         }

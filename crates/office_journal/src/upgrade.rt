@@ -18,7 +18,7 @@ use journal_core::{AppendFault, Packet};
 use std::alloc::Global;
 
 impl<D: Disk> KeptOffice<D> {
-    /// Appends the mark, behind which texts are of edition Two.
+    /// Appends the mark, after which texts are of edition Two.
     pub fn upgrade(&mut self, alloc: Global) -> Upgrade
 
         // The edition was One, and is Two now. The journal has the mark, durably, and nothing is pending.

@@ -100,7 +100,7 @@ fn serve_office<
     }
 }
 
-/// Serves the office whose journal the disk holds over the links of a port, and then tells how many requests and products
+/// Serves the office whose journal the disk holds over the links of a port, and then writes how many requests and products
 /// it has.
 pub fn run_serve<
     R: Threads + Wait + Sync,

@@ -3,7 +3,7 @@ use Rattle.std.proofs.Common.{◌≡◌, ◌≢◌, ◌∙◌, ◌⊎◌, inl, i
 use Rattle.std.proofs.lemmas.Bool.{cases_Bool}
 use Rattle.std.proofs.lemmas.Bool.Decides.{nat_tests}
 use Rattle.desk_traits.specs.Faults.{Rose}
-use Rattle.desk_traits.specs.Streams.{Adds, IsAtEnd}
+use Rattle.desk_traits.specs.Streams.{Takes, Adds, IsAtEnd}
 use Rattle.product_decoder.specs.Decoded.{decode}
 use Rattle.product_decoder.specs.Feeding.{products_in}
 use Rattle.program_ends.specs.Ends.{fault_line, Begins, AddsFront, HasWritten, Telling, IsCut}
@@ -36,76 +36,36 @@ text_is asked read text tally is told =
     told ∙ (λ i. stats_text (stamp i) (products i) (faults i))
 
 module _ (asked : Asked) (limit : ℕ) (left left' taken : Option (List ℕ)) (tally : Tally) where
-  none_begins : Begins [] []
-  none_begins = begins_self []
+  -- the run stopped before there was a text, with nothing written
+  untold : {T : Type 0} (why : Stop) (read : List ℕ) → Takes left left' read → length read ≤ limit + 1 → (why ≡ stop.Read → length read ≤ limit) → (why ≡ stop.TooLong → length read ≡ limit + 1) → (why ≡ stop.Write → ⊥)
+      → TellsTo {T = T} asked limit left left' taken taken (Err why)
+  untold {T} why read takes within failed long unwritten = record {
+    read = read;
+    text = [];
+    written = [];
+    takes = takes;
+    adds = adds_none taken;
+    within = within;
+    ended = tt;
+    read_fault = λ e. (failed (reason stop.Read e), refl);
+    too_long = λ e. (long (reason stop.TooLong e), refl);
+    no_memory = λ _. refl;
+    write_fault = λ e. absurd (unwritten (reason stop.Write e));
+    begins = begins_self [];
+    whole = λ _. refl;
+  }
+    where
+      reason : (other : Stop) → ◌≡◌ {A = Result T Stop} (Err why) (Err other) → why ≡ other
+      reason other e = cc
 
   -- the run stopped while the input was read
   pub ends_reading : {T : Type 0} (why : Stop) → ReadsTo {T = T} asked limit left left' tally (Err why) → TellsTo {T = T} asked limit left left' taken taken (Err why)
-  ends_reading stop.Read t = record {
-    read = t.read;
-    text = [];
-    written = [];
-    takes = t.takes;
-    adds = adds_none taken;
-    within = t.within;
-    ended = tt;
-    read_fault = λ e. (t.read_fault e, refl);
-    too_long = λ e. absurd (cc);
-    no_memory = λ e. absurd (cc);
-    write_fault = λ e. absurd (cc);
-    begins = none_begins;
-    whole = λ _. refl;
-  }
-  ends_reading stop.Write t = absurd (t.unwritten refl)
-  ends_reading stop.TooLong t = record {
-    read = t.read;
-    text = [];
-    written = [];
-    takes = t.takes;
-    adds = adds_none taken;
-    within = t.within;
-    ended = tt;
-    read_fault = λ e. absurd (cc);
-    too_long = λ e. (t.too_long e, refl);
-    no_memory = λ e. absurd (cc);
-    write_fault = λ e. absurd (cc);
-    begins = none_begins;
-    whole = λ _. refl;
-  }
-  ends_reading stop.OutOfMemory t = record {
-    read = t.read;
-    text = [];
-    written = [];
-    takes = t.takes;
-    adds = adds_none taken;
-    within = t.within;
-    ended = tt;
-    read_fault = λ e. absurd (cc);
-    too_long = λ e. absurd (cc);
-    no_memory = λ _. refl;
-    write_fault = λ e. absurd (cc);
-    begins = none_begins;
-    whole = λ _. refl;
-  }
+  ends_reading why t = untold why t.read t.takes t.within (λ e. t.read_fault (ap (λ s. Err s) e)) (λ e. t.too_long (ap (λ s. Err s) e)) (λ e. t.unwritten (ap (λ s. Err s) e))
 
   module _ {T : Type 0} (x : T) (t : ReadsTo {T = T} asked limit left left' tally (Ok x)) where
     -- memory lacked for the text
     pub ends_texting : {U : Type 0} → TellsTo {T = U} asked limit left left' taken taken (Err stop.OutOfMemory)
-    ends_texting = record {
-      read = t.read;
-      text = [];
-      written = [];
-      takes = t.takes;
-      adds = adds_none taken;
-      within = t.within;
-      ended = tt;
-      read_fault = λ e. absurd (cc);
-      too_long = λ e. absurd (cc);
-      no_memory = λ _. refl;
-      write_fault = λ e. absurd (cc);
-      begins = none_begins;
-      whole = λ _. refl;
-    }
+    ends_texting = untold stop.OutOfMemory t.read t.takes t.within (λ e. absurd (cc)) (λ e. absurd (cc)) (λ e. absurd (cc))
 
     module _ (text : List ℕ) (taken' : Option (List ℕ)) (is : text ≡ stats_text tally.stamp tally.reader.products tally.faults) where
       whole_is : text ≡ statistics asked t.read

@@ -1,6 +1,6 @@
 //! Sums that are kept by a key. A sum has 128 bits: an input has less than 2^32 products, each of less than 2^64 lines
 //! of less than 2^26 minutes, so that no sum comes to its type's end; the additions are checked nevertheless.
-ghost use Rattle.std.specs.Prelude.{◌≡◌, ◌+◌, IfOk, OnOk};
+ghost use Rattle.std.specs.Prelude.{◌≡◌, ◌≤◌, ◌+◌, ◌^◌, IfOk, OnOk, OnErr};
 ghost use Rattle.stats_report.specs.Adding.{sum_at, with_amount};
 
 use hazard_types::Oom;
@@ -9,9 +9,10 @@ use std::collections::BTreeMap;
 /// A sum at each key that it was added to.
 pub type Sums<K> = BTreeMap<K, u128>;
 
-/// The sum and an amount. It never wraps.
+/// The sum and an amount. It never wraps: there is none only where it would come to the end of its type.
 pub fn more(sum: u128, amount: u128) -> Result<u128, Oom>
-    ensures { IfOk result (λ n. n ≡ sum + amount) }
+    ensures ok { IfOk result (λ n. n ≡ sum + amount) }
+    ensures err { OnErr result (2 ^ 128 ≤ sum + amount) }
 {
     match sum.checked_add(amount) {
         Some(more) => Ok(more),

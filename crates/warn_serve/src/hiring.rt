@@ -37,7 +37,7 @@ fn share_of(left: u64, workers: u64) -> u64
 }
 
 /// A worker for each door, with its share of the pass and of the links. Where memory lacks for one
-/// its door goes back to the port, and those behind it take its links. Tells how many links are left
+/// its door goes back to the port, and the later ones take its links. Returns how many links are left
 /// without a worker.
 pub(crate) fn hire<D: Disk, P: Port>(
     alloc: Global,

@@ -39,7 +39,7 @@ pub enum LinkEnd {
     OutOfMemory,
 }
 
-/// Writes an answer, or a front of it before a fault.
+/// Writes an answer, or its beginning before a fault.
 fn send<L: Link>(link: &mut L, answer: &AnswerBytes) -> Result<(), Failed>
     ensures whole { OnOk result (Adds (L.Sink.taken link.old) (L.Sink.taken link.new) (bytes_of answer.now)) }
     ensures front { (n : ℕ) × (n ≤ length (bytes_of answer.now)) × Adds (L.Sink.taken link.old) (L.Sink.taken link.new) (take n (bytes_of answer.now)) }
@@ -63,7 +63,7 @@ fn finish<L: Link>(link: &mut L, answer: &AnswerBytes, last: bool) -> Option<Lin
     }
 }
 
-/// Tells that the call at the front is refused, after which the link closes.
+/// Writes that the first call is refused, after which the link closes.
 fn refuse<L: Link>(alloc: Global, link: &mut L, refusal: Refusal) -> Option<LinkEnd>
     ensures { Sends (state_of (ways L.came L.left L.taken L.Source.faults L.Sink.faults) link.old) (state_of (ways L.came L.left L.taken L.Source.faults L.Sink.faults) link.new) (refused_answer refusal true) true result }
 {
@@ -162,8 +162,8 @@ fn serve_calls<R: Wait, D: Disk, L: Link, C: Clock, G: Gate>(
 }
 
 /// Serves a link: reads its calls, at most 10,000, answers each in a turn at the office, at a reading
-/// of the clock of its own, and tells how the link ended. The gate is told of each call, by its number
-/// from 1 on. What is answered for a disk fault, and for want of memory, takes no memory.
+/// of the clock of its own, and returns how the link ended. The gate hears of each call, by its number
+/// from 1 on. The answers to a disk fault, and to a call for which memory ran out, take no memory.
 pub fn serve_link<R: Wait, D: Disk, L: Link, C: Clock, G: Gate>(
     rt: &R,
     alloc: Global,

@@ -21,7 +21,7 @@ use turn_lock::{Pass, TurnLock};
 /// How serving ended.
 #[derive(Clone, Copy, Debug, PartialEq, Eq)]
 pub enum ServeEnd {
-    /// All links were served, and none of them ended for want of memory.
+    /// All links were served, and none of them ended out of memory.
     Done,
     /// The port or one of its doors failed.
     PortFault,
@@ -55,7 +55,7 @@ fn end_after(end: ServeEnd, worked: WorkerEnd) -> ServeEnd
     }
 }
 
-/// Takes in the passes of all workers, gives their doors back, and tells how serving ended.
+/// Takes in the passes of all workers, gives their doors back, and returns how serving ended.
 fn gather<D: Disk, P: Port, C: Clock>(
     lock: &TurnLock<SharedOffice<D>>,
     pass: &mut Pass<SharedOffice<D>>,
@@ -141,7 +141,7 @@ fn serve_port<R: Threads + Wait + Sync, D: Disk + Send, P: Port, C: Clock + Sync
 }
 
 /// Serves so many links of the doors of a port, 1 to 1,000,000, over one kept office, by 1 to 16
-/// workers, and tells how that ended. The office comes back, after all that happened to it. Where
+/// workers, and returns how that ended. The office comes back, after all that happened to it. Where
 /// memory lacks for a worker the others serve fewer links, or all of them.
 pub fn serve<R: Threads + Wait + Sync, D: Disk + Send, P: Port, C: Clock + Sync, G: Gate + Sync>(
     rt: &R,

@@ -16,7 +16,7 @@ use turn_lock::{Pass, TurnLock};
 /// How a worker ended.
 #[derive(Clone, Copy, Debug, PartialEq, Eq)]
 pub enum WorkerEnd {
-    /// It served its share of links, so many of which ended for want of memory.
+    /// It served its share of links, so many of which ended out of memory.
     Done(u64),
     /// No link came: an accept failed.
     PortFault,

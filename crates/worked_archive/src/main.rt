@@ -1,5 +1,5 @@
-//! Reports of archives: a script of texts, of the pieces that they come in, of limits and of failing reads and writes,
-//! over which the archive's report is made.
+//! Reports of archives, and statistics: a script of texts, of the pieces that they come in, of limits and of failing
+//! reads and writes, over which the archive's report or the statistics are made.
 #![tactic(auto)]
 
 mod runs;

@@ -1,9 +1,17 @@
-//! A report over a source and a sink in memory.
+//! A report, or statistics, over a source and a sink in memory.
 use archive_report::archive_within;
 use desk_traits::{MemSink, MemSource};
 use hazard_types::{List, Oom, Text};
 use program_ends::LIMIT;
+use stats_report::stats_within;
 use std::alloc::Global;
+
+/// What is told of an input.
+#[derive(Clone, Copy, Debug)]
+pub enum Telling {
+    Report,
+    Stats,
+}
 
 /// How an input comes, and which calls fail.
 #[derive(Drop)]
@@ -16,7 +24,7 @@ pub struct Given {
     pub bad_writes: List<u64>,
 }
 
-/// What a report left.
+/// What a report, or statistics, left.
 #[derive(Drop)]
 pub struct Run {
     pub status: u8,
@@ -32,9 +40,10 @@ pub fn words_of(alloc: Global, line: &str) -> Result<List<Text>, Oom> {
     Ok(words)
 }
 
-/// The report of an input.
-pub fn run_report(
+/// The report of an input, or its statistics.
+pub fn run_telling(
     alloc: Global,
+    telling: Telling,
     words: &List<Text>,
     input: &[u8],
     given: &Given,
@@ -42,7 +51,10 @@ pub fn run_report(
     let mut source = MemSource::new(alloc, input, given.piece.max(1), &given.bad_reads)?;
     let mut sink = MemSink::new(alloc, &given.bad_writes)?;
     let limit = given.limit.min(LIMIT);
-    let status = archive_within(alloc, words, &mut source, &mut sink, limit);
+    let status = match telling {
+        Telling::Report => archive_within(alloc, words, &mut source, &mut sink, limit),
+        Telling::Stats => stats_within(alloc, words, &mut source, &mut sink, limit),
+    };
     let text = sink.taken().clone()?;
     Ok(Run { status, text })
 }
@@ -55,7 +67,7 @@ fn whole_report(alloc: Global, words: &List<Text>, input: &[u8], piece: usize) -
         bad_reads: List::new(alloc),
         bad_writes: List::new(alloc),
     };
-    run_report(alloc, words, input, &given)
+    run_telling(alloc, Telling::Report, words, input, &given)
 }
 
 /// Whether two reports are the same.

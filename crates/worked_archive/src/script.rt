@@ -1,5 +1,5 @@
-//! The script of reports: each line's step is worked, and answered by text.
-use crate::runs::{Given, run_report, try_cuts, words_of};
+//! The script of reports and statistics: each line's step is worked, and answered by text.
+use crate::runs::{Given, Telling, run_telling, try_cuts, words_of};
 use crate::steps::{Step, step_of};
 use hazard_types::{List, Oom, Text};
 use program_ends::LIMIT;
@@ -40,10 +40,29 @@ impl Script {
         self.input.extend(again.as_slice())
     }
 
-    /// A report, and its status.
-    fn report_step(&mut self, alloc: Global, line: &str) -> Result<String, Oom> {
+    /// Adds a line of the input.
+    fn add_line(&mut self, text: &str) -> Result<(), Oom> {
+        self.input.extend(text.as_bytes())?;
+        self.input.extend(b"\r\r\n")
+    }
+
+    /// Adds a line for each number from 1 to this one, with its digits in place of `####`.
+    fn add_numbered(&mut self, alloc: Global, most: u16, text: &str) -> Result<(), Oom> {
+        let Some((front, rest)) = text.split_once("####") else {
+            return self.add_line(text);
+        };
+        for number in 0..most {
+            let number = number + 1;
+            let line = format!(in alloc; "{front}{number:04}{rest}")?;
+            self.add_line(line.as_str())?;
+        }
+        Ok(())
+    }
+
+    /// A report or statistics, and the status.
+    fn telling_step(&mut self, alloc: Global, telling: Telling, line: &str) -> Result<String, Oom> {
         let words = words_of(alloc, line)?;
-        let run = run_report(alloc, &words, self.input.as_slice(), &self.given)?;
+        let run = run_telling(alloc, telling, &words, self.input.as_slice(), &self.given)?;
         self.given = nothing_given(alloc);
         let mut answer = String::from_utf8_lossy(alloc, run.text.as_slice())?;
         let status = run.status;
@@ -65,10 +84,8 @@ impl Script {
     fn prepare(&mut self, alloc: Global, step: &Step<'_>) -> Result<bool, Oom> {
         match step {
             Step::Remark => {}
-            Step::Line(text) => {
-                self.input.extend(text.as_bytes())?;
-                self.input.extend(b"\r\r\n")?;
-            }
+            Step::Line(text) => self.add_line(text)?,
+            Step::Numbered(most, text) => self.add_numbered(alloc, *most, text)?,
             Step::Unended(text) => self.input.extend(text.as_bytes())?,
             Step::NoText => self.input = List::new(alloc),
             Step::Again => self.double()?,
@@ -76,7 +93,7 @@ impl Script {
             Step::Limit(most) => self.given.limit = *most,
             Step::BadRead(call) => self.given.bad_reads.push(*call)?,
             Step::BadWrite(call) => self.given.bad_writes.push(*call)?,
-            Step::Report(_) | Step::Cuts(_) | Step::Unread => return Ok(false),
+            Step::Report(_) | Step::Stats(_) | Step::Cuts(_) | Step::Unread => return Ok(false),
         }
         Ok(true)
     }
@@ -90,7 +107,8 @@ impl Work for Script {
             return Ok(String::new(alloc));
         }
         match &step {
-            Step::Report(words) => self.report_step(alloc, words),
+            Step::Report(words) => self.telling_step(alloc, Telling::Report, words),
+            Step::Stats(words) => self.telling_step(alloc, Telling::Stats, words),
             Step::Cuts(words) => self.cuts_step(alloc, words),
             _ => Ok(format!(in alloc; "unread: {line}\n")?),
         }

@@ -9,13 +9,15 @@ pub enum Step<'a> {
     Line(&'a str),
     /// Bytes of the input, with nothing behind them.
     Unended(&'a str),
+    /// A line of the input for each number from 1 to this one, with its four digits in place of `####`.
+    Numbered(u16, &'a str),
     /// The input is emptied.
     NoText,
     /// The input is laid behind itself.
     Again,
     /// How many bytes a read gives.
     Piece(usize),
-    /// How many bytes an input may have, from the next report on.
+    /// How many bytes an input may have, in the next report.
     Limit(usize),
     /// The read that fails in the next report.
     BadRead(u64),
@@ -23,6 +25,8 @@ pub enum Step<'a> {
     BadWrite(u64),
     /// The report for these words.
     Report(&'a str),
+    /// The statistics for these words.
+    Stats(&'a str),
     /// The reports of the input cut off behind each of its bytes.
     Cuts(&'a str),
     /// A line that is no step.
@@ -36,6 +40,7 @@ fn bare_step(line: &str) -> Option<Step<'_>> {
         "no text" => Some(Step::NoText),
         "again" => Some(Step::Again),
         "report" => Some(Step::Report("")),
+        "stats" => Some(Step::Stats("")),
         _ => None,
     }
 }
@@ -52,13 +57,22 @@ fn numbered_step<'a>(word: &str, rest: &str) -> Option<Step<'a>> {
     }
 }
 
+/// The step of a number and a line.
+fn numbered_lines(rest: &str) -> Option<Step<'_>> {
+    let (most, line) = rest.split_once(' ')?;
+    let most = most.parse::<u16>().ok()?;
+    Some(Step::Numbered(most, line))
+}
+
 /// The step that a line's first word says, with what stands behind it.
 fn worded_step(line: &str) -> Option<Step<'_>> {
     let (word, rest) = line.split_once(' ')?;
     match word {
         "line" => Some(Step::Line(rest)),
         "unended" => Some(Step::Unended(rest)),
+        "numbered" => numbered_lines(rest),
         "report" => Some(Step::Report(rest)),
+        "stats" => Some(Step::Stats(rest)),
         "cuts" => Some(Step::Cuts(rest)),
         _ => numbered_step(word, rest),
     }

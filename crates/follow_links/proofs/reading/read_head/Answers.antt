@@ -1,7 +1,7 @@
-use Rattle.std.proofs.Common.{refl, sym, subst, inl, arith, rules, ap, length}
+use Rattle.std.proofs.Common.{refl, sym, subst, inl, inr, arith, rules, ap, length}
 use Rattle.httparse.specs.Grammar.{HasNoResponse}
 use Rattle.follow_links.proofs.Joining.{takes_none}
-use Rattle.follow_links.proofs.Listening.{head_stops, byte_taken, bad_head, whole_head}
+use Rattle.follow_links.proofs.Listening.{head_stops, byte_taken, few_more, was_cut, bad_head, whole_head}
 use Rattle.follow_links.proofs.Sizes.{none_in_nothing}
 use Rattle.desk_traits.specs.Streams.{Takes}
 use Rattle.follow_links.proofs.reading.read_head.Goals as goal
@@ -13,9 +13,29 @@ loop-link-init g c = record {
   takes = subst (Takes (g.L.Source.left c.args.link.now) (g.L.Source.left c.args.link.now)) (sym c.requires.none) (takes_none (g.L.Source.left c.args.link.now));
   headless = subst HasNoResponse (sym c.requires.none) none_in_nothing;
   may = inl c.requires.none;
+  before = inl c.requires.none;
   steady = refl;
   beside = record { unwritten = refl; steady = refl; same = refl };
 }
+
+pub loop-link-preserved : goal.loop-link-preserved
+loop-link-preserved g c =
+    let first = g.L.Source.left c.args.link.now in
+    let mid = g.L.Source.left c.loop-link.link in
+    let last = g.L.Source.left c.read_more.new.link in
+    let old = c.loop-link.invariant in
+    let now = c.loop-link.bytes in
+    let new = c.read_more.new.bytes in
+    record {
+      few = few_more first mid last now new (omega arith) (search rules);
+      room = (search rules);
+      takes = byte_taken first mid last now new old.takes (search rules);
+      headless = (search rules);
+      may = inr (search rules);
+      before = inr (was_cut first mid last now new old.headless (omega arith) old.may (search rules));
+      steady = (search rules);
+      beside = (search rules);
+    }
 
 pub returns-in-Bad-clause-read : goal.returns-in-Bad-clause-read
 returns-in-Bad-clause-read g c =
@@ -23,7 +43,7 @@ returns-in-Bad-clause-read g c =
     let mid = g.L.Source.left c.loop-link.link in
     let last = g.L.Source.left c.read_more.new.link in (
       byte_taken first mid last c.loop-link.bytes c.read_more.new.bytes c.loop-link.invariant.takes (search rules),
-      bad_head first mid last c.loop-link.bytes c.read_more.new.bytes c.loop-link.invariant.headless (search rules) (search rules),
+      bad_head first mid last c.loop-link.bytes c.read_more.new.bytes c.loop-link.invariant.headless (omega arith) c.loop-link.invariant.may (search rules) (search rules),
     )
 
 pub returns-in-Whole-clause-read : goal.returns-in-Whole-clause-read

@@ -1,6 +1,7 @@
 use Rattle.std.proofs.Common.{◌≡◌, ◌≤◌, ◌⊎◌, ◌-◌, [], length}
 use Rattle.desk_traits.specs.Streams.{Takes}
 use Rattle.httparse.specs.Grammar.{HasNoResponse, MayBecomeResponse}
+use Rattle.follow_links.specs.Answers.{WasCutHead}
 use Rattle.follow_links.specs.Readings.{IsBeside}
 use Rattle.follow_links.proofs.reading.read_head.Given as goal
 
@@ -12,6 +13,7 @@ invariant-loop-link g l = record {
   takes : Takes (g.L.Source.left l.fn.link) (g.L.Source.left l.link) l.bytes;
   headless : HasNoResponse l.bytes;
   may : (l.bytes ≡ []) ⊎ MayBecomeResponse l.bytes;
+  before : (l.bytes ≡ []) ⊎ WasCutHead l.bytes;
   steady : g.L.Source.faults l.link ≡ g.L.Source.faults l.fn.link;
   beside : IsBeside (g.L.Sink.taken l.fn.link) (g.L.Sink.taken l.link) (g.L.Sink.faults l.fn.link) (g.L.Sink.faults l.link) (g.L.Link.came l.fn.link) (g.L.Link.came l.link);
 }

@@ -7,13 +7,13 @@ use Rattle.office_journal.specs.Adopting.{IsOpened}
 use Rattle.office_journal.proofs.Opening.{has_then, holds_then, image_then}
 use Rattle.office_journal.proofs.kept.KeptOffice.adopt.Goals as goal
 
-pub returns-in-Ok-opened-clause-ok : goal.returns-in-Ok-opened-clause-ok
-returns-in-Ok-opened-clause-ok g c bytes stands =
+pub returns-in-Ok-office_of-clause-ok : goal.returns-in-Ok-office_of-clause-ok
+returns-in-Ok-office_of-clause-ok g c bytes stands =
     let d = g.D.Disk in
     let journal = c.in-Ok.journal in
-    let kept = c.in-Ok-opened.kept in
+    let kept = c.in-Ok-office_of.kept in
     let all = c.as_slice.result.now in
-    let is : IsOpened journal all kept = c.in-Ok-opened.ensures in
+    let is : IsOpened journal all kept = c.in-Ok-office_of.ensures in
     let read = c.in-Ok.ensures.ok bytes stands in
     let image = subst (λ (bs : List (List ℕ)). Image bytes bs) (sym c.as_slice.ensures) read.0 in
     let keeps = subst (λ (bs : List (List ℕ)). Keeps d.seen d.may_leave journal bs None) (sym c.as_slice.ensures) read.1 in (
@@ -25,11 +25,11 @@ returns-in-Ok-opened-clause-ok g c bytes stands =
       subst (λ (j : Journal g.row.D.Denot d). Only (d.seen (disk_of j)) (d.may_leave (disk_of j))) (sym is.same) read.2,
     )
 
-pub returns-in-Ok-opened-clause-legal : goal.returns-in-Ok-opened-clause-legal
-returns-in-Ok-opened-clause-legal g c =
+pub returns-in-Ok-office_of-clause-legal : goal.returns-in-Ok-office_of-clause-legal
+returns-in-Ok-office_of-clause-legal g c =
     let journal = c.in-Ok.journal in
-    let kept = c.in-Ok-opened.kept in
+    let kept = c.in-Ok-office_of.kept in
     let all = c.as_slice.result.now in
-    let is : IsOpened journal all kept = c.in-Ok-opened.ensures in
+    let is : IsOpened journal all kept = c.in-Ok-office_of.ensures in
     let gate : gate_of journal ≡ length (records all) = c.in-Ok.ensures.gate.0 ∙ ap (λ (bs : List (List ℕ)). length (records bs)) (sym c.as_slice.ensures) in
     (is.file, is.history, has_then journal all kept is gate)

@@ -13,8 +13,8 @@ use Rattle.office_journal.proofs.Answering.{asked_less, becomes_on, holds_on, na
 use Rattle.office_journal.proofs.Carrying.{leaves_less}
 use Rattle.office_journal.proofs.kept.KeptOffice.submit_told.Goals as goal
 
-pub keep-requires-clause-ready : goal.keep-requires-clause-ready
-keep-requires-clause-ready g c = (c.args.reading, subst (λ (z : ℤ). IsReady c.prepare.new.self c.args.desk c.args.seq c.args.r.now z c.in-New.p) (to_z-of_z w64 c.args.reading c.ranges.reading) (c.prepare.ensures.ready c.in-New.p (c.in-Ok.is ∙ ap (λ z. Ok z) c.in-New.is)))
+pub append_prepared-requires-clause-ready : goal.append_prepared-requires-clause-ready
+append_prepared-requires-clause-ready g c = (c.args.reading, subst (λ (z : ℤ). IsReady c.prepare.new.self c.args.desk c.args.seq c.args.r.now z c.in-New.p) (to_z-of_z w64 c.args.reading c.ranges.reading) (c.prepare.ensures.ready c.in-New.p (c.in-Ok.is ∙ ap (λ z. Ok z) c.in-New.is)))
 
 pub returns-in-New-clause-becomes : goal.returns-in-New-clause-becomes
 returns-in-New-clause-becomes g c =
@@ -24,9 +24,9 @@ returns-in-New-clause-becomes g c =
     let kept : List ℕ → Type 0 = λ text. (kept : Reply) × Repeats s c.args.desk c.args.seq c.args.r.now kept × (text ≡ reply_text kept) in
     let offered = IsOffered s c.args.desk c.args.seq c.args.r.now c.args.reading in
     let broken = Refuses s c.args.desk c.args.seq c.args.r.now c.args.reading in
-    subst (λ (a : Answer). Becomes d.seen d.may_leave d.faults c.args.self.now c.keep.new.self offered kept broken a) (sym c.beside.ensures.answer)
-    (becomes_on d.seen d.may_leave c.args.self.now _ refl c.prepare.ensures.state refl refl c.keep.new.self d.faults (entered c.in-New.p) offered kept broken
-    (ready_offered c.prepare.new.self s c.args.desk c.args.seq c.args.r.now c.args.reading c.in-New.p c.prepare.ensures.state ready) c.keep.result c.keep.ensures.becomes)
+    subst (λ (a : Answer). Becomes d.seen d.may_leave d.faults c.args.self.now c.append_prepared.new.self offered kept broken a) (sym c.beside.ensures.answer)
+    (becomes_on d.seen d.may_leave c.args.self.now _ refl c.prepare.ensures.state refl refl c.append_prepared.new.self d.faults (entered c.in-New.p) offered kept broken
+    (ready_offered c.prepare.new.self s c.args.desk c.args.seq c.args.r.now c.args.reading c.in-New.p c.prepare.ensures.state ready) c.append_prepared.result c.append_prepared.ensures.becomes)
 
 pub returns-in-New-clause-told : goal.returns-in-New-clause-told
 returns-in-New-clause-told g c =
@@ -37,10 +37,10 @@ returns-in-New-clause-told g c =
     let offered = IsOffered s c.args.desk c.args.seq c.args.r.now c.args.reading in
     let broken = Refuses s c.args.desk c.args.seq c.args.r.now c.args.reading in
     let told = option_map (λ t. t.value) c.beside.result.1 in
-    let beside = subst (λ (p : Readied). StandsBeside c.keep.result p told) c.of-told.ensures c.beside.ensures.told in
-    subst (λ (a : Answer). Names d.seen d.may_leave d.faults c.args.self.now c.keep.new.self offered kept broken a told) (sym c.beside.ensures.answer)
-    (names_on d.seen d.may_leave c.args.self.now _ refl c.prepare.ensures.state refl refl c.keep.new.self d.faults c.in-New.p offered kept broken
-    (ready_offered c.prepare.new.self s c.args.desk c.args.seq c.args.r.now c.args.reading c.in-New.p c.prepare.ensures.state ready) c.keep.result told c.keep.ensures.becomes beside)
+    let beside = subst (λ (p : Readied). StandsBeside c.append_prepared.result p told) c.of-told.ensures c.beside.ensures.told in
+    subst (λ (a : Answer). Names d.seen d.may_leave d.faults c.args.self.now c.append_prepared.new.self offered kept broken a told) (sym c.beside.ensures.answer)
+    (names_on d.seen d.may_leave c.args.self.now _ refl c.prepare.ensures.state refl refl c.append_prepared.new.self d.faults c.in-New.p offered kept broken
+    (ready_offered c.prepare.new.self s c.args.desk c.args.seq c.args.r.now c.args.reading c.in-New.p c.prepare.ensures.state ready) c.append_prepared.result told c.append_prepared.ensures.becomes beside)
 
 pub returns-in-New-clause-any_moment : goal.returns-in-New-clause-any_moment
 returns-in-New-clause-any_moment g c file h pending holds =
@@ -49,11 +49,11 @@ returns-in-New-clause-any_moment g c file h pending holds =
     let s = c.args.self.now.office.state in
     let ready : IsReady c.prepare.new.self c.args.desk c.args.seq c.args.r.now c.args.reading c.in-New.p = subst (λ (z : ℤ). IsReady c.prepare.new.self c.args.desk c.args.seq c.args.r.now z c.in-New.p) (to_z-of_z w64 c.args.reading c.ranges.reading) (c.prepare.ensures.ready c.in-New.p (c.in-Ok.is ∙ ap (λ z. Ok z) c.in-New.is)) in
     let offered : IsOffered s c.args.desk c.args.seq c.args.r.now c.args.reading (entered c.in-New.p) = ready_offered c.prepare.new.self s c.args.desk c.args.seq c.args.r.now c.args.reading c.in-New.p c.prepare.ensures.state ready in
-    weaker d.moment d.left_since d.may_leave m.counts_now m.only_now m.earlier c.args.self.now.journal.disk c.keep.new.self.journal.disk
+    weaker d.moment d.left_since d.may_leave m.counts_now m.only_now m.earlier c.args.self.now.journal.disk c.append_prepared.new.self.journal.disk
     (Leaves file h (λ change. (pending ≡ Some change) ⊎ (change ≡ Change.entry (entered c.in-New.p))))
     (Leaves file h (λ change. (pending ≡ Some change) ⊎ IsAsked s c.args.desk c.args.seq c.args.r.now c.args.reading change))
     (asked_less s c.args.desk c.args.seq c.args.r.now c.args.reading (entered c.in-New.p) offered file h pending)
-    (c.keep.ensures.any_moment file h pending (holds_on d.seen d.may_leave c.args.self.now _ refl c.prepare.ensures.state refl refl file h pending holds))
+    (c.append_prepared.ensures.any_moment file h pending (holds_on d.seen d.may_leave c.args.self.now _ refl c.prepare.ensures.state refl refl file h pending holds))
 
 pub returns-in-Again-clause-any_moment : goal.returns-in-Again-clause-any_moment
 returns-in-Again-clause-any_moment g c file h pending holds =

@@ -4,7 +4,7 @@ use Rattle.office_journal.specs.Changes.{Change, Leaves}
 use Rattle.office_journal.specs.Submitting.{entered}
 use Rattle.office_journal.proofs.Appending.{becomes_unkept}
 use Rattle.office_journal.proofs.Carrying.{leaves_less}
-use Rattle.office_journal.proofs.kept.KeptOffice.keep.Goals as goal
+use Rattle.office_journal.proofs.kept.KeptOffice.append_prepared.Goals as goal
 
 pub returns-in-Err-clause-becomes : goal.returns-in-Err-clause-becomes
 returns-in-Err-clause-becomes g c =

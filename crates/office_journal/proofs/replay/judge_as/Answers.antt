@@ -3,8 +3,8 @@ use Rattle.std.proofs.lemmas.Bool.Decides.{Decides-eqb, not_from_Decides}
 use Rattle.office_core.specs.Prepared.{Readied}
 use Rattle.office_journal.specs.Replaying.{Prepares}
 use Rattle.office_journal.proofs.Taking.{not_accepted, other_body, other_minute}
-use Rattle.office_journal.proofs.replay.judged_as.Goals.{else-same-via-then-same+else-eq, else-same-via-else-same}
-use Rattle.office_journal.proofs.replay.judged_as.Goals as goal
+use Rattle.office_journal.proofs.replay.judge_as.Goals.{else-same-via-then-same+else-eq, else-same-via-else-same}
+use Rattle.office_journal.proofs.replay.judge_as.Goals as goal
 
 pub returns-else-same-clause-judges : goal.returns-else-same-clause-judges
 returns-else-same-clause-judges c =

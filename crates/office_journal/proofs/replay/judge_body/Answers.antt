@@ -1,6 +1,6 @@
 use Rattle.std.proofs.Common.{Ok, sym, ◌∙◌, ap}
 use Rattle.office_journal.proofs.Taking.{no_minute, no_request}
-use Rattle.office_journal.proofs.replay.judged.Goals as goal
+use Rattle.office_journal.proofs.replay.judge_body.Goals as goal
 
 pub returns-in_default-clause-judges : goal.returns-in_default-clause-judges
 returns-in_default-clause-judges c =

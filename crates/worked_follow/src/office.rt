@@ -1,0 +1,91 @@
+//! The other end: an office on a disk in memory, served over one link.
+use desk_links::{MemLink, OpenGate};
+use desk_traits::{MemDisk, SetClock};
+use hazard_types::{List, Oom, Text};
+use office_journal::KeptOffice;
+use office_turns::SharedOffice;
+use std::alloc::Global;
+use std::sync::Wait;
+use turn_lock::TurnLock;
+use warn_serve::serve_link;
+
+/// The settings, the journal, and the reading of the clock.
+#[derive(Drop)]
+pub struct Office {
+    pub settings: Text,
+    pub journal: Text,
+    pub reading: i64,
+}
+
+/// What was written on a link, and the journal that it left.
+#[derive(Drop)]
+pub struct Served {
+    pub written: Text,
+    pub journal: Text,
+}
+
+impl Office {
+    /// No settings and no journal.
+    pub fn new(alloc: Global) -> Self {
+        Office {
+            settings: List::new(alloc),
+            journal: List::new(alloc),
+            reading: 0,
+        }
+    }
+
+    /// Makes the journal of a new office. Answers whether the settings are those of one.
+    pub fn make_journal(&mut self, alloc: Global) -> Result<bool, Oom> {
+        let none = List::new(alloc);
+        let disk = MemDisk::new(alloc, b"", &none, None, 0)?;
+        match KeptOffice::create(alloc, disk, self.settings.as_slice()) {
+            Ok(kept) => {
+                let disk = kept.into_disk();
+                self.journal = disk.file().clone()?;
+                Ok(true)
+            }
+            Err(_refused) => Ok(false),
+        }
+    }
+
+    /// Serves a link that gives these bytes. None where there is no journal.
+    pub fn serve<R: Wait>(
+        &self,
+        rt: &R,
+        alloc: Global,
+        bytes: &[u8],
+    ) -> Result<Option<Served>, Oom> {
+        let none = List::new(alloc);
+        let disk = MemDisk::new(alloc, self.journal.as_slice(), &none, None, 0)?;
+        let clock = SetClock::new(&List::from_slice(alloc, &[self.reading])?)?;
+        let mut link = MemLink::new(alloc, bytes, usize::MAX, &none)?;
+        let Ok(kept) = KeptOffice::adopt(alloc, disk) else {
+            return Ok(None);
+        };
+        let Ok((lock, mut pass)) = TurnLock::start(alloc, SharedOffice::open(alloc, kept)) else {
+            return Err(Oom);
+        };
+        let _ = serve_link(rt, alloc, &lock, &mut pass, &mut link, &clock, &OpenGate);
+        let disk = lock.close(pass).into_kept().into_disk();
+        Ok(Some(Served {
+            written: link.written().clone()?,
+            journal: disk.file().clone()?,
+        }))
+    }
+}
+
+/// The call that posts a request.
+pub fn post_text(alloc: Global, body: &str) -> Result<String, Oom> {
+    let count = body.len();
+    Ok(format!(in alloc; "POST /requests HTTP/1.1\r\nContent-Length: {count}\r\n\r\n{body}")?)
+}
+
+/// The questions after the first places, so many.
+pub fn questions(alloc: Global, count: u32) -> Result<Text, Oom> {
+    let mut bytes = List::new(alloc);
+    for place in 0..count {
+        let question = format!(in alloc; "GET /products/after/{place} HTTP/1.1\r\n\r\n")?;
+        bytes.extend(question.as_bytes())?;
+    }
+    Ok(bytes)
+}
