@@ -1,0 +1,26 @@
+//! Lines that are made of a pattern.
+use hazard_types::Oom;
+use std::alloc::Global;
+
+/// The pattern with three digits of a number in place of `###`, and so many minutes as hour and minute in place of `@@@@`.
+pub fn numbered_line(alloc: Global, pattern: &str, number: u16) -> Result<String, Oom> {
+    let (front, rest) = pattern.split_once("###").unwrap_or((pattern, ""));
+    let (middle, back) = rest.split_once("@@@@").unwrap_or((rest, ""));
+    let hour = number / 60;
+    let minute = number % 60;
+    Ok(format!(in alloc; "{front}{number:03}{middle}{hour:02}{minute:02}{back}")?)
+}
+
+/// The pattern with a list of counties of Maryland, from 001 up to this number, in place of `***`.
+pub fn line_of_counties(alloc: Global, pattern: &str, last: u16) -> Result<String, Oom> {
+    let (front, back) = pattern.split_once("***").unwrap_or((pattern, ""));
+    let mut line = String::from_str(alloc, front)?;
+    for before in 0..last {
+        let number = before + 1;
+        let comma = if before == 0 { "" } else { "," };
+        let county = format!(in alloc; "{comma}\"MDC{number:03}\"")?;
+        line.push_str(county.as_str())?;
+    }
+    line.push_str(back)?;
+    Ok(line)
+}

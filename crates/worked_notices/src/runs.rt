@@ -1,0 +1,45 @@
+//! A run over a source and a sink in memory.
+use county_notices::notice_within;
+use desk_traits::{MemSink, MemSource};
+use hazard_types::{List, Oom, Text};
+use program_ends::LIMIT;
+use std::alloc::Global;
+
+/// How an input comes, and which calls fail.
+#[derive(Drop)]
+pub struct Given {
+    /// The most bytes that a read gives.
+    pub piece: usize,
+    /// The most bytes of the input.
+    pub limit: usize,
+    pub bad_reads: List<u64>,
+    pub bad_writes: List<u64>,
+}
+
+/// What a run left.
+#[derive(Drop)]
+pub struct Run {
+    pub status: u8,
+    pub text: Text,
+}
+
+/// The words of a line.
+fn words_of(alloc: Global, line: &str) -> Result<List<Text>, Oom> {
+    let mut words = List::new(alloc);
+    for word in line.split_whitespace() {
+        words.push(List::from_slice(alloc, word.as_bytes())?)?;
+    }
+    Ok(words)
+}
+
+/// A run by the words of a line.
+pub fn run_words(alloc: Global, line: &str, input: &Text, given: &Given) -> Result<Run, Oom> {
+    let words = words_of(alloc, line)?;
+    let piece = given.piece.max(1);
+    let mut source = MemSource::new(alloc, input.as_slice(), piece, &given.bad_reads)?;
+    let mut sink = MemSink::new(alloc, &given.bad_writes)?;
+    let limit = given.limit.min(LIMIT);
+    let status = notice_within(alloc, &words, &mut source, &mut sink, limit);
+    let text = sink.taken().clone()?;
+    Ok(Run { status, text })
+}
