@@ -5,6 +5,7 @@ usage: python3 bench/links.py [CALLS]    over crates/worked_serve as built last 
 The link stands in memory, so that no call of the system is measured. Each call posts a body that is no JSON, and is answered
 400. Seconds are of the processor; what the program takes to write the calls out and to serve none of them is taken off.
 """
+import os
 import subprocess
 import sys
 import tempfile
@@ -12,8 +13,7 @@ import tempfile
 from measure import program, run
 
 HEAD, BODY = 8192, 65536
-SETTINGS = ["office = \"KLWX\"", "site = \"LWX\"", "office_line = \"National Weather Service Baltimore MD\"",
-            "zone = \"Eastern\"", "desks = [\"A\"]", "[headings]", "WSW = \"WWUS41\"", "[zones]", "MDZ003 = \"Washington\""]
+SAMPLE = os.path.join(os.path.dirname(os.path.abspath(__file__)), "..", "samples", "office.toml")
 
 
 def script(calls, runs):
@@ -22,7 +22,9 @@ def script(calls, runs):
     padding = "x" * (HEAD - len(front) - len("X-Pad: \r\n\r\n"))
     call = ["head POST /requests HTTP/1.1", "head Content-Length: %d" % BODY, "head X-Pad: " + padding, "head",
             "bytes " + "{" * BODY]
-    rows = ["settings " + line for line in SETTINGS] + ["init", "at 180103T1000Z"] + call * calls + runs
+    with open(SAMPLE) as settings:
+        rows = ["settings " + line.rstrip("\n") for line in settings]
+    rows += ["init", "at 180103T1000Z"] + call * calls + runs
     return "".join(row + "\n" for row in rows)
 
 
