@@ -1,9 +1,12 @@
 pub mod Tests
 mod Seated
 mod LeftLemmas
+mod Runs
+mod Searching
+mod Lists
+mod HeldRows
 mod Opened
 mod Kept
-mod Stood
 mod Lasted
 mod Indexed
 mod Asked

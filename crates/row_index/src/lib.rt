@@ -1,6 +1,7 @@
 //! The rows of a long history, found by zone and event, and by hazard and number, without a walk over other rows.
 #![tactic(auto)]
 
+mod held;
 mod higher;
 mod index;
 mod keys;
@@ -8,8 +9,8 @@ mod lasting;
 mod look;
 mod numbers;
 mod parts;
+mod searches;
 mod seats;
-mod standing;
 
 pub use index::RowIndex;
 pub use parts::{EventKey, ZoneKey};
