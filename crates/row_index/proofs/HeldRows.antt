@@ -1,7 +1,7 @@
 -- The rows of each event are all rows: a row is found among those of its event, and put there it is put among all.
-use Rattle.std.proofs.Common.{◌≡◌, ◌∙◌, ℕ, List, [], ◌∷◌, ◌++◌, ◌&&◌, Bool, true, false, cond, Option, Some, None, unwrap_or, Result, Ok, Err, Ordering, Less, refl, ap, sym, subst}
+use Rattle.std.proofs.Common.{◌≡◌, ◌∙◌, ℕ, List, [], ◌∷◌, ◌++◌, ◌&&◌, Bool, true, false, cond, Option, Some, None, unwrap_or, Ordering, Less, refl, ap, sym, subst}
 use Rattle.std.proofs.lemmas.Bool.{and_parts, false_from_ne_true}
-use Rattle.std.specs.Prelude.{flat_map, OnOk, OnErr}
+use Rattle.std.specs.Prelude.{flat_map}
 use Rattle.std.specs.BTreeMap.{is_at}
 use Rattle.std.specs.List.{AllByRecursion, list_any}
 use Rattle.std.specs.List.Sorted.{IsStrictlySortedBy}
@@ -37,11 +37,6 @@ Own e rows = AllByRecursion (λ (r : Row). r.event ≡ e) rows
 pub none-sorted : IsStrictlySortedBy by_key []
 unfolding IsStrictlySortedBy
 none-sorted = tt
-
--- rows that one was put among, or that stay as they were
-pub rows-put : {X Y : Type 0} (r : Result X Y) (row : Row) (rows after : List Row) → IsStrictlySortedBy by_key rows → OnOk r (after ≡ put row rows) → OnErr r (after ≡ rows) → IsStrictlySortedBy by_key after
-rows-put (Ok x) row rows after up is kept = subst (λ (all : List Row). IsStrictlySortedBy by_key all) (sym is) (put-sorted row rows up)
-rows-put (Err y) row rows after up is kept = subst (λ (all : List Row). IsStrictlySortedBy by_key all) (sym kept) up
 
 puts-sorted : (rows after : List Row) → IsStrictlySortedBy by_key after → IsStrictlySortedBy by_key (puts rows after)
 puts-sorted [] after up = up
@@ -116,7 +111,7 @@ held-part es e part held is up = record {
 
 -- a row is put
 
-held-own : (es : Rows) (e : Event) → AreHeld es → Own e (list_at by_event es e)
+pub held-own : (es : Rows) (e : Event) → AreHeld es → Own e (list_at by_event es e)
 held-own es e held = at_each by_event by_event_total by_event_ties Own e es held.each tt
 
 pub held-with : (row : Row) (es : Rows) → AreHeld es → AreHeld (held_with row es)

@@ -5,6 +5,7 @@ mod Runs
 mod Searching
 mod Lists
 mod HeldRows
+mod EndRows
 mod Opened
 mod Kept
 mod Lasted

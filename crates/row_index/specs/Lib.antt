@@ -1,5 +1,6 @@
 pub mod Telling
 pub mod Listing
+pub mod Ends
 pub mod Holding
 pub mod Seating
 pub mod Lastings

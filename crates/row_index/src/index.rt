@@ -13,7 +13,7 @@ ghost use Rattle.row_index.specs.Holding.{AreNear, AreRowsOf};
 ghost use Rattle.row_index.specs.Seating.{AreSeated, upgrades};
 ghost use Rattle.row_index.specs.Steps.{IsChanged, around_new, around_joining, asked_around, latest_open, event_going, rows_left, put_each};
 
-use crate::held::{Held, all_held, put_held, rows_of, seated};
+use crate::held::{Held, all_held, is_open, put_held, rows_of, seated};
 use crate::higher::{Changed, any_upgrades, rivals, upgraded_by};
 use crate::lasting::{Lastings, relast};
 use crate::look::{later_event, life_of, nothing_around, of_event, opens};
@@ -105,7 +105,7 @@ impl RowIndex {
     fn is_open(&self, t: Minute, event: &Event) -> bool
         ensures { result ≡ is_open self.now t event.now }
     {
-        event_life::is_open(self.rows_of(event), t, event)
+        is_open(&self.held, t, event)
     }
 
     /// Whether a line's event is open. `rows` are the event's.

@@ -1,7 +1,12 @@
 -- The event's rows tell whether it is open.
-use Rattle.std.proofs.Common.{◌∙◌}
-use Rattle.row_index.proofs.HeldRows.{is_open-of}
+use Rattle.std.proofs.Common.{◌∙◌, List, ap}
+use Rattle.hazard_types.specs.declared.line.Row.{Row}
+use Rattle.event_life.specs.Products.{is_open}
+use Rattle.row_index.proofs.EndRows.{open-held}
 use Rattle.row_index.proofs.index.RowIndex.is_open.Goals as goal
 
 pub returns : goal.returns
-returns c = c.is_open.ensures ∙ is_open-of c.args.self.now c.rows_of.result.now c.args.event.now c.rows_of.ensures c.args.t
+returns c =
+    c.is_open.ensures.open
+    ∙ open-held c.self.inside.held.entries c.args.t c.args.event.now c.self.invariant.held c.is_open.ensures.order
+    ∙ ap (λ (rows : List Row). is_open rows c.args.t c.args.event.now) c.self.view_is
