@@ -1,7 +1,6 @@
 -- Rows of an event with one more stay in order, and none that stands ends after the latest end; without it an event's rows tell whether it is open.
-use Rattle.std.proofs.Common.{◌≡◌, ◌∙◌, ◌+◌, ℕ, List, [], ◌∷◌, ◌&&◌, ◌||◌, not, Bool, true, false, cond, Option, Some, None, Result, Ok, Err, refl, ap, sym, subst, arith}
-use Rattle.std.specs.Prelude.{OnOk, OnErr, nat_lt, nat_le}
-use Rattle.std.proofs.lemmas.Bool.{and_parts}
+use Rattle.std.proofs.Common.{◌≡◌, ◌∙◌, ◌+◌, ℕ, List, [], ◌∷◌, ◌&&◌, ◌||◌, not, Bool, true, false, cond, Option, Some, None, refl, ap, sym, subst, arith}
+use Rattle.std.specs.Prelude.{nat_lt, nat_le}
 use Rattle.std.proofs.lemmas.Bool.Decides.{nat_tests}
 use Rattle.std.specs.List.{AllByRecursion, list_any}
 use Rattle.std.specs.List.Sorted.{IsStrictlySortedBy}
@@ -14,7 +13,7 @@ use Rattle.hazard_types.specs.declared.period.End.TheVariants.{At, Ufn}
 use Rattle.hazard_types.proofs.Equality.{event_itself}
 use Rattle.event_life.specs.Periods.{ends_within, keeps_open}
 use Rattle.event_life.specs.Products.{by_key, put, is_open}
-use Rattle.event_life.proofs.Members.{any_in, of_all, all_of, one_way}
+use Rattle.event_life.proofs.Members.{any_in, of_all}
 use Rattle.event_life.proofs.Puts.{put-all, put-sorted}
 use Rattle.row_index.specs.Ends.{later_end, latest_with, latest_within, EndsBy, AreEventRows}
 use Rattle.row_index.specs.Holding.{told, AreHeld}

@@ -1,13 +1,12 @@
 -- An index with one more row.
 use Rattle.std.proofs.Common.{◌≡◌, ◌∙◌, List, Option, sym, subst}
-use Rattle.std.specs.List.Sorted.{IsStrictlySortedBy}
 use Rattle.hazard_types.specs.Orders.{by_event}
 use Rattle.hazard_types.specs.declared.hazard.Event.{Event}
 use Rattle.hazard_types.specs.declared.line.Row.{Row}
 use Rattle.event_life.specs.Products.{put, row_at}
 use Rattle.row_index.specs.declared.lasting.Lasting.{Lasting}
 use Rattle.row_index.specs.declared.numbers.Number.{Number}
-use Rattle.row_index.specs.Holding.{AreHeld, told, held_with}
+use Rattle.row_index.specs.Holding.{told, held_with}
 use Rattle.row_index.specs.Lastings.{by_lasting, lasting_of}
 use Rattle.row_index.specs.Listing.{list_at}
 use Rattle.row_index.specs.Numbers.{stands, events_with, AreOpened, IsIndex}

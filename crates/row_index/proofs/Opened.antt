@@ -10,7 +10,7 @@ use Rattle.std.specs.Cmp.{IsTotalOrder}
 use Rattle.std.specs.List.{list_any}
 use Rattle.std.specs.List.Sorted.{IsStrictlySortedBy}
 use Rattle.std.specs.Map.{lookup}
-use Rattle.std.specs.Ordering.{match_ordering, is_eq}
+use Rattle.std.specs.Ordering.{match_ordering}
 use Rattle.hazard_types.specs.Orders.{by_hazard}
 use Rattle.hazard_types.specs.Same.{same_hazard, same_event}
 use Rattle.hazard_types.specs.declared.hazard.Event.{Event}
@@ -18,7 +18,7 @@ use Rattle.hazard_types.specs.declared.line.Row.{Row}
 use Rattle.hazard_types.proofs.Equality.{hazard_one, hazard_itself, event_one, event_itself}
 use Rattle.hazard_types.proofs.OrderLaws.{by_hazard_total, by_hazard_ties, numbers_tied}
 use Rattle.event_life.specs.Periods.{keeps_open}
-use Rattle.event_life.specs.Products.{by_key, put, row_at, has_rows, is_open, is_held, later_event, going_in}
+use Rattle.event_life.specs.Products.{by_key, put, row_at, is_open, is_held, later_event, going_in}
 use Rattle.event_life.proofs.Keys.{then_parts}
 use Rattle.event_life.proofs.Members.{IsIn, any_in, in_any, one_way, find_in}
 use Rattle.event_life.proofs.Puts.{at_key, at_key-parts}

@@ -1,5 +1,5 @@
 -- Tests of members: of a row that is put among rows, and of keys that are put into a set or taken out.
-use Rattle.std.proofs.Common.{◌≡◌, ◌≢◌, ◌∙◌, inl, inr, List, [], ◌∷◌, ◌&&◌, ◌||◌, not, Bool, true, false, cond, Ordering, Less, Equal, Greater, Option, Some, None, refl, ap, sym, subst}
+use Rattle.std.proofs.Common.{◌≡◌, ◌≢◌, ◌∙◌, inl, inr, List, [], ◌∷◌, ◌&&◌, ◌||◌, not, Bool, true, false, cond, Ordering, Less, Equal, Greater, Some, refl, ap, sym, subst}
 use Rattle.std.proofs.lemmas.Bool.{false_from_ne_true}
 use Rattle.std.proofs.lemmas.Cmp.{tied_itself}
 use Rattle.std.specs.BTreeMap.{is_at}

@@ -1,5 +1,5 @@
 -- The rows of all events, each at its seat, are all rows in order.
-use Rattle.std.proofs.Common.{◌∙◌, [], List, ap, sym}
+use Rattle.std.proofs.Common.{◌∙◌, [], List, ap}
 use Rattle.hazard_types.specs.declared.line.Row.{Row}
 use Rattle.row_index.specs.Holding.{puts}
 use Rattle.row_index.proofs.HeldRows.{told-all}
