@@ -5,10 +5,11 @@ mod Runs
 mod Searching
 mod Lists
 mod HeldRows
-mod EndRows
 mod Opened
 mod Kept
 mod Lasted
+mod Stood
+mod EventRows
 mod Indexed
 mod Asked
 mod Changing

@@ -1,5 +1,5 @@
 -- Tests of members: of a row that is put among rows, and of keys that are put into a set or taken out.
-use Rattle.std.proofs.Common.{◌≡◌, ◌≢◌, ◌∙◌, inl, inr, List, [], ◌∷◌, ◌&&◌, ◌||◌, not, Bool, true, false, cond, Ordering, Less, Equal, Greater, Some, refl, ap, sym, subst}
+use Rattle.std.proofs.Common.{◌≡◌, ◌≢◌, ◌∙◌, inl, inr, List, [], ◌∷◌, ◌&&◌, ◌||◌, not, Bool, true, false, cond, Ordering, Less, Equal, Greater, Option, Some, None, refl, ap, sym, subst}
 use Rattle.std.proofs.lemmas.Bool.{false_from_ne_true}
 use Rattle.std.proofs.lemmas.Cmp.{tied_itself}
 use Rattle.std.specs.BTreeMap.{is_at}
@@ -8,6 +8,8 @@ use Rattle.std.specs.Cmp.{IsTotalOrder}
 use Rattle.std.specs.List.{AllByRecursion, filter, list_any}
 use Rattle.std.specs.List.Sorted.{IsStrictlySortedBy}
 use Rattle.std.specs.Ordering.{match_ordering, ordering_reverse, is_eq}
+use Rattle.std.specs.Map.Iter.{TakesFirst}
+use Rattle.std.specs.Option.{is_some}
 use Rattle.std.specs.Set.{remove_key}
 use Rattle.hazard_types.specs.declared.line.Row.{Row}
 use Rattle.hazard_types.proofs.Equality.{zone_itself, event_itself}
@@ -62,6 +64,28 @@ module _ {X : Type 0} where
       first : (b : Bool) → list_any p (filter q xs) ≡ list_any (λ x. q x && p x) xs → list_any p (cond b (x ∷ filter q xs) (filter q xs)) ≡ ((b && p x) || list_any (λ x. q x && p x) xs)
       first true later = ap (λ (c : Bool). p x || c) later
       first false later = later
+
+module _ {A X : Type 0} (shows : A → X) (test : X → Bool) where
+  none_left : (xs : List X) → filter test xs ≡ [] → list_any test xs ≡ false
+  none_left [] h = refl
+  none_left (x ∷ xs) h = first (test x) h (none_left xs)
+    where
+      first : (b : Bool) → cond b (x ∷ filter test xs) (filter test xs) ≡ [] → (filter test xs ≡ [] → list_any test xs ≡ false) → (b || list_any test xs) ≡ false
+      first true h later = cc
+      first false h later = later h
+
+  one_left : (xs : List X) (y : X) (ys : List X) → filter test xs ≡ y ∷ ys → list_any test xs ≡ true
+  one_left [] y ys h = cc
+  one_left (x ∷ xs) y ys h = first (test x) h (one_left xs y ys)
+    where
+      first : (b : Bool) → cond b (x ∷ filter test xs) (filter test xs) ≡ y ∷ ys → (filter test xs ≡ y ∷ ys → list_any test xs ≡ true) → (b || list_any test xs) ≡ true
+      first true h later = refl
+      first false h later = later h
+
+  -- the first of those that pass is there exactly where one does
+  pub first_left : (xs left : List X) (o : Option A) → TakesFirst shows (filter test xs) o left → is_some o ≡ list_any test xs
+  first_left xs left None h = sym (none_left xs h.0)
+  first_left xs left (Some a) h = sym (one_left xs (shows a) left h)
 
 -- a row that is put
 

@@ -1,8 +1,8 @@
 pub mod Telling
 pub mod Listing
-pub mod Ends
 pub mod Holding
 pub mod Seating
 pub mod Lastings
 pub mod Numbers
+pub mod Standings
 pub mod Steps

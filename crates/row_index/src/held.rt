@@ -1,90 +1,58 @@
 //! The rows of each event, by zone.
-ghost use Rattle.std.specs.Prelude.{◌≡◌, [], flat_map, IfOk, OnOk};
+ghost use Rattle.std.specs.Prelude.{◌≡◌, ◌&&◌, [], flat_map, IfOk, OnOk};
 ghost use Rattle.std.specs.BTreeMap.{insert_entry};
 ghost use Rattle.std.specs.List.{list_any};
 ghost use Rattle.std.specs.List.Sorted.{IsStrictlySortedBy};
 ghost use Rattle.std.specs.Map.{values_of};
 ghost use Rattle.hazard_types.specs.Orders.{by_event};
-ghost use Rattle.event_life.specs.Periods.{keeps_open};
+ghost use Rattle.event_life.specs.Periods.{is_live, keeps_open, same_at};
 ghost use Rattle.event_life.specs.Products.{by_key, put, row_at};
-ghost use Rattle.row_index.specs.Ends.{later_end, latest_with, latest_within};
 ghost use Rattle.row_index.specs.Holding.{held_with, puts};
 ghost use Rattle.row_index.specs.Listing.{list_at};
+ghost use Rattle.row_index.specs.Standings.{by_standing, standing_of};
+ghost use Rattle.row_index.specs.Steps.{restood};
 
 use crate::parts::EventKey;
 use crate::searches;
 use crate::seats::{Seated, put_seated};
-use event_life::{ends_within, keeps_open};
-use hazard_types::{End, Event, Minute, Oom, Row};
+use crate::standing::{Standings, has_same_among, is_open_among, restand};
+use hazard_types::{Event, Minute, Oom, Period, Row};
 use std::alloc::Global;
-use std::collections::BTreeMap;
+use std::collections::{BTreeMap, BTreeSet};
 use std::marker::Model;
 
-/// Of two ends the later.
-fn later_end(latest: &Option<End>, end: &End) -> End
-    ensures { result ≡ later_end latest.now end.now }
+/// Puts a row among those of an event, and among those of them that no line has ended.
+fn put_standing(
+    rows: &mut Vec<Row>,
+    standing: &mut Standings,
+    row: &Row,
+    before: &Option<Row>,
+) -> Result<(), Oom>
+    requires { IsStrictlySortedBy by_key rows.old.items }
+    ensures rows { OnOk result (rows.new.items ≡ put row.now rows.old.items) }
+    ensures standing { OnOk result (standing.new.keys ≡ restood by_standing standing_of before.now row.now standing.old.keys) }
 {
-    match latest {
-        Some(End::At(before)) => match end {
-            End::At(minute) => {
-                if before.get() < minute.get() {
-                    End::At(*minute)
-                } else {
-                    End::At(*before)
-                }
-            }
-            End::Ufn => End::Ufn,
-        },
-        Some(End::Ufn) => End::Ufn,
-        None => *end,
-    }
+    searches::put(rows, row)?;
+    restand(standing, before, row)
 }
 
-/// The latest end with that of a row that no line has ended.
-fn latest_with(row: &Row, latest: &Option<End>) -> Option<End>
-    ensures { result ≡ latest_with row.now latest.now }
-{
-    if row.ended {
-        *latest
-    } else {
-        Some(later_end(latest, &row.period.end))
-    }
-}
-
-/// Whether the latest end is at most half an hour past.
-fn latest_within(latest: &Option<End>, t: Minute) -> bool
-    ensures { result ≡ latest_within latest.now t }
-{
-    match latest {
-        Some(end) => ends_within(end, t),
-        None => false,
-    }
-}
-
-/// Whether a row stands whose end is at most half an hour past.
-fn any_open(rows: &[Row], t: Minute) -> bool
-    ensures { result ≡ list_any (keeps_open t) rows.now }
-{
-    rows.iter().any(|row| keeps_open(row, t))
-}
-
-/// The rows of one event, by zone. No row that stands ends after the latest end.
+/// The rows of one event, by zone, and where those of them stand that no line has ended.
 #[derive(Drop)]
 pub struct EventRows {
     rows: Vec<Row>,
-    latest: Option<End>,
+    standing: Standings,
 }
 
 impl Model for EventRows {
     ghost use Rattle.std.specs.Prelude.{List};
     ghost use Rattle.hazard_types.specs.declared.line.Row.{Row};
-    ghost use Rattle.row_index.specs.Ends.{AreEventRows};
+    ghost use Rattle.row_index.specs.Standings.{AreEventRows};
 
     ghost Value = { List Row };
 
     ghost view = { λ x. x.rows.items };
 
-    ghost invariant = { λ x. AreEventRows x.rows.items x.latest };
+    ghost invariant = { λ x. AreEventRows x.rows.items x.standing.keys };
 }
 
 impl EventRows {
@@ -93,7 +61,7 @@ impl EventRows {
     {
         EventRows {
             rows: Vec::new(alloc),
-            latest: None,
+            standing: BTreeSet::new(alloc),
         }
     }
 
@@ -104,23 +72,36 @@ impl EventRows {
         self.rows.as_slice()
     }
 
-    /// Puts a row. `before` becomes the one that was in its place.
+    /// Puts a row. `before` becomes the one that was in its place. On want of memory the event has no rows.
     fn put(&mut self, row: &Row, before: &mut Option<Row>) -> Result<(), Oom>
         ensures before { before.new ≡ row_at self.old row.now.event row.now.zone }
         ensures rows { OnOk result (self.new ≡ put row.now self.old) }
     {
         *before = searches::row_at(&self.rows, &row.event, &row.zone);
-        searches::put(&mut self.rows, row)?;
-        self.latest = latest_with(row, &self.latest);
-        Ok(())
+        match put_standing(&mut self.rows, &mut self.standing, row, before) {
+            Ok(()) => Ok(()),
+            Err(oom) => {
+                self.rows.clear();
+                self.standing.clear();
+                Err(oom)
+            }
+        }
     }
 
-    /// Whether a row stands whose end is at most half an hour past.
-    fn is_open(&self, t: Minute) -> bool
+    /// Whether a row stands whose end is at most half an hour past. `event` is that of the rows.
+    fn is_open(&self, t: Minute, event: &Event) -> bool
         ensures open { result ≡ list_any (keeps_open t) self.now }
         ensures order { IsStrictlySortedBy by_key self.now }
     {
-        latest_within(&self.latest, t) && any_open(&self.rows, t)
+        is_open_among(&self.standing, t, event)
+    }
+
+    /// Whether a live row has this period. `event` is that of the rows.
+    fn has_period(&self, t: Minute, event: &Event, period: &Period) -> bool
+        ensures same { result ≡ list_any (λ r. is_live t r && same_at t r.period period.now) self.now }
+        ensures order { IsStrictlySortedBy by_key self.now }
+    {
+        has_same_among(&self.standing, t, event, period)
     }
 }
 
@@ -144,7 +125,18 @@ pub fn is_open(held: &Held, t: Minute, event: &Event) -> bool
     ensures order { IsStrictlySortedBy by_key (list_at by_event held.now.entries event.now) }
 {
     match held.get(&EventKey { event: *event }) {
-        Some(rows) => rows.is_open(t),
+        Some(rows) => rows.is_open(t, event),
+        None => false,
+    }
+}
+
+/// Whether a live row of an event has this period.
+pub fn has_period(held: &Held, t: Minute, event: &Event, period: &Period) -> bool
+    ensures same { result ≡ list_any (λ r. is_live t r && same_at t r.period period.now) (list_at by_event held.now.entries event.now) }
+    ensures order { IsStrictlySortedBy by_key (list_at by_event held.now.entries event.now) }
+{
+    match held.get(&EventKey { event: *event }) {
+        Some(rows) => rows.has_period(t, event, period),
         None => false,
     }
 }

@@ -13,7 +13,7 @@ ghost use Rattle.row_index.specs.Holding.{AreNear, AreRowsOf};
 ghost use Rattle.row_index.specs.Seating.{AreSeated, upgrades};
 ghost use Rattle.row_index.specs.Steps.{IsChanged, around_new, around_joining, asked_around, latest_open, event_going, rows_left, put_each};
 
-use crate::held::{Held, all_held, is_open, put_held, rows_of, seated};
+use crate::held::{Held, all_held, has_period, is_open, put_held, rows_of, seated};
 use crate::higher::{Changed, any_upgrades, rivals, upgraded_by};
 use crate::lasting::{Lastings, relast};
 use crate::look::{later_event, life_of, nothing_around, of_event, opens};
@@ -21,7 +21,7 @@ use crate::numbers::{Events, Number, events_at, number_of, put_event_of};
 use crate::parts::HazardKey;
 use crate::searches;
 use crate::seats::{Seated, add_seat, all_rows, count_row, has_seat};
-use event_life::{Around, Breach, is_lawful, is_routine, is_upgrade, life_step};
+use event_life::{Around, Breach, is_lawful, is_routine, is_upgrade, life_step, opened_period};
 use hazard_types::{Action, Event, Flood, Line, List, Minute, Oom, Row, Vtec, Zone};
 use std::alloc::Global;
 use std::collections::{BTreeMap, BTreeSet};
@@ -108,14 +108,6 @@ impl RowIndex {
         is_open(&self.held, t, event)
     }
 
-    /// Whether a line's event is open. `rows` are the event's.
-    fn is_going(&self, rows: &[Row], t: Minute, line: &Line) -> bool
-        requires { AreRowsOf self.now line.now.event rows.now }
-        ensures { result ≡ is_open self.now t line.now.event }
-    {
-        event_life::is_open(rows, t, &line.event)
-    }
-
     /// Whether one of the events is of an earlier year and open.
     fn any_held(&self, t: Minute, events: &[Event], event: &Event) -> bool
         ensures { result ≡ list_any (λ d. nat_lt d.year event.now.year && is_open self.now t d) events.now }
@@ -135,12 +127,11 @@ impl RowIndex {
         self.any_held(t, events_at(&self.events, &number_of(event)), event)
     }
 
-    /// Whether a live row of the line's event has the period that the line would open. `rows` are the event's.
-    fn has_same(&self, rows: &[Row], t: Minute, line: &Line) -> bool
-        requires { AreRowsOf self.now line.now.event rows.now }
+    /// Whether a live row of the line's event has the period that the line would open.
+    fn has_same(&self, t: Minute, line: &Line) -> bool
         ensures { result ≡ has_same self.now t line.now }
     {
-        event_life::has_same(rows, t, line)
+        has_period(&self.held, t, &line.event, &opened_period(line, t))
     }
 
     /// Of the events that are open the one of the greatest year.
@@ -216,13 +207,12 @@ impl RowIndex {
         }
     }
 
-    /// What stands around an EXA or EXB line. `rows` are its event's.
-    fn around_joining(&self, rows: &[Row], t: Minute, line: &Line, higher: bool) -> Around
-        requires { AreRowsOf self.now line.now.event rows.now }
+    /// What stands around an EXA or EXB line.
+    fn around_joining(&self, t: Minute, line: &Line, higher: bool) -> Around
         ensures { result ≡ around_joining self.now t line.now higher }
     {
-        let going = self.is_going(rows, t, line);
-        let same = going && self.has_same(rows, t, line);
+        let going = self.is_open(t, &line.event);
+        let same = going && self.has_same(t, line);
         Around {
             opened: false,
             going,
@@ -239,7 +229,7 @@ impl RowIndex {
     {
         match line.action {
             Action::New => self.around_new(rows, t, line, higher),
-            Action::Exa | Action::Exb => self.around_joining(rows, t, line, higher),
+            Action::Exa | Action::Exb => self.around_joining(t, line, higher),
             _ => nothing_around(higher),
         }
     }

@@ -11,6 +11,7 @@ mod numbers;
 mod parts;
 mod searches;
 mod seats;
+mod standing;
 
 pub use index::RowIndex;
 pub use parts::{EventKey, ZoneKey};

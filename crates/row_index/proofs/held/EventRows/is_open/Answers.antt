@@ -1,13 +1,13 @@
--- Behind the latest end no row keeps the event open.
-use Rattle.std.proofs.Common.{◌≡◌, ◌∙◌, List, false, ap, sym}
+-- The rows that no line has ended tell whether the event is open.
+use Rattle.std.proofs.Common.{◌∙◌, List, ap}
 use Rattle.std.specs.List.{list_any}
 use Rattle.hazard_types.specs.declared.line.Row.{Row}
 use Rattle.event_life.specs.Periods.{keeps_open}
-use Rattle.row_index.specs.Ends.{latest_within}
-use Rattle.row_index.proofs.EndRows.{none_open}
+use Rattle.row_index.proofs.Stood.{open-told}
 use Rattle.row_index.proofs.held.EventRows.is_open.Goals as goal
 
-pub returns-else-latest_within-clause-open : goal.returns-else-latest_within-clause-open
-returns-else-latest_within-clause-open c =
-    let shut : latest_within c.self.inside.latest c.args.t ≡ false = sym c.latest_within.ensures ∙ c.if-latest_within.false in
-    c.if-latest_within.false ∙ none_open c.self.inside.rows.items c.self.inside.latest c.args.t c.self.invariant shut ∙ ap (λ (rows : List Row). list_any (keeps_open c.args.t) rows) c.self.view_is
+pub returns-clause-open : goal.returns-clause-open
+returns-clause-open c =
+    c.is_open_among.ensures
+    ∙ open-told c.self.inside.rows.items c.self.inside.standing.keys c.args.t c.args.event.now c.self.invariant.standing
+    ∙ ap (λ (rows : List Row). list_any (keeps_open c.args.t) rows) c.self.view_is

@@ -2,7 +2,7 @@
 use Rattle.std.proofs.Common.{◌∙◌, List, ap}
 use Rattle.hazard_types.specs.declared.line.Row.{Row}
 use Rattle.event_life.specs.Products.{is_open}
-use Rattle.row_index.proofs.EndRows.{open-held}
+use Rattle.row_index.proofs.EventRows.{open-held}
 use Rattle.row_index.proofs.index.RowIndex.is_open.Goals as goal
 
 pub returns : goal.returns
