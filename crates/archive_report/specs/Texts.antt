@@ -5,7 +5,7 @@ use Rattle.hazard_types.specs.Names.{zone_text, event_text}
 use Rattle.hazard_types.specs.Places.{Place}
 use Rattle.hazard_types.specs.declared.codes.Action.{Action}
 use Rattle.hazard_types.specs.declared.hazard.Event.{Event}
-use Rattle.vtec_string.specs.Letters.{action_code}
+use Rattle.hazard_types.specs.Letters.{action_code}
 use Rattle.event_life.specs.declared.life.Breach.{Breach}
 use Rattle.event_life.specs.declared.life.Breach.TheVariants as breach
 use Rattle.product_frame.specs.declared.frame.FrameFault.{FrameFault}

@@ -1,7 +1,6 @@
 //! The words of a report's lines. Each is added to a text, or the text has some of it where memory lacks.
 ghost use Rattle.std.specs.Prelude.{◌≡◌, ◌++◌, IfOk, OnOk, string_bytes};
 ghost use Rattle.hazard_types.specs.Calendar.{stamp_of};
-ghost use Rattle.vtec_string.specs.Letters.{action_code};
 ghost use Rattle.archive_report.specs.Texts.{where_text, steps_text, breach_name, fault_text};
 
 use event_life::Breach;
@@ -25,30 +24,13 @@ pub fn put_stamp(out: &mut Text, minute: Minute) -> Result<(), Oom>
     out.extend(&stamp(minute))
 }
 
-fn action_code(action: Action) -> [u8; 3]
-    ensures { result ≡ action_code action }
-{
-    match action {
-        Action::New => *b"NEW",
-        Action::Con => *b"CON",
-        Action::Exa => *b"EXA",
-        Action::Ext => *b"EXT",
-        Action::Exb => *b"EXB",
-        Action::Upg => *b"UPG",
-        Action::Can => *b"CAN",
-        Action::Exp => *b"EXP",
-        Action::Cor => *b"COR",
-        Action::Rou => *b"ROU",
-    }
-}
-
 /// The steps of a life, each after a blank.
 pub fn put_steps(out: &mut Text, steps: &[(Action, Minute)]) -> Result<(), Oom>
     ensures { OnOk result (out.new ≡ out.old ++ steps_text steps.now) }
 {
     for step in steps {
         out.push(b' ')?;
-        out.extend(&action_code(step.0))?;
+        out.extend(&step.0.code())?;
         out.push(b'@')?;
         put_stamp(out, step.1)?;
     }

@@ -3,31 +3,39 @@ use Rattle.std.proofs.Common.{◌≡◌, ◌≢◌, ◌∙◌, ◌<◌, ℕ, zer
 use Rattle.std.specs.Option.{option_copied}
 use Rattle.hazard_types.specs.declared.hazard.Hazard.{Hazard}
 use Rattle.hazard_types.specs.Hazards.{DeskHazard, desk_hazards, beside, facts_of, name_of, fact_rows, name_rows}
+use Rattle.hazard_types.specs.Known.{hazard_in, told_beside}
 use Rattle.hazard_types.specs.Same.{same_hazard}
+use Rattle.hazard_types.specs.declared.desk_hazards.Known.{Known}
+use Rattle.hazard_types.specs.declared.desk_hazards.TheConstants.{FACTS}
 use Rattle.hazard_types.specs.declared.facts.Facts.{Facts}
 use Rattle.hazard_types.proofs.Equality.{hazard_decides}
 
 module _ {X : Type 0} where
   -- the row at this place has the hazard
-  pub hit : (rows : List (Hazard × X)) (i : ℕ) (r : Hazard × X) (h : Hazard) → i < length rows → r ≡ get_or rows i r → same_hazard r.0 h ≡ true → beside (drop i rows) h ≡ Some r.1
+  pub hit : (rows : List (Known X)) (i : ℕ) (r : Known X) (h : Hazard) → i < length rows → r ≡ get_or rows i r → same_hazard (hazard_in r) h ≡ true → told_beside (drop i rows) h ≡ Some r.value
   hit rows i r h inside is e =
-      let front : drop i rows ≡ r ∷ drop (suc i) rows = drop-cons rows i r inside ∙ ap (λ (x : Hazard × X). x ∷ drop (suc i) rows) (sym is) in
+      let front : drop i rows ≡ r ∷ drop (suc i) rows = drop-cons rows i r inside ∙ ap (λ (x : Known X). x ∷ drop (suc i) rows) (sym is) in
       rw (front, e) refl
 
   -- it has not
-  pub miss : (rows : List (Hazard × X)) (i : ℕ) (r : Hazard × X) (h : Hazard) → i < length rows → r ≡ get_or rows i r → same_hazard r.0 h ≡ false → beside (drop i rows) h ≡ beside (drop (suc i) rows) h
+  pub miss : (rows : List (Known X)) (i : ℕ) (r : Known X) (h : Hazard) → i < length rows → r ≡ get_or rows i r → same_hazard (hazard_in r) h ≡ false → told_beside (drop i rows) h ≡ told_beside (drop (suc i) rows) h
   miss rows i r h inside is e =
-      let front : drop i rows ≡ r ∷ drop (suc i) rows = drop-cons rows i r inside ∙ ap (λ (x : Hazard × X). x ∷ drop (suc i) rows) (sym is) in
-      ap (λ (rest : List (Hazard × X)). beside rest h) front ∙ ap (λ b. cond b (Some r.1) (beside (drop (suc i) rows) h)) e
+      let front : drop i rows ≡ r ∷ drop (suc i) rows = drop-cons rows i r inside ∙ ap (λ (x : Known X). x ∷ drop (suc i) rows) (sym is) in
+      ap (λ (rest : List (Known X)). told_beside rest h) front ∙ ap (λ b. cond b (Some r.value) (told_beside (drop (suc i) rows) h)) e
 
-named_if : (r : Hazard × Bor (List ℕ)) (rows : List (Hazard × Bor (List ℕ))) (h : Hazard) (b : Bool) → option_copied (beside rows h) ≡ beside (map (λ (p : Hazard × Bor (List ℕ)). (p.0, p.1.now)) rows) h → option_copied (cond b (Some r.1) (beside rows h)) ≡ cond b (Some r.1.now) (beside (map (λ (p : Hazard × Bor (List ℕ)). (p.0, p.1.now)) rows) h)
+  -- rows tell what the pairs of their hazards and values do
+  pub as_pairs : (rows : List (Known X)) (h : Hazard) → told_beside rows h ≡ beside (map (λ (k : Known X). (hazard_in k, k.value)) rows) h
+  as_pairs [] h = refl
+  as_pairs (k ∷ rows) h = ap (λ (rest : Option X). cond (same_hazard (hazard_in k) h) (Some k.value) rest) (as_pairs rows h)
+
+named_if : (r : Known (Bor (List ℕ))) (rows : List (Known (Bor (List ℕ)))) (h : Hazard) (b : Bool) → option_copied (told_beside rows h) ≡ beside (map (λ (k : Known (Bor (List ℕ))). (hazard_in k, k.value.now)) rows) h → option_copied (cond b (Some r.value) (told_beside rows h)) ≡ cond b (Some r.value.now) (beside (map (λ (k : Known (Bor (List ℕ))). (hazard_in k, k.value.now)) rows) h)
 named_if r rows h true later = refl
 named_if r rows h false later = later
 
 -- a name that is lent is the name beside the hazard
-pub named : (rows : List (Hazard × Bor (List ℕ))) (h : Hazard) → option_copied (beside rows h) ≡ beside (map (λ (p : Hazard × Bor (List ℕ)). (p.0, p.1.now)) rows) h
+pub named : (rows : List (Known (Bor (List ℕ)))) (h : Hazard) → option_copied (told_beside rows h) ≡ beside (map (λ (k : Known (Bor (List ℕ))). (hazard_in k, k.value.now)) rows) h
 named [] h = refl
-named (r ∷ rows) h = named_if r rows h (same_hazard r.0 h) (named rows h)
+named (r ∷ rows) h = named_if r rows h (same_hazard (hazard_in r) h) (named rows h)
 
 further : (x : DeskHazard) (xs : List DeskHazard) (d : DeskHazard) → Contains xs d → Contains (x ∷ xs) d
 further x xs d (k, inside, is) = (suc k, omega arith, is)
@@ -62,10 +70,19 @@ module _ {X : Type 0} where
   absent part [] h is d (k, inside, here) same = absurd (omega arith)
   absent part (x ∷ xs) h is d there same = absent_if part x xs h (same_hazard x.hazard h) refl (absent part xs h) is d there same
 
+-- what the rows of facts, and those of names, tell is what stands in the table
+pub facts_told : (h : Hazard) → told_beside FACTS h ≡ facts_of h
+unfolding facts_of fact_rows desk_hazards
+facts_told h = as_pairs FACTS h
+
 -- what a look-up gives for a hazard, in the words of the table
 pub fact_stands : (h : Hazard) (f : Facts) → facts_of h ≡ Some f → (d : DeskHazard) × Contains desk_hazards d × (d.hazard ≡ h) × (d.facts ≡ f)
 unfolding facts_of fact_rows
 fact_stands h f is = stands (λ d. d.facts) desk_hazards h f is
+
+pub fact_found : (h : Hazard) (facts : Option Facts) → facts ≡ facts_of h → IfSome facts (λ f. (d : DeskHazard) × Contains desk_hazards d × (d.hazard ≡ h) × (d.facts ≡ f))
+fact_found h None is = tt
+fact_found h (Some f) is = fact_stands h f (sym is)
 
 pub fact_absent : (h : Hazard) (facts : Option Facts) → facts ≡ facts_of h → IfNone facts ((d : DeskHazard) → Contains desk_hazards d → d.hazard ≢ h)
 unfolding facts_of fact_rows

@@ -1,5 +1,5 @@
 -- The characters of codes and texts.
-use Rattle.std.specs.Prelude.{◌==◌, ◌&&◌, ◌||◌, ℕ, Bool, List, length, nat_le}
+use Rattle.std.specs.Prelude.{◌==◌, ◌&&◌, ◌||◌, ℕ, Bool, List, length, nat_le, Option, Some, None, if◌then◌else◌}
 use Rattle.std.specs.List.{list_all}
 use Rattle.hazard_types.specs.Calendar.{is_digit}
 use Rattle.hazard_types.specs.Places.{is_capital}
@@ -23,3 +23,7 @@ is_office office = (length office == 4) && list_all is_name_byte office
 -- a location's code is five of these
 abbrev pub is_location : List ℕ → Bool
 is_location site = (length site == 5) && list_all is_name_byte site
+
+-- the text, if it is a location
+abbrev pub location_at : List ℕ → Option (List ℕ)
+location_at text = if is_location text then Some text else None

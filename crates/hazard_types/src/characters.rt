@@ -1,7 +1,7 @@
 //! The characters of codes and texts.
 ghost use Rattle.std.specs.Prelude.{◌≡◌};
 ghost use Rattle.std.specs.List.{list_all};
-ghost use Rattle.hazard_types.specs.Characters.{is_name_byte, is_blank, is_printable, is_office, is_location};
+ghost use Rattle.hazard_types.specs.Characters.{is_name_byte, is_blank, is_printable, is_office, is_location, location_at};
 
 /// Whether a byte is one of A to Z and 0 to 9.
 pub fn is_name_byte(byte: u8) -> bool
@@ -43,4 +43,18 @@ pub fn is_location(text: &[u8]) -> bool
     ensures { result ≡ is_location text.now }
 {
     text.len() == 5 && are_name_bytes(text)
+}
+
+/// The five characters of a location's code. None exactly where the bytes are no location's code.
+pub fn location_in(text: &[u8]) -> Option<[u8; 5]>
+    ensures { result ≡ location_at text.now }
+{
+    let [a, b, c, d, e] = text else {
+        return None;
+    };
+    if are_name_bytes(text) {
+        Some([*a, *b, *c, *d, *e])
+    } else {
+        None
+    }
 }

@@ -2,11 +2,13 @@
 ghost use Rattle.std.specs.Prelude.{◌≡◌, ◌≢◌, map, option_copied, IfSome, IfNone, Contains};
 ghost use Rattle.hazard_types.specs.Codes.{IsTable};
 ghost use Rattle.hazard_types.specs.Tables.{row};
-ghost use Rattle.hazard_types.specs.Hazards.{DeskHazard, desk_hazards, fact_rows, name_rows, hazard_rows, hazard_code, facts_of, name_of, beside};
+ghost use Rattle.hazard_types.specs.Hazards.{DeskHazard, desk_hazards, name_rows, hazard_rows, hazard_code, facts_of, name_of};
+ghost use Rattle.hazard_types.specs.Known.{hazard_in, told_beside};
 
 use crate::codes::{Category, Coded, Family};
 use crate::facts::Facts;
 use crate::hazard::{Hazard, Phen, Sig};
+use crate::names::hazard_text;
 use crate::zone::Kind;
 
 /// What `$part` makes of each hazard. Of each stand its letters, its significance, its name, and then:
@@ -56,13 +58,12 @@ macro_rules! hazard {
     };
 }
 
-/// The code of a hazard, as `WS.W`.
+/// The row of a hazard in the table of codes.
 fn code(hazard: Hazard) -> Coded<Hazard>
     ensures { result ≡ row (hazard_code hazard) hazard }
 {
-    let [first, second] = hazard.phen.letters();
     Coded {
-        code: [first, second, b'.', hazard.sig.letter()],
+        code: hazard_text(&hazard),
         value: hazard,
     }
 }
@@ -88,84 +89,100 @@ pub fn hazard_codes() -> [Coded<Hazard>; 28]
     all_codes()
 }
 
-/// The hazards, and the facts of each.
-#[tactic(auto, unfolding(crate::specs::Hazards::fact_rows, crate::specs::Hazards::desk_hazards))]
-fn all_facts() -> [(Hazard, Facts); 28]
-    ensures { result ≡ fact_rows }
-{
-    macro_rules! facts {
-        ($opens:ident, $follows:ident, $kind:ident, $family:expr, $ufn:literal, $flood:literal) => {
-            Facts {
-                opens: Category::$opens,
-                follows: Category::$follows,
-                kind: Kind::$kind,
-                family: $family,
-                ufn: $ufn,
-                flood: $flood,
-            }
-        };
-    }
-    macro_rules! known {
-        ($letters:literal, $sig:ident, $name:literal, zonal $category:ident, $family:ident, $rank:literal) => {
-            (
-                hazard!($letters, $sig),
-                facts!($category, $category, Z, Some((Family::$family, $rank)), false, false),
-            )
-        };
-        ($letters:literal, $sig:ident, $name:literal, areal $category:ident, $family:ident, $rank:literal) => {
-            (
-                hazard!($letters, $sig),
-                facts!($category, $category, Z, Some((Family::$family, $rank)), false, true),
-            )
-        };
-        ($letters:literal, $sig:ident, $name:literal, river $opens:ident, $follows:ident) => {
-            (hazard!($letters, $sig), facts!($opens, $follows, C, None, true, true))
-        };
-    }
-    each_hazard!(known)
+/// What is known of the hazard of two letters and a significance.
+struct Known<V> {
+    letters: [u8; 2],
+    sig: Sig,
+    value: V,
 }
 
-/// The hazards, and the name of each.
+macro_rules! facts_of_row {
+    ($opens:ident, $follows:ident, $kind:ident, $family:expr, $ufn:literal, $flood:literal) => {
+        Facts {
+            opens: Category::$opens,
+            follows: Category::$follows,
+            kind: Kind::$kind,
+            family: $family,
+            ufn: $ufn,
+            flood: $flood,
+        }
+    };
+}
+
+macro_rules! known_facts {
+    ($letters:literal, $sig:ident, $name:literal, zonal $category:ident, $family:ident, $rank:literal) => {
+        Known {
+            letters: *$letters,
+            sig: Sig::$sig,
+            value: facts_of_row!($category, $category, Z, Some((Family::$family, $rank)), false, false),
+        }
+    };
+    ($letters:literal, $sig:ident, $name:literal, areal $category:ident, $family:ident, $rank:literal) => {
+        Known {
+            letters: *$letters,
+            sig: Sig::$sig,
+            value: facts_of_row!($category, $category, Z, Some((Family::$family, $rank)), false, true),
+        }
+    };
+    ($letters:literal, $sig:ident, $name:literal, river $opens:ident, $follows:ident) => {
+        Known {
+            letters: *$letters,
+            sig: Sig::$sig,
+            value: facts_of_row!($opens, $follows, C, None, true, true),
+        }
+    };
+}
+
+/// The facts of each hazard.
+static FACTS: [Known<Facts>; 28] = each_hazard!(known_facts);
+
+macro_rules! known_name {
+    ($letters:literal, $sig:ident, $name:literal, $($rest:tt)*) => {
+        Known {
+            letters: *$letters,
+            sig: Sig::$sig,
+            value: $name,
+        }
+    };
+}
+
+/// The name of each hazard.
+static NAMES: [Known<&'static str>; 28] = each_hazard!(known_name);
+
 #[tactic(auto, unfolding(crate::specs::Hazards::name_rows, crate::specs::Hazards::desk_hazards))]
-fn all_names() -> [(Hazard, &'static str); 28]
-    ensures { map (λ p. (p.0, p.1.now)) result ≡ name_rows }
+fn all_names() -> &'static [Known<&'static str>; 28]
+    ensures { map (λ k. (hazard_in k, k.value.now)) result.now ≡ name_rows }
 {
-    macro_rules! named {
-        ($letters:literal, $sig:ident, $name:literal, $($rest:tt)*) => {
-            (hazard!($letters, $sig), $name)
-        };
-    }
-    each_hazard!(named)
+    &NAMES
 }
 
 /// What stands beside a hazard in rows.
-fn beside<V: Copy>(rows: &[(Hazard, V)], h: Hazard) -> Option<V>
-    ensures { result ≡ beside rows.now h }
+fn beside<V: Copy>(rows: &[Known<V>], h: Hazard) -> Option<V>
+    ensures { result ≡ told_beside rows.now h }
 {
-    for (hazard, value) in rows {
-        if *hazard == h {
-            return Some(*value);
+    let letters = h.phen.letters();
+    for row in rows {
+        if row.letters == letters && row.sig == h.sig {
+            return Some(row.value);
         }
     }
     None
 }
 
 /// What the desk knows of a hazard. None exactly where it does not issue the hazard.
-#[tactic(auto, using(crate::proofs::DeskRows::fact_stands), unfolding(crate::specs::Hazards::facts_of))]
 pub fn facts(h: Hazard) -> Option<Facts>
     ensures value { result ≡ facts_of h }
     ensures stands { IfSome result (λ f. (d : DeskHazard) × Contains desk_hazards d × (d.hazard ≡ h) × (d.facts ≡ f)) }
     ensures none { IfNone result ((d : DeskHazard) → Contains desk_hazards d → d.hazard ≢ h) }
 {
-    beside(&all_facts(), h)
+    beside(&FACTS, h)
 }
 
 /// A hazard's name in headlines. None exactly where the desk does not issue the hazard.
-#[tactic(auto, unfolding(crate::specs::Hazards::name_of))]
 pub fn name_of(h: Hazard) -> Option<&'static str>
     ensures value { option_copied result ≡ name_of h }
     ensures stands { IfSome result (λ name. (d : DeskHazard) × Contains desk_hazards d × (d.hazard ≡ h) × (d.name ≡ name.now)) }
     ensures none { IfNone result ((d : DeskHazard) → Contains desk_hazards d → d.hazard ≢ h) }
 {
-    beside(&all_names(), h)
+    beside(all_names(), h)
 }

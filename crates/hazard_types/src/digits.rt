@@ -79,8 +79,8 @@ pub fn day_text(d: DayStamp) -> [u8; 6]
     [day[0], day[1], hour[0], hour[1], minute[0], minute[1]]
 }
 
-/// Two digits, whose number is below a hundred.
-fn two_of(tens: u8, ones: u8) -> u8
+/// The number that two digits spell.
+pub(crate) fn two_of(tens: u8, ones: u8) -> u8
     requires tens { IsTrue (is_digit tens) }
     requires ones { IsTrue (is_digit ones) }
     ensures { result ≡ 10 * (tens - 48) + (ones - 48) }

@@ -7,6 +7,7 @@ ghost use Rattle.std.specs.Cmp.{partial_order_from_own_ties};
 ghost use Rattle.std.specs.Cmp.Rules.{comparing};
 ghost use Rattle.std.specs.Ordering.{as_partial_cmp};
 
+use crate::letters::letters_in_order;
 use std::cmp::Ordering;
 use std::marker::Model;
 
@@ -134,7 +135,10 @@ impl Ord for Hazard {
     ghost matches_eq = { Prim.search (comparing, rules) };
 
     fn cmp(&self, other: &Hazard) -> Ordering {
-        self.phen.cmp(&other.phen).then(self.sig.cmp(&other.sig))
+        match letters_in_order(self.phen.letters, other.phen.letters) {
+            Ordering::Equal => self.sig.cmp(&other.sig),
+            order => order,
+        }
     }
 }
 

@@ -21,7 +21,7 @@ use crate::request::Request;
 use crate::zone::Zone;
 
 /// `==` holds exactly of identical values.
-#[tactic(auto, using(crate::proofs::Equality::zone_decides, crate::proofs::Equality::hazard_decides, crate::proofs::Equality::event_decides, crate::proofs::Equality::flood_decides, crate::proofs::Equality::line_decides, crate::proofs::Equality::seg_line_decides, crate::proofs::Equality::row_decides, crate::proofs::Equality::desk_one, crate::proofs::Equality::request_decides))]
+#[tactic(auto, using(crate::proofs::Equality::zone_decides, crate::proofs::Equality::hazard_decides, crate::proofs::Equality::event_decides, crate::proofs::Equality::flood_decides, crate::proofs::Equality::line_decides, crate::proofs::Equality::seg_line_decides, crate::proofs::Equality::row_decides, crate::proofs::Equality::desk_decides, crate::proofs::Equality::request_decides))]
 pub fn equality_is_identity()
     ensures zones { (a b : Place) → Decides (⟦<Zone as PartialEq>⟧.eq a b) (a ≡ b) }
     ensures hazards { (a b : Hazard) → Decides (⟦<Hazard as PartialEq>⟧.eq a b) (a ≡ b) }
@@ -30,7 +30,7 @@ pub fn equality_is_identity()
     ensures lines { (a b : Line) → Decides (⟦<Line as PartialEq>⟧.eq a b) (a ≡ b) }
     ensures segment_lines { (a b : SegLine) → Decides (⟦<SegLine as PartialEq>⟧.eq a b) (a ≡ b) }
     ensures rows { (a b : Row) → Decides (⟦<Row as PartialEq>⟧.eq a b) (a ≡ b) }
-    ensures desks { (a b : List ℕ) → ⟦<Desk as PartialEq>⟧.eq a b ≡ true → a ≡ b }
+    ensures desks { (a b : List ℕ) → Decides (⟦<Desk as PartialEq>⟧.eq a b) (a ≡ b) }
     ensures requests { (a b : Request) → Decides (⟦<Request as PartialEq>⟧.eq a b) (a ≡ b) }
 {}
 

@@ -1,6 +1,6 @@
 //! The times of VTEC texts, both ways.
 ghost use Rattle.std.specs.Prelude.{◌≡◌, ℕ, MatchOption, Option as Maybe};
-ghost use Rattle.hazard_types.specs.Times.{IsTime, time_text, end_text};
+ghost use Rattle.hazard_types.specs.Times.{IsTime, time_text, time_at, end_text};
 
 use crate::calendar::{read_stamp, stamp};
 use crate::minute::Minute;
@@ -17,9 +17,8 @@ pub fn time_text(time: Option<Minute>) -> [u8; 12]
     }
 }
 
-/// The minute of a stamp, or no minute for the zero time. None exactly where the bytes are neither.
 #[tactic(auto, using(crate::proofs::TimesRead::no_time, crate::proofs::TimesRead::stamp_found))]
-pub fn time_in(text: &[u8]) -> Option<Option<Minute>>
+fn read_time(text: &[u8]) -> Option<Option<Minute>>
     ensures { MatchOption result ((t : Maybe ℕ) → IsTime text.now t → ⊥) (IsTime text.now) }
 {
     if text == b"000000T0000Z".as_slice() {
@@ -27,6 +26,15 @@ pub fn time_in(text: &[u8]) -> Option<Option<Minute>>
     } else {
         Some(Some(read_stamp(text)?))
     }
+}
+
+/// The minute of a stamp, or no minute for the zero time. None exactly where the bytes are neither.
+#[tactic(auto, using(crate::proofs::TimeLemmas::time_is_at))]
+pub fn time_in(text: &[u8]) -> Option<Option<Minute>>
+    ensures value { result ≡ time_at text.now }
+    ensures time { MatchOption result ((t : Maybe ℕ) → IsTime text.now t → ⊥) (IsTime text.now) }
+{
+    read_time(text)
 }
 
 /// The stamp of an end; zeros are until further notice.

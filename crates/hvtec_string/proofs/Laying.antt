@@ -14,13 +14,13 @@ use Rattle.hazard_types.specs.declared.codes.Status.{Status}
 use Rattle.hazard_types.specs.declared.line.Flood.{Flood}
 use Rattle.hazard_types.specs.Codes.{value_beside}
 use Rattle.hazard_types.specs.Tables.{severity_rows, status_rows}
-use Rattle.hvtec_string.specs.Letters.{severity_code, status_code}
-use Rattle.hazard_types.specs.Characters.{is_location}
-use Rattle.hazard_types.specs.Times.{IsTime, time_text}
+use Rattle.hazard_types.specs.Letters.{severity_code, status_code}
+use Rattle.hazard_types.specs.Characters.{location_at, is_location}
+use Rattle.hazard_types.specs.Times.{time_at, IsTime, time_text}
 use Rattle.hazard_types.proofs.TimesRead.{time_is}
-use Rattle.hvtec_string.specs.Columns.{AreSeparated, IsHvtec, hvtec_text, separators, has_columns, location_at, cause_at, time_at, values, hvtec_of}
+use Rattle.hvtec_string.specs.Columns.{AreSeparated, IsHvtec, hvtec_text, separators, has_columns, cause_at, values, hvtec_of}
 use Rattle.hvtec_string.proofs.Lettering.{severity_letters, status_letters, severity_found, status_found, severity_one, status_two}
-use Rattle.hvtec_string.proofs.TimeLemmas.{time_back, time_hit, time_twelve}
+use Rattle.hazard_types.proofs.TimeLemmas.{time_back, time_hit, time_twelve}
 
 -- ---- what is written
 

@@ -12,7 +12,7 @@ use Rattle.hazard_types.specs.declared.codes.Severity.{Severity}
 use Rattle.hazard_types.specs.declared.codes.Severity.TheVariants as severity
 use Rattle.hazard_types.specs.declared.codes.Status.{Status}
 use Rattle.hazard_types.specs.declared.codes.Status.TheVariants as status
-use Rattle.hvtec_string.specs.Letters.{severity_code, status_code}
+use Rattle.hazard_types.specs.Letters.{severity_code, status_code}
 
 -- what stands beside letters has these letters, where each row's code is that of its value
 letters_are : {T : Type 0} (code : T → List ℕ) (rows : List (Coded T)) → AllByRecursion (λ (row : Coded T). unfilled row.code ≡ code row.value) rows → (text : List ℕ) (v : T) → value_beside rows text ≡ Some v → text ≡ code v

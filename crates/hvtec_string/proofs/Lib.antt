@@ -1,3 +1,2 @@
-pub mod TimeLemmas
 pub mod Lettering
 pub mod Laying

@@ -1,16 +1,15 @@
 -- H-VTEC by its columns: /nwsli.s.ic.yymmddThhnnZ.yymmddThhnnZ.yymmddThhnnZ.fr/
-use Rattle.std.specs.Prelude.{◌≡◌, ℕ, ◌&&◌, ◌==◌, Bool, IsTrue, length, List, [], ◌∷◌, ◌++◌, Option, None, Some, slice_index, option_map, codes, bytes_eq, if◌then◌else◌}
+use Rattle.std.specs.Prelude.{◌≡◌, ℕ, ◌&&◌, ◌==◌, Bool, IsTrue, length, List, [], ◌∷◌, ◌++◌, Option, None, Some, slice_index, codes, bytes_eq, if◌then◌else◌}
 use Rattle.std.specs.List.{slice_range}
-use Rattle.hazard_types.specs.Calendar.{stamp_at}
-use Rattle.hazard_types.specs.Characters.{is_location}
-use Rattle.hazard_types.specs.Times.{IsTime, time_text}
+use Rattle.hazard_types.specs.Characters.{is_location, location_at}
+use Rattle.hazard_types.specs.Times.{IsTime, time_text, time_at}
 use Rattle.hazard_types.specs.Places.{are_letters}
 use Rattle.hazard_types.specs.declared.codes.Severity.{Severity}
 use Rattle.hazard_types.specs.declared.codes.Status.{Status}
 use Rattle.hazard_types.specs.declared.line.Flood.{Flood}
 use Rattle.hazard_types.specs.Codes.{value_beside}
 use Rattle.hazard_types.specs.Tables.{severity_rows, status_rows}
-use Rattle.hvtec_string.specs.Letters.{severity_code, status_code}
+use Rattle.hazard_types.specs.Letters.{severity_code, status_code}
 
 -- what stands before, between and behind the columns
 pub record AreSeparated (bytes : List ℕ) : Type 0 where
@@ -52,17 +51,9 @@ separators b = slice_index b 0 ∷ slice_index b 6 ∷ slice_index b 8 ∷ slice
 unfoldable pub has_columns : List ℕ → Bool
 has_columns b = (length b == 54) && bytes_eq (separators b) (codes "/....../")
 
--- the text, if it is a location
-abbrev pub location_at : List ℕ → Option (List ℕ)
-location_at text = if is_location text then Some text else None
-
 -- the text, if it is a cause
 abbrev pub cause_at : List ℕ → Option (List ℕ)
 cause_at text = if are_letters text then Some text else None
-
--- the minute of a stamp, or no minute for the zero time
-unfoldable pub time_at : List ℕ → Option (Option ℕ)
-time_at text = if bytes_eq text (codes "000000T0000Z") then Some None else option_map (λ m. Some m) (stamp_at text)
 
 -- the values, where each column has one
 abbrev pub values : Option (List ℕ) → Option Severity → Option (List ℕ) → Option (Option ℕ) → Option (Option ℕ) → Option (Option ℕ) → Option Status → Option Flood

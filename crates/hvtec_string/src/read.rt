@@ -1,25 +1,10 @@
 //! H-VTEC texts are read.
 ghost use Rattle.std.specs.Prelude.{◌≡◌, ◌&&◌, ◌||◌, ◌≤◌, ◌<◌, ◌==◌, ◌∷◌, [], length, slice_index, codes, bytes_eq, true, Some, IfSome};
 ghost use Rattle.hazard_types.specs.declared.line.Flood.{Flood as Values};
-ghost use Rattle.hvtec_string.specs.Columns.{separators, has_columns, location_at, cause_at, time_at, values, hvtec_of, IsHvtec};
+ghost use Rattle.hvtec_string.specs.Columns.{separators, has_columns, cause_at, values, hvtec_of, IsHvtec};
 
 use crate::columns::{BEGIN, CAUSE, CREST, END, LENGTH, LOCATION, SEVERITY, STATUS};
-use crate::letters::{severity_of, status_of};
-use hazard_types::{Cause, Flood, Minute, Severity, Status, are_name_bytes, time_in};
-
-/// The location of five characters; None where they are none.
-fn location_of(text: &[u8]) -> Option<[u8; 5]>
-    ensures { result ≡ location_at text.now }
-{
-    let [a, b, c, d, e] = text else {
-        return None;
-    };
-    if are_name_bytes(text) {
-        Some([*a, *b, *c, *d, *e])
-    } else {
-        None
-    }
-}
+use hazard_types::{Cause, Flood, Minute, Severity, Status, location_in, time_in};
 
 /// The cause of two letters; None where they are none.
 fn cause_of(text: &[u8]) -> Option<Cause>
@@ -27,14 +12,6 @@ fn cause_of(text: &[u8]) -> Option<Cause>
     ensures { result ≡ cause_at text.now }
 {
     Cause::new([text[0], text[1]])
-}
-
-/// The minute of a stamp, or no minute for the zero time; None where the text is neither.
-#[tactic(auto, using(crate::proofs::TimeLemmas::time_is_at))]
-fn time_of(text: &[u8]) -> Option<Option<Minute>>
-    ensures { result ≡ time_at text.now }
-{
-    time_in(text)
 }
 
 /// Whether length and separators are those of an H-VTEC text.
@@ -83,13 +60,13 @@ fn values_of(bytes: &[u8]) -> Option<Flood>
         return None;
     }
     values(
-        location_of(&bytes[LOCATION]),
-        severity_of(&bytes[SEVERITY..SEVERITY + 1]),
+        location_in(&bytes[LOCATION]),
+        Severity::at(&bytes[SEVERITY..SEVERITY + 1]),
         cause_of(&bytes[CAUSE]),
-        time_of(&bytes[BEGIN]),
-        time_of(&bytes[CREST]),
-        time_of(&bytes[END]),
-        status_of(&bytes[STATUS]),
+        time_in(&bytes[BEGIN]),
+        time_in(&bytes[CREST]),
+        time_in(&bytes[END]),
+        Status::at(&bytes[STATUS]),
     )
 }
 

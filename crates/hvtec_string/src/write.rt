@@ -6,7 +6,6 @@ ghost use Rattle.hazard_types.specs.Times.{IsTime, time_text};
 ghost use Rattle.hvtec_string.specs.Columns.{hvtec_text, IsHvtec};
 
 use crate::columns::{BEGIN, CAUSE, CREST, END, LENGTH, LOCATION, SEVERITY, STATUS};
-use crate::letters::{severity_code, status_code};
 use hazard_types::{Flood, time_text};
 
 /// The template, filled.
@@ -19,12 +18,12 @@ fn filled(h: &Flood) -> [u8; LENGTH]
     ensures cause { IsTrue (are_letters h.now.cause) × (length h.now.cause ≡ 2) }
 {
     let mut text = *b"/nwsli.s.ic.yymmddThhnnZ.yymmddThhnnZ.yymmddThhnnZ.fr/";
-    text[STATUS].copy_from_slice(&status_code(h.status));
+    text[STATUS].copy_from_slice(&h.status.code());
     text[END].copy_from_slice(&time_text(h.end));
     text[CREST].copy_from_slice(&time_text(h.crest));
     text[BEGIN].copy_from_slice(&time_text(h.begin));
     text[CAUSE].copy_from_slice(&h.cause.letters());
-    text[SEVERITY] = severity_code(h.severity);
+    text[SEVERITY] = h.severity.letter();
     text[LOCATION].copy_from_slice(&h.site);
     text
 }

@@ -15,8 +15,8 @@ use crate::journal::Journal;
 use crate::packet::Packet;
 use desk_traits::{Disk, Failed, write_synced};
 
-// The greatest number of bytes of a file.
-const LIMIT: u64 = 268_435_456;
+/// The most bytes of a journal's file.
+pub const LIMIT: u64 = 268_435_456;
 
 impl From<Failed> for AppendFault {
     ghost from_gives = { λ _ e. e ≡ DiskFault };

@@ -10,6 +10,7 @@ mod laws;
 mod opening;
 mod packet;
 
+pub use append::LIMIT;
 pub use faults::{AdoptFault, AppendFault, CreateFault};
 pub use journal::Journal;
 pub use laws::{a_crash_leaves_the_bodies, read_in_one_way};

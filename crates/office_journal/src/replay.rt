@@ -13,12 +13,10 @@ use crate::entry_bodies::entry_body;
 use crate::parts::{asked_in, minute_in, record_length};
 use desk_settings::read_settings;
 use hazard_types::{Class, Edition, Minute, Oom, Or, Text};
+use journal_core::LIMIT;
 use office_core::{Office, Prepared, Ready, a_request_has_one_answer, offices_begin_in_agreement};
 use request_json::{Asked, canonical_texts_are_lines};
 use std::alloc::Global;
-
-/// The most bytes of a journal's file.
-const LIMIT: u64 = 268_435_456;
 
 /// An office that was read from bodies, how many entries they had, and how many bytes their records have.
 #[derive(Drop)]

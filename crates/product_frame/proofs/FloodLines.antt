@@ -10,7 +10,7 @@ use Rattle.hazard_types.specs.declared.codes.Status.{Status}
 use Rattle.hazard_types.specs.declared.codes.Status.TheVariants as status
 use Rattle.hazard_types.specs.declared.line.Flood.{Flood}
 use Rattle.hazard_types.specs.Times.{time_text}
-use Rattle.hvtec_string.specs.Letters.{severity_code, status_code}
+use Rattle.hazard_types.specs.Letters.{severity_code, status_code}
 use Rattle.hvtec_string.specs.Columns.{IsHvtec, hvtec_text}
 use Rattle.product_frame.specs.Text.{line_of}
 use Rattle.product_frame.specs.LineRules.{IsOneLine}

@@ -14,7 +14,7 @@ use Rattle.hazard_types.specs.declared.codes.Action.TheVariants as action
 use Rattle.hazard_types.specs.declared.hazard.Sig.{Sig}
 use Rattle.hazard_types.specs.declared.hazard.Sig.TheVariants as sig
 use Rattle.hazard_types.specs.declared.line.Vtec.{Vtec}
-use Rattle.vtec_string.specs.Letters.{class_code, action_code, sig_code}
+use Rattle.hazard_types.specs.Letters.{class_code, action_code, sig_code}
 use Rattle.hazard_types.specs.Digits.{four_digits}
 use Rattle.hazard_types.specs.Times.{time_text}
 use Rattle.vtec_string.specs.Columns.{IsVtec, vtec_text}

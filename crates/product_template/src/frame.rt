@@ -1,13 +1,12 @@
 //! What a reader takes from a product.
 ghost use Rattle.std.specs.Prelude.{◌≡◌, ◌≤◌, ◌++◌, map, IfOk};
-ghost use Rattle.hazard_types.specs.Names.{category_code};
 ghost use Rattle.event_life.specs.Printed.{printed_end};
 ghost use Rattle.product_template.specs.Text.{three_letters, heading_of, identifier_of, pair_of, segment_of, frame_of, block_of};
 
 use crate::names::title_of;
 use desk_clock::{day_stamp, local_line};
 use desk_settings::Settings;
-use hazard_types::{Category, Class, End, List, Minute, Oom, Plan, SegLine, Segment, Text, Vtec};
+use hazard_types::{Class, End, List, Minute, Oom, Plan, SegLine, Segment, Text, Vtec};
 use product_frame::{Block, Frame, FrameSegment, Heading, Pair};
 use segmenter::expiry;
 use std::alloc::Global;
@@ -32,25 +31,10 @@ fn heading_of(settings: &Settings, plan: &Plan, t: Minute) -> Heading
     }
 }
 
-fn category_code(category: Category) -> [u8; 3]
-    ensures { result ≡ category_code category }
-{
-    match category {
-        Category::Wsw => *b"WSW",
-        Category::Npw => *b"NPW",
-        Category::Rfw => *b"RFW",
-        Category::Cfw => *b"CFW",
-        Category::Mww => *b"MWW",
-        Category::Ffa => *b"FFA",
-        Category::Flw => *b"FLW",
-        Category::Fls => *b"FLS",
-    }
-}
-
 fn identifier_of(alloc: Global, settings: &Settings, plan: &Plan) -> Result<Text, Oom>
     ensures { IfOk result (λ text. text ≡ identifier_of settings.now plan.now) }
 {
-    let mut text = Text::from_slice(alloc, &category_code(plan.category))?;
+    let mut text = Text::from_slice(alloc, &plan.category.code())?;
     text.extend(&settings.site)?;
     Ok(text)
 }

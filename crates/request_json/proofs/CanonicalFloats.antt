@@ -23,7 +23,8 @@ use Rattle.hazard_types.specs.declared.request.RoutinePart.{RoutinePart}
 use Rattle.hazard_types.specs.declared.request.Target.{Target}
 use Rattle.hazard_types.specs.declared.request.Target.TheVariants as target
 use Rattle.hazard_types.specs.declared.request.Texts.{Texts}
-use Rattle.request_json.specs.Canonical.{put_text, put_number, severity_code, status_code, put_source, put_times, put_begin, put_end, zone_data, zone_items, texts_data, flood_data, event_texts_data, event_texts_items, put_flood, put_target, put_zones_texts, put_put, put_event_part, put_routine, put_do, put_draft, put_put_do, put_event_do, put_routine_do, put_intent, intent_data, put_request, asked_members}
+use Rattle.hazard_types.specs.Letters.{severity_code, status_code}
+use Rattle.request_json.specs.Canonical.{put_text, put_number, put_source, put_times, put_begin, put_end, zone_data, zone_items, texts_data, flood_data, event_texts_data, event_texts_items, put_flood, put_target, put_zones_texts, put_put, put_event_part, put_routine, put_do, put_draft, put_put_do, put_event_do, put_routine_do, put_intent, intent_data, put_request, asked_members}
 use Rattle.request_json.specs.Replies.{draft_members, intent_items}
 use Rattle.hazard_types.specs.declared.request.Draft.{Draft}
 use Rattle.request_json.specs.declared.asked.Asked.{Asked}

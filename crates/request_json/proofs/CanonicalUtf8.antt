@@ -33,7 +33,7 @@ use Rattle.hazard_types.specs.declared.zone.Kind.{Kind}
 use Rattle.hazard_types.specs.declared.zone.Kind.TheVariants.{C, Z}
 use Rattle.hazard_types.proofs.NamesBack.{wide_four}
 use Rattle.hazard_types.proofs.Years.{civil_ok, day_at_most}
-use Rattle.request_json.specs.Canonical.{severity_code, status_code}
+use Rattle.hazard_types.specs.Letters.{severity_code, status_code}
 use Rattle.request_json.specs.Formed.{IsMinute, IsHazard, IsEvent}
 
 -- ---- stamps and times

@@ -9,14 +9,14 @@ use Rattle.std.proofs.lemmas.Str.{utf8_lossy-IsUtf8}
 use Rattle.serde_json.specs.Data.{Data, number, unsigned, string, object, Members, no_members, put}
 use Rattle.serde_json.specs.Find.{get, as_str, as_number, as_u64, as_object}
 use Rattle.hazard_types.specs.Calendar.{stamp_of, stamp_at, is_civil}
-use Rattle.hazard_types.specs.Characters.{is_location}
+use Rattle.hazard_types.specs.Characters.{location_at, is_location}
 use Rattle.hazard_types.specs.Codes.{value_beside}
 use Rattle.hazard_types.specs.Desks.{is_desk_name}
 use Rattle.hazard_types.specs.Hazards.{hazard_code}
 use Rattle.hazard_types.specs.Names.{zone_text, zone_at, event_text, event_at, hazard_at}
 use Rattle.hazard_types.specs.Places.{Place, IsPlace}
 use Rattle.hazard_types.specs.Tables.{severity_rows, status_rows, cause_rows}
-use Rattle.hazard_types.specs.Times.{time_text}
+use Rattle.hazard_types.specs.Times.{time_at, time_text}
 use Rattle.hazard_types.specs.declared.codes.Severity.{Severity}
 use Rattle.hazard_types.specs.declared.codes.Severity.TheVariants as severity
 use Rattle.hazard_types.specs.declared.codes.Status.{Status}
@@ -32,8 +32,9 @@ use Rattle.hazard_types.specs.declared.request.EventTexts.{EventTexts}
 use Rattle.hazard_types.specs.declared.request.Texts.{Texts}
 use Rattle.hazard_types.proofs.NamesBack.{zone_back, hazard_back, event_back}
 use Rattle.hazard_types.proofs.Stamps.{stamp_spells}
-use Rattle.request_json.specs.Canonical.{as_text, severity_code, status_code, put_source, put_times, zone_data, zone_items, texts_data, flood_data, event_texts_data, event_texts_items}
-use Rattle.request_json.specs.Fields.{begin_at, end_at, desk_named, if_small, if_counted, number_at, zones_of, location_at, time_at, site_in, severity_in, cause_in, time_in, status_in, values_in, flood_of, text_or_empty, free_text, four_texts, texts_of, event_texts_of, each_event_texts}
+use Rattle.hazard_types.specs.Letters.{severity_code, status_code}
+use Rattle.request_json.specs.Canonical.{as_text, put_source, put_times, zone_data, zone_items, texts_data, flood_data, event_texts_data, event_texts_items}
+use Rattle.request_json.specs.Fields.{begin_at, end_at, desk_named, if_small, if_counted, number_at, zones_of, site_in, severity_in, cause_in, time_in, status_in, values_in, flood_of, text_or_empty, free_text, four_texts, texts_of, event_texts_of, each_event_texts}
 use Rattle.request_json.specs.Formed.{IsMinute, IsNumber, IsHazard, IsEvent, AreTexts, AreEventTexts, AreFloodValues, IsBegin, IsEnd}
 use Rattle.request_json.specs.Json.{text_at}
 use Rattle.request_json.specs.Keys.{has_key, all_known}

@@ -5,15 +5,12 @@ use Rattle.serde_json.specs.Data.{Data, number, unsigned, string, array, object,
 use Rattle.serde_json.specs.View.{items_of}
 use Rattle.serde_json.specs.Written.{compact_text}
 use Rattle.hazard_types.specs.Calendar.{stamp_of}
+use Rattle.hazard_types.specs.Letters.{severity_code, status_code}
 use Rattle.hazard_types.specs.Hazards.{hazard_code}
 use Rattle.hazard_types.specs.Names.{category_code, zone_text, event_text}
 use Rattle.hazard_types.specs.Places.{Place}
 use Rattle.hazard_types.specs.Times.{time_text}
 use Rattle.hazard_types.specs.declared.codes.Category.{Category}
-use Rattle.hazard_types.specs.declared.codes.Severity.{Severity}
-use Rattle.hazard_types.specs.declared.codes.Severity.TheVariants as severity
-use Rattle.hazard_types.specs.declared.codes.Status.{Status}
-use Rattle.hazard_types.specs.declared.codes.Status.TheVariants as status
 use Rattle.hazard_types.specs.declared.line.Flood.{Flood}
 use Rattle.hazard_types.specs.declared.period.Begin.{Begin}
 use Rattle.hazard_types.specs.declared.period.Begin.TheVariants as begin
@@ -42,20 +39,6 @@ put_text key bytes ms = put key (as_text bytes) ms
 
 abbrev pub put_number : List ℕ → ℕ → Members → Members
 put_number key n ms = put key (number (unsigned n)) ms
-
-abbrev pub severity_code : Severity → List ℕ
-severity_code severity.N = codes "N"
-severity_code severity.Zero = codes "0"
-severity_code severity.One = codes "1"
-severity_code severity.Two = codes "2"
-severity_code severity.Three = codes "3"
-severity_code severity.U = codes "U"
-
-abbrev pub status_code : Status → List ℕ
-status_code status.No = codes "NO"
-status_code status.Nr = codes "NR"
-status_code status.Uu = codes "UU"
-status_code status.Oo = codes "OO"
 
 abbrev pub put_begin : Begin → Members → Members
 put_begin begin.Now ms = put_text (codes "begin") (codes "now") ms

@@ -4,11 +4,12 @@ use Rattle.std.specs.Str.{bytes_eq}
 use Rattle.serde_json.specs.Data.{Data, Items, no_items, item}
 use Rattle.serde_json.specs.Find.{get, as_str, as_number, as_u64, as_object}
 use Rattle.hazard_types.specs.Calendar.{stamp_at}
-use Rattle.hazard_types.specs.Characters.{is_location}
+use Rattle.hazard_types.specs.Characters.{location_at}
 use Rattle.hazard_types.specs.Codes.{value_beside}
 use Rattle.hazard_types.specs.Desks.{is_desk_name}
 use Rattle.hazard_types.specs.Names.{zone_at, event_at}
 use Rattle.hazard_types.specs.Places.{Place}
+use Rattle.hazard_types.specs.Times.{time_at}
 use Rattle.hazard_types.specs.Tables.{severity_rows, cause_rows, status_rows}
 use Rattle.hazard_types.specs.declared.codes.Severity.{Severity}
 use Rattle.hazard_types.specs.declared.codes.Status.{Status}
@@ -51,13 +52,6 @@ zones_of no_items = Some []
 zones_of (item d ds) = option_and_then (λ z. option_map (λ zs. z ∷ zs) (zones_of ds)) (option_and_then zone_at (as_str d))
 
 -- ---- flood values
-
-abbrev pub location_at : List ℕ → Option (List ℕ)
-location_at text = if is_location text then Some text else None
-
--- the minute of a stamp, or no minute for the zero time
-unfoldable pub time_at : List ℕ → Option (Option ℕ)
-time_at text = if bytes_eq text (codes "000000T0000Z") then Some None else option_map (λ m. Some m) (stamp_at text)
 
 abbrev pub site_in : Data → Option (List ℕ)
 site_in d = option_and_then location_at (text_at (codes "site") d)

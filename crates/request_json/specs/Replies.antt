@@ -9,6 +9,7 @@ use Rattle.hazard_types.specs.Hazards.{hazard_code}
 use Rattle.hazard_types.specs.Names.{category_code, zone_text, event_text}
 use Rattle.hazard_types.specs.Places.{Place}
 use Rattle.hazard_types.specs.declared.hazard.Event.{Event}
+use Rattle.hazard_types.specs.Refusals.{label as refusal_label}
 use Rattle.hazard_types.specs.declared.refusal.Refusal.{Refusal}
 use Rattle.hazard_types.specs.declared.refusal.Refusal.TheVariants as refusal
 use Rattle.hazard_types.specs.declared.request.Draft.{Draft}
@@ -22,57 +23,9 @@ use Rattle.request_json.specs.Canonical.{as_text, put_text, put_number, intent_d
 
 -- ---- refusals
 
--- the code and the name of each refusal
-unfoldable pub label : Refusal → List ℕ × List ℕ
-label refusal.BadHead = (codes "F1", codes "BadHead")
-label refusal.HeadTooLong = (codes "F2", codes "HeadTooLong")
-label refusal.NoRoute = (codes "F3", codes "NoRoute")
-label refusal.WrongMethod = (codes "F4", codes "WrongMethod")
-label refusal.NoLength = (codes "F5", codes "NoLength")
-label refusal.BodyTooLong = (codes "F6", codes "BodyTooLong")
-label refusal.LineTooLong = (codes "J3", codes "LineTooLong")
-label refusal.NotJson = (codes "J1", codes "NotJson")
-label (refusal.WrongShape field) = (codes "J2", codes "WrongShape")
-label refusal.UnknownDesk = (codes "K1", codes "UnknownDesk")
-label (refusal.Reused last) = (codes "K2", codes "Reused")
-label (refusal.Stale last) = (codes "K3", codes "Stale")
-label (refusal.Gap last) = (codes "K4", codes "Gap")
-label (refusal.ClockOut minute) = (codes "C1", codes "ClockOut")
-label refusal.NoDraft = (codes "E1", codes "NoDraft")
-label (refusal.NotOwner owner) = (codes "E2", codes "NotOwner")
-label (refusal.StillActive free_at) = (codes "E3", codes "StillActive")
-label refusal.DraftsFull = (codes "E4", codes "DraftsFull")
-label refusal.IntentsFull = (codes "E5", codes "IntentsFull")
-label (refusal.NoIntent place) = (codes "E6", codes "NoIntent")
-label (refusal.UnknownZone zone) = (codes "E7", codes "UnknownZone")
-label refusal.UnknownHazard = (codes "E8", codes "UnknownHazard")
-label (refusal.WrongZoneKind zone) = (codes "E9", codes "WrongZoneKind")
-label refusal.WrongCategory = (codes "E10", codes "WrongCategory")
-label (refusal.BadText field at) = (codes "E11", codes "BadText")
-label (refusal.TextTooLong field) = (codes "E12", codes "TextTooLong")
-label refusal.BadZoneList = (codes "E13", codes "BadZoneList")
-label refusal.NoProduct = (codes "E14", codes "NoProduct")
-label refusal.EmptyDraft = (codes "L1", codes "EmptyDraft")
-label (refusal.NoEvent event) = (codes "L2", codes "NoEvent")
-label (refusal.NotLive event zone) = (codes "L3", codes "NotLive")
-label (refusal.LeftBefore event zone) = (codes "L4", codes "LeftBefore")
-label (refusal.Twice event zone) = (codes "L5", codes "Twice")
-label (refusal.BadPeriod place) = (codes "L6", codes "BadPeriod")
-label (refusal.BegunMoved event zone) = (codes "L7", codes "BegunMoved")
-label (refusal.NoOpenEnd place) = (codes "L8", codes "NoOpenEnd")
-label (refusal.FloodNeeded place) = (codes "L9", codes "FloodNeeded")
-label (refusal.FloodBarred place) = (codes "L10", codes "FloodBarred")
-label (refusal.SiteMoved event) = (codes "L11", codes "SiteMoved")
-label (refusal.Conflict zone first second) = (codes "L12", codes "Conflict")
-label (refusal.NumberHeld event) = (codes "L13", codes "NumberHeld")
-label (refusal.NumbersSpent hazard) = (codes "L14", codes "NumbersSpent")
-label (refusal.NotLast last) = (codes "L15", codes "NotLast")
-label refusal.NothingToCorrect = (codes "L16", codes "NothingToCorrect")
-label refusal.LettersSpent = (codes "L17", codes "LettersSpent")
-label (refusal.TooManyLines lines) = (codes "L18", codes "TooManyLines")
-label (refusal.TooLong bytes) = (codes "L19", codes "TooLong")
-label refusal.ProductsFull = (codes "L20", codes "ProductsFull")
-label refusal.JournalFull = (codes "L21", codes "JournalFull")
+-- the code and the name of a refusal
+abbrev pub label : Refusal → List ℕ × List ℕ
+label r = ((refusal_label r).0, (refusal_label r).1)
 
 abbrev pub put_zone : Place → Members → Members
 put_zone z ms = put_text (codes "zone") (zone_text z) ms

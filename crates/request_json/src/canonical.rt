@@ -1,42 +1,17 @@
 //! Canonical texts of requests.
 ghost use Rattle.std.specs.Prelude.{◌≡◌, IfOk, OnOk, map, codes};
 ghost use Rattle.serde_json.specs.View.{view, members_view};
-ghost use Rattle.request_json.specs.Canonical.{put_text, severity_code, status_code, put_source, put_times, put_begin, put_end, zone_data, texts_data, flood_data, event_texts_data, put_flood, put_target, put_zones_texts, put_put, put_event_part, put_routine, put_put_do, put_event_do, put_routine_do, put_intent, intent_data, intent_text, put_correct, put_draft_do, put_drop, put_open, put_request, asked_members, asked_text};
+ghost use Rattle.request_json.specs.Canonical.{put_text, put_source, put_times, put_begin, put_end, zone_data, texts_data, flood_data, event_texts_data, put_flood, put_target, put_zones_texts, put_put, put_event_part, put_routine, put_put_do, put_event_do, put_routine_do, put_intent, intent_data, intent_text, put_correct, put_draft_do, put_drop, put_open, put_request, asked_members, asked_text};
 
 use crate::asked::Asked;
 use crate::members::{Members, put, put_number, put_text, text_value, written};
 use crate::refusals::put_event_text;
 use hazard_types::{
     Begin, Category, Desk, End, EventPart, EventTexts, Flood, Intent, List, Oom, PutPart, Request,
-    RoutinePart, Severity, Status, Target, Text, Texts, Zone, hazard_text, stamp, time_text,
-    zone_text,
+    RoutinePart, Target, Text, Texts, Zone, hazard_text, stamp, time_text, zone_text,
 };
 use serde_json::{Map, Value};
 use std::alloc::Global;
-
-fn severity_code(severity: Severity) -> &'static str
-    ensures { result.now ≡ severity_code severity }
-{
-    match severity {
-        Severity::N => "N",
-        Severity::Zero => "0",
-        Severity::One => "1",
-        Severity::Two => "2",
-        Severity::Three => "3",
-        Severity::U => "U",
-    }
-}
-
-fn status_code(status: Status) -> &'static str
-    ensures { result.now ≡ status_code status }
-{
-    match status {
-        Status::No => "NO",
-        Status::Nr => "NR",
-        Status::Uu => "UU",
-        Status::Oo => "OO",
-    }
-}
 
 /// Sets the begin.
 fn put_begin(alloc: Global, members: &mut Members, begin: &Begin) -> Result<(), Oom>
@@ -94,9 +69,9 @@ fn put_source(alloc: Global, members: &mut Members, flood: &Flood) -> Result<(),
     ensures { OnOk result (members_view members.new.entries ≡ put_source flood.now (members_view members.old.entries)) }
 {
     let cause = flood.cause;
-    let severity = severity_code(flood.severity);
+    let severity = [flood.severity.letter()];
     put_site(alloc, members, &flood.site)?;
-    put_text(alloc, members, "severity", severity.as_bytes())?;
+    put_text(alloc, members, "severity", &severity)?;
     put_text(alloc, members, "cause", &cause.letters())
 }
 
@@ -116,8 +91,7 @@ fn flood_value(alloc: Global, flood: &Flood) -> Result<Value, Oom>
     let mut members = Map::new(alloc);
     put_source(alloc, &mut members, flood)?;
     put_times(alloc, &mut members, flood)?;
-    let status = status_code(flood.status);
-    put_text(alloc, &mut members, "status", status.as_bytes())?;
+    put_text(alloc, &mut members, "status", &flood.status.code())?;
     Ok(Value::Object(members))
 }
 

@@ -2,14 +2,15 @@
 ghost use Rattle.std.specs.Prelude.{◌≡◌, option_map, option_and_then, codes, IfOk};
 ghost use Rattle.serde_json.specs.Find.{get, as_array};
 ghost use Rattle.serde_json.specs.View.{view, items_view};
+ghost use Rattle.hazard_types.specs.Characters.{location_at};
+ghost use Rattle.hazard_types.specs.Times.{time_at};
 ghost use Rattle.request_json.specs.Json.{text_at};
-ghost use Rattle.request_json.specs.Fields.{begin_at, end_at, desk_named, if_counted, number_at, zones_of, location_at, time_at, site_in, severity_in, cause_in, time_in, status_in, values_in, flood_of, free_text, four_texts, texts_of, event_texts_of, each_event_texts};
+ghost use Rattle.request_json.specs.Fields.{begin_at, end_at, desk_named, if_counted, number_at, zones_of, site_in, severity_in, cause_in, time_in, status_in, values_in, flood_of, free_text, four_texts, texts_of, event_texts_of, each_event_texts};
 
 use crate::keys::Keys;
 use hazard_types::{
     Begin, Cause, Desk, End, EventTexts, Flood, List, Minute, Oom, Severity, Status, Text, Texts,
-    Zone, are_name_bytes, event_in, find, read_stamp, severities, statuses, written_causes,
-    zone_in,
+    Zone, event_in, find, location_in, read_stamp, written_causes, zone_in,
 };
 use serde_json::Value;
 use std::alloc::Global;
@@ -86,27 +87,14 @@ pub fn zones_at(alloc: Global, value: &Value) -> Result<Option<List<Zone>>, Oom>
 fn location_of(text: &str) -> Option<[u8; 5]>
     ensures { result ≡ location_at text.now }
 {
-    let bytes = text.as_bytes();
-    let [a, b, c, d, e] = bytes else {
-        return None;
-    };
-    if are_name_bytes(bytes) {
-        Some([*a, *b, *c, *d, *e])
-    } else {
-        None
-    }
+    location_in(text.as_bytes())
 }
 
 /// The minute of a stamp, or no minute for the zero time.
-#[tactic(auto, unfolding(crate::specs::Fields::time_at))]
 fn time_of(text: &str) -> Option<Option<Minute>>
     ensures { result ≡ time_at text.now }
 {
-    if text == "000000T0000Z" {
-        return Some(None);
-    }
-    let minute = read_stamp(text.as_bytes())?;
-    Some(Some(minute))
+    hazard_types::time_in(text.as_bytes())
 }
 
 fn site_in(value: &Value) -> Option<[u8; 5]>
@@ -119,7 +107,7 @@ fn severity_in(value: &Value) -> Option<Severity>
     ensures { result ≡ severity_in (view value.now) }
 {
     let text = text_at(value, "severity")?;
-    find(&severities(), text.as_bytes())
+    Severity::at(text.as_bytes())
 }
 
 /// One of the causes that the desk writes.
@@ -140,7 +128,7 @@ fn status_in(value: &Value) -> Option<Status>
     ensures { result ≡ status_in (view value.now) }
 {
     let text = text_at(value, "status")?;
-    find(&statuses(), text.as_bytes())
+    Status::at(text.as_bytes())
 }
 
 #[tactic(auto, unfolding(crate::specs::Fields::values_in))]

@@ -13,65 +13,11 @@ use serde_json::Map;
 use std::alloc::Global;
 
 /// The code and the name of a refusal.
-#[tactic(auto, unfolding(crate::specs::Replies::label))]
 fn label(refusal: &Refusal) -> (&'static str, &'static str)
     ensures { (result.0.now, result.1.now) ≡ label refusal.now }
 {
-    match refusal {
-        Refusal::BadHead => ("F1", "BadHead"),
-        Refusal::HeadTooLong => ("F2", "HeadTooLong"),
-        Refusal::NoRoute => ("F3", "NoRoute"),
-        Refusal::WrongMethod => ("F4", "WrongMethod"),
-        Refusal::NoLength => ("F5", "NoLength"),
-        Refusal::BodyTooLong => ("F6", "BodyTooLong"),
-        Refusal::LineTooLong => ("J3", "LineTooLong"),
-        Refusal::NotJson => ("J1", "NotJson"),
-        Refusal::WrongShape { field: _ } => ("J2", "WrongShape"),
-        Refusal::UnknownDesk => ("K1", "UnknownDesk"),
-        Refusal::Reused { last: _ } => ("K2", "Reused"),
-        Refusal::Stale { last: _ } => ("K3", "Stale"),
-        Refusal::Gap { last: _ } => ("K4", "Gap"),
-        Refusal::ClockOut { minute: _ } => ("C1", "ClockOut"),
-        Refusal::NoDraft => ("E1", "NoDraft"),
-        Refusal::NotOwner { owner: _ } => ("E2", "NotOwner"),
-        Refusal::StillActive { free_at: _ } => ("E3", "StillActive"),
-        Refusal::DraftsFull => ("E4", "DraftsFull"),
-        Refusal::IntentsFull => ("E5", "IntentsFull"),
-        Refusal::NoIntent { place: _ } => ("E6", "NoIntent"),
-        Refusal::UnknownZone { zone: _ } => ("E7", "UnknownZone"),
-        Refusal::UnknownHazard => ("E8", "UnknownHazard"),
-        Refusal::WrongZoneKind { zone: _ } => ("E9", "WrongZoneKind"),
-        Refusal::WrongCategory => ("E10", "WrongCategory"),
-        Refusal::BadText { field: _, at: _ } => ("E11", "BadText"),
-        Refusal::TextTooLong { field: _ } => ("E12", "TextTooLong"),
-        Refusal::BadZoneList => ("E13", "BadZoneList"),
-        Refusal::NoProduct => ("E14", "NoProduct"),
-        Refusal::EmptyDraft => ("L1", "EmptyDraft"),
-        Refusal::NoEvent { event: _ } => ("L2", "NoEvent"),
-        Refusal::NotLive { event: _, zone: _ } => ("L3", "NotLive"),
-        Refusal::LeftBefore { event: _, zone: _ } => ("L4", "LeftBefore"),
-        Refusal::Twice { event: _, zone: _ } => ("L5", "Twice"),
-        Refusal::BadPeriod { place: _ } => ("L6", "BadPeriod"),
-        Refusal::BegunMoved { event: _, zone: _ } => ("L7", "BegunMoved"),
-        Refusal::NoOpenEnd { place: _ } => ("L8", "NoOpenEnd"),
-        Refusal::FloodNeeded { place: _ } => ("L9", "FloodNeeded"),
-        Refusal::FloodBarred { place: _ } => ("L10", "FloodBarred"),
-        Refusal::SiteMoved { event: _ } => ("L11", "SiteMoved"),
-        Refusal::Conflict {
-            zone: _,
-            first: _,
-            second: _,
-        } => ("L12", "Conflict"),
-        Refusal::NumberHeld { event: _ } => ("L13", "NumberHeld"),
-        Refusal::NumbersSpent { hazard: _ } => ("L14", "NumbersSpent"),
-        Refusal::NotLast { last: _ } => ("L15", "NotLast"),
-        Refusal::NothingToCorrect => ("L16", "NothingToCorrect"),
-        Refusal::LettersSpent => ("L17", "LettersSpent"),
-        Refusal::TooManyLines { lines: _ } => ("L18", "TooManyLines"),
-        Refusal::TooLong { bytes: _ } => ("L19", "TooLong"),
-        Refusal::ProductsFull => ("L20", "ProductsFull"),
-        Refusal::JournalFull => ("L21", "JournalFull"),
-    }
+    let (code, name, _status) = refusal.label();
+    (code, name)
 }
 
 /// Sets a member that is an event.

@@ -129,7 +129,10 @@ fn own_of(alloc: Global, before: &Option<Zone>, span: &Span) -> Result<Text, Oom
     Ok(own)
 }
 
-/// Puts a group on the line, or on the next; the answer is the column behind it.
+/// The most columns of a line.
+const WIDTH: usize = 66;
+
+/// Puts a group on the line, or on the next, and returns the column behind it.
 fn put(out: &mut Text, column: usize, own: &[u8]) -> Result<usize, Oom>
     requires column { column ≤ 66 }
     requires short { length own.now ≤ 11 }
@@ -137,7 +140,7 @@ fn put(out: &mut Text, column: usize, own: &[u8]) -> Result<usize, Oom>
     ensures column { IfOk result (λ next. next ≡ put_column column own.now) }
     ensures within { IfOk result (λ next. next ≤ 66) }
 {
-    let passes = column + own.len() > 66;
+    let passes = column + own.len() > WIDTH;
     if passes {
         out.push(b'\n')?;
         out.extend(own)?;

@@ -18,15 +18,15 @@ use Rattle.hazard_types.specs.declared.hazard.Sig.TheVariants as sig
 use Rattle.hazard_types.specs.declared.line.Vtec.{Vtec}
 use Rattle.hazard_types.specs.Codes.{value_beside}
 use Rattle.hazard_types.specs.Tables.{class_rows, action_rows, sig_rows}
-use Rattle.vtec_string.specs.Letters.{class_code, action_code, sig_code}
+use Rattle.hazard_types.specs.Letters.{class_code, action_code, sig_code}
 use Rattle.hazard_types.specs.Characters.{is_office}
 use Rattle.hazard_types.specs.Digits.{four_digits}
-use Rattle.hazard_types.specs.Times.{IsTime, time_text}
+use Rattle.hazard_types.specs.Times.{time_at, IsTime, time_text}
 use Rattle.hazard_types.proofs.TimesRead.{time_is}
-use Rattle.vtec_string.specs.Columns.{AreSeparated, IsVtec, vtec_text, separators, has_columns, office_at, phenomenon_at, number_at, time_at, values, vtec_of}
+use Rattle.vtec_string.specs.Columns.{AreSeparated, IsVtec, vtec_text, separators, has_columns, office_at, phenomenon_at, number_at, values, vtec_of}
 use Rattle.vtec_string.proofs.Lettering.{class_letters, action_letters, sig_letters, class_found, action_found, sig_found}
 use Rattle.vtec_string.proofs.Numbers.{number_back, number_hit}
-use Rattle.vtec_string.proofs.TimeLemmas.{time_back, time_hit, time_twelve}
+use Rattle.hazard_types.proofs.TimeLemmas.{time_back, time_hit, time_twelve}
 
 -- ---- what is written
 

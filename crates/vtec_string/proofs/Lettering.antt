@@ -14,7 +14,7 @@ use Rattle.hazard_types.specs.declared.codes.Action.{Action}
 use Rattle.hazard_types.specs.declared.codes.Action.TheVariants as action
 use Rattle.hazard_types.specs.declared.hazard.Sig.{Sig}
 use Rattle.hazard_types.specs.declared.hazard.Sig.TheVariants as sig
-use Rattle.vtec_string.specs.Letters.{class_code, action_code, sig_code}
+use Rattle.hazard_types.specs.Letters.{class_code, action_code, sig_code}
 
 -- what stands beside letters has these letters, where each row's code is that of its value
 letters_are : {T : Type 0} (code : T → List ℕ) (rows : List (Coded T)) → AllByRecursion (λ (row : Coded T). unfilled row.code ≡ code row.value) rows → (text : List ℕ) (v : T) → value_beside rows text ≡ Some v → text ≡ code v

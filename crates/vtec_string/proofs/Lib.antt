@@ -1,4 +1,3 @@
-pub mod TimeLemmas
 pub mod Numbers
 pub mod Lettering
 pub mod Laying

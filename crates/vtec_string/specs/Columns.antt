@@ -1,10 +1,9 @@
 -- P-VTEC by its columns: /k.aaa.cccc.pp.s.####.yymmddThhnnZ-yymmddThhnnZ/
-use Rattle.std.specs.Prelude.{◌≡◌, ℕ, ◌+◌, ◌-◌, ◌*◌, ◌≤◌, ◌&&◌, ◌==◌, Bool, IsTrue, nat_le, length, List, [], ◌∷◌, ◌++◌, Option, None, Some, slice_index, option_map, codes, bytes_eq, if◌then◌else◌}
+use Rattle.std.specs.Prelude.{◌≡◌, ℕ, ◌+◌, ◌-◌, ◌*◌, ◌≤◌, ◌&&◌, ◌==◌, Bool, IsTrue, nat_le, length, List, [], ◌∷◌, ◌++◌, Option, None, Some, slice_index, codes, bytes_eq, if◌then◌else◌}
 use Rattle.std.specs.List.{slice_range}
-use Rattle.hazard_types.specs.Calendar.{stamp_at}
 use Rattle.hazard_types.specs.Characters.{is_office}
 use Rattle.hazard_types.specs.Digits.{four_digits}
-use Rattle.hazard_types.specs.Times.{IsTime, time_text}
+use Rattle.hazard_types.specs.Times.{IsTime, time_text, time_at}
 use Rattle.hazard_types.specs.Places.{are_letters}
 use Rattle.hazard_types.specs.declared.codes.Class.{Class}
 use Rattle.hazard_types.specs.declared.codes.Action.{Action}
@@ -12,7 +11,7 @@ use Rattle.hazard_types.specs.declared.hazard.Sig.{Sig}
 use Rattle.hazard_types.specs.declared.line.Vtec.{Vtec}
 use Rattle.hazard_types.specs.Codes.{value_beside}
 use Rattle.hazard_types.specs.Tables.{class_rows, action_rows, sig_rows}
-use Rattle.vtec_string.specs.Letters.{class_code, action_code, sig_code}
+use Rattle.hazard_types.specs.Letters.{class_code, action_code, sig_code}
 
 -- what stands before, between and behind the columns
 pub record AreSeparated (bytes : List ℕ) : Type 0 where
@@ -72,10 +71,6 @@ number_in text = 1000 * (slice_index text 0 - 48) + 100 * (slice_index text 1 - 
 -- the same, if they are digits
 unfoldable pub number_at : List ℕ → Option ℕ
 number_at text = if nat_le (number_in text) 9999 && bytes_eq text (four_digits (number_in text)) then Some (number_in text) else None
-
--- the minute of a stamp, or no minute for the zero time
-unfoldable pub time_at : List ℕ → Option (Option ℕ)
-time_at text = if bytes_eq text (codes "000000T0000Z") then Some None else option_map (λ m. Some m) (stamp_at text)
 
 -- the values, where each column has one
 abbrev pub values : Option Class → Option Action → Option (List ℕ) → Option (List ℕ) → Option Sig → Option ℕ → Option (Option ℕ) → Option (Option ℕ) → Option Vtec

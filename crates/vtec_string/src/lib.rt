@@ -2,7 +2,6 @@
 #![tactic(auto)]
 
 mod columns;
-mod letters;
 mod read;
 mod write;
 

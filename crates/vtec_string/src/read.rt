@@ -1,11 +1,12 @@
 //! P-VTEC texts are read.
 ghost use Rattle.std.specs.Prelude.{◌≡◌, ◌&&◌, ◌||◌, ◌==◌, ◌∷◌, [], length, slice_index, codes, bytes_eq, true, Some, IfSome};
 ghost use Rattle.hazard_types.specs.declared.line.Vtec.{Vtec as Values};
-ghost use Rattle.vtec_string.specs.Columns.{separators, has_columns, office_at, phenomenon_at, number_at, time_at, values, vtec_of, IsVtec};
+ghost use Rattle.vtec_string.specs.Columns.{separators, has_columns, office_at, phenomenon_at, number_at, values, vtec_of, IsVtec};
 
 use crate::columns::{ACTION, BEGIN, CLASS, END, LENGTH, NUMBER, OFFICE, PHENOMENON, SIGNIFICANCE};
-use crate::letters::{action_of, class_of, sig_of};
-use hazard_types::{Action, Class, Hazard, Minute, Phen, Sig, Vtec, are_name_bytes, time_in};
+use hazard_types::{
+    Action, Class, Hazard, Minute, Phen, Sig, Vtec, are_name_bytes, significance_in, time_in,
+};
 
 /// The office of four characters; None where they are none.
 fn office_of(text: &[u8]) -> Option<[u8; 4]>
@@ -44,14 +45,6 @@ fn number_of(text: &[u8]) -> Option<u16>
     } else {
         None
     }
-}
-
-/// The minute of a stamp, or no minute for the zero time; None where the text is neither.
-#[tactic(auto, using(crate::proofs::TimeLemmas::time_is_at))]
-fn time_of(text: &[u8]) -> Option<Option<Minute>>
-    ensures { result ≡ time_at text.now }
-{
-    time_in(text)
 }
 
 /// Whether length and separators are those of a P-VTEC text.
@@ -105,14 +98,14 @@ fn values_of(bytes: &[u8]) -> Option<Vtec>
         return None;
     }
     values(
-        class_of(&bytes[CLASS..CLASS + 1]),
-        action_of(&bytes[ACTION]),
+        Class::at(&bytes[CLASS..CLASS + 1]),
+        Action::at(&bytes[ACTION]),
         office_of(&bytes[OFFICE]),
         phenomenon_of(&bytes[PHENOMENON]),
-        sig_of(&bytes[SIGNIFICANCE..SIGNIFICANCE + 1]),
+        significance_in(&bytes[SIGNIFICANCE..SIGNIFICANCE + 1]),
         number_of(&bytes[NUMBER]),
-        time_of(&bytes[BEGIN]),
-        time_of(&bytes[END]),
+        time_in(&bytes[BEGIN]),
+        time_in(&bytes[END]),
     )
 }
 

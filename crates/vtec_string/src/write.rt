@@ -6,7 +6,6 @@ ghost use Rattle.hazard_types.specs.Times.{IsTime, time_text};
 ghost use Rattle.vtec_string.specs.Columns.{vtec_text, IsVtec};
 
 use crate::columns::{ACTION, BEGIN, CLASS, END, LENGTH, NUMBER, OFFICE, PHENOMENON, SIGNIFICANCE};
-use crate::letters::{action_code, class_code, sig_code};
 use hazard_types::{Phen, Vtec, four_digits, time_text};
 
 /// The letters of a phenomenon.
@@ -31,11 +30,11 @@ fn filled(v: &Vtec) -> [u8; LENGTH]
     text[END].copy_from_slice(&time_text(v.end));
     text[BEGIN].copy_from_slice(&time_text(v.begin));
     text[NUMBER].copy_from_slice(&four_digits(v.etn));
-    text[SIGNIFICANCE] = sig_code(v.hazard.sig);
+    text[SIGNIFICANCE] = v.hazard.sig.letter();
     text[PHENOMENON].copy_from_slice(&letters_of(v.hazard.phen));
     text[OFFICE].copy_from_slice(&v.office);
-    text[ACTION].copy_from_slice(&action_code(v.action));
-    text[CLASS] = class_code(v.class);
+    text[ACTION].copy_from_slice(&v.action.code());
+    text[CLASS] = v.class.letter();
     text
 }
 

@@ -7,3 +7,4 @@ pub mod Streams
 pub mod Paths
 pub mod Targets
 pub mod Short
+pub mod Statuses

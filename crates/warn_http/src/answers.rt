@@ -1,8 +1,8 @@
 //! Answers, as bytes.
-ghost use Rattle.std.specs.Prelude.{◌≡◌, ◌++◌, IsTrue, IfOk, OnOk, decimal};
+ghost use Rattle.std.specs.Prelude.{◌≡◌, ◌++◌, IsTrue, IfOk, OnOk};
 ghost use Rattle.warn_http.specs.Answers.{is_status, status_of, phrase_of, closing, status_line, type_line, length_line, answer_text};
 
-use hazard_types::{List, Oom, Refusal, Text};
+use hazard_types::{List, Oom, Refusal, Text, put_number};
 use http::StatusCode;
 use std::alloc::Global;
 
@@ -25,58 +25,13 @@ pub fn is_status(status: u16) -> bool
 }
 
 /// The status of a refusal.
-#[tactic(auto, unfolding(crate::specs::Answers::is_status))]
+#[tactic(auto, using(crate::proofs::Statuses::refusals_have_statuses))]
 pub fn refusal_status(refusal: &Refusal) -> u16
     ensures value { result ≡ status_of refusal.now }
     ensures known { IsTrue (is_status result) }
 {
-    match refusal {
-        Refusal::BadHead | Refusal::NotJson => 400,
-        Refusal::UnknownDesk => 403,
-        Refusal::NoRoute | Refusal::NoDraft | Refusal::NoProduct => 404,
-        Refusal::WrongMethod => 405,
-        Refusal::NoLength => 411,
-        Refusal::BodyTooLong | Refusal::LineTooLong => 413,
-        Refusal::HeadTooLong => 431,
-        Refusal::Reused { .. }
-        | Refusal::Stale { .. }
-        | Refusal::Gap { .. }
-        | Refusal::NotOwner { .. }
-        | Refusal::StillActive { .. }
-        | Refusal::DraftsFull
-        | Refusal::IntentsFull
-        | Refusal::NoEvent { .. }
-        | Refusal::NotLive { .. }
-        | Refusal::LeftBefore { .. }
-        | Refusal::BegunMoved { .. }
-        | Refusal::SiteMoved { .. }
-        | Refusal::Conflict { .. }
-        | Refusal::NumberHeld { .. }
-        | Refusal::NumbersSpent { .. }
-        | Refusal::NotLast { .. }
-        | Refusal::NothingToCorrect
-        | Refusal::LettersSpent
-        | Refusal::ProductsFull
-        | Refusal::JournalFull => 409,
-        Refusal::WrongShape { .. }
-        | Refusal::ClockOut { .. }
-        | Refusal::NoIntent { .. }
-        | Refusal::UnknownZone { .. }
-        | Refusal::UnknownHazard
-        | Refusal::WrongZoneKind { .. }
-        | Refusal::WrongCategory
-        | Refusal::BadText { .. }
-        | Refusal::TextTooLong { .. }
-        | Refusal::BadZoneList
-        | Refusal::EmptyDraft
-        | Refusal::Twice { .. }
-        | Refusal::BadPeriod { .. }
-        | Refusal::NoOpenEnd { .. }
-        | Refusal::FloodNeeded { .. }
-        | Refusal::FloodBarred { .. }
-        | Refusal::TooManyLines { .. }
-        | Refusal::TooLong { .. } => 422,
-    }
+    let (_code, _name, status) = refusal.label();
+    status
 }
 
 /// The phrase that http gives to a status of the desk.
@@ -92,13 +47,6 @@ fn phrase_of(status: u16) -> &'static str
         },
         Err(_) => unreachable!(),
     }
-}
-
-fn put_number(alloc: Global, out: &mut Text, number: usize) -> Result<(), Oom>
-    ensures { OnOk result (out.new ≡ out.old ++ decimal number) }
-{
-    let digits = format!(in alloc; "{number}")?;
-    out.extend(digits.as_bytes())
 }
 
 fn put_status(alloc: Global, out: &mut Text, status: u16) -> Result<(), Oom>

@@ -5,13 +5,12 @@ use Rattle.hazard_types.specs.declared.hazard.Hazard.{Hazard}
 use Rattle.hazard_types.proofs.DeskRows.{named, name_stands, name_absent}
 use Rattle.hazard_types.proofs.desk_hazards.name_of.Goals as goal
 
-pub returns-clause-value : goal.returns-clause-value
-unfolding name_of
-returns-clause-value c = ap option_copied c.beside.ensures ∙ named c.all_names.result c.args.h ∙ ap (λ (rows : List (Hazard × List ℕ)). beside rows c.args.h) c.all_names.ensures
-
 given : (c : goal.After-beside) → option_copied c.beside.result ≡ name_of c.args.h
 unfolding name_of
-given c = ap option_copied c.beside.ensures ∙ named c.all_names.result c.args.h ∙ ap (λ (rows : List (Hazard × List ℕ)). beside rows c.args.h) c.all_names.ensures
+given c = ap option_copied c.beside.ensures ∙ named c.all_names.result.now c.args.h ∙ ap (λ (rows : List (Hazard × List ℕ)). beside rows c.args.h) c.all_names.ensures
+
+pub returns-clause-value : goal.returns-clause-value
+returns-clause-value c = given c
 
 pub returns-clause-stands : goal.returns-clause-stands
 returns-clause-stands c = name_stands c.args.h c.beside.result (given c)

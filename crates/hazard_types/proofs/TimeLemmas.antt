@@ -5,8 +5,7 @@ use Rattle.std.proofs.lemmas.Bool.{cases_Bool}
 use Rattle.std.proofs.lemmas.Slice.Eq.{bytes_eq-Decides}
 use Rattle.hazard_types.specs.Calendar.{is_civil, stamp_of, stamp_at}
 use Rattle.hazard_types.proofs.Stamps.{spells_exactly}
-use Rattle.hazard_types.specs.Times.{IsTime, time_text}
-use Rattle.vtec_string.specs.Columns.{time_at}
+use Rattle.hazard_types.specs.Times.{IsTime, time_text, time_at}
 
 zero_time_is_none : stamp_at (codes "000000T0000Z") ≡ None
 unfolding stamp_at is_civil

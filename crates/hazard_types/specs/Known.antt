@@ -1,0 +1,14 @@
+-- Rows of what is known of hazards, by the letters of their phenomenon and their significance.
+use Rattle.std.specs.Prelude.{List, [], ◌∷◌, Option, Some, None, if◌then◌else◌}
+use Rattle.hazard_types.specs.Same.{same_hazard}
+use Rattle.hazard_types.specs.declared.hazard.Hazard.{Hazard}
+use Rattle.hazard_types.specs.declared.desk_hazards.Known.{Known}
+
+-- the hazard of a row
+abbrev pub hazard_in : {X : Type 0} → Known X → Hazard
+hazard_in row = record { phen = row.letters; sig = row.sig }
+
+-- what stands in the first row of a hazard
+abbrev pub told_beside : {X : Type 0} → List (Known X) → Hazard → Option X
+told_beside [] h = None
+told_beside (row ∷ rows) h = if same_hazard (hazard_in row) h then Some row.value else told_beside rows h

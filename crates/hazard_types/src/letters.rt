@@ -1,0 +1,122 @@
+//! Letters: pairs of them in order, and those of classes, actions, significances, severities and statuses, both ways.
+ghost use Rattle.std.specs.Prelude.{◌≡◌, ◌∷◌, []};
+ghost use Rattle.std.specs.Cmp.Lexicographic.{slice_cmp};
+ghost use Rattle.std.specs.Ordering.{nat_cmp};
+ghost use Rattle.hazard_types.specs.Codes.{value_beside};
+ghost use Rattle.hazard_types.specs.Letters.{class_code, action_code, severity_code, status_code};
+ghost use Rattle.hazard_types.specs.Tables.{class_rows, action_rows, sig_rows, severity_rows, status_rows};
+
+use crate::code_tables::{actions, classes, severities, significances, statuses};
+use crate::codes::{Action, Class, Severity, Status};
+use crate::hazard::Sig;
+use crate::table::find;
+use std::cmp::Ordering;
+
+/// How two pairs of letters stand in order. It stops at the first letter that differs.
+pub(crate) fn letters_in_order(a: [u8; 2], b: [u8; 2]) -> Ordering
+    ensures { result ≡ slice_cmp nat_cmp a b }
+{
+    match a[0].cmp(&b[0]) {
+        Ordering::Equal => a[1].cmp(&b[1]),
+        order => order,
+    }
+}
+
+impl Class {
+    /// The letter of a class.
+    pub fn letter(self) -> u8
+        ensures { result ∷ [] ≡ class_code self }
+    {
+        match self {
+            Class::O => b'O',
+            Class::T => b'T',
+            Class::E => b'E',
+            Class::X => b'X',
+        }
+    }
+
+    /// The class of a letter. None exactly where no class has it.
+    pub fn at(text: &[u8]) -> Option<Self>
+        ensures { result ≡ value_beside class_rows text.now }
+    {
+        find(&classes(), text)
+    }
+}
+
+impl Action {
+    /// The three letters of an action.
+    pub fn code(self) -> [u8; 3]
+        ensures { result ≡ action_code self }
+    {
+        match self {
+            Action::New => *b"NEW",
+            Action::Con => *b"CON",
+            Action::Exa => *b"EXA",
+            Action::Ext => *b"EXT",
+            Action::Exb => *b"EXB",
+            Action::Upg => *b"UPG",
+            Action::Can => *b"CAN",
+            Action::Exp => *b"EXP",
+            Action::Cor => *b"COR",
+            Action::Rou => *b"ROU",
+        }
+    }
+
+    /// The action of three letters. None exactly where no action has them.
+    pub fn at(text: &[u8]) -> Option<Self>
+        ensures { result ≡ value_beside action_rows text.now }
+    {
+        find(&actions(), text)
+    }
+}
+
+impl Severity {
+    /// The character of a severity.
+    pub fn letter(self) -> u8
+        ensures { result ∷ [] ≡ severity_code self }
+    {
+        match self {
+            Severity::N => b'N',
+            Severity::Zero => b'0',
+            Severity::One => b'1',
+            Severity::Two => b'2',
+            Severity::Three => b'3',
+            Severity::U => b'U',
+        }
+    }
+
+    /// The severity of a character. None exactly where no severity has it.
+    pub fn at(text: &[u8]) -> Option<Self>
+        ensures { result ≡ value_beside severity_rows text.now }
+    {
+        find(&severities(), text)
+    }
+}
+
+impl Status {
+    /// The two letters of a status.
+    pub fn code(self) -> [u8; 2]
+        ensures { result ≡ status_code self }
+    {
+        match self {
+            Status::No => *b"NO",
+            Status::Nr => *b"NR",
+            Status::Uu => *b"UU",
+            Status::Oo => *b"OO",
+        }
+    }
+
+    /// The status of two letters. None exactly where no status has them.
+    pub fn at(text: &[u8]) -> Option<Self>
+        ensures { result ≡ value_beside status_rows text.now }
+    {
+        find(&statuses(), text)
+    }
+}
+
+/// The significance of a letter. None exactly where no significance has it.
+pub fn significance_in(text: &[u8]) -> Option<Sig>
+    ensures { result ≡ value_beside sig_rows text.now }
+{
+    find(&significances(), text)
+}
