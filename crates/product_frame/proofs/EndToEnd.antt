@@ -1,10 +1,10 @@
 -- Texts of one product each, laid end to end, are split apart again.
-use Rattle.std.proofs.Common.{◌≡◌, ℕ, ◌+◌, ◌==◌, Bool, true, false, List, [], ◌∷◌, ◌++◌, length, drop, map, refl, ap, sym, ◌∙◌, subst, cond, arith, inl, inr, append-nil, length-append, add-zero, drop-drop}
+use Rattle.std.proofs.Common.{◌≡◌, ℕ, ◌+◌, ◌==◌, Bool, true, false, List, [], ◌∷◌, ◌++◌, length, drop, map, refl, ap, sym, ◌∙◌, subst, cond, arith, inl, inr, length-append, add-zero}
 use Rattle.std.specs.Prelude.{is_some}
 use Rattle.std.specs.List.{All, AllByRecursion, concat}
 use Rattle.std.proofs.lemmas.Bool.{cases_Bool}
 use Rattle.hazard_types.specs.declared.line.Span.{Span}
-use Rattle.product_frame.specs.Text.{starts, starts_from, line_of, before}
+use Rattle.product_frame.specs.Text.{starts_from, line_of, before}
 use Rattle.product_frame.specs.Parts.{heading_of}
 use Rattle.product_frame.specs.Frames.{line_at}
 use Rattle.product_frame.specs.LineRules.{ends_behind}

@@ -1,4 +1,6 @@
-pub mod Ends
+pub mod LineEnds
+pub mod LineFronts
+pub mod HeadingPlaces
 pub mod Events
 pub mod Nearness
 pub mod Segments

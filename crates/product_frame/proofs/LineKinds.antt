@@ -2,7 +2,6 @@
 use Rattle.std.proofs.Common.{◌≡◌, ℕ, zero, suc, ◌-◌, ◌≤◌, ◌==◌, ◌&&◌, ◌||◌, Bool, true, false, List, [], ◌∷◌, length, take, get_or, refl, arith, inl, inr, None}
 use Rattle.std.specs.Prelude.{slice_index, nat_le, is_some}
 use Rattle.std.specs.List.{AllByRecursion, position_or_len}
-use Rattle.std.specs.Char.{is_ascii_digit}
 use Rattle.std.proofs.lemmas.Bool.{cases_Bool, and_left, lt-leb, ne_eqb}
 use Rattle.hazard_types.specs.Calendar.{is_digit}
 use Rattle.hazard_types.specs.Places.{is_capital}
@@ -56,7 +55,7 @@ blank_at t k h = all_at is_blank refl t k h
 pub digit_no_capital : (c : ℕ) → c ≤ 57 → is_capital c ≡ false
 digit_no_capital c h = and_left _ _ (lt-leb 65 c (omega arith))
 
-no_front : (line : List ℕ) → is_front line ≡ false → heading_of line ≡ None
+pub no_front : (line : List ℕ) → is_front line ≡ false → heading_of line ≡ None
 unfolding heading_of heading_by
 no_front line h = elim (cases_Bool (length line == 18)) [
   | inl a ↦ rw (a, h) refl
@@ -111,31 +110,37 @@ all_take P zero t h = tt
 all_take P (suc n) [] h = tt
 all_take P (suc n) (c ∷ t) h = (h.0, all_take P n t h.1)
 
-number_none : (w : List ℕ) → HasNoDigit w → number_of w ≡ None
+-- a word whose first byte is no digit
+
+first_taken : (n : ℕ) (w : List ℕ) → is_digit (slice_index w 0) ≡ false → is_digit (slice_index (take n w) 0) ≡ false
+first_taken zero w h = refl
+first_taken (suc n) [] h = h
+first_taken (suc n) (c ∷ w) h = h
+
+number_none : (w : List ℕ) → is_digit (slice_index w 0) ≡ false → number_of w ≡ None
 unfolding number_of
 number_none w h =
-    let a : is_ascii_digit (slice_index w 0) ≡ false = digit_at w 0 h in
     elim (cases_Bool (length w == 1)) [
-      | inl e ↦ rw (e, a) refl
-      | inr e ↦ rw e (elim (cases_Bool (length w == 2)) [ inl f ↦ rw (f, a) refl | inr f ↦ rw f refl ])
+      | inl e ↦ rw (e, h) refl
+      | inr e ↦ rw e (elim (cases_Bool (length w == 2)) [ inl f ↦ rw (f, h) refl | inr f ↦ rw f refl ])
     ]
 
-time_none : (clock half : List ℕ) → HasNoDigit clock → time_said clock half ≡ None
+time_none : (clock half : List ℕ) → is_digit (slice_index clock 0) ≡ false → time_said clock half ≡ None
 unfolding time_said
-time_none clock half h = rw (number_none (take (length clock - 2) clock) (all_take (λ c. is_digit c ≡ false) (length clock - 2) clock h)) refl
+time_none clock half h = rw (number_none (take (length clock - 2) clock) (first_taken (length clock - 2) clock h)) refl
 
-said_none : (clock half letters weekday month day year : List ℕ) → HasNoDigit clock → words_say clock half letters weekday month day year ≡ None
+said_none : (clock half letters weekday month day year : List ℕ) → is_digit (slice_index clock 0) ≡ false → words_say clock half letters weekday month day year ≡ None
 unfolding words_say
 said_none clock half letters weekday month day year h =
     elim (cases_Bool (are_letters letters && is_some (place_of weekday_names weekday))) [ inl e ↦ rw (e, time_none clock half h) refl | inr e ↦ rw e refl ]
 
-written_none : (b : List ℕ) → HasNoDigit b → written_in b ≡ None
+written_none : (b : List ℕ) → is_digit (slice_index b 0) ≡ false → written_in b ≡ None
 unfolding written_in
-written_none b h = said_none (first_word b) _ _ _ _ _ _ (all_take (λ c. is_digit c ≡ false) (position_or_len is_word_blank b) b h)
+written_none b h = said_none (first_word b) _ _ _ _ _ _ (first_taken (position_or_len is_word_blank b) b h)
 
-read_none : (b : List ℕ) → HasNoDigit b → local_at b ≡ None
+pub no_local_first : (b : List ℕ) → is_digit (slice_index b 0) ≡ false → local_at b ≡ None
 unfolding local_at read_of
-read_none b h = rw (written_none b h) refl
+no_local_first b h = rw (written_none b h) refl
 
 pub no_digit_no_local : (t : List ℕ) → HasNoDigit t → local_at (line_of t) ≡ None
-no_digit_no_local t h = read_none (line_of t) (all_line (λ c. is_digit c ≡ false) t h)
+no_digit_no_local t h = no_local_first (line_of t) (digit_at (line_of t) 0 (all_line (λ c. is_digit c ≡ false) t h))

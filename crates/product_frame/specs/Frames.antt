@@ -19,6 +19,11 @@ abbrev pub heading_index : List ℕ → ℕ → List ℕ → Option ℕ
 heading_index bytes k [] = None
 heading_index bytes k (s ∷ places) = if is_some (heading_of (line_at bytes s)) then Some k else heading_index bytes (k + 1) places
 
+-- where it begins
+abbrev pub first_heading : List ℕ → List ℕ → Option ℕ
+first_heading bytes [] = None
+first_heading bytes (s ∷ places) = if is_some (heading_of (line_at bytes s)) then Some s else first_heading bytes places
+
 -- which is the first line that is not empty
 abbrev pub full_index : List ℕ → ℕ → List ℕ → Option ℕ
 full_index bytes k [] = None

@@ -1,5 +1,5 @@
 -- What single lines say.
-use Rattle.std.specs.Prelude.{ℕ, ◌+◌, ◌==◌, ◌&&◌, ◌||◌, Bool, nat_le, List, [], ◌∷◌, length, slice_index, slice_range, drop, Option, Some, None, Result, Ok, Err, if◌then◌else◌, option_map}
+use Rattle.std.specs.Prelude.{ℕ, ◌+◌, ◌==◌, ◌&&◌, ◌||◌, Bool, false, nat_le, List, [], ◌∷◌, length, slice_index, slice_range, drop, Option, Some, None, Result, Ok, Err, if◌then◌else◌, option_map}
 use Rattle.std.specs.List.{list_all}
 use Rattle.desk_clock.specs.LocalForm.{read_of}
 use Rattle.desk_clock.specs.declared.reading.LocalFault.{LocalFault}
@@ -30,6 +30,10 @@ heading_with b bbb d = record { ttaaii = slice_index b 0 ∷ slice_index b 1 ∷
 abbrev pub is_front : List ℕ → Bool
 is_front line = is_ttaaii line && is_blank (slice_index line 6) && has_office line && is_blank (slice_index line 11)
 
+-- as many bytes as stand before the day stamp, and of that form
+abbrev pub may_be_heading : List ℕ → Bool
+may_be_heading rest = nat_le 12 (length rest) && is_front rest
+
 -- WWUS41 KLWX 031530
 unfoldable pub heading_by : List ℕ → Option (List ℕ) → Option Heading
 heading_by line bbb = if is_front line then option_map (heading_with line bbb) (day_stamp_in (slice_range line 12 18)) else None
@@ -54,6 +58,16 @@ has_slash line = nat_le 1 (length line) && (slice_index line 0 == 47)
 
 abbrev pub is_end : List ℕ → Bool
 is_end line = (length line == 2) && (slice_index line 0 == 36) && (slice_index line 1 == 36)
+
+-- the first byte is this one
+abbrev pub begins_by : ℕ → List ℕ → Bool
+begins_by c [] = false
+begins_by c (d ∷ bytes) = d == c
+
+-- the first byte is a digit
+abbrev pub begins_by_digit : List ℕ → Bool
+begins_by_digit [] = false
+begins_by_digit (c ∷ bytes) = is_digit c
 
 -- the minute that was read, if one was
 abbrev pub minute_read : Result ℕ LocalFault → Option ℕ

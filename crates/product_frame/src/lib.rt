@@ -9,6 +9,7 @@ mod walk;
 mod write;
 
 pub use frame::{Frame, FrameFault, FrameSegment, Heading, Pair};
-pub use read::{frame_or_fault, read_frame};
-pub use split::{is_heading, split_products, texts_are_split_apart};
+pub use read::{frame_or_fault, is_heading, read_frame};
+pub use split::{split_products, texts_are_split_apart};
+pub use text::next_start;
 pub use write::{Block, Body, frame_text};

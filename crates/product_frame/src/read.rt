@@ -1,19 +1,19 @@
 //! Frames are read.
-ghost use Rattle.std.specs.Prelude.{◌≡◌, ◌⊎◌, ℕ, List as Seq, ◌≤◌, ◌<◌, ◌^◌, ◌+◌, length, [], ◌∷◌, drop, IfOk, IfSome, take};
+ghost use Rattle.std.specs.Prelude.{◌≡◌, ◌⊎◌, ℕ, List as Seq, ◌≤◌, ◌<◌, ◌^◌, ◌+◌, length, [], ◌∷◌, drop, IfOk, IfSome, is_some, take};
 ghost use Rattle.std.specs.List.{All};
 ghost use Rattle.hazard_types.specs.Given.{Gives};
-ghost use Rattle.product_frame.specs.Text.{starts, starts_from};
-ghost use Rattle.product_frame.specs.Parts.{is_front, is_bbb, heading_by, heading_of, is_identifier, local_at};
+ghost use Rattle.product_frame.specs.Text.{starts, starts_from, line_of};
+ghost use Rattle.product_frame.specs.Parts.{is_front, may_be_heading, is_bbb, heading_by, heading_of, is_identifier, begins_by_digit, local_at};
 ghost use Rattle.product_frame.specs.Nearness.{is_near};
 ghost use Rattle.std.specs.Prelude.{Ok};
 ghost use Rattle.product_frame.specs.Frame.{FrameOf};
 ghost use Rattle.product_frame.specs.declared.frame.Frame.{Frame as FrameValue};
 ghost use Rattle.product_frame.specs.declared.frame.FrameFault.{FrameFault as FaultValue};
 ghost use Rattle.product_frame.specs.Faults.{FrameFaultOf};
-ghost use Rattle.product_frame.specs.Frames.{heading_index, full_index, issue_in, end_by, product_in, behind, named, frame_in, frame_from, frame_of};
+ghost use Rattle.product_frame.specs.Frames.{line_at, heading_index, first_heading, full_index, issue_in, end_by, product_in, behind, named, frame_in, frame_from, frame_of};
 
 use crate::frame::{Frame, FrameFault, Heading};
-use crate::text::{line_of, starts};
+use crate::text::{later_starts, line_of, next_start};
 use crate::walk::walk_lines;
 use desk_clock::{near, read_local_line};
 use hazard_types::{
@@ -81,6 +81,24 @@ pub fn heading_of(line: &[u8]) -> Option<Heading>
     None
 }
 
+/// Whether these bytes begin as a heading line does.
+fn may_be_heading(rest: &[u8]) -> bool
+    ensures { result ≡ may_be_heading rest.now }
+{
+    rest.len() >= 12 && is_front(rest)
+}
+
+/// Whether the first line of these bytes is a heading line.
+#[tactic(auto, using(crate::proofs::LineFronts::no_heading))]
+pub fn is_heading(bytes: &[u8]) -> bool
+    ensures { result ≡ is_some (heading_of (line_of bytes.now)) }
+{
+    if !may_be_heading(bytes) {
+        return false;
+    }
+    heading_of(line_of(bytes)).is_some()
+}
+
 fn is_identifier(line: &[u8]) -> bool
     ensures { result ≡ is_identifier line.now }
 {
@@ -98,6 +116,26 @@ fn local_at(line: &[u8]) -> Option<Minute>
     }
 }
 
+fn begins_by_digit(rest: &[u8]) -> bool
+    ensures { result ≡ begins_by_digit rest.now }
+{
+    match rest {
+        [first, ..] => first.is_ascii_digit(),
+        [] => false,
+    }
+}
+
+/// The minute that the first line of these bytes reads as, if it is a local line.
+#[tactic(auto, using(crate::proofs::LineFronts::no_local))]
+fn issue_at(rest: &[u8]) -> Option<Minute>
+    ensures { result ≡ local_at (line_of rest.now) }
+{
+    if !begins_by_digit(rest) {
+        return None;
+    }
+    local_at(line_of(rest))
+}
+
 /// Whether some minute within 720 of the issue, either side, has the day stamp.
 fn is_near(issue: Minute, day: DayStamp) -> bool
     ensures { result ≡ is_near issue day }
@@ -105,19 +143,38 @@ fn is_near(issue: Minute, day: DayStamp) -> bool
     near(issue, day)
 }
 
-/// Which is the first heading line.
-fn heading_index(bytes: &[u8], places: &[usize]) -> Option<usize>
-    requires { All (λ start. start ≤ length bytes.now) places.now }
-    ensures value { result ≡ heading_index bytes.now 0 places.now }
-    ensures within { IfSome result (λ k. k < length places.now) }
+/// Whether the line that begins at a place is a heading line.
+fn is_heading_at(bytes: &[u8], at: usize) -> bool
+    requires { at ≤ length bytes.now }
+    ensures { result ≡ is_some (heading_of (line_at bytes.now at)) }
 {
-    for (k, start) in places.iter().enumerate() {
-        let heading = heading_of(line_of(&bytes[*start..]));
-        if heading.is_some() {
-            return Some(k);
+    is_heading(&bytes[at..])
+}
+
+/// Where the first heading line begins behind the first line.
+fn later_heading(bytes: &[u8]) -> Option<usize>
+    ensures value { result ≡ first_heading bytes.now (starts_from 0 bytes.now) }
+    ensures within { IfSome result (λ at. at ≤ length bytes.now) }
+{
+    let mut at = 0;
+    while let Some(next) = next_start(bytes, at) {
+        if is_heading_at(bytes, next) {
+            return Some(next);
         }
+        at = next;
     }
     None
+}
+
+/// Where the first heading line begins.
+fn first_heading(bytes: &[u8]) -> Option<usize>
+    ensures value { result ≡ first_heading bytes.now (starts bytes.now) }
+    ensures within { IfSome result (λ at. at ≤ length bytes.now) }
+{
+    if is_heading(bytes) {
+        return Some(0);
+    }
+    later_heading(bytes)
 }
 
 /// Which is the first line that is not empty.
@@ -140,7 +197,7 @@ fn issue_in(bytes: &[u8], places: &[usize]) -> Option<Minute>
     ensures value { result ≡ issue_in bytes.now places.now }
 {
     for start in places {
-        let issue = local_at(line_of(&bytes[*start..]));
+        let issue = issue_at(&bytes[*start..]);
         if issue.is_some() {
             return issue;
         }
@@ -148,30 +205,15 @@ fn issue_in(bytes: &[u8], places: &[usize]) -> Option<Minute>
     None
 }
 
-/// Where the lines behind the first begin.
-fn later_starts(alloc: Global, bytes: &[u8]) -> Result<List<usize>, Oom>
-    ensures value { IfOk result (λ list. list ≡ starts_from 0 bytes.now) }
-    ensures within { IfOk result (λ list. All (λ start. start ≤ length bytes.now) list) }
-{
-    let mut list = List::new(alloc);
-    for (at, c) in bytes.iter().enumerate() {
-        if *c == b'\n' {
-            list.push(at + 1)?;
-        }
-    }
-    Ok(list)
-}
-
 /// Where the product ends whose heading the bytes begin with.
-fn end_of(alloc: Global, rest: &[u8]) -> Result<usize, Oom>
-    ensures value { IfOk result (λ end. end ≡ end_by rest.now (heading_index rest.now 0 (starts_from 0 rest.now))) }
-    ensures within { IfOk result (λ end. end ≤ length rest.now) }
+#[tactic(auto, using(crate::proofs::HeadingPlaces::end_is))]
+fn end_of(rest: &[u8]) -> usize
+    ensures value { result ≡ end_by rest.now (heading_index rest.now 0 (starts_from 0 rest.now)) }
+    ensures within { result ≤ length rest.now }
 {
-    let places = later_starts(alloc, rest)?;
-    let places = places.as_slice();
-    match heading_index(rest, places) {
-        Some(k) => Ok(places[k]),
-        None => Ok(rest.len()),
+    match later_heading(rest) {
+        Some(at) => at,
+        None => rest.len(),
     }
 }
 
@@ -233,21 +275,17 @@ fn frame_from(alloc: Global, rest: &[u8]) -> Result<Frame, Or<FrameFault>>
     let Some(heading) = heading_of(line_of(rest)) else {
         return Err(Or::No(FrameFault::NoHeading));
     };
-    let end = end_of(alloc, rest)?;
-    frame_in(alloc, &rest[..end], heading)
+    frame_in(alloc, &rest[..end_of(rest)], heading)
 }
 
 /// The frame of the first product.
-#[tactic(auto, unfolding(crate::specs::Frames::frame_of))]
 fn frame_of(alloc: Global, bytes: &[u8]) -> Result<Frame, Or<FrameFault>>
     ensures { Gives result (frame_of bytes.now) }
 {
-    let places = starts(alloc, bytes)?;
-    let places = places.as_slice();
-    let Some(k) = heading_index(bytes, places) else {
+    let Some(at) = first_heading(bytes) else {
         return Err(Or::No(FrameFault::NoHeading));
     };
-    frame_from(alloc, &bytes[places[k]..])
+    frame_from(alloc, &bytes[at..])
 }
 
 /// The frame of the first product of a text: what stands before its heading line is skipped, and it

@@ -1,12 +1,11 @@
 //! Texts are split into products.
-ghost use Rattle.std.specs.Prelude.{◌≡◌, ◌≤◌, ℕ, List as Seq, length, is_some, IfOk};
+ghost use Rattle.std.specs.Prelude.{◌≡◌, ◌≤◌, ℕ, List as Seq, length, IfOk};
 ghost use Rattle.std.specs.List.{All, concat};
-ghost use Rattle.product_frame.specs.Text.{starts, line_of};
-ghost use Rattle.product_frame.specs.Parts.{heading_of};
+ghost use Rattle.product_frame.specs.Text.{starts};
 ghost use Rattle.product_frame.specs.Splitting.{headings_in, first_or, spans_to, spans_of, laid, from_first, IsOneProduct, spans_from};
 
-use crate::read::heading_of;
-use crate::text::{line_of, starts};
+use crate::read::is_heading;
+use crate::text::starts;
 use hazard_types::{List, Oom, Span};
 use std::alloc::Global;
 
@@ -17,19 +16,11 @@ fn headings_in(alloc: Global, bytes: &[u8], places: &[usize]) -> Result<List<usi
 {
     let mut list = List::new(alloc);
     for start in places {
-        let heading = heading_of(line_of(&bytes[*start..]));
-        if heading.is_some() {
+        if is_heading(&bytes[*start..]) {
             list.push(*start)?;
         }
     }
     Ok(list)
-}
-
-/// Whether the first line of these bytes is a heading line.
-pub fn is_heading(bytes: &[u8]) -> bool
-    ensures { result ≡ is_some (heading_of (line_of bytes.now)) }
-{
-    heading_of(line_of(bytes)).is_some()
 }
 
 fn first_or(end: usize, places: &[usize]) -> usize

@@ -5,11 +5,13 @@ ghost use Rattle.hazard_types.specs.Given.{Gives};
 ghost use Rattle.std.specs.Prelude.{List as Seq, Ok};
 ghost use Rattle.product_frame.specs.declared.frame.FrameSegment.{FrameSegment as FrameSegmentValue};
 ghost use Rattle.product_frame.specs.Grammar.{AreSegments};
-ghost use Rattle.product_frame.specs.Parts.{begins, has_slash, is_end};
+ghost use Rattle.product_frame.specs.Parts.{begins, begins_by, has_slash, is_end};
+ghost use Rattle.product_frame.specs.Text.{line_of};
+ghost use Rattle.ugc_codes.specs.Reading.{ugc_of};
 ghost use Rattle.product_frame.specs.Events.{pair_of};
 ghost use Rattle.product_frame.specs.Frames.{or_fault};
 ghost use Rattle.product_frame.specs.declared.frame.FrameFault.TheVariants.{BadVtec};
-ghost use Rattle.product_frame.specs.Walking.{IsBadUgc, ahead, next_at, with_pair, at_outside, at_rest, at_pairs, step, ended, segments_of, Moves};
+ghost use Rattle.product_frame.specs.Walking.{IsBadUgc, ahead, next_at, with_pair, open_by, at_outside, at_rest, at_pairs, step, ended, segments_of, Moves};
 
 use crate::frame::{FrameFault, FrameSegment, Pair};
 use crate::text::{ends_in, line_of};
@@ -87,6 +89,45 @@ fn is_end(line: &[u8]) -> bool
     line.len() == 2 && line[0] == b'$' && line[1] == b'$'
 }
 
+/// Whether the first line of these bytes begins a segment.
+#[tactic(auto, using(crate::proofs::LineFronts::no_begin))]
+fn line_begins(rest: &[u8]) -> bool
+    ensures { result ≡ begins (line_of rest.now) }
+{
+    if !begins(rest) {
+        return false;
+    }
+    begins(line_of(rest))
+}
+
+/// Whether the first line of these bytes begins with a slash.
+#[tactic(auto, using(crate::proofs::LineFronts::same_slash))]
+fn line_has_slash(rest: &[u8]) -> bool
+    ensures { result ≡ has_slash (line_of rest.now) }
+{
+    has_slash(rest)
+}
+
+fn begins_by(byte: u8, rest: &[u8]) -> bool
+    ensures { result ≡ begins_by byte rest.now }
+{
+    match rest {
+        [first, ..] => *first == byte,
+        [] => false,
+    }
+}
+
+/// Whether the first line of these bytes ends a segment.
+#[tactic(auto, using(crate::proofs::LineFronts::no_end))]
+fn line_is_end(rest: &[u8]) -> bool
+    ensures { result ≡ is_end (line_of rest.now) }
+{
+    if !begins_by(b'$', rest) {
+        return false;
+    }
+    is_end(line_of(rest))
+}
+
 fn bad_ugc(fault: Or<UgcFault>, line: usize) -> Or<FrameFault>
     ensures { IsBadUgc fault line result }
 {
@@ -96,19 +137,15 @@ fn bad_ugc(fault: Or<UgcFault>, line: usize) -> Or<FrameFault>
     }
 }
 
-/// A line outside a segment, which may begin one.
-#[tactic(auto, unfolding(crate::specs::Walking::at_outside))]
-fn at_outside(
+/// A line that begins a segment by its UGC.
+fn open_segment(
     alloc: Global,
     walk: &mut Walk,
     number: usize,
     rest: &[u8],
 ) -> Result<(), Or<FrameFault>>
-    ensures { Moves result walk.new (at_outside walk.old number rest.now) }
+    ensures { Moves result walk.new (open_by walk.old number rest.now (ugc_of rest.now)) }
 {
-    if !begins(line_of(rest)) {
-        return Ok(());
-    }
     let read = match read_ugc(alloc, rest) {
         Ok(read) => read,
         Err(fault) => return Err(bad_ugc(fault, number)),
@@ -126,11 +163,27 @@ fn at_outside(
     Ok(())
 }
 
-/// A line behind the events of a segment.
-fn at_rest(alloc: Global, walk: &mut Walk, line: &[u8]) -> Result<(), Or<FrameFault>>
-    ensures { Moves result walk.new (at_rest walk.old line.now) }
+/// A line outside a segment, which may begin one.
+#[tactic(auto, unfolding(crate::specs::Walking::at_outside))]
+fn at_outside(
+    alloc: Global,
+    walk: &mut Walk,
+    number: usize,
+    rest: &[u8],
+) -> Result<(), Or<FrameFault>>
+    ensures { Moves result walk.new (at_outside walk.old number rest.now) }
 {
-    if !is_end(line) {
+    if !line_begins(rest) {
+        return Ok(());
+    }
+    open_segment(alloc, walk, number, rest)
+}
+
+/// A line behind the events of a segment.
+fn at_rest(alloc: Global, walk: &mut Walk, rest: &[u8]) -> Result<(), Or<FrameFault>>
+    ensures { Moves result walk.new (at_rest walk.old (line_of rest.now)) }
+{
+    if !line_is_end(rest) {
         walk.stage = Stage::Rest;
         return Ok(());
     }
@@ -180,15 +233,15 @@ fn at_pairs(
     alloc: Global,
     walk: &mut Walk,
     number: usize,
-    line: &[u8],
+    rest: &[u8],
     next: &[u8],
 ) -> Result<(), Or<FrameFault>>
-    ensures { Moves result walk.new (at_pairs walk.old number line.now next.now) }
+    ensures { Moves result walk.new (at_pairs walk.old number (line_of rest.now) next.now) }
 {
-    if !has_slash(line) {
-        return at_rest(alloc, walk, line);
+    if !line_has_slash(rest) {
+        return at_rest(alloc, walk, rest);
     }
-    match pair_or_fault(line, next, number) {
+    match pair_or_fault(line_of(rest), next, number) {
         Ok(pair) => add_pair(walk, &pair),
         Err(fault) => Err(fault),
     }
@@ -214,8 +267,8 @@ fn step(
     let rest = &bytes[start..];
     match walk.stage {
         Stage::Outside => at_outside(alloc, walk, number, rest),
-        Stage::Pairs => at_pairs(alloc, walk, number, line_of(rest), next_at(bytes, later)),
-        Stage::Rest => at_rest(alloc, walk, line_of(rest)),
+        Stage::Pairs => at_pairs(alloc, walk, number, rest, next_at(bytes, later)),
+        Stage::Rest => at_rest(alloc, walk, rest),
     }
 }
 
