@@ -1,10 +1,15 @@
 pub mod Tests
 mod Seated
 mod LeftLemmas
+mod Runs
+mod Searching
+mod Lists
+mod HeldRows
 mod Opened
 mod Kept
-mod Stood
 mod Lasted
+mod Stood
+mod EventRows
 mod Indexed
 mod Asked
 mod Changing

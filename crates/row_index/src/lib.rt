@@ -1,6 +1,7 @@
 //! The rows of a long history, found by zone and event, and by hazard and number, without a walk over other rows.
 #![tactic(auto)]
 
+mod held;
 mod higher;
 mod index;
 mod keys;
@@ -8,6 +9,7 @@ mod lasting;
 mod look;
 mod numbers;
 mod parts;
+mod searches;
 mod seats;
 mod standing;
 

@@ -1,7 +1,7 @@
 //! What is read off a row or two, without a walk.
 ghost use Rattle.std.specs.Prelude.{◌≡◌, option_map};
 ghost use Rattle.event_life.specs.Lives.{opens};
-ghost use Rattle.event_life.specs.Products.{life_of, later_event, is_new};
+ghost use Rattle.event_life.specs.Products.{life_of, later_event};
 ghost use Rattle.row_index.specs.Steps.{nothing_around, of_event, stays};
 
 use event_life::{Around, Life};
@@ -48,13 +48,6 @@ pub fn nothing_around(higher: bool) -> Around
         same: false,
         higher,
     }
-}
-
-/// Whether a line opens an event of its own.
-pub fn is_new(action: &Action) -> bool
-    ensures { result ≡ is_new action.now }
-{
-    matches!(action, Action::New)
 }
 
 /// Whether a line opens a spell, and so leaves nothing of the one before.

@@ -20,7 +20,8 @@ fn letter_order(a: [u8; 2], b: [u8; 2]) -> Ordering
     a[0].cmp(&b[0]).then(a[1].cmp(&b[1]))
 }
 
-fn zone_order(a: &Zone, b: &Zone) -> Ordering
+/// How two zones stand in order.
+pub fn zone_order(a: &Zone, b: &Zone) -> Ordering
     ensures { result ≡ by_place a.now b.now }
 {
     letter_order(a.state(), b.state())
@@ -34,7 +35,8 @@ fn hazard_order(a: &Hazard, b: &Hazard) -> Ordering
     letter_order(a.phen.letters(), b.phen.letters()).then(a.sig.letter().cmp(&b.sig.letter()))
 }
 
-fn event_order(a: &Event, b: &Event) -> Ordering
+/// How two events stand in order.
+pub fn event_order(a: &Event, b: &Event) -> Ordering
     ensures { result ≡ by_event a.now b.now }
 {
     hazard_order(&a.hazard, &b.hazard)

@@ -17,4 +17,5 @@ loop-line-preserved c =
     record {
       found = judged_next c.args.self.now c.args.t lines c.loop-line.found.items c.push.new.self.items (judged c.args.self.now c.args.t lines) i line c.in_ok-breach.breach c.loop-line-test.true c.line-item.is breach c.in_ok-push.ensures.items c.loop-line.invariant.found;
       spoken = tells_next speaks c.loop-line.spoken.keys c.add_seat.new.seats.keys lines i line _ c.loop-line-test.true c.line-item.is (search rules) c.in_ok-add_seat.ensures c.loop-line.invariant.spoken;
+      near = c.rows_near-rows.ensures;
     }
