@@ -2,6 +2,7 @@
 use Rattle.std.proofs.Common.{◌≡◌, ◌∙◌, ℕ, List, [], ◌∷◌, ◌&&◌, ◌||◌, Bool, true, false, Option, refl, ap, sym, subst}
 use Rattle.std.specs.List.{AllByRecursion, list_any}
 use Rattle.std.specs.List.Sorted.{IsStrictlySortedBy}
+use Rattle.std.specs.Map.{values_of}
 use Rattle.hazard_types.specs.Orders.{by_event}
 use Rattle.hazard_types.specs.Same.{same_event}
 use Rattle.hazard_types.specs.declared.hazard.Event.{Event}
@@ -12,11 +13,15 @@ use Rattle.event_life.specs.Periods.{is_live, keeps_open, same_at}
 use Rattle.event_life.specs.Products.{by_key, put, row_at, is_open, has_same}
 use Rattle.event_life.specs.Table.{opened_period}
 use Rattle.event_life.proofs.Puts.{put-sorted}
+use Rattle.row_index.specs.declared.seats.Seat.{Seat}
 use Rattle.row_index.specs.declared.standing.Standing.{Standing}
 use Rattle.row_index.specs.Holding.{told, AreHeld}
 use Rattle.row_index.specs.Listing.{list_at}
+use Rattle.row_index.specs.Numbers.{stands}
+use Rattle.row_index.specs.Seating.{AreSeated}
 use Rattle.row_index.specs.Standings.{by_standing, standing_of, AreEventRows}
 use Rattle.row_index.specs.Steps.{restood}
+use Rattle.row_index.specs.Telling.{Tells}
 use Rattle.row_index.proofs.HeldRows.{none-sorted, held-own, held-part, is_open-of, has_same-of}
 use Rattle.row_index.proofs.Stood.{stood-put, stood-sorted}
 use Rattle.row_index.proofs.Tests.{any_same}
@@ -26,21 +31,23 @@ unfolding IsStrictlySortedBy
 no_keys = tt
 
 rows-none : AreEventRows [] []
-rows-none = record { in_order = none-sorted; ascending = no_keys; standing = λ q. refl }
+rows-none = record { seated = tt; in_order = none-sorted; ascending = no_keys; standing = λ q. refl }
 
-pub rows-emptied : (rows : List Row) (keys : List Standing) → rows ≡ [] → keys ≡ [] → AreEventRows rows keys
-rows-emptied rows keys rows_are keys_are = rw (rows_are, keys_are) rows-none
+pub rows-emptied : (es : List (Seat × Row)) (keys : List Standing) → es ≡ [] → keys ≡ [] → AreEventRows es keys
+rows-emptied es keys es_are keys_are = rw (es_are, keys_are) rows-none
 
 -- one row more
-pub rows-made : (rows after : List Row) (keys next : List Standing) (row : Row) (before : Option Row) → before ≡ row_at rows row.event row.zone → after ≡ put row rows → next ≡ restood by_standing standing_of before row keys
-    → AreEventRows rows keys → AreEventRows after next
-rows-made rows after keys next row before found after_is next_is are =
-    let made : AreEventRows (put row rows) (restood by_standing standing_of before row keys) = record {
-      in_order = put-sorted row rows are.in_order;
-      ascending = stood-sorted before row keys are.ascending;
-      standing = stood-put rows keys row before are.in_order are.ascending are.standing found;
-    } in
-    subst (λ (all : List Row). AreEventRows all next) (sym after_is) (subst (λ (all : List Standing). AreEventRows (put row rows) all) (sym next_is) made)
+pub rows-made : (es after : List (Seat × Row)) (keys next : List Standing) (row : Row) (before : Option Row) → before ≡ row_at (values_of es) row.event row.zone → values_of after ≡ put row (values_of es) → AreSeated after
+    → next ≡ restood by_standing standing_of before row keys → AreEventRows es keys → AreEventRows after next
+rows-made es after keys next row before found after_is seated next_is are =
+    let rows = values_of es in
+    record {
+      seated = seated;
+      in_order = subst (λ (all : List Row). IsStrictlySortedBy by_key all) (sym after_is) (put-sorted row rows are.in_order);
+      ascending = subst (λ (all : List Standing). IsStrictlySortedBy by_standing all) (sym next_is) (stood-sorted before row keys are.ascending);
+      standing = subst (λ (all : List Row). Tells stands standing_of next all) (sym after_is)
+          (subst (λ (all : List Standing). Tells stands standing_of all (put row rows)) (sym next_is) (stood-put rows keys row before are.in_order are.ascending are.standing found));
+    }
 
 -- what is asked of an event
 

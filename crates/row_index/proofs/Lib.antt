@@ -1,8 +1,6 @@
 pub mod Tests
 mod Seated
 mod LeftLemmas
-mod Runs
-mod Searching
 mod Lists
 mod HeldRows
 mod Opened

@@ -4,18 +4,12 @@ use Rattle.std.specs.BTreeMap.{insert_entry}
 use Rattle.std.specs.List.{AllByRecursion}
 use Rattle.std.specs.List.Sorted.{IsStrictlySortedBy}
 use Rattle.std.specs.Map.{keys_of}
-use Rattle.std.specs.Ordering.{ordering_then}
-use Rattle.std.specs.declared.cmp.Ordering.{Ordering}
 use Rattle.hazard_types.specs.Orders.{by_event}
-use Rattle.hazard_types.specs.Places.{Place, by_place}
+use Rattle.hazard_types.specs.Places.{Place}
 use Rattle.hazard_types.specs.declared.hazard.Event.{Event}
 use Rattle.hazard_types.specs.declared.line.Row.{Row}
 use Rattle.event_life.specs.Products.{by_key, put, row_at}
 use Rattle.row_index.specs.Listing.{list_at}
-
--- how a row stands by that of an event in a zone
-abbrev pub stands_by : Event → Place → Row → Ordering
-stands_by e z r = ordering_then (by_place r.zone z) (by_event r.event e)
 
 -- the rows are put over the others, the last of them first
 abbrev pub puts : List Row → List Row → List Row

@@ -2,6 +2,7 @@
 use Rattle.std.specs.Prelude.{◌-◌, ℕ, Bool, List, nat_le, if◌then◌else◌}
 use Rattle.std.specs.BTreeMap.Range.{range_contains}
 use Rattle.std.specs.List.Sorted.{IsStrictlySortedBy}
+use Rattle.std.specs.Map.{values_of}
 use Rattle.std.specs.declared.cmp.Ordering.{Ordering}
 use Rattle.std.specs.declared.ops.Bound.TheVariants.{Included, Excluded, Unbounded}
 use Rattle.hazard_types.specs.declared.hazard.Event.{Event}
@@ -10,11 +11,13 @@ use Rattle.hazard_types.specs.declared.period.End.{End}
 use Rattle.hazard_types.specs.declared.period.End.TheVariants as end
 use Rattle.hazard_types.specs.declared.period.Period.{Period}
 use Rattle.event_life.specs.Products.{by_key}
+use Rattle.row_index.specs.declared.seats.Seat.{Seat}
 use Rattle.row_index.specs.declared.standing.Standing.{Standing}
 use Rattle.row_index.specs.declared.standing.Corner.{Corner}
 use Rattle.row_index.specs.declared.standing.Corner.TheVariants as corner
 use Rattle.row_index.specs.contracts.standing.StandingOrd.TheImpl as order
 use Rattle.row_index.specs.Numbers.{stands}
+use Rattle.row_index.specs.Seating.{AreSeated}
 use Rattle.row_index.specs.Telling.{Tells}
 
 abbrev pub by_standing : Standing → Standing → Ordering
@@ -52,8 +55,9 @@ same_from t e p = place_of e p.end (first_same t p.begin) corner.Front
 abbrev pub same_to : ℕ → Event → Period → Standing
 same_to t e p = place_of e p.end (last_same t p.begin) corner.Back
 
--- the rows stand by zone, and the keys are those of the rows that no line has ended
-pub record AreEventRows (rows : List Row) (keys : List Standing) : Type 0 where
-  pub in_order : IsStrictlySortedBy by_key rows
+-- the rows are at their seats and in order, and the keys are those of the rows that no line has ended
+pub record AreEventRows (es : List (Seat × Row)) (keys : List Standing) : Type 0 where
+  pub seated : AreSeated es
+  pub in_order : IsStrictlySortedBy by_key (values_of es)
   pub ascending : IsStrictlySortedBy by_standing keys
-  pub standing : Tells stands standing_of keys rows
+  pub standing : Tells stands standing_of keys (values_of es)

@@ -6,53 +6,56 @@ ghost use Rattle.std.specs.List.Sorted.{IsStrictlySortedBy};
 ghost use Rattle.std.specs.Map.{values_of};
 ghost use Rattle.hazard_types.specs.Orders.{by_event};
 ghost use Rattle.event_life.specs.Periods.{is_live, keeps_open, same_at};
-ghost use Rattle.event_life.specs.Products.{by_key, put, row_at};
+ghost use Rattle.event_life.specs.Products.{by_key, put, row_at, has_rows};
 ghost use Rattle.row_index.specs.Holding.{held_with, puts};
 ghost use Rattle.row_index.specs.Listing.{list_at};
+ghost use Rattle.row_index.specs.Seating.{AreSeated};
 ghost use Rattle.row_index.specs.Standings.{by_standing, standing_of};
 ghost use Rattle.row_index.specs.Steps.{restood};
 
 use crate::parts::EventKey;
-use crate::searches;
-use crate::seats::{Seated, put_seated};
+use crate::seats::{Seated, all_rows, put_seated, row_in};
 use crate::standing::{Standings, has_same_among, is_open_among, restand};
-use hazard_types::{Event, Minute, Oom, Period, Row};
-use std::alloc::Global;
+use hazard_types::{Event, Minute, Oom, Period, Row, Zone};
+use std::alloc::{AllocError, Global};
 use std::collections::{BTreeMap, BTreeSet};
 use std::marker::Model;
 
 /// Puts a row among those of an event, and among those of them that no line has ended.
 fn put_standing(
-    rows: &mut Vec<Row>,
+    rows: &mut Seated,
     standing: &mut Standings,
     row: &Row,
-    before: &Option<Row>,
+    before: &mut Option<Row>,
 ) -> Result<(), Oom>
-    requires { IsStrictlySortedBy by_key rows.old.items }
-    ensures rows { OnOk result (rows.new.items ≡ put row.now rows.old.items) }
-    ensures standing { OnOk result (standing.new.keys ≡ restood by_standing standing_of before.now row.now standing.old.keys) }
+    requires { AreSeated rows.old.entries }
+    ensures before { OnOk result (before.new ≡ row_at (values_of rows.old.entries) row.now.event row.now.zone) }
+    ensures rows { OnOk result (values_of rows.new.entries ≡ put row.now (values_of rows.old.entries)) }
+    ensures seated { OnOk result (AreSeated rows.new.entries) }
+    ensures standing { OnOk result (standing.new.keys ≡ restood by_standing standing_of before.new row.now standing.old.keys) }
 {
-    searches::put(rows, row)?;
+    put_seated(rows, row, before)?;
     restand(standing, before, row)
 }
 
-/// The rows of one event, by zone, and where those of them stand that no line has ended.
+/// The rows of one event, each at its seat, and where those of them stand that no line has ended.
 #[derive(Drop)]
 pub struct EventRows {
-    rows: Vec<Row>,
+    rows: Seated,
     standing: Standings,
 }
 
 impl Model for EventRows {
     ghost use Rattle.std.specs.Prelude.{List};
+    ghost use Rattle.std.specs.Map.{values_of};
     ghost use Rattle.hazard_types.specs.declared.line.Row.{Row};
     ghost use Rattle.row_index.specs.Standings.{AreEventRows};
 
     ghost Value = { List Row };
 
-    ghost view = { λ x. x.rows.items };
+    ghost view = { λ x. values_of x.rows.entries };
 
-    ghost invariant = { λ x. AreEventRows x.rows.items x.standing.keys };
+    ghost invariant = { λ x. AreEventRows x.rows.entries x.standing.keys };
 }
 
 impl EventRows {
@@ -60,24 +63,46 @@ impl EventRows {
         ensures { result ≡ [] }
     {
         EventRows {
-            rows: Vec::new(alloc),
+            rows: BTreeMap::new(alloc),
             standing: BTreeSet::new(alloc),
         }
     }
 
-    fn as_slice(&self) -> &[Row]
-        ensures rows { result.now ≡ self.now }
-        ensures order { IsStrictlySortedBy by_key result.now }
+    /// The rows, to be read.
+    fn found(&self) -> RowsOf<'_>
+        ensures rows { result ≡ self.now }
+        ensures order { IsStrictlySortedBy by_key result }
     {
-        self.rows.as_slice()
+        let _ = &self.rows;
+        RowsOf { rows: Some(self) }
     }
 
-    /// Puts a row. `before` becomes the one that was in its place. On want of memory the event has no rows.
+    /// The row of an event in a zone.
+    fn row_at(&self, event: &Event, zone: &Zone) -> Option<Row>
+        ensures { result ≡ row_at self.now event.now zone.now }
+    {
+        row_in(&self.rows, event, zone)
+    }
+
+    /// Whether a row is of an event.
+    fn has_rows(&self, event: &Event) -> bool
+        ensures { result ≡ has_rows self.now event.now }
+    {
+        self.rows.values().any(|row| row.event == *event)
+    }
+
+    /// All the rows.
+    fn all(&self, alloc: Global) -> Result<Vec<Row>, AllocError>
+        ensures { IfOk result (λ rows. rows.items ≡ self.now) }
+    {
+        all_rows(alloc, &self.rows)
+    }
+
+    /// Puts a row. `before` becomes the one that was in its place. When memory runs out, the event has no rows.
     fn put(&mut self, row: &Row, before: &mut Option<Row>) -> Result<(), Oom>
-        ensures before { before.new ≡ row_at self.old row.now.event row.now.zone }
+        ensures before { OnOk result (before.new ≡ row_at self.old row.now.event row.now.zone) }
         ensures rows { OnOk result (self.new ≡ put row.now self.old) }
     {
-        *before = searches::row_at(&self.rows, &row.event, &row.zone);
         match put_standing(&mut self.rows, &mut self.standing, row, before) {
             Ok(()) => Ok(()),
             Err(oom) => {
@@ -105,17 +130,61 @@ impl EventRows {
     }
 }
 
+/// The rows of an event to be read, which may have none.
+#[derive(Drop)]
+pub struct RowsOf<'a> {
+    rows: Option<&'a EventRows>,
+}
+
+impl<'a> Model for RowsOf<'a> {
+    ghost use Rattle.std.specs.Prelude.{List, [], option_map, unwrap_or};
+    ghost use Rattle.hazard_types.specs.declared.line.Row.{Row};
+
+    ghost Value = { List Row };
+
+    ghost view = { λ x. unwrap_or (option_map (λ rows. rows.now) x.rows) [] };
+}
+
+impl<'a> RowsOf<'a> {
+    /// No rows.
+    pub fn none() -> Self
+        ensures { result ≡ [] }
+    {
+        RowsOf { rows: None }
+    }
+
+    /// The row of an event in a zone.
+    pub fn row_at(&self, event: &Event, zone: &Zone) -> Option<Row>
+        ensures { result ≡ row_at self.now event.now zone.now }
+    {
+        match self.rows {
+            Some(rows) => rows.row_at(event, zone),
+            None => None,
+        }
+    }
+
+    /// Whether a row is of an event.
+    pub fn has_rows(&self, event: &Event) -> bool
+        ensures { result ≡ has_rows self.now event.now }
+    {
+        match self.rows {
+            Some(rows) => rows.has_rows(event),
+            None => false,
+        }
+    }
+}
+
 /// The rows of all events.
 pub type Held = BTreeMap<EventKey, EventRows>;
 
 /// The rows of an event.
-pub fn rows_of<'a>(held: &'a Held, event: &Event) -> &'a [Row]
-    ensures rows { result.now ≡ list_at by_event held.now.entries event.now }
-    ensures order { IsStrictlySortedBy by_key result.now }
+pub fn rows_of<'a>(held: &'a Held, event: &Event) -> RowsOf<'a>
+    ensures rows { result ≡ list_at by_event held.now.entries event.now }
+    ensures order { IsStrictlySortedBy by_key result }
 {
     match held.get(&EventKey { event: *event }) {
-        Some(rows) => rows.as_slice(),
-        None => &[],
+        Some(rows) => rows.found(),
+        None => RowsOf::none(),
     }
 }
 
@@ -163,7 +232,7 @@ pub fn all_held(alloc: Global, held: &Held) -> Result<Vec<Row>, Oom>
 {
     let mut all = Vec::new(alloc);
     for rows in held.values() {
-        all.extend_from_slice(rows.as_slice())?;
+        all.extend_from_slice(&rows.all(alloc)?)?;
     }
     Ok(all)
 }

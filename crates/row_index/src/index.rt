@@ -13,13 +13,12 @@ ghost use Rattle.row_index.specs.Holding.{AreNear, AreRowsOf};
 ghost use Rattle.row_index.specs.Seating.{AreSeated, upgrades};
 ghost use Rattle.row_index.specs.Steps.{IsChanged, around_new, around_joining, asked_around, latest_open, event_going, rows_left, put_each};
 
-use crate::held::{Held, all_held, has_period, is_open, put_held, rows_of, seated};
+use crate::held::{Held, RowsOf, all_held, has_period, is_open, put_held, rows_of, seated};
 use crate::higher::{Changed, any_upgrades, rivals, upgraded_by};
 use crate::lasting::{Lastings, relast};
 use crate::look::{later_event, life_of, nothing_around, of_event, opens};
 use crate::numbers::{Events, Number, events_at, number_of, put_event_of};
 use crate::parts::HazardKey;
-use crate::searches;
 use crate::seats::{Seated, add_seat, all_rows, count_row, has_seat};
 use event_life::{Around, Breach, is_lawful, is_routine, is_upgrade, life_step, opened_period};
 use hazard_types::{Action, Event, Flood, Line, List, Minute, Oom, Row, Vtec, Zone};
@@ -62,16 +61,16 @@ impl RowIndex {
     }
 
     /// The rows of an event.
-    fn rows_of(&self, event: &Event) -> &[Row]
-        ensures { AreRowsOf self.now event.now result.now }
+    fn rows_of(&self, event: &Event) -> RowsOf<'_>
+        ensures { AreRowsOf self.now event.now result }
     {
         rows_of(&self.held, event)
     }
 
     /// The rows of an event. `rows` are those of the line before, which mostly is of the same.
-    fn rows_near<'a>(&'a self, near: &Option<Event>, rows: &'a [Row], event: &Event) -> &'a [Row]
-        requires { AreNear self.now near.now rows.now }
-        ensures { AreRowsOf self.now event.now result.now }
+    fn rows_near<'a>(&'a self, near: &Option<Event>, rows: RowsOf<'a>, event: &Event) -> RowsOf<'a>
+        requires { AreNear self.now near.now rows }
+        ensures { AreRowsOf self.now event.now result }
     {
         match near {
             Some(before) => {
@@ -86,19 +85,19 @@ impl RowIndex {
     }
 
     /// The row of a line's event in its zone. `rows` are the event's.
-    fn own_row(&self, rows: &[Row], line: &Line) -> Option<Row>
+    fn own_row(&self, rows: &RowsOf<'_>, line: &Line) -> Option<Row>
         requires { AreRowsOf self.now line.now.event rows.now }
         ensures { result ≡ row_at self.now line.now.event line.now.zone }
     {
-        searches::row_at(rows, &line.event, &line.zone)
+        rows.row_at(&line.event, &line.zone)
     }
 
     /// Whether a line's event has rows, ended ones among them. `rows` are the event's.
-    fn has_rows(&self, rows: &[Row], line: &Line) -> bool
+    fn has_rows(&self, rows: &RowsOf<'_>, line: &Line) -> bool
         requires { AreRowsOf self.now line.now.event rows.now }
         ensures { result ≡ has_rows self.now line.now.event }
     {
-        event_life::has_rows(rows, &line.event)
+        rows.has_rows(&line.event)
     }
 
     /// Whether the event has a row that no line has ended and whose end is at most half an hour past.
@@ -192,7 +191,7 @@ impl RowIndex {
     }
 
     /// What stands around a NEW line. `rows` are its event's.
-    fn around_new(&self, rows: &[Row], t: Minute, line: &Line, higher: bool) -> Around
+    fn around_new(&self, rows: &RowsOf<'_>, t: Minute, line: &Line, higher: bool) -> Around
         requires { AreRowsOf self.now line.now.event rows.now }
         ensures { result ≡ around_new self.now t line.now higher }
     {
@@ -223,7 +222,7 @@ impl RowIndex {
     }
 
     /// What stands around a line, as far as its action asks for it. `rows` are its event's.
-    fn around(&self, rows: &[Row], t: Minute, line: &Line, higher: bool) -> Around
+    fn around(&self, rows: &RowsOf<'_>, t: Minute, line: &Line, higher: bool) -> Around
         requires { AreRowsOf self.now line.now.event rows.now }
         ensures { result ≡ asked_around line.now.action self.now t line.now higher }
     {
@@ -235,7 +234,7 @@ impl RowIndex {
     }
 
     /// The first breach of a line on the life of its event in its zone, where its row is overlapped or not.
-    fn step_breach(&self, rows: &[Row], t: Minute, line: &Line, higher: bool) -> Option<Breach>
+    fn step_breach(&self, rows: &RowsOf<'_>, t: Minute, line: &Line, higher: bool) -> Option<Breach>
         requires touches { is_routine line.now.action ≡ false }
         requires rows { AreRowsOf self.now line.now.event rows.now }
         ensures { result ≡ breach_of_line (life_at self.now line.now) line.now t (around_but_higher self.now t line.now higher) }
@@ -250,7 +249,7 @@ impl RowIndex {
     /// The first breach of a line, which is a second one of its event and zone or not, where its row is overlapped or not.
     fn first_breach(
         &self,
-        rows: &[Row],
+        rows: &RowsOf<'_>,
         t: Minute,
         line: &Line,
         second: bool,
@@ -269,7 +268,7 @@ impl RowIndex {
     }
 
     /// The row that a lawful line leaves. `rows` are its event's.
-    fn row_after(&self, rows: &[Row], t: Minute, line: &Line) -> Row
+    fn row_after(&self, rows: &RowsOf<'_>, t: Minute, line: &Line) -> Row
         requires { AreRowsOf self.now line.now.event rows.now }
         ensures { result ≡ row_after self.now t line.now }
     {
@@ -283,7 +282,7 @@ impl RowIndex {
     }
 
     /// Whether a line is lawful and no UPG, so that its row counts where a higher row is looked for.
-    fn may_count(&self, rows: &[Row], t: Minute, line: &Line, second: bool) -> bool
+    fn may_count(&self, rows: &RowsOf<'_>, t: Minute, line: &Line, second: bool) -> bool
         requires { AreRowsOf self.now line.now.event rows.now }
         ensures { result ≡ (not (is_routine line.now.action) && not (is_upgrade line.now.action) && not second && is_none (breach_of_line (life_at self.now line.now) line.now t (around_but_higher self.now t line.now true))) }
     {
@@ -301,8 +300,8 @@ impl RowIndex {
         for line in lines {
             let second = has_seat(&spoken, &line.event, &line.zone);
             let rows = self.rows_of(&line.event);
-            let counts = self.may_count(rows, t, line, second);
-            count_row(&mut counted, counts, &self.row_after(rows, t, line))?;
+            let counts = self.may_count(&rows, t, line, second);
+            count_row(&mut counted, counts, &self.row_after(&rows, t, line))?;
             add_seat(&mut spoken, !is_routine(&line.action), line)?;
         }
         Ok(counted)
@@ -350,7 +349,7 @@ impl RowIndex {
         alloc: Global,
         t: Minute,
         changed: &Changed,
-        rows: &[Row],
+        rows: &RowsOf<'_>,
         line: &Line,
         second: bool,
     ) -> Result<Option<Breach>, Oom>
@@ -380,12 +379,12 @@ impl RowIndex {
         let mut spoken = BTreeSet::new(alloc);
         let mut found = Vec::with_capacity(alloc, lines.len())?;
         let mut near = None;
-        let mut rows: &[Row] = &[];
+        let mut rows = RowsOf::none();
         for line in lines {
             rows = self.rows_near(&near, rows, &line.event);
             near = Some(line.event);
             let second = has_seat(&spoken, &line.event, &line.zone);
-            let breach = self.breach_in(alloc, t, &changed, rows, line, second)?;
+            let breach = self.breach_in(alloc, t, &changed, &rows, line, second)?;
             found.push((*line, breach))?;
             add_seat(&mut spoken, !is_routine(&line.action), line)?;
         }
@@ -423,12 +422,12 @@ impl RowIndex {
     {
         let mut left = List::new(alloc);
         let mut near = None;
-        let mut rows: &[Row] = &[];
+        let mut rows = RowsOf::none();
         for found in judged {
             rows = self.rows_near(&near, rows, &found.0.event);
             near = Some(found.0.event);
             if is_lawful(found) {
-                left.extend(&[self.row_after(rows, t, &found.0)])?;
+                left.extend(&[self.row_after(&rows, t, &found.0)])?;
             }
         }
         Ok(left)

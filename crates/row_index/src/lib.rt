@@ -9,7 +9,6 @@ mod lasting;
 mod look;
 mod numbers;
 mod parts;
-mod searches;
 mod seats;
 mod standing;
 

@@ -4,6 +4,3 @@ use Rattle.row_index.proofs.index.RowIndex.own_row.Goals as goal
 
 pub returns : goal.returns
 returns c = c.row_at.ensures ∙ sym (c.requires.found c.args.line.now.zone)
-
-pub row_at-requires : goal.row_at-requires
-row_at-requires c = c.requires.in_order

@@ -7,5 +7,5 @@ use Rattle.row_index.proofs.index.RowIndex.rows_near.Goals as goal
 
 pub returns-then-eq : goal.returns-then-eq
 returns-then-eq c =
-    subst (λ (e : Event). AreRowsOf c.args.self.now e c.args.rows.now) (event_one c.in-Some.before c.args.event.now (search rules))
-    (subst (λ (k : Option Event). AreNear c.args.self.now k c.args.rows.now) c.in-Some.is c.requires)
+    subst (λ (e : Event). AreRowsOf c.args.self.now e c.args.rows) (event_one c.in-Some.before c.args.event.now (search rules))
+    (subst (λ (k : Option Event). AreNear c.args.self.now k c.args.rows) c.in-Some.is c.requires)

@@ -8,6 +8,6 @@ use Rattle.row_index.proofs.index.RowIndex.rows_of.Goals as goal
 pub returns : goal.returns
 returns c =
     let event = c.args.event.now in
-    let part = c.rows_of.result.now in
+    let part = c.rows_of.result in
     subst (λ (rows : List Row). AreRowsOf rows event part) c.self.view_is
     (held-part c.self.inside.held.entries event part c.self.invariant.held c.rows_of.ensures.rows c.rows_of.ensures.order)
