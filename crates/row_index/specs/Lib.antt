@@ -2,6 +2,7 @@ pub mod Telling
 pub mod Listing
 pub mod Holding
 pub mod Seating
+pub mod Risen
 pub mod Lastings
 pub mod Numbers
 pub mod Standings

@@ -19,7 +19,8 @@ use crate::lasting::{Lastings, relast};
 use crate::look::{later_event, life_of, nothing_around, of_event, opens};
 use crate::numbers::{Events, Number, events_at, number_of, put_event_of};
 use crate::parts::HazardKey;
-use crate::seats::{Seated, add_seat, all_rows, count_row, has_seat};
+use crate::seats::{Seated, all_rows, count_row};
+use crate::spoken::Spoken;
 use event_life::{Around, Breach, is_lawful, is_routine, is_upgrade, life_step, opened_period};
 use hazard_types::{Action, Event, Flood, Line, List, Minute, Oom, Row, Vtec, Zone};
 use std::alloc::Global;
@@ -296,13 +297,12 @@ impl RowIndex {
         ensures seated { IfOk result (λ counted. AreSeated counted.entries) }
     {
         let mut counted = BTreeMap::new(alloc);
-        let mut spoken = BTreeSet::new(alloc);
+        let mut spoken = Spoken::new(alloc);
         for line in lines {
-            let second = has_seat(&spoken, &line.event, &line.zone);
+            let second = spoken.speak(!is_routine(&line.action), line)?;
             let rows = self.rows_of(&line.event);
             let counts = self.may_count(&rows, t, line, second);
             count_row(&mut counted, counts, &self.row_after(&rows, t, line))?;
-            add_seat(&mut spoken, !is_routine(&line.action), line)?;
         }
         Ok(counted)
     }
@@ -376,17 +376,16 @@ impl RowIndex {
         ensures { IfOk result (λ found. found ≡ judged self.now t lines.now) }
     {
         let changed = self.changed(alloc, t, lines)?;
-        let mut spoken = BTreeSet::new(alloc);
+        let mut spoken = Spoken::new(alloc);
         let mut found = Vec::with_capacity(alloc, lines.len())?;
         let mut near = None;
         let mut rows = RowsOf::none();
         for line in lines {
             rows = self.rows_near(&near, rows, &line.event);
             near = Some(line.event);
-            let second = has_seat(&spoken, &line.event, &line.zone);
+            let second = spoken.speak(!is_routine(&line.action), line)?;
             let breach = self.breach_in(alloc, t, &changed, &rows, line, second)?;
             found.push((*line, breach))?;
-            add_seat(&mut spoken, !is_routine(&line.action), line)?;
         }
         Ok(List::from_vec(found))
     }

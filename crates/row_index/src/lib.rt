@@ -10,6 +10,7 @@ mod look;
 mod numbers;
 mod parts;
 mod seats;
+mod spoken;
 mod standing;
 
 pub use index::RowIndex;
