@@ -10,6 +10,7 @@ mod Lasted
 mod Stood
 mod EventRows
 mod Indexed
+mod Runs
 mod Asked
 mod Changing
 mod Alone

@@ -1,5 +1,6 @@
 -- Lists at keys, where one is put at its key.
 use Rattle.std.proofs.Common.{◌≡◌, List, [], ◌∷◌, Bool, true, false, cond, Ordering, Less, Equal, Greater, Option, Some, unwrap_or, refl, ap, sym, subst}
+use Rattle.std.proofs.lemmas.Cmp.{tied_itself}
 use Rattle.std.specs.BTreeMap.{insert_entry, is_at}
 use Rattle.std.specs.BTreeSet.{insert_key}
 use Rattle.std.specs.Cmp.{IsTotalOrder}
@@ -20,6 +21,17 @@ module _ {K X : Type 0} (cmp : K → K → Ordering) (total : IsTotalOrder cmp) 
   pub at_same : (k : K) (es : List (K × List X)) (w : List X) → list_at cmp (insert_entry cmp es k w) k ≡ w
   at_same k [] w = rw (at_own cmp total ties k) refl
   at_same k (e ∷ es) w = same_by (cmp k e.0) k e es w refl (at_same k es w)
+
+  -- one put in the place of another that was put there
+  twice_by : (o : Ordering) (k : K) (e : K × List X) (es : List (K × List X)) (v w : List X) → cmp k e.0 ≡ o → insert_entry cmp (insert_entry cmp es k v) k w ≡ insert_entry cmp es k w
+      → insert_entry cmp (match_ordering o ((k, v) ∷ e ∷ es) ((e.0, v) ∷ es) (e ∷ insert_entry cmp es k v)) k w ≡ match_ordering o ((k, w) ∷ e ∷ es) ((e.0, w) ∷ es) (e ∷ insert_entry cmp es k w)
+  twice_by Less k e es v w h later = rw (tied_itself total k) refl
+  twice_by Equal k e es v w h later = rw h refl
+  twice_by Greater k e es v w h later = rw h (ap (λ (rest : List (K × List X)). e ∷ rest) later)
+
+  pub put_twice : (k : K) (es : List (K × List X)) (v w : List X) → insert_entry cmp (insert_entry cmp es k v) k w ≡ insert_entry cmp es k w
+  put_twice k [] v w = rw (tied_itself total k) refl
+  put_twice k (e ∷ es) v w = twice_by (cmp k e.0) k e es v w refl (put_twice k es v w)
 
   other_first : (b : Bool) (xs : List X) (o p : Option (List X)) → unwrap_or o [] ≡ unwrap_or p [] → unwrap_or (cond b (Some xs) o) [] ≡ unwrap_or (cond b (Some xs) p) []
   other_first true xs o p h = refl

@@ -7,3 +7,4 @@ pub mod Lastings
 pub mod Numbers
 pub mod Standings
 pub mod Steps
+pub mod Runs

@@ -1,6 +1,5 @@
 -- Seats that came in rising order, and others.
 use Rattle.std.specs.Prelude.{◌≡◌, ◌&&◌, ◌||◌, ◌++◌, ◌∷◌, Bool, true, false, List, [], if◌then◌else◌, Option, Some, None}
-use Rattle.std.specs.BTreeMap.{is_at}
 use Rattle.std.specs.List.{list_any}
 use Rattle.std.specs.Ordering.{is_lt}
 use Rattle.hazard_types.specs.declared.line.Line.{Line}

@@ -1,18 +1,20 @@
 //! The rows of each event, by zone.
 ghost use Rattle.std.specs.Prelude.{◌≡◌, ◌&&◌, [], flat_map, IfOk, OnOk};
-ghost use Rattle.std.specs.BTreeMap.{insert_entry};
 ghost use Rattle.std.specs.List.{list_any};
 ghost use Rattle.std.specs.List.Sorted.{IsStrictlySortedBy};
 ghost use Rattle.std.specs.Map.{values_of};
 ghost use Rattle.hazard_types.specs.Orders.{by_event};
 ghost use Rattle.event_life.specs.Periods.{is_live, keeps_open, same_at};
 ghost use Rattle.event_life.specs.Products.{by_key, put, row_at, has_rows};
-ghost use Rattle.row_index.specs.Holding.{held_with, puts};
-ghost use Rattle.row_index.specs.Listing.{list_at};
+ghost use Rattle.row_index.specs.Holding.{puts};
+ghost use Rattle.row_index.specs.Listing.{lists_of, list_at};
+ghost use Rattle.row_index.specs.Runs.{held_put, events_put, lasting_put};
 ghost use Rattle.row_index.specs.Seating.{AreSeated};
 ghost use Rattle.row_index.specs.Standings.{by_standing, standing_of};
-ghost use Rattle.row_index.specs.Steps.{restood};
+ghost use Rattle.row_index.specs.Steps.{restood, put_each};
 
+use crate::lasting::{Lastings, relast};
+use crate::numbers::{Events, put_event_of};
 use crate::parts::EventKey;
 use crate::seats::{Seated, all_rows, put_seated, row_in};
 use crate::standing::{Standings, has_same_among, is_open_among, restand};
@@ -210,20 +212,44 @@ pub fn has_period(held: &Held, t: Minute, event: &Event, period: &Period) -> boo
     }
 }
 
-/// Puts a row among those of its event. `before` becomes the one that was in its place.
+/// Puts each of the rows among those of their event, and among what is kept of the rows besides.
+fn put_rows(
+    alloc: Global,
+    known: &mut EventRows,
+    events: &mut Events,
+    lasting: &mut Lastings,
+    rows: &[Row],
+) -> Result<(), Oom>
+    ensures rows { OnOk result (known.new ≡ put_each rows.now known.old) }
+    ensures events { OnOk result (lists_of events.new.entries ≡ events_put rows.now known.old (lists_of events.old.entries)) }
+    ensures lasting { OnOk result (lasting.new.keys ≡ lasting_put rows.now known.old lasting.old.keys) }
+{
+    for row in rows {
+        let mut before = None;
+        known.put(row, &mut before)?;
+        put_event_of(alloc, events, &before, &row.event)?;
+        relast(lasting, &before, row)?;
+    }
+    Ok(())
+}
+
+/// Puts rows of one event.
 pub fn put_held(
     alloc: Global,
     held: &mut Held,
-    row: &Row,
-    before: &mut Option<Row>,
+    events: &mut Events,
+    lasting: &mut Lastings,
+    event: &Event,
+    rows: &[Row],
 ) -> Result<(), Oom>
-    ensures before { OnOk result (before.new ≡ row_at (list_at by_event held.old.entries row.now.event) row.now.event row.now.zone) }
-    ensures rows { OnOk result (held.new.entries ≡ held_with row.now held.old.entries) }
+    ensures held { OnOk result (held.new.entries ≡ held_put event.now rows.now held.old.entries) }
+    ensures events { OnOk result (lists_of events.new.entries ≡ events_put rows.now (list_at by_event held.old.entries event.now) (lists_of events.old.entries)) }
+    ensures lasting { OnOk result (lasting.new.keys ≡ lasting_put rows.now (list_at by_event held.old.entries event.now) lasting.old.keys) }
 {
-    let key = EventKey { event: row.event };
-    held.entry(key)?
-        .or_insert(EventRows::new(alloc))
-        .put(row, before)
+    let known = held
+        .entry(EventKey { event: *event })?
+        .or_insert(EventRows::new(alloc));
+    put_rows(alloc, known, events, lasting, rows)
 }
 
 /// The rows of all events, one event after another.

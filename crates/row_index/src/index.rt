@@ -1,5 +1,5 @@
 //! The rows of an office's class, as the judging of its lines needs them.
-ghost use Rattle.std.specs.Prelude.{◌≡◌, ◌&&◌, not, true, false, nat_lt, [], List as Seq, Some, None, Option, if◌then◌else◌, is_none, IfOk};
+ghost use Rattle.std.specs.Prelude.{◌≡◌, ◌&&◌, not, true, false, nat_lt, [], List as Seq, Some, None, Option, if◌then◌else◌, is_none, IfOk, OnOk};
 ghost use Rattle.std.specs.List.{list_any};
 ghost use Rattle.hazard_types.specs.declared.line.Line.{Line as LineValue};
 ghost use Rattle.std.specs.Map.{values_of};
@@ -10,14 +10,15 @@ ghost use Rattle.event_life.specs.Seats.{may_count};
 ghost use Rattle.event_life.specs.Shown.{shown_at};
 ghost use Rattle.event_life.specs.Table.{breach_of_line};
 ghost use Rattle.row_index.specs.Holding.{AreNear, AreRowsOf};
+ghost use Rattle.row_index.specs.Runs.{AreOfOne};
 ghost use Rattle.row_index.specs.Seating.{AreSeated, upgrades};
 ghost use Rattle.row_index.specs.Steps.{IsChanged, around_new, around_joining, asked_around, latest_open, event_going, rows_left, put_each};
 
 use crate::held::{Held, RowsOf, all_held, has_period, is_open, put_held, rows_of, seated};
 use crate::higher::{Changed, any_upgrades, rivals, upgraded_by};
-use crate::lasting::{Lastings, relast};
-use crate::look::{later_event, life_of, nothing_around, of_event, opens};
-use crate::numbers::{Events, Number, events_at, number_of, put_event_of};
+use crate::lasting::Lastings;
+use crate::look::{is_of, later_event, life_of, nothing_around, of_event, opens};
+use crate::numbers::{Events, Number, events_at, number_of};
 use crate::parts::HazardKey;
 use crate::seats::{Seated, all_rows, count_row};
 use crate::spoken::Spoken;
@@ -390,24 +391,58 @@ impl RowIndex {
         Ok(List::from_vec(found))
     }
 
-    /// Puts a row in the place of the one of its zone and event, or in its own place.
-    fn put(self, alloc: Global, row: &Row) -> Result<Self, Oom>
-        ensures { IfOk result (λ index. index ≡ put row.now self) }
+    /// Puts each of the rows, which are of one event.
+    fn put_of(self, alloc: Global, event: &Event, rows: &[Row]) -> Result<Self, Oom>
+        requires { AreOfOne (Some event.now) rows.now }
+        ensures { IfOk result (λ index. index ≡ put_each rows.now self) }
     {
+        if rows.is_empty() {
+            return Ok(self);
+        }
         let RowIndex {
             mut held,
             mut events,
             mut lasting,
         } = self;
-        let mut before = None;
-        put_held(alloc, &mut held, row, &mut before)?;
-        put_event_of(alloc, &mut events, &before, &row.event)?;
-        relast(&mut lasting, &before, row)?;
+        put_held(alloc, &mut held, &mut events, &mut lasting, event, rows)?;
         Ok(RowIndex {
             held,
             events,
             lasting,
         })
+    }
+
+    /// Puts each of the rows, which are of one event if there are any.
+    fn put_run(self, alloc: Global, event: &Option<Event>, rows: &[Row]) -> Result<Self, Oom>
+        requires { AreOfOne event.now rows.now }
+        ensures { IfOk result (λ index. index ≡ put_each rows.now self) }
+    {
+        match event {
+            Some(event) => self.put_of(alloc, event, rows),
+            None => Ok(self),
+        }
+    }
+
+    /// Puts a run of rows of one event, unless a further row is of that event too. The run then has that row.
+    fn put_before(
+        self,
+        alloc: Global,
+        event: &Option<Event>,
+        run: &mut Vec<Row>,
+        row: &Row,
+    ) -> Result<Self, Oom>
+        requires { AreOfOne event.now run.old.items }
+        ensures put { IfOk result (λ index. put_each run.new.items index ≡ put row.now (put_each run.old.items self)) }
+        ensures run { OnOk result (AreOfOne (Some row.now.event) run.new.items) }
+    {
+        if is_of(event, row) {
+            run.push(*row)?;
+            return Ok(self);
+        }
+        let index = self.put_run(alloc, event, run)?;
+        run.clear();
+        run.push(*row)?;
+        Ok(index)
     }
 
     /// The rows that the lawful lines of a product leave.
@@ -437,10 +472,13 @@ impl RowIndex {
         ensures { IfOk result (λ index. index ≡ put_each rows.now self) }
     {
         let mut index = self;
+        let mut run = Vec::new(alloc);
+        let mut event = None;
         for row in rows {
-            index = index.put(alloc, row)?;
+            index = index.put_before(alloc, &event, &mut run, row)?;
+            event = Some(row.event);
         }
-        Ok(index)
+        index.put_run(alloc, &event, &run)
     }
 
     /// The rows after a product whose lines were judged by these: each lawful line leaves its row, and no other line changes any.

@@ -2,6 +2,7 @@
 ghost use Rattle.std.specs.Prelude.{◌≡◌, option_map};
 ghost use Rattle.event_life.specs.Lives.{opens};
 ghost use Rattle.event_life.specs.Products.{life_of, later_event};
+ghost use Rattle.row_index.specs.Runs.{is_of};
 ghost use Rattle.row_index.specs.Steps.{nothing_around, of_event, stays};
 
 use event_life::{Around, Life};
@@ -77,6 +78,16 @@ pub fn stays(before: &Option<Row>, row: &Row) -> bool
 {
     match before {
         Some(old) => old.period == row.period && !old.ended && !row.ended,
+        None => false,
+    }
+}
+
+/// Whether a row is of this event.
+pub fn is_of(event: &Option<Event>, row: &Row) -> bool
+    ensures { result ≡ is_of event.now row.now }
+{
+    match event {
+        Some(event) => *event == row.event,
         None => false,
     }
 }
