@@ -8,12 +8,13 @@ use Rattle.std.specs.BTreeMap.Range.{IsLeBy}
 use Rattle.std.specs.Cmp.{IsTotalOrder}
 use Rattle.std.specs.List.{filter, list_any}
 use Rattle.std.specs.List.Sorted.{IsStrictlySortedBy}
-use Rattle.std.specs.Ordering.{ordering_then, is_le, is_gt, nat_cmp}
+use Rattle.std.specs.Ordering.{ordering_then, is_eq, is_le, is_gt, nat_cmp}
 use Rattle.hazard_types.specs.Places.{Place, by_place}
 use Rattle.hazard_types.specs.Same.{same_zone}
 use Rattle.hazard_types.specs.declared.hazard.Event.{Event}
 use Rattle.hazard_types.specs.declared.line.Row.{Row}
 use Rattle.hazard_types.specs.declared.period.End.{End}
+use Rattle.hazard_types.specs.contracts.period.EndOrd.TheImpl as end_order
 use Rattle.hazard_types.specs.declared.period.End.TheVariants as end
 use Rattle.hazard_types.proofs.OrderLaws.{by_place_total, by_place_ties, by_end_ties, numbers_tied}
 use Rattle.event_life.specs.Periods.{ends_after}
@@ -30,8 +31,23 @@ use Rattle.row_index.specs.Steps.{restood}
 use Rattle.row_index.specs.Telling.{Tells}
 use Rattle.row_index.proofs.Kept.{kept-put, kept-sorted}
 use Rattle.row_index.proofs.Seated.{same_by, spot_ties}
-use Rattle.row_index.proofs.Stood.{within, le_less, le_is, end_cmp}
 use Rattle.row_index.proofs.Tests.{any_filtered}
+
+within : (o x y : Ordering) → (is_le (ordering_then o x) && not (is_le (ordering_then o y))) ≡ (is_eq o && (is_le x && not (is_le y)))
+within Less x y = refl
+within Equal x y = refl
+within Greater x y = refl
+
+le_less : (o : Ordering) → is_le (ordering_then o Less) ≡ is_le o
+le_less Less = refl
+le_less Equal = refl
+le_less Greater = refl
+
+le_is : (a b : ℕ) → is_le (nat_cmp a b) ≡ nat_le a b
+le_is a b = grind (arith, nat_tests)
+
+abbrev end_cmp : End → End → Ordering
+end_cmp = end_order.cmp-value.it
 
 by_lasting_total : IsTotalOrder by_lasting
 by_lasting_total = lasting_laws.total-law

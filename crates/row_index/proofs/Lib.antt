@@ -1,11 +1,16 @@
 pub mod Tests
 mod Seated
+mod Saying
 mod LeftLemmas
+mod Lists
+mod HeldRows
 mod Opened
 mod Kept
-mod Stood
 mod Lasted
+mod Stood
+mod EventRows
 mod Indexed
+mod Runs
 mod Asked
 mod Changing
 mod Alone

@@ -10,7 +10,7 @@ use Rattle.std.specs.Cmp.{IsTotalOrder}
 use Rattle.std.specs.List.{list_any}
 use Rattle.std.specs.List.Sorted.{IsStrictlySortedBy}
 use Rattle.std.specs.Map.{lookup}
-use Rattle.std.specs.Ordering.{match_ordering, is_eq}
+use Rattle.std.specs.Ordering.{match_ordering}
 use Rattle.hazard_types.specs.Orders.{by_hazard}
 use Rattle.hazard_types.specs.Same.{same_hazard, same_event}
 use Rattle.hazard_types.specs.declared.hazard.Event.{Event}
@@ -18,14 +18,17 @@ use Rattle.hazard_types.specs.declared.line.Row.{Row}
 use Rattle.hazard_types.proofs.Equality.{hazard_one, hazard_itself, event_one, event_itself}
 use Rattle.hazard_types.proofs.OrderLaws.{by_hazard_total, by_hazard_ties, numbers_tied}
 use Rattle.event_life.specs.Periods.{keeps_open}
-use Rattle.event_life.specs.Products.{by_key, put, row_at, has_rows, is_open, is_held, later_event, going_in}
+use Rattle.event_life.specs.Products.{by_key, put, row_at, is_open, is_held, later_event, going_in}
 use Rattle.event_life.proofs.Keys.{then_parts}
 use Rattle.event_life.proofs.Members.{IsIn, any_in, in_any, one_way, find_in}
 use Rattle.event_life.proofs.Puts.{at_key, at_key-parts}
 use Rattle.row_index.specs.declared.numbers.Number.{Number}
-use Rattle.row_index.specs.Numbers.{number_of, by_number, has_number, lists_of, list_at, with_event, events_with, AreOpened}
+use Rattle.row_index.specs.Listing.{lists_of, list_at}
+use Rattle.row_index.specs.Numbers.{number_of, by_number, has_number, with_event, events_with, AreOpened}
 use Rattle.row_index.specs.Steps.{latest_open}
+use Rattle.row_index.proofs.Lists.{at_same, at_other}
 use Rattle.row_index.proofs.Tests.{any_same, any_put_plain, or_false}
+use Rattle.row_index.proofs.Tests as keys
 
 -- hazards and numbers
 
@@ -99,45 +102,11 @@ module _ {K : Type 0} (cmp : K → K → Ordering) where
 abbrev Lists : Type 0
 Lists = List (Number × List Event)
 
-tied_to : (o : Ordering) → is_eq o ≡ true → o ≡ Equal
-tied_to Less h = cc
-tied_to Equal h = refl
-tied_to Greater h = cc
-
 at_one : (q k : Number) → is_at (by_number q) k ≡ true → q ≡ k
-at_one q k h = by_number_ties q k (tied_to (by_number q k) h)
+at_one q k h = keys.at_one by_number by_number_total by_number_ties q k h
 
 at_itself : (k : Number) → is_at (by_number k) k ≡ true
 at_itself k = rw (tied_itself by_number_total k) refl
-
-abbrev or_none : Option (List Event) → List Event
-or_none o = unwrap_or o []
-
-same_by : (o : Ordering) (k : Number) (e : Number × List Event) (es : Lists) (w : List Event) → by_number k e.0 ≡ o
-    → list_at by_number (insert_entry by_number es k w) k ≡ w → list_at by_number (match_ordering o ((k, w) ∷ e ∷ es) ((e.0, w) ∷ es) (e ∷ insert_entry by_number es k w)) k ≡ w
-same_by Less k e es w h later = rw (at_itself k) refl
-same_by Equal k e es w h later = rw h refl
-same_by Greater k e es w h later = rw h later
-
-at_same : (k : Number) (es : Lists) (w : List Event) → list_at by_number (insert_entry by_number es k w) k ≡ w
-at_same k [] w = rw (at_itself k) refl
-at_same k (e ∷ es) w = same_by (by_number k e.0) k e es w refl (at_same k es w)
-
-other_first : (b : Bool) (events : List Event) (o p : Option (List Event)) → or_none o ≡ or_none p → or_none (cond b (Some events) o) ≡ or_none (cond b (Some events) p)
-other_first true events o p h = refl
-other_first false events o p h = h
-
-other_by : (o : Ordering) (q k : Number) (e : Number × List Event) (es : Lists) (w : List Event) → by_number k e.0 ≡ o → is_at (by_number q) k ≡ false
-    → list_at by_number (insert_entry by_number es k w) q ≡ list_at by_number es q → list_at by_number (match_ordering o ((k, w) ∷ e ∷ es) ((e.0, w) ∷ es) (e ∷ insert_entry by_number es k w)) q ≡ list_at by_number (e ∷ es) q
-other_by Less q k e es w h f later = rw f refl
-other_by Equal q k e es w h f later =
-    let g : is_at (by_number q) e.0 ≡ false = subst (λ (y : Number). is_at (by_number q) y ≡ false) (by_number_ties k e.0 h) f in
-    rw g refl
-other_by Greater q k e es w h f later = other_first (is_at (by_number q) e.0) e.1 (lookup (is_at (by_number q)) (insert_entry by_number es k w)) (lookup (is_at (by_number q)) es) later
-
-at_other : (q k : Number) (es : Lists) (w : List Event) → is_at (by_number q) k ≡ false → list_at by_number (insert_entry by_number es k w) q ≡ list_at by_number es q
-at_other q k [] w f = rw f refl
-at_other q k (e ∷ es) w f = other_by (by_number k e.0) q k e es w refl f (at_other q k es w f)
 
 -- one row more
 
@@ -172,7 +141,7 @@ opened_by : (b : Bool) (events : Lists) (rows : List Row) (row : Row) (k : Numbe
 opened_by true events rows row k h up opened q =
     let n = number_of row.event in
     let own : list_any q (list_at by_number (put_known events row) n) ≡ list_any (of_number n q) (put row rows) =
-    ap (list_any q) (at_same n events (with_event row.event (list_at by_number events n)))
+    ap (list_any q) (at_same by_number by_number_total by_number_ties n events (with_event row.event (list_at by_number events n)))
     ∙ more_by (list_any (λ (d : Event). same_event d row.event) (list_at by_number events n)) q row.event (list_at by_number events n) refl
     ∙ (let later = opened n q in let first : q row.event ≡ of_number n q row = rw (number_own row) refl in (λ i. first i || later i))
     ∙ sym (put_plain n q row rows up) in
@@ -183,7 +152,7 @@ opened_by false events rows row k h up opened q =
     let tied : is_at (by_number k) n ≡ true = subst (λ (m : Number). is_at (by_number m) n ≡ true) (sym (number_one k row g)) (at_itself n) in
     let e : true ≡ false = sym tied ∙ h in cc) in
     let none : of_number k q row ≡ false = rw left refl in
-    ap (list_any q) (at_other k n events (with_event row.event (list_at by_number events n)) h) ∙ opened k q
+    ap (list_any q) (at_other by_number by_number_total by_number_ties k n events (with_event row.event (list_at by_number events n)) h) ∙ opened k q
     ∙ ap (λ (b : Bool). b || list_any (of_number k q) rows) (sym none) ∙ sym (put_plain k q row rows up)
 
 pub opened-put : (events : Lists) (rows : List Row) (row : Row) → IsStrictlySortedBy by_key rows → AreOpened events rows → AreOpened (put_known events row) (put row rows)
@@ -207,19 +176,6 @@ opened-with None events rows row up found opened = opened-put events rows row up
 opened-with (Some old) events rows row up found opened = opened-kept events rows row old up (sym found) opened
 
 -- what is asked of the events of a number
-
-pub has_rows-told : (events : Lists) (rows : List Row) (e : Event) → AreOpened events rows → list_any (λ (d : Event). same_event d e) (list_at by_number events (number_of e)) ≡ has_rows rows e
-has_rows-told events rows e opened =
-    opened (number_of e) (λ d. same_event d e)
-    ∙ any_same (of_number (number_of e) (λ d. same_event d e)) (λ (r : Row). same_event r.event e) rows (λ r. own r (same_event r.event e) refl)
-  where
-    own : (r : Row) (b : Bool) → same_event r.event e ≡ b → (has_number (number_of e) r && same_event r.event e) ≡ same_event r.event e
-    own r true h = let one = event_one r.event e h in rw h (subst (λ (d : Event). (has_number (number_of d) r && true) ≡ true) one (rw (number_own r) refl))
-    own r false h = rw h (none (has_number (number_of e) r))
-      where
-        none : (a : Bool) → (a && false) ≡ false
-        none true = refl
-        none false = refl
 
 -- an event is open exactly where a row of it keeps it open
 pub open_own : (rows : List Row) (t : ℕ) (r : Row) → IsIn r rows → keeps_open t r ≡ true → is_open rows t r.event ≡ true

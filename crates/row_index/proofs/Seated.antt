@@ -163,7 +163,7 @@ by_seat_ties a b h =
     let spot_is = spot_ties a.spot b.spot p.1 in
     λ i. record { zone = zone_is i; spot = spot_is i }
 
-abbrev counts_at : (Line → Bool) → (Seat → Bool) → Line → Bool
+abbrev pub counts_at : (Line → Bool) → (Seat → Bool) → Line → Bool
 counts_at counts q line = counts line && q (seat_said line)
 
 with_by : (b : Bool) (counts : Line → Bool) (q : Seat → Bool) (line : Line) (seats : List Seat) (lines : List Line) → counts line ≡ b → list_any q seats ≡ list_any (counts_at counts q) lines

@@ -1,6 +1,10 @@
 pub mod Telling
+pub mod Listing
+pub mod Holding
 pub mod Seating
-pub mod Standings
+pub mod Risen
 pub mod Lastings
 pub mod Numbers
+pub mod Standings
 pub mod Steps
+pub mod Runs

@@ -1,10 +1,8 @@
 -- Hazards and numbers, the events that have them, and what the maps of an index hold of its rows.
-use Rattle.std.specs.Prelude.{◌==◌, ◌&&◌, not, Bool, List, [], ◌∷◌, ◌++◌, if◌then◌else◌, map, unwrap_or, Option, Some, None, Vec}
-use Rattle.std.specs.BTreeMap.{insert_entry, is_at}
+use Rattle.std.specs.Prelude.{◌==◌, ◌&&◌, not, Bool, List, [], ◌∷◌, ◌++◌, if◌then◌else◌, Option, Some, None}
+use Rattle.std.specs.BTreeMap.{insert_entry}
 use Rattle.std.specs.List.{list_any}
 use Rattle.std.specs.List.Sorted.{IsStrictlySortedBy}
-use Rattle.std.specs.Map.{lookup, values_of}
-use Rattle.std.specs.declared.alloc.Global.{Global}
 use Rattle.std.specs.declared.cmp.Ordering.{Ordering}
 use Rattle.std.specs.Ordering.{nat_cmp, on, then_cmp}
 use Rattle.hazard_types.specs.Orders.{by_hazard}
@@ -12,14 +10,11 @@ use Rattle.hazard_types.specs.Places.{Place}
 use Rattle.hazard_types.specs.Same.{same_zone, same_hazard, same_event}
 use Rattle.hazard_types.specs.declared.hazard.Event.{Event}
 use Rattle.hazard_types.specs.declared.line.Row.{Row}
-use Rattle.event_life.specs.Products.{by_key}
 use Rattle.row_index.specs.declared.lasting.Lasting.{Lasting}
 use Rattle.row_index.specs.declared.numbers.Number.{Number}
-use Rattle.row_index.specs.declared.seats.Seat.{Seat}
-use Rattle.row_index.specs.declared.standing.Standing.{Standing}
+use Rattle.row_index.specs.Holding.{AreHeld, told}
 use Rattle.row_index.specs.Lastings.{by_lasting, lasting_of}
-use Rattle.row_index.specs.Seating.{AreSeated}
-use Rattle.row_index.specs.Standings.{by_standing, standing_of}
+use Rattle.row_index.specs.Listing.{list_at}
 use Rattle.row_index.specs.Telling.{Tells}
 
 abbrev pub number_of : Event → Number
@@ -35,14 +30,6 @@ has_number k r = same_hazard r.event.hazard k.hazard && (r.event.etn == k.etn)
 
 abbrev pub is_in_zone : Place → Row → Bool
 is_in_zone z r = same_zone r.zone z
-
--- the lists of a map
-abbrev pub lists_of : {K : Type 0} → List (K × Vec Event Global) → List (K × List Event)
-lists_of es = map (λ e. (e.0, e.1.items)) es
-
--- the list at a key, which has no events where there is none
-abbrev pub list_at : {K : Type 0} → (K → K → Ordering) → List (K × List Event) → K → List Event
-list_at cmp es k = unwrap_or (lookup (is_at (cmp k)) es) []
 
 -- one event more, unless it is among them
 abbrev pub with_event : Event → List Event → List Event
@@ -61,12 +48,9 @@ AreOpened events rows = (k : Number) → Tells (has_number k) (λ (r : Row). r.e
 abbrev pub stands : Row → Bool
 stands r = not r.ended
 
--- each row is at its own seat, the rows are in order, their events stand by hazard and number, and the rows that no line has ended by event and end, and by zone and end
-pub record IsIndex (seats : List (Seat × Row)) (events : List (Number × List Event)) (keys : List Standing) (lastings : List Lasting) : Type 0 where
-  pub in_order : IsStrictlySortedBy by_key (values_of seats)
-  pub seated : AreSeated seats
-  pub opened : AreOpened events (values_of seats)
-  pub ascending : IsStrictlySortedBy by_standing keys
-  pub standing : Tells stands standing_of keys (values_of seats)
+-- the rows of each event are its own, the events stand by hazard and number, and the rows that no line has ended by zone and end
+pub record IsIndex (es : List (Event × List Row)) (events : List (Number × List Event)) (lastings : List Lasting) : Type 0 where
+  pub held : AreHeld es
+  pub opened : AreOpened events (told es)
   pub lasting_ascending : IsStrictlySortedBy by_lasting lastings
-  pub lasting : Tells stands lasting_of lastings (values_of seats)
+  pub lasting : Tells stands lasting_of lastings (told es)

@@ -1,5 +1,5 @@
 //! The rows of an office's class, as the judging of its lines needs them.
-ghost use Rattle.std.specs.Prelude.{◌≡◌, ◌&&◌, not, true, false, nat_lt, [], List as Seq, Some, None, Option, if◌then◌else◌, is_none, IfOk};
+ghost use Rattle.std.specs.Prelude.{◌≡◌, ◌&&◌, not, true, false, nat_lt, [], List as Seq, Some, None, Option, if◌then◌else◌, is_none, IfOk, OnOk};
 ghost use Rattle.std.specs.List.{list_any};
 ghost use Rattle.hazard_types.specs.declared.line.Line.{Line as LineValue};
 ghost use Rattle.std.specs.Map.{values_of};
@@ -9,16 +9,19 @@ ghost use Rattle.event_life.specs.Products.{put, line_of, row_at, row_after, is_
 ghost use Rattle.event_life.specs.Seats.{may_count};
 ghost use Rattle.event_life.specs.Shown.{shown_at};
 ghost use Rattle.event_life.specs.Table.{breach_of_line};
+ghost use Rattle.row_index.specs.Holding.{AreNear, AreRowsOf};
+ghost use Rattle.row_index.specs.Runs.{AreOfOne};
 ghost use Rattle.row_index.specs.Seating.{AreSeated, upgrades};
 ghost use Rattle.row_index.specs.Steps.{IsChanged, around_new, around_joining, asked_around, latest_open, event_going, rows_left, put_each};
 
+use crate::held::{Held, RowsOf, all_held, has_period, is_open, put_held, rows_of, seated};
 use crate::higher::{Changed, any_upgrades, rivals, upgraded_by};
-use crate::lasting::{Lastings, relast};
-use crate::look::{is_new, later_event, life_of, nothing_around, of_event, opens};
-use crate::numbers::{Events, Number, events_at, has_event, number_of, put_event_of};
+use crate::lasting::Lastings;
+use crate::look::{is_of, later_event, life_of, nothing_around, of_event, opens};
+use crate::numbers::{Events, Number, events_at, number_of};
 use crate::parts::HazardKey;
-use crate::seats::{Seated, add_seat, all_rows, count_row, has_seat, put_seated, row_in};
-use crate::standing::{Standings, has_same_among, is_open_among, restand};
+use crate::seats::{Seated, all_rows, count_row};
+use crate::spoken::Spoken;
 use event_life::{Around, Breach, is_lawful, is_routine, is_upgrade, life_step, opened_period};
 use hazard_types::{Action, Event, Flood, Line, List, Minute, Oom, Row, Vtec, Zone};
 use std::alloc::Global;
@@ -28,23 +31,23 @@ use std::marker::Model;
 /// Rows in order by zone, then event, each pair once.
 #[derive(Drop)]
 pub struct RowIndex {
-    seated: Seated,
+    held: Held,
     events: Events,
-    standing: Standings,
     lasting: Lastings,
 }
 
 impl Model for RowIndex {
     ghost use Rattle.std.specs.Prelude.{List};
     ghost use Rattle.hazard_types.specs.declared.line.Row.{Row};
-    ghost use Rattle.std.specs.Map.{values_of};
-    ghost use Rattle.row_index.specs.Numbers.{lists_of, IsIndex};
+    ghost use Rattle.row_index.specs.Holding.{told};
+    ghost use Rattle.row_index.specs.Listing.{lists_of};
+    ghost use Rattle.row_index.specs.Numbers.{IsIndex};
 
     ghost Value = { List Row };
 
-    ghost view = { λ x. values_of x.seated.entries };
+    ghost view = { λ x. told x.held.entries };
 
-    ghost invariant = { λ x. IsIndex x.seated.entries (lists_of x.events.entries) x.standing.keys x.lasting.keys };
+    ghost invariant = { λ x. IsIndex x.held.entries (lists_of x.events.entries) x.lasting.keys };
 }
 
 impl RowIndex {
@@ -53,42 +56,57 @@ impl RowIndex {
         ensures { result ≡ [] }
     {
         RowIndex {
-            seated: BTreeMap::new(alloc),
+            held: BTreeMap::new(alloc),
             events: BTreeMap::new(alloc),
-            standing: BTreeSet::new(alloc),
             lasting: BTreeSet::new(alloc),
         }
     }
 
-    /// The row of an event in a zone.
-    fn row_at(&self, event: &Event, zone: &Zone) -> Option<Row>
-        ensures { result ≡ row_at self.now event.now zone.now }
+    /// The rows of an event.
+    fn rows_of(&self, event: &Event) -> RowsOf<'_>
+        ensures { AreRowsOf self.now event.now result }
     {
-        row_in(&self.seated, event, zone)
+        rows_of(&self.held, event)
     }
 
-    /// Whether the event has rows, ended ones among them.
-    fn has_rows(&self, event: &Event) -> bool
-        ensures { result ≡ has_rows self.now event.now }
+    /// The rows of an event. `rows` are those of the line before, which mostly is of the same.
+    fn rows_near<'a>(&'a self, near: &Option<Event>, rows: RowsOf<'a>, event: &Event) -> RowsOf<'a>
+        requires { AreNear self.now near.now rows }
+        ensures { AreRowsOf self.now event.now result }
     {
-        has_event(events_at(&self.events, &number_of(event)), event)
+        match near {
+            Some(before) => {
+                if *before == *event {
+                    rows
+                } else {
+                    self.rows_of(event)
+                }
+            }
+            None => self.rows_of(event),
+        }
+    }
+
+    /// The row of a line's event in its zone. `rows` are the event's.
+    fn own_row(&self, rows: &RowsOf<'_>, line: &Line) -> Option<Row>
+        requires { AreRowsOf self.now line.now.event rows.now }
+        ensures { result ≡ row_at self.now line.now.event line.now.zone }
+    {
+        rows.row_at(&line.event, &line.zone)
+    }
+
+    /// Whether a line's event has rows, ended ones among them. `rows` are the event's.
+    fn has_rows(&self, rows: &RowsOf<'_>, line: &Line) -> bool
+        requires { AreRowsOf self.now line.now.event rows.now }
+        ensures { result ≡ has_rows self.now line.now.event }
+    {
+        rows.has_rows(&line.event)
     }
 
     /// Whether the event has a row that no line has ended and whose end is at most half an hour past.
     fn is_open(&self, t: Minute, event: &Event) -> bool
         ensures { result ≡ is_open self.now t event.now }
     {
-        is_open_among(&self.standing, t, event)
-    }
-
-    /// The row of a line's event in its zone. A NEW line's event mostly has none.
-    fn own_row(&self, line: &Line) -> Option<Row>
-        ensures { result ≡ row_at self.now line.now.event line.now.zone }
-    {
-        if is_new(&line.action) && !self.has_rows(&line.event) {
-            return None;
-        }
-        self.row_at(&line.event, &line.zone)
+        is_open(&self.held, t, event)
     }
 
     /// Whether one of the events is of an earlier year and open.
@@ -114,7 +132,7 @@ impl RowIndex {
     fn has_same(&self, t: Minute, line: &Line) -> bool
         ensures { result ≡ has_same self.now t line.now }
     {
-        has_same_among(&self.standing, t, &line.event, &opened_period(line, t))
+        has_period(&self.held, t, &line.event, &opened_period(line, t))
     }
 
     /// Of the events that are open the one of the greatest year.
@@ -174,11 +192,12 @@ impl RowIndex {
         }
     }
 
-    /// What stands around a NEW line.
-    fn around_new(&self, t: Minute, line: &Line, higher: bool) -> Around
+    /// What stands around a NEW line. `rows` are its event's.
+    fn around_new(&self, rows: &RowsOf<'_>, t: Minute, line: &Line, higher: bool) -> Around
+        requires { AreRowsOf self.now line.now.event rows.now }
         ensures { result ≡ around_new self.now t line.now higher }
     {
-        let opened = self.has_rows(&line.event);
+        let opened = self.has_rows(rows, line);
         let held = !opened && self.is_held(t, &line.event);
         Around {
             opened,
@@ -204,31 +223,41 @@ impl RowIndex {
         }
     }
 
-    /// What stands around a line, as far as its action asks for it.
-    fn around(&self, t: Minute, line: &Line, higher: bool) -> Around
+    /// What stands around a line, as far as its action asks for it. `rows` are its event's.
+    fn around(&self, rows: &RowsOf<'_>, t: Minute, line: &Line, higher: bool) -> Around
+        requires { AreRowsOf self.now line.now.event rows.now }
         ensures { result ≡ asked_around line.now.action self.now t line.now higher }
     {
         match line.action {
-            Action::New => self.around_new(t, line, higher),
+            Action::New => self.around_new(rows, t, line, higher),
             Action::Exa | Action::Exb => self.around_joining(t, line, higher),
             _ => nothing_around(higher),
         }
     }
 
     /// The first breach of a line on the life of its event in its zone, where its row is overlapped or not.
-    fn step_breach(&self, t: Minute, line: &Line, higher: bool) -> Option<Breach>
-        requires { is_routine line.now.action ≡ false }
+    fn step_breach(&self, rows: &RowsOf<'_>, t: Minute, line: &Line, higher: bool) -> Option<Breach>
+        requires touches { is_routine line.now.action ≡ false }
+        requires rows { AreRowsOf self.now line.now.event rows.now }
         ensures { result ≡ breach_of_line (life_at self.now line.now) line.now t (around_but_higher self.now t line.now higher) }
     {
-        let life = life_of(&self.own_row(line));
-        match life_step(life, line, t, self.around(t, line, higher)) {
+        let life = life_of(&self.own_row(rows, line));
+        match life_step(life, line, t, self.around(rows, t, line, higher)) {
             Ok(_life) => None,
             Err(breach) => Some(breach),
         }
     }
 
     /// The first breach of a line, which is a second one of its event and zone or not, where its row is overlapped or not.
-    fn first_breach(&self, t: Minute, line: &Line, second: bool, higher: bool) -> Option<Breach>
+    fn first_breach(
+        &self,
+        rows: &RowsOf<'_>,
+        t: Minute,
+        line: &Line,
+        second: bool,
+        higher: bool,
+    ) -> Option<Breach>
+        requires { AreRowsOf self.now line.now.event rows.now }
         ensures { result ≡ (if is_routine line.now.action then None else (if second then Some Twice else breach_of_line (life_at self.now line.now) line.now t (around_but_higher self.now t line.now higher))) }
     {
         if is_routine(&line.action) {
@@ -237,27 +266,29 @@ impl RowIndex {
         if second {
             return Some(Breach::Twice);
         }
-        self.step_breach(t, line, higher)
+        self.step_breach(rows, t, line, higher)
     }
 
-    /// The row that a lawful line leaves.
-    fn row_after(&self, t: Minute, line: &Line) -> Row
+    /// The row that a lawful line leaves. `rows` are its event's.
+    fn row_after(&self, rows: &RowsOf<'_>, t: Minute, line: &Line) -> Row
+        requires { AreRowsOf self.now line.now.event rows.now }
         ensures { result ≡ row_after self.now t line.now }
     {
         if opens(&line.action) {
             return event_life::row_after(&[], t, line);
         }
-        match self.row_at(&line.event, &line.zone) {
+        match self.own_row(rows, line) {
             Some(own) => event_life::row_after(&[own], t, line),
             None => event_life::row_after(&[], t, line),
         }
     }
 
     /// Whether a line is lawful and no UPG, so that its row counts where a higher row is looked for.
-    fn may_count(&self, t: Minute, line: &Line, second: bool) -> bool
+    fn may_count(&self, rows: &RowsOf<'_>, t: Minute, line: &Line, second: bool) -> bool
+        requires { AreRowsOf self.now line.now.event rows.now }
         ensures { result ≡ (not (is_routine line.now.action) && not (is_upgrade line.now.action) && not second && is_none (breach_of_line (life_at self.now line.now) line.now t (around_but_higher self.now t line.now true))) }
     {
-        let breach = self.first_breach(t, line, second, true);
+        let breach = self.first_breach(rows, t, line, second, true);
         !is_routine(&line.action) && !is_upgrade(&line.action) && !second && breach.is_none()
     }
 
@@ -267,12 +298,12 @@ impl RowIndex {
         ensures seated { IfOk result (λ counted. AreSeated counted.entries) }
     {
         let mut counted = BTreeMap::new(alloc);
-        let mut spoken = BTreeSet::new(alloc);
+        let mut spoken = Spoken::new(alloc);
         for line in lines {
-            let second = has_seat(&spoken, &line.event, &line.zone);
-            let counts = self.may_count(t, line, second);
-            count_row(&mut counted, counts, &self.row_after(t, line))?;
-            add_seat(&mut spoken, !is_routine(&line.action), line)?;
+            let second = spoken.speak(!is_routine(&line.action), line)?;
+            let rows = self.rows_of(&line.event);
+            let counts = self.may_count(&rows, t, line, second);
+            count_row(&mut counted, counts, &self.row_after(&rows, t, line))?;
         }
         Ok(counted)
     }
@@ -293,42 +324,46 @@ impl RowIndex {
         Ok(Changed { counted, upgraded })
     }
 
-    /// Whether the row of a UPG line is overlapped by a higher one after the product.
+    /// Whether the row of a UPG line, its `own`, is overlapped by a higher one after the product.
     fn has_higher(
         &self,
         alloc: Global,
         t: Minute,
         changed: &Changed,
         line: &Line,
+        own: &Option<Row>,
     ) -> Result<bool, Oom>
         requires seated { AreSeated changed.now.counted.entries }
+        requires own { own.now ≡ row_at self.now line.now.event line.now.zone }
         ensures { (lines : Seq LineValue) → IsChanged self.now t lines (values_of changed.now.counted.entries) changed.now.upgraded.keys → IfOk result (λ higher. higher ≡ has_higher self.now t lines line.now) }
     {
         let rows = rivals(alloc, &self.lasting, t, changed, &line.zone)?;
-        match self.row_at(&line.event, &line.zone) {
-            Some(own) => Ok(event_life::has_higher(&[own], t, &rows, line)),
+        match own {
+            Some(own) => Ok(event_life::has_higher(&[*own], t, &rows, line)),
             None => Ok(event_life::has_higher(&[], t, &rows, line)),
         }
     }
 
-    /// The first breach of a line of a product.
+    /// The first breach of a line of a product. `rows` are its event's.
     fn breach_in(
         &self,
         alloc: Global,
         t: Minute,
         changed: &Changed,
+        rows: &RowsOf<'_>,
         line: &Line,
         second: bool,
     ) -> Result<Option<Breach>, Oom>
         requires seated { AreSeated changed.now.counted.entries }
+        requires rows { AreRowsOf self.now line.now.event rows.now }
         ensures { (lines earlier : Seq LineValue) → (is_upgrade line.now.action ≡ true → IsChanged self.now t lines (values_of changed.now.counted.entries) changed.now.upgraded.keys)
             → second ≡ is_second earlier line.now → IfOk result (λ breach. breach ≡ breach_in self.now t lines earlier line.now) }
     {
         if !is_upgrade(&line.action) {
-            return Ok(self.first_breach(t, line, second, true));
+            return Ok(self.first_breach(rows, t, line, second, true));
         }
-        let higher = self.has_higher(alloc, t, changed, line)?;
-        Ok(self.first_breach(t, line, second, higher))
+        let higher = self.has_higher(alloc, t, changed, line, &self.own_row(rows, line))?;
+        Ok(self.first_breach(rows, t, line, second, higher))
     }
 
     /// The lines of a product, each with its first breach, or None where it is lawful. The rows are those just before the product,
@@ -342,38 +377,72 @@ impl RowIndex {
         ensures { IfOk result (λ found. found ≡ judged self.now t lines.now) }
     {
         let changed = self.changed(alloc, t, lines)?;
-        let mut spoken = BTreeSet::new(alloc);
+        let mut spoken = Spoken::new(alloc);
         let mut found = Vec::with_capacity(alloc, lines.len())?;
+        let mut near = None;
+        let mut rows = RowsOf::none();
         for line in lines {
-            let second = has_seat(&spoken, &line.event, &line.zone);
-            let breach = self.breach_in(alloc, t, &changed, line, second)?;
+            rows = self.rows_near(&near, rows, &line.event);
+            near = Some(line.event);
+            let second = spoken.speak(!is_routine(&line.action), line)?;
+            let breach = self.breach_in(alloc, t, &changed, &rows, line, second)?;
             found.push((*line, breach))?;
-            add_seat(&mut spoken, !is_routine(&line.action), line)?;
         }
         Ok(List::from_vec(found))
     }
 
-    /// Puts a row in the place of the one of its zone and event, or in its own place.
-    fn put(self, alloc: Global, row: &Row) -> Result<Self, Oom>
-        ensures { IfOk result (λ index. index ≡ put row.now self) }
+    /// Puts each of the rows, which are of one event.
+    fn put_of(self, alloc: Global, event: &Event, rows: &[Row]) -> Result<Self, Oom>
+        requires { AreOfOne (Some event.now) rows.now }
+        ensures { IfOk result (λ index. index ≡ put_each rows.now self) }
     {
+        if rows.is_empty() {
+            return Ok(self);
+        }
         let RowIndex {
-            mut seated,
+            mut held,
             mut events,
-            mut standing,
             mut lasting,
         } = self;
-        let mut before = None;
-        put_seated(&mut seated, row, &mut before)?;
-        put_event_of(alloc, &mut events, &before, &row.event)?;
-        restand(&mut standing, &before, row)?;
-        relast(&mut lasting, &before, row)?;
+        put_held(alloc, &mut held, &mut events, &mut lasting, event, rows)?;
         Ok(RowIndex {
-            seated,
+            held,
             events,
-            standing,
             lasting,
         })
+    }
+
+    /// Puts each of the rows, which are of one event if there are any.
+    fn put_run(self, alloc: Global, event: &Option<Event>, rows: &[Row]) -> Result<Self, Oom>
+        requires { AreOfOne event.now rows.now }
+        ensures { IfOk result (λ index. index ≡ put_each rows.now self) }
+    {
+        match event {
+            Some(event) => self.put_of(alloc, event, rows),
+            None => Ok(self),
+        }
+    }
+
+    /// Puts a run of rows of one event, unless a further row is of that event too. The run then has that row.
+    fn put_before(
+        self,
+        alloc: Global,
+        event: &Option<Event>,
+        run: &mut Vec<Row>,
+        row: &Row,
+    ) -> Result<Self, Oom>
+        requires { AreOfOne event.now run.old.items }
+        ensures put { IfOk result (λ index. put_each run.new.items index ≡ put row.now (put_each run.old.items self)) }
+        ensures run { OnOk result (AreOfOne (Some row.now.event) run.new.items) }
+    {
+        if is_of(event, row) {
+            run.push(*row)?;
+            return Ok(self);
+        }
+        let index = self.put_run(alloc, event, run)?;
+        run.clear();
+        run.push(*row)?;
+        Ok(index)
     }
 
     /// The rows that the lawful lines of a product leave.
@@ -386,9 +455,13 @@ impl RowIndex {
         ensures { IfOk result (λ left. left ≡ rows_left self.now t (lawful_of judged.now)) }
     {
         let mut left = List::new(alloc);
+        let mut near = None;
+        let mut rows = RowsOf::none();
         for found in judged {
+            rows = self.rows_near(&near, rows, &found.0.event);
+            near = Some(found.0.event);
             if is_lawful(found) {
-                left.extend(&[self.row_after(t, &found.0)])?;
+                left.extend(&[self.row_after(&rows, t, &found.0)])?;
             }
         }
         Ok(left)
@@ -399,10 +472,13 @@ impl RowIndex {
         ensures { IfOk result (λ index. index ≡ put_each rows.now self) }
     {
         let mut index = self;
+        let mut run = Vec::new(alloc);
+        let mut event = None;
         for row in rows {
-            index = index.put(alloc, row)?;
+            index = index.put_before(alloc, &event, &mut run, row)?;
+            event = Some(row.event);
         }
-        Ok(index)
+        index.put_run(alloc, &event, &run)
     }
 
     /// The rows after a product whose lines were judged by these: each lawful line leaves its row, and no other line changes any.
@@ -423,7 +499,9 @@ impl RowIndex {
     pub fn rows(&self, alloc: Global) -> Result<List<Row>, Oom>
         ensures { IfOk result (λ rows. rows ≡ self.now) }
     {
-        Ok(List::from_vec(all_rows(alloc, &self.seated)?))
+        let rows = all_held(alloc, &self.held)?;
+        let rows = all_rows(alloc, &seated(alloc, &rows)?)?;
+        Ok(List::from_vec(rows))
     }
 
     /// The rows that are shown at a minute: those that no line has ended and whose end is until further notice or after it.

@@ -5,7 +5,7 @@ ghost use Rattle.std.specs.BTreeMap.Range.{range_contains, IsLeBy};
 ghost use Rattle.std.specs.BTreeSet.{insert_key};
 ghost use Rattle.std.specs.List.{list_any};
 ghost use Rattle.std.specs.Set.{remove_key};
-ghost use Rattle.std.specs.declared.ops.Bound.TheVariants.{Included, Excluded};
+ghost use Rattle.std.specs.declared.ops.Bound.TheVariants.{Included, Excluded, Unbounded};
 
 use hazard_types::Oom;
 use std::collections::BTreeSet;
@@ -23,6 +23,13 @@ pub fn take_key<K: Ord + Drop>(keys: &mut BTreeSet<K>, key: &K)
     ensures { keys.new.keys ≡ remove_key (is_at (K.cmp key.now)) keys.old.keys }
 {
     keys.remove(key);
+}
+
+/// Whether a key stands at a place or behind it.
+pub fn any_from<K: Ord + Drop>(keys: &BTreeSet<K>, from: K) -> bool
+    ensures { result ≡ list_any (range_contains K.cmp (Included from) Unbounded) keys.now.keys }
+{
+    keys.range(from..).next().is_some()
 }
 
 /// Whether a key stands between two places, the first with it.

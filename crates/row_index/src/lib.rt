@@ -1,6 +1,7 @@
 //! The rows of a long history, found by zone and event, and by hazard and number, without a walk over other rows.
 #![tactic(auto)]
 
+mod held;
 mod higher;
 mod index;
 mod keys;
@@ -9,6 +10,7 @@ mod look;
 mod numbers;
 mod parts;
 mod seats;
+mod spoken;
 mod standing;
 
 pub use index::RowIndex;

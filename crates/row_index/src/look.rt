@@ -1,7 +1,8 @@
 //! What is read off a row or two, without a walk.
 ghost use Rattle.std.specs.Prelude.{◌≡◌, option_map};
 ghost use Rattle.event_life.specs.Lives.{opens};
-ghost use Rattle.event_life.specs.Products.{life_of, later_event, is_new};
+ghost use Rattle.event_life.specs.Products.{life_of, later_event};
+ghost use Rattle.row_index.specs.Runs.{is_of};
 ghost use Rattle.row_index.specs.Steps.{nothing_around, of_event, stays};
 
 use event_life::{Around, Life};
@@ -50,13 +51,6 @@ pub fn nothing_around(higher: bool) -> Around
     }
 }
 
-/// Whether a line opens an event of its own.
-pub fn is_new(action: &Action) -> bool
-    ensures { result ≡ is_new action.now }
-{
-    matches!(action, Action::New)
-}
-
 /// Whether a line opens a spell, and so leaves nothing of the one before.
 pub fn opens(action: &Action) -> bool
     ensures { result ≡ opens action.now }
@@ -84,6 +78,16 @@ pub fn stays(before: &Option<Row>, row: &Row) -> bool
 {
     match before {
         Some(old) => old.period == row.period && !old.ended && !row.ended,
+        None => false,
+    }
+}
+
+/// Whether a row is of this event.
+pub fn is_of(event: &Option<Event>, row: &Row) -> bool
+    ensures { result ≡ is_of event.now row.now }
+{
+    match event {
+        Some(event) => *event == row.event,
         None => false,
     }
 }

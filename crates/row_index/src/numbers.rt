@@ -3,7 +3,8 @@ ghost use Rattle.std.specs.Prelude.{◌≡◌, ◌++◌, ◌∷◌, [], OnOk};
 ghost use Rattle.std.specs.BTreeMap.{insert_entry};
 ghost use Rattle.std.specs.List.{list_any};
 ghost use Rattle.hazard_types.specs.Same.{same_event};
-ghost use Rattle.row_index.specs.Numbers.{number_of, by_number, lists_of, list_at, with_event, events_with};
+ghost use Rattle.row_index.specs.Listing.{lists_of, list_at};
+ghost use Rattle.row_index.specs.Numbers.{number_of, by_number, with_event, events_with};
 
 use crate::parts::HazardKey;
 use hazard_types::{Event, Oom, Row};
@@ -33,7 +34,7 @@ pub fn number_of(event: &Event) -> Number
 }
 
 /// Whether an event is among these.
-pub fn has_event(events: &[Event], event: &Event) -> bool
+fn has_event(events: &[Event], event: &Event) -> bool
     ensures { result ≡ list_any (λ d. same_event d event.now) events.now }
 {
     events.iter().any(|other| *other == *event)

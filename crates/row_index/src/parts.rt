@@ -17,29 +17,45 @@ use std::marker::Model;
 fn letter_order(a: [u8; 2], b: [u8; 2]) -> Ordering
     ensures { result ≡ slice_cmp nat_cmp a b }
 {
-    a[0].cmp(&b[0]).then(a[1].cmp(&b[1]))
+    match a[0].cmp(&b[0]) {
+        Ordering::Equal => a[1].cmp(&b[1]),
+        order => order,
+    }
 }
 
-fn zone_order(a: &Zone, b: &Zone) -> Ordering
+/// How two zones stand in order.
+pub fn zone_order(a: &Zone, b: &Zone) -> Ordering
     ensures { result ≡ by_place a.now b.now }
 {
-    letter_order(a.state(), b.state())
-        .then(a.kind().cmp(&b.kind()))
-        .then(a.number().cmp(&b.number()))
+    match letter_order(a.state(), b.state()) {
+        Ordering::Equal => match a.kind().cmp(&b.kind()) {
+            Ordering::Equal => a.number().cmp(&b.number()),
+            order => order,
+        },
+        order => order,
+    }
 }
 
 fn hazard_order(a: &Hazard, b: &Hazard) -> Ordering
     ensures { result ≡ by_hazard a.now b.now }
 {
-    letter_order(a.phen.letters(), b.phen.letters()).then(a.sig.letter().cmp(&b.sig.letter()))
+    match letter_order(a.phen.letters(), b.phen.letters()) {
+        Ordering::Equal => a.sig.letter().cmp(&b.sig.letter()),
+        order => order,
+    }
 }
 
-fn event_order(a: &Event, b: &Event) -> Ordering
+/// How two events stand in order.
+pub fn event_order(a: &Event, b: &Event) -> Ordering
     ensures { result ≡ by_event a.now b.now }
 {
-    hazard_order(&a.hazard, &b.hazard)
-        .then(a.etn.cmp(&b.etn))
-        .then(a.year.cmp(&b.year))
+    match hazard_order(&a.hazard, &b.hazard) {
+        Ordering::Equal => match a.etn.cmp(&b.etn) {
+            Ordering::Equal => a.year.cmp(&b.year),
+            order => order,
+        },
+        order => order,
+    }
 }
 
 /// A zone as a key.

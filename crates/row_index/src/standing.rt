@@ -1,20 +1,20 @@
-//! Rows that no line has ended, in the order in which what is asked of an event stands together.
+//! The rows of an event that no line has ended, in the order in which what is asked of them stands together.
 ghost use Rattle.std.specs.Prelude.{◌≡◌, ◌≤◌, ◌&&◌, ◌-◌, OnOk};
 ghost use Rattle.std.specs.BTreeSet.{insert_key};
 ghost use Rattle.std.specs.List.{list_any};
 ghost use Rattle.event_life.specs.Periods.{ends_after};
-ghost use Rattle.row_index.specs.Standings.{by_standing, place_of, standing_of, lies, open_from, behind, same_from, same_to};
+ghost use Rattle.row_index.specs.Standings.{by_standing, place_of, standing_of, lies, lies_from, open_from, same_from, same_to};
 ghost use Rattle.row_index.specs.Steps.{restood};
 ghost use Rattle.row_index.specs.declared.standing.Corner.TheVariants as corner;
 
-use crate::keys::{add_key, any_between, take_key};
+use crate::keys::{add_key, any_between, any_from, take_key};
 use crate::look::stays;
 use crate::parts::{EventKey, ZoneKey};
 use event_life::ends_after;
 use hazard_types::{End, Event, Minute, Oom, Period, Row};
 use std::collections::BTreeSet;
 
-/// A place among the rows of an event with one period: in front of all zones, at a zone, or behind them all.
+/// A place among the rows with one period: in front of all zones, at a zone, or behind them all.
 #[derive(Clone, Copy, PartialEq, Eq, PartialOrd, Ord)]
 pub enum Corner {
     Front,
@@ -22,50 +22,29 @@ pub enum Corner {
     Back,
 }
 
-/// A place among the rows of an event, which are in order by end, then begin, then zone.
+/// Where a row stands among those of its event, which are in order by end, then begin, then corner.
 #[derive(Clone, Copy, PartialEq, Eq, PartialOrd, Ord)]
-pub struct Stay {
+pub struct Standing {
     pub end: End,
     pub begin: Minute,
     pub corner: Corner,
-}
-
-/// A place among the rows of an event, or behind them all.
-#[derive(Clone, Copy, PartialEq, Eq, PartialOrd, Ord)]
-pub enum Term {
-    At(Stay),
-    Back,
-}
-
-/// Where a row stands among all rows, which are in order by event, then term.
-#[derive(Clone, Copy, PartialEq, Eq, PartialOrd, Ord)]
-pub struct Standing {
     pub event: EventKey,
-    pub term: Term,
 }
 
-/// The rows that no line has ended.
+/// The rows of an event that no line has ended.
 pub type Standings = BTreeSet<Standing>;
-
-fn place_of(event: &Event, end: End, begin: Minute, corner: Corner) -> Standing
-    ensures { result ≡ place_of event.now end begin corner }
-{
-    let stay = Stay { end, begin, corner };
-    Standing {
-        event: EventKey { event: *event },
-        term: Term::At(stay),
-    }
-}
 
 fn standing_of(row: &Row) -> Standing
     ensures { result ≡ standing_of row.now }
 {
-    place_of(
-        &row.event,
-        row.period.end,
-        row.period.begin,
-        Corner::At(ZoneKey { zone: row.zone }),
-    )
+    let end = row.period.end;
+    let corner = Corner::At(ZoneKey { zone: row.zone });
+    Standing {
+        end,
+        begin: row.period.begin,
+        corner,
+        event: EventKey { event: row.event },
+    }
 }
 
 /// The minute so many before this one, or the first of all.
@@ -80,23 +59,18 @@ fn minutes_before(t: Minute, count: u32) -> Minute
 
 /// Whether a row of the event stands whose end is at most half an hour past.
 pub fn is_open_among(standings: &Standings, t: Minute, event: &Event) -> bool
-    ensures { result ≡ list_any (lies (open_from t event.now) (behind event.now)) standings.now.keys }
+    ensures { result ≡ list_any (lies_from (open_from t event.now)) standings.now.keys }
 {
     let end = End::At(minutes_before(t, 30));
     let begin = minutes_before(t, u32::MAX);
     let corner = Corner::Front;
-    let stay = Stay { end, begin, corner };
-    let first = Term::At(stay);
     let from = Standing {
+        end,
+        begin,
+        corner,
         event: EventKey { event: *event },
-        term: first,
     };
-    let behind = Term::Back;
-    let to = Standing {
-        event: EventKey { event: *event },
-        term: behind,
-    };
-    any_between(standings, from, to)
+    any_from(standings, from)
 }
 
 /// Whether a row of the event stands with the end of a period, and with a begin between two minutes.
@@ -111,26 +85,18 @@ fn any_with(
     ensures { result ≡ list_any (lies (place_of event.now period.now.end first corner.Front) (place_of event.now period.now.end last corner.Back)) standings.now.keys }
 {
     let front = Corner::Front;
-    let low = Stay {
+    let from = Standing {
         end: period.end,
         begin: first,
         corner: front,
-    };
-    let low = Term::At(low);
-    let from = Standing {
         event: EventKey { event: *event },
-        term: low,
     };
     let back = Corner::Back;
-    let high = Stay {
+    let to = Standing {
         end: period.end,
         begin: last,
         corner: back,
-    };
-    let high = Term::At(high);
-    let to = Standing {
         event: EventKey { event: *event },
-        term: high,
     };
     any_between(standings, from, to)
 }
@@ -155,15 +121,11 @@ fn stand(standings: &mut Standings, row: &Row) -> Result<(), Oom>
 {
     let end = row.period.end;
     let corner = Corner::At(ZoneKey { zone: row.zone });
-    let stay = Stay {
+    let standing = Standing {
         end,
         begin: row.period.begin,
         corner,
-    };
-    let term = Term::At(stay);
-    let standing = Standing {
         event: EventKey { event: row.event },
-        term,
     };
     add_key(standings, standing)
 }

@@ -3,7 +3,8 @@ use Rattle.std.proofs.Common.{◌∙◌, List, ap, sym}
 use Rattle.hazard_types.specs.declared.hazard.Event.{Event}
 use Rattle.hazard_types.specs.declared.line.Row.{Row}
 use Rattle.event_life.specs.Products.{going_in}
-use Rattle.row_index.specs.Numbers.{by_number, lists_of, list_at}
+use Rattle.row_index.specs.Listing.{lists_of, list_at}
+use Rattle.row_index.specs.Numbers.{by_number}
 use Rattle.row_index.specs.Steps.{latest_open}
 use Rattle.row_index.proofs.Opened.{going-told}
 use Rattle.row_index.proofs.index.RowIndex.going_in.Goals as goal

@@ -1,19 +1,20 @@
--- The rows that no line has ended tell whether one has the period.
+-- The event's rows that no line has ended tell whether one has the period.
 use Rattle.std.proofs.Common.{◌∙◌, ◌&&◌, List, ap}
 use Rattle.std.specs.List.{list_any}
+use Rattle.hazard_types.specs.Orders.{by_event}
 use Rattle.hazard_types.specs.declared.line.Row.{Row}
 use Rattle.hazard_types.specs.declared.period.Period.{Period}
-use Rattle.event_life.specs.Periods.{ends_after}
+use Rattle.event_life.specs.Periods.{is_live, same_at}
 use Rattle.event_life.specs.Products.{has_same}
-use Rattle.row_index.specs.Standings.{lies, same_from, same_to}
-use Rattle.row_index.proofs.Stood.{same-told}
+use Rattle.row_index.specs.Listing.{list_at}
+use Rattle.row_index.proofs.EventRows.{same-held}
 use Rattle.row_index.proofs.index.RowIndex.has_same.Goals as goal
 
 pub returns : goal.returns
 returns c =
     let t = c.args.t in
-    let event = c.args.line.now.event in
-    c.has_same_among.ensures
-    ∙ ap (λ (p : Period). ends_after p.end t && list_any (lies (same_from t event p) (same_to t event p)) c.self.inside.standing.keys) c.opened_period.ensures
-    ∙ same-told _ c.self.inside.standing.keys t c.args.line.now c.self.invariant.standing
-    ∙ ap (λ (rows : List Row). has_same rows t c.args.line.now) c.self.view_is
+    let rows = list_at by_event c.self.inside.held.entries c.args.line.now.event in
+    c.has_period.ensures.same
+    ∙ ap (λ (p : Period). list_any (λ (r : Row). is_live t r && same_at t r.period p) rows) c.opened_period.ensures
+    ∙ same-held c.self.inside.held.entries t c.args.line.now c.self.invariant.held c.has_period.ensures.order
+    ∙ ap (λ (all : List Row). has_same all t c.args.line.now) c.self.view_is

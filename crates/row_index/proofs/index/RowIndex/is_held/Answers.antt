@@ -5,7 +5,8 @@ use Rattle.std.specs.List.{list_any}
 use Rattle.hazard_types.specs.declared.hazard.Event.{Event}
 use Rattle.hazard_types.specs.declared.line.Row.{Row}
 use Rattle.event_life.specs.Products.{is_open, is_held}
-use Rattle.row_index.specs.Numbers.{number_of, by_number, lists_of, list_at}
+use Rattle.row_index.specs.Listing.{lists_of, list_at}
+use Rattle.row_index.specs.Numbers.{number_of, by_number}
 use Rattle.row_index.specs.declared.numbers.Number.{Number}
 use Rattle.row_index.proofs.Opened.{is_held-told}
 use Rattle.row_index.proofs.index.RowIndex.is_held.Goals as goal

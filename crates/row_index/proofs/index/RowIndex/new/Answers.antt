@@ -4,9 +4,9 @@ use Rattle.std.specs.List.Sorted.{IsStrictlySortedBy}
 use Rattle.row_index.specs.Numbers.{IsIndex}
 use Rattle.row_index.proofs.index.RowIndex.new.Goals as goal
 
-empty_index : IsIndex [] [] [] []
+empty_index : IsIndex [] [] []
 unfolding IsStrictlySortedBy
-empty_index = record { in_order = tt; seated = tt; opened = λ k q. refl; ascending = tt; standing = λ q. refl; lasting_ascending = tt; lasting = λ q. refl }
+empty_index = record { held = record { ascending = tt; each = tt }; opened = λ k q. refl; lasting_ascending = tt; lasting = λ q. refl }
 
 pub invariant_of-result : goal.invariant_of-result
-invariant_of-result c = rw (c.new.ensures.empty, c.new-2.ensures.empty, c.new-3.ensures.empty, c.new-4.ensures.empty) empty_index
+invariant_of-result c = rw (c.new.ensures.empty, c.new-2.ensures.empty, c.new-3.ensures.empty) empty_index

@@ -1,8 +1,6 @@
--- An event without rows has none in the zone.
-use Rattle.std.proofs.Common.{◌≡◌, false, rules}
-use Rattle.event_life.specs.Products.{has_rows}
-use Rattle.row_index.proofs.Alone.{row_at-none}
+-- The row is found among those of its event.
+use Rattle.std.proofs.Common.{◌∙◌, sym}
 use Rattle.row_index.proofs.index.RowIndex.own_row.Goals as goal
 
-pub returns-then-not-has_rows : goal.returns-then-not-has_rows
-returns-then-not-has_rows c = let none : has_rows c.args.self.now c.args.line.now.event ≡ false = search rules in row_at-none c.args.self.now c.args.line.now none
+pub returns : goal.returns
+returns c = c.row_at.ensures ∙ sym (c.requires.found c.args.line.now.zone)

@@ -1,0 +1,82 @@
+-- Rows of an event with one more stay in order, and so do the keys of those that no line has ended; they tell what is asked of the event.
+use Rattle.std.proofs.Common.{◌≡◌, ◌∙◌, ℕ, List, [], ◌∷◌, ◌&&◌, ◌||◌, Bool, true, false, Option, refl, ap, sym, subst}
+use Rattle.std.specs.List.{AllByRecursion, list_any}
+use Rattle.std.specs.List.Sorted.{IsStrictlySortedBy}
+use Rattle.std.specs.Map.{values_of}
+use Rattle.hazard_types.specs.Orders.{by_event}
+use Rattle.hazard_types.specs.Same.{same_event}
+use Rattle.hazard_types.specs.declared.hazard.Event.{Event}
+use Rattle.hazard_types.specs.declared.line.Line.{Line}
+use Rattle.hazard_types.specs.declared.line.Row.{Row}
+use Rattle.hazard_types.proofs.Equality.{event_itself}
+use Rattle.event_life.specs.Periods.{is_live, keeps_open, same_at}
+use Rattle.event_life.specs.Products.{by_key, put, row_at, is_open, has_same}
+use Rattle.event_life.specs.Table.{opened_period}
+use Rattle.event_life.proofs.Puts.{put-sorted}
+use Rattle.row_index.specs.declared.seats.Seat.{Seat}
+use Rattle.row_index.specs.declared.standing.Standing.{Standing}
+use Rattle.row_index.specs.Holding.{told, AreHeld}
+use Rattle.row_index.specs.Listing.{list_at}
+use Rattle.row_index.specs.Numbers.{stands}
+use Rattle.row_index.specs.Seating.{AreSeated}
+use Rattle.row_index.specs.Standings.{by_standing, standing_of, AreEventRows}
+use Rattle.row_index.specs.Steps.{restood}
+use Rattle.row_index.specs.Telling.{Tells}
+use Rattle.row_index.proofs.HeldRows.{none-sorted, held-own, held-part, is_open-of, has_same-of}
+use Rattle.row_index.proofs.Stood.{stood-put, stood-sorted}
+use Rattle.row_index.proofs.Tests.{any_same}
+
+no_keys : IsStrictlySortedBy by_standing []
+unfolding IsStrictlySortedBy
+no_keys = tt
+
+rows-none : AreEventRows [] []
+rows-none = record { seated = tt; in_order = none-sorted; ascending = no_keys; standing = λ q. refl }
+
+pub rows-emptied : (es : List (Seat × Row)) (keys : List Standing) → es ≡ [] → keys ≡ [] → AreEventRows es keys
+rows-emptied es keys es_are keys_are = rw (es_are, keys_are) rows-none
+
+-- one row more
+pub rows-made : (es after : List (Seat × Row)) (keys next : List Standing) (row : Row) (before : Option Row) → before ≡ row_at (values_of es) row.event row.zone → values_of after ≡ put row (values_of es) → AreSeated after
+    → next ≡ restood by_standing standing_of before row keys → AreEventRows es keys → AreEventRows after next
+rows-made es after keys next row before found after_is seated next_is are =
+    let rows = values_of es in
+    record {
+      seated = seated;
+      in_order = subst (λ (all : List Row). IsStrictlySortedBy by_key all) (sym after_is) (put-sorted row rows are.in_order);
+      ascending = subst (λ (all : List Standing). IsStrictlySortedBy by_standing all) (sym next_is) (stood-sorted before row keys are.ascending);
+      standing = subst (λ (all : List Row). Tells stands standing_of next all) (sym after_is)
+          (subst (λ (all : List Standing). Tells stands standing_of all (put row rows)) (sym next_is) (stood-put rows keys row before are.in_order are.ascending are.standing found));
+    }
+
+-- what is asked of an event
+
+own_or : (b c x y : Bool) → b ≡ true → x ≡ y → (c || x) ≡ ((b && c) || y)
+own_or true c x y h later = ap (λ (z : Bool). c || z) later
+own_or false c x y h later = cc
+
+any-own : (e : Event) (q : Row → Bool) (rows : List Row) → AllByRecursion (λ (r : Row). r.event ≡ e) rows → list_any q rows ≡ list_any (λ (r : Row). same_event r.event e && q r) rows
+any-own e q [] own = refl
+any-own e q (r ∷ rows) own =
+    own_or (same_event r.event e) (q r) (list_any q rows) (list_any (λ (r : Row). same_event r.event e && q r) rows)
+    (subst (λ (d : Event). same_event d e ≡ true) (sym own.0) (event_itself e)) (any-own e q rows own.1)
+
+pub open-held : (es : List (Event × List Row)) (t : ℕ) (e : Event) → AreHeld es → IsStrictlySortedBy by_key (list_at by_event es e) → list_any (keeps_open t) (list_at by_event es e) ≡ is_open (told es) t e
+open-held es t e held up =
+    let part = list_at by_event es e in
+    any-own e (keeps_open t) part (held-own es e held) ∙ is_open-of (told es) part e (held-part es e part held refl up) t
+
+grouped : (a b c : Bool) → (a && (b && c)) ≡ ((a && b) && c)
+grouped true b c = refl
+grouped false b c = refl
+
+pub same-held : (es : List (Event × List Row)) (t : ℕ) (line : Line) → AreHeld es → IsStrictlySortedBy by_key (list_at by_event es line.event)
+    → list_any (λ (r : Row). is_live t r && same_at t r.period (opened_period line t)) (list_at by_event es line.event) ≡ has_same (told es) t line
+same-held es t line held up =
+    let e = line.event in
+    let p = opened_period line t in
+    let part = list_at by_event es e in
+    any-own e (λ r. is_live t r && same_at t r.period p) part (held-own es e held)
+    ∙ any_same (λ r. same_event r.event e && (is_live t r && same_at t r.period p)) (λ r. same_event r.event e && is_live t r && same_at t r.period p) part
+    (λ r. grouped (same_event r.event e) (is_live t r) (same_at t r.period p))
+    ∙ has_same-of (told es) part t line (held-part es e part held refl up)

@@ -1,0 +1,276 @@
+//! The rows of each event, by zone.
+ghost use Rattle.std.specs.Prelude.{◌≡◌, ◌&&◌, [], flat_map, IfOk, OnOk};
+ghost use Rattle.std.specs.List.{list_any};
+ghost use Rattle.std.specs.List.Sorted.{IsStrictlySortedBy};
+ghost use Rattle.std.specs.Map.{values_of};
+ghost use Rattle.hazard_types.specs.Orders.{by_event};
+ghost use Rattle.event_life.specs.Periods.{is_live, keeps_open, same_at};
+ghost use Rattle.event_life.specs.Products.{by_key, put, row_at, has_rows};
+ghost use Rattle.row_index.specs.Holding.{puts};
+ghost use Rattle.row_index.specs.Listing.{lists_of, list_at};
+ghost use Rattle.row_index.specs.Runs.{held_put, events_put, lasting_put};
+ghost use Rattle.row_index.specs.Seating.{AreSeated};
+ghost use Rattle.row_index.specs.Standings.{by_standing, standing_of};
+ghost use Rattle.row_index.specs.Steps.{restood, put_each};
+
+use crate::lasting::{Lastings, relast};
+use crate::numbers::{Events, put_event_of};
+use crate::parts::EventKey;
+use crate::seats::{Seated, all_rows, put_seated, row_in};
+use crate::standing::{Standings, has_same_among, is_open_among, restand};
+use hazard_types::{Event, Minute, Oom, Period, Row, Zone};
+use std::alloc::{AllocError, Global};
+use std::collections::{BTreeMap, BTreeSet};
+use std::marker::Model;
+
+/// Puts a row among those of an event, and among those of them that no line has ended.
+fn put_standing(
+    rows: &mut Seated,
+    standing: &mut Standings,
+    row: &Row,
+    before: &mut Option<Row>,
+) -> Result<(), Oom>
+    requires { AreSeated rows.old.entries }
+    ensures before { OnOk result (before.new ≡ row_at (values_of rows.old.entries) row.now.event row.now.zone) }
+    ensures rows { OnOk result (values_of rows.new.entries ≡ put row.now (values_of rows.old.entries)) }
+    ensures seated { OnOk result (AreSeated rows.new.entries) }
+    ensures standing { OnOk result (standing.new.keys ≡ restood by_standing standing_of before.new row.now standing.old.keys) }
+{
+    put_seated(rows, row, before)?;
+    restand(standing, before, row)
+}
+
+/// The rows of one event, each at its seat, and where those of them stand that no line has ended.
+#[derive(Drop)]
+pub struct EventRows {
+    rows: Seated,
+    standing: Standings,
+}
+
+impl Model for EventRows {
+    ghost use Rattle.std.specs.Prelude.{List};
+    ghost use Rattle.std.specs.Map.{values_of};
+    ghost use Rattle.hazard_types.specs.declared.line.Row.{Row};
+    ghost use Rattle.row_index.specs.Standings.{AreEventRows};
+
+    ghost Value = { List Row };
+
+    ghost view = { λ x. values_of x.rows.entries };
+
+    ghost invariant = { λ x. AreEventRows x.rows.entries x.standing.keys };
+}
+
+impl EventRows {
+    fn new(alloc: Global) -> Self
+        ensures { result ≡ [] }
+    {
+        EventRows {
+            rows: BTreeMap::new(alloc),
+            standing: BTreeSet::new(alloc),
+        }
+    }
+
+    /// The rows, to be read.
+    fn found(&self) -> RowsOf<'_>
+        ensures rows { result ≡ self.now }
+        ensures order { IsStrictlySortedBy by_key result }
+    {
+        let _ = &self.rows;
+        RowsOf { rows: Some(self) }
+    }
+
+    /// The row of an event in a zone.
+    fn row_at(&self, event: &Event, zone: &Zone) -> Option<Row>
+        ensures { result ≡ row_at self.now event.now zone.now }
+    {
+        row_in(&self.rows, event, zone)
+    }
+
+    /// Whether a row is of an event.
+    fn has_rows(&self, event: &Event) -> bool
+        ensures { result ≡ has_rows self.now event.now }
+    {
+        self.rows.values().any(|row| row.event == *event)
+    }
+
+    /// All the rows.
+    fn all(&self, alloc: Global) -> Result<Vec<Row>, AllocError>
+        ensures { IfOk result (λ rows. rows.items ≡ self.now) }
+    {
+        all_rows(alloc, &self.rows)
+    }
+
+    /// Puts a row. `before` becomes the one that was in its place. When memory runs out, the event has no rows.
+    fn put(&mut self, row: &Row, before: &mut Option<Row>) -> Result<(), Oom>
+        ensures before { OnOk result (before.new ≡ row_at self.old row.now.event row.now.zone) }
+        ensures rows { OnOk result (self.new ≡ put row.now self.old) }
+    {
+        match put_standing(&mut self.rows, &mut self.standing, row, before) {
+            Ok(()) => Ok(()),
+            Err(oom) => {
+                self.rows.clear();
+                self.standing.clear();
+                Err(oom)
+            }
+        }
+    }
+
+    /// Whether a row stands whose end is at most half an hour past. `event` is that of the rows.
+    fn is_open(&self, t: Minute, event: &Event) -> bool
+        ensures open { result ≡ list_any (keeps_open t) self.now }
+        ensures order { IsStrictlySortedBy by_key self.now }
+    {
+        is_open_among(&self.standing, t, event)
+    }
+
+    /// Whether a live row has this period. `event` is that of the rows.
+    fn has_period(&self, t: Minute, event: &Event, period: &Period) -> bool
+        ensures same { result ≡ list_any (λ r. is_live t r && same_at t r.period period.now) self.now }
+        ensures order { IsStrictlySortedBy by_key self.now }
+    {
+        has_same_among(&self.standing, t, event, period)
+    }
+}
+
+/// The rows of an event to be read, which may have none.
+#[derive(Drop)]
+pub struct RowsOf<'a> {
+    rows: Option<&'a EventRows>,
+}
+
+impl<'a> Model for RowsOf<'a> {
+    ghost use Rattle.std.specs.Prelude.{List, [], option_map, unwrap_or};
+    ghost use Rattle.hazard_types.specs.declared.line.Row.{Row};
+
+    ghost Value = { List Row };
+
+    ghost view = { λ x. unwrap_or (option_map (λ rows. rows.now) x.rows) [] };
+}
+
+impl<'a> RowsOf<'a> {
+    /// No rows.
+    pub fn none() -> Self
+        ensures { result ≡ [] }
+    {
+        RowsOf { rows: None }
+    }
+
+    /// The row of an event in a zone.
+    pub fn row_at(&self, event: &Event, zone: &Zone) -> Option<Row>
+        ensures { result ≡ row_at self.now event.now zone.now }
+    {
+        match self.rows {
+            Some(rows) => rows.row_at(event, zone),
+            None => None,
+        }
+    }
+
+    /// Whether a row is of an event.
+    pub fn has_rows(&self, event: &Event) -> bool
+        ensures { result ≡ has_rows self.now event.now }
+    {
+        match self.rows {
+            Some(rows) => rows.has_rows(event),
+            None => false,
+        }
+    }
+}
+
+/// The rows of all events.
+pub type Held = BTreeMap<EventKey, EventRows>;
+
+/// The rows of an event.
+pub fn rows_of<'a>(held: &'a Held, event: &Event) -> RowsOf<'a>
+    ensures rows { result ≡ list_at by_event held.now.entries event.now }
+    ensures order { IsStrictlySortedBy by_key result }
+{
+    match held.get(&EventKey { event: *event }) {
+        Some(rows) => rows.found(),
+        None => RowsOf::none(),
+    }
+}
+
+/// Whether an event has a row that stands whose end is at most half an hour past.
+pub fn is_open(held: &Held, t: Minute, event: &Event) -> bool
+    ensures open { result ≡ list_any (keeps_open t) (list_at by_event held.now.entries event.now) }
+    ensures order { IsStrictlySortedBy by_key (list_at by_event held.now.entries event.now) }
+{
+    match held.get(&EventKey { event: *event }) {
+        Some(rows) => rows.is_open(t, event),
+        None => false,
+    }
+}
+
+/// Whether a live row of an event has this period.
+pub fn has_period(held: &Held, t: Minute, event: &Event, period: &Period) -> bool
+    ensures same { result ≡ list_any (λ r. is_live t r && same_at t r.period period.now) (list_at by_event held.now.entries event.now) }
+    ensures order { IsStrictlySortedBy by_key (list_at by_event held.now.entries event.now) }
+{
+    match held.get(&EventKey { event: *event }) {
+        Some(rows) => rows.has_period(t, event, period),
+        None => false,
+    }
+}
+
+/// Puts each of the rows among those of their event, and among what is kept of the rows besides.
+fn put_rows(
+    alloc: Global,
+    known: &mut EventRows,
+    events: &mut Events,
+    lasting: &mut Lastings,
+    rows: &[Row],
+) -> Result<(), Oom>
+    ensures rows { OnOk result (known.new ≡ put_each rows.now known.old) }
+    ensures events { OnOk result (lists_of events.new.entries ≡ events_put rows.now known.old (lists_of events.old.entries)) }
+    ensures lasting { OnOk result (lasting.new.keys ≡ lasting_put rows.now known.old lasting.old.keys) }
+{
+    for row in rows {
+        let mut before = None;
+        known.put(row, &mut before)?;
+        put_event_of(alloc, events, &before, &row.event)?;
+        relast(lasting, &before, row)?;
+    }
+    Ok(())
+}
+
+/// Puts rows of one event.
+pub fn put_held(
+    alloc: Global,
+    held: &mut Held,
+    events: &mut Events,
+    lasting: &mut Lastings,
+    event: &Event,
+    rows: &[Row],
+) -> Result<(), Oom>
+    ensures held { OnOk result (held.new.entries ≡ held_put event.now rows.now held.old.entries) }
+    ensures events { OnOk result (lists_of events.new.entries ≡ events_put rows.now (list_at by_event held.old.entries event.now) (lists_of events.old.entries)) }
+    ensures lasting { OnOk result (lasting.new.keys ≡ lasting_put rows.now (list_at by_event held.old.entries event.now) lasting.old.keys) }
+{
+    let known = held
+        .entry(EventKey { event: *event })?
+        .or_insert(EventRows::new(alloc));
+    put_rows(alloc, known, events, lasting, rows)
+}
+
+/// The rows of all events, one event after another.
+pub fn all_held(alloc: Global, held: &Held) -> Result<Vec<Row>, Oom>
+    ensures { IfOk result (λ rows. rows.items ≡ flat_map (λ rows. rows) (values_of held.now.entries)) }
+{
+    let mut all = Vec::new(alloc);
+    for rows in held.values() {
+        all.extend_from_slice(&rows.all(alloc)?)?;
+    }
+    Ok(all)
+}
+
+/// Rows at their seats.
+pub fn seated(alloc: Global, rows: &[Row]) -> Result<Seated, Oom>
+    ensures { IfOk result (λ seated. values_of seated.entries ≡ puts rows.now []) }
+{
+    let mut seated = BTreeMap::new(alloc);
+    let mut before = None;
+    for place in (0..rows.len()).rev() {
+        put_seated(&mut seated, &rows[place], &mut before)?;
+    }
+    Ok(seated)
+}

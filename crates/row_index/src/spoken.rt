@@ -1,0 +1,128 @@
+//! The seats that the lines of a product speak of, which mostly come in rising order.
+ghost use Rattle.std.specs.Prelude.{◌≡◌, ◌++◌, ◌∷◌, true, [], if◌then◌else◌, IfOk, OnOk};
+ghost use Rattle.row_index.specs.Seating.{seat_said, has_seat};
+ghost use Rattle.row_index.specs.Risen.{is_behind, last_said, rising_with, seats_of, IsFree, Joins, Says};
+
+use crate::keys::add_key;
+use crate::parts::{EventKey, ZoneKey};
+use crate::seats::{Seat, Seats, Spot, add_seat, has_seat};
+use hazard_types::{Line, Oom};
+use std::alloc::Global;
+use std::collections::BTreeSet;
+
+/// The seats that lines spoke of. Those that came in rising order stand in a list, until one comes that is not behind the last of them.
+#[derive(Drop)]
+pub struct Spoken {
+    pub last: Option<Seat>,
+    pub rising: Vec<Seat>,
+    pub others: Seats,
+}
+
+fn seat_said(line: &Line) -> Seat
+    ensures { result ≡ seat_said line.now }
+{
+    let spot = Spot::At(EventKey { event: line.event });
+    Seat {
+        zone: ZoneKey { zone: line.zone },
+        spot,
+    }
+}
+
+/// Whether a seat is behind the last one.
+fn is_behind(last: &Option<Seat>, seat: &Seat) -> bool
+    ensures { result ≡ is_behind last.now seat.now }
+{
+    match last {
+        Some(last) => last.cmp(seat).is_lt(),
+        None => true,
+    }
+}
+
+/// The seats that rose come among the others.
+fn settle(rising: &mut Vec<Seat>, others: &mut Seats) -> Result<(), Oom>
+    ensures none { OnOk result (rising.new.items ≡ []) }
+    ensures all { OnOk result (Joins rising.old.items others.old.keys others.new.keys) }
+{
+    join(rising, others)?;
+    rising.clear();
+    Ok(())
+}
+
+/// The seats come among the others.
+fn join(seats: &[Seat], others: &mut Seats) -> Result<(), Oom>
+    ensures { OnOk result (Joins seats.now others.old.keys others.new.keys) }
+{
+    for seat in seats {
+        add_key(others, *seat)?;
+    }
+    Ok(())
+}
+
+/// Adds the seat of a line that counts behind the others.
+fn rise(
+    last: &mut Option<Seat>,
+    rising: &mut Vec<Seat>,
+    counts: bool,
+    line: &Line,
+) -> Result<(), Oom>
+    ensures rising { OnOk result (rising.new.items ≡ rising_with counts line.now rising.old.items) }
+    ensures last { OnOk result (last.new ≡ last_said counts line.now last.old) }
+{
+    if counts {
+        rising.push(seat_said(line))?;
+        *last = Some(seat_said(line));
+    }
+    Ok(())
+}
+
+impl Spoken {
+    pub fn new(alloc: Global) -> Self
+        ensures none { seats_of result.rising.items result.others.keys ≡ [] }
+        ensures free { IsFree result.last result.rising.items }
+    {
+        Spoken {
+            last: None,
+            rising: Vec::new(alloc),
+            others: BTreeSet::new(alloc),
+        }
+    }
+
+    /// The same of a line whose seat is behind those that rose.
+    fn speak_behind(&mut self, counts: bool, line: &Line) -> Result<bool, Oom>
+        requires free { IsFree self.old.last self.old.rising.items }
+        requires behind { is_behind self.old.last (seat_said line.now) ≡ true }
+        ensures second { IfOk result (λ second. second ≡ has_seat (seats_of self.old.rising.items self.old.others.keys) (seat_said line.now)) }
+        ensures said { OnOk result (Says (seats_of self.old.rising.items self.old.others.keys) (seats_of self.new.rising.items self.new.others.keys) counts line.now) }
+        ensures free { OnOk result (IsFree self.new.last self.new.rising.items) }
+    {
+        let second = has_seat(&self.others, &line.event, &line.zone);
+        rise(&mut self.last, &mut self.rising, counts, line)?;
+        Ok(second)
+    }
+
+    /// The same of any line.
+    fn speak_among(&mut self, counts: bool, line: &Line) -> Result<bool, Oom>
+        ensures second { IfOk result (λ second. second ≡ has_seat (seats_of self.old.rising.items self.old.others.keys) (seat_said line.now)) }
+        ensures said { OnOk result (Says (seats_of self.old.rising.items self.old.others.keys) (seats_of self.new.rising.items self.new.others.keys) counts line.now) }
+        ensures free { OnOk result (IsFree self.new.last self.new.rising.items) }
+    {
+        settle(&mut self.rising, &mut self.others)?;
+        let second = has_seat(&self.others, &line.event, &line.zone);
+        add_seat(&mut self.others, counts, line)?;
+        Ok(second)
+    }
+
+    /// Returns whether a line's seat is among these, and adds it where the line counts.
+    pub fn speak(&mut self, counts: bool, line: &Line) -> Result<bool, Oom>
+        requires { IsFree self.old.last self.old.rising.items }
+        ensures second { IfOk result (λ second. second ≡ has_seat (seats_of self.old.rising.items self.old.others.keys) (seat_said line.now)) }
+        ensures said { OnOk result (Says (seats_of self.old.rising.items self.old.others.keys) (seats_of self.new.rising.items self.new.others.keys) counts line.now) }
+        ensures free { OnOk result (IsFree self.new.last self.new.rising.items) }
+    {
+        if is_behind(&self.last, &seat_said(line)) {
+            self.speak_behind(counts, line)
+        } else {
+            self.speak_among(counts, line)
+        }
+    }
+}
