@@ -18,11 +18,11 @@ use Rattle.office_core.specs.Step.{Accepts, BreaksOnLines, IsMade, Refuses, Repe
 use Rattle.office_core.specs.declared.heard.Said.{Said}
 use Rattle.office_core.specs.declared.made.Made.{Made}
 
-some_one : {X : Type 0} (x y : X) (o : Option X) → o ≡ Some x → o ≡ Some y → x ≡ y
+pub some_one : {X : Type 0} (x y : X) (o : Option X) → o ≡ Some x → o ≡ Some y → x ≡ y
 some_one x y None p q = cc
 some_one x y (Some z) p q = cc
 
-none_some : {X : Type 0} (x : X) (o : Option X) → o ≡ None → o ≡ Some x → ⊥
+pub none_some : {X : Type 0} (x : X) (o : Option X) → o ≡ None → o ≡ Some x → ⊥
 none_some x None p q = cc
 none_some x (Some y) p q = cc
 
@@ -36,7 +36,7 @@ plan_alike p q category bbb lines segments opened texts =
     ∙ ap (λ x. record { category = q.category; bbb = q.bbb; lines = q.lines; segments = q.segments; opened = x; texts = p.texts }) opened
     ∙ ap (λ x. record { category = q.category; bbb = q.bbb; lines = q.lines; segments = q.segments; opened = q.opened; texts = x }) texts
 
-plan_one : (s : State) (t : ℕ) (making : Making) (p q : Plan) → IsPlanOf s t making p → IsPlanOf s t making q → p ≡ q
+pub plan_one : (s : State) (t : ℕ) (making : Making) (p q : Plan) → IsPlanOf s t making p → IsPlanOf s t making q → p ≡ q
 plan_one s t Making.none p q f g = absurd f
 plan_one s t (Making.drafted c intents) p q f g =
     plan_alike p q (f.category ∙ sym g.category) (f.letter ∙ sym g.letter) (f.lines ∙ sym g.lines)
@@ -58,7 +58,7 @@ accepted_once s desk seq r reading t u made other f g =
     let minutes : t ≡ u = f.minute ∙ sym g.minute in
     (minutes, made_one s u (making_of s r) made other (subst (λ m. IsMade s m (making_of s r) made) minutes f.product) g.product)
 
-breaks_once : (s : State) (t : ℕ) (making : Making) (x y : Refusal) → BreaksOnLines s t making x → BreaksOnLines s t making y → x ≡ y
+pub breaks_once : (s : State) (t : ℕ) (making : Making) (x y : Refusal) → BreaksOnLines s t making x → BreaksOnLines s t making y → x ≡ y
 breaks_once s t making x y (inl f) (inl g) = some_one x y _ f g
 breaks_once s t making x y (inl f) (inr (none, q, g, its)) = absurd (none_some x _ none f)
 breaks_once s t making x y (inr (none, p, f, is)) (inl g) = absurd (none_some y _ none g)
@@ -71,7 +71,7 @@ refused_once s desk seq r reading x y (inl f) (inr (new, none, g)) = absurd (non
 refused_once s desk seq r reading x y (inr (new, none, f)) (inl g) = absurd (none_some y _ none g)
 refused_once s desk seq r reading x y (inr (new, none, f)) (inr (again, same, g)) = breaks_once s (minute_of s reading) (making_of s r) x y f g
 
-product_unbroken : (s : State) (t : ℕ) (making : Making) (p : Plan) (x : Refusal) → broken_lines s t making ≡ None → IsPlanOf s t making p → broken_product s t p ≡ None → BreaksOnLines s t making x → ⊥
+pub product_unbroken : (s : State) (t : ℕ) (making : Making) (p : Plan) (x : Refusal) → broken_lines s t making ≡ None → IsPlanOf s t making p → broken_product s t p ≡ None → BreaksOnLines s t making x → ⊥
 product_unbroken s t making p x none f kept (inl g) = none_some x _ none g
 product_unbroken s t making p x none f kept (inr (same, q, g, its)) = none_some x (broken_product s t p) kept (ap (broken_product s t) (plan_one s t making p q f g) ∙ its)
 

@@ -13,7 +13,8 @@ pub mod SoundFirst
 pub mod SoundPlans
 pub mod SoundRequests
 pub mod SoundSteps
-mod AnswerLemmas
+pub mod AnswerLemmas
+mod OneLook
 pub mod CommitLemmas
 pub mod FoundLemmas
 pub mod HeardLemmas

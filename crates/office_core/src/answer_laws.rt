@@ -1,8 +1,10 @@
-//! Laws: a request has one answer, its minute serves as its reading, and what is prepared stays so while others are prepared.
-ghost use Rattle.std.specs.Prelude.{◌≡◌, ◌≤◌, ℕ, ℤ, pos, List, Option};
+//! Laws: a request has one answer, and so has a look; a request's minute serves as its reading, and what is prepared stays so while others are prepared.
+ghost use Rattle.std.specs.Prelude.{◌≡◌, ◌⊎◌, ◌≤◌, ℕ, ℤ, pos, List, Option};
 ghost use Rattle.hazard_types.specs.declared.refusal.Refusal.{Refusal};
+ghost use Rattle.hazard_types.specs.declared.request.Query.{Query};
 ghost use Rattle.hazard_types.specs.declared.request.Reply.{Reply};
 ghost use Rattle.hazard_types.specs.declared.request.Request.{Request};
+ghost use Rattle.office_core.specs.Look.{RefusesLook, Shows};
 ghost use Rattle.office_core.specs.Prepared.{MayCommit, Readied};
 ghost use Rattle.office_core.specs.State.{State};
 ghost use Rattle.office_core.specs.Step.{Accepts, Refuses, Repeats};
@@ -21,6 +23,14 @@ pub fn a_request_has_one_answer()
         Repeats s desk seq r kept → Accepts s desk seq r reading t made → ⊥ }
     ensures unrefused { (s : State) (desk : List ℕ) (seq : ℕ) (r : Request) (reading : ℤ) (x : Refusal) (kept : Reply) →
         Repeats s desk seq r kept → Refuses s desk seq r reading x → ⊥ }
+{}
+
+/// A look has one answer, whatever the state of the office: there is one text that it shows or one refusal of it, and never both.
+pub fn a_look_has_one_answer()
+    ensures either { (s : State) (q : Query) (reading : ℤ) → ((text : List ℕ) × Shows s q reading text) ⊎ ((x : Refusal) × RefusesLook s q reading x) }
+    ensures not_both { (s : State) (q : Query) (reading : ℤ) (text : List ℕ) (x : Refusal) → Shows s q reading text → RefusesLook s q reading x → ⊥ }
+    ensures one_text { (s : State) (q : Query) (reading : ℤ) (text other : List ℕ) → Shows s q reading text → Shows s q reading other → text ≡ other }
+    ensures one_refusal { (s : State) (q : Query) (reading : ℤ) (x y : Refusal) → RefusesLook s q reading x → RefusesLook s q reading y → x ≡ y }
 {}
 
 /// A request that is accepted at a reading is accepted at its own minute as the reading, and makes the same. The last entry's minute is at most 52,000,000, as that of each sound state.

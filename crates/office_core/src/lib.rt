@@ -26,8 +26,8 @@ mod writing;
 
 pub use agreement_laws::{offices_begin_in_agreement, products_keep_the_agreement};
 pub use answer_laws::{
-    a_request_has_one_answer, accepted_requests_are_accepted_at_their_minute,
-    what_is_prepared_may_wait,
+    a_look_has_one_answer, a_request_has_one_answer,
+    accepted_requests_are_accepted_at_their_minute, what_is_prepared_may_wait,
 };
 pub use heard::{Heard, Said};
 pub use history_laws::{accepted_requests_are_numbered_on, requests_stand_once};
