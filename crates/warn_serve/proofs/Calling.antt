@@ -7,7 +7,7 @@ use Rattle.warn_serve.specs.declared.links.LinkEnd.{LinkEnd}
 use Rattle.warn_serve.specs.declared.links.LinkEnd.TheVariants.{Closed, Cut, Spent, LinkFault, OutOfMemory}
 use Rattle.warn_serve.proofs.Going.{answered_on, answers_append, calls_append}
 
-count_calls : (said : List Said) → length (calls_of said) ≡ length said
+pub count_calls : (said : List Said) → length (calls_of said) ≡ length said
 count_calls [] = refl
 count_calls (s ∷ said) = let h = count_calls said in omega arith
 

@@ -1,9 +1,10 @@
 mod Going
 mod Saying
-mod Calling
+pub mod Calling
 mod Working
 mod Gathering
 mod Returning
 mod Listing
 mod Sharing
 mod Opened
+mod Causing

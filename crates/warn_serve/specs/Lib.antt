@@ -7,3 +7,4 @@ pub mod Workers
 pub mod Sharing
 pub mod Served
 pub mod Gathered
+pub mod Causes

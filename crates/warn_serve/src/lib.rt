@@ -5,10 +5,12 @@
 mod answers;
 mod calls;
 mod hiring;
+mod laws;
 mod links;
 mod serving;
 mod workers;
 
+pub use laws::links_end_by_their_causes;
 pub use links::{LinkEnd, MOST_CALLS, serve_link};
 pub use serving::{ServeEnd, serve};
 pub use workers::{WorkerEnd, worker};
