@@ -12,13 +12,16 @@ use crate::local_times::{LocalTime, has_date, minute_shown};
 use crate::names::{abbreviation_named, is_weekday, month_place, same_letters};
 use crate::words::{after_aside, after_word, first_word};
 use hazard_types::Minute;
+use thiserror::Error;
 
 /// Why a line gives no minute.
-#[derive(Clone, Copy, Debug, PartialEq, Eq)]
+#[derive(Clone, Copy, Debug, PartialEq, Eq, Error)]
 pub enum LocalFault {
     /// The form or the range fails.
+    #[error("the line is no local time, such as 1030 AM EST Wed Jan 3 2018")]
     NoLocalTime,
     /// All but the abbreviation is right.
+    #[error("the abbreviation of the time zone is unknown")]
     UnknownAbbreviation,
 }
 

@@ -3,11 +3,13 @@
 #![tactic(auto)]
 
 mod codes;
+mod errors;
 mod products;
 mod streams;
 mod values;
 
 use crate::codes::put_codes;
+use crate::errors::put_errors;
 use crate::products::put_products;
 use crate::streams::put_stream;
 use hazard_types::{Oom, Or};
@@ -47,6 +49,7 @@ fn tour(alloc: Global, stream: &str) -> Result<String, Stop> {
     put_codes(alloc, &mut out)?;
     let texts = put_stream(alloc, &mut out, stream.as_bytes())?;
     put_products(alloc, &mut out, texts.as_slice())?;
+    put_errors(alloc, &mut out)?;
     Ok(out)
 }
 

@@ -1,5 +1,5 @@
 //! Products, read one by one and then together.
-use crate::values::{put_minute, put_place, text_of};
+use crate::values::text_of;
 use hazard_types::{Class, Minute, Oom, Or, Text, read_stamp};
 use product_decoder::{Reader, Track, decode};
 use product_frame::FrameFault;
@@ -11,9 +11,8 @@ fn put_product(alloc: Global, out: &mut String, text: &[u8]) -> Result<(), Oom> 
         Ok(product) => {
             let identifier = text_of(product.identifier.as_slice());
             let lines = product.pairs.len();
-            write!(out, "product {identifier}")?;
-            put_minute(out, product.issue)?;
-            writeln!(out, " {lines}")?;
+            let issue = product.issue;
+            writeln!(out, "product {identifier} {issue} {lines}")?;
         }
         Err(Or::No(fault)) => writeln!(out, "product {fault:?}")?,
         Err(Or::OutOfMemory) => return Err(Oom),
@@ -32,12 +31,9 @@ fn reader_of(alloc: Global, first: &[u8], second: &[u8]) -> Result<Reader, Or<Fr
 }
 
 fn put_life(out: &mut String, life: &Track) -> Result<(), AllocError> {
-    out.push_str("life")?;
-    put_place(out, &life.event, &life.zone)?;
+    write!(out, "life {} {}", life.event, life.zone)?;
     for step in life.steps.as_slice() {
-        let action = step.0;
-        write!(out, " {action:?}")?;
-        put_minute(out, step.1)?;
+        write!(out, " {:?} {}", step.0, step.1)?;
     }
     out.push('\n')
 }
@@ -55,14 +51,14 @@ fn put_findings(
     for found in reader.breaches(alloc)?.as_slice() {
         let product = found.product;
         let breach = found.breach;
-        write!(out, "breach {product}")?;
-        put_place(out, &found.event, &found.zone)?;
-        writeln!(out, " {breach:?}")?;
+        writeln!(
+            out,
+            "breach {product} {} {} {breach:?}",
+            found.event, found.zone
+        )?;
     }
     for row in reader.shown(alloc, minute)?.as_slice() {
-        out.push_str("shown")?;
-        put_place(out, &row.event, &row.zone)?;
-        out.push('\n')?;
+        writeln!(out, "shown {} {}", row.event, row.zone)?;
     }
     Ok(())
 }

@@ -1,5 +1,6 @@
 //! What a frame is.
 use hazard_types::{DayStamp, Flood, List, Minute, Text, Vtec, Zone};
+use thiserror::Error;
 
 /// The line that a product begins with: six characters of a heading, the office, the day stamp, and
 /// three letters where they stand.
@@ -36,17 +37,24 @@ pub struct Frame {
 }
 
 /// Why a text has no frame: the first fault. Lines count from the heading, which is line 1.
-#[derive(Clone, Copy, Debug, PartialEq, Eq)]
+#[derive(Clone, Copy, Debug, PartialEq, Eq, Error)]
 pub enum FrameFault {
+    #[error("no line is a heading, such as WWUS41 KLWX 031530")]
     NoHeading,
+    #[error("the line after the heading is no identifier, such as WSWLWX")]
     NoIdentifier,
+    #[error("no line is the time of issue, such as 1030 AM EST Wed Jan 3 2018")]
     NoIssueTime,
+    #[error("the heading's time is not within twelve hours of the time of issue")]
     IssueDisagrees,
     /// The product ends within the segment whose zones begin on this line.
+    #[error("line {line}: the segment that begins here has no end")]
     NoSegmentEnd { line: usize },
     /// The zones that begin on this line are no UGC text, or do not fill their last line.
+    #[error("line {line}: no zone codes (UGC), or text behind them")]
     BadUgc { line: usize },
     /// This line begins with `/` where pairs stand, and is neither a P-VTEC text nor the one H-VTEC
     /// text behind such a line.
+    #[error("line {line}: neither a P-VTEC text nor the one H-VTEC text behind it")]
     BadVtec { line: usize },
 }

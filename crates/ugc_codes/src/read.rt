@@ -16,6 +16,7 @@ ghost use Rattle.ugc_codes.specs.Reading.{ugc_of, fault_at, Closes};
 use hazard_types::{DayStamp, Kind, List, Oom, Or, Zone, day_stamp_in};
 use std::alloc::Global;
 use std::collections::BTreeSet;
+use thiserror::Error;
 
 /// What a UGC text says, and how many bytes it has.
 #[derive(Clone, Debug, Drop, PartialEq, Eq)]
@@ -29,13 +30,16 @@ pub struct UgcRead {
 }
 
 /// Why bytes begin with no UGC text: the first fault.
-#[derive(Clone, Copy, Debug, PartialEq, Eq)]
+#[derive(Clone, Copy, Debug, PartialEq, Eq, Error)]
 pub enum UgcFault {
     /// The group at a byte is no code, run or expiry.
+    #[error("byte {at}: no zone, run of zones or expiry begins here")]
     NotACode { at: usize },
     /// The end of the run at a byte is not greater.
+    #[error("byte {at}: a range must run upwards")]
     BadRange { at: usize },
     /// The bytes end before the expiry does.
+    #[error("the bytes end before the expiry does")]
     CutShort,
 }
 

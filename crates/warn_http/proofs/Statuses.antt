@@ -1,11 +1,12 @@
 -- Each refusal has a status of the desk.
-use Rattle.std.proofs.Common.{◌≡◌, true, refl}
+use Rattle.std.proofs.Common.{refl}
+use Rattle.std.specs.Prelude.{IsTrue}
 use Rattle.hazard_types.specs.Refusals.{label}
 use Rattle.hazard_types.specs.declared.refusal.Refusal.{Refusal}
 use Rattle.hazard_types.specs.declared.refusal.Refusal.TheVariants as refusal
 use Rattle.warn_http.specs.Answers.{is_status, status_of}
 
-pub refusals_have_statuses : (r : Refusal) → is_status (status_of r) ≡ true
+pub refusals_have_statuses : (r : Refusal) → IsTrue (is_status (status_of r))
 unfolding is_status label
 refusals_have_statuses refusal.BadHead = refl
 refusals_have_statuses refusal.HeadTooLong = refl

@@ -25,7 +25,6 @@ pub fn is_status(status: u16) -> bool
 }
 
 /// The status of a refusal.
-#[tactic(auto, using(crate::proofs::Statuses::refusals_have_statuses))]
 pub fn refusal_status(refusal: &Refusal) -> u16
     ensures value { result ≡ status_of refusal.now }
     ensures known { IsTrue (is_status result) }

@@ -1,0 +1,54 @@
+//! Errors, printed as they come.
+use desk_clock::read_local_line;
+use desk_settings::read_settings;
+use hazard_types::{Desk, Oom, Refusal, event_in, zone_in};
+use product_decoder::decode;
+use std::alloc::{AllocError, Global};
+use std::error::Error;
+use ugc_codes::read_ugc;
+
+/// A text whose zones, on line 6, hold a group that is none.
+const BAD_ZONES: &[u8] =
+    b"WWUS41 KLWX 031530\nWSWLWX\n\n1030 AM EST Wed Jan 3 2018\n\nMDZ003-04-031500-\n$$\n";
+
+/// Writes what an error says, whatever its type.
+fn put_error<E: Error>(out: &mut String, error: E) -> Result<(), AllocError> {
+    writeln!(out, "error {error}")
+}
+
+/// Writes what the error of a call says, if the call has one.
+fn put_error_of<T: Drop, E: Error>(
+    out: &mut String,
+    outcome: Result<T, E>,
+) -> Result<(), AllocError> {
+    match outcome {
+        Ok(_value) => out.push_str("no error\n"),
+        Err(error) => put_error(out, error),
+    }
+}
+
+/// Refusals that name a number, a desk, a zone, and an event in a zone.
+fn put_refusals(out: &mut String) -> Result<(), AllocError> {
+    put_error(out, Refusal::Reused { last: 5 })?;
+    if let Some(owner) = Desk::new(b"A") {
+        put_error(out, Refusal::NotOwner { owner })?;
+    }
+    if let Some(zone) = zone_in(b"MDZ099") {
+        put_error(out, Refusal::UnknownZone { zone })?;
+    }
+    match (event_in(b"WS.W.0001.2018"), zone_in(b"MDZ006")) {
+        (Some(event), Some(zone)) => put_error(out, Refusal::NotLive { event, zone }),
+        _ => Ok(()),
+    }
+}
+
+/// What errors of each type say.
+pub fn put_errors(alloc: Global, out: &mut String) -> Result<(), Oom> {
+    put_error_of(out, read_ugc(alloc, b"MDZ005>003-031500-"))?;
+    put_error_of(out, read_local_line(b"1030 AM XYZ Wed Jan 3 2018"))?;
+    put_error_of(out, decode(alloc, BAD_ZONES))?;
+    put_error_of(out, read_settings(alloc, b"office = \"KLWX\"\n"))?;
+    put_refusals(out)?;
+    put_error(out, Oom)?;
+    Ok(())
+}
