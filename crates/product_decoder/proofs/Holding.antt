@@ -1,8 +1,8 @@
 -- What a feed holds, as plain bytes: what is scanned, given and left.
 use Rattle.std.proofs.Common.{◌≡◌, ◌∙◌, ℕ, ◌+◌, ◌-◌, ◌≤◌, ◌<◌, ◌==◌, ◌||◌, Bool, true, false, List, [], ◌∷◌, ◌++◌, length, take, drop, get_or, append-nil, append_assoc, length-drop, length-append, drop-drop, Option, Some, None, option_map, Result, Ok, Err, refl, ap, sym, subst, arith}
-use Rattle.std.specs.Prelude.{is_some, ◌≢◌, IfOk, OnOk, OnErr}
+use Rattle.std.specs.Prelude.{is_some, IfOk, OnOk, OnErr}
 use Rattle.std.specs.List.{slice_range, list_any, concat}
-use Rattle.std.proofs.lemmas.Bool.{eqb-true, ne_eqb}
+use Rattle.std.proofs.lemmas.Bool.{eqb-true}
 use Rattle.std.proofs.lemmas.List.{take_more, get_or-drop}
 use Rattle.std.proofs.lemmas.List.Folds.{drop_split, list_any-append}
 use Rattle.std.proofs.Math.Seq.{take-length, take-add}
