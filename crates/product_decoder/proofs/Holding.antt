@@ -1,13 +1,15 @@
 -- What a feed holds, as plain bytes: what is scanned, given and left.
-use Rattle.std.proofs.Common.{◌≡◌, ◌∙◌, ℕ, ◌+◌, ◌-◌, ◌≤◌, ◌<◌, ◌==◌, ◌||◌, Bool, true, false, List, [], ◌∷◌, ◌++◌, length, take, drop, get_or, append-nil, append_assoc, length-drop, length-append, drop-drop, Option, Some, None, Result, Ok, Err, refl, ap, sym, subst, arith}
-use Rattle.std.specs.Prelude.{is_some, ◌≢◌, IfOk, OnOk, OnErr}
+use Rattle.std.proofs.Common.{◌≡◌, ◌∙◌, ℕ, ◌+◌, ◌-◌, ◌≤◌, ◌<◌, ◌==◌, ◌||◌, Bool, true, false, List, [], ◌∷◌, ◌++◌, length, take, drop, get_or, append-nil, append_assoc, length-drop, length-append, drop-drop, Option, Some, None, option_map, Result, Ok, Err, refl, ap, sym, subst, arith}
+use Rattle.std.specs.Prelude.{is_some, IfOk, OnOk, OnErr}
 use Rattle.std.specs.List.{slice_range, list_any, concat}
-use Rattle.std.proofs.lemmas.Bool.{eqb-true, ne_eqb}
+use Rattle.std.proofs.lemmas.Bool.{eqb-true}
 use Rattle.std.proofs.lemmas.List.{take_more, get_or-drop}
 use Rattle.std.proofs.lemmas.List.Folds.{drop_split, list_any-append}
 use Rattle.std.proofs.Math.Seq.{take-length, take-add}
 use Rattle.product_frame.specs.LineRules.{are_ended, ends_behind}
 use Rattle.product_frame.proofs.EndToEnd.{ends_append, ends_end}
+use Rattle.product_frame.specs.Text.{line_end, next_start}
+use Rattle.product_frame.proofs.LineEnds.{EndTold, end_told}
 use Rattle.product_frame.proofs.LineKinds.{no_heading_length}
 use Rattle.product_decoder.specs.Feeding.{Parts, onto, has_heading, part, products_in, IsQuiet, IsPlain, IsHeaded, Keeps, ComesFirst, IsHeld, IsFound, IsNotFound}
 use Rattle.product_decoder.specs.Holding.{IsTrimmed, IsOne, IsBegun, Moves, TakesWhole, TakesLast}
@@ -109,19 +111,21 @@ scan_begun bytes from looked le quiet = record {
 line_is : (bytes : List ℕ) (start at : ℕ) → start ≤ at → at < length bytes → (get_or bytes at 0 == 10) ≡ true → within bytes start (at + 1) ≡ within bytes start at ++ 10 ∷ []
 line_is bytes start at le lt e = range_more bytes start at le lt ∙ ap (λ (c : ℕ). within bytes start at ++ c ∷ []) (eqb-true (get_or bytes at 0) 10 e)
 
--- a byte that ends no line
-pub scan_byte : (bytes : List ℕ) (from start at : ℕ) → Scanned bytes from start at → at < length bytes → (get_or bytes at 0 == 10) ≡ false → Scanned bytes from start (at + 1)
-scan_byte bytes from start at s lt e =
+-- bytes that end no line
+scan_more : (bytes : List ℕ) (from start at k : ℕ) → Scanned bytes from start at → IsQuiet (take k (drop at bytes)) → Scanned bytes from start (at + k)
+scan_more bytes from start at k s more =
     let begun : start ≤ at = s.begun in
+    let count : at + k - at ≡ k = omega arith in
+    let behind : within bytes at (at + k) ≡ take k (drop at bytes) = ap (λ (n : ℕ). take n (drop at bytes)) count in
     record {
       early = s.early;
       begun = omega arith;
       plain = s.plain;
-      quiet = subst IsQuiet (sym (range_more bytes start at begun lt)) (quiet_more (within bytes start at) (get_or bytes at 0) s.quiet e);
+      quiet = subst IsQuiet (sym (range_join bytes start at (at + k) begun (omega arith))) (quiet_join (within bytes start at) (within bytes at (at + k)) s.quiet (subst IsQuiet (sym behind) more));
     }
 
 -- the end of a line that is no heading line
-pub scan_line : (bytes : List ℕ) (from start at : ℕ) → Scanned bytes from start at → at < length bytes → (get_or bytes at 0 == 10) ≡ true → has_heading (within bytes start (at + 1)) ≡ false → Scanned bytes from (at + 1) (at + 1)
+scan_line : (bytes : List ℕ) (from start at : ℕ) → Scanned bytes from start at → at < length bytes → (get_or bytes at 0 == 10) ≡ true → has_heading (within bytes start (at + 1)) ≡ false → Scanned bytes from (at + 1) (at + 1)
 scan_line bytes from start at s lt e none =
     let begun : start ≤ at = s.begun in
     let early : from ≤ start = s.early in
@@ -135,16 +139,57 @@ scan_line bytes from start at s lt e none =
     }
 
 -- the end of one that is
-pub scan_found : (bytes : List ℕ) (from start at : ℕ) → Scanned bytes from start at → at < length bytes → (get_or bytes at 0 == 10) ≡ true → has_heading (within bytes start (at + 1)) ≡ true → IsFound bytes from start (at + 1)
+scan_found : (bytes : List ℕ) (from start at : ℕ) → Scanned bytes from start at → at < length bytes → (get_or bytes at 0 == 10) ≡ true → has_heading (within bytes start (at + 1)) ≡ true → IsFound bytes from start (at + 1)
 scan_found bytes from start at s lt e is =
     let begun : start ≤ at = s.begun in
     let line = line_is bytes start at begun lt e in
     (s.early, omega arith, omega arith, s.plain, subst IsHeaded (sym line) (headed_line (within bytes start at) s.quiet (ap has_heading (sym line) ∙ is)))
 
-pub scan_ended : (bytes : List ℕ) (from start at : ℕ) → Scanned bytes from start at → at ≡ length bytes → IsNotFound bytes from start
-scan_ended bytes from start at s end =
+-- where the next line begins
+
+record NextTold (bytes : List ℕ) (at next : ℕ) : Type 0 where
+  pub size : ℕ
+  pub place : next ≡ at + size + 1
+  pub told : EndTold (drop at bytes) (Some size)
+
+next_by : (bytes : List ℕ) (at next : ℕ) (end : Option ℕ) → EndTold (drop at bytes) end → Some next ≡ option_map (λ size. at + size + 1) end → NextTold bytes at next
+next_by bytes at next None told e = cc
+next_by bytes at next (Some k) told e = record { size = k; place = (cc); told = told }
+
+next_told : (bytes : List ℕ) (at next : ℕ) → Some next ≡ next_start bytes at → NextTold bytes at next
+next_told bytes at next e = next_by bytes at next (line_end (drop at bytes)) (end_told (drop at bytes)) e
+
+-- the line up to there, but for its LF
+line_scanned : (bytes : List ℕ) (from start at next : ℕ) → Scanned bytes from start at → (n : NextTold bytes at next) → Scanned bytes from start (at + n.size)
+line_scanned bytes from start at next s n = scan_more bytes from start at n.size s n.told.0
+
+line_inside : (bytes : List ℕ) (at next : ℕ) → (n : NextTold bytes at next) → at + n.size < length bytes
+line_inside bytes at next n = let inside : n.size < length (drop at bytes) = n.told.1 in omega (arith, inside, length-drop at bytes)
+
+line_byte : (bytes : List ℕ) (at next : ℕ) → (n : NextTold bytes at next) → (get_or bytes (at + n.size) 0 == 10) ≡ true
+line_byte bytes at next n = ap (λ (c : ℕ). c == 10) (sym (get_or-drop at bytes n.size 0)) ∙ n.told.2
+
+pub scan_passed : (bytes : List ℕ) (from start at next : ℕ) → Scanned bytes from start at → Some next ≡ next_start bytes at → has_heading (within bytes start next) ≡ false → Scanned bytes from next next
+scan_passed bytes from start at next s e none =
+    let n = next_told bytes at next e in
+    subst (λ (end : ℕ). Scanned bytes from end end) (sym n.place)
+    (scan_line bytes from start (at + n.size) (line_scanned bytes from start at next s n) (line_inside bytes at next n) (line_byte bytes at next n) (ap (λ (end : ℕ). has_heading (within bytes start end)) (sym n.place) ∙ none))
+
+pub scan_headed : (bytes : List ℕ) (from start at next : ℕ) → Scanned bytes from start at → Some next ≡ next_start bytes at → has_heading (within bytes start next) ≡ true → IsFound bytes from start next
+scan_headed bytes from start at next s e is =
+    let n = next_told bytes at next e in
+    subst (λ (end : ℕ). IsFound bytes from start end) (sym n.place)
+    (scan_found bytes from start (at + n.size) (line_scanned bytes from start at next s n) (line_inside bytes at next n) (line_byte bytes at next n) (ap (λ (end : ℕ). has_heading (within bytes start end)) (sym n.place) ∙ is))
+
+none_by : (bytes : List ℕ) (at : ℕ) (end : Option ℕ) → EndTold (drop at bytes) end → None ≡ option_map (λ size. at + size + 1) end → IsQuiet (drop at bytes)
+none_by bytes at None told e = told
+none_by bytes at (Some k) told e = cc
+
+pub scan_ended : (bytes : List ℕ) (from start at : ℕ) → Scanned bytes from start at → at ≤ length bytes → None ≡ next_start bytes at → IsNotFound bytes from start
+scan_ended bytes from start at s le e =
     let begun : start ≤ at = s.begun in
-    (s.early, omega arith, s.plain, subst IsQuiet (ap (λ (k : ℕ). within bytes start k) end ∙ range_end bytes start) s.quiet)
+    let quiet : IsQuiet (drop at bytes) = none_by bytes at (line_end (drop at bytes)) (end_told (drop at bytes)) e in
+    (s.early, omega arith, s.plain, subst IsQuiet (sym (drop_split bytes start at begun)) (quiet_join (within bytes start at) (drop at bytes) s.quiet quiet))
 
 -- what is to come of a stream
 
@@ -326,20 +371,6 @@ given_front (Err e) old front back new less is text_is rest = tt
 
 pub front_less : (old front back : List ℕ) → old ≡ front ++ back → IsHeaded front → length back < length old
 front_less old front back is h = rw is (let full = headed_full front h in omega (arith, full, length-append front back))
-
--- the same of a byte as the code tests it
-
-equal_test : (x : ℕ) → x ≡ 10 → (x == 10) ≡ true
-equal_test x e = rw e refl
-
-pub scan_byte_at : (bytes : List ℕ) (from start at : ℕ) → Scanned bytes from start at → at < length bytes → get_or bytes at 0 ≢ 10 → Scanned bytes from start (at + 1)
-scan_byte_at bytes from start at s lt ne = scan_byte bytes from start at s lt (ne_eqb (get_or bytes at 0) 10 ne)
-
-pub scan_line_at : (bytes : List ℕ) (from start at : ℕ) → Scanned bytes from start at → at < length bytes → get_or bytes at 0 ≡ 10 → has_heading (within bytes start (at + 1)) ≡ false → Scanned bytes from (at + 1) (at + 1)
-scan_line_at bytes from start at s lt e none = scan_line bytes from start at s lt (equal_test (get_or bytes at 0) e) none
-
-pub scan_found_at : (bytes : List ℕ) (from start at : ℕ) → Scanned bytes from start at → at < length bytes → get_or bytes at 0 ≡ 10 → has_heading (within bytes start (at + 1)) ≡ true → IsFound bytes from start (at + 1)
-scan_found_at bytes from start at s lt e is = scan_found bytes from start at s lt (equal_test (get_or bytes at 0) e) is
 
 -- what is held after a scan
 

@@ -5,7 +5,7 @@ ghost use Rattle.product_decoder.specs.Feeding.{has_heading, IsQuiet, Keeps};
 ghost use Rattle.product_decoder.specs.Holding.{Scans, Holds, rest_of, IsTrimmed, Moves, TakesWhole, TakesLast};
 
 use hazard_types::{List, Oom, Text};
-use product_frame::is_heading;
+use product_frame::{is_heading, next_start};
 use std::alloc::Global;
 
 /// Bytes of a stream, of which those from a place on count. Their lines were looked at up to another.
@@ -56,13 +56,13 @@ fn find_heading(bytes: &[u8], from: usize, looked: usize) -> Scan
     ensures { Scans bytes.now from result }
 {
     let mut start = from;
-    for at in looked..bytes.len() {
-        if bytes[at] == b'\n' {
-            if is_heading_at(bytes, start, at + 1) {
-                return Scan::Heading(start, at + 1);
-            }
-            start = at + 1;
+    let mut at = looked;
+    while let Some(end) = next_start(bytes, at) {
+        if is_heading_at(bytes, start, end) {
+            return Scan::Heading(start, end);
         }
+        start = end;
+        at = end;
     }
     Scan::Line(start)
 }
