@@ -1,7 +1,7 @@
--- The month of a day of a year is a quotient.
-use Rattle.std.proofs.Common.{◌≡◌, ◌∙◌, ℕ, zero, suc, ◌<◌, ◌==◌, ◌&&◌, ◌%◌, Bool, true, false, List, [], ◌∷◌, refl, ap, arith, cond, inl, inr, eqb-true}
+-- The month of a day of a year is that of its quotient by 32, or the next.
+use Rattle.std.proofs.Common.{◌≡◌, ◌∙◌, ℕ, zero, suc, ◌<◌, ◌==◌, ◌&&◌, ◌%◌, Bool, true, false, List, [], ◌∷◌, refl, ap, arith, cond, inl, inr, eqb-true, leb-true, slice_index, nat_le, ◌≤◌}
 use Rattle.std.proofs.lemmas.Bool.{cases_lt}
-use Rattle.hazard_types.specs.Calendar.{year_length, month_lengths, place_in, day_place}
+use Rattle.hazard_types.specs.Calendar.{year_length, month_lengths, place_in, days_before, month_near, day_place}
 
 -- the lengths of the months, with and without a leap day
 abbrev lengths : Bool → List ℕ
@@ -31,11 +31,11 @@ below p (suc n) all k less =
     ]
 
 leap_days : all_below (agrees true) 366 ≡ true
-unfolding day_place
+unfolding day_place days_before
 leap_days = refl
 
 other_days : all_below (agrees false) 365 ≡ true
-unfolding day_place
+unfolding day_place days_before
 other_days = refl
 
 placed : (leap : Bool) (day : ℕ) → agrees leap day ≡ true → place_in (lengths leap) day ≡ day_place leap day
@@ -51,3 +51,29 @@ by_leap false day less = placed false day (below (agrees false) 365 other_days d
 pub day_placed : (year day : ℕ) → day < year_length year → place_in (month_lengths year) day ≡ day_place (year % 4 == 0) day
 unfolding month_lengths
 day_placed year day less = by_leap (year % 4 == 0) day less
+
+-- the days before the month are no more than the day
+abbrev begun : Bool → ℕ → Bool
+begun leap day = nat_le (slice_index (days_before leap) (month_near leap day)) day
+
+leap_begun : all_below (begun true) 366 ≡ true
+unfolding days_before
+leap_begun = refl
+
+other_begun : all_below (begun false) 365 ≡ true
+unfolding days_before
+other_begun = refl
+
+begun_by : (leap : Bool) (day : ℕ) → day < cond leap 366 365 → begun leap day ≡ true
+begun_by true day less = below (begun true) 366 leap_begun day less
+begun_by false day less = below (begun false) 365 other_begun day less
+
+pub near_before : (year day : ℕ) → day < year_length year → slice_index (days_before (year % 4 == 0)) (month_near (year % 4 == 0) day) ≤ day
+near_before year day less = leb-true _ _ (begun_by (year % 4 == 0) day less)
+
+shorter : (leap : Bool) (day : ℕ) → day < cond leap 366 365 → day < 366
+shorter true day less = less
+shorter false day less = omega arith
+
+pub within_year : (year day : ℕ) → day < year_length year → day < 366
+within_year year day less = shorter (year % 4 == 0) day less
