@@ -1,6 +1,7 @@
 """Measures the archive report, outside the gate, on small inputs that name very much: two products whose UGC names so many states of
-999 zones each; a UGC that names one state's zones again and again; very many products of an event each; and one event of very many
-zones of which very many products name one each. Seconds are of processor time; the exponent is that of the growth of time.
+999 zones each; a UGC that names one state's zones again and again; very many products of an event each; one event of very many
+zones of which very many products name one each; one whose zones come in falling order, a segment each; and one that very many zones
+join by EXB lines. Seconds are of processor time; the exponent is that of the growth of time.
 With `--beside FOLDER` the program of the same name in that folder runs over the same files, and the ratios are printed.
 
     python3 bench/hostile.py [--beside FOLDER]
@@ -27,13 +28,24 @@ def ugc(groups):
     return lines + [line]
 
 
-def product(groups, action, hazard, number, begin="180103T1800Z"):
-    return "\r\n".join(["WWUS43 KDMX 031630", "WSWDMX", "1030 AM CST Wed Jan 3 2018"] + ugc(groups)
-                        + ["/O.%s.KDMX.%s.%04d.%s-180104T0600Z/" % (action, hazard, number, begin), "$$", ""])
+def segment(groups, action, hazard, number, begin="180103T1800Z", end="180104T0600Z"):
+    return ugc(groups) + ["/O.%s.KDMX.%s.%04d.%s-%s/" % (action, hazard, number, begin, end), "$$"]
+
+
+def framed(segments):
+    return "\r\n".join(["WWUS43 KDMX 031630", "WSWDMX", "1030 AM CST Wed Jan 3 2018"] + [line for lines in segments for line in lines] + [""])
+
+
+def product(*words, **times):
+    return framed([segment(*words, **times)])
+
+
+def letters(k):
+    return LETTERS[k // 26] + LETTERS[k % 26]
 
 
 def states(count):
-    groups = [LETTERS[k // 26] + LETTERS[k % 26] + "Z001>999" for k in range(count)]
+    groups = [letters(k) + "Z001>999" for k in range(count)]
     return product(groups, "NEW", "WW.Y", 3) + product(groups, "CON", "WW.Y", 3)
 
 
@@ -47,8 +59,17 @@ def tiny(count):
 
 
 def named_again(count):
-    groups = [LETTERS[k // 26] + LETTERS[k % 26] + "Z001>999" for k in range(26)]
+    groups = [letters(k) + "Z001>999" for k in range(26)]
     return product(groups, "NEW", "WW.Y", 3) + "".join(product(["AAZ%03d" % (k % 999 + 1)], "CON", "WW.Y", 3) for k in range(count))
+
+
+def falling(count):
+    return framed([segment([letters(k) + "Z%03d" % number], "NEW", "WW.Y", 3) for k in reversed(range(count)) for number in range(999, 0, -1)])
+
+
+def joined(count):
+    groups = [letters(k) + "Z001>999" for k in range(count)]
+    return product(groups[::2], "NEW", "WW.Y", 3) + product(groups[1::2], "EXB", "WW.Y", 3, end="180104T0900Z")
 
 
 words, folder = beside(sys.argv[1:])
@@ -56,7 +77,9 @@ report = [program("warn_archive"), "KDMX", "O", "180103T1700Z"]
 with tempfile.TemporaryDirectory() as place:
     path = os.path.join(place, "archive")
     for name, make, sizes in (("states of 999 zones, twice", states, (16, 64, 676)), ("runs 001>999 of one state, twice", repeated, (16, 64, 676)),
-                              ("products of an event each", tiny, (10000, 100000)), ("products of a zone each of one great event", named_again, (1000, 10000))):
+                              ("products of an event each", tiny, (10000, 100000)), ("products of a zone each of one great event", named_again, (1000, 10000)),
+                              ("states of 999 zones of one event in falling order, a segment each", falling, (4, 16, 64)),
+                              ("states of 999 zones of one event, each second one by EXB lines", joined, (16, 64, 676))):
         before = None
         for size in sizes:
             with open(path, "w", newline="") as out:

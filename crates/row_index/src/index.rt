@@ -482,7 +482,7 @@ impl RowIndex {
     }
 
     /// The rows after a product whose lines were judged by these: each lawful line leaves its row, and no other line changes any.
-    /// On want of memory the index is gone.
+    /// When memory runs out, the index is gone.
     pub fn leave(
         self,
         alloc: Global,

@@ -17,9 +17,10 @@ use std::marker::Model;
 fn letter_order(a: [u8; 2], b: [u8; 2]) -> Ordering
     ensures { result ≡ slice_cmp nat_cmp a b }
 {
-    match a[0].cmp(&b[0]) {
-        Ordering::Equal => a[1].cmp(&b[1]),
-        order => order,
+    if a[0] == b[0] {
+        a[1].cmp(&b[1])
+    } else {
+        a[0].cmp(&b[0])
     }
 }
 
@@ -28,10 +29,13 @@ pub fn zone_order(a: &Zone, b: &Zone) -> Ordering
     ensures { result ≡ by_place a.now b.now }
 {
     match letter_order(a.state(), b.state()) {
-        Ordering::Equal => match a.kind().cmp(&b.kind()) {
-            Ordering::Equal => a.number().cmp(&b.number()),
-            order => order,
-        },
+        Ordering::Equal => {
+            if a.kind() == b.kind() {
+                a.number().cmp(&b.number())
+            } else {
+                a.kind().cmp(&b.kind())
+            }
+        }
         order => order,
     }
 }
@@ -50,10 +54,13 @@ pub fn event_order(a: &Event, b: &Event) -> Ordering
     ensures { result ≡ by_event a.now b.now }
 {
     match hazard_order(&a.hazard, &b.hazard) {
-        Ordering::Equal => match a.etn.cmp(&b.etn) {
-            Ordering::Equal => a.year.cmp(&b.year),
-            order => order,
-        },
+        Ordering::Equal => {
+            if a.etn == b.etn {
+                a.year.cmp(&b.year)
+            } else {
+                a.etn.cmp(&b.etn)
+            }
+        }
         order => order,
     }
 }

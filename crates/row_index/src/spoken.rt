@@ -87,7 +87,7 @@ impl Spoken {
         }
     }
 
-    /// The same of a line whose seat is behind those that rose.
+    /// What `speak` does with a line whose seat is behind those that rose.
     fn speak_behind(&mut self, counts: bool, line: &Line) -> Result<bool, Oom>
         requires free { IsFree self.old.last self.old.rising.items }
         requires behind { is_behind self.old.last (seat_said line.now) ≡ true }
@@ -100,7 +100,7 @@ impl Spoken {
         Ok(second)
     }
 
-    /// The same of any line.
+    /// What `speak` does with any other line: the seats that rose come among the others first.
     fn speak_among(&mut self, counts: bool, line: &Line) -> Result<bool, Oom>
         ensures second { IfOk result (λ second. second ≡ has_seat (seats_of self.old.rising.items self.old.others.keys) (seat_said line.now)) }
         ensures said { OnOk result (Says (seats_of self.old.rising.items self.old.others.keys) (seats_of self.new.rising.items self.new.others.keys) counts line.now) }
