@@ -16,9 +16,10 @@ use std::cmp::Ordering;
 pub(crate) fn letters_in_order(a: [u8; 2], b: [u8; 2]) -> Ordering
     ensures { result ≡ slice_cmp nat_cmp a b }
 {
-    match a[0].cmp(&b[0]) {
-        Ordering::Equal => a[1].cmp(&b[1]),
-        order => order,
+    if a[0] == b[0] {
+        a[1].cmp(&b[1])
+    } else {
+        a[0].cmp(&b[0])
     }
 }
 
