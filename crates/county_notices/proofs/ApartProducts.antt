@@ -22,7 +22,7 @@ use Rattle.event_life.specs.Higher.{family_of, is_above, may_yield, outranks}
 use Rattle.event_life.specs.Lives.{judged_product}
 use Rattle.event_life.specs.Openings.{add_event, event_placed, is_numbered, numbers_of, opened_by, opened_from}
 use Rattle.event_life.specs.Periods.{is_live, overlaps}
-use Rattle.event_life.specs.Products.{Product, around_but_higher, around_of, breach_in, by_key, end_upgraded, event_of, event_of_issue, going_in, has_higher, is_new, is_overlapped, is_routine, is_second, is_upgrade, judged, judged_from, lawful_of, life_at, line_of, lines_of, put, put_all, put_but_upgrades, row_after, row_at, row_of, rows_after, rows_for_higher, rows_with, speaks_of}
+use Rattle.event_life.specs.Products.{Product, around_but_higher, breach_in, by_key, end_upgraded, event_of, event_of_issue, going_in, has_higher, is_new, is_overlapped, is_routine, is_second, is_upgrade, judged, judged_from, lawful_of, life_at, line_of, lines_of, put, put_all, put_but_upgrades, row_after, row_at, row_of, rows_after, rows_for_higher, rows_with, speaks_of}
 use Rattle.event_life.specs.Table.{breach_of_line, life_after}
 use Rattle.event_life.proofs.Puts.{put-sorted, rows_after-sorted}
 use Rattle.county_notices.specs.Apart.{AreMerged, IsOfDesk, IsOfOthers, desks_events, is_desks}

@@ -1,12 +1,11 @@
 -- What is read has the form, and the minute that it says.
-use Rattle.std.proofs.Common.{◌≡◌, ◌≢◌, ◌↔◌, ℕ, ◌+◌, ◌-◌, ◌*◌, ◌/◌, ◌%◌, ◌<◌, ◌≤◌, ◌⊎◌, ◌==◌, ◌&&◌, nat_le, nat_lt, inl, inr, Bool, true, false, cond, List, [], Option, Some, None, option_map, Result, Ok, Err, ℤ, pos, refl, sym, ap, ◌∙◌, arith}
+use Rattle.std.proofs.Common.{◌≡◌, ◌≢◌, ℕ, ◌+◌, ◌-◌, ◌*◌, ◌/◌, ◌%◌, ◌<◌, ◌≤◌, ◌&&◌, nat_le, nat_lt, inl, inr, Bool, true, false, cond, List, [], Option, Some, None, Result, Ok, Err, refl, sym, ap, ◌∙◌, arith}
 use Rattle.std.specs.Option.{option_and_then}
-use Rattle.std.proofs.lemmas.Bool.{cases_lt, lt-ltb, le-ltb, and_parts, leb-true, ltb-true}
+use Rattle.std.proofs.lemmas.Bool.{lt-ltb, le-ltb, and_parts, leb-true, ltb-true}
 use Rattle.std.proofs.lemmas.Bool.Decides.{nat_tests}
 use Rattle.std.proofs.lemmas.Option.{cond_some, option_and_then_some}
 use Rattle.jiff_core.proofs.SignedLemmas.{signed_arith}
-use Rattle.hazard_types.specs.declared.calendar.Civil.{Civil}
-use Rattle.hazard_types.specs.Calendar.{IsCivil, is_civil, minute_of as minute_of_civil, civil_of}
+use Rattle.hazard_types.specs.Calendar.{IsCivil, is_civil, minute_of as minute_of_civil}
 use Rattle.hazard_types.proofs.Years.{civil_found}
 use Rattle.desk_clock.specs.declared.abbreviations.Abbreviation.{Abbreviation}
 use Rattle.desk_clock.specs.declared.local_times.LocalTime.{LocalTime}
@@ -15,7 +14,7 @@ use Rattle.desk_clock.specs.declared.reading.LocalFault.{LocalFault}
 use Rattle.desk_clock.specs.declared.reading.LocalFault.TheVariants.{NoLocalTime, UnknownAbbreviation}
 use Rattle.desk_clock.specs.Abbreviations.{hours_behind}
 use Rattle.desk_clock.specs.LocalForm.{IsForm, ReadsAs, LacksAbbreviation, HasDate, written_in, of_written, minute_of, minute_by, or_no_time, read_of}
-use Rattle.desk_clock.specs.LocalTimes.{local_time, shown_at, shown_of, minute_shown, minute_behind, in_2000, from_2000, is_last_of_1999, on_last_day_of_1999, has_date}
+use Rattle.desk_clock.specs.LocalTimes.{local_time, shown_at, shown_of, minute_shown, minute_behind, in_2000, is_last_of_1999, has_date}
 use Rattle.desk_clock.specs.LocalWords.{words_say, date_said, year_said, time_said, number_of, are_letters}
 use Rattle.desk_clock.specs.Names.{place_of, month_names, weekday_names}
 use Rattle.std.specs.Option.{is_some}

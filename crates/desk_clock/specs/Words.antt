@@ -1,5 +1,5 @@
 -- Words of a line, which blanks part. A blank is a space or a tab.
-use Rattle.std.specs.Prelude.{◌≡◌, ◌≢◌, ◌==◌, ◌||◌, ℕ, Bool, true, false, not, List, [], ◌∷◌, ◌++◌, drop, if◌then◌else◌}
+use Rattle.std.specs.Prelude.{◌≡◌, ◌≢◌, ◌==◌, ℕ, Bool, true, false, not, List, [], ◌∷◌, ◌++◌, drop, if◌then◌else◌}
 use Rattle.hazard_types.specs.Characters.{is_blank}
 use Rattle.std.specs.List.{position_or_len, before_first, after_first, list_all, list_any}
 

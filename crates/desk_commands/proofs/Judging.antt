@@ -11,7 +11,6 @@ use Rattle.request_json.specs.declared.asked.Asked.{Asked}
 use Rattle.office_journal.specs.Changes.{Change, Leaves}
 use Rattle.office_journal.specs.Histories.{History}
 use Rattle.office_journal.specs.Kept.{Holds, disk_of, state_of}
-use Rattle.office_journal.specs.Outcomes.{IsAsBefore}
 use Rattle.office_journal.specs.Submitting.{IsAsked}
 use Rattle.office_journal.specs.declared.answers.Answer.{Answer}
 use Rattle.office_journal.specs.declared.answers.Answer.TheVariants.{OutOfMemory, Refused}

@@ -1,5 +1,5 @@
 -- The readings of the lines of a script are those that the clock has ahead, one after another.
-use Rattle.std.proofs.Common.{ℕ, ℤ, ◌≡◌, List, [], ◌∷◌, Option, None, Some, refl, ap, sym, ◌∙◌, subst}
+use Rattle.std.proofs.Common.{ℕ, ℤ, ◌≡◌, List, [], ◌∷◌, Option, None, Some, ap, sym, ◌∙◌, subst}
 use Rattle.desk_traits.specs.Clocks.{Ticks}
 use Rattle.desk_traits.specs.declared.clocks.Clock.{Ghosts as Clocks}
 use Rattle.desk_traits.specs.declared.disk.Disk.{Ghosts as Disks}

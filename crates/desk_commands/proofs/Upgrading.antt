@@ -10,7 +10,6 @@ use Rattle.desk_traits.proofs.Moments.{weaker}
 use Rattle.hazard_types.specs.declared.request.Edition.{Edition}
 use Rattle.hazard_types.specs.declared.request.Edition.TheVariants.{One, Two}
 use Rattle.office_core.specs.Agreement.{ReadsAsTheBoard}
-use Rattle.office_core.specs.Histories.{MayFollow}
 use Rattle.office_core.specs.State.{State, in_edition}
 use Rattle.office_journal.specs.Changes.{Change, Leaves, changed}
 use Rattle.office_journal.specs.Grown.{Follows, IsBetween, grown}

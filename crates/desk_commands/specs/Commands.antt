@@ -1,5 +1,5 @@
 -- What the commands over a journal read, write and leave.
-use Rattle.std.specs.Prelude.{◌≡◌, ◌⊎◌, ◌++◌, ◌∷◌, ◌≤◌, ◌<◌, ◌+◌, ◌-◌, ◌^◌, min, ℕ, ℤ, pos, nat_abs, true, false, List, [], length, Option, None, Some, Result, Ok, Err, IfSome, codes}
+use Rattle.std.specs.Prelude.{◌≡◌, ◌⊎◌, ◌++◌, ◌≤◌, ◌<◌, ◌+◌, ◌-◌, ◌^◌, min, ℕ, ℤ, pos, nat_abs, true, false, List, [], length, Option, None, Some, Result, Ok, Err, IfSome, codes}
 use Rattle.std.specs.List.{flat_map}
 use Rattle.desk_settings.specs.Reading.{settings_of}
 use Rattle.desk_settings.specs.declared.fault.SettingsFault.{SettingsFault}

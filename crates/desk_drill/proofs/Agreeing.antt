@@ -1,6 +1,6 @@
 -- Texts that agree with a board have no breach.
-use Rattle.std.proofs.Common.{◌≡◌, ◌≤◌, ◌∙◌, ◌+◌, ℕ, List, [], ◌∷◌, ◌++◌, length, map, Result, Ok, Err, IsOk, refl, ap, sym, subst, arith, append-nil, append_assoc, length-append}
-use Rattle.std.specs.List.{All, AllByRecursion}
+use Rattle.std.proofs.Common.{◌≡◌, ◌≤◌, ◌∙◌, ◌+◌, ℕ, List, [], ◌∷◌, ◌++◌, length, Result, Ok, Err, IsOk, refl, ap, sym, subst, arith, append-nil, append_assoc, length-append}
+use Rattle.std.specs.List.{AllByRecursion}
 use Rattle.std.proofs.lemmas.List.Elements.{recursion_from_All}
 use Rattle.hazard_types.specs.Places.{Place}
 use Rattle.hazard_types.specs.declared.codes.Class.{Class}
@@ -8,7 +8,7 @@ use Rattle.hazard_types.specs.declared.codes.Class.TheVariants as classes
 use Rattle.hazard_types.specs.declared.hazard.Event.{Event}
 use Rattle.event_life.specs.Lives.{IsLawfulLife}
 use Rattle.event_life.specs.Openings.{IsGapless, opened_of}
-use Rattle.event_life.specs.Products.{Product, rows_of}
+use Rattle.event_life.specs.Products.{Product}
 use Rattle.product_decoder.specs.Decoded.{decode}
 use Rattle.product_decoder.specs.ReaderModel.{found_of, gaps_found}
 use Rattle.product_decoder.specs.declared.types.Decoded.{Decoded}

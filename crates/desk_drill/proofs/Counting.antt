@@ -3,7 +3,7 @@ use Rattle.std.proofs.Common.{◌≡◌, ◌≤◌, ◌<◌, ◌∙◌, ◌+◌,
 use Rattle.std.specs.List.{AllByRecursion}
 use Rattle.std.specs.Str.{bytes_eq}
 use Rattle.std.proofs.lemmas.Slice.Eq.{bytes_eq-Decides}
-use Rattle.office_core.specs.State.{State, last_number, last_of, said_in}
+use Rattle.office_core.specs.State.{State, last_number, said_in}
 use Rattle.office_core.specs.Step.{heard_after}
 use Rattle.office_core.specs.declared.heard.Heard.{Heard}
 use Rattle.office_core.specs.declared.heard.Said.{Said}

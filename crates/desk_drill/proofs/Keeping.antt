@@ -1,5 +1,5 @@
 -- What a drill keeps stands before its first request and behind each.
-use Rattle.std.proofs.Common.{◌≡◌, ◌≤◌, ◌<◌, ◌==◌, ◌∙◌, ◌+◌, ◌++◌, inl, inr, ℕ, ℤ, pos, Bool, true, false, cond, List, [], ◌∷◌, length, map, set, slice_index, nat_le, Option, None, Some, IsSome, IfSome, OnOk, Result, Ok, Err, option_map, refl, ap, sym, subst, arith, length-append}
+use Rattle.std.proofs.Common.{◌≡◌, ◌≤◌, ◌<◌, ◌∙◌, ◌+◌, ◌++◌, inl, inr, ℕ, ℤ, pos, Bool, true, false, cond, List, [], ◌∷◌, length, map, set, slice_index, nat_le, Option, None, Some, IsSome, IfSome, OnOk, Result, Ok, Err, option_map, refl, ap, sym, subst, arith, length-append}
 use Rattle.std.specs.List.{AllByRecursion}
 use Rattle.std.specs.Option.{option_or}
 use Rattle.std.specs.Str.{bytes_eq}
@@ -21,14 +21,13 @@ use Rattle.event_life.specs.Products.{Product}
 use Rattle.product_decoder.specs.Decoded.{decode}
 use Rattle.office_core.specs.Agreement.{ReadsAsTheBoard, product_in, products_in, texts_of}
 use Rattle.office_core.specs.Making.{broken_product, issued, made_of, products_full}
-use Rattle.office_core.specs.State.{State, first_state, last_number, last_of, said_by, said_in}
+use Rattle.office_core.specs.State.{State, first_state, last_number, last_of}
 use Rattle.office_core.specs.Step.{Accepts, Refuses, Repeats, entry_of, state_after}
-use Rattle.office_core.specs.declared.heard.Heard.{Heard}
 use Rattle.office_core.specs.declared.heard.Said.{Said}
 use Rattle.office_core.specs.declared.made.Made.{Made}
 use Rattle.desk_drill.specs.Keeping.{HasRead, HasReadOne, IsKept, drilled_of}
-use Rattle.desk_drill.specs.Office.{Answers, Drilled, IsAccepted, drill_desks, drill_office, drill_settings, next_number}
-use Rattle.desk_drill.specs.Requests.{Issued, desk_at}
+use Rattle.desk_drill.specs.Office.{Answers, Drilled, drill_desks, drill_office, drill_settings, next_number}
+use Rattle.desk_drill.specs.Requests.{desk_at}
 use Rattle.desk_drill.specs.Tellings.{fault_of, faults_in}
 use Rattle.desk_drill.specs.declared.desk.DrillDesk.{DrillDesk}
 use Rattle.desk_drill.specs.declared.texts.TextReader.{TextReader}

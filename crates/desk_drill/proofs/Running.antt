@@ -1,5 +1,5 @@
 -- A drill's run, request by request.
-use Rattle.std.proofs.Common.{◌≡◌, ◌≤◌, ◌<◌, ◌+◌, ◌-◌, Result, Ok, Err, IfOk, ℕ, suc, List, ◌∷◌, refl, ap, sym, subst, arith, take, drop, Option, None, Some}
+use Rattle.std.proofs.Common.{◌≡◌, ◌≤◌, ◌<◌, ◌+◌, ◌-◌, Result, Ok, Err, IfOk, ℕ, suc, List, ◌∷◌, refl, ap, sym, subst, arith, take, drop, None, Some}
 use Rattle.std.proofs.lemmas.List.{take-append-drop}
 use Rattle.desk_traits.specs.Faults.{Rose}
 use Rattle.program_ends.specs.Ends.{HasWritten}

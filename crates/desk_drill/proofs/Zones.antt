@@ -1,6 +1,6 @@
 -- The zones of a drill stand in order, each once, and its settings have the forms.
-use Rattle.std.proofs.Common.{◌≡◌, ◌≤◌, ◌<◌, ◌==◌, ◌&&◌, ◌+◌, ◌%◌, ◌∙◌, ℕ, zero, suc, Bool, true, false, cond, IsTrue, List, [], ◌∷◌, ◌++◌, map, length, nat_lt, nat_le, codes, refl, ap, sym, subst, arith, lit≤, Result, Ok, Err, IfOk}
-use Rattle.std.specs.List.{All, AllByRecursion, IsDistinct, range_with_len}
+use Rattle.std.proofs.Common.{◌≡◌, ◌≤◌, ◌<◌, ◌&&◌, ◌+◌, ◌%◌, ℕ, zero, suc, Bool, true, false, cond, IsTrue, List, [], ◌∷◌, ◌++◌, map, length, nat_lt, codes, refl, ap, sym, subst, arith, lit≤, Result, Ok, Err, IfOk}
+use Rattle.std.specs.List.{All, AllByRecursion, IsDistinct}
 use Rattle.std.specs.List.Sorted.{IsStrictlySortedBy}
 use Rattle.std.specs.Map.{keys_of, values_of}
 use Rattle.std.specs.Ordering.{nat_cmp}

@@ -1,6 +1,5 @@
 -- What a drill tells.
 use Rattle.std.specs.Prelude.{◌≡◌, ◌⊎◌, ℕ, List, [], Option, None, Some}
-use Rattle.desk_traits.specs.Faults.{Rose}
 use Rattle.office_core.specs.Agreement.{ReadsAsTheBoard, texts_of}
 use Rattle.program_ends.specs.Ends.{Telling}
 use Rattle.program_ends.specs.declared.ends.End.{End}

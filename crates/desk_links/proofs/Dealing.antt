@@ -1,10 +1,8 @@
 -- How a port deals out its doors, and takes them back.
-use Rattle.std.proofs.Common.{◌≡◌, ℕ, ◌+◌, ◌<◌, ◌≤◌, ◌-◌, suc, zero, List, [], ◌∷◌, ◌++◌, length, take, drop, Some, None, Option, refl, sym, ◌∙◌, ap, subst, arith, append_assoc, append-nil, length-append, All, slice_index_or, slice_get, unwrap_or, drop-drop, Result, Ok, Err, IsOk, is_ok, if◌then◌else◌}
+use Rattle.std.proofs.Common.{◌≡◌, ℕ, ◌+◌, suc, zero, List, [], ◌∷◌, ◌++◌, length, drop, refl, sym, ◌∙◌, ap, arith, append_assoc, append-nil, All, slice_index_or, slice_get, unwrap_or, drop-drop, Result, Ok, Err, IsOk, is_ok, if◌then◌else◌}
 use Rattle.std.proofs.lemmas.List.{get_or-drop}
 use Rattle.std.proofs.lemmas.Option.{unwrap_or-slice_get}
-use Rattle.desk_links.specs.Links.{IsUnused}
-use Rattle.desk_links.specs.LinkMemory.{LinkInMemory, DoorInMemory, IsUntouched, IsIdle, door_with, doors_with, first_list, first_door, dealt, all_links}
-
+use Rattle.desk_links.specs.LinkMemory.{LinkInMemory, DoorInMemory, IsIdle, door_with, doors_with, first_list, first_door, dealt, all_links}
 first_is : (xs : List (List ℕ)) → first_list xs ≡ slice_index_or xs 0 []
 first_is [] = refl
 first_is (x ∷ xs) = refl

@@ -1,5 +1,5 @@
 -- A run of the training office, by the office and the minute alone.
-use Rattle.std.proofs.Common.{ℕ, ◌≡◌, ◌⊎◌, inl, inr, List, [], ◌∷◌, refl, ap, sym, ◌∙◌, subst, Option, None, Some, arith}
+use Rattle.std.proofs.Common.{ℕ, ◌≡◌, inl, inr, List, [], ◌∷◌, refl, ap, sym, ◌∙◌, subst, Option, None, Some, arith}
 use Rattle.std.proofs.lemmas.List.{take_all}
 use Rattle.desk_traits.specs.Streams.{Takes}
 use Rattle.office_core.specs.Agreement.{ReadsAsTheBoard}

@@ -1,7 +1,11 @@
 -- The month of a day of a year is that of its quotient by 32, or the next.
-use Rattle.std.proofs.Common.{◌≡◌, ◌∙◌, ℕ, zero, suc, ◌<◌, ◌==◌, ◌&&◌, ◌%◌, Bool, true, false, List, [], ◌∷◌, refl, ap, arith, cond, inl, inr, eqb-true, leb-true, slice_index, nat_le, ◌≤◌}
+use Rattle.std.proofs.Common.{◌≡◌, ◌∙◌, ℕ, zero, suc, ◌<◌, ◌==◌, ◌&&◌, ◌%◌, ◌-◌, Bool, true, false, List, [], ◌∷◌, refl, ap, arith, cond, inl, inr, eqb-true, leb-true, slice_index, nat_le, ◌≤◌}
 use Rattle.std.proofs.lemmas.Bool.{cases_lt}
-use Rattle.hazard_types.specs.Calendar.{year_length, month_lengths, place_in, days_before, month_near, day_place}
+use Rattle.hazard_types.specs.Calendar.{year_length, month_lengths, place_in, days_before, month_near}
+
+-- where a day of a year lies by its quotient: its month, and how many days of the month come before it
+unfoldable pub day_place : Bool → ℕ → ℕ × ℕ
+day_place leap day = (month_near leap day, day - slice_index (days_before leap) (month_near leap day))
 
 -- the lengths of the months, with and without a leap day
 abbrev lengths : Bool → List ℕ

@@ -1,5 +1,5 @@
 -- A request has one answer: plans are determined, and the ways of answering exclude each other.
-use Rattle.std.proofs.Common.{◌≡◌, ◌∙◌, ◌⊎◌, ◌==◌, ◌&&◌, inl, inr, ℕ, ℤ, pos, List, [], Bool, true, false, refl, sym, ap, subst, cond, Option, None, Some}
+use Rattle.std.proofs.Common.{◌≡◌, ◌∙◌, ◌==◌, inl, inr, ℕ, ℤ, pos, List, Bool, true, false, refl, sym, ap, subst, cond, Option, None, Some}
 use Rattle.std.proofs.lemmas.Bool.{and_from, both_ways, eq-eqb}
 use Rattle.hazard_types.proofs.Equality.{request_itself}
 use Rattle.hazard_types.specs.declared.codes.Category.{Category}
@@ -11,7 +11,7 @@ use Rattle.hazard_types.specs.declared.request.Reply.{Reply}
 use Rattle.hazard_types.specs.declared.request.Request.{Request}
 use Rattle.segmenter.proofs.LawLemmas.{segments_alike}
 use Rattle.office_core.specs.Making.{Making, IsPlanOf, broken_lines, broken_product, made_of, making_of}
-use Rattle.office_core.specs.Rules.{broken_request, first_of_two, is_kept, is_repeated, minute_of, unknown_desk}
+use Rattle.office_core.specs.Rules.{broken_request, is_kept, is_repeated, minute_of, unknown_desk}
 use Rattle.office_core.specs.Requests.{same_request}
 use Rattle.office_core.specs.State.{State, said_by}
 use Rattle.office_core.specs.Step.{Accepts, BreaksOnLines, IsMade, Refuses, Repeats}

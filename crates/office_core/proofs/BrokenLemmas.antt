@@ -1,5 +1,5 @@
 -- What is known where no rule of a request is broken.
-use Rattle.std.proofs.Common.{◌≡◌, ◌∙◌, ◌&&◌, ◌==◌, ℕ, ℤ, pos, Bool, true, false, List, [], ◌∷◌, Option, Some, None, if◌then◌else◌, refl, ap, subst, sym, rules}
+use Rattle.std.proofs.Common.{◌≡◌, ◌==◌, ℕ, ℤ, pos, Bool, true, false, List, [], ◌∷◌, Option, Some, None, if◌then◌else◌, refl, subst, rules}
 use Rattle.std.specs.Option.{option_or}
 use Rattle.std.specs.Bool.{Decides}
 use Rattle.std.proofs.lemmas.Bool.{and_parts, eqb-true, false≢true}
@@ -10,7 +10,7 @@ use Rattle.hazard_types.specs.declared.request.Reply.{Reply}
 use Rattle.hazard_types.specs.declared.request.Request.{Request}
 use Rattle.action_planner.specs.Offences.{first_given}
 use Rattle.office_core.specs.Requests.{draft_of, intent_of, same_request}
-use Rattle.office_core.specs.Rules.{broken_draft, broken_number, broken_part, broken_request, clock_out, draft_rules, drafts_full, first_of_two, found_draft, gap, intents_full, is_kept, is_out, is_repeated, minute_of, no_draft, no_intent, not_owner, number_rules, reused, stale, still_active, unknown_desk}
+use Rattle.office_core.specs.Rules.{broken_draft, broken_number, broken_part, broken_request, clock_out, drafts_full, first_of_two, found_draft, gap, intents_full, is_kept, is_out, is_repeated, minute_of, no_draft, no_intent, not_owner, reused, stale, still_active, unknown_desk}
 use Rattle.office_core.specs.State.{State, last_number, said_by}
 use Rattle.office_core.specs.Step.{Repeats}
 use Rattle.office_core.specs.declared.heard.Said.{Said}

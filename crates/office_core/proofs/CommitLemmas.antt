@@ -1,5 +1,5 @@
 -- The fields after a commit are those of the state after the entry.
-use Rattle.std.proofs.Common.{◌≡◌, ◌∙◌, ◌≤◌, ◌<◌, ◌+◌, ◌||◌, ℕ, suc, map, Bool, true, false, List, [], ◌∷◌, ◌++◌, length, take, drop, set, Option, Some, None, if◌then◌else◌, refl, ap, sym, arith, rules, length-append, length-drop}
+use Rattle.std.proofs.Common.{◌≡◌, ◌∙◌, ◌≤◌, ◌+◌, ◌||◌, ℕ, suc, map, Bool, true, false, List, [], ◌∷◌, ◌++◌, length, take, drop, set, Some, None, if◌then◌else◌, refl, ap, sym, arith, rules, length-append, length-drop}
 use Rattle.std.proofs.lemmas.List.{length_push, length-set, length-take}
 use Rattle.std.specs.List.{list_any}
 use Rattle.std.specs.Str.{bytes_eq}
@@ -11,12 +11,11 @@ use Rattle.hazard_types.specs.declared.refusal.Refusal.{Refusal}
 use Rattle.hazard_types.specs.declared.refusal.Refusal.TheVariants as refusal
 use Rattle.hazard_types.specs.declared.line.Row.{Row}
 use Rattle.hazard_types.specs.declared.request.Draft.{Draft}
-use Rattle.hazard_types.specs.declared.request.Entry.{Entry}
 use Rattle.hazard_types.specs.declared.request.Intent.TheVariants as intent
 use Rattle.hazard_types.specs.declared.request.Request.{Request}
 use Rattle.hazard_types.specs.declared.request.Request.TheVariants.{Issue, Begin, Put, Finish, Restate, Routine, Drop, Take, Discard, Send, Correct}
 use Rattle.hazard_types.specs.declared.request.Sent.{Sent}
-use Rattle.office_core.specs.Prepared.{HasPlace, Readied, begun_with, changed}
+use Rattle.office_core.specs.Prepared.{Readied, begun_with, changed}
 use Rattle.office_core.specs.Rules.{unknown_desk}
 use Rattle.office_core.specs.Sound.{IsSound}
 use Rattle.event_numbers.specs.declared.Count.{Count}

@@ -1,5 +1,5 @@
 -- What is kept of a desk is told at its place.
-use Rattle.std.proofs.Common.{◌≡◌, ◌∙◌, ℕ, Bool, List, [], ◌∷◌, set, get_or, Option, Some, None, if◌then◌else◌, refl, ap}
+use Rattle.std.proofs.Common.{◌≡◌, ◌∙◌, ℕ, Bool, List, [], ◌∷◌, set, get_or, Some, None, if◌then◌else◌, refl, ap}
 use Rattle.std.specs.List.{position}
 use Rattle.std.specs.Str.{bytes_eq}
 use Rattle.office_core.specs.Step.{heard_after}

@@ -19,9 +19,9 @@ use Rattle.action_planner.specs.Told.{counts_in}
 use Rattle.product_frame.specs.Frame.{FrameOf}
 use Rattle.product_frame.specs.Splitting.{IsOneProduct}
 use Rattle.product_template.specs.Text.{frame_of}
-use Rattle.office_core.specs.Making.{Making, IsPlanOf, broken_lines, broken_product, last_of_category, letters_of, made_of, original_in, original_of}
+use Rattle.office_core.specs.Making.{Making, IsPlanOf, broken_lines, broken_product, last_of_category, letters_of, original_of}
 use Rattle.office_core.specs.State.{State}
-use Rattle.office_core.specs.Step.{BreaksOnLines, IsMade}
+use Rattle.office_core.specs.Step.{IsMade}
 use Rattle.office_core.specs.Views.{OfficeView}
 use Rattle.office_core.specs.WellMade.{IsWellMade, made_with}
 use Rattle.office_core.specs.declared.made.Made.{Made}

@@ -1,7 +1,6 @@
 -- In a legal history the numbers of each desk are 1, 2, .., since each accepted request has the number behind its desk's last.
-use Rattle.std.proofs.Common.{◌≡◌, ◌∙◌, ◌==◌, ◌||◌, ◌⊎◌, inl, inr, ℕ, ℤ, pos, zero, suc, ◌+◌, ◌<◌, length, length-append, arith, List, [], ◌∷◌, ◌++◌, Bool, true, false, refl, sym, ap, subst, cond, map, Option, None, Some, nat_lt, filter}
-use Rattle.std.proofs.lemmas.Bool.{cases_eq, both_ways, eq-eqb, eqb-true, lt-ltb}
-use Rattle.std.proofs.lemmas.List.Elements.{filter-append}
+use Rattle.std.proofs.Common.{◌≡◌, ◌∙◌, ◌||◌, ℕ, ℤ, pos, zero, suc, ◌+◌, length, length-append, arith, List, [], ◌∷◌, ◌++◌, Bool, true, false, refl, sym, ap, subst, cond, map, Option, None, Some, filter}
+use Rattle.std.proofs.lemmas.Bool.{both_ways}
 use Rattle.std.proofs.lemmas.Slice.Eq.{bytes_eq-Decides}
 use Rattle.std.specs.List.{list_any, AllByRecursion}
 use Rattle.std.specs.Str.{bytes_eq}

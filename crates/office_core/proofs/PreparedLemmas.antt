@@ -1,10 +1,10 @@
 -- What is prepared may be committed still, where state and counts stayed and the room did not shrink.
-use Rattle.std.proofs.Common.{◌≡◌, ◌≤◌, List, Option, Some, None, IsTrue, ℕ, sym, subst, arith}
+use Rattle.std.proofs.Common.{◌≡◌, List, Option, Some, None, IsTrue, ℕ, sym, subst, arith}
 use Rattle.event_life.specs.Reordered.{are_lawful}
 use Rattle.event_numbers.specs.declared.Count.{Count}
 use Rattle.event_numbers.specs.Counts.{AreDrawnInOrder}
 use Rattle.office_core.specs.Agreement.{Agrees}
-use Rattle.office_core.specs.Prepared.{HasPlace, MayCommit, MayTake, MayTakeMade, Readied, changed, draws}
+use Rattle.office_core.specs.Prepared.{HasPlace, MayCommit, MayTakeMade, Readied, changed, draws}
 use Rattle.office_core.specs.Rules.{unknown_desk}
 use Rattle.office_core.specs.Sound.{IsSound}
 use Rattle.office_core.specs.State.{State}

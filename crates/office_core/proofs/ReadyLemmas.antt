@@ -1,7 +1,5 @@
 -- What was made and prepared is an accepted request's, and may be committed.
-use Rattle.std.proofs.Common.{◌≡◌, ◌≤◌, ◌<◌, ◌+◌, ℕ, ℤ, List, Option, Some, None, false, IsTrue, length, refl, ap, subst, sym}
-use Rattle.std.specs.Bool.{⊤}
-use Rattle.hazard_types.specs.declared.request.Draft.{Draft}
+use Rattle.std.proofs.Common.{◌≡◌, ◌≤◌, ℕ, ℤ, List, Option, Some, None, false, refl, subst, sym}
 use Rattle.hazard_types.specs.declared.request.Entry.{Entry}
 use Rattle.hazard_types.specs.declared.request.Request.{Request}
 use Rattle.event_numbers.specs.declared.Count.{Count}
@@ -9,15 +7,14 @@ use Rattle.request_json.specs.Formed.{HasRequestForm}
 use Rattle.office_core.specs.Agreement.{Agrees}
 use Rattle.office_core.specs.Keeping.{MayBePlanned, ReadsWell}
 use Rattle.office_core.specs.Making.{Making, broken_lines, making_of}
-use Rattle.office_core.specs.Prepared.{HasPlace, IsReady, MayCommit, MayTake, MayTakeMade, Readied, changed, draws}
+use Rattle.office_core.specs.Prepared.{HasPlace, IsReady, MayTakeMade, Readied, changed, draws}
 use Rattle.office_core.specs.Rules.{broken_request, is_repeated, minute_of}
-use Rattle.office_core.specs.Sound.{IsSound, IsSoundMaking}
+use Rattle.office_core.specs.Sound.{IsSound}
 use Rattle.office_core.specs.State.{State}
 use Rattle.office_core.specs.Step.{Accepts, IsMade, drafts_after, entry_of, state_after}
 use Rattle.office_core.specs.Views.{OfficeView, Room}
-use Rattle.office_core.specs.WellMade.{HasRoomForIf, IsWellMade, IsWellMadeIf}
+use Rattle.office_core.specs.WellMade.{HasRoomForIf, IsWellMadeIf}
 use Rattle.office_core.specs.declared.made.Made.{Made}
-use Rattle.office_core.specs.declared.prepared.DraftChange.{DraftChange}
 use Rattle.office_core.proofs.BrokenLemmas.{known_desk}
 
 -- ---- what was made

@@ -1,5 +1,5 @@
 -- Bytes that stand well are passed over.
-use Rattle.std.proofs.Common.{◌≡◌, ◌∙◌, ◌+◌, ◌-◌, ◌<◌, ◌||◌, not, ℕ, suc, List, ◌∷◌, Bool, true, false, Option, Some, None, option_map, refl, sym, ap, arith, length, take, drop, drop-cons, get_or}
+use Rattle.std.proofs.Common.{◌≡◌, ◌∙◌, ◌+◌, ◌-◌, ◌<◌, ℕ, suc, List, ◌∷◌, true, false, Option, Some, None, option_map, refl, ap, arith, length, take, drop, drop-cons, get_or}
 use Rattle.std.proofs.lemmas.List.{take_rest}
 use Rattle.hazard_types.specs.Characters.{is_printable}
 use Rattle.office_core.specs.Writing.{bad_at, is_doubled}

@@ -1,5 +1,5 @@
 -- What a send, an issue and a correction make: a product, or the first rule that it breaks.
-use Rattle.std.specs.Prelude.{◌≡◌, ◌==◌, ◌||◌, ◌&&◌, ℕ, ◌+◌, min, Bool, true, false, List, [], ◌∷◌, length, fold, count_by, nat_lt, nat_le, Option, None, Some, if◌then◌else◌}
+use Rattle.std.specs.Prelude.{◌==◌, ℕ, ◌+◌, min, Bool, false, List, [], ◌∷◌, length, fold, count_by, nat_lt, nat_le, Option, None, Some, if◌then◌else◌}
 use Rattle.std.specs.Option.{option_or}
 use Rattle.hazard_types.specs.Hazards.{facts_of}
 use Rattle.hazard_types.specs.contracts.codes.CategoryPartialEq.TheImpl as category_test

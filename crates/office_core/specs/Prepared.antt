@@ -10,7 +10,6 @@ use Rattle.event_life.specs.Reordered.{are_lawful}
 use Rattle.office_core.specs.Agreement.{Agrees}
 use Rattle.office_core.specs.Rules.{unknown_desk}
 use Rattle.office_core.specs.Sound.{IsSound}
-use Rattle.office_core.specs.State.{State}
 use Rattle.office_core.specs.Step.{Accepts, drafts_after, entry_of, state_after}
 use Rattle.office_core.specs.Views.{OfficeView}
 use Rattle.office_core.specs.declared.made.Made.{Made}

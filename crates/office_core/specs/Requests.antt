@@ -1,6 +1,5 @@
 -- The parts of requests that the rules speak of.
 use Rattle.std.specs.Prelude.{ℕ, Bool, true, false, List, [], ◌∷◌, map, Option, None, Some}
-use Rattle.hazard_types.specs.Places.{Place}
 use Rattle.hazard_types.specs.contracts.request.RequestPartialEq.TheImpl as request_test
 use Rattle.hazard_types.specs.declared.hazard.Hazard.{Hazard}
 use Rattle.hazard_types.specs.declared.request.EventTexts.{EventTexts}
@@ -11,7 +10,6 @@ use Rattle.hazard_types.specs.declared.request.Request.TheVariants.{Issue, Begin
 use Rattle.hazard_types.specs.declared.request.Target.{Target}
 use Rattle.hazard_types.specs.declared.request.Target.TheVariants.{Fresh, Join}
 use Rattle.hazard_types.specs.declared.request.Texts.{Texts}
-use Rattle.action_planner.specs.Placed.{zones_of}
 use Rattle.action_planner.specs.Texts.{texts_of}
 
 -- the test `==` of requests, which holds of identical ones alone

@@ -1,5 +1,5 @@
 -- The rules on desks, numbers, the clock, drafts and the parts of a request: each one sentence over the state and the request, with what the refusal names. Their order is that of the list at the end.
-use Rattle.std.specs.Prelude.{◌≡◌, ◌==◌, ◌||◌, ◌&&◌, not, ℕ, ℤ, pos, int_lt, ◌+◌, max, nat_abs, Bool, true, false, List, [], ◌∷◌, length, find, nat_lt, nat_le, Option, None, Some, is_none, is_some, option_map, if◌then◌else◌}
+use Rattle.std.specs.Prelude.{◌==◌, ◌||◌, ◌&&◌, not, ℕ, ℤ, pos, int_lt, ◌+◌, max, nat_abs, Bool, false, List, [], ◌∷◌, length, find, nat_lt, nat_le, Option, None, Some, is_none, option_map, if◌then◌else◌}
 use Rattle.std.specs.List.{list_any}
 use Rattle.std.specs.Str.{bytes_eq}
 use Rattle.hazard_types.specs.Hazards.{facts_of}
@@ -11,7 +11,7 @@ use Rattle.hazard_types.specs.declared.request.Draft.{Draft}
 use Rattle.hazard_types.specs.declared.request.Intent.{Intent}
 use Rattle.hazard_types.specs.declared.request.Intent.TheVariants as intent
 use Rattle.hazard_types.specs.declared.request.Request.{Request}
-use Rattle.hazard_types.specs.declared.request.Request.TheVariants.{Issue, Begin, Put, Finish, Restate, Routine, Drop, Take, Discard, Send, Correct}
+use Rattle.hazard_types.specs.declared.request.Request.TheVariants.{Begin, Put, Drop, Correct}
 use Rattle.hazard_types.specs.declared.request.Target.{Target}
 use Rattle.hazard_types.specs.declared.request.Target.TheVariants.{Fresh, Join}
 use Rattle.desk_settings.specs.Looking.{name_beside}

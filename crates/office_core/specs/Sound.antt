@@ -1,5 +1,5 @@
 -- What holds of an office's state after every entry, so that the next product may be planned and written.
-use Rattle.std.specs.Prelude.{◌≡◌, ◌≤◌, ℕ, Bool, true, false, IsTrue, IsSome, List, length, map, ⊤}
+use Rattle.std.specs.Prelude.{◌≡◌, ◌≤◌, Bool, true, false, IsTrue, IsSome, List, length, map, ⊤}
 use Rattle.std.specs.List.{All, AllPairs}
 use Rattle.std.specs.List.Sorted.{IsStrictlySortedBy}
 use Rattle.hazard_types.specs.Characters.{is_location, is_printable}
@@ -11,7 +11,6 @@ use Rattle.hazard_types.specs.declared.line.Flood.{Flood}
 use Rattle.hazard_types.specs.declared.line.Line.{Line}
 use Rattle.hazard_types.specs.declared.line.Row.{Row}
 use Rattle.hazard_types.specs.declared.request.Draft.{Draft}
-use Rattle.hazard_types.specs.declared.request.EventTexts.{EventTexts}
 use Rattle.hazard_types.specs.declared.request.Intent.{Intent}
 use Rattle.hazard_types.specs.declared.request.Sent.{Sent}
 use Rattle.hazard_types.specs.declared.request.Texts.{Texts}

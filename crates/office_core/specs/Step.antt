@@ -1,5 +1,5 @@
 -- The answer to a request, and the state after an accepted one.
-use Rattle.std.specs.Prelude.{◌≡◌, ◌⊎◌, ◌++◌, ℕ, ℤ, pos, ◌+◌, Bool, true, false, List, [], ◌∷◌, length, take, drop, Option, None, Some, if◌then◌else◌}
+use Rattle.std.specs.Prelude.{◌≡◌, ◌⊎◌, ◌++◌, ℕ, ℤ, pos, ◌+◌, false, List, [], ◌∷◌, length, take, drop, Option, None, Some, if◌then◌else◌}
 use Rattle.std.specs.Str.{bytes_eq}
 use Rattle.hazard_types.specs.declared.line.Row.{Row}
 use Rattle.hazard_types.specs.declared.refusal.Refusal.{Refusal}
@@ -12,7 +12,6 @@ use Rattle.hazard_types.specs.declared.request.Reply.TheVariants as reply
 use Rattle.hazard_types.specs.declared.request.Request.{Request}
 use Rattle.hazard_types.specs.declared.request.Request.TheVariants.{Issue, Begin, Put, Finish, Restate, Routine, Drop, Take, Discard, Send, Correct}
 use Rattle.hazard_types.specs.declared.request.Sent.{Sent}
-use Rattle.hazard_types.specs.declared.request.SentReply.{SentReply}
 use Rattle.hazard_types.specs.declared.request.Word.TheVariants as word
 use Rattle.event_life.specs.Products.{rows_after}
 use Rattle.hazard_types.specs.declared.request.Plan.{Plan}

@@ -1,5 +1,5 @@
 -- What a forecaster's texts may hold.
-use Rattle.std.specs.Prelude.{◌==◌, ◌||◌, ◌&&◌, not, ℕ, suc, Bool, true, false, List, [], ◌∷◌, length, nat_lt, Option, None, Some, option_map, codes, if◌then◌else◌}
+use Rattle.std.specs.Prelude.{◌==◌, ◌||◌, ◌&&◌, not, ℕ, suc, Bool, false, List, [], ◌∷◌, length, nat_lt, Option, None, Some, option_map, codes, if◌then◌else◌}
 use Rattle.std.specs.Option.{option_or}
 use Rattle.hazard_types.specs.Characters.{is_printable}
 use Rattle.hazard_types.specs.declared.refusal.Refusal.{Refusal}

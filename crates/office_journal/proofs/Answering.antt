@@ -1,5 +1,5 @@
 -- What becomes of a kept office between the start of a request and its answer: what is prepared leaves the state as it was.
-use Rattle.std.proofs.Common.{◌≡◌, ◌≢◌, ◌⊎◌, ◌+◌, ◌-◌, ◌^◌, min, inl, inr, ⊎_elim, ℕ, ℤ, List, Option, None, Some, length, option_map, refl, sym, ◌∙◌, ap, subst}
+use Rattle.std.proofs.Common.{◌≡◌, ◌≢◌, ◌⊎◌, ◌+◌, ◌-◌, ◌^◌, min, inl, inr, ⊎_elim, ℕ, ℤ, List, Option, Some, length, option_map, refl, sym, ◌∙◌, ap, subst}
 use Rattle.desk_traits.specs.Faults.{Rose}
 use Rattle.hazard_types.specs.declared.refusal.Refusal.{Refusal}
 use Rattle.hazard_types.specs.declared.request.Request.{Request}

@@ -1,5 +1,5 @@
 -- Histories that grow, and what crashes leave between two of them.
-use Rattle.std.proofs.Common.{ℕ, ◌≡◌, inl, inr, List, [], ◌∷◌, ◌++◌, refl, ap, sym, ◌∙◌, subst}
+use Rattle.std.proofs.Common.{ℕ, ◌≡◌, inl, inr, List, [], ◌++◌, refl, ap, sym, ◌∙◌, subst}
 use Rattle.std.proofs.lemmas.List.{append-nil, append_assoc}
 use Rattle.hazard_types.specs.declared.request.Edition.{Edition}
 use Rattle.hazard_types.specs.declared.request.Edition.TheVariants.{One, Two}

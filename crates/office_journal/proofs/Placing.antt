@@ -1,8 +1,7 @@
 -- Bodies fail at one place.
-use Rattle.std.proofs.Common.{ℕ, ◌≡◌, ◌⊎◌, inl, inr, ⊎_elim, List, [], ◌∷◌, ◌++◌, length, refl, ap, sym, ◌∙◌, subst}
+use Rattle.std.proofs.Common.{ℕ, ◌≡◌, ◌⊎◌, inl, inr, List, [], ◌∷◌, ◌++◌, length, refl, ap, sym, ◌∙◌}
 use Rattle.journal_core.specs.Image.{records}
 use Rattle.office_journal.specs.Damage.{AreBodies, FailsAt}
-use Rattle.office_journal.specs.Histories.{bodies}
 use Rattle.office_journal.proofs.Telling.{prefix_is}
 
 abbrev Forks : List (List ℕ) → List ℕ → List (List ℕ) → List ℕ → Type 0

@@ -1,5 +1,5 @@
 -- An office that is read from bodies, one after another.
-use Rattle.std.proofs.Common.{if◌then◌else◌, ltb, inl, ◌≡◌, ◌≢◌, ◌≤◌, ℕ, pos, ◌+◌, Bool, true, false, List, [], ◌∷◌, ◌++◌, Option, Some, Result, Ok, Err, length, refl, sym, ◌∙◌, ap, subst, arith, length-append, inr, leb}
+use Rattle.std.proofs.Common.{if◌then◌else◌, ltb, inl, ◌≡◌, ◌≢◌, ◌≤◌, ℕ, pos, ◌+◌, Bool, true, false, List, [], ◌∷◌, ◌++◌, Option, Some, Result, Ok, Err, length, refl, sym, ◌∙◌, ap, subst, arith, inr, leb}
 use Rattle.std.proofs.lemmas.Bool.{leb-true, le-leb, ltb-false}
 use Rattle.hazard_types.specs.declared.codes.Class.TheVariants.{O}
 use Rattle.hazard_types.specs.declared.refusal.Refusal.{Refusal}

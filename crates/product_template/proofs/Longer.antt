@@ -1,5 +1,5 @@
 -- A text is longer than without forecasters' texts by the bullets of these.
-use Rattle.std.proofs.Common.{◌≡◌, ℕ, ◌+◌, true, false, List, [], ◌∷◌, ◌++◌, length, map, refl, inl, inr, Option, Some, None, codes, arith, length-append, ◌∙◌, Result, Ok, Err, IfOk}
+use Rattle.std.proofs.Common.{◌≡◌, ℕ, ◌+◌, List, [], ◌∷◌, ◌++◌, length, map, refl, inl, inr, Option, Some, None, codes, arith, length-append, ◌∙◌, Result, Ok, Err, IfOk}
 use Rattle.std.proofs.lemmas.Bool.{cases_Bool}
 use Rattle.hazard_types.specs.Same.{same_event}
 use Rattle.hazard_types.specs.declared.codes.Class.{Class}

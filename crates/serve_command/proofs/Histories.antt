@@ -5,7 +5,6 @@ use Rattle.desk_traits.specs.Faults.{Rose}
 use Rattle.office_core.specs.State.{State}
 use Rattle.office_journal.specs.Changes.{Change}
 use Rattle.office_journal.specs.Grown.{grown}
-use Rattle.office_journal.specs.Histories.{History}
 use Rattle.office_journal.specs.Kept.{disk_of, state_of}
 use Rattle.office_journal.specs.declared.kept.KeptOffice.{KeptOffice}
 use Rattle.office_journal.proofs.Between.{grown_follows, loosened}

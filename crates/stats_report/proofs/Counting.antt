@@ -1,17 +1,12 @@
 -- Minutes that are counted one by one, and the lengths that they come to.
-use Rattle.std.proofs.Common.{◌≡◌, ◌∙◌, ◌≤◌, ◌<◌, ℕ, zero, suc, ◌+◌, ◌-◌, ◌&&◌, not, Bool, true, false, cond, List, [], ◌∷◌, ◌++◌, fold, Option, Some, None, refl, sym, ap, subst, arith}
+use Rattle.std.proofs.Common.{◌≡◌, ◌∙◌, ◌≤◌, ℕ, zero, suc, ◌+◌, ◌-◌, ◌&&◌, not, Bool, true, false, cond, Option, Some, None, refl, sym, ap, arith}
 use Rattle.std.specs.Prelude.{nat_le, nat_lt, min, max}
 use Rattle.std.proofs.lemmas.Bool.Decides.{nat_tests}
-use Rattle.std.proofs.lemmas.Grind.{fold-append}
-use Rattle.hazard_types.specs.Places.{Place}
-use Rattle.hazard_types.specs.declared.hazard.Event.{Event}
 use Rattle.hazard_types.specs.declared.line.Row.{Row}
 use Rattle.hazard_types.specs.declared.period.End.{End}
 use Rattle.hazard_types.specs.declared.period.End.TheVariants.{At, Ufn}
 use Rattle.event_life.specs.Periods.{ends_after}
-use Rattle.event_life.specs.Products.{Product, row_at, rows_with, rows_of}
-use Rattle.stats_report.specs.Minutes.{greatest, governing, has_effect, in_effect, one_if, count_before, minutes_of, cut_at, minutes_left}
-
+use Rattle.stats_report.specs.Minutes.{has_effect, one_if, count_before, cut_at, minutes_left}
 -- counts of tests that are alike at each minute
 
 pub same_count : (n : ℕ) (f g : ℕ → Bool) → ((m : ℕ) → f m ≡ g m) → count_before n f ≡ count_before n g

@@ -3,10 +3,10 @@ use Rattle.std.proofs.Common.{◌≡◌, ◌≢◌, ◌∙◌, ◌⊎◌, inl, i
 use Rattle.std.proofs.lemmas.Bool.{cases_Bool}
 use Rattle.std.proofs.lemmas.Bool.Decides.{nat_tests}
 use Rattle.desk_traits.specs.Faults.{Rose}
-use Rattle.desk_traits.specs.Streams.{Takes, Adds, IsAtEnd}
+use Rattle.desk_traits.specs.Streams.{Takes, Adds}
 use Rattle.product_decoder.specs.Decoded.{decode}
 use Rattle.product_decoder.specs.Feeding.{products_in}
-use Rattle.program_ends.specs.Ends.{fault_line, Begins, AddsFront, HasWritten, Telling, IsCut}
+use Rattle.program_ends.specs.Ends.{fault_line, Begins, HasWritten, Telling, IsCut}
 use Rattle.program_ends.specs.Runs.{end_of}
 use Rattle.program_ends.specs.Steps.{IsCauseOf}
 use Rattle.program_ends.specs.declared.ends.End.{End}
@@ -16,15 +16,12 @@ use Rattle.program_ends.specs.declared.reading.Stop.TheVariants as stop
 use Rattle.program_ends.proofs.Answering.{adds_none}
 use Rattle.program_ends.proofs.Telling.{begins_self}
 use Rattle.archive_report.specs.declared.words.Asked.{Asked}
-use Rattle.archive_report.specs.Report.{products_of, faults_in, readings_of}
+use Rattle.archive_report.specs.Report.{products_of, faults_in}
 use Rattle.archive_report.proofs.Fronts.{readings_told}
-use Rattle.event_life.specs.Products.{Product}
 use Rattle.stats_report.specs.Readings.{statistics, IsTallied, ReadsTo, TellsTo}
 use Rattle.stats_report.specs.Report.{stats_text}
-use Rattle.stats_report.specs.Runs.{WasTold, IsStatsRun}
+use Rattle.stats_report.specs.Runs.{IsStatsRun}
 use Rattle.stats_report.specs.declared.tally.Tally.{Tally}
-use Rattle.stats_report.proofs.Taking.{Readings}
-
 -- the text of a tally of the products of an input
 pub text_is : (asked : Asked) (read text : List ℕ) (tally : Tally) → IsTallied asked (map decode (products_in read)) tally → text ≡ stats_text tally.stamp tally.reader.products tally.faults → text ≡ statistics asked read
 unfolding statistics

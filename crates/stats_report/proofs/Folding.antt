@@ -1,6 +1,6 @@
 -- Sums that are read off what was counted are those of the products.
-use Rattle.std.proofs.Common.{◌≡◌, ◌∙◌, ℕ, ◌+◌, Bool, true, false, cond, List, [], ◌∷◌, ◌++◌, fold, length, map, refl, ap, sym, subst, arith}
-use Rattle.std.specs.List.{AllByRecursion, flat_map}
+use Rattle.std.proofs.Common.{◌≡◌, ◌∙◌, ℕ, ◌+◌, Bool, true, cond, List, [], ◌∷◌, ◌++◌, fold, map, refl, ap, arith}
+use Rattle.std.specs.List.{flat_map}
 use Rattle.std.specs.BTreeSet.{insert_key}
 use Rattle.std.specs.Map.{values_of}
 use Rattle.hazard_types.specs.Orders.{by_hazard, by_event}
@@ -12,14 +12,13 @@ use Rattle.hazard_types.specs.declared.line.Row.{Row}
 use Rattle.event_life.specs.Products.{Product, rows_of}
 use Rattle.product_decoder.specs.Openings.{openings_of}
 use Rattle.product_decoder.specs.declared.types.Opening.{Opening}
-use Rattle.stats_report.specs.Adding.{sum_where, count_where, sum_at, lead_of, with_opening, with_lead, with_zone, IsOpened, hazards_with, zones_with, events_with, with_event, with_row, with_row_zone, minutes_with, IsTotal}
+use Rattle.stats_report.specs.Adding.{sum_where, sum_at, lead_of, IsOpened, hazards_with, zones_with, events_with, with_event, minutes_with, IsTotal}
 use Rattle.stats_report.specs.Minutes.{minutes_of}
 use Rattle.stats_report.specs.Report.{events_in, hazards_in, zones_in, minutes_in, events_of, hazard_openings, hazard_lead, hazard_minutes, zone_openings, zone_minutes, total_minutes, hazard_text, zone_line_text, total_text, faults_text, hazard_line, zone_line, stats_text}
 use Rattle.stats_report.specs.Spots.{Spots, rows_in, AreExact, IsCounted}
 use Rattle.stats_report.specs.Told.{hazard_told, zone_told, hazards_told, zones_told, all_told}
 use Rattle.stats_report.specs.declared.opened.Opened.{Opened}
 use Rattle.stats_report.specs.declared.standing.Counted.{Counted}
-use Rattle.stats_report.specs.declared.standing.Spot.{Spot}
 use Rattle.stats_report.specs.declared.totals.Totals.{Totals}
 use Rattle.stats_report.proofs.Amounts.{hazard_folded, zone_folded}
 

@@ -1,10 +1,10 @@
 -- Rows at their spots: what is found, and what a change leaves.
-use Rattle.std.proofs.Common.{◌≡◌, ◌∙◌, ℕ, ◌&&◌, Bool, true, false, cond, List, [], ◌∷◌, Option, Some, None, Ordering, Less, Equal, Greater, refl, ap, sym, subst}
+use Rattle.std.proofs.Common.{◌≡◌, ◌∙◌, ◌&&◌, Bool, true, false, cond, List, [], ◌∷◌, Option, Some, None, Ordering, Less, Equal, Greater, refl, ap, sym, subst}
 use Rattle.std.specs.BTreeMap.{insert_entry, is_at}
 use Rattle.std.specs.List.{AllByRecursion}
 use Rattle.std.specs.List.Sorted.{IsStrictlySortedBy}
 use Rattle.std.specs.Map.{lookup}
-use Rattle.std.specs.Ordering.{match_ordering, ordering_then, ordering_reverse, is_eq}
+use Rattle.std.specs.Ordering.{match_ordering, ordering_then, is_eq}
 use Rattle.std.specs.Prelude.{option_map}
 use Rattle.std.proofs.lemmas.Bool.{false_from_ne_true}
 use Rattle.std.proofs.lemmas.Cmp.{tied_itself}
@@ -12,14 +12,13 @@ use Rattle.hazard_types.specs.Orders.{by_event}
 use Rattle.hazard_types.specs.Places.{Place, by_place}
 use Rattle.hazard_types.specs.Same.{same_zone, same_event}
 use Rattle.hazard_types.specs.declared.hazard.Event.{Event}
-use Rattle.hazard_types.specs.declared.line.Line.{Line}
 use Rattle.hazard_types.specs.declared.line.Row.{Row}
 use Rattle.hazard_types.proofs.Equality.{zone_one, zone_itself, event_one, event_itself}
 use Rattle.hazard_types.proofs.OrderLaws.{by_place_total, by_place_ties, by_event_total, by_event_ties}
 use Rattle.event_life.specs.Products.{by_key, placed, put, row_at}
 use Rattle.event_life.proofs.Keys.{by_key-total, key_exact}
-use Rattle.event_life.proofs.Puts.{at_key, at_key-parts, none_above}
-use Rattle.stats_report.specs.Spots.{Spots, by_spot, spot_at, spot_of, spot_said, rows_in, AreSpotted}
+use Rattle.event_life.proofs.Puts.{at_key, at_key-parts}
+use Rattle.stats_report.specs.Spots.{Spots, by_spot, spot_at, spot_of, rows_in, AreSpotted}
 use Rattle.stats_report.specs.declared.standing.Spot.{Spot}
 use Rattle.stats_report.specs.declared.standing.Counted.{Counted}
 

@@ -1,13 +1,12 @@
 -- The products that govern a minute, and what one product more changes.
-use Rattle.std.proofs.Common.{◌≡◌, ◌∙◌, ◌≤◌, ◌<◌, ℕ, zero, suc, ◌+◌, ◌&&◌, Bool, true, false, cond, List, [], ◌∷◌, ◌++◌, fold, length, take, Option, Some, None, refl, sym, ap, subst, arith}
+use Rattle.std.proofs.Common.{◌≡◌, ◌∙◌, ◌≤◌, ◌<◌, ℕ, zero, suc, ◌+◌, ◌&&◌, Bool, true, false, cond, List, [], ◌∷◌, ◌++◌, length, take, Option, refl, sym, ap, subst, arith}
 use Rattle.std.specs.Prelude.{nat_le, max, ◌↔◌}
 use Rattle.std.proofs.lemmas.Bool.Decides.{nat_tests}
-use Rattle.std.proofs.lemmas.Grind.{fold-append}
 use Rattle.hazard_types.specs.Places.{Place}
 use Rattle.hazard_types.specs.declared.hazard.Event.{Event}
 use Rattle.hazard_types.specs.declared.line.Row.{Row}
-use Rattle.event_life.specs.Products.{Product, row_at, rows_with, rows_of}
-use Rattle.stats_report.specs.Minutes.{greatest, governing, has_effect, in_effect, one_if, count_before, minutes_of, minutes_left}
+use Rattle.event_life.specs.Products.{Product, row_at, rows_of}
+use Rattle.stats_report.specs.Minutes.{greatest, governing, has_effect, in_effect, one_if, minutes_of, minutes_left}
 use Rattle.stats_report.proofs.Counting.{joined_count, count_less, count_all, left_counted}
 
 pub greatest-push : (products : List Product) (q : Product) → greatest (products ++ q ∷ []) ≡ max (greatest products) q.issue

@@ -1,12 +1,12 @@
 -- A tally keeps what its products come to.
-use Rattle.std.proofs.Common.{◌≡◌, ◌∙◌, ◌≤◌, ℕ, ◌+◌, List, [], ◌∷◌, ◌++◌, fold, length, refl, ap, sym, subst, arith, append_assoc, append-nil, length-append}
+use Rattle.std.proofs.Common.{◌≡◌, ◌∙◌, ℕ, ◌+◌, List, [], ◌∷◌, ◌++◌, fold, length, refl, ap, sym, subst, arith, append_assoc, append-nil, length-append}
 use Rattle.std.specs.Prelude.{max}
 use Rattle.std.proofs.lemmas.Grind.{fold-append}
 use Rattle.hazard_types.specs.Places.{Place}
 use Rattle.hazard_types.specs.declared.hazard.Hazard.{Hazard}
 use Rattle.hazard_types.specs.declared.line.Line.{Line}
 use Rattle.hazard_types.specs.declared.line.Row.{Row}
-use Rattle.event_life.specs.Products.{Product, rows_with, rows_of}
+use Rattle.event_life.specs.Products.{Product, rows_with}
 use Rattle.product_decoder.specs.Openings.{openings_with, openings_from, openings_of, last_lawful, last_openings}
 use Rattle.product_decoder.specs.declared.types.Opening.{Opening}
 use Rattle.product_decoder.proofs.OpeningLemmas.{last_lawful-push, last_openings-push}

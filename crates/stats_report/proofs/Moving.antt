@@ -1,28 +1,21 @@
 -- The lawful lines of a product change what is counted to what is to be counted after it.
-use Rattle.std.proofs.Common.{◌≡◌, ◌∙◌, ◌≤◌, ◌<◌, ℕ, zero, suc, ◌+◌, ◌-◌, ◌&&◌, not, Bool, true, false, cond, List, [], ◌∷◌, ◌++◌, length, fold, Option, Some, None, refl, ap, sym, subst, arith, append_assoc, append-nil, length-append}
+use Rattle.std.proofs.Common.{◌≡◌, ◌∙◌, ◌≤◌, ℕ, ◌+◌, Bool, true, false, cond, List, [], ◌∷◌, ◌++◌, length, fold, Option, Some, None, refl, ap, sym, subst, arith, append_assoc, append-nil, length-append}
 use Rattle.std.specs.BTreeMap.{insert_entry, is_at}
-use Rattle.std.specs.List.{AllByRecursion, filter}
+use Rattle.std.specs.List.{filter}
 use Rattle.std.specs.List.Sorted.{IsStrictlySortedBy}
-use Rattle.std.specs.Map.{lookup}
-use Rattle.std.specs.Prelude.{option_map, nat_le, max}
+use Rattle.std.specs.Prelude.{nat_le, max}
 use Rattle.std.proofs.lemmas.Grind.{fold-append}
 use Rattle.hazard_types.specs.Places.{Place}
 use Rattle.hazard_types.specs.declared.hazard.Event.{Event}
 use Rattle.hazard_types.specs.declared.line.Line.{Line}
 use Rattle.hazard_types.specs.declared.line.Row.{Row}
-use Rattle.hazard_types.specs.declared.period.End.{End}
-use Rattle.hazard_types.specs.declared.period.End.TheVariants.{At, Ufn}
 use Rattle.hazard_types.proofs.Equality.{zone_itself, event_itself}
-use Rattle.event_life.specs.declared.life.Breach.{Breach}
-use Rattle.event_life.specs.declared.life.Life.{Life}
-use Rattle.event_life.specs.Firsts.{is_lawful, first_line, row_by_first, row_by_first_line}
-use Rattle.event_life.specs.Lives.{judged_product}
-use Rattle.event_life.specs.Products.{Product, by_key, put, row_at, life_of, life_at, row_of, row_after, is_routine, speaks_of, judged, lawful_of, put_all, lines_of, rows_after, rows_with, rows_of}
-use Rattle.event_life.specs.Table.{life_after}
+use Rattle.event_life.specs.Firsts.{is_lawful, first_line, row_by_first}
+use Rattle.event_life.specs.Products.{Product, by_key, put, row_at, row_after, is_routine, speaks_of, judged, lawful_of, put_all, lines_of, rows_after, rows_with, rows_of}
 use Rattle.event_life.proofs.Members.{find_in}
 use Rattle.event_life.proofs.Puts.{at_key, at_key-parts, rows_after-sorted}
 use Rattle.event_life.proofs.Spoken.{AreTouching, lawful_of-touches, lawful_first, spoken, row_by_last, row_at-put_all, row_at-rows_after}
-use Rattle.stats_report.specs.Minutes.{greatest, governing, has_effect, in_effect, count_before, minutes_of, cut_at, minutes_left}
+use Rattle.stats_report.specs.Minutes.{greatest, governing, has_effect, in_effect, minutes_of, minutes_left}
 use Rattle.stats_report.specs.Spots.{Spots, by_spot, spot_of, spot_said, rows_in, AreSpotted, AreExact, IsCounted, counted_at, row_counted, minutes_counted, row_left, counted_after, changed, IsOwn, MayChange, MayChangeAll}
 use Rattle.stats_report.specs.declared.standing.Spot.{Spot}
 use Rattle.stats_report.specs.declared.standing.Counted.{Counted}

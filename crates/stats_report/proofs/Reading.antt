@@ -1,5 +1,5 @@
 -- Pieces that are read one after another, and how a run ends.
-use Rattle.std.proofs.Common.{◌≡◌, ◌∙◌, ◌⊎◌, inl, inr, ℕ, ◌+◌, ◌≤◌, List, [], ◌++◌, length, map, refl, ap, sym, subst, append_assoc, append-nil, length-append, arith, true, false, Option, None, Some, Result, Ok, Err}
+use Rattle.std.proofs.Common.{◌≡◌, ◌∙◌, ℕ, ◌+◌, ◌≤◌, List, [], ◌++◌, length, map, refl, ap, sym, subst, append_assoc, append-nil, length-append, arith, true, false, Option, None, Some, Ok, Err}
 use Rattle.std.proofs.lemmas.List.{map-append}
 use Rattle.desk_traits.specs.Streams.{Takes, IsAtEnd}
 use Rattle.desk_traits.proofs.Pieces.{takes_both}

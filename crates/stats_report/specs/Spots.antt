@@ -10,7 +10,6 @@ use Rattle.hazard_types.specs.Places.{Place, by_place}
 use Rattle.hazard_types.specs.declared.hazard.Event.{Event}
 use Rattle.hazard_types.specs.declared.line.Line.{Line}
 use Rattle.hazard_types.specs.declared.line.Row.{Row}
-use Rattle.event_life.specs.declared.life.Life.{Life}
 use Rattle.event_life.specs.Products.{Product, life_of, row_of, rows_of}
 use Rattle.event_life.specs.Table.{life_after}
 use Rattle.stats_report.specs.Minutes.{minutes_of, minutes_left}

@@ -1,6 +1,5 @@
 -- What a tally keeps of the products that it took.
 use Rattle.std.specs.Prelude.{◌≡◌, ◌≤◌, ◌+◌, List, [], ◌∷◌, ◌++◌, length, Result}
-use Rattle.event_life.specs.Products.{Product}
 use Rattle.product_decoder.specs.Openings.{openings_of}
 use Rattle.product_decoder.specs.ReaderModel.{product_of}
 use Rattle.product_decoder.specs.declared.types.Decoded.{Decoded}

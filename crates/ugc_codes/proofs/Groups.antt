@@ -17,14 +17,13 @@ use Rattle.ugc_codes.specs.declared.read.Group.TheVariants.{Zones, Expiry}
 use Rattle.ugc_codes.specs.declared.read.Refused.TheVariants.{NoCode, NoRange}
 use Rattle.hazard_types.proofs.DayTexts.{day_stamp_back, day_stamp_read}
 use Rattle.ugc_codes.specs.declared.span.Span.{Span}
-use Rattle.hazard_types.specs.Digits.{day_stamp_at, six_digits}
 use Rattle.ugc_codes.specs.declared.read.Refused.{Refused}
 use Rattle.ugc_codes.specs.Codes.{three_of, full_code, short_code, code_of, run_of, single_of, day_of, group_of, is_run, or_refused, run_to, three_at}
 use Rattle.hazard_types.specs.Digits.{day_stamp_in}
 use Rattle.hazard_types.specs.Names.{kind_at}
 use Rattle.ugc_codes.specs.Faults.{IsBackwards, IsNoGroup}
 use Rattle.ugc_codes.specs.Grammar.{numbered, IsSpan, run_end, full_text, short_text, Follows, Spells, HasCode}
-use Rattle.hazard_types.specs.Digits.{is_day_stamp, three_digits, two_digits, day_text}
+use Rattle.hazard_types.specs.Digits.{is_day_stamp, three_digits, day_text}
 use Rattle.hazard_types.specs.Names.{zone_text, kind_code}
 
 pub three_read : (n : ℕ) → n ≤ 999 → three_of (48 + n / 100) (48 + n / 10 % 10) (48 + n % 10) ≡ Some n

@@ -6,10 +6,7 @@ use Rattle.hazard_types.specs.Digits.{day_stamp_in}
 use Rattle.hazard_types.specs.Names.{kind_at}
 use Rattle.hazard_types.specs.Places.{Place, are_letters, is_number}
 use Rattle.hazard_types.specs.declared.zone.Kind.{Kind}
-use Rattle.hazard_types.specs.declared.zone.Kind.TheVariants.{C, Z}
-use Rattle.hazard_types.specs.declared.calendar.DayStamp.{DayStamp}
 use Rattle.ugc_codes.specs.Grammar.{numbered}
-use Rattle.hazard_types.specs.Digits.{is_day_stamp}
 use Rattle.ugc_codes.specs.declared.read.Group.{Group}
 use Rattle.ugc_codes.specs.declared.read.Group.TheVariants.{Zones, Expiry}
 use Rattle.ugc_codes.specs.declared.read.Refused.{Refused}

@@ -1,12 +1,10 @@
 -- The grammar of UGC texts, by groups: MDZ003>006-VAZ028-032330-
-use Rattle.std.specs.Prelude.{◌≡◌, ℕ, zero, suc, ◌+◌, ◌-◌, ◌/◌, ◌%◌, ◌≤◌, ◌⊎◌, ◌==◌, ◌&&◌, ◌||◌, Bool, nat_le, IsTrue, List, [], ◌∷◌, ◌++◌, length, Option, Some, None, if◌then◌else◌}
+use Rattle.std.specs.Prelude.{◌≡◌, ℕ, zero, suc, ◌+◌, ◌-◌, ◌≤◌, ◌⊎◌, ◌==◌, ◌||◌, Bool, IsTrue, List, [], ◌∷◌, ◌++◌, length, Option, Some, None, if◌then◌else◌}
 use Rattle.std.specs.List.{AllByRecursion}
 use Rattle.std.specs.BTreeSet.{insert_key}
 use Rattle.hazard_types.specs.Digits.{three_digits, is_day_stamp, day_text}
 use Rattle.hazard_types.specs.Names.{zone_text}
 use Rattle.hazard_types.specs.Places.{Place, are_letters, is_number, by_place}
-use Rattle.hazard_types.specs.declared.zone.Kind.{Kind}
-use Rattle.hazard_types.specs.declared.zone.Kind.TheVariants.{C, Z}
 use Rattle.hazard_types.specs.declared.calendar.DayStamp.{DayStamp}
 use Rattle.ugc_codes.specs.declared.span.Span.{Span}
 

@@ -13,7 +13,7 @@ use Rattle.program_ends.specs.Ends.{IsUsage, Telling, own_status, status_of}
 use Rattle.program_ends.specs.Runs.{IsLinesRun}
 use Rattle.program_ends.specs.declared.ends.End.{End}
 use Rattle.program_ends.specs.declared.ends.End.TheVariants.{Usage, SettingsRefused, AlreadyKept, NoJournal, Damaged, ReadFault, WriteFault, DiskFault, PortFault, ClockOut, OutOfMemory, InputTooLong, JournalFull}
-use Rattle.desk_commands.specs.Commands.{AreTold, IsBoardRun, IsExportRun, IsInitRun, IsScriptRun, IsTold, IsUpgradeRun, IsWhyUnmade, TellsBoard, UpgradeOutcome, joined}
+use Rattle.desk_commands.specs.Commands.{AreTold, IsInitRun, IsTold, IsWhyUnmade, TellsBoard, UpgradeOutcome, joined}
 use Rattle.desk_commands.specs.Opening.{IsUnopenedRun, IsWhy}
 use Rattle.desk_drill.specs.Runs.{IsDrillRun}
 use Rattle.desk_program.specs.Runs.{Does, DoesAsAsked}

@@ -1,5 +1,5 @@
 -- Ends whose counts of faults are always zero.
-use Rattle.std.proofs.Common.{◌≡◌, ◌≢◌, ◌≤◌, ◌+◌, ◌-◌, ◌^◌, ℕ, ℤ, min, refl, arith}
+use Rattle.std.proofs.Common.{◌≡◌, ◌≤◌, ◌+◌, ◌-◌, ◌^◌, ℕ, ℤ, min, arith}
 use Rattle.desk_traits.specs.Faults.{Rose}
 use Rattle.desk_traits.specs.declared.clocks.Clock.{Ghosts as Clocks}
 use Rattle.desk_traits.specs.declared.disk.Disk.{Ghosts as Disks}

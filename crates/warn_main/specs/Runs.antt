@@ -9,7 +9,6 @@ use Rattle.desk_program.specs.Runs as alone
 use Rattle.desk_program.specs.Words.{command_of}
 use Rattle.serve_command.specs.Serving.{Serves}
 use Rattle.serve_command.specs.Words.{serving_of}
-use Rattle.serve_command.specs.declared.words.Serving.{Serving}
 use Rattle.warn_serve.specs.Links.{Ways}
 use Rattle.warn_serve.specs.Served.{PortState}
 

@@ -1,4 +1,4 @@
-use Rattle.std.proofs.Common.{◌≡◌, Result, Ok, Err, List, ℕ, IfOk, sym, ◌∙◌, refl}
+use Rattle.std.proofs.Common.{◌≡◌, Result, Ok, Err, List, ℕ, IfOk, sym, ◌∙◌}
 use Rattle.desk_clock.specs.declared.reading.LocalFault.{LocalFault}
 use Rattle.desk_clock.specs.LocalForm.{ReadsAs, read_of}
 use Rattle.desk_clock.proofs.FormsFound.{reads, only_reads, lacks, only_lacks}

@@ -1,5 +1,4 @@
-use Rattle.std.proofs.Common.{arith, ◌≡◌, ◌≤◌, ◌+◌, ◌-◌, ◌^◌, min, ℕ, List, [], Option, refl, ap, sym, ◌∙◌, subst}
-use Rattle.office_journal.specs.Changes.{Change}
+use Rattle.std.proofs.Common.{◌≤◌, ◌+◌, ◌-◌, ◌^◌, min, [], refl, ap, sym, ◌∙◌, subst}
 use Rattle.office_journal.specs.Grown.{KeepsHistory, grown}
 use Rattle.office_journal.specs.Kept.{disk_of, state_of}
 use Rattle.office_journal.proofs.Between.{grown_follows}

@@ -1,4 +1,4 @@
-use Rattle.std.proofs.Common.{arith, ◌<◌}
+use Rattle.std.proofs.Common.{arith}
 use Rattle.desk_drill.specs.Keeping.{drilled_of, issued_by}
 use Rattle.desk_drill.proofs.Running.{ends_there, goes_left}
 use Rattle.desk_drill.proofs.drill.drilled.Goals as goal

@@ -1,5 +1,4 @@
-use Rattle.std.proofs.Common.{None, Some, inl, inr, refl, take, drop, sym}
-use Rattle.std.proofs.lemmas.List.{take-append-drop}
+use Rattle.std.proofs.Common.{None, Some, inl, inr, refl, take}
 use Rattle.program_ends.specs.declared.ends.End.TheVariants.{WriteFault}
 use Rattle.desk_drill.proofs.Running.{has_cut, has_whole}
 use Rattle.desk_drill.proofs.drill.tell.Goals as goal

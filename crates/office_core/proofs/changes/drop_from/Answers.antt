@@ -1,6 +1,5 @@
 -- The draft at the place of the id has one intent less.
-use Rattle.std.proofs.Common.{◌∙◌, List, set, ap, sym}
-use Rattle.hazard_types.specs.declared.request.Draft.{Draft}
+use Rattle.std.proofs.Common.{◌∙◌, set, ap, sym}
 use Rattle.office_core.specs.Step.{without_intent}
 use Rattle.office_core.proofs.DraftChanges.{with_at, with_none}
 use Rattle.office_core.proofs.changes.drop_from.Goals as goal

@@ -1,6 +1,5 @@
 -- The draft at the place of the id has one more intent.
-use Rattle.std.proofs.Common.{◌∙◌, List, set, ap, sym}
-use Rattle.hazard_types.specs.declared.request.Draft.{Draft}
+use Rattle.std.proofs.Common.{◌∙◌, set, ap, sym}
 use Rattle.office_core.specs.Step.{with_intent}
 use Rattle.office_core.proofs.DraftChanges.{with_at, with_none}
 use Rattle.office_core.proofs.changes.put_in.Goals as goal

@@ -1,5 +1,5 @@
 -- The draft at the place of the id goes.
-use Rattle.std.proofs.Common.{◌∙◌, ◌+◌, sym, add-one}
+use Rattle.std.proofs.Common.{◌∙◌, sym, add-one}
 use Rattle.office_core.proofs.DraftChanges.{without_at, without_none}
 use Rattle.office_core.proofs.changes.take_away.Goals as goal
 

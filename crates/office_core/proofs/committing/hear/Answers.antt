@@ -1,5 +1,5 @@
 -- What is kept at the place of the desk becomes another.
-use Rattle.std.proofs.Common.{◌≡◌, ◌∙◌, List, Option, ℕ, ap, sym}
+use Rattle.std.proofs.Common.{◌≡◌, ◌∙◌, ap, sym}
 use Rattle.std.specs.List.{position}
 use Rattle.std.specs.Str.{bytes_eq}
 use Rattle.office_core.specs.declared.heard.Heard.{Heard}

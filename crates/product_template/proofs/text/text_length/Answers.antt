@@ -1,4 +1,4 @@
-use Rattle.std.proofs.Common.{rules, ◌≡◌, ◌+◌, map, length, [], arith}
+use Rattle.std.proofs.Common.{rules, ◌≡◌, map, length, [], arith}
 use Rattle.product_template.specs.Lengths.{told_of, told_in_segments}
 use Rattle.product_template.specs.Text.{text_with, text_of}
 use Rattle.product_template.proofs.Longer.{longer, sum_told}

@@ -1,4 +1,4 @@
-use Rattle.std.proofs.Common.{ℕ, ◌≡◌, ◌≤◌, arith, sym, subst}
+use Rattle.std.proofs.Common.{ℕ, ◌≤◌, arith, sym, subst}
 use Rattle.warn_serve.specs.Links.{ways}
 use Rattle.warn_serve.specs.Served.{IsServed, PortState}
 use Rattle.serve_command.proofs.serving.serve_office.Goals as goal

@@ -1,8 +1,8 @@
-use Rattle.std.proofs.Common.{◌≡◌, ◌≤◌, ◌+◌, ◌∙◌, [], ap, arith, length, take, ℕ, refl, Ok}
+use Rattle.std.proofs.Common.{◌≡◌, ◌+◌, ◌∙◌, [], ap, arith, length, take, ℕ, refl, Ok}
 use Rattle.std.proofs.lemmas.List.{length-take}
 use Rattle.program_ends.specs.declared.reading.Stop.TheVariants as stop
 use Rattle.archive_report.proofs.Reading.{stops_by}
-use Rattle.stats_report.proofs.Reading.{ran_none, ran_next, ends_read, ends_memory, ends_long, ends_well}
+use Rattle.stats_report.proofs.Reading.{ran_none, ran_next, ends_memory, ends_long, ends_well}
 use Rattle.stats_report.proofs.input.count_input.Goals as goal
 
 pub loop-turn-init : goal.loop-turn-init

@@ -1,5 +1,4 @@
-use Rattle.std.proofs.Common.{◌≡◌, ◌∙◌, ℕ, List, [], ◌++◌, fold, refl, ap, sym, subst, append_assoc}
-use Rattle.std.specs.Map.{values_of}
+use Rattle.std.proofs.Common.{◌∙◌, ℕ, List, [], ◌++◌, fold, ap, subst, append_assoc}
 use Rattle.stats_report.specs.Adding.{hazards_with, zones_with, IsTotal}
 use Rattle.stats_report.specs.Report.{total_text, faults_text}
 use Rattle.stats_report.specs.Told.{hazards_told, zones_told}

@@ -1,5 +1,5 @@
 use Rattle.std.proofs.Common.{sym}
-use Rattle.stats_report.proofs.Ending.{run_ended, run_whole, not_two, run_complete}
+use Rattle.stats_report.proofs.Ending.{run_ended, not_two, run_complete}
 use Rattle.stats_report.proofs.stats.stats_within.Goals as goal
 
 pub returns-in-Err : goal.returns-in-Err

@@ -1,4 +1,4 @@
-use Rattle.std.proofs.Common.{◌≡◌, ◌∙◌, ℕ, List, sym, ap, subst, take, drop}
+use Rattle.std.proofs.Common.{◌∙◌, sym, take, drop}
 use Rattle.std.proofs.lemmas.List.{take-append-drop}
 use Rattle.program_ends.specs.declared.reading.Stop.TheVariants as stop
 use Rattle.archive_report.proofs.Reading.{stops_by}

@@ -1,4 +1,4 @@
-use Rattle.std.proofs.Common.{◌≡◌, [], fold, drop}
+use Rattle.std.proofs.Common.{◌≡◌, fold, drop}
 use Rattle.stats_report.specs.Adding.{minutes_with}
 use Rattle.stats_report.proofs.totals.minutes_of_all.Given as goal
 

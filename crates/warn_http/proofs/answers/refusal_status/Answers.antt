@@ -1,4 +1,4 @@
-use Rattle.std.proofs.Common.{◌≡◌, ℕ, List, ap, sym, subst}
+use Rattle.std.proofs.Common.{ℕ, List, ap, sym, subst}
 use Rattle.std.specs.Prelude.{IsTrue}
 use Rattle.warn_http.specs.Answers.{is_status}
 use Rattle.warn_http.proofs.Statuses.{refusals_have_statuses}

@@ -1,4 +1,4 @@
-use Rattle.std.proofs.Common.{inl, inr, None, refl, sym, ◌∙◌}
+use Rattle.std.proofs.Common.{refl, sym, ◌∙◌}
 use Rattle.program_ends.specs.Lines.{most_bytes}
 use Rattle.serve_command.specs.Words.{serving_of}
 use Rattle.warn_serve.specs.Links.{ways}

@@ -1,5 +1,4 @@
-use Rattle.std.proofs.Common.{◌≡◌, ◌∙◌, Ok, ap}
-use Rattle.office_core.specs.Prepared.{IsReady, MayCommit}
+use Rattle.std.proofs.Common.{◌∙◌, Ok, ap}
 use Rattle.worked_office.proofs.answers.submit.Goals as goal
 
 pub commit-requires : goal.commit-requires

@@ -1,4 +1,4 @@
-use Rattle.std.proofs.Common.{◌≡◌, ◌≤◌, ◌+◌, ◌*◌, All, length}
+use Rattle.std.proofs.Common.{◌≤◌, ◌+◌, ◌*◌, All, length}
 use Rattle.desk_links.specs.LinkMemory.{IsIdle, all_links}
 use Rattle.worked_outside.proofs.ports.visit_doors.Given as goal
 

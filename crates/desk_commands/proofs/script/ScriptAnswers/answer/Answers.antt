@@ -1,4 +1,4 @@
-use Rattle.std.proofs.Common.{rules, ℕ, ℤ, List, [], Option, None, Some, option_map, Bor, ◌≡◌, inl, inr, refl, ap, sym, ◌∙◌, subst, w64}
+use Rattle.std.proofs.Common.{rules, ℕ, ℤ, List, option_map, Bor, refl, ap, sym, ◌∙◌, subst, w64}
 use Rattle.std.proofs.lemmas.Int.{to_z-of_z}
 use mir.Val.{SFits}
 use Rattle.hazard_types.specs.declared.refusal.Refusal.TheVariants.{LineTooLong}

@@ -1,4 +1,4 @@
-use Rattle.std.proofs.Common.{rules, arith, refl, ap, Ok, Err, ℕ, List, ◌+◌, slice_index, to_z, of_z, w64}
+use Rattle.std.proofs.Common.{rules, arith, ap, Ok, Err, ◌+◌, slice_index, to_z, of_z, w64}
 use Rattle.desk_drill.proofs.Keeping.{accepted_if, accepted_low, first_if, is_some, next_is, no_fault, number_low, products_low, refused_core, second_if, taken}
 use Rattle.desk_drill.proofs.desk.DrillDesk.answer.Goals as goal
 

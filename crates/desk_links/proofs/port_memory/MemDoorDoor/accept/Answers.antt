@@ -1,5 +1,4 @@
-use Rattle.std.proofs.Common.{◌≡◌, ◌∷◌, ◌++◌, [], List, All, length, arith, subst, ap, sym}
-use Rattle.std.specs.Prelude.{vec_capacity}
+use Rattle.std.proofs.Common.{List, All, arith, subst, sym}
 use Rattle.desk_links.specs.LinkMemory.{LinkInMemory, IsUntouched}
 use Rattle.desk_links.proofs.Dealing.{all_rest}
 use Rattle.desk_links.proofs.port_memory.MemDoorDoor.accept.Goals as goal

@@ -1,6 +1,6 @@
 use Rattle.std.proofs.Common.{rules, ◌≡◌, ◌∙◌, ◌++◌, ◌∷◌, ◌+◌, [], List, All, length, drop, sym, ap, arith, subst}
-use Rattle.desk_links.specs.LinkMemory.{LinkInMemory, DoorInMemory, IsUntouched, IsIdle, doors_with, door_with, first_list}
-use Rattle.desk_links.proofs.Dealing.{made_on, made_end, all_tail, first_of_all, idle_doors}
+use Rattle.desk_links.specs.LinkMemory.{LinkInMemory, DoorInMemory, IsUntouched, IsIdle, doors_with, door_with}
+use Rattle.desk_links.proofs.Dealing.{made_on, made_end, all_tail, idle_doors}
 use Rattle.desk_links.proofs.port_memory.MemPort.new.Goals as goal
 
 pub loop-list-preserved : goal.loop-list-preserved

@@ -1,4 +1,4 @@
-use Rattle.std.proofs.Common.{◌≡◌, ◌≤◌, ◌+◌, ◌++◌, All, length, drop}
+use Rattle.std.proofs.Common.{◌≡◌, ◌+◌, ◌++◌, All, length, drop}
 use Rattle.desk_links.specs.LinkMemory.{doors_with, IsUntouched}
 use Rattle.desk_links.proofs.port_memory.MemPort.new.Given as goal
 

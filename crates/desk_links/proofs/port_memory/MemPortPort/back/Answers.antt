@@ -1,5 +1,5 @@
-use Rattle.std.proofs.Common.{rules, ◌≡◌, ◌∙◌, ◌++◌, ◌∷◌, [], ◌≤◌, ◌<◌, ◌+◌, ◌^◌, List, Some, All, length, sym, ap, arith, subst, length-append}
-use Rattle.desk_links.specs.LinkMemory.{LinkInMemory, DoorInMemory, PortInMemory, all_links, IsIdle}
+use Rattle.std.proofs.Common.{rules, ◌≡◌, ◌∙◌, ◌++◌, ◌∷◌, [], ◌≤◌, ◌+◌, List, Some, length, sym, ap, arith, length-append}
+use Rattle.desk_links.specs.LinkMemory.{LinkInMemory, PortInMemory, all_links}
 use Rattle.desk_links.proofs.Dealing.{put_behind, all_links_on}
 use Rattle.desk_links.proofs.port_memory.MemPortPort.back.Goals as goal
 

@@ -1,4 +1,4 @@
-use Rattle.std.proofs.Common.{◌≡◌, ◌∙◌, ◌-◌, ◌+◌, ◌++◌, suc, List, All, length, sym, ap, arith, subst}
+use Rattle.std.proofs.Common.{◌≡◌, ◌∙◌, ◌-◌, ◌+◌, ◌++◌, suc, List, All, sym, ap, arith, subst}
 use Rattle.desk_links.specs.LinkMemory.{DoorInMemory, PortInMemory, IsIdle, dealt}
 use Rattle.desk_links.proofs.Dealing.{dealt_on, dealt_end, dealt_idle, all_rest}
 use Rattle.desk_links.proofs.port_memory.MemPortPort.listen.Goals as goal

@@ -1,9 +1,8 @@
 -- The fields are those of the state after the entry, which is sound and agrees with its texts.
-use Rattle.std.proofs.Common.{◌≡◌, ◌∙◌, ◌≤◌, ◌-◌, List, Option, Some, ap, subst, sym, arith, length}
+use Rattle.std.proofs.Common.{◌≡◌, ◌∙◌, ◌-◌, List, Some, ap, subst, sym}
 use Rattle.std.specs.Vec.{vec_capacity, vec_len}
-use Rattle.event_numbers.specs.declared.Count.{Count}
 use Rattle.office_core.specs.Agreement.{Agrees}
-use Rattle.office_core.specs.Prepared.{MayCommit, Readied, draws}
+use Rattle.office_core.specs.Prepared.{MayCommit, Readied}
 use Rattle.office_core.specs.Sound.{IsSound}
 use Rattle.office_core.specs.State.{State, said_by, said_in}
 use Rattle.office_core.specs.Step.{state_after}

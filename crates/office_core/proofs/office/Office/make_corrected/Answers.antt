@@ -1,18 +1,15 @@
 -- The plan of a correction is written; the rule that is named is the first that is broken.
-use Rattle.std.proofs.Common.{◌≡◌, ◌∙◌, ◌≤◌, ℕ, List, Option, Some, None, inl, inr, ap, subst, sym, rules}
+use Rattle.std.proofs.Common.{◌≡◌, ◌∙◌, ℕ, List, Option, Some, None, inl, inr, ap, subst, sym, rules}
 use Rattle.hazard_types.specs.declared.hazard.Event.{Event}
 use Rattle.hazard_types.specs.declared.refusal.Refusal.{Refusal}
 use Rattle.hazard_types.specs.declared.request.Plan.{Plan}
 use Rattle.hazard_types.specs.declared.request.Sent.{Sent}
-use Rattle.event_numbers.specs.declared.Count.{Count}
 use Rattle.event_numbers.specs.Counts.{AreDrawnInOrder}
 use Rattle.action_planner.specs.Corrections.{CanCorrect, IsCorrection, broken_correction}
-use Rattle.product_template.specs.Conditions.{CanBeText}
 use Rattle.office_core.specs.Making.{Making, IsPlanOf, broken_lines, last_of_category, letters_of, original_of}
 use Rattle.office_core.specs.Sound.{IsSound}
-use Rattle.office_core.specs.State.{State}
 use Rattle.office_core.specs.Views.{OfficeView}
-use Rattle.office_core.specs.WellMade.{IsWellMade, made_with}
+use Rattle.office_core.specs.WellMade.{IsWellMade}
 use Rattle.office_core.specs.declared.made.Made.{Made}
 use Rattle.office_core.proofs.MakingLemmas.{IsCorrectionPlanned, IsWritten, corrected_lines, corrected_well, if_written, none_drawn}
 use Rattle.office_core.proofs.office.Office.make_corrected.Goals as goal

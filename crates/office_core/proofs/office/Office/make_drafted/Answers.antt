@@ -1,18 +1,13 @@
 -- The plan of a draft is written; the rule that is named is the first that is broken.
-use Rattle.std.proofs.Common.{◌≡◌, ◌∙◌, ◌≤◌, List, Option, Some, None, inl, inr, ap, subst, sym, rules}
+use Rattle.std.proofs.Common.{◌≡◌, List, Some, None, inl, inr, subst, sym, rules}
 use Rattle.hazard_types.specs.declared.hazard.Event.{Event}
-use Rattle.hazard_types.specs.declared.refusal.Refusal.{Refusal}
-use Rattle.hazard_types.specs.declared.request.Plan.{Plan}
-use Rattle.event_numbers.specs.declared.Count.{Count}
 use Rattle.event_numbers.specs.Counts.{AreDrawnInOrder}
 use Rattle.action_planner.specs.Conditions.{CanPlan}
 use Rattle.action_planner.specs.Offences.{broken}
 use Rattle.action_planner.specs.Placed.{opened, placed}
 use Rattle.action_planner.specs.Told.{counts_in}
-use Rattle.product_template.specs.Conditions.{CanBeText}
 use Rattle.office_core.specs.Making.{Making, IsPlanOf, broken_lines}
 use Rattle.office_core.specs.Sound.{IsSound}
-use Rattle.office_core.specs.State.{State}
 use Rattle.office_core.specs.Views.{OfficeView}
 use Rattle.office_core.specs.WellMade.{IsWellMade}
 use Rattle.office_core.specs.declared.made.Made.{Made}

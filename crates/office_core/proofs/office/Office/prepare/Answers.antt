@@ -1,7 +1,6 @@
 -- What was found out of a request on the way, and that what is prepared of it may be committed.
-use Rattle.std.proofs.Common.{◌≡◌, ◌∙◌, ◌≤◌, ℕ, ℤ, List, Option, Some, None, Ok, true, false, ap, subst, sym, rules, to_z, of_z, w64}
+use Rattle.std.proofs.Common.{◌≡◌, ◌∙◌, ◌≤◌, ℕ, ℤ, None, false, ap, subst, sym, rules, to_z, of_z, w64}
 use Rattle.std.proofs.lemmas.Int.{to_z-of_z}
-use Rattle.event_numbers.specs.declared.Count.{Count}
 use Rattle.office_core.specs.Agreement.{Agrees}
 use Rattle.office_core.specs.Making.{making_of}
 use Rattle.office_core.specs.Prepared.{HasPlace, IsReady, Readied, changed}
@@ -10,13 +9,10 @@ use Rattle.office_core.specs.Sound.{IsSound, IsSoundMaking}
 use Rattle.office_core.specs.State.{State}
 use Rattle.office_core.specs.Step.{drafts_after, entry_of}
 use Rattle.office_core.specs.Views.{OfficeView}
-use Rattle.office_core.specs.WellMade.{HasRoomForIf, IsWellMadeIf}
-use Rattle.office_core.specs.declared.made.Made.{Made}
-use Rattle.office_core.proofs.BrokenLemmas.{known_desk, read_in_range, drafts_fit, repeated_request}
+use Rattle.office_core.proofs.BrokenLemmas.{read_in_range, drafts_fit, repeated_request}
 use Rattle.office_core.proofs.ReadyLemmas.{IsChecked, ready}
 use Rattle.office_core.proofs.office.Office.prepare.Goals as goal
-use Rattle.office_core.proofs.office.Office.prepare.Goals.{Else-is_repeated, After-minute_of-t, In_ok-p}
-
+use Rattle.office_core.proofs.office.Office.prepare.Goals.{Else-is_repeated, After-minute_of-t}
 read : (c : Else-is_repeated) → to_z w64 (of_z w64 c.args.reading) ≡ c.args.reading
 read c = to_z-of_z w64 c.args.reading c.ranges.reading
 

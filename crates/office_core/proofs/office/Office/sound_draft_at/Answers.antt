@@ -1,5 +1,5 @@
 -- An open draft is sound.
-use Rattle.std.proofs.Common.{◌≡◌, subst}
+use Rattle.std.proofs.Common.{subst}
 use Rattle.office_core.specs.Sound.{IsSound}
 use Rattle.office_core.specs.Views.{OfficeView}
 use Rattle.office_core.proofs.LookLemmas.{found_sound}

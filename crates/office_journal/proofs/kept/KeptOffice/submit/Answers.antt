@@ -1,7 +1,7 @@
 use Rattle.std.proofs.Common.{◌≡◌, ◌⊎◌, ℤ, Some, subst, w64}
 use Rattle.std.proofs.lemmas.Int.{to_z-of_z}
 use Rattle.desk_traits.specs.Crash.{LeavesOnly}
-use Rattle.office_journal.specs.Changes.{Change, Leaves}
+use Rattle.office_journal.specs.Changes.{Leaves}
 use Rattle.office_journal.specs.Submitting.{IsAsked}
 use Rattle.office_journal.proofs.kept.KeptOffice.submit.Goals as goal
 

@@ -1,9 +1,9 @@
-use Rattle.std.proofs.Common.{◌≡◌, ◌∙◌, List, ◌∷◌, [], ◌++◌, fold, refl, ap, sym, subst, arith}
+use Rattle.std.proofs.Common.{◌≡◌, ◌∙◌, List, ◌++◌, fold, refl, ap, sym, subst, arith}
 use Rattle.std.specs.Prelude.{max}
 use Rattle.std.proofs.lemmas.Result.{on_ok_weaker}
 use Rattle.hazard_types.specs.declared.line.Line.{Line}
 use Rattle.event_life.specs.Products.{Product}
-use Rattle.product_decoder.specs.Openings.{openings_of, last_lawful, last_openings}
+use Rattle.product_decoder.specs.Openings.{openings_of, last_openings}
 use Rattle.product_decoder.specs.ReaderModel.{product_of}
 use Rattle.product_decoder.specs.declared.types.Opening.{Opening}
 use Rattle.stats_report.specs.Adding.{CountsMore}
