@@ -130,7 +130,7 @@ pub fn is_opening(intent: &Intent) -> bool
 }
 
 /// The events that the intents open, in order of places.
-pub fn opened(alloc: Global, ps: &[Placed]) -> Result<List<Event>, Oom>
+pub fn opened_events(alloc: Global, ps: &[Placed]) -> Result<List<Event>, Oom>
     ensures { IfOk result (λ events. events ≡ opened ps.now) }
 {
     let mut events = Vec::new(alloc);

@@ -12,7 +12,7 @@ ghost use Rattle.action_planner.specs.Placed.{placed};
 ghost use Rattle.action_planner.specs.Plans.{HasLines, IsPlan};
 
 use crate::lines::planned_lines;
-use crate::placed::{Placed, opened, place_all};
+use crate::placed::{Placed, opened_events, place_all};
 use crate::rules::{broken_early, broken_late};
 use crate::sending::Sending;
 use crate::spoken::Spoken;
@@ -28,7 +28,7 @@ fn plan_of(alloc: Global, category: Category, lines: List<Line>, ps: &[Placed]) 
     ensures { IfOk result (λ plan. HasLines category lines ps.now plan) }
 {
     let segments = segments(alloc, &lines)?;
-    let opened = opened(alloc, ps)?;
+    let opened = opened_events(alloc, ps)?;
     let texts = event_texts(alloc, ps, lines.as_slice())?;
     Ok(Plan {
         category,

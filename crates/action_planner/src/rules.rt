@@ -15,7 +15,7 @@ use crate::intent_rules::{
 };
 use crate::placed::Placed;
 use crate::spoken::Spoken;
-use crate::zone_rules::{gone, left, moved, shared};
+use crate::zone_rules::{gone, left_before, moved, shared};
 use hazard_board::Board;
 use hazard_types::{Line, List, Minute, Oom, Refusal};
 use std::alloc::Global;
@@ -63,7 +63,7 @@ fn offence(board: &Board, t: Minute, spoken: &Spoken, rule: Rule, p: &Placed) ->
     match rule {
         Rule::NoEvent => not_open(board, t, p),
         Rule::NotLive => gone(board, t, p),
-        Rule::LeftBefore => left(board, t, p),
+        Rule::LeftBefore => left_before(board, t, p),
         Rule::Twice => shared(spoken, p),
         Rule::BadPeriod => bad_period(t, p),
         Rule::BegunMoved => moved(board, t, p),

@@ -118,7 +118,7 @@ pub fn gone(board: &Board, t: Minute, p: &Placed) -> Option<Refusal>
 }
 
 /// LeftBefore: a joining put where the zone has a row that no line has ended and that is not live.
-pub fn left(board: &Board, t: Minute, p: &Placed) -> Option<Refusal>
+pub fn left_before(board: &Board, t: Minute, p: &Placed) -> Option<Refusal>
     ensures { result ≡ left board.now.rows t p.now }
 {
     let zone = zones_of(p.intent)

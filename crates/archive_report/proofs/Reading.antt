@@ -14,7 +14,7 @@ use Rattle.archive_report.specs.declared.tally.Tally.{Tally}
 use Rattle.archive_report.specs.declared.words.Asked.{Asked}
 use Rattle.archive_report.specs.Pieces.{IsTally, IsFresh, CountsAll, Waits, TellsEach, TellsPiece, HaltsPiece, IsTallied, TellsTo, ReadsAll}
 use Rattle.archive_report.specs.Report.{products_of, numbers_from, product_lines}
-use Rattle.archive_report.specs.Runs.{HasOne, AreFinished, IsTold, IsEarly, IsFront, lines_told}
+use Rattle.archive_report.specs.Runs.{HasOne, AreFinished, IsFinishedTold, IsEarly, IsFront, lines_told}
 use Rattle.archive_report.proofs.Fronts.{Readings, lines-append, products-append, numbers-append, faults-append, first_begins, first_early, early_longer}
 use Rattle.archive_report.proofs.Taking.{few_products}
 
@@ -118,7 +118,7 @@ module _ (asked : Asked) (limit : ℕ) (tally : Tally) (left mid taken mid' : Op
     one = ran.waits.1;
   }
 
-  told : IsTold asked ran.read (lines_told asked ran.texts)
+  told : IsFinishedTold asked ran.read (lines_told asked ran.texts)
   told = (ran.texts, finished, refl)
 
   early : IsEarly asked ran.read (lines_told asked ran.texts)
@@ -175,7 +175,7 @@ module _ (asked : Asked) (limit : ℕ) (tally : Tally) (left mid taken mid' : Op
     early_after : IsEarly asked (ran.read ++ part) (lines_told asked (ran.texts ++ each.texts))
     early_after = first_early asked (ran.read ++ part) new.rest (ran.texts ++ each.texts) first_after
 
-    told_after : IsTold asked (ran.read ++ part) (lines_told asked (ran.texts ++ each.texts))
+    told_after : IsFinishedTold asked (ran.read ++ part) (lines_told asked (ran.texts ++ each.texts))
     told_after =
         let waits = (each.going going).1 in
         (ran.texts ++ each.texts, record { rest = waits.0; first = λ more. first_after more ∙ ap (λ (ts : List (List ℕ)). (ran.texts ++ each.texts) ++ ts) (sym (waits.2 more)); one = waits.1 }, refl)

@@ -14,7 +14,7 @@ use Rattle.program_ends.specs.declared.reading.Stop.TheVariants as stop
 use Rattle.archive_report.specs.declared.tally.Tally.{Tally}
 use Rattle.archive_report.specs.declared.words.Asked.{Asked}
 use Rattle.archive_report.specs.Report.{taken_in, products_of, number_in, numbers_from, fault_in, faults_in, product_line, product_lines, findings_text, shown_text, last_line, report, listed}
-use Rattle.archive_report.specs.Runs.{HasOne, IsTold, IsFront, lines_told}
+use Rattle.archive_report.specs.Runs.{HasOne, IsFinishedTold, IsFront, lines_told}
 
 -- A tally counts products of the office and class, and of these no more than there are.
 pub record IsTally (asked : Asked) (tally : Tally) : Type 0 where
@@ -90,8 +90,8 @@ pub record TellsTo {T : Type 0} (asked : Asked) (limit : ℕ) (left left' taken 
   pub adds : Adds taken taken' written
   pub within : length read ≤ limit + 1
   pub ended : IfOk result (λ (x : T). IsAtEnd left' × (length read ≤ limit) × done read text x)
-  pub read_fault : IsErrOf result stop.Read → (length read ≤ limit) × IsTold asked read text
-  pub too_long : IsErrOf result stop.TooLong → (length read ≡ limit + 1) × IsTold asked (take limit read) text
+  pub read_fault : IsErrOf result stop.Read → (length read ≤ limit) × IsFinishedTold asked read text
+  pub too_long : IsErrOf result stop.TooLong → (length read ≡ limit + 1) × IsFinishedTold asked (take limit read) text
   pub front : IsFront asked limit read left' text
   pub begins : Begins written text
   pub whole : (IsErrOf result stop.Write → ⊥) → written ≡ text

@@ -31,8 +31,8 @@ abbrev pub lines_told : Asked → List (List ℕ) → List ℕ
 lines_told asked texts = product_lines asked 1 (map decode texts)
 
 -- the lines of the products that are finished
-abbrev pub IsTold : Asked → List ℕ → List ℕ → Type 0
-IsTold asked read told = (texts : List (List ℕ)) × AreFinished read texts × (told ≡ lines_told asked texts)
+abbrev pub IsFinishedTold : Asked → List ℕ → List ℕ → Type 0
+IsFinishedTold asked read told = (texts : List (List ℕ)) × AreFinished read texts × (told ≡ lines_told asked texts)
 
 -- a front of the report of each input that begins so
 abbrev pub IsEarly : Asked → List ℕ → List ℕ → Type 0
@@ -64,8 +64,8 @@ pub record IsArchiveRun (asked : Asked) (limit : ℕ) (left left' taken taken' :
   pub clean : status ≡ 0 → listed asked read ≡ 0
   pub against : status ≡ 3 → listed asked read ≢ 0
   -- The lines of the products that were finished, and the line of the fault.
-  pub read_fault : status ≡ 7 → Rose reads reads' × (writes' ≡ writes) × (length read ≤ limit) × ((told : List ℕ) × IsTold asked read told × (written ≡ told ++ fault_line ReadFault))
-  pub too_long : status ≡ 13 → (reads' ≡ reads) × (writes' ≡ writes) × (length read ≡ limit + 1) × ((told : List ℕ) × IsTold asked (take limit read) told × (written ≡ told ++ fault_line InputTooLong))
+  pub read_fault : status ≡ 7 → Rose reads reads' × (writes' ≡ writes) × (length read ≤ limit) × ((told : List ℕ) × IsFinishedTold asked read told × (written ≡ told ++ fault_line ReadFault))
+  pub too_long : status ≡ 13 → (reads' ≡ reads) × (writes' ≡ writes) × (length read ≡ limit + 1) × ((told : List ℕ) × IsFinishedTold asked (take limit read) told × (written ≡ told ++ fault_line InputTooLong))
   -- A front of the report, and the line of the fault; no count rose.
   pub no_memory : status ≡ 12 → (reads' ≡ reads) × (writes' ≡ writes) × ((front : List ℕ) × IsFront asked limit read left' front × (written ≡ front ++ fault_line OutOfMemory))
   -- A front of the report with the line of the fault that ended it, if one did before the write failed; and then a front of the line of a write fault, which stands whole where the count rose by one alone.

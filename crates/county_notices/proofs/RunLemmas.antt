@@ -12,7 +12,7 @@ use Rattle.notice_json.specs.declared.command.Watch.{Watch}
 use Rattle.notice_json.specs.declared.refusal.NoticeRefusal.{NoticeRefusal}
 use Rattle.notice_json.specs.declared.refusal.NoticeRefusal.TheVariants.{LineTooLong, TooLong}
 use Rattle.notice_json.proofs.CommandForms.{commands_have_form}
-use Rattle.program_ends.specs.Ends.{own_status}
+use Rattle.program_ends.specs.Ends.{IsUsage, own_status}
 use Rattle.program_ends.specs.Lines.{fit}
 use Rattle.program_ends.specs.Runs.{Answered, IsLinesRun}
 use Rattle.program_ends.specs.declared.ends.End.{End}
@@ -20,7 +20,7 @@ use Rattle.program_ends.specs.declared.ends.End.TheVariants.{ReadFault, WriteFau
 use Rattle.county_notices.specs.Answers.{AnswersCommand, AnswersLine, IsNoticed, IsTurnedDown, LacksLine, refusal_line}
 use Rattle.county_notices.specs.Commands.{Noticed, broken}
 use Rattle.county_notices.specs.NoticeHistory.{IsAccepted, IsRefused, IsTooLong, after, first}
-use Rattle.county_notices.specs.NoticeRuns.{AreTold, DoesAsAsked, IsNoticeRun, IsUsage, Tells}
+use Rattle.county_notices.specs.NoticeRuns.{AreTold, DoesAsAsked, IsNoticeRun, Tells}
 use Rattle.county_notices.specs.Notices.{IsNotice, text_of}
 use Rattle.county_notices.specs.Reading.{IsHistory, Noted}
 use Rattle.county_notices.specs.Standing.{IsStanding}

@@ -4,10 +4,9 @@ use Rattle.desk_traits.specs.Faults.{Rose}
 use Rattle.notice_json.specs.Form.{command_of}
 use Rattle.notice_json.specs.declared.command.Command.{Command}
 use Rattle.notice_json.specs.declared.refusal.NoticeRefusal.{NoticeRefusal}
-use Rattle.program_ends.specs.Ends.{Telling}
+use Rattle.program_ends.specs.Ends.{IsUsage}
 use Rattle.program_ends.specs.Lines.{fit}
 use Rattle.program_ends.specs.Runs.{Answered, IsLinesRun}
-use Rattle.program_ends.specs.declared.ends.End.TheVariants.{Usage}
 use Rattle.county_notices.specs.Answers.{AnswersLine, IsNoticed, LacksLine, refusal_line}
 use Rattle.county_notices.specs.Commands.{Noticed}
 use Rattle.county_notices.specs.NoticeHistory.{first}
@@ -43,19 +42,6 @@ AreTold s (line ∷ lines) told notes z = (text : List ℕ) × (own : List Noted
     Tells s (fit line) text own next × (told ≡ text ++ rest) × (notes ≡ own ++ more) × AreTold next lines rest more z
 
 -- ---- runs
-
--- the words name no office and zone: nothing was read, and the end alone was told
-pub record IsUsage (left left' taken taken' : Option (List ℕ)) (reads reads' writes writes' status : ℕ) : Type 0 where
-  pub unread : left' ≡ left
-  pub steady : reads' ≡ reads
-  pub telling : Telling [] writes taken taken' writes' (Some Usage) status
-
--- memory lacked for the words: nothing was read or written
-pub record IsUntouched (left left' taken taken' : Option (List ℕ)) (reads reads' writes writes' status : ℕ) : Type 0 where
-  pub no_memory : status ≡ 12
-  pub unread : left' ≡ left
-  pub unwritten : taken' ≡ taken
-  pub steady : (reads' ≡ reads) × (writes' ≡ writes)
 
 -- A run over the lines of an input of at most this many bytes, by the office and its zone alone.
 pub record IsNoticeRun (by : Issuer) (limit : ℕ) (left left' taken taken' : Option (List ℕ)) (reads reads' writes writes' status : ℕ) : Type 0 where

@@ -2,7 +2,8 @@
 ghost use Rattle.std.specs.Prelude.{◌≡◌, ◌⊎◌, ◌≤◌, ◌<◌, ◌+◌, ◌^◌, IsTrue};
 ghost use Rattle.hazard_types.specs.Characters.{is_office};
 ghost use Rattle.program_ends.specs.Words.{words_behind};
-ghost use Rattle.county_notices.specs.NoticeRuns.{DoesAsAsked, IsNoticeRun, IsUntouched};
+ghost use Rattle.county_notices.specs.NoticeRuns.{DoesAsAsked, IsNoticeRun};
+ghost use Rattle.program_ends.specs.Ends.{IsUntouched};
 
 use crate::issuer::Issuer;
 use crate::notices::Notices;

@@ -22,6 +22,7 @@ use Rattle.office_journal.proofs.Between.{Any, at_start, grown_follows, grown_no
 use Rattle.program_ends.specs.Lines.{fit}
 use Rattle.program_ends.specs.Runs.{Answered}
 use Rattle.desk_commands.specs.Scripts.{Answers, AnswersAsked, AnswersLine, Gave, Goes, IsJudged, LacksMemory, MayPend, Said, Scripted, Submits, entries_in, failed_after, failed_from, gave_in, line_asks, texts_in, with_added}
+
 module _ {D C : Type 0} (d : Disks D) (k : Clocks C) where
   -- what comes of lines
   pub gone : (s z : Scripted (KeptOffice D d) C) (lines : List (List ℕ)) (told : List ℕ) → Answered (Answers d k) s lines told z → (said : List Said) × (told ≡ texts_in said) × Goes d k s lines said z

@@ -36,8 +36,8 @@ use Rattle.desk_commands.specs.Opening.{IsOpened}
 use Rattle.desk_commands.specs.Scripts.{Answers, Goes, HaveReadings, IsRead, MayPend, Said, Scripted, entries_in, failed_from, faults_in, texts_in}
 
 -- the text was written, or a front of it before a write fault
-abbrev pub IsTold : List ℕ → ℕ → Option (List ℕ) → Option (List ℕ) → ℕ → ℕ → Type 0
-IsTold text writes taken taken' writes' status = (end : Option End) × ((end ≡ None) ⊎ (end ≡ Some WriteFault)) × Telling text writes taken taken' writes' end status
+abbrev pub TellsText : List ℕ → ℕ → Option (List ℕ) → Option (List ℕ) → ℕ → ℕ → Type 0
+TellsText text writes taken taken' writes' status = (end : Option End) × ((end ≡ None) ⊎ (end ≡ Some WriteFault)) × Telling text writes taken taken' writes' end status
 
 -- texts one after another
 abbrev pub joined : List (List ℕ) → List ℕ
@@ -77,8 +77,8 @@ fault_text TooLong = codes "TooLong"
 
 -- what is told of an upgrade
 abbrev pub TellsUpgrade : Upgrade → ℕ → Option (List ℕ) → Option (List ℕ) → ℕ → ℕ → Type 0
-TellsUpgrade upgrade.Done writes taken taken' writes' status = IsTold (codes "edition 2\n") writes taken taken' writes' status
-TellsUpgrade upgrade.Already writes taken taken' writes' status = IsTold (codes "edition 2\n") writes taken taken' writes' status
+TellsUpgrade upgrade.Done writes taken taken' writes' status = TellsText (codes "edition 2\n") writes taken taken' writes' status
+TellsUpgrade upgrade.Already writes taken taken' writes' status = TellsText (codes "edition 2\n") writes taken taken' writes' status
 TellsUpgrade upgrade.Full writes taken taken' writes' status = Telling [] writes taken taken' writes' (Some JournalFull) status
 TellsUpgrade upgrade.DiskFault writes taken taken' writes' status = Telling [] writes taken taken' writes' (Some DiskFault) status
 TellsUpgrade upgrade.OutOfMemory writes taken taken' writes' status = Telling [] writes taken taken' writes' (Some OutOfMemory) status
@@ -86,7 +86,7 @@ TellsUpgrade upgrade.OutOfMemory writes taken taken' writes' status = Telling []
 -- What becomes of an upgrade: the edition is Two, and was before, so that the disk is as it was, or the mark has room; it has none, the disk failed in this call, or memory lacked, and the edition is as it was. But for the disk's fault the disk is as it was then.
 abbrev pub UpgradeOutcome : {D : Type 0} (d : Disks D) → D → KeptOffice D d → KeptOffice D d → ℕ → Option (List ℕ) → Option (List ℕ) → ℕ → ℕ → Type 0
 UpgradeOutcome d next opened after writes taken taken' writes' status =
-    (((state_of after).edition ≡ Two) × ((((state_of opened).edition ≡ Two) × (next ≡ disk_of opened)) ⊎ (gate_of opened + 15 ≤ 268435456)) × IsTold (codes "edition 2\n") writes taken taken' writes' status)
+    (((state_of after).edition ≡ Two) × ((((state_of opened).edition ≡ Two) × (next ≡ disk_of opened)) ⊎ (gate_of opened + 15 ≤ 268435456)) × TellsText (codes "edition 2\n") writes taken taken' writes' status)
     ⊎ (((state_of after).edition ≡ One) × ((state_of opened).edition ≡ One) × (268435456 < gate_of opened + 15) × (next ≡ disk_of opened) × Telling [] writes taken taken' writes' (Some JournalFull) status)
     ⊎ (((state_of after).edition ≡ One) × ((state_of opened).edition ≡ One) × Rose (d.faults (disk_of opened)) (d.faults next) × Telling [] writes taken taken' writes' (Some DiskFault) status)
     ⊎ (((state_of after).edition ≡ (state_of opened).edition) × (next ≡ disk_of opened) × Telling [] writes taken taken' writes' (Some OutOfMemory) status)
@@ -94,7 +94,7 @@ UpgradeOutcome d next opened after writes taken taken' writes' status =
 -- The board at a minute: its text, or the clock's fault where the minute is out; or memory lacked.
 abbrev pub TellsBoard : State → ℤ → ℕ → Option (List ℕ) → Option (List ℕ) → ℕ → ℕ → Type 0
 TellsBoard s at writes taken taken' writes' status =
-    ((is_out at ≡ false) × IsTold (board_text (shown_at (nat_abs at) s.rows)) writes taken taken' writes' status)
+    ((is_out at ≡ false) × TellsText (board_text (shown_at (nat_abs at) s.rows)) writes taken taken' writes' status)
     ⊎ ((is_out at ≡ true) × Telling [] writes taken taken' writes' (Some ClockOut) status)
     ⊎ Telling [] writes taken taken' writes' (Some OutOfMemory) status
 
@@ -201,7 +201,7 @@ module _ {D : Type 0} (d : Disks D) where
     pub within : length read ≤ 1048577
     pub outcome :
         ((length read ≡ 1048577) ⊎ IsAtEnd left') × (reads' ≡ reads)
-        × ((IsMade disk next read × IsAtEnd left' × IsTold (codes "ready\n") writes taken taken' writes' status)
+        × ((IsMade disk next read × IsAtEnd left' × TellsText (codes "ready\n") writes taken taken' writes' status)
         ⊎ ((end : End) × IsWhyUnmade disk next read end × Telling [] writes taken taken' writes' (Some end) status))
         ⊎ (next ≡ disk) × (((reads' ≡ reads) × Telling [] writes taken taken' writes' (Some OutOfMemory) status)
         ⊎ (Rose reads reads' × Telling [] writes taken taken' writes' (Some ReadFault) status))

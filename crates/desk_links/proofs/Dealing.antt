@@ -3,6 +3,7 @@ use Rattle.std.proofs.Common.{◌≡◌, ℕ, ◌+◌, suc, zero, List, [], ◌�
 use Rattle.std.proofs.lemmas.List.{get_or-drop}
 use Rattle.std.proofs.lemmas.Option.{unwrap_or-slice_get}
 use Rattle.desk_links.specs.LinkMemory.{LinkInMemory, DoorInMemory, IsIdle, door_with, doors_with, first_list, first_door, dealt, all_links}
+
 first_is : (xs : List (List ℕ)) → first_list xs ≡ slice_index_or xs 0 []
 first_is [] = refl
 first_is (x ∷ xs) = refl

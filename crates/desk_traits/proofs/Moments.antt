@@ -1,19 +1,19 @@
 -- Runs of device calls.
 use Rattle.std.proofs.Common.{◌≡◌, inl, inr, ⊎_elim, ℕ, ◌≤◌, List, Option, None, Some, refl, ◌∙◌, subst, arith, length, Result, OnOk}
 use Rattle.desk_traits.specs.Crash.{Passes, LeavesOnly}
-use Rattle.desk_traits.specs.File.{Torn, Holds, Writes, Same}
+use Rattle.desk_traits.specs.File.{Torn, HasBytes, WritesAt, Same}
 
 -- what a write leaves of a file that is told
 pub record After {E : Type 0} (at : ℕ) (bytes old : List ℕ) (new : Option (List ℕ)) (result : Result (Unit {0}) E) : Type 0 where
   pub file : List ℕ
   pub told : new ≡ Some file
   pub torn : Torn at (length bytes) old file
-  pub holds : OnOk result (Holds at bytes old file)
+  pub holds : OnOk result (HasBytes at bytes old file)
 
-after : {E : Type 0} (at : ℕ) (bytes : List ℕ) (o n f : List ℕ) (result : Result (Unit {0}) E) → o ≡ f → Torn at (length bytes) o n × OnOk result (Holds at bytes o n) → After at bytes f (Some n) result
-after at bytes o n f result e w = let w' = subst (λ (l : List ℕ). Torn at (length bytes) l n × OnOk result (Holds at bytes l n)) e w in record { file = n; told = refl; torn = w'.0; holds = w'.1 }
+after : {E : Type 0} (at : ℕ) (bytes : List ℕ) (o n f : List ℕ) (result : Result (Unit {0}) E) → o ≡ f → Torn at (length bytes) o n × OnOk result (HasBytes at bytes o n) → After at bytes f (Some n) result
+after at bytes o n f result e w = let w' = subst (λ (l : List ℕ). Torn at (length bytes) l n × OnOk result (HasBytes at bytes l n)) e w in record { file = n; told = refl; torn = w'.0; holds = w'.1 }
 
-pub told_after : {E : Type 0} (at : ℕ) (bytes : List ℕ) (old new : Option (List ℕ)) (result : Result (Unit {0}) E) (f : List ℕ) → old ≡ Some f → Writes at bytes old new result → After at bytes f new result
+pub told_after : {E : Type 0} (at : ℕ) (bytes : List ℕ) (old new : Option (List ℕ)) (result : Result (Unit {0}) E) (f : List ℕ) → old ≡ Some f → WritesAt at bytes old new result → After at bytes f new result
 told_after at bytes None new result f e w = absurd (cc)
 told_after at bytes (Some o) None result f e w = absurd w
 told_after at bytes (Some o) (Some n) result f e w = after at bytes o n f result (cc) w

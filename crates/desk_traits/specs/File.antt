@@ -2,8 +2,8 @@
 use Rattle.std.specs.Prelude.{◌≡◌, ℕ, ◌+◌, ◌≤◌, max, List, [], ◌∷◌, ◌++◌, length, take, drop, Option, None, Some, option_map, Result, Ok, Err, OnOk}
 
 -- new is old with these bytes at this place
-abbrev pub Holds : ℕ → List ℕ → List ℕ → List ℕ → Type 0
-Holds at bytes old new = new ≡ take at old ++ (bytes ++ drop (at + length bytes) old)
+abbrev pub HasBytes : ℕ → List ℕ → List ℕ → List ℕ → Type 0
+HasBytes at bytes old new = new ≡ take at old ++ (bytes ++ drop (at + length bytes) old)
 
 -- any bytes in the range, and where the file grew any length between and any bytes there; all other bytes stay
 pub record Torn (at n : ℕ) (old new : List ℕ) : Type 0 where
@@ -22,11 +22,11 @@ IsWithin at None = Unit {0}
 IsWithin at (Some file) = at ≤ length file
 
 -- a good write has put the bytes there; a failed one counts as a write of its range
-abbrev pub Writes : {E : Type 0} → ℕ → List ℕ → Option (List ℕ) → Option (List ℕ) → Result (Unit {0}) E → Type 0
-Writes at bytes None None result = Unit {0}
-Writes at bytes None (Some new) result = ⊥
-Writes at bytes (Some old) None result = ⊥
-Writes at bytes (Some old) (Some new) result = Torn at (length bytes) old new × OnOk result (Holds at bytes old new)
+abbrev pub WritesAt : {E : Type 0} → ℕ → List ℕ → Option (List ℕ) → Option (List ℕ) → Result (Unit {0}) E → Type 0
+WritesAt at bytes None None result = Unit {0}
+WritesAt at bytes None (Some new) result = ⊥
+WritesAt at bytes (Some old) None result = ⊥
+WritesAt at bytes (Some old) (Some new) result = Torn at (length bytes) old new × OnOk result (HasBytes at bytes old new)
 
 -- the bytes from this place on, as many as the buffer has
 abbrev pub Gives : ℕ → List ℕ → Option (List ℕ) → Type 0
@@ -44,6 +44,6 @@ Only None leaves = Unit {0}
 Only (Some file) leaves = (c : List ℕ) → leaves c → c ≡ file
 
 -- a good sync answered at this moment, a failed one at none
-abbrev pub Answers : {T E : Type 0} → ℕ → Option (List ℕ) → Option (List ℕ) → Result T E → Type 0
-Answers now old new (Ok x) = new ≡ option_map (λ moments. moments ++ now ∷ []) old
-Answers now old new (Err e) = new ≡ old
+abbrev pub NotesSync : {T E : Type 0} → ℕ → Option (List ℕ) → Option (List ℕ) → Result T E → Type 0
+NotesSync now old new (Ok x) = new ≡ option_map (λ moments. moments ++ now ∷ []) old
+NotesSync now old new (Err e) = new ≡ old

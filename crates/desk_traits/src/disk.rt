@@ -2,7 +2,7 @@
 ghost use Rattle.std.specs.Prelude.{◌≡◌, ◌≤◌, ◌+◌, ℕ, List, Option, Some, length, IfOk, OnOk};
 ghost use Rattle.desk_traits.specs.Crash.{Passes};
 ghost use Rattle.desk_traits.specs.Faults.{HasCause};
-ghost use Rattle.desk_traits.specs.File.{Torn, Same, IsWithin, Writes, Gives, IsLength, Only, Answers};
+ghost use Rattle.desk_traits.specs.File.{Torn, Same, IsWithin, WritesAt, Gives, IsLength, Only, NotesSync};
 
 use crate::faults::Failed;
 
@@ -48,7 +48,7 @@ pub trait Disk {
     /// Writes over what is there, and past the end.
     fn write_at(&mut self, at: u64, bytes: &[u8]) -> Result<(), Failed>
         requires { IsWithin at (seen self.old) }
-        ensures seen { Writes at bytes.now (seen self.old) (seen self.new) result }
+        ensures seen { WritesAt at bytes.now (seen self.old) (seen self.new) result }
         ensures crash { Passes (Torn at (length bytes.now)) (moment self.old) (moment self.new) (may_leave self.old) (left_since self.old) (left_since self.new) }
         ensures syncs { syncs self.new ≡ syncs self.old }
         ensures cause { HasCause (faults self.old) (faults self.new) result }
@@ -59,7 +59,7 @@ pub trait Disk {
         ensures durable { OnOk result (Only (seen self.old) (may_leave self.new)) }
         ensures seen { seen self.new ≡ seen self.old }
         ensures crash { Passes Same (moment self.old) (moment self.new) (may_leave self.old) (left_since self.old) (left_since self.new) }
-        ensures syncs { Answers (moment self.new) (syncs self.old) (syncs self.new) result }
+        ensures syncs { NotesSync (moment self.new) (syncs self.old) (syncs self.new) result }
         ensures cause { HasCause (faults self.old) (faults self.new) result }
         ensures steady { OnOk result (faults self.new ≡ faults self.old) };
 

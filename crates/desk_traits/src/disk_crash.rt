@@ -29,7 +29,7 @@ pub fn splice(alloc: Global, file: &Text, at: usize, bytes: &[u8]) -> Result<Tex
 }
 
 // The file with the bytes at a place, if that is in it.
-fn written(alloc: Global, file: Text, at: u64, bytes: &[u8]) -> Result<Text, Oom>
+fn file_after(alloc: Global, file: Text, at: u64, bytes: &[u8]) -> Result<Text, Oom>
     ensures { IfOk result (λ new. new ≡ written at bytes.now file) }
 {
     if at <= file.len() as u64 {
@@ -47,13 +47,13 @@ fn torn_to(alloc: Global, digit: u64, at: u64, bytes: &[u8], file: Text) -> Resu
         return Ok(file);
     }
     if digit == 1 {
-        return written(alloc, file, at, bytes);
+        return file_after(alloc, file, at, bytes);
     }
     if digit == 2 {
-        return written(alloc, file, at, &bytes[..bytes.len() / 2]);
+        return file_after(alloc, file, at, &bytes[..bytes.len() / 2]);
     }
     let other = vec![in alloc; b'G'; bytes.len()]?;
-    written(alloc, file, at, &other)
+    file_after(alloc, file, at, &other)
 }
 
 // The same after a call more.
@@ -65,7 +65,7 @@ fn crash_after(alloc: Global, pick: u64, call: &DiskCall, crash: Crashed) -> Res
             let Crashed { seen, left, digits } = crash;
             let bytes = bytes.as_slice();
             Ok(Crashed {
-                seen: written(alloc, seen, *at, bytes)?,
+                seen: file_after(alloc, seen, *at, bytes)?,
                 left: torn_to(alloc, digits % 4, *at, bytes, left)?,
                 digits: digits / 4,
             })
@@ -88,7 +88,7 @@ fn crash_after(alloc: Global, pick: u64, call: &DiskCall, crash: Crashed) -> Res
 }
 
 /// The file that a crash after the calls leaves by the pick.
-pub fn picked(alloc: Global, first: &Text, pick: u64, calls: &[DiskCall]) -> Result<Text, Oom>
+pub fn file_left(alloc: Global, first: &Text, pick: u64, calls: &[DiskCall]) -> Result<Text, Oom>
     ensures { IfOk result (λ file. file ≡ picked first.now pick calls.now) }
 {
     let mut crash = Crashed {

@@ -2,13 +2,13 @@
 ghost use Rattle.std.specs.Prelude.{◌≡◌, ◌⊎◌, ◌≤◌, ◌<◌, ◌+◌, ◌++◌, ◌∷◌, ◌↔◌, [], ℕ, Some, true, false, Contains, length, take, drop, OnOk, OnErr, IfOk, IsTrue, if◌then◌else◌};
 ghost use Rattle.desk_traits.specs.Crash.{Passes};
 ghost use Rattle.desk_traits.specs.Faults.{HasCause, Rose, next_count};
-ghost use Rattle.desk_traits.specs.File.{Torn, Same, IsWithin, Writes, Gives, IsLength, Only, Answers};
+ghost use Rattle.desk_traits.specs.File.{Torn, Same, IsWithin, WritesAt, Gives, IsLength, Only, NotesSync};
 ghost use Rattle.desk_traits.specs.DiskMemory.{MayLeave, is_write, picked};
 ghost use Rattle.desk_traits.specs.DiskTold.{told_of, calls_of, has_lacked, IsPast, IsToFail, Comes, Counts};
 ghost use Rattle.desk_traits.specs.declared.disk_record.DiskCall.TheVariants.{Looked, Read, Wrote, Synced, LookFailed, ReadFailed, WriteFailed, SyncFailed};
 
 use crate::disk::Disk;
-use crate::disk_crash::{picked, splice};
+use crate::disk_crash::{file_left, splice};
 use crate::disk_record::{DiskCall, MemDisk};
 use crate::faults::Failed;
 use hazard_types::{List, Oom, Text};
@@ -116,7 +116,7 @@ impl MemDisk {
         ensures left { IfOk result (λ file. ⟦<MemDisk as Disk>⟧.may_leave self file) }
         ensures chosen { IfOk result (λ file. file ≡ picked (told_of self).first (told_of self).pick (calls_of self)) }
     {
-        picked(self.alloc, &self.first, self.pick, &self.calls)
+        file_left(self.alloc, &self.first, self.pick, &self.calls)
     }
 
     // Counts a call, and says whether it is to fail.
@@ -240,7 +240,7 @@ impl Disk for MemDisk {
 
     fn write_at(&mut self, at: u64, bytes: &[u8]) -> Result<(), Failed>
         requires { IsWithin at (⟦<MemDisk as Disk>⟧.seen self.old) }
-        ensures seen { Writes at bytes.now (⟦<MemDisk as Disk>⟧.seen self.old) (⟦<MemDisk as Disk>⟧.seen self.new) result }
+        ensures seen { WritesAt at bytes.now (⟦<MemDisk as Disk>⟧.seen self.old) (⟦<MemDisk as Disk>⟧.seen self.new) result }
         ensures crash { Passes (Torn at (length bytes.now)) (⟦<MemDisk as Disk>⟧.moment self.old) (⟦<MemDisk as Disk>⟧.moment self.new) (⟦<MemDisk as Disk>⟧.may_leave self.old) (⟦<MemDisk as Disk>⟧.left_since self.old) (⟦<MemDisk as Disk>⟧.left_since self.new) }
         ensures syncs { ⟦<MemDisk as Disk>⟧.syncs self.new ≡ ⟦<MemDisk as Disk>⟧.syncs self.old }
         ensures cause { HasCause (⟦<MemDisk as Disk>⟧.faults self.old) (⟦<MemDisk as Disk>⟧.faults self.new) result }
@@ -266,7 +266,7 @@ impl Disk for MemDisk {
         ensures durable { OnOk result (Only (⟦<MemDisk as Disk>⟧.seen self.old) (⟦<MemDisk as Disk>⟧.may_leave self.new)) }
         ensures seen { ⟦<MemDisk as Disk>⟧.seen self.new ≡ ⟦<MemDisk as Disk>⟧.seen self.old }
         ensures crash { Passes Same (⟦<MemDisk as Disk>⟧.moment self.old) (⟦<MemDisk as Disk>⟧.moment self.new) (⟦<MemDisk as Disk>⟧.may_leave self.old) (⟦<MemDisk as Disk>⟧.left_since self.old) (⟦<MemDisk as Disk>⟧.left_since self.new) }
-        ensures syncs { Answers (⟦<MemDisk as Disk>⟧.moment self.new) (⟦<MemDisk as Disk>⟧.syncs self.old) (⟦<MemDisk as Disk>⟧.syncs self.new) result }
+        ensures syncs { NotesSync (⟦<MemDisk as Disk>⟧.moment self.new) (⟦<MemDisk as Disk>⟧.syncs self.old) (⟦<MemDisk as Disk>⟧.syncs self.new) result }
         ensures cause { HasCause (⟦<MemDisk as Disk>⟧.faults self.old) (⟦<MemDisk as Disk>⟧.faults self.new) result }
         ensures steady { OnOk result (⟦<MemDisk as Disk>⟧.faults self.new ≡ ⟦<MemDisk as Disk>⟧.faults self.old) }
         ensures counted { OnErr result (⟦<MemDisk as Disk>⟧.faults self.new ≡ next_count (⟦<MemDisk as Disk>⟧.faults self.old)) }

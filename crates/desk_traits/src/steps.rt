@@ -2,7 +2,7 @@
 ghost use Rattle.std.specs.Prelude.{◌≡◌, ◌≤◌, ◌+◌, ℕ, List, Option, Some, length, IfOk, OnOk};
 ghost use Rattle.desk_traits.specs.Crash.{Passes};
 ghost use Rattle.desk_traits.specs.Faults.{HasCause};
-ghost use Rattle.desk_traits.specs.File.{Torn, Same, IsWithin, Writes, Only, Answers};
+ghost use Rattle.desk_traits.specs.File.{Torn, Same, IsWithin, WritesAt, Only, NotesSync};
 
 use crate::disk::Disk;
 use crate::faults::Failed;
@@ -10,9 +10,9 @@ use crate::faults::Failed;
 /// Writes the bytes and makes them stable.
 pub fn write_synced<D: Disk>(disk: &mut D, at: u64, bytes: &[u8]) -> Result<(), Failed>
     requires { IsWithin at (D.seen disk.old) }
-    ensures seen { Writes at bytes.now (D.seen disk.old) (D.seen disk.new) result }
+    ensures seen { WritesAt at bytes.now (D.seen disk.old) (D.seen disk.new) result }
     ensures crash { Passes (Torn at (length bytes.now)) (D.moment disk.old) (D.moment disk.new) (D.may_leave disk.old) (D.left_since disk.old) (D.left_since disk.new) }
-    ensures syncs { Answers (D.moment disk.new) (D.syncs disk.old) (D.syncs disk.new) result }
+    ensures syncs { NotesSync (D.moment disk.new) (D.syncs disk.old) (D.syncs disk.new) result }
     ensures durable { OnOk result (Only (D.seen disk.new) (D.may_leave disk.new)) }
     ensures cause { HasCause (D.faults disk.old) (D.faults disk.new) result }
     ensures steady { OnOk result (D.faults disk.new ≡ D.faults disk.old) }

@@ -11,7 +11,7 @@ use Rattle.follow_core.specs.Hearing.{place_of}
 use Rattle.follow_links.specs.Answers.{Answer}
 use Rattle.follow_links.specs.Rounding.{Talks}
 use Rattle.follow_links.specs.Talks.{IsTalk, bodies, after_all, asks_in, fails_in}
-use Rattle.follow_links.specs.Rounds.{Turn, NotDialed, Talked, rounds_in, fails, texts_in, IsTold, AreTold, IsGivenUp, IsLast, EndsAs, RoseBy, Courses}
+use Rattle.follow_links.specs.Rounds.{Turn, NotDialed, Talked, rounds_in, fails, texts_in, IsTalkTold, AreTold, IsGivenUp, IsLast, EndsAs, RoseBy, Courses}
 use Rattle.follow_links.specs.declared.talk.LinkEnd.{LinkEnd}
 use Rattle.follow_links.specs.declared.talk.LinkEnd.TheVariants as link
 use Rattle.follow_links.specs.declared.rounds.Stop.{Stop}
@@ -71,7 +71,7 @@ link_rose link.OutOfMemory mid new reads reads' writes writes' r w rose is = ome
 -- what was read and written on a link that was new
 pub told_link : (place : ℕ) (came came' left left' taken taken' : Option (List ℕ)) (reads reads' writes writes' : ℕ) (old new : Reading) (rounds rounds' : ℕ) (end : LinkEnd)
     → place ≡ place_of old → IsNew came left taken reads writes → (t : Talks came came' left left' taken taken' reads reads' writes writes' old new rounds rounds' end)
-    → IsTold place came' left' taken' t.answers end
+    → IsTalkTold place came' left' taken' t.answers end
 told_link place came came' left left' taken taken' reads reads' writes writes' old new rounds rounds' end is n t = record {
   read = t.read;
   written = t.written;
@@ -114,7 +114,7 @@ module _ {L : Type 0} (came left taken : L → Option (List ℕ)) (back mid_back
 
   -- the link of a turn came back
   module _ (l : L) (answers : List Answer) (end : LinkEnd) (new : Reading) (end_back : Option (List L)) (end_faults end_rounds : ℕ)
-      (told : IsTold (place_of mid) (came l) (left l) (taken l) answers end)
+      (told : IsTalkTold (place_of mid) (came l) (left l) (taken l) answers end)
       (kept : end_back ≡ with_one mid_back l)
       (rose : RoseBy (fails_in end) mid_faults end_faults)
       (heard : new ≡ after_all mid (bodies answers))
@@ -207,7 +207,7 @@ module _ {L : Type 0} (came left taken : L → Option (List ℕ)) (reads writes 
     (k : Talks (came link_old) (came link_new) (left link_old) (left link_new) (taken link_old) (taken link_new) (reads link_old) (reads link_new) (writes link_old) (writes link_new) mid new mid_rounds end_rounds end)
     (kept : end_back ≡ with_one mid_back link_new)
     (counts : end_faults ≡ min (mid_faults + both_counts (reads link_new) (writes link_new)) (2 ^ 64 - 1)) where
-  told_on : IsTold (place_of mid) (came link_new) (left link_new) (taken link_new) k.answers end
+  told_on : IsTalkTold (place_of mid) (came link_new) (left link_new) (taken link_new) k.answers end
   told_on = told_link (place_of mid) (came link_old) (came link_new) (left link_old) (left link_new) (taken link_old) (taken link_new) (reads link_old) (reads link_new) (writes link_old) (writes link_new) mid new mid_rounds end_rounds end refl n k
 
   rose_on : RoseBy (fails_in end) loop_faults end_faults

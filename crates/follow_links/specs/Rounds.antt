@@ -48,7 +48,7 @@ IsWritten None written = Unit {0}
 IsWritten (Some told) written = told ≡ written
 
 -- what was read of a link and written on it is a talk from this place on
-pub record IsTold (place : ℕ) (came left taken : Option (List ℕ)) (answers : List Answer) (end : LinkEnd) : Type 0 where
+pub record IsTalkTold (place : ℕ) (came left taken : Option (List ℕ)) (answers : List Answer) (end : LinkEnd) : Type 0 where
   pub read : List ℕ
   pub written : List ℕ
   pub reads : Takes came left read
@@ -62,7 +62,7 @@ AreTold came left taken place [] (l ∷ links) = ⊥
 AreTold came left taken place (NotDialed ∷ turns) links = AreTold came left taken place turns links
 AreTold came left taken place (Talked answers end ∷ turns) [] = ⊥
 AreTold came left taken place (Talked answers end ∷ turns) (l ∷ links) =
-    IsTold place (came l) (left l) (taken l) answers end × AreTold came left taken (place + length answers) turns links
+    IsTalkTold place (came l) (left l) (taken l) answers end × AreTold came left taken (place + length answers) turns links
 
 -- a turn behind which the next round dials: the dial failed, or the link closed or failed
 abbrev pub IsGivenUp : Turn → Type 0

@@ -36,7 +36,7 @@ fn stated(alloc: Global, name: &[u8], effect: &[u8], period: &Text) -> Result<Te
 }
 
 /// What has become of a hazard: `...The N is cancelled...` and the like.
-fn told(alloc: Global, name: &[u8], what: &[u8]) -> Result<Text, Oom>
+fn told_text(alloc: Global, name: &[u8], what: &[u8]) -> Result<Text, Oom>
     ensures { IfOk result (λ text. text ≡ told name.now what.now) }
 {
     let mut text = Text::from_slice(alloc, b"...The ")?;
@@ -75,11 +75,11 @@ fn headline_of(alloc: Global, l: &SegLine, zone: LocalZone, t: Minute) -> Result
         Action::New | Action::Exa | Action::Exb => b" in effect ",
         Action::Ext => b" now in effect ",
         Action::Con | Action::Cor => b" remains in effect ",
-        Action::Can => return told(alloc, name, b" is cancelled"),
-        Action::Upg => return told(alloc, name, b" is upgraded"),
+        Action::Can => return told_text(alloc, name, b" is cancelled"),
+        Action::Upg => return told_text(alloc, name, b" is upgraded"),
         Action::Exp => {
             let what = expiry_text(alloc, &l.end, zone, t)?;
-            return told(alloc, name, what.as_slice());
+            return told_text(alloc, name, what.as_slice());
         }
         Action::Rou => return Ok(Text::new(alloc)),
     };

@@ -1,7 +1,7 @@
 -- What writes at a gate and behind it leave of a list of bytes.
 use Rattle.std.proofs.Common.{◌≡◌, ℕ, ◌+◌, List, [], ◌∷◌, ◌++◌, length, get_or, take, drop, sym, ◌∙◌, ap, arith, append_assoc, length-append, take-append-drop}
 use Rattle.std.proofs.lemmas.List.{take_at, drop_at, drop_more}
-use Rattle.desk_traits.specs.File.{Holds, Torn}
+use Rattle.desk_traits.specs.File.{HasBytes, Torn}
 
 module _ (front : List ℕ) (p : ℕ) (size : length front ≡ p) where
   longer : (gate : ℕ) → length (front ++ gate ∷ []) ≡ p + 1
@@ -26,7 +26,7 @@ module _ (front : List ℕ) (p : ℕ) (size : length front ≡ p) where
       ∙ ap (λ (l : List ℕ). l ++ drop (p + 1) c) (torn.before ∙ upto_gate gate tail)
       ∙ append_assoc front (gate ∷ []) (drop (p + 1) c)
 
-  pub written_behind : (gate : ℕ) (tail bytes c : List ℕ) → Holds (p + 1) bytes (front ++ gate ∷ tail) c → c ≡ front ++ gate ∷ (bytes ++ drop (p + 1 + length bytes) (front ++ gate ∷ tail))
+  pub written_behind : (gate : ℕ) (tail bytes c : List ℕ) → HasBytes (p + 1) bytes (front ++ gate ∷ tail) c → c ≡ front ++ gate ∷ (bytes ++ drop (p + 1 + length bytes) (front ++ gate ∷ tail))
   written_behind gate tail bytes c holds =
       holds
       ∙ ap (λ (l : List ℕ). l ++ (bytes ++ drop (p + 1 + length bytes) (front ++ gate ∷ tail))) (upto_gate gate tail)
@@ -39,7 +39,7 @@ module _ (front : List ℕ) (p : ℕ) (size : length front ≡ p) where
       ∙ ap (λ (l : List ℕ). l ++ drop p c) (torn.before ∙ take_at front (gate ∷ tail) p size)
       ∙ ap (λ (l : List ℕ). front ++ l) (drop_more c p 0 (omega (arith, torn.no_shorter, length_gate gate tail)) ∙ ap (λ (l : List ℕ). get_or c p 0 ∷ l) (torn.after ∙ behind_gate gate tail))
 
-  pub written_gate : (gate new : ℕ) (tail c : List ℕ) → Holds p (new ∷ []) (front ++ gate ∷ tail) c → c ≡ front ++ new ∷ tail
+  pub written_gate : (gate new : ℕ) (tail c : List ℕ) → HasBytes p (new ∷ []) (front ++ gate ∷ tail) c → c ≡ front ++ new ∷ tail
   written_gate gate new tail c holds =
       holds
       ∙ ap (λ (l : List ℕ). l ++ new ∷ drop (p + 1) (front ++ gate ∷ tail)) (take_at front (gate ∷ tail) p size)

@@ -2,7 +2,7 @@
 use Rattle.std.proofs.Common.{◌≡◌, ◌⊎◌, inl, inr, ⊎_elim, Option, None, Some, ℕ, ◌+◌, ◌<◌, List, [], ◌∷◌, ◌++◌, length, get_or, drop, refl, sym, ◌∙◌, ap, subst, arith, append_assoc, length-append}
 use Rattle.std.proofs.lemmas.Bool.{cases_eq}
 use Rattle.std.specs.List.{AllByRecursion}
-use Rattle.desk_traits.specs.File.{Holds, Torn}
+use Rattle.desk_traits.specs.File.{HasBytes, Torn}
 use Rattle.journal_core.specs.Image.{spelled, records, Fits, Image, Half, IsOneOf}
 use Rattle.journal_core.specs.Journal.{Rests, LeavesBodies, MayPend}
 use Rattle.journal_core.specs.Packet.{framed}
@@ -37,14 +37,14 @@ module _ (bodies : List (List ℕ)) (p : ℕ) (gate_is : p ≡ length (records b
       }
 
   -- a body behind it
-  pub staged_half : (f c body : List ℕ) → Fits body → Image f bodies → Holds (p + 1) (framed body) f c → Half c bodies body
+  pub staged_half : (f c body : List ℕ) → Fits body → Image f bodies → HasBytes (p + 1) (framed body) f c → Half c bodies body
   staged_half f c body fits image holds =
       let rest = drop (p + 1 + length (framed body)) (records bodies ++ image.gate ∷ image.behind) in
       record {
         gate = image.gate;
         last = 46;
         behind = rest;
-        written = written_behind (records bodies) p size image.gate image.behind (framed body) c (subst (λ (l : List ℕ). Holds (p + 1) (framed body) l c) image.written holds)
+        written = written_behind (records bodies) p size image.gate image.behind (framed body) c (subst (λ (l : List ℕ). HasBytes (p + 1) (framed body) l c) image.written holds)
             ∙ ap (λ (l : List ℕ). records bodies ++ image.gate ∷ l) (append_assoc (spelled body) (46 ∷ []) rest);
         shut = omega arith;
         some = image.some;
@@ -67,12 +67,12 @@ module _ (bodies : List (List ℕ)) (p : ℕ) (gate_is : p ≡ length (records b
       }
 
   -- the gate closed
-  pub closed_half : (f c body : List ℕ) → Half f bodies body → Holds p (46 ∷ []) f c → Image c bodies
+  pub closed_half : (f c body : List ℕ) → Half f bodies body → HasBytes p (46 ∷ []) f c → Image c bodies
   closed_half f c body half holds =
       record {
         gate = 46;
         behind = spelled body ++ half.last ∷ half.behind;
-        written = written_gate (records bodies) p size half.gate 46 (spelled body ++ half.last ∷ half.behind) c (subst (λ (l : List ℕ). Holds p (46 ∷ []) l c) half.written holds);
+        written = written_gate (records bodies) p size half.gate 46 (spelled body ++ half.last ∷ half.behind) c (subst (λ (l : List ℕ). HasBytes p (46 ∷ []) l c) half.written holds);
         shut = omega arith;
         some = half.some;
         fit = half.fit;
@@ -90,9 +90,9 @@ opened bodies c body half is =
     }
 
 -- the gate opened
-pub opened_half : (bodies : List (List ℕ)) (p : ℕ) (gate_is : p ≡ length (records bodies)) (f c body : List ℕ) → Half f bodies body → Holds p (71 ∷ []) f c → Image c (bodies ++ body ∷ [])
+pub opened_half : (bodies : List (List ℕ)) (p : ℕ) (gate_is : p ≡ length (records bodies)) (f c body : List ℕ) → Half f bodies body → HasBytes p (71 ∷ []) f c → Image c (bodies ++ body ∷ [])
 opened_half bodies p gate_is f c body half holds =
-    let is = written_gate (records bodies) p (sym gate_is) half.gate 71 (spelled body ++ half.last ∷ half.behind) c (subst (λ (l : List ℕ). Holds p (71 ∷ []) l c) half.written holds) in
+    let is = written_gate (records bodies) p (sym gate_is) half.gate 71 (spelled body ++ half.last ∷ half.behind) c (subst (λ (l : List ℕ). HasBytes p (71 ∷ []) l c) half.written holds) in
     opened bodies c body
     (record { gate = 71; last = half.last; behind = half.behind; written = is; shut = half.shut; some = half.some; fit = half.fit; fits = half.fits })
     is

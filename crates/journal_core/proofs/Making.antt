@@ -3,7 +3,7 @@ use Rattle.std.proofs.Common.{◌≡◌, ◌⊎◌, inl, inr, ℕ, ◌+◌, ◌�
 use Rattle.std.proofs.lemmas.List.{append-nil}
 use Rattle.std.proofs.lemmas.Bool.{cases_eq}
 use Rattle.desk_traits.specs.Crash.{Passes, LeavesOnly}
-use Rattle.desk_traits.specs.File.{Torn, Writes, Only, Same}
+use Rattle.desk_traits.specs.File.{Torn, WritesAt, Only, Same}
 use Rattle.journal_core.specs.Image.{spelled, Fits, Image, Fresh}
 use Rattle.journal_core.specs.Packet.{framed}
 use Rattle.journal_core.specs.Create.{IsBlank, IsMade, IsMaking, IsStart, Starts}
@@ -54,7 +54,7 @@ module _ {D : Type 0} (seen : D → Option (List ℕ)) (moment : D → ℕ) (lef
   abbrev Step : ℕ → ℕ → D → D → Type 0
   Step at n old new = Passes (Torn at n) (moment old) (moment new) (may_leave old) (left_since old) (left_since new)
 
-  pub written : (E : Type 0) (x : Unit {0}) (old new : D) (bytes body : List ℕ) → bytes ≡ framed body → IsBlank seen may_leave old → Writes {E = E} 1 bytes (seen old) (seen new) (Ok x) → Only (seen new) (may_leave new) → IsWritten seen may_leave new body
+  pub written : (E : Type 0) (x : Unit {0}) (old new : D) (bytes body : List ℕ) → bytes ≡ framed body → IsBlank seen may_leave old → WritesAt {E = E} 1 bytes (seen old) (seen new) (Ok x) → Only (seen new) (may_leave new) → IsWritten seen may_leave new body
   written E x old new bytes body framed_is b writes only =
       let a : After {E = E} 1 bytes (46 ∷ b.tail) (seen new) (Ok x) = told_after 1 bytes (seen old) (seen new) (Ok x) (46 ∷ b.tail) b.told writes in
       let rest = drop (1 + length bytes) (46 ∷ b.tail) in
@@ -79,7 +79,7 @@ module _ {D : Type 0} (seen : D → Option (List ℕ)) (moment : D → ℕ) (lef
   making old mid new n body fits b step w step2 =
       both moment left_since may_leave counts_now only_now earlier old mid new (IsMaking body) (IsMaking body) (making_first old mid n body b step) (making_second mid new body fits w step2) (λ c p. p)
 
-  pub made : {E : Type 0} (result : Result (Unit {0}) E) (old new : D) (body : List ℕ) → Fits body → IsWritten seen may_leave old body → Writes 0 (71 ∷ []) (seen old) (seen new) result → OnOk result (Only (seen new) (may_leave new)) → OnOk result (IsMade seen may_leave new body)
+  pub made : {E : Type 0} (result : Result (Unit {0}) E) (old new : D) (body : List ℕ) → Fits body → IsWritten seen may_leave old body → WritesAt 0 (71 ∷ []) (seen old) (seen new) result → OnOk result (Only (seen new) (may_leave new)) → OnOk result (IsMade seen may_leave new body)
   made (Err e) old new body fits w writes only = tt
   made {E} (Ok x) old new body fits w writes only =
       let a : After {E = E} 0 (71 ∷ []) (46 ∷ (framed body ++ w.rest)) (seen new) (Ok x) = told_after 0 (71 ∷ []) (seen old) (seen new) (Ok x) (46 ∷ (framed body ++ w.rest)) w.told writes in
@@ -87,7 +87,7 @@ module _ {D : Type 0} (seen : D → Option (List ℕ)) (moment : D → ℕ) (lef
       record { file = a.file; told = a.told; image = subst (λ (l : List ℕ). Image l (body ∷ [])) (sym is) (image_first body w.rest fits); only = only_told (seen new) (may_leave new) a.file a.told only }
 
   -- a first byte is written where there was at most one
-  pub blank : (E : Type 0) (x : Unit {0}) (old new : D) (f : List ℕ) → seen old ≡ Some f → length f ≤ 1 → Writes {E = E} 0 (46 ∷ []) (seen old) (seen new) (Ok x) → Only (seen new) (may_leave new) → IsBlank seen may_leave new
+  pub blank : (E : Type 0) (x : Unit {0}) (old new : D) (f : List ℕ) → seen old ≡ Some f → length f ≤ 1 → WritesAt {E = E} 0 (46 ∷ []) (seen old) (seen new) (Ok x) → Only (seen new) (may_leave new) → IsBlank seen may_leave new
   blank E x old new f told short writes only =
       let a : After {E = E} 0 (46 ∷ []) f (seen new) (Ok x) = told_after 0 (46 ∷ []) (seen old) (seen new) (Ok x) f told writes in
       record { tail = drop 1 f; told = a.told ∙ ap (λ (l : List ℕ). Some l) a.holds; only = λ c left. only_told (seen new) (may_leave new) a.file a.told only c left ∙ a.holds }

@@ -1,7 +1,7 @@
 -- The bytes of a record that was written.
 use Rattle.std.proofs.Common.{◌≡◌, ◌⊎◌, ⊎_elim, ℕ, ◌+◌, ◌≤◌, List, [], ◌∷◌, ◌++◌, length, get_or, take, drop, Option, None, Some, option_map, refl, sym, ◌∙◌, ap, arith, append_assoc, length-append, length-take, length-drop, take-append-drop, drop-drop, Ok}
 use Rattle.std.proofs.lemmas.List.{take_at, drop_at, drop_more, drop_all}
-use Rattle.desk_traits.specs.File.{Writes}
+use Rattle.desk_traits.specs.File.{WritesAt}
 use Rattle.journal_core.specs.Image.{spelled}
 use Rattle.journal_core.specs.Packet.{framed}
 use Rattle.journal_core.specs.Written.{put, with_record}
@@ -9,7 +9,7 @@ use Rattle.journal_core.proofs.Bytes.{written_behind, written_gate}
 use Rattle.journal_core.proofs.Frames.{length-spelled}
 
 -- what a good write makes of a file, told or not
-pub put_of : (E : Type 0) (x : Unit {0}) (at : ℕ) (bytes : List ℕ) (old new : Option (List ℕ)) → Writes {E = E} at bytes old new (Ok x) → new ≡ option_map (put at bytes) old
+pub put_of : (E : Type 0) (x : Unit {0}) (at : ℕ) (bytes : List ℕ) (old new : Option (List ℕ)) → WritesAt {E = E} at bytes old new (Ok x) → new ≡ option_map (put at bytes) old
 put_of E x at bytes None None w = refl
 put_of E x at bytes None (Some n) w = absurd w
 put_of E x at bytes (Some o) None w = absurd w

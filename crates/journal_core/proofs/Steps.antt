@@ -1,7 +1,7 @@
 -- The steps of an append, each a write and a sync.
 use Rattle.std.proofs.Common.{◌≡◌, ℕ, ◌+◌, ◌≤◌, List, [], ◌∷◌, ◌++◌, length, Bool, true, false, Option, None, Some, refl, sym, ◌∙◌, ap, subst, arith, length-append, Result, Ok, Err, OnOk, OnErr, IfSome}
 use Rattle.desk_traits.specs.Crash.{Passes, LeavesOnly}
-use Rattle.desk_traits.specs.File.{Torn, Holds, Writes, Only}
+use Rattle.desk_traits.specs.File.{Torn, HasBytes, WritesAt, Only}
 use Rattle.journal_core.specs.Image.{spelled, records, Fits, Image, Half}
 use Rattle.journal_core.specs.Packet.{framed}
 use Rattle.journal_core.specs.Create.{IsMade}
@@ -37,13 +37,13 @@ module _ {D : Type 0} (seen : D → Option (List ℕ)) (moment : D → ℕ) (lef
     close_moments (Some body) unsure s step =
         one moment left_since may_leave counts_now only_now earlier jd new (Torn jg 1) (λ c. Half c bodies body) step (λ d c left torn. torn_half bodies jg s.place d c body (s.rests d left) torn)
 
-    pub close_err : {E : Type 0} (result : Result (Unit {0}) E) (pending : Option (List ℕ)) → ju ≡ true → StandsFor seen may_leave jd jg ju bodies pending → Writes jg (46 ∷ []) (seen jd) (seen new) result → Step jg 1 jd new
+    pub close_err : {E : Type 0} (result : Result (Unit {0}) E) (pending : Option (List ℕ)) → ju ≡ true → StandsFor seen may_leave jd jg ju bodies pending → WritesAt jg (46 ∷ []) (seen jd) (seen new) result → Step jg 1 jd new
         → StandsFor seen may_leave new jg ju bodies pending
     close_err result pending unsure s writes step =
         let a = told_after jg (46 ∷ []) (seen jd) (seen new) result s.file s.told writes in
         record { file = a.file; told = a.told; place = s.place; repair = s.repair; rests = ends moment left_since may_leave counts_now only_now earlier jd new (Rests bodies pending) (close_moments pending unsure s step) }
 
-    pub close_ok : (E : Type 0) (x : Unit {0}) (pending : Option (List ℕ)) → ju ≡ true → StandsFor seen may_leave jd jg ju bodies pending → Writes {E = E} jg (46 ∷ []) (seen jd) (seen new) (Ok x) → Only (seen new) (may_leave new)
+    pub close_ok : (E : Type 0) (x : Unit {0}) (pending : Option (List ℕ)) → ju ≡ true → StandsFor seen may_leave jd jg ju bodies pending → WritesAt {E = E} jg (46 ∷ []) (seen jd) (seen new) (Ok x) → Only (seen new) (may_leave new)
         → StandsFor seen may_leave new jg false bodies None
     close_ok E x None unsure s writes only = let not : ju ≡ false = s.repair in absurd (cc)
     close_ok E x (Some body) unsure s writes only =
@@ -56,18 +56,18 @@ module _ {D : Type 0} (seen : D → Option (List ℕ)) (moment : D → ℕ) (lef
     stage_moments n s step =
         one moment left_since may_leave counts_now only_now earlier jd new (Torn (jg + 1) n) (λ c. Image c bodies) step (λ d c left torn. torn_image bodies jg s.place d c n (s.rests d left) torn)
 
-    pub stage_err : {E : Type 0} (result : Result (Unit {0}) E) (bytes : List ℕ) → StandsFor seen may_leave jd jg ju bodies None → Writes (jg + 1) bytes (seen jd) (seen new) result → Step (jg + 1) (length bytes) jd new
+    pub stage_err : {E : Type 0} (result : Result (Unit {0}) E) (bytes : List ℕ) → StandsFor seen may_leave jd jg ju bodies None → WritesAt (jg + 1) bytes (seen jd) (seen new) result → Step (jg + 1) (length bytes) jd new
         → StandsFor seen may_leave new jg ju bodies None
     stage_err result bytes s writes step =
         let a = told_after (jg + 1) bytes (seen jd) (seen new) result s.file s.told writes in
         record { file = a.file; told = a.told; place = s.place; repair = s.repair; rests = ends moment left_since may_leave counts_now only_now earlier jd new (λ c. Image c bodies) (stage_moments (length bytes) s step) }
 
-    pub stage_ok : {E : Type 0} (result : Result (Unit {0}) E) (bytes body : List ℕ) → bytes ≡ framed body → Fits body → StandsFor seen may_leave jd jg ju bodies None → Writes (jg + 1) bytes (seen jd) (seen new) result → Step (jg + 1) (length bytes) jd new
+    pub stage_ok : {E : Type 0} (result : Result (Unit {0}) E) (bytes body : List ℕ) → bytes ≡ framed body → Fits body → StandsFor seen may_leave jd jg ju bodies None → WritesAt (jg + 1) bytes (seen jd) (seen new) result → Step (jg + 1) (length bytes) jd new
         → OnOk result (Only (seen new) (may_leave new)) → OnOk result (IsStaged seen may_leave new jg bodies body)
     stage_ok (Err e) bytes body is fits s writes step only = tt
     stage_ok {E} (Ok x) bytes body is fits s writes step only =
         let a : After {E = E} (jg + 1) bytes s.file (seen new) (Ok x) = told_after (jg + 1) bytes (seen jd) (seen new) (Ok x) s.file s.told writes in
-        let holds = subst (λ (l : List ℕ). Holds (jg + 1) l s.file a.file) is a.holds in
+        let holds = subst (λ (l : List ℕ). HasBytes (jg + 1) l s.file a.file) is a.holds in
         let half = staged_half bodies jg s.place s.file a.file body fits (s.rests s.file (seen_is_left jd s.file s.told)) holds in
         record {
           file = a.file;
@@ -82,13 +82,13 @@ module _ {D : Type 0} (seen : D → Option (List ℕ)) (moment : D → ℕ) (lef
     open_moments body s step =
         one moment left_since may_leave counts_now only_now earlier jd new (Torn jg 1) (λ c. Half c bodies body) step (λ d c left torn. torn_half bodies jg s.place d c body (s.rests d left) torn)
 
-    pub open_err : {E : Type 0} (result : Result (Unit {0}) E) (body : List ℕ) → IsStaged seen may_leave jd jg bodies body → Writes jg (71 ∷ []) (seen jd) (seen new) result → Step jg 1 jd new
+    pub open_err : {E : Type 0} (result : Result (Unit {0}) E) (body : List ℕ) → IsStaged seen may_leave jd jg bodies body → WritesAt jg (71 ∷ []) (seen jd) (seen new) result → Step jg 1 jd new
         → StandsFor seen may_leave new jg true bodies (Some body)
     open_err result body s writes step =
         let a = told_after jg (71 ∷ []) (seen jd) (seen new) result s.file s.told writes in
         record { file = a.file; told = a.told; place = s.place; repair = refl; rests = ends moment left_since may_leave counts_now only_now earlier jd new (λ c. Half c bodies body) (open_moments body s step) }
 
-    pub open_ok : (E : Type 0) (x : Unit {0}) (gate : ℕ) (body : List ℕ) → gate ≡ length (records (bodies ++ body ∷ [])) → IsStaged seen may_leave jd jg bodies body → Writes {E = E} jg (71 ∷ []) (seen jd) (seen new) (Ok x) → Only (seen new) (may_leave new)
+    pub open_ok : (E : Type 0) (x : Unit {0}) (gate : ℕ) (body : List ℕ) → gate ≡ length (records (bodies ++ body ∷ [])) → IsStaged seen may_leave jd jg bodies body → WritesAt {E = E} jg (71 ∷ []) (seen jd) (seen new) (Ok x) → Only (seen new) (may_leave new)
         → StandsFor seen may_leave new gate false (bodies ++ body ∷ []) None
     open_ok E x gate body gate_is s writes only =
         let a : After {E = E} jg (71 ∷ []) s.file (seen new) (Ok x) = told_after jg (71 ∷ []) (seen jd) (seen new) (Ok x) s.file s.told writes in

@@ -4,7 +4,7 @@ ghost use Rattle.serde_json.specs.View.{members_view};
 ghost use Rattle.notice_json.specs.Refusals.{label, labelled, put_minute, put_zone};
 ghost use Rattle.notice_json.specs.Refusals.{put_event_name, put_values, refusal_text};
 
-use crate::members::{Members, put_size, put_text, written};
+use crate::members::{Members, put_size, put_text, text_of_members};
 use crate::refusal::NoticeRefusal;
 use hazard_types::{Event, List, Minute, Oom, Text, Zone, put_event, stamp, zone_text};
 use serde_json::Map;
@@ -101,5 +101,5 @@ pub fn refusal_text(alloc: Global, refusal: &NoticeRefusal) -> Result<Text, Oom>
     ensures { IfOk result (λ text. text ≡ refusal_text refusal.now) }
 {
     let members = refusal_members(alloc, refusal)?;
-    written(alloc, members)
+    text_of_members(alloc, members)
 }

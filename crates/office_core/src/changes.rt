@@ -138,7 +138,7 @@ pub(crate) fn take_away(drafts: &[Draft], id: u32) -> DraftChange
 }
 
 /// A draft that is opened, without an intent.
-fn begun(alloc: Global, id: u32, owner: &Desk, category: Category, t: Minute) -> DraftChange
+fn opened_draft(alloc: Global, id: u32, owner: &Desk, category: Category, t: Minute) -> DraftChange
     ensures { result ≡ Open (record { id = id; owner = owner.now; category = category; touched = t; intents = [] }) }
 {
     DraftChange::Open(Draft {
@@ -167,7 +167,7 @@ impl Office {
     {
         let drafts = self.drafts.as_slice();
         match r {
-            Request::Begin(category) => Ok(begun(alloc, self.begun + 1, desk, *category, t)),
+            Request::Begin(category) => Ok(opened_draft(alloc, self.begun + 1, desk, *category, t)),
             Request::Put(id, part) => put_in(alloc, drafts, *id, t, Intent::Put(copied_put(part)?)),
             Request::Finish(id, part) => {
                 put_in(alloc, drafts, *id, t, Intent::Finish(copied_event(part)?))

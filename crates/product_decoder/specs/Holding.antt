@@ -13,8 +13,8 @@ Scans bytes from (Line at) = IsNotFound bytes from at
 abbrev pub rest_of : Held → List ℕ
 rest_of h = drop h.from h.bytes.items
 
-abbrev pub Holds : Held → Type 0
-Holds h = IsHeld h.bytes.items h.from h.seen h.looked h.headed
+abbrev pub HeldIs : Held → Type 0
+HeldIs h = IsHeld h.bytes.items h.from h.seen h.looked h.headed
 
 -- whole lines without a heading line were dropped in front
 abbrev pub IsTrimmed : List ℕ → List ℕ → Type 0

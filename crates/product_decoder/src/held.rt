@@ -2,7 +2,7 @@
 ghost use Rattle.std.specs.Prelude.{◌≡◌, ◌≤◌, ◌++◌, false, true, Ok, Some, None, [], length, drop, IfOk, OnOk, OnErr};
 ghost use Rattle.std.specs.List.{slice_range};
 ghost use Rattle.product_decoder.specs.Feeding.{has_heading, IsQuiet, Keeps};
-ghost use Rattle.product_decoder.specs.Holding.{Scans, Holds, rest_of, IsTrimmed, Moves, TakesWhole, TakesLast};
+ghost use Rattle.product_decoder.specs.Holding.{Scans, HeldIs, rest_of, IsTrimmed, Moves, TakesWhole, TakesLast};
 
 use hazard_types::{List, Oom, Text};
 use product_frame::{is_heading, next_start};
@@ -70,7 +70,7 @@ fn find_heading(bytes: &[u8], from: usize, looked: usize) -> Scan
 impl Held {
     /// Nothing is held.
     pub fn new(alloc: Global) -> Self
-        ensures holds { Holds result }
+        ensures holds { HeldIs result }
         ensures rest { rest_of result ≡ [] }
     {
         Held {
@@ -84,7 +84,7 @@ impl Held {
 
     /// How many bytes count.
     pub fn len(&self) -> usize
-        requires { Holds self.now }
+        requires { HeldIs self.now }
         ensures { result ≡ length (rest_of self.now) }
     {
         self.bytes.len() - self.from
@@ -92,8 +92,8 @@ impl Held {
 
     /// Lets go the bytes that do not count.
     fn shrink(&mut self, alloc: Global) -> Result<(), Oom>
-        requires { Holds self.old }
-        ensures holds { Holds self.new }
+        requires { HeldIs self.old }
+        ensures holds { HeldIs self.new }
         ensures rest { rest_of self.new ≡ rest_of self.old }
     {
         let kept = Vec::from_slice(alloc, &self.bytes[self.from..])?;
@@ -106,8 +106,8 @@ impl Held {
 
     /// Adds a piece, or changes nothing that counts.
     fn add(&mut self, piece: &[u8]) -> Result<(), Oom>
-        requires { Holds self.old }
-        ensures holds { Holds self.new }
+        requires { HeldIs self.old }
+        ensures holds { HeldIs self.new }
         ensures ok { OnOk result (rest_of self.new ≡ rest_of self.old ++ piece.now) }
         ensures err { OnErr result (rest_of self.new ≡ rest_of self.old) }
     {
@@ -117,8 +117,8 @@ impl Held {
 
     /// Adds a piece, or changes nothing that counts. Bytes that do not count are let go once they are the greater part.
     pub fn push(&mut self, alloc: Global, piece: &[u8]) -> Result<(), Oom>
-        requires { Holds self.old }
-        ensures holds { Holds self.new }
+        requires { HeldIs self.old }
+        ensures holds { HeldIs self.new }
         ensures ok { OnOk result (rest_of self.new ≡ rest_of self.old ++ piece.now) }
         ensures err { OnErr result (rest_of self.new ≡ rest_of self.old) }
     {
@@ -130,8 +130,8 @@ impl Held {
 
     /// Drops whole lines in front of the first heading line. Where there is none, a line that is not whole is left.
     fn settle(&mut self)
-        requires { Holds self.old }
-        ensures holds { Holds self.new }
+        requires { HeldIs self.old }
+        ensures holds { HeldIs self.new }
         ensures trimmed { IsTrimmed (rest_of self.old) (rest_of self.new) }
         ensures none { self.new.headed ≡ false → IsQuiet (rest_of self.new) }
     {
@@ -155,9 +155,9 @@ impl Held {
 
     /// Gives the whole lines from the heading line up to the next, if there is one.
     fn advance(&mut self, alloc: Global) -> Result<Option<Text>, Oom>
-        requires holds { Holds self.old }
+        requires holds { HeldIs self.old }
         requires headed { self.old.headed ≡ true }
-        ensures holds { Holds self.new }
+        ensures holds { HeldIs self.new }
         ensures headed { self.new.headed ≡ true }
         ensures moves { IfOk result (λ text. Moves (rest_of self.old) text (rest_of self.new)) }
         ensures quiet { result ≡ Ok None → IsQuiet (drop self.new.seen self.new.bytes.items) }
@@ -181,8 +181,8 @@ impl Held {
 
     /// The next product, where it is finished.
     pub fn take_whole(&mut self, alloc: Global) -> Result<Option<Text>, Oom>
-        requires { Holds self.old }
-        ensures holds { Holds self.new }
+        requires { HeldIs self.old }
+        ensures holds { HeldIs self.new }
         ensures taken { IfOk result (λ text. TakesWhole (rest_of self.old) text (rest_of self.new)) }
         ensures err { OnErr result (Keeps (rest_of self.old) (rest_of self.new)) }
     {
@@ -195,8 +195,8 @@ impl Held {
 
     /// All bytes that count, which count no more.
     fn give_all(&mut self, alloc: Global) -> Result<Option<Text>, Oom>
-        requires { Holds self.old }
-        ensures holds { Holds self.new }
+        requires { HeldIs self.old }
+        ensures holds { HeldIs self.new }
         ensures text { IfOk result (λ text. text ≡ Some (rest_of self.old)) }
         ensures rest { OnOk result (rest_of self.new ≡ []) }
         ensures err { OnErr result (rest_of self.new ≡ rest_of self.old) }
@@ -208,8 +208,8 @@ impl Held {
 
     /// No bytes count any more.
     fn clear(&mut self)
-        requires { Holds self.old }
-        ensures holds { Holds self.new }
+        requires { HeldIs self.old }
+        ensures holds { HeldIs self.new }
         ensures rest { rest_of self.new ≡ [] }
     {
         self.from = self.bytes.len();
@@ -220,8 +220,8 @@ impl Held {
 
     /// The last product but for what the last line is.
     fn give_front(&mut self, alloc: Global) -> Result<Option<Text>, Oom>
-        requires holds { Holds self.old }
-        ensures holds { Holds self.new }
+        requires holds { HeldIs self.old }
+        ensures holds { HeldIs self.new }
         ensures text { IfOk result (λ text. text ≡ Some (slice_range self.old.bytes.items self.old.from self.old.seen)) }
         ensures rest { OnOk result (rest_of self.new ≡ drop self.old.seen self.old.bytes.items) }
         ensures err { OnErr result (rest_of self.new ≡ rest_of self.old) }
@@ -234,10 +234,10 @@ impl Held {
 
     /// The last product of a stream that has ended, or the one before it where the last line is a heading line.
     fn last_product(&mut self, alloc: Global) -> Result<Option<Text>, Oom>
-        requires holds { Holds self.old }
+        requires holds { HeldIs self.old }
         requires headed { self.old.headed ≡ true }
         requires quiet { IsQuiet (drop self.old.seen self.old.bytes.items) }
-        ensures holds { Holds self.new }
+        ensures holds { HeldIs self.new }
         ensures taken { IfOk result (λ text. TakesLast (rest_of self.old) text (rest_of self.new)) }
         ensures err { OnErr result (rest_of self.new ≡ rest_of self.old) }
     {
@@ -249,9 +249,9 @@ impl Held {
 
     /// The last line of a stream that has ended, if it is a heading line.
     fn last_line(&mut self, alloc: Global) -> Result<Option<Text>, Oom>
-        requires holds { Holds self.old }
+        requires holds { HeldIs self.old }
         requires quiet { IsQuiet (rest_of self.old) }
-        ensures holds { Holds self.new }
+        ensures holds { HeldIs self.new }
         ensures taken { IfOk result (λ text. TakesLast (rest_of self.old) text (rest_of self.new)) }
         ensures err { OnErr result (rest_of self.new ≡ rest_of self.old) }
     {
@@ -264,9 +264,9 @@ impl Held {
 
     /// The next product of a stream that has ended, where a heading line begins it.
     fn last_headed(&mut self, alloc: Global) -> Result<Option<Text>, Oom>
-        requires holds { Holds self.old }
+        requires holds { HeldIs self.old }
         requires headed { self.old.headed ≡ true }
-        ensures holds { Holds self.new }
+        ensures holds { HeldIs self.new }
         ensures taken { IfOk result (λ text. TakesLast (rest_of self.old) text (rest_of self.new)) }
         ensures err { OnErr result (rest_of self.new ≡ rest_of self.old) }
     {
@@ -279,8 +279,8 @@ impl Held {
 
     /// The next product of a stream that has ended.
     pub fn take_last(&mut self, alloc: Global) -> Result<Option<Text>, Oom>
-        requires { Holds self.old }
-        ensures holds { Holds self.new }
+        requires { HeldIs self.old }
+        ensures holds { HeldIs self.new }
         ensures taken { IfOk result (λ text. TakesLast (rest_of self.old) text (rest_of self.new)) }
         ensures err { OnErr result (Keeps (rest_of self.old) (rest_of self.new)) }
     {

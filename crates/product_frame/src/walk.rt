@@ -272,7 +272,7 @@ fn step(
     }
 }
 
-fn ended(walk: Walk) -> Result<List<FrameSegment>, Or<FrameFault>>
+fn segments_at_end(walk: Walk) -> Result<List<FrameSegment>, Or<FrameFault>>
     ensures { Gives result (ended walk walk.stage) }
 {
     match walk.stage {
@@ -316,7 +316,7 @@ fn walk_over(
             &starts[i + 1..],
         )?;
     }
-    ended(walk)
+    segments_at_end(walk)
 }
 
 /// The segments of the lines that begin at these places, the first of which has this number.

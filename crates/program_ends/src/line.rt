@@ -40,7 +40,7 @@ fn without_return(line: &[u8]) -> &[u8]
 }
 
 /// The line, unless it is too long.
-fn fit(line: &[u8]) -> Option<&[u8]>
+fn line_within_limit(line: &[u8]) -> Option<&[u8]>
     ensures { option_map (λ bytes. bytes.now) result ≡ fit line.now }
 {
     if line.len() > MOST_BYTES {
@@ -88,13 +88,13 @@ impl Line {
     }
 
     /// The line, where an LF ended it, unless it is too long.
-    pub fn ended(&self) -> Option<&[u8]>
+    pub fn line_at_end(&self) -> Option<&[u8]>
         ensures { (line : List ℕ) → self.now ≡ pending_of line → option_map (λ bytes. bytes.now) result ≡ fit (without_return line) }
     {
         if self.is_longer {
             None
         } else {
-            fit(without_return(&self.kept))
+            line_within_limit(without_return(&self.kept))
         }
     }
 
@@ -105,7 +105,7 @@ impl Line {
         if self.is_longer {
             None
         } else {
-            fit(&self.kept)
+            line_within_limit(&self.kept)
         }
     }
 }

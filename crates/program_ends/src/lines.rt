@@ -66,7 +66,7 @@ fn feed<K: Sink, A: Answers>(
 {
     for byte in chunk {
         if *byte == b'\n' {
-            reply(alloc, answers, line.ended(), output)?;
+            reply(alloc, answers, line.line_at_end(), output)?;
             line.clear();
         } else {
             line.push(*byte);

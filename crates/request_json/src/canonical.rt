@@ -4,7 +4,7 @@ ghost use Rattle.serde_json.specs.View.{view, members_view};
 ghost use Rattle.request_json.specs.Canonical.{put_text, put_source, put_times, put_begin, put_end, zone_data, texts_data, flood_data, event_texts_data, put_flood, put_target, put_zones_texts, put_put, put_event_part, put_routine, put_put_do, put_event_do, put_routine_do, put_intent, intent_data, intent_text, put_correct, put_draft_do, put_drop, put_open, put_request, asked_members, asked_text};
 
 use crate::asked::Asked;
-use crate::members::{Members, put, put_number, put_text, text_value, written};
+use crate::members::{Members, put, put_number, put_text, text_of_members, text_value};
 use crate::refusals::put_event_text;
 use hazard_types::{
     Begin, Category, Desk, End, EventPart, EventTexts, Flood, Intent, List, Oom, PutPart, Request,
@@ -327,7 +327,7 @@ pub fn text_of_request(alloc: Global, desk: &Desk, seq: u32, request: &Request) 
     ensures { IfOk result (λ text. text ≡ asked_text (record { desk = desk.now; seq = seq; request = request.now })) }
 {
     let members = asked_members(alloc, desk, seq, request)?;
-    written(alloc, members)
+    text_of_members(alloc, members)
 }
 
 /// The canonical text of a request.

@@ -5,7 +5,7 @@ ghost use Rattle.request_json.specs.Canonical.{intent_data};
 ghost use Rattle.request_json.specs.Replies.{draft_members, draft_text};
 
 use crate::canonical::intent_value;
-use crate::members::{Members, put, put_number, put_text, written};
+use crate::members::{Members, put, put_number, put_text, text_of_members};
 use hazard_types::{Draft, Intent, Oom, Text, stamp};
 use serde_json::{Map, Value};
 use std::alloc::Global;
@@ -42,5 +42,5 @@ pub fn draft_text(alloc: Global, draft: &Draft) -> Result<Text, Oom>
     ensures { IfOk result (λ text. text ≡ draft_text draft.now) }
 {
     let members = draft_members(alloc, draft)?;
-    written(alloc, members)
+    text_of_members(alloc, members)
 }

@@ -60,7 +60,7 @@ pub fn put_signed(alloc: Global, members: &mut Members, key: &str, signed: i64) 
 }
 
 /// The text of the object with these members, none of which has a float.
-pub fn written(alloc: Global, members: Members) -> Result<Text, Oom>
+pub fn text_of_members(alloc: Global, members: Members) -> Result<Text, Oom>
     requires { members_have_float (members_view members.entries) ≡ false }
     ensures { IfOk result (λ text. text ≡ compact_text (object (members_view members.entries))) }
 {

@@ -5,7 +5,7 @@ ghost use Rattle.hazard_types.specs.Names.{event_text};
 ghost use Rattle.request_json.specs.Canonical.{put_text};
 ghost use Rattle.request_json.specs.Replies.{label, labelled, put_zone, put_event_zone, put_clash, put_place_in, put_values, refusal_text};
 
-use crate::members::{Members, put_number, put_signed, put_size, put_text, written};
+use crate::members::{Members, put_number, put_signed, put_size, put_text, text_of_members};
 use hazard_types::{
     Event, List, Oom, Refusal, Text, Zone, hazard_text, put_event, stamp, zone_text,
 };
@@ -137,5 +137,5 @@ pub fn refusal_text(alloc: Global, refusal: &Refusal) -> Result<Text, Oom>
     ensures { IfOk result (λ text. text ≡ refusal_text refusal.now) }
 {
     let members = refusal_members(alloc, refusal)?;
-    written(alloc, members)
+    text_of_members(alloc, members)
 }

@@ -3,7 +3,7 @@ ghost use Rattle.std.specs.Prelude.{◌≡◌, IfOk, OnOk, map};
 ghost use Rattle.serde_json.specs.View.{view, members_view};
 ghost use Rattle.request_json.specs.Replies.{word_code, event_data, put_sent, put_reply, reply_text, disk_fault_text, out_of_memory_text};
 
-use crate::members::{Members, put, put_number, put_text, text_value, written};
+use crate::members::{Members, put, put_number, put_text, text_of_members, text_value};
 use hazard_types::{Event, List, Oom, Reply, SentReply, Text, Word, put_event, stamp};
 use serde_json::{Map, Value};
 use std::alloc::Global;
@@ -75,7 +75,7 @@ pub fn reply_text(alloc: Global, reply: &Reply) -> Result<Text, Oom>
 {
     let mut members = Map::new(alloc);
     put_reply(alloc, &mut members, reply)?;
-    written(alloc, members)
+    text_of_members(alloc, members)
 }
 
 /// What is answered where the disk fails.

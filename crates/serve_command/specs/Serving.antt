@@ -5,7 +5,7 @@ use Rattle.office_journal.specs.Kept.{disk_of, entries_of, state_of}
 use Rattle.office_journal.specs.declared.kept.KeptOffice.{KeptOffice}
 use Rattle.program_ends.specs.Ends.{Telling}
 use Rattle.program_ends.specs.declared.ends.End.TheVariants.{OutOfMemory, PortFault}
-use Rattle.desk_commands.specs.Commands.{IsTold}
+use Rattle.desk_commands.specs.Commands.{TellsText}
 use Rattle.desk_commands.specs.Opening.{IsOpened, IsUnopenedRun}
 use Rattle.warn_serve.specs.Links.{Ways}
 use Rattle.warn_serve.specs.Served.{IsServed, PortState}
@@ -20,7 +20,7 @@ summary requests products = codes "requests " ++ decimal requests ++ codes " pro
 
 -- What is told: the line of the office at the end, where all connections were served, unless memory lacks for it; or the port's fault, or want of memory.
 abbrev pub TellsServed : ServeEnd → List ℕ → ℕ → Option (List ℕ) → Option (List ℕ) → ℕ → ℕ → Type 0
-TellsServed serve.Done line writes taken taken' writes' status = IsTold line writes taken taken' writes' status ⊎ Telling [] writes taken taken' writes' (Some OutOfMemory) status
+TellsServed serve.Done line writes taken taken' writes' status = TellsText line writes taken taken' writes' status ⊎ Telling [] writes taken taken' writes' (Some OutOfMemory) status
 TellsServed serve.PortFault line writes taken taken' writes' status = Telling [] writes taken taken' writes' (Some PortFault) status
 TellsServed serve.OutOfMemory line writes taken taken' writes' status = Telling [] writes taken taken' writes' (Some OutOfMemory) status
 

@@ -7,6 +7,7 @@ use Rattle.hazard_types.specs.declared.period.End.{End}
 use Rattle.hazard_types.specs.declared.period.End.TheVariants.{At, Ufn}
 use Rattle.event_life.specs.Periods.{ends_after}
 use Rattle.stats_report.specs.Minutes.{has_effect, one_if, count_before, cut_at, minutes_left}
+
 -- counts of tests that are alike at each minute
 
 pub same_count : (n : ℕ) (f g : ℕ → Bool) → ((m : ℕ) → f m ≡ g m) → count_before n f ≡ count_before n g

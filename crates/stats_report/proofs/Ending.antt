@@ -22,6 +22,7 @@ use Rattle.stats_report.specs.Readings.{statistics, IsTallied, ReadsTo, TellsTo}
 use Rattle.stats_report.specs.Report.{stats_text}
 use Rattle.stats_report.specs.Runs.{IsStatsRun}
 use Rattle.stats_report.specs.declared.tally.Tally.{Tally}
+
 -- the text of a tally of the products of an input
 pub text_is : (asked : Asked) (read text : List ℕ) (tally : Tally) → IsTallied asked (map decode (products_in read)) tally → text ≡ stats_text tally.stamp tally.reader.products tally.faults → text ≡ statistics asked read
 unfolding statistics

@@ -63,7 +63,7 @@ fn with_method(
     }
 }
 
-fn judged(
+fn want_by_rules(
     method: &[u8],
     encoded: bool,
     length: Stated,
@@ -99,5 +99,5 @@ pub fn want_of(
     let length = stated_length(front, fields);
     let aim = routes.aim_of(path);
     let last = closes(spans.version, front, fields);
-    judged(method, encoded, length, aim, last)
+    want_by_rules(method, encoded, length, aim, last)
 }

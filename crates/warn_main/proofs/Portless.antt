@@ -13,7 +13,7 @@ use Rattle.program_ends.specs.Ends.{IsUsage, Telling, own_status, status_of}
 use Rattle.program_ends.specs.Runs.{IsLinesRun}
 use Rattle.program_ends.specs.declared.ends.End.{End}
 use Rattle.program_ends.specs.declared.ends.End.TheVariants.{Usage, SettingsRefused, AlreadyKept, NoJournal, Damaged, ReadFault, WriteFault, DiskFault, PortFault, ClockOut, OutOfMemory, InputTooLong, JournalFull}
-use Rattle.desk_commands.specs.Commands.{AreTold, IsInitRun, IsTold, IsWhyUnmade, TellsBoard, UpgradeOutcome, joined}
+use Rattle.desk_commands.specs.Commands.{AreTold, IsInitRun, TellsText, IsWhyUnmade, TellsBoard, UpgradeOutcome, joined}
 use Rattle.desk_commands.specs.Opening.{IsUnopenedRun, IsWhy}
 use Rattle.desk_drill.specs.Runs.{IsDrillRun}
 use Rattle.desk_program.specs.Runs.{Does, DoesAsAsked}
@@ -54,7 +54,7 @@ module _ (defined : List ℕ) (writes : ℕ) (taken taken' : Option (List ℕ)) 
   told_lacking : (end : Option End) → end ≡ Some OutOfMemory → Telling defined writes taken taken' writes' end status → status ≢ 10
   told_lacking end is telling = told_as end (Some OutOfMemory) is (λ ten. omega (arith, ten)) telling
 
-  told_well : IsTold defined writes taken taken' writes' status → status ≢ 10
+  told_well : TellsText defined writes taken taken' writes' status → status ≢ 10
   told_well t = elim t.1 [
     | inl is ↦ told_none t.0 is t.2
     | inr is ↦ told_cut t.0 is t.2

@@ -7,7 +7,7 @@ use Rattle.office_journal.specs.Kept as kept
 use Rattle.program_ends.specs.Ends.{Telling, own_status, status_of}
 use Rattle.program_ends.specs.declared.ends.End.{End}
 use Rattle.program_ends.specs.declared.ends.End.TheVariants.{Usage, SettingsRefused, AlreadyKept, NoJournal, Damaged, ReadFault, WriteFault, DiskFault, PortFault, ClockOut, OutOfMemory, InputTooLong, JournalFull}
-use Rattle.desk_commands.specs.Commands.{IsTold}
+use Rattle.desk_commands.specs.Commands.{TellsText}
 use Rattle.desk_commands.specs.Opening.{IsUnopenedRun, IsWhy}
 use Rattle.desk_program.specs.Runs.{IsEndOfItsOwn}
 use Rattle.warn_serve.specs.Links.{Ways}
@@ -93,7 +93,7 @@ module _ (disk_failed port_failed : Type 0) where
               subst IsEndOfItsOwn (sym (same other)) (may.own (λ eight. other (same other ∙ eight)) disk port);
         }
 
-    told_well : (line : List ℕ) → IsTold line writes taken taken' writes' status → HasCauses disk_failed port_failed writes writes' status
+    told_well : (line : List ℕ) → TellsText line writes taken taken' writes' status → HasCauses disk_failed port_failed writes writes' status
     told_well line t = elim t.1 [
       | inl is ↦ told line t.0 (subst (λ (e : Option End). MayEnd (own_status e)) (sym is) well) t.2
       | inr is ↦ told line t.0 (subst (λ (e : Option End). MayEnd (own_status e)) (sym is) cut_off) t.2

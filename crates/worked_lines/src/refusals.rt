@@ -2,159 +2,175 @@
 use hazard_types::{Desk, Event, Hazard, Kind, List, Minute, Oom, Phen, Refusal, Sig, Text, Zone};
 use std::alloc::Global;
 
-fn hazard() -> Option<Hazard> {
-    let phen = Phen::new(*b"WS")?;
-    Some(Hazard { phen, sig: Sig::W })
+/// What the refusals name.
+#[derive(Clone, Copy)]
+struct Named {
+    zone: Zone,
+    hazard: Hazard,
+    owner: Desk,
+    free_at: Minute,
 }
 
-fn event(etn: u16) -> Option<Event> {
-    let hazard = hazard()?;
-    Some(Event {
-        hazard,
-        etn,
-        year: 2018,
-    })
-}
+impl Named {
+    fn new() -> Option<Self> {
+        let phen = Phen::new(*b"WS")?;
+        Some(Named {
+            zone: Zone::new(*b"MD", Kind::Z, 3)?,
+            hazard: Hazard { phen, sig: Sig::W },
+            owner: Desk::new(b"DESK9")?,
+            free_at: Minute::new(10)?,
+        })
+    }
 
-fn zone() -> Option<Zone> {
-    Zone::new(*b"MD", Kind::Z, 3)
+    fn event(&self, etn: u16) -> Event {
+        Event {
+            hazard: self.hazard,
+            etn,
+            year: 2018,
+        }
+    }
 }
 
 /// What refuses a call, a text or a number.
-fn of_calls(name: &str, field: Text) -> Option<Refusal> {
-    let refusal = match name {
-        "BadHead" => Refusal::BadHead,
-        "HeadTooLong" => Refusal::HeadTooLong,
-        "NoRoute" => Refusal::NoRoute,
-        "WrongMethod" => Refusal::WrongMethod,
-        "NoLength" => Refusal::NoLength,
-        "BodyTooLong" => Refusal::BodyTooLong,
-        "LineTooLong" => Refusal::LineTooLong,
-        "NotJson" => Refusal::NotJson,
-        "WrongShape" => Refusal::WrongShape { field },
-        "UnknownDesk" => Refusal::UnknownDesk,
-        "Reused" => Refusal::Reused { last: 1 },
-        "Stale" => Refusal::Stale {
-            last: 4_294_967_295,
-        },
-        "Gap" => Refusal::Gap { last: 0 },
-        "ClockOut" => Refusal::ClockOut { minute: -1 },
-        _ => return None,
-    };
-    Some(refusal)
+fn of_calls(alloc: Global, field: Text) -> Result<Vec<Refusal>, Oom> {
+    let last = 4_294_967_295;
+    let refusals = vec![in alloc;
+        Refusal::BadHead,
+        Refusal::HeadTooLong,
+        Refusal::NoRoute,
+        Refusal::WrongMethod,
+        Refusal::NoLength,
+        Refusal::BodyTooLong,
+        Refusal::LineTooLong,
+        Refusal::NotJson,
+        Refusal::WrongShape { field },
+        Refusal::UnknownDesk,
+        Refusal::Reused { last: 1 },
+        Refusal::Stale { last },
+        Refusal::Gap { last: 0 },
+        Refusal::ClockOut { minute: -1 },
+    ]?;
+    Ok(refusals)
 }
 
 /// What refuses a request for its draft.
-fn of_drafts(name: &str) -> Option<Refusal> {
-    let refusal = match name {
-        "NoDraft" => Refusal::NoDraft,
-        "NotOwner" => Refusal::NotOwner {
-            owner: Desk::new(b"DESK9")?,
-        },
-        "StillActive" => Refusal::StillActive {
-            free_at: Minute::new(10)?,
-        },
-        "DraftsFull" => Refusal::DraftsFull,
-        "IntentsFull" => Refusal::IntentsFull,
-        "NoIntent" => Refusal::NoIntent { place: 1 },
-        "EmptyDraft" => Refusal::EmptyDraft,
-        _ => return None,
-    };
-    Some(refusal)
+fn of_drafts(alloc: Global, named: &Named) -> Result<Vec<Refusal>, Oom> {
+    let owner = named.owner;
+    let free_at = named.free_at;
+    let refusals = vec![in alloc;
+        Refusal::NoDraft,
+        Refusal::NotOwner { owner },
+        Refusal::StillActive { free_at },
+        Refusal::DraftsFull,
+        Refusal::IntentsFull,
+        Refusal::NoIntent { place: 1 },
+        Refusal::EmptyDraft,
+    ]?;
+    Ok(refusals)
 }
 
 /// What refuses a request for what it names.
-fn of_names(name: &str, field: Text) -> Option<Refusal> {
-    let refusal = match name {
-        "UnknownZone" => Refusal::UnknownZone { zone: zone()? },
-        "UnknownHazard" => Refusal::UnknownHazard,
-        "WrongZoneKind" => Refusal::WrongZoneKind { zone: zone()? },
-        "WrongCategory" => Refusal::WrongCategory,
-        "BadText" => Refusal::BadText { field, at: 7 },
-        "TextTooLong" => Refusal::TextTooLong { field },
-        "BadZoneList" => Refusal::BadZoneList,
-        "NoProduct" => Refusal::NoProduct,
-        _ => return None,
-    };
-    Some(refusal)
+fn of_names(alloc: Global, named: &Named, field: Text) -> Result<Vec<Refusal>, Oom> {
+    let zone = named.zone;
+    let long = field.clone()?;
+    let refusals = vec![in alloc;
+        Refusal::UnknownZone { zone },
+        Refusal::UnknownHazard,
+        Refusal::WrongZoneKind { zone },
+        Refusal::WrongCategory,
+        Refusal::BadText { field, at: 7 },
+        Refusal::TextTooLong { field: long },
+        Refusal::BadZoneList,
+        Refusal::NoProduct,
+    ]?;
+    Ok(refusals)
 }
 
 /// What refuses a product for its events.
-fn of_events(name: &str) -> Option<Refusal> {
-    let refusal = match name {
-        "NoEvent" => Refusal::NoEvent { event: event(1)? },
-        "NotLive" => Refusal::NotLive {
-            event: event(12)?,
-            zone: zone()?,
+fn of_events(alloc: Global, named: &Named) -> Result<Vec<Refusal>, Oom> {
+    let zone = named.zone;
+    let event = named.event(1);
+    let refusals = vec![in alloc;
+        Refusal::NoEvent { event },
+        Refusal::NotLive {
+            event: named.event(12),
+            zone
         },
-        "LeftBefore" => Refusal::LeftBefore {
-            event: event(123)?,
-            zone: zone()?,
+        Refusal::LeftBefore {
+            event: named.event(123),
+            zone
         },
-        "Twice" => Refusal::Twice {
-            event: event(0)?,
-            zone: zone()?,
+        Refusal::Twice {
+            event: named.event(0),
+            zone
         },
-        "BegunMoved" => Refusal::BegunMoved {
-            event: event(9999)?,
-            zone: zone()?,
+        Refusal::BegunMoved {
+            event: named.event(9999),
+            zone
         },
-        "SiteMoved" => Refusal::SiteMoved { event: event(1)? },
-        "NumberHeld" => Refusal::NumberHeld { event: event(1)? },
-        _ => return None,
-    };
-    Some(refusal)
+        Refusal::SiteMoved { event },
+        Refusal::NumberHeld { event },
+    ]?;
+    Ok(refusals)
 }
 
 /// What refuses a product for all else.
-fn of_products(name: &str) -> Option<Refusal> {
-    let refusal = match name {
-        "BadPeriod" => Refusal::BadPeriod { place: 0 },
-        "NoOpenEnd" => Refusal::NoOpenEnd { place: 1 },
-        "FloodNeeded" => Refusal::FloodNeeded { place: 2 },
-        "FloodBarred" => Refusal::FloodBarred { place: 63 },
-        "Conflict" => Refusal::Conflict {
-            zone: zone()?,
-            first: event(9999)?,
-            second: event(10_000)?,
+fn of_products(alloc: Global, named: &Named) -> Result<Vec<Refusal>, Oom> {
+    let zone = named.zone;
+    let hazard = named.hazard;
+    let first = named.event(9999);
+    let second = named.event(10_000);
+    let refusals = vec![in alloc;
+        Refusal::BadPeriod { place: 0 },
+        Refusal::NoOpenEnd { place: 1 },
+        Refusal::FloodNeeded { place: 2 },
+        Refusal::FloodBarred { place: 63 },
+        Refusal::Conflict {
+            zone,
+            first,
+            second
         },
-        "NumbersSpent" => Refusal::NumbersSpent { hazard: hazard()? },
-        "NotLast" => Refusal::NotLast { last: 2 },
-        "NothingToCorrect" => Refusal::NothingToCorrect,
-        "LettersSpent" => Refusal::LettersSpent,
-        "TooManyLines" => Refusal::TooManyLines { lines: 2001 },
-        "TooLong" => Refusal::TooLong { bytes: 65_537 },
-        "ProductsFull" => Refusal::ProductsFull,
-        "JournalFull" => Refusal::JournalFull,
-        _ => return None,
-    };
-    Some(refusal)
+        Refusal::NumbersSpent { hazard },
+        Refusal::NotLast { last: 2 },
+        Refusal::NothingToCorrect,
+        Refusal::LettersSpent,
+        Refusal::TooManyLines { lines: 2001 },
+        Refusal::TooLong { bytes: 65_537 },
+        Refusal::ProductsFull,
+        Refusal::JournalFull,
+    ]?;
+    Ok(refusals)
 }
 
-/// The refusal of this name; the field of a request, or of a text, that it names is given.
-fn with_fields(name: &str, field: Text, text: Text) -> Option<Refusal> {
-    let found = of_calls(name, field);
-    if found.is_some() {
-        return found;
+/// The one of these refusals that has this name.
+fn named_among(refusals: Vec<Refusal>, name: &str) -> Option<Refusal> {
+    for refusal in refusals {
+        if refusal.label().1 == name {
+            return Some(refusal);
+        }
     }
-    let found = of_names(name, text);
-    if found.is_some() {
-        return found;
-    }
-    let found = of_drafts(name);
-    if found.is_some() {
-        return found;
-    }
-    let found = of_events(name);
-    if found.is_some() {
-        return found;
-    }
-    of_products(name)
+    None
 }
 
-/// The refusal of this name, if there is one.
+/// The refusal of this name, if there is one. A field of a request that it names is `?`, one of a text is `what`.
 pub fn refusal_named(alloc: Global, name: &str) -> Result<Option<Refusal>, Oom> {
+    let Some(named) = Named::new() else {
+        return Ok(None);
+    };
     let field = List::from_slice(alloc, b"?")?;
     let text = List::from_slice(alloc, b"what")?;
-    Ok(with_fields(name, field, text))
+    let groups = [
+        of_calls(alloc, field)?,
+        of_names(alloc, &named, text)?,
+        of_drafts(alloc, &named)?,
+        of_events(alloc, &named)?,
+        of_products(alloc, &named)?,
+    ];
+    for group in groups {
+        let found = named_among(group, name);
+        if found.is_some() {
+            return Ok(found);
+        }
+    }
+    Ok(None)
 }

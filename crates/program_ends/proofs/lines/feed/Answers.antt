@@ -9,7 +9,7 @@ returns-in_err-reply-clause-halted g c =
     rw (stops_by c.from_residual.result c.in_err-reply.field-0.0 c.from_residual.ensures.1)
     (λ begun e.
     let fed = c.loop-byte.invariant.fed begun e in
-    let fits = c.ended.ensures fed.0 fed.1 in
+    let fits = c.line_at_end.ensures fed.0 fed.1 in
     fed_halts g.A.Answers.answers g.A.Answers.lacks c.args.answers.now begun c.args.chunk.now (g.K.Sink.taken c.args.output.now) c.loop-byte.answers c.loop-byte.byte-index fed.0 (g.K.Sink.taken c.loop-byte.output)
     fed.2 c.loop-byte-test.true c.if-byte-eq10.true c.reply.new.answers (g.K.Sink.taken c.reply.new.output) c.in_err-reply.field-0.0 (rw fits at c.in_err-reply.ensures.halted))
 
@@ -22,7 +22,7 @@ loop-byte-preserved g c =
           rw (w.answers-is, w.line-is, w.output-is) (record {
             fed = λ begun e.
                 let fed = c.loop-byte.invariant.fed begun e in
-                let fits = w.ended.ensures fed.0 fed.1 in (
+                let fits = w.line_at_end.ensures fed.0 fed.1 in (
                   [],
                   w.clear.ensures,
                   fed_end g.A.Answers.answers g.A.Answers.lacks c.args.answers.now begun chunk (g.K.Sink.taken c.args.output.now) c.loop-byte.answers at fed.0 (g.K.Sink.taken c.loop-byte.output)

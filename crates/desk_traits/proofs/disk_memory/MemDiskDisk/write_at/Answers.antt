@@ -2,7 +2,7 @@ use Rattle.std.proofs.Common.{◌≡◌, ◌∙◌, ℕ, Vec, List, refl, ap, sy
 use Rattle.std.specs.declared.alloc.Global.{Global}
 use Rattle.desk_traits.specs.declared.disk_record.DiskCall.{DiskCall}
 use Rattle.desk_traits.specs.declared.disk_record.DiskCall.TheVariants.{Wrote}
-use Rattle.desk_traits.specs.File.{Torn, Holds}
+use Rattle.desk_traits.specs.File.{Torn, HasBytes}
 use Rattle.desk_traits.specs.DiskMemoryLaws.{torn_put}
 use Rattle.desk_traits.proofs.Recorded.{goes_failed, goes_wrote, kept_failed, kept_put, synced_failed, synced_other}
 use Rattle.desk_traits.proofs.disk_memory.MemDiskDisk.write_at.Goals as goal
@@ -29,7 +29,7 @@ invariant_of-self-2 c =
 
 pub returns-in-Ok-clause-seen : goal.returns-in-Ok-clause-seen
 returns-in-Ok-clause-seen c =
-    let holds = subst (λ (l : List ℕ). Holds c.args.at c.args.bytes.now l c.put.new.file) c.called.ensures.file c.in-Ok.ensures.file in
+    let holds = subst (λ (l : List ℕ). HasBytes c.args.at c.args.bytes.now l c.put.new.file) c.called.ensures.file c.in-Ok.ensures.file in
     (subst (λ (l : List ℕ). Torn c.args.at (length c.args.bytes.now) c.args.self.now.file l) (sym holds) (torn_put c.args.at c.args.bytes.now c.args.self.now.file c.requires), holds)
 
 pub returns-in-Ok-clause-crash : goal.returns-in-Ok-clause-crash

@@ -8,6 +8,6 @@ pub returns-clause-left : goal.returns-clause-left
 returns-clause-left c =
     let first = c.args.self.first in
     let pick = c.args.self.pick in
-    IfOk-weaker c.picked.result (λ file. file ≡ picked first pick c.deref.result.now) (λ file. MayLeave first c.args.self.calls.items file)
+    IfOk-weaker c.file_left.result (λ file. file ≡ picked first pick c.deref.result.now) (λ file. MayLeave first c.args.self.calls.items file)
     (λ file is. picked_may first pick c.args.self.calls.items file (is ∙ ap (picked first pick) c.deref.ensures.value))
-    c.picked.ensures
+    c.file_left.ensures

@@ -13,6 +13,7 @@ use Rattle.office_core.proofs.BrokenLemmas.{read_in_range, drafts_fit, repeated_
 use Rattle.office_core.proofs.ReadyLemmas.{IsChecked, ready}
 use Rattle.office_core.proofs.office.Office.prepare.Goals as goal
 use Rattle.office_core.proofs.office.Office.prepare.Goals.{Else-is_repeated, After-minute_of-t}
+
 read : (c : Else-is_repeated) → to_z w64 (of_z w64 c.args.reading) ≡ c.args.reading
 read c = to_z-of_z w64 c.args.reading c.ranges.reading
 

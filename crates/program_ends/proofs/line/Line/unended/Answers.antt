@@ -8,4 +8,4 @@ returns-then-self c = λ line e. longer_unfit (kept_with c.self.inside.kept.item
 
 pub returns-else-self : goal.returns-else-self
 returns-else-self c = λ line e. let kept = all_kept (kept_with c.self.inside.kept.items c.self.inside.is_longer) line (c.self.view_is ∙ e) c.if-self.false in
-    c.fit.ensures ∙ ap fit (c.deref.ensures.value ∙ kept)
+    c.line_within_limit.ensures ∙ ap fit (c.deref.ensures.value ∙ kept)

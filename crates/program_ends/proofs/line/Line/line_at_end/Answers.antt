@@ -1,11 +1,11 @@
 use Rattle.std.proofs.Common.{◌∙◌, ap}
 use Rattle.program_ends.specs.Lines.{without_return, fit}
 use Rattle.program_ends.proofs.Keeping.{kept_with, longer_unfit_ended, all_kept}
-use Rattle.program_ends.proofs.line.Line.ended.Goals as goal
+use Rattle.program_ends.proofs.line.Line.line_at_end.Goals as goal
 
 pub returns-then-self : goal.returns-then-self
 returns-then-self c = λ line e. longer_unfit_ended (kept_with c.self.inside.kept.items c.self.inside.is_longer) line (c.self.view_is ∙ e) c.if-self.true
 
 pub returns-else-self : goal.returns-else-self
 returns-else-self c = λ line e. let kept = all_kept (kept_with c.self.inside.kept.items c.self.inside.is_longer) line (c.self.view_is ∙ e) c.if-self.false in
-    c.fit.ensures ∙ ap fit (c.without_return.ensures ∙ ap without_return (c.deref.ensures.value ∙ kept))
+    c.line_within_limit.ensures ∙ ap fit (c.without_return.ensures ∙ ap without_return (c.deref.ensures.value ∙ kept))

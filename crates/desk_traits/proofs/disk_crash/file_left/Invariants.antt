@@ -1,6 +1,6 @@
 use Rattle.std.proofs.Common.{◌≡◌, drop}
 use Rattle.desk_traits.specs.DiskMemory.{crash_by}
-use Rattle.desk_traits.proofs.disk_crash.picked.Given as goal
+use Rattle.desk_traits.proofs.disk_crash.file_left.Given as goal
 
 -- the calls that are left make of it what all make of the file at first
 abbrev pub invariant-loop-call : goal.invariant-loop-call
