@@ -1,4 +1,4 @@
-//! The words of a report's lines. Each is added to a text, or the text has some of it where memory lacks.
+//! The words of a report's lines. Each is added to a text, or, when memory runs out, its beginning.
 ghost use Rattle.std.specs.Prelude.{◌≡◌, ◌++◌, IfOk, OnOk, string_bytes};
 ghost use Rattle.hazard_types.specs.Calendar.{stamp_of};
 ghost use Rattle.archive_report.specs.Texts.{where_text, steps_text, breach_name, fault_text};

@@ -105,7 +105,7 @@ impl Notices {
     ///
     /// # Errors
     ///
-    /// The first rule that it breaks. Nothing changes then, nor where memory lacks.
+    /// The first rule that it breaks. Nothing changes then, nor when memory runs out.
     fn accept(&mut self, alloc: Global, command: &Command) -> Result<Text, Or<NoticeRefusal>>
         requires { command.now.number ≤ 9999 }
         ensures accepted { IfOk result (λ text. IsAccepted self.old command.now text) }

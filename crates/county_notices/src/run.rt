@@ -65,7 +65,7 @@ pub fn notice_run<S: Source, K: Sink>(
     notice_within(alloc, words, input, output, LIMIT)
 }
 
-/// Does what a command line says, of which the program's name comes first. Where memory lacks for the
+/// Does what a command line says, of which the program's name comes first. When memory runs out for the
 /// words the status is 12, and nothing is read or written.
 pub fn run_program<S: Source, K: Sink>(
     alloc: Global,

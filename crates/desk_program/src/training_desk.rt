@@ -107,7 +107,7 @@ impl TrainingDesk {
     ///
     /// # Errors
     ///
-    /// Want of memory.
+    /// Out of memory.
     pub fn new(alloc: Global, dry: &Dry) -> Result<Self, Oom>
         requires { IsTrue (is_office dry.now.office) }
         ensures { IfOk result (λ desk. desk ≡ record { state = first_training dry.now.office; at = dry.now.minute }) }

@@ -95,7 +95,7 @@ impl Office {
     ///
     /// # Errors
     ///
-    /// `ClockOut` at the board and a preview, `NoProduct`, `NoDraft`, the first rule that a preview's lines or text break, or want of memory.
+    /// `ClockOut` at the board and a preview, `NoProduct`, `NoDraft`, the first rule that a preview's lines or text break, or out of memory.
     pub fn look(&self, alloc: Global, q: &Query, reading: i64) -> Result<Text, Or<Refusal>>
         ensures shows { IfOk result (λ text. Shows self.now.state q.now reading text) }
         ensures refused { (x : Refused) → result ≡ Err (No x) → RefusesLook self.now.state q.now reading x }

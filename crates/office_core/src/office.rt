@@ -90,7 +90,7 @@ impl Office {
     ///
     /// # Errors
     ///
-    /// Want of memory.
+    /// Out of memory.
     pub fn new(
         alloc: Global,
         settings: Settings,

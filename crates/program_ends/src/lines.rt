@@ -115,7 +115,7 @@ fn answer_lines<S: Source, K: Sink, A: Answers>(
 }
 
 /// Reads an input of at most `limit` bytes to its end, answers each line, and tells the end of the run.
-/// Answers the program's status. All lines that ended in a piece are answered before the next read, and
+/// Returns the program's status. All lines that ended in a piece are answered before the next read, and
 /// no more than one line is kept. One byte more than the limit is read, and the line that it belongs to
 /// gets no answer.
 pub fn run_lines<S: Source, K: Sink, A: Answers>(

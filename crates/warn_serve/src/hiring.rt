@@ -36,7 +36,7 @@ fn share_of(left: u64, workers: u64) -> u64
     left.div_ceil(workers)
 }
 
-/// A worker for each door, with its share of the pass and of the links. Where memory lacks for one
+/// A worker for each door, with its share of the pass and of the links. Where memory runs out for one
 /// its door goes back to the port, and the later ones take its links. Returns how many links are left
 /// without a worker.
 pub(crate) fn hire<D: Disk, P: Port>(

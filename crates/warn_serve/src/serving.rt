@@ -28,7 +28,7 @@ pub enum ServeEnd {
     OutOfMemory,
 }
 
-/// An end, where for so many links memory lacked.
+/// An end, where memory ran out for so many links.
 fn short_of(end: ServeEnd, lacks: u64) -> ServeEnd
     ensures { result ≡ short_of end lacks }
 {
@@ -142,7 +142,7 @@ fn serve_port<R: Threads + Wait + Sync, D: Disk + Send, P: Port, C: Clock + Sync
 
 /// Serves so many links of the doors of a port, 1 to 1,000,000, over one kept office, by 1 to 16
 /// workers, and returns how that ended. The office comes back, after all that happened to it. Where
-/// memory lacks for a worker the others serve fewer links, or all of them.
+/// memory runs out for a worker the others serve fewer links, or all of them.
 pub fn serve<R: Threads + Wait + Sync, D: Disk + Send, P: Port, C: Clock + Sync, G: Gate + Sync>(
     rt: &R,
     alloc: Global,

@@ -12,7 +12,7 @@ fn line_of(mut text: Text) -> Result<Text, Oom> {
     Ok(text)
 }
 
-/// The line of a refusal. Want of memory ends the script.
+/// The line of a refusal. Out of memory ends the script.
 fn refused(alloc: Global, stop: Or<Refusal>) -> Result<Text, Oom> {
     match stop {
         Or::No(refusal) => line_of(refusal_text(alloc, &refusal)?),

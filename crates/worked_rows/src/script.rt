@@ -54,7 +54,7 @@ fn may_be_sent(day: &Day, draft: &Draft, t: Minute) -> bool
     day.last().get() <= t.get() && t.get() <= LAST_MINUTE && may_be_planned(draft)
 }
 
-/// What becomes of a product that is not sent: the first rule that is broken, or want of memory.
+/// What becomes of a product that is not sent: the first rule that is broken, or out of memory.
 fn refused(alloc: Global, stop: Or<Refusal>) -> Result<String, Oom> {
     match stop {
         Or::No(refusal) => Ok(refusal_text(alloc, &refusal)?),
@@ -141,7 +141,7 @@ fn brief_draft(
     Ok(Some(draft))
 }
 
-/// Opens so many events of a hazard, and answers how many were opened.
+/// Opens so many events of a hazard, and returns how many were opened.
 fn fill(
     alloc: Global,
     day: &mut Day,
