@@ -3,3 +3,4 @@ pub mod Faults
 pub mod Written
 pub mod Codes
 pub mod Reading
+pub mod Rising

@@ -1,11 +1,11 @@
 //! UGC texts are read.
-ghost use Rattle.std.specs.Prelude.{◌≡◌, ◌⊎◌, ◌+◌, ◌*◌, ◌-◌, ◌≤◌, ◌<◌, ◌++◌, [], Some, None, Ok, IfOk, IfSome, OnOk, length, IsTrue, List as Seq, ℕ};
+ghost use Rattle.std.specs.Prelude.{◌≡◌, ◌⊎◌, ◌+◌, ◌*◌, ◌-◌, ◌≤◌, ◌<◌, ◌++◌, [], Some, None, Ok, IfOk, IfSome, length, IsTrue, List as Seq, ℕ};
 ghost use Rattle.std.specs.List.Sorted.{IsStrictlySortedBy};
 ghost use Rattle.hazard_types.specs.Calendar.{is_digit};
 ghost use Rattle.hazard_types.specs.Given.{Gives};
 ghost use Rattle.hazard_types.specs.Places.{Place, by_place};
 ghost use Rattle.hazard_types.specs.declared.calendar.DayStamp.{DayStamp as Expiry};
-ghost use Rattle.ugc_codes.specs.Grammar.{add_run, is_gap, IsUgc};
+ghost use Rattle.ugc_codes.specs.Grammar.{is_gap, IsUgc};
 ghost use Rattle.hazard_types.specs.Digits.{is_day_stamp, day_text};
 ghost use Rattle.ugc_codes.specs.Faults.{FirstFault};
 ghost use Rattle.ugc_codes.specs.Codes.{EndsInRange, three_of, full_code, short_code, code_of, run_to, run_of, single_of, day_of, group_of};
@@ -13,9 +13,9 @@ ghost use Rattle.hazard_types.specs.Names.{kind_at};
 ghost use Rattle.hazard_types.specs.Digits.{day_stamp_in};
 ghost use Rattle.ugc_codes.specs.Reading.{ugc_of, fault_at, Closes};
 
-use hazard_types::{DayStamp, Kind, List, Oom, Or, Zone, day_stamp_in};
+use crate::zone_set::ZoneSet;
+use hazard_types::{DayStamp, Kind, List, Or, Zone, day_stamp_in};
 use std::alloc::Global;
-use std::collections::BTreeSet;
 use thiserror::Error;
 
 /// What a UGC text says, and how many bytes it has.
@@ -168,29 +168,6 @@ fn group_of(before: &Option<Zone>, text: &[u8]) -> Result<Group, Refused>
     }
 }
 
-/// Adds the zones from one to a last number.
-fn add_run(zones: &mut BTreeSet<Zone>, first: Zone, last: u16) -> Result<(), Oom>
-    requires { last ≤ 999 }
-    ensures { OnOk result (zones.new.keys ≡ add_run zones.old.keys first (last + 1 - first.number)) }
-{
-    for number in first.number()..last + 1 {
-        zones.insert(first.with_number(number))?;
-    }
-    Ok(())
-}
-
-/// The zones in order.
-fn list_of(alloc: Global, zones: BTreeSet<Zone>) -> Result<List<Zone>, Oom>
-    ensures value { IfOk result (λ list. list ≡ zones.keys) }
-    ensures sorted { IfOk result (λ list. IsStrictlySortedBy by_place list) }
-{
-    let mut list = List::new(alloc);
-    for zone in zones {
-        list.push(zone)?;
-    }
-    Ok(list)
-}
-
 fn is_gap(c: u8) -> bool
     ensures { result ≡ is_gap c }
 {
@@ -200,7 +177,7 @@ fn is_gap(c: u8) -> bool
 /// The zones named so far, and the last code.
 #[derive(Drop)]
 struct Named {
-    zones: BTreeSet<Zone>,
+    zones: ZoneSet,
     before: Option<Zone>,
 }
 
@@ -215,7 +192,7 @@ fn fault_at(at: usize, refused: Refused) -> UgcFault
 
 /// A group ends: its zones are added, or it is the expiry.
 fn close(named: &mut Named, text: &[u8], start: usize) -> Result<Option<DayStamp>, Or<UgcFault>>
-    ensures { Closes result start named.old.before named.old.zones.keys named.new.before named.new.zones.keys (group_of named.old.before text.now) }
+    ensures { Closes result start named.old.before named.old.zones named.new.before named.new.zones (group_of named.old.before text.now) }
 {
     let group = match group_of(&named.before, text) {
         Ok(group) => group,
@@ -223,7 +200,7 @@ fn close(named: &mut Named, text: &[u8], start: usize) -> Result<Option<DayStamp
     };
     match group {
         Group::Zones(first, last) => {
-            add_run(&mut named.zones, first, last)?;
+            named.zones.add_run(first, last)?;
             named.before = Some(first);
             Ok(None)
         }
@@ -237,7 +214,7 @@ fn read(alloc: Global, bytes: &[u8]) -> Result<UgcRead, Or<UgcFault>>
     ensures used { IfOk result (λ u. u.used ≤ length bytes.now) }
 {
     let mut named = Named {
-        zones: BTreeSet::new(alloc),
+        zones: ZoneSet::new(alloc),
         before: None,
     };
     let mut start = 0;
@@ -246,7 +223,7 @@ fn read(alloc: Global, bytes: &[u8]) -> Result<UgcRead, Or<UgcFault>>
             match close(&mut named, &bytes[start..at], start)? {
                 None => start = at + 1,
                 Some(expiry) => {
-                    let zones = list_of(alloc, named.zones)?;
+                    let zones = named.zones.into_list(alloc)?;
                     return Ok(UgcRead {
                         zones,
                         expiry,
