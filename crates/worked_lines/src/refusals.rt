@@ -89,27 +89,24 @@ fn of_names(alloc: Global, named: &Named, field: Text) -> Result<Vec<Refusal>, O
 /// What refuses a product for its events.
 fn of_events(alloc: Global, named: &Named) -> Result<Vec<Refusal>, Oom> {
     let zone = named.zone;
-    let event = named.event(1);
+    let none = named.event(1);
+    let not_live = named.event(12);
+    let left = named.event(123);
+    let twice = named.event(0);
+    let begun = named.event(9999);
+    let site = named.event(1);
+    let held = named.event(1);
     let refusals = vec![in alloc;
-        Refusal::NoEvent { event },
+        Refusal::NoEvent { event: none },
         Refusal::NotLive {
-            event: named.event(12),
+            event: not_live,
             zone
         },
-        Refusal::LeftBefore {
-            event: named.event(123),
-            zone
-        },
-        Refusal::Twice {
-            event: named.event(0),
-            zone
-        },
-        Refusal::BegunMoved {
-            event: named.event(9999),
-            zone
-        },
-        Refusal::SiteMoved { event },
-        Refusal::NumberHeld { event },
+        Refusal::LeftBefore { event: left, zone },
+        Refusal::Twice { event: twice, zone },
+        Refusal::BegunMoved { event: begun, zone },
+        Refusal::SiteMoved { event: site },
+        Refusal::NumberHeld { event: held },
     ]?;
     Ok(refusals)
 }
