@@ -3,6 +3,7 @@ pub mod KnownLemmas
 pub mod TakingLemmas
 pub mod LawLemmas
 pub mod StepLemmas
+pub mod Nested
 pub mod KeyLemmas
 pub mod Parting
 pub mod Holding

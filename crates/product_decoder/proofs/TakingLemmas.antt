@@ -13,11 +13,10 @@ use Rattle.event_life.specs.Lives.{judged_product, steps_of, track_from}
 use Rattle.event_life.specs.Openings.{opened_by, opened_from, gaps_from}
 use Rattle.event_life.specs.Products.{Product, lawful_of, put_all, rows_after, rows_with, rows_of}
 use Rattle.product_decoder.specs.declared.taken.Taken.{Taken}
-use Rattle.product_decoder.specs.declared.tracks.Living.{Living}
 use Rattle.product_decoder.specs.declared.types.Decoded.{Decoded}
 use Rattle.product_decoder.specs.declared.types.Found.{Found}
 use Rattle.product_decoder.specs.declared.types.Track.{Track}
-use Rattle.product_decoder.specs.Lives.{living_in}
+use Rattle.product_decoder.specs.Lives.{Living, living_in}
 use Rattle.product_decoder.specs.ReaderModel.{product_of, found_in, found_from, found_of, life_in, lives_of, gap_found, gaps_found}
 use Rattle.product_decoder.specs.Takings.{product_taken, products_taken, AreJudged, rows_with_taken, rows_taken, AreLeft, IsRead, steps_in, track_in, breaches_in, opened_in}
 

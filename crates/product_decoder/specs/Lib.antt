@@ -2,6 +2,7 @@ pub mod Decoded
 pub mod Lives
 pub mod ReaderModel
 pub mod Steps
+pub mod ZoneSteps
 pub mod Takings
 pub mod Feeding
 pub mod Holding

@@ -15,9 +15,9 @@ use Rattle.event_life.specs.Openings.{opened_by}
 use Rattle.event_life.specs.Products.{Product, event_of, end_of, lawful_of, put_all, rows_with, rows_of}
 use Rattle.product_decoder.specs.declared.taken.Known.{Known}
 use Rattle.product_decoder.specs.declared.taken.Taken.{Taken}
-use Rattle.product_decoder.specs.declared.tracks.Living.{Living}
 use Rattle.product_decoder.specs.declared.types.Found.{Found}
 use Rattle.product_decoder.specs.declared.types.Track.{Track}
+use Rattle.product_decoder.specs.Lives.{Living}
 use Rattle.product_decoder.specs.ReaderModel.{found_in}
 
 -- an event that is known is that of its line

@@ -10,6 +10,7 @@ mod reader;
 mod taken;
 mod tracks;
 mod types;
+mod zone_steps;
 
 pub use feed::{Feed, lines_tell_the_products, products_of};
 pub use product_frame::split_products;
