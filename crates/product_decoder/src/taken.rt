@@ -1,9 +1,10 @@
 //! What is taken of a product: its lines of an office and class, judged by the rows before it.
 ghost use Rattle.std.specs.Prelude.{◌≡◌, IfOk};
+ghost use Rattle.std.specs.Str.{bytes_eq};
 ghost use Rattle.event_life.specs.Lives.{judged_product};
 ghost use Rattle.event_life.specs.Products.{event_of, end_of, line_of, lines_of};
 ghost use Rattle.product_decoder.specs.ReaderModel.{is_by, line_said, said_by, product_of};
-ghost use Rattle.product_decoder.specs.Takings.{IsKnown, line_of_event, product_taken, rows_taken};
+ghost use Rattle.product_decoder.specs.Takings.{IsKnown, same_named, line_of_event, product_taken, rows_taken};
 
 use crate::types::{Decoded, ZonePair};
 use event_life::Breach;
@@ -18,11 +19,18 @@ pub struct Taken {
     pub judged: List<(Line, Option<Breach>)>,
 }
 
+/// Whether two offices are one. Byte by byte: `==` of arrays takes ten times as long.
+fn same_office(a: [u8; 4], b: [u8; 4]) -> bool
+    ensures { result ≡ bytes_eq a b }
+{
+    a[0] == b[0] && a[1] == b[1] && a[2] == b[2] && a[3] == b[3]
+}
+
 /// Whether a line is of an office and class.
 fn is_by(office: &[u8; 4], class: &Class, pair: &ZonePair) -> bool
     ensures { result ≡ is_by office.now class.now pair.now }
 {
-    pair.vtec.office == *office && pair.vtec.class == *class
+    same_office(pair.vtec.office, *office) && pair.vtec.class == *class
 }
 
 /// The event that a P-VTEC line is of.
@@ -32,14 +40,21 @@ pub struct Known {
     pub event: Event,
 }
 
-/// The event that a P-VTEC line is of. `known` is that of one before it in the product, which mostly says the same.
+/// Whether two P-VTEC lines of a product name one event.
+fn same_named(a: &Vtec, b: &Vtec) -> bool
+    ensures { result ≡ same_named a.now b.now }
+{
+    a.etn == b.etn && a.action == b.action && a.hazard == b.hazard
+}
+
+/// The event that a P-VTEC line is of. `known` is that of one before it in the product, which mostly names the same.
 fn event_of(rows: &RowIndex, t: Minute, known: &Option<Known>, vtec: &Vtec) -> Event
     requires { IsKnown rows.now t known.now }
     ensures { result ≡ event_of rows.now t vtec.now }
 {
     match known {
         Some(before) => {
-            if before.vtec == *vtec {
+            if same_named(&before.vtec, vtec) {
                 before.event
             } else {
                 rows.event_of(t, vtec)
