@@ -14,7 +14,7 @@ use Rattle.event_life.specs.Products.{by_key, put, row_after, lawful_of, put_all
 use Rattle.event_life.proofs.Members.{IsIn, of_all}
 use Rattle.event_life.proofs.Puts.{put-sorted, put_all-sorted}
 use Rattle.row_index.proofs.Tests.{any_insert, any_put_plain, insert-sorted, or_false}
-use Rattle.product_decoder.specs.declared.taken.Taken.{Taken}
+use Rattle.product_decoder.specs.Runs.{Taken}
 use Rattle.product_decoder.specs.declared.types.Track.{Track}
 use Rattle.product_decoder.specs.Lives.{Living, by_living, by_life, add_living, living_in}
 use Rattle.product_decoder.specs.Steps.{Step, Steps, steps_at, living_of, with_line, with_product, steps_of_all, track_at, track_told, tracks_told}

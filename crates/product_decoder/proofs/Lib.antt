@@ -2,6 +2,7 @@ pub mod Said
 pub mod KnownLemmas
 pub mod TakingLemmas
 pub mod LawLemmas
+pub mod RunLemmas
 pub mod StepLemmas
 pub mod Nested
 pub mod KeyLemmas

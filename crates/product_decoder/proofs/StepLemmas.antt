@@ -17,7 +17,7 @@ use Rattle.hazard_types.proofs.OrderLaws.{by_event_total, by_event_ties, by_plac
 use Rattle.event_life.specs.declared.life.Breach.{Breach}
 use Rattle.event_life.specs.Lives.{steps_of}
 use Rattle.event_life.specs.Products.{is_routine, speaks_of, lawful_of}
-use Rattle.product_decoder.specs.declared.taken.Taken.{Taken}
+use Rattle.product_decoder.specs.Runs.{Taken}
 use Rattle.product_decoder.specs.declared.types.Track.{Track}
 use Rattle.product_decoder.specs.Lives.{Living, by_living}
 use Rattle.product_decoder.specs.Steps.{Step, Steps, steps_at, living_of, with_line, with_product, steps_of_all, track_at}

@@ -1,6 +1,7 @@
 pub mod Decoded
 pub mod Lives
 pub mod ReaderModel
+pub mod Runs
 pub mod Steps
 pub mod ZoneSteps
 pub mod Takings

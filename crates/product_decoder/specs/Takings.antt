@@ -17,7 +17,7 @@ use Rattle.event_life.specs.Lives.{judged_product, steps_of}
 use Rattle.event_life.specs.Openings.{opened_by}
 use Rattle.event_life.specs.Products.{Product, event_of, end_of, lawful_of, put_all, rows_with, rows_of}
 use Rattle.product_decoder.specs.declared.taken.Known.{Known}
-use Rattle.product_decoder.specs.declared.taken.Taken.{Taken}
+use Rattle.product_decoder.specs.Runs.{Taken}
 use Rattle.product_decoder.specs.declared.types.Found.{Found}
 use Rattle.product_decoder.specs.declared.types.Track.{Track}
 use Rattle.product_decoder.specs.Lives.{Living}

@@ -38,7 +38,8 @@ pub fn breaches_in(alloc: Global, taken: &[Taken]) -> Result<List<Found>, Oom>
 {
     let mut out = List::new(alloc);
     for (place, product) in taken.iter().enumerate() {
-        put_found(&mut out, place as u32 + 1, product.judged.as_slice())?;
+        let judged = product.judged(alloc)?;
+        put_found(&mut out, place as u32 + 1, judged.as_slice())?;
     }
     Ok(out)
 }
@@ -49,7 +50,8 @@ fn opened_in(alloc: Global, taken: &[Taken]) -> Result<List<Event>, Oom>
 {
     let mut events = List::new(alloc);
     for product in taken {
-        let opened = opened_by(alloc, product.judged.as_slice())?;
+        let judged = product.judged(alloc)?;
+        let opened = opened_by(alloc, judged.as_slice())?;
         events.extend(opened.as_slice())?;
     }
     Ok(events)

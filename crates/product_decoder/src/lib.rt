@@ -7,6 +7,7 @@ mod held;
 mod openings;
 mod read;
 mod reader;
+mod runs;
 mod taken;
 mod tracks;
 mod types;

@@ -11,7 +11,7 @@ ghost use Rattle.product_decoder.specs.Lives.{by_life};
 ghost use Rattle.product_decoder.specs.ReaderModel.{product_of, lives_of, found_of, gaps_found};
 
 use crate::findings::{breaches_in, gaps_in};
-use crate::taken::{Taken, rows_taken, taken_of};
+use crate::taken::{Taken, judged_lines, rows_taken};
 use crate::tracks::tracks_in;
 use crate::types::{Decoded, Found, GapFound, Track};
 use event_life::shown;
@@ -81,8 +81,9 @@ impl Reader {
         ensures err { OnErr result (self.new.products ≡ self.old.products) }
     {
         let rows = self.rows_before(alloc)?;
-        let taken = taken_of(alloc, &self.office, &self.class, &rows, d)?;
-        let after = rows.leave(alloc, d.issue, taken.judged.as_slice())?;
+        let judged = judged_lines(alloc, &self.office, &self.class, &rows, d)?;
+        let after = rows.leave(alloc, d.issue, judged.as_slice())?;
+        let taken = Taken::new(alloc, d.issue, judged.as_slice())?;
         self.taken.push(taken)?;
         self.rows = Some(after);
         Ok(())

@@ -4,19 +4,53 @@ ghost use Rattle.std.specs.Str.{bytes_eq};
 ghost use Rattle.event_life.specs.Lives.{judged_product};
 ghost use Rattle.event_life.specs.Products.{event_of, end_of, line_of, lines_of};
 ghost use Rattle.product_decoder.specs.ReaderModel.{is_by, line_said, said_by, product_of};
-ghost use Rattle.product_decoder.specs.Takings.{IsKnown, same_named, line_of_event, product_taken, rows_taken};
+ghost use Rattle.product_decoder.specs.Takings.{IsKnown, same_named, line_of_event, rows_taken};
 
+use crate::runs::{Run, gathered, spelled};
 use crate::types::{Decoded, ZonePair};
 use event_life::Breach;
 use hazard_types::{Class, End, Event, Line, List, Minute, Oom, Vtec};
 use row_index::RowIndex;
 use std::alloc::Global;
+use std::marker::Model;
 
 /// What was taken of a product: its issue minute, and what its lines of the office and class say of their events, each with its breach.
 #[derive(Drop)]
 pub struct Taken {
-    pub issue: Minute,
-    pub judged: List<(Line, Option<Breach>)>,
+    issue: Minute,
+    runs: List<Run>,
+}
+
+impl Model for Taken {
+    ghost use Rattle.product_decoder.specs.Runs.{Taken as TakenValue, spelled};
+
+    ghost Value = { TakenValue };
+
+    ghost view = { λ x. record { issue = x.issue; judged = spelled x.runs } };
+}
+
+impl Taken {
+    pub fn new(alloc: Global, issue: Minute, judged: &[(Line, Option<Breach>)]) -> Result<Self, Oom>
+        ensures issue { IfOk result (λ taken. taken.issue ≡ issue) }
+        ensures judged { IfOk result (λ taken. taken.judged ≡ judged.now) }
+    {
+        let runs = gathered(alloc, judged)?;
+        Ok(Taken { issue, runs })
+    }
+
+    /// The minute at which the product was issued.
+    pub fn issue(&self) -> Minute
+        ensures { result ≡ self.now.issue }
+    {
+        self.issue
+    }
+
+    /// The lines of the office and class, each with its breach, or None where it is lawful.
+    pub fn judged(&self, alloc: Global) -> Result<List<(Line, Option<Breach>)>, Oom>
+        ensures { IfOk result (λ judged. judged ≡ self.now.judged) }
+    {
+        spelled(alloc, self.runs.as_slice())
+    }
 }
 
 /// Whether two offices are one. Byte by byte: `==` of arrays takes ten times as long.
@@ -122,23 +156,18 @@ fn lines_by(
     Ok(lines)
 }
 
-/// What is taken of a product. `rows` are the rows just before it.
-pub fn taken_of(
+/// The lines of the office and class of a product, each with its breach. `rows` are the rows just before it.
+pub fn judged_lines(
     alloc: Global,
     office: &[u8; 4],
     class: &Class,
     rows: &RowIndex,
     d: &Decoded,
-) -> Result<Taken, Oom>
-    ensures product { IfOk result (λ taken. product_taken office.now class.now taken ≡ product_of office.now class.now d.now) }
-    ensures judged { IfOk result (λ taken. taken.judged ≡ judged_product rows.now (product_of office.now class.now d.now)) }
+) -> Result<List<(Line, Option<Breach>)>, Oom>
+    ensures { IfOk result (λ judged. judged ≡ judged_product rows.now (product_of office.now class.now d.now)) }
 {
     let lines = lines_by(alloc, office, class, rows, d.issue, d.pairs.as_slice())?;
-    let judged = rows.judge(alloc, d.issue, lines.as_slice())?;
-    Ok(Taken {
-        issue: d.issue,
-        judged,
-    })
+    rows.judge(alloc, d.issue, lines.as_slice())
 }
 
 /// The rows that products leave, each judged by the rows before it.
@@ -147,7 +176,8 @@ pub fn rows_taken(alloc: Global, taken: &[Taken]) -> Result<RowIndex, Oom>
 {
     let mut rows = RowIndex::new(alloc);
     for product in taken {
-        rows = rows.leave(alloc, product.issue, product.judged.as_slice())?;
+        let judged = product.judged(alloc)?;
+        rows = rows.leave(alloc, product.issue(), judged.as_slice())?;
     }
     Ok(rows)
 }

@@ -104,10 +104,11 @@ fn add_product(alloc: Global, steps: &mut Steps, product: &Taken) -> Result<(), 
     ensures put { OnOk result (flat steps.new.entries ≡ with_product (flat steps.old.entries) product.now) }
     ensures ascending { OnOk result (AreAscending steps.new.entries) }
 {
-    let issue = product.issue;
+    let issue = product.issue();
+    let judged = product.judged(alloc)?;
     let mut run = Vec::new(alloc);
     let mut event = None;
-    for found in product.judged.as_slice() {
+    for found in judged.as_slice() {
         if is_lawful(found) {
             put_before(alloc, steps, issue, &event, &mut run, &found.0)?;
             event = Some(found.0.event);

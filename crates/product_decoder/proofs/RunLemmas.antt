@@ -1,0 +1,54 @@
+-- Runs of zones spelled out.
+use Rattle.std.proofs.Common.{◌≡◌, ◌∙◌, ◌++◌, List, [], ◌∷◌, true, Option, Some, None, append_assoc, append-nil, refl, ap, sym, rules}
+use Rattle.std.specs.Option.{option_eq}
+use Rattle.std.proofs.lemmas.Bool.{and_parts}
+use Rattle.hazard_types.specs.Places.{Place}
+use Rattle.hazard_types.specs.declared.line.Line.{Line}
+use Rattle.hazard_types.proofs.Equality.{line_one}
+use Rattle.event_life.specs.contracts.life.Breach as breach_type
+use Rattle.event_life.specs.contracts.life.BreachPartialEq.TheImpl as breach
+use Rattle.event_life.specs.declared.life.Breach.{Breach}
+use Rattle.product_decoder.specs.declared.runs.Run.{Run}
+use Rattle.product_decoder.specs.Runs.{Judged, in_zone, along, spelled_run, spelled, spelled_last, is_alike}
+use denote.Enum.Bare.{same_true}
+
+breach_one : (a b : Breach) → breach.eq-value.it a b ≡ true → a ≡ b
+breach_one a b h = same_true breach_type.the_type (search rules) a b h
+
+breaches_one : (a b : Option Breach) → option_eq breach.eq-value.it a b ≡ true → a ≡ b
+breaches_one None None h = refl
+breaches_one (Some x) (Some y) h = ap Some (breach_one x y h)
+breaches_one _ _ h = cc
+
+alike_is : (r : Run) (l : Judged) → is_alike r l ≡ true → (in_zone r.first l.0.zone, r.breach) ≡ l
+alike_is r l h =
+    let p = and_parts (option_eq breach.eq-value.it r.breach l.1) _ h in
+    let breach_is = breaches_one r.breach l.1 p.0 in
+    let line_is = line_one (in_zone r.first l.0.zone) l.0 p.1 in
+    λ i. (line_is i, breach_is i)
+
+along_last : (l : Line) (o : Option Breach) (zones : List Place) (z : Place) → along l o (zones ++ z ∷ []) ≡ along l o zones ++ (in_zone l z, o) ∷ []
+along_last l o [] z = refl
+along_last l o (x ∷ zones) z = ap (λ (rest : List Judged). (in_zone l x, o) ∷ rest) (along_last l o zones z)
+
+-- a run of one zone more
+pub run_with : (r : Run) (more : List Place) (z : Place) → more ≡ r.more ++ z ∷ [] → (r.first, r.breach) ∷ along r.first r.breach more ≡ spelled_run r ++ (in_zone r.first z, r.breach) ∷ []
+run_with r more z is = ap (λ (rest : List Judged). (r.first, r.breach) ∷ rest) (ap (along r.first r.breach) is ∙ along_last r.first r.breach r.more z)
+
+pub spelled_more : (runs : List Run) (r : Run) → spelled (runs ++ r ∷ []) ≡ spelled runs ++ spelled_run r
+spelled_more [] r = append-nil (spelled_run r)
+spelled_more (x ∷ runs) r = ap (λ (rest : List Judged). spelled_run x ++ rest) (spelled_more runs r) ∙ sym (append_assoc (spelled_run x) (spelled runs) (spelled_run r))
+
+-- a line more in the last run
+pub gather_alike : (runs : List Run) (r next : Run) (last : Option Run) (l : Judged) → last ≡ Some r → is_alike r l ≡ true → spelled_run next ≡ spelled_run r ++ (in_zone r.first l.0.zone, r.breach) ∷ []
+    → spelled runs ++ spelled_run next ≡ (spelled runs ++ spelled_last last) ++ l ∷ []
+gather_alike runs r next last l is alike next_is =
+    ap (λ (rest : List Judged). spelled runs ++ rest) (next_is ∙ ap (λ (k : Judged). spelled_run r ++ k ∷ []) (alike_is r l alike))
+    ∙ sym (append_assoc (spelled runs) (spelled_run r) (l ∷ []))
+    ∙ ap (λ (o : Option Run). (spelled runs ++ spelled_last o) ++ l ∷ []) (sym is)
+
+-- or in one behind it
+pub gather_other : (runs more : List Run) (r next : Run) (last : Option Run) (l : Judged) → last ≡ Some r → more ≡ runs ++ r ∷ [] → spelled_run next ≡ l ∷ []
+    → spelled more ++ spelled_run next ≡ (spelled runs ++ spelled_last last) ++ l ∷ []
+gather_other runs more r next last l is more_is next_is =
+    (λ i. spelled (more_is i) ++ next_is i) ∙ ap (λ (rest : List Judged). rest ++ l ∷ []) (spelled_more runs r ∙ ap (λ (o : Option Run). spelled runs ++ spelled_last o) (sym is))

@@ -1,0 +1,142 @@
+//! Lines of a product that were judged, as runs of zones, which take less memory.
+ghost use Rattle.std.specs.Prelude.{◌≡◌, ◌++◌, ◌∷◌, [], IfOk, OnOk};
+ghost use Rattle.product_decoder.specs.Runs.{in_zone, along, spelled, spelled_run, spelled_last, is_alike};
+
+use event_life::Breach;
+use hazard_types::{Line, List, Oom, Zone};
+use std::alloc::Global;
+
+/// Lines one after another that differ in their zones alone: the first, its breach, which is that of each, and the zones of the others.
+#[derive(Drop)]
+pub struct Run {
+    pub first: Line,
+    pub breach: Option<Breach>,
+    pub more: List<Zone>,
+}
+
+/// The same line of another zone.
+fn in_zone(line: &Line, zone: &Zone) -> Line
+    ensures { result ≡ in_zone line.now zone.now }
+{
+    Line {
+        action: line.action,
+        event: line.event,
+        zone: *zone,
+        begin: line.begin,
+        end: line.end,
+        flood: line.flood,
+    }
+}
+
+impl Run {
+    /// The run of one line.
+    fn new(alloc: Global, found: &(Line, Option<Breach>)) -> Self
+        ensures { spelled_run result ≡ found.now ∷ [] }
+    {
+        Run {
+            first: found.0,
+            breach: found.1,
+            more: List::new(alloc),
+        }
+    }
+
+    /// With one line more, of this zone.
+    fn with(self, zone: Zone) -> Result<Self, Oom>
+        ensures { IfOk result (λ run. spelled_run run ≡ spelled_run self ++ (in_zone self.first zone, self.breach) ∷ []) }
+    {
+        let Run {
+            first,
+            breach,
+            mut more,
+        } = self;
+        more.push(zone)?;
+        Ok(Run {
+            first,
+            breach,
+            more,
+        })
+    }
+
+    /// Whether a line differs from those of the run in its zone alone.
+    fn is_alike(&self, found: &(Line, Option<Breach>)) -> bool
+        ensures { result ≡ is_alike self.now found.now }
+    {
+        self.breach == found.1 && in_zone(&self.first, &found.0.zone) == found.0
+    }
+
+    /// Adds the lines behind the first.
+    fn put_more(&self, out: &mut Vec<(Line, Option<Breach>)>) -> Result<(), Oom>
+        ensures { OnOk result (out.new.items ≡ out.old.items ++ along self.now.first self.now.breach self.now.more) }
+    {
+        for zone in self.more.as_slice() {
+            out.push((in_zone(&self.first, zone), self.breach))?;
+        }
+        Ok(())
+    }
+
+    /// Adds the lines of the run.
+    fn put_spelled(&self, out: &mut Vec<(Line, Option<Breach>)>) -> Result<(), Oom>
+        ensures { OnOk result (out.new.items ≡ out.old.items ++ spelled_run self.now) }
+    {
+        out.extend_from_slice(&[(self.first, self.breach)])?;
+        self.put_more(out)
+    }
+}
+
+/// The lines of runs, one after another.
+pub fn spelled(alloc: Global, runs: &[Run]) -> Result<List<(Line, Option<Breach>)>, Oom>
+    ensures { IfOk result (λ judged. judged ≡ spelled runs.now) }
+{
+    let mut out = Vec::new(alloc);
+    for run in runs {
+        run.put_spelled(&mut out)?;
+    }
+    Ok(List::from_vec(out))
+}
+
+/// Adds a line to the last run, or ends that run and begins another. Returns the run that is the last then.
+fn gather_line(
+    alloc: Global,
+    runs: &mut List<Run>,
+    last: Option<Run>,
+    found: &(Line, Option<Breach>),
+) -> Result<Option<Run>, Oom>
+    ensures { IfOk result (λ next. spelled runs.new ++ spelled_last next ≡ (spelled runs.old ++ spelled_last last) ++ found.now ∷ []) }
+{
+    match last {
+        Some(run) => {
+            if run.is_alike(found) {
+                return Ok(Some(run.with(found.0.zone)?));
+            }
+            runs.push(run)?;
+            Ok(Some(Run::new(alloc, found)))
+        }
+        None => Ok(Some(Run::new(alloc, found))),
+    }
+}
+
+/// Runs with the last of them, if there is one.
+fn ended(runs: List<Run>, last: Option<Run>) -> Result<List<Run>, Oom>
+    ensures { IfOk result (λ all. spelled all ≡ spelled runs ++ spelled_last last) }
+{
+    let mut runs = runs;
+    match last {
+        Some(run) => {
+            runs.push(run)?;
+            Ok(runs)
+        }
+        None => Ok(runs),
+    }
+}
+
+/// Lines that were judged, as runs.
+pub fn gathered(alloc: Global, judged: &[(Line, Option<Breach>)]) -> Result<List<Run>, Oom>
+    ensures { IfOk result (λ runs. spelled runs ≡ judged.now) }
+{
+    let mut runs = List::new(alloc);
+    let mut last = None;
+    for found in judged {
+        last = gather_line(alloc, &mut runs, last, found)?;
+    }
+    ended(runs, last)
+}
