@@ -1,6 +1,7 @@
 -- Runs of zones spelled out.
-use Rattle.std.proofs.Common.{◌≡◌, ◌∙◌, ◌++◌, List, [], ◌∷◌, true, Option, Some, None, append_assoc, append-nil, refl, ap, sym, rules}
-use Rattle.std.specs.Option.{option_eq}
+use Rattle.std.proofs.Common.{Bool, ◌≡◌, ◌∙◌, ◌++◌, List, [], ◌∷◌, true, Option, Some, None, append_assoc, append-nil, refl, ap, sym, rules, ℕ, ◌||◌, false}
+use Rattle.std.specs.List.{list_any}
+use Rattle.std.specs.Option.{is_some, option_eq}
 use Rattle.std.proofs.lemmas.Bool.{and_parts}
 use Rattle.hazard_types.specs.Places.{Place}
 use Rattle.hazard_types.specs.declared.line.Line.{Line}
@@ -9,7 +10,9 @@ use Rattle.event_life.specs.contracts.life.Breach as breach_type
 use Rattle.event_life.specs.contracts.life.BreachPartialEq.TheImpl as breach
 use Rattle.event_life.specs.declared.life.Breach.{Breach}
 use Rattle.product_decoder.specs.declared.runs.Run.{Run}
-use Rattle.product_decoder.specs.Runs.{Judged, in_zone, along, spelled_run, spelled, spelled_last, is_alike}
+use Rattle.product_decoder.specs.declared.types.Found.{Found}
+use Rattle.product_decoder.specs.ReaderModel.{found_at, found_in}
+use Rattle.product_decoder.specs.Runs.{Judged, in_breach, in_zone, along, spelled_run, spelled, spelled_last, is_alike}
 use denote.Enum.Bare.{same_true}
 
 breach_one : (a b : Breach) → breach.eq-value.it a b ≡ true → a ≡ b
@@ -52,3 +55,26 @@ pub gather_other : (runs more : List Run) (r next : Run) (last : Option Run) (l 
     → spelled more ++ spelled_run next ≡ (spelled runs ++ spelled_last last) ++ l ∷ []
 gather_other runs more r next last l is more_is next_is =
     (λ i. spelled (more_is i) ++ next_is i) ∙ ap (λ (rest : List Judged). rest ++ l ∷ []) (spelled_more runs r ∙ ap (λ (o : Option Run). spelled runs ++ spelled_last o) (sym is))
+
+-- breaches
+
+any_along : (l : Line) (o : Option Breach) (zones : List Place) (rest : List Judged) → (is_some o || list_any in_breach (along l o zones ++ rest)) ≡ (is_some o || list_any in_breach rest)
+any_along l (Some b) zones rest = refl
+any_along l None [] rest = refl
+any_along l None (z ∷ zones) rest = any_along l None zones rest
+
+pub any_spelled : (runs : List Run) → list_any (λ (r : Run). is_some r.breach) runs ≡ list_any in_breach (spelled runs)
+any_spelled [] = refl
+any_spelled (r ∷ runs) = ap (λ (b : Bool). is_some r.breach || b) (any_spelled runs) ∙ sym (any_along r.first r.breach r.more (spelled runs))
+
+none_by : (count : ℕ) (line : Line) (o : Option Breach) (b : Bool) (rest : List Found) → (is_some o || b) ≡ false → (b ≡ false → rest ≡ []) → found_at count line o ++ rest ≡ []
+none_by count line None b rest h later = later h
+none_by count line (Some x) b rest h later = cc
+
+no_found : (count : ℕ) (judged : List Judged) → list_any in_breach judged ≡ false → found_in count judged ≡ []
+no_found count [] h = refl
+no_found count (l ∷ judged) h = none_by count l.0 l.1 (list_any in_breach judged) (found_in count judged) h (no_found count judged)
+
+-- a product without any adds none
+pub none_found : (out : List Found) (count : ℕ) (judged : List Judged) → list_any in_breach judged ≡ false → out ≡ out ++ found_in count judged
+none_found out count judged h = sym (ap (λ (found : List Found). out ++ found) (no_found count judged h) ∙ append-nil out)

@@ -1,5 +1,5 @@
 -- Lines of a product that were judged, as runs of zones.
-use Rattle.std.specs.Prelude.{◌&&◌, ◌++◌, ℕ, Bool, List, [], ◌∷◌, Option, Some, None}
+use Rattle.std.specs.Prelude.{◌&&◌, ◌++◌, ℕ, Bool, List, [], ◌∷◌, Option, Some, None, is_some}
 use Rattle.std.specs.Option.{option_eq}
 use Rattle.hazard_types.specs.Places.{Place}
 use Rattle.hazard_types.specs.contracts.line.LinePartialEq.TheImpl as line
@@ -11,6 +11,9 @@ use Rattle.product_decoder.specs.declared.runs.Run.{Run}
 -- a line with its breach, or None where it is lawful
 abbrev pub Judged : Type 0
 Judged = Line × Option Breach
+
+abbrev pub in_breach : Judged → Bool
+in_breach l = is_some l.1
 
 -- What was taken of a product: its issue minute, and its lines of the office and class, judged.
 pub record Taken : Type 0 where

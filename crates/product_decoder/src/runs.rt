@@ -1,5 +1,6 @@
 //! Lines of a product that were judged, as runs of zones, which take less memory.
-ghost use Rattle.std.specs.Prelude.{◌≡◌, ◌++◌, ◌∷◌, [], IfOk, OnOk};
+ghost use Rattle.std.specs.Prelude.{◌≡◌, ◌++◌, ◌∷◌, [], is_some, IfOk, OnOk};
+ghost use Rattle.std.specs.List.{list_any};
 ghost use Rattle.product_decoder.specs.Runs.{in_zone, along, spelled, spelled_run, spelled_last, is_alike};
 
 use event_life::Breach;
@@ -92,6 +93,13 @@ pub fn spelled(alloc: Global, runs: &[Run]) -> Result<List<(Line, Option<Breach>
         run.put_spelled(&mut out)?;
     }
     Ok(List::from_vec(out))
+}
+
+/// Whether the lines of a run are in breach.
+pub fn any_breach(runs: &[Run]) -> bool
+    ensures { result ≡ list_any (λ r. is_some r.breach) runs.now }
+{
+    runs.iter().any(|run| run.breach.is_some())
 }
 
 /// Adds a line to the last run, or ends that run and begins another. Returns the run that is the last then.

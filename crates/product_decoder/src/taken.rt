@@ -1,12 +1,14 @@
 //! What is taken of a product: its lines of an office and class, judged by the rows before it.
 ghost use Rattle.std.specs.Prelude.{◌≡◌, IfOk};
+ghost use Rattle.std.specs.List.{list_any};
 ghost use Rattle.std.specs.Str.{bytes_eq};
 ghost use Rattle.event_life.specs.Lives.{judged_product};
 ghost use Rattle.event_life.specs.Products.{event_of, end_of, line_of, lines_of};
 ghost use Rattle.product_decoder.specs.ReaderModel.{is_by, line_said, said_by, product_of};
+ghost use Rattle.product_decoder.specs.Runs.{in_breach};
 ghost use Rattle.product_decoder.specs.Takings.{IsKnown, same_named, line_of_event, rows_taken};
 
-use crate::runs::{Run, gathered, spelled};
+use crate::runs::{Run, any_breach, gathered, spelled};
 use crate::types::{Decoded, ZonePair};
 use event_life::Breach;
 use hazard_types::{Class, End, Event, Line, List, Minute, Oom, Vtec};
@@ -43,6 +45,13 @@ impl Taken {
         ensures { result ≡ self.now.issue }
     {
         self.issue
+    }
+
+    /// Whether a line is in breach.
+    pub fn has_breach(&self) -> bool
+        ensures { result ≡ list_any in_breach self.now.judged }
+    {
+        any_breach(self.runs.as_slice())
     }
 
     /// The lines of the office and class, each with its breach, or None where it is lawful.
