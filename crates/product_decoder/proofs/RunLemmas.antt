@@ -43,18 +43,15 @@ spelled_more [] r = append-nil (spelled_run r)
 spelled_more (x ∷ runs) r = ap (λ (rest : List Judged). spelled_run x ++ rest) (spelled_more runs r) ∙ sym (append_assoc (spelled_run x) (spelled runs) (spelled_run r))
 
 -- a line more in the last run
-pub gather_alike : (runs : List Run) (r next : Run) (last : Option Run) (l : Judged) → last ≡ Some r → is_alike r l ≡ true → spelled_run next ≡ spelled_run r ++ (in_zone r.first l.0.zone, r.breach) ∷ []
-    → spelled runs ++ spelled_run next ≡ (spelled runs ++ spelled_last last) ++ l ∷ []
-gather_alike runs r next last l is alike next_is =
-    ap (λ (rest : List Judged). spelled runs ++ rest) (next_is ∙ ap (λ (k : Judged). spelled_run r ++ k ∷ []) (alike_is r l alike))
-    ∙ sym (append_assoc (spelled runs) (spelled_run r) (l ∷ []))
-    ∙ ap (λ (o : Option Run). (spelled runs ++ spelled_last o) ++ l ∷ []) (sym is)
+pub join_alike : (r : Run) (steps : List Judged) (last : Option Run) (l : Judged) → last ≡ Some r → is_alike r l ≡ true → steps ≡ spelled_run r ++ (in_zone r.first l.0.zone, r.breach) ∷ [] → steps ≡ spelled_last last ++ l ∷ []
+join_alike r steps last l is alike with_one =
+    with_one ∙ ap (λ (k : Judged). spelled_run r ++ k ∷ []) (alike_is r l alike) ∙ ap (λ (o : Option Run). spelled_last o ++ l ∷ []) (sym is)
 
 -- or in one behind it
-pub gather_other : (runs more : List Run) (r next : Run) (last : Option Run) (l : Judged) → last ≡ Some r → more ≡ runs ++ r ∷ [] → spelled_run next ≡ l ∷ []
-    → spelled more ++ spelled_run next ≡ (spelled runs ++ spelled_last last) ++ l ∷ []
-gather_other runs more r next last l is more_is next_is =
-    (λ i. spelled (more_is i) ++ next_is i) ∙ ap (λ (rest : List Judged). rest ++ l ∷ []) (spelled_more runs r ∙ ap (λ (o : Option Run). spelled runs ++ spelled_last o) (sym is))
+pub gather_other : (runs more : List Run) (r next : Run) (last : Option Run) (before : List Judged) (l : Judged) → spelled_run r ≡ before → more ≡ runs ++ r ∷ [] → last ≡ Some next → spelled_run next ≡ l ∷ []
+    → spelled more ++ spelled_last last ≡ (spelled runs ++ before) ++ l ∷ []
+gather_other runs more r next last before l before_is more_is last_is next_is =
+    (λ i. spelled (more_is i) ++ spelled_last (last_is i)) ∙ (λ i. spelled_more runs r i ++ next_is i) ∙ ap (λ (rest : List Judged). (spelled runs ++ rest) ++ l ∷ []) before_is
 
 -- breaches
 

@@ -1,11 +1,12 @@
 //! Lines of a product that were judged, as runs of zones, which take less memory.
-ghost use Rattle.std.specs.Prelude.{◌≡◌, ◌++◌, ◌∷◌, [], is_some, IfOk, OnOk};
+ghost use Rattle.std.specs.Prelude.{◌≡◌, ◌++◌, ◌∷◌, [], is_some, if◌then◌else◌, IfOk, OnOk};
 ghost use Rattle.std.specs.List.{list_any};
 ghost use Rattle.product_decoder.specs.Runs.{in_zone, along, spelled, spelled_run, spelled_last, is_alike};
 
 use event_life::Breach;
 use hazard_types::{Line, List, Oom, Zone};
 use std::alloc::Global;
+use std::mem;
 
 /// Lines one after another that differ in their zones alone: the first, its breach, which is that of each, and the zones of the others.
 #[derive(Drop)]
@@ -41,21 +42,12 @@ impl Run {
         }
     }
 
-    /// With one line more, of this zone.
-    fn with(self, zone: Zone) -> Result<Self, Oom>
-        ensures { IfOk result (λ run. spelled_run run ≡ spelled_run self ++ (in_zone self.first zone, self.breach) ∷ []) }
+    /// Adds a line of this zone.
+    fn put(&mut self, zone: Zone) -> Result<(), Oom>
+        ensures { OnOk result (spelled_run self.new ≡ spelled_run self.old ++ (in_zone self.old.first zone, self.old.breach) ∷ []) }
     {
-        let Run {
-            first,
-            breach,
-            mut more,
-        } = self;
-        more.push(zone)?;
-        Ok(Run {
-            first,
-            breach,
-            more,
-        })
+        self.more.push(zone)?;
+        Ok(())
     }
 
     /// Whether a line differs from those of the run in its zone alone.
@@ -102,24 +94,40 @@ pub fn any_breach(runs: &[Run]) -> bool
     runs.iter().any(|run| run.breach.is_some())
 }
 
-/// Adds a line to the last run, or ends that run and begins another. Returns the run that is the last then.
-fn gather_line(
-    alloc: Global,
-    runs: &mut List<Run>,
-    last: Option<Run>,
-    found: &(Line, Option<Breach>),
-) -> Result<Option<Run>, Oom>
-    ensures { IfOk result (λ next. spelled runs.new ++ spelled_last next ≡ (spelled runs.old ++ spelled_last last) ++ found.now ∷ []) }
+/// Adds a line to the last run, where it differs from those there in its zone alone. Returns whether it does.
+fn join(last: &mut Option<Run>, found: &(Line, Option<Breach>)) -> Result<bool, Oom>
+    ensures { IfOk result (λ joined. spelled_last last.new ≡ (if joined then spelled_last last.old ++ found.now ∷ [] else spelled_last last.old)) }
 {
     match last {
         Some(run) => {
             if run.is_alike(found) {
-                return Ok(Some(run.with(found.0.zone)?));
+                run.put(found.0.zone)?;
+                return Ok(true);
             }
-            runs.push(run)?;
-            Ok(Some(Run::new(alloc, found)))
+            Ok(false)
         }
-        None => Ok(Some(Run::new(alloc, found))),
+        None => Ok(false),
+    }
+}
+
+/// Adds a line to the last run, or ends that run and begins another.
+fn gather_line(
+    alloc: Global,
+    runs: &mut List<Run>,
+    last: &mut Option<Run>,
+    found: &(Line, Option<Breach>),
+) -> Result<(), Oom>
+    ensures { OnOk result (spelled runs.new ++ spelled_last last.new ≡ (spelled runs.old ++ spelled_last last.old) ++ found.now ∷ []) }
+{
+    if join(last, found)? {
+        return Ok(());
+    }
+    match mem::replace(last, Some(Run::new(alloc, found))) {
+        Some(run) => {
+            runs.push(run)?;
+            Ok(())
+        }
+        None => Ok(()),
     }
 }
 
@@ -144,7 +152,7 @@ pub fn gathered(alloc: Global, judged: &[(Line, Option<Breach>)]) -> Result<List
     let mut runs = List::new(alloc);
     let mut last = None;
     for found in judged {
-        last = gather_line(alloc, &mut runs, last, found)?;
+        gather_line(alloc, &mut runs, &mut last, found)?;
     }
     ended(runs, last)
 }
