@@ -1,26 +1,26 @@
 -- The steps of lawful lines stand at the events and zones that have a row.
-use Rattle.std.proofs.Common.{◌≡◌, ◌∙◌, ◌||◌, ℕ, List, [], ◌∷◌, Bool, true, false, cond, Ordering, Less, Equal, Greater, Vec, Global, inl, inr, map, fold, refl, ap, sym, subst}
+use Rattle.std.proofs.Common.{◌≡◌, ◌∙◌, ◌||◌, ℕ, List, [], ◌∷◌, Bool, true, false, cond, Ordering, Less, Equal, Greater, inl, inr, map, fold, refl, ap, sym, subst}
 use Rattle.std.proofs.lemmas.Cmp.{tied_itself}
-use Rattle.std.specs.BTreeMap.{insert_entry, is_at}
+use Rattle.std.specs.BTreeMap.{is_at}
 use Rattle.std.specs.BTreeSet.{insert_key}
 use Rattle.std.specs.Cmp.{IsTotalOrder}
 use Rattle.std.specs.List.{AllByRecursion, list_any}
 use Rattle.std.specs.List.Sorted.{IsStrictlySortedBy}
-use Rattle.std.specs.Ordering.{match_ordering, ordering_reverse}
+use Rattle.std.specs.Map.{keys_of}
+use Rattle.std.specs.Ordering.{ordering_reverse}
 use Rattle.hazard_types.specs.declared.line.Line.{Line}
 use Rattle.hazard_types.specs.declared.line.Row.{Row}
 use Rattle.event_life.specs.Products.{by_key, put, row_after, lawful_of, put_all}
 use Rattle.event_life.proofs.Members.{IsIn, of_all}
 use Rattle.event_life.proofs.Puts.{put-sorted, put_all-sorted}
 use Rattle.row_index.proofs.Tests.{any_insert, any_put_plain, insert-sorted, or_false}
-use Rattle.product_decoder.specs.declared.taken.Taken.{Taken}
-use Rattle.product_decoder.specs.declared.tracks.Living.{Living}
+use Rattle.product_decoder.specs.Runs.{Taken}
 use Rattle.product_decoder.specs.declared.types.Track.{Track}
-use Rattle.product_decoder.specs.Lives.{by_living, by_life, add_living, living_in}
-use Rattle.product_decoder.specs.Steps.{Step, Steps, steps_at, living_of, with_line, with_product, steps_of_all, steps_view, track_at, track_told, track_of}
+use Rattle.product_decoder.specs.Lives.{Living, by_living, by_life, add_living, living_in}
+use Rattle.product_decoder.specs.Steps.{Step, Steps, steps_at, living_of, with_line, with_product, steps_of_all, track_at, track_told, tracks_told}
 use Rattle.product_decoder.specs.Takings.{rows_with_taken, rows_taken, track_in}
 use Rattle.product_decoder.proofs.LawLemmas.{tracks_sorted}
-use Rattle.product_decoder.proofs.StepLemmas.{by_living_total, by_living_ties, tracks_are}
+use Rattle.product_decoder.proofs.StepLemmas.{by_living_total, by_living_ties, keys_put, tracks_are}
 
 -- two lists in order are one where the same tests find a member
 
@@ -107,26 +107,13 @@ living_put row rows up =
 
 -- the events and zones of steps
 
-abbrev keys_of : Steps → List Living
-keys_of steps = map (λ (e : Living × List Step). e.0) steps
-
-keys_by : (o : Ordering) (k : Living) (e : Living × List Step) (es : Steps) (xs : List Step) (tail : List Living) → keys_of (insert_entry by_living es k xs) ≡ tail
-    → keys_of (match_ordering o ((k, xs) ∷ e ∷ es) ((e.0, xs) ∷ es) (e ∷ insert_entry by_living es k xs)) ≡ match_ordering o (k ∷ e.0 ∷ keys_of es) (e.0 ∷ keys_of es) (e.0 ∷ tail)
-keys_by Less k e es xs tail later = refl
-keys_by Equal k e es xs tail later = refl
-keys_by Greater k e es xs tail later = ap (λ (ks : List Living). e.0 ∷ ks) later
-
-keys_insert : (k : Living) (es : Steps) (xs : List Step) → keys_of (insert_entry by_living es k xs) ≡ insert_key by_living (keys_of es) k
-keys_insert k [] xs = refl
-keys_insert k (e ∷ es) xs = keys_by (by_living k e.0) k e es xs (insert_key by_living (keys_of es) k) (keys_insert k es xs)
-
 keys_lines : (rows : List Row) (t : ℕ) (steps : Steps) (lines : List Line) (after : List Row) → IsStrictlySortedBy by_key after → keys_of steps ≡ living_in after
     → keys_of (fold (with_line t) steps lines) ≡ living_in (put_all rows t lines after)
 keys_lines rows t steps [] after up h = h
 keys_lines rows t steps (line ∷ lines) after up h =
     let row = row_after rows t line in
     keys_lines rows t (with_line t steps line) lines (put row after) (put-sorted row after up)
-    (keys_insert (living_of line) steps _ ∙ ap (λ (ks : List Living). insert_key by_living ks (living_of line)) h ∙ sym (living_put row after up))
+    (keys_put by_living (living_of line) steps _ ∙ ap (λ (ks : List Living). insert_key by_living ks (living_of line)) h ∙ sym (living_put row after up))
 
 keys_products : (steps : Steps) (rows : List Row) (taken : List Taken) → IsStrictlySortedBy by_key rows → keys_of steps ≡ living_in rows
     → keys_of (fold with_product steps taken) ≡ living_in (fold rows_with_taken rows taken)
@@ -155,11 +142,6 @@ looked_own (x ∷ es) e up (inr h) =
     let apart : by_living e.0 x.0 ≡ Greater = by_living_total.antisymm e.0 x.0 ∙ ap ordering_reverse less in
     rw apart (looked_own es e up.1 h)
 
--- a map of the code tells what its lists do
-pub tracks_viewed : (es : List (Living × Vec Step Global)) → map track_of es ≡ map track_told (steps_view es)
-tracks_viewed [] = refl
-tracks_viewed (e ∷ es) = ap (λ (tracks : List Track). track_of e ∷ tracks) (tracks_viewed es)
-
 told_each : (all es : Steps) → ((e : Living × List Step) → IsIn e es → steps_at all e.0 ≡ e.1) → map track_told es ≡ map (track_at all) (keys_of es)
 told_each all [] each = refl
 told_each all (e ∷ es) each =
@@ -174,9 +156,9 @@ told_by_keys taken =
     told_each steps steps (λ e h. looked_own steps e up h) ∙ ap (λ (ks : List Living). map (track_at steps) ks) (keys_are taken)
 
 -- the tracks that the steps tell are those of the rows
-pub tracks_told : (taken : List Taken) → map track_told (steps_of_all taken) ≡ map (track_in taken) (living_in (rows_taken taken))
-tracks_told taken = told_by_keys taken ∙ tracks_are taken (living_in (rows_taken taken))
+pub told_tracks : (taken : List Taken) → tracks_told (steps_of_all taken) ≡ map (track_in taken) (living_in (rows_taken taken))
+told_tracks taken = told_by_keys taken ∙ tracks_are taken (living_in (rows_taken taken))
 
-pub told_sorted : (taken : List Taken) → IsStrictlySortedBy by_life (map track_told (steps_of_all taken))
+pub told_sorted : (taken : List Taken) → IsStrictlySortedBy by_life (tracks_told (steps_of_all taken))
 told_sorted taken =
     subst (λ (tracks : List Track). IsStrictlySortedBy by_life tracks) (sym (told_by_keys taken)) (tracks_sorted (steps_of_all taken) (living_in (rows_taken taken)) (living_up (rows_taken taken)))

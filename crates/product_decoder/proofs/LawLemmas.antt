@@ -13,10 +13,9 @@ use Rattle.event_life.specs.Lives.{judged_product, AreLawful, IsLawfulFrom, IsLa
 use Rattle.event_life.specs.Openings.{IsGapless, opened_of, gaps_of}
 use Rattle.event_life.specs.Products.{Product, is_routine, speaks_of, breach_in, judged_from, lines_of, rows_with}
 use Rattle.event_life.proofs.GapsLemmas.{gapless_exactly}
-use Rattle.product_decoder.specs.declared.tracks.Living.{Living}
 use Rattle.product_decoder.specs.declared.types.Found.{Found}
 use Rattle.product_decoder.specs.declared.types.Track.{Track}
-use Rattle.product_decoder.specs.Lives.{by_living, by_life}
+use Rattle.product_decoder.specs.Lives.{Living, by_living, by_life}
 use Rattle.product_decoder.specs.ReaderModel.{found_at, found_in, found_from, found_of, gap_found, gaps_found}
 use Rattle.product_decoder.specs.Steps.{Steps, track_at}
 

@@ -2,7 +2,9 @@ pub mod Said
 pub mod KnownLemmas
 pub mod TakingLemmas
 pub mod LawLemmas
+pub mod RunLemmas
 pub mod StepLemmas
+pub mod Nested
 pub mod KeyLemmas
 pub mod Parting
 pub mod Holding

@@ -6,7 +6,7 @@ use Rattle.hazard_types.specs.declared.line.Line.{Line}
 use Rattle.hazard_types.specs.declared.line.Row.{Row}
 use Rattle.event_life.specs.declared.life.Breach.{Breach}
 use Rattle.event_life.specs.Products.{Product, lawful_of, rows_with, rows_of}
-use Rattle.product_decoder.specs.declared.taken.Taken.{Taken}
+use Rattle.product_decoder.specs.Runs.{Taken}
 use Rattle.product_decoder.specs.declared.types.Opening.{Opening}
 use Rattle.product_decoder.specs.Openings.{openings_in, lawful_lines, openings_with, lawful_from, last_lawful, last_from, last_openings, lawful_taken, openings_taken}
 use Rattle.product_decoder.specs.Takings.{product_taken, products_taken, AreJudged, IsRead}

@@ -18,7 +18,7 @@ use Rattle.event_life.specs.declared.life.Breach.{Breach}
 use Rattle.event_life.specs.Lives.{judged_product}
 use Rattle.event_life.specs.Periods.{keeps_open}
 use Rattle.event_life.specs.Products.{later_event, going_in, event_of_issue, is_new, event_of, end_of, line_of, lines_of, judged_from}
-use Rattle.product_decoder.specs.declared.taken.Taken.{Taken}
+use Rattle.product_decoder.specs.Runs.{Taken}
 use Rattle.product_decoder.specs.declared.types.Decoded.{Decoded}
 use Rattle.product_decoder.specs.declared.types.ZonePair.{ZonePair}
 use Rattle.product_decoder.specs.ReaderModel.{is_by, line_said, said_by, product_of}

@@ -3,11 +3,13 @@ use Rattle.std.proofs.Common.{◌≡◌, ◌∙◌, ◌&&◌, ℕ, List, [], ◌
 use Rattle.std.proofs.lemmas.Bool.{and_parts, false_from_ne_true}
 use Rattle.std.proofs.lemmas.Cmp.{tied_itself, then_total, on_total}
 use Rattle.std.specs.BTreeMap.{insert_entry, is_at}
+use Rattle.std.specs.BTreeSet.{insert_key}
 use Rattle.std.specs.Cmp.{IsTotalOrder}
-use Rattle.std.specs.Map.{lookup}
+use Rattle.std.specs.Map.{keys_of, lookup}
 use Rattle.std.specs.Option.{is_none}
 use Rattle.std.specs.Ordering.{match_ordering, ordering_then, is_eq}
 use Rattle.hazard_types.specs.Orders.{by_event}
+use Rattle.hazard_types.specs.Places.{Place, by_place}
 use Rattle.hazard_types.specs.Same.{same_event}
 use Rattle.hazard_types.specs.declared.line.Line.{Line}
 use Rattle.hazard_types.proofs.Equality.{event_one, event_itself, zone_one, zone_itself}
@@ -15,52 +17,52 @@ use Rattle.hazard_types.proofs.OrderLaws.{by_event_total, by_event_ties, by_plac
 use Rattle.event_life.specs.declared.life.Breach.{Breach}
 use Rattle.event_life.specs.Lives.{steps_of}
 use Rattle.event_life.specs.Products.{is_routine, speaks_of, lawful_of}
-use Rattle.product_decoder.specs.declared.taken.Taken.{Taken}
-use Rattle.product_decoder.specs.declared.tracks.Living.{Living}
+use Rattle.product_decoder.specs.Runs.{Taken}
 use Rattle.product_decoder.specs.declared.types.Track.{Track}
-use Rattle.product_decoder.specs.Lives.{by_living}
-use Rattle.product_decoder.specs.Steps.{Step, Steps, steps_at, living_of, with_line, with_product, steps_of_all, track_at, steps_view}
+use Rattle.product_decoder.specs.Lives.{Living, by_living}
+use Rattle.product_decoder.specs.Steps.{Step, Steps, steps_at, living_of, with_line, with_product, steps_of_all, track_at}
 use Rattle.product_decoder.specs.Takings.{steps_in, track_in}
+use Rattle.product_decoder.specs.ZoneSteps.{Zones, lists_of, at_zone, with_zone}
 
 -- a map's lists
 
 abbrev Kept : Type 0
 Kept = Vec Step Global
 
-by_order : (o : Ordering) (e : Living × Kept) (es : List (Living × Kept)) (k : Living) (w : Kept) (tail : Steps) → steps_view (insert_entry by_living es k w) ≡ tail
-    → steps_view (match_ordering o ((k, w) ∷ e ∷ es) ((e.0, w) ∷ es) (e ∷ insert_entry by_living es k w))
-    ≡ match_ordering o ((k, w.items) ∷ (e.0, e.1.items) ∷ steps_view es) ((e.0, w.items) ∷ steps_view es) ((e.0, e.1.items) ∷ tail)
-by_order Less e es k w tail later = refl
-by_order Equal e es k w tail later = refl
-by_order Greater e es k w tail later = rw later refl
+by_order : (o : Ordering) (e : Place × Kept) (es : List (Place × Kept)) (z : Place) (w : Kept) (tail : Zones) → lists_of (insert_entry by_place es z w) ≡ tail
+    → lists_of (match_ordering o ((z, w) ∷ e ∷ es) ((e.0, w) ∷ es) (e ∷ insert_entry by_place es z w))
+    ≡ match_ordering o ((z, w.items) ∷ (e.0, e.1.items) ∷ lists_of es) ((e.0, w.items) ∷ lists_of es) ((e.0, e.1.items) ∷ tail)
+by_order Less e es z w tail later = refl
+by_order Equal e es z w tail later = refl
+by_order Greater e es z w tail later = rw later refl
 
-lists_insert : (es : List (Living × Kept)) (k : Living) (w : Kept) → steps_view (insert_entry by_living es k w) ≡ insert_entry by_living (steps_view es) k w.items
-lists_insert [] k w = refl
-lists_insert (e ∷ es) k w = by_order (by_living k e.0) e es k w _ (lists_insert es k w)
+lists_insert : (es : List (Place × Kept)) (z : Place) (w : Kept) → lists_of (insert_entry by_place es z w) ≡ insert_entry by_place (lists_of es) z w.items
+lists_insert [] z w = refl
+lists_insert (e ∷ es) z w = by_order (by_place z e.0) e es z w _ (lists_insert es z w)
 
 -- the steps of a list, which has none where there is no list
 abbrev pub kept_of : Option Kept → List Step
 kept_of None = []
 kept_of (Some w) = w.items
 
-at_first : (b : Bool) (e : Living × Kept) (o : Option Kept) (p : Option (List Step)) → kept_of o ≡ unwrap_or p [] → kept_of (cond b (Some e.1) o) ≡ unwrap_or (cond b (Some e.1.items) p) []
+at_first : (b : Bool) (e : Place × Kept) (o : Option Kept) (p : Option (List Step)) → kept_of o ≡ unwrap_or p [] → kept_of (cond b (Some e.1) o) ≡ unwrap_or (cond b (Some e.1.items) p) []
 at_first true e o p h = refl
 at_first false e o p h = h
 
-kept_at : (es : List (Living × Kept)) (k : Living) → kept_of (lookup (is_at (by_living k)) es) ≡ steps_at (steps_view es) k
-kept_at [] k = refl
-kept_at (e ∷ es) k = at_first (is_at (by_living k) e.0) e (lookup (is_at (by_living k)) es) (lookup (is_at (by_living k)) (steps_view es)) (kept_at es k)
+kept_at : (es : List (Place × Kept)) (z : Place) → kept_of (lookup (is_at (by_place z)) es) ≡ at_zone (lists_of es) z
+kept_at [] z = refl
+kept_at (e ∷ es) z = at_first (is_at (by_place z) e.0) e (lookup (is_at (by_place z)) es) (lookup (is_at (by_place z)) (lists_of es)) (kept_at es z)
 
 kept_or : (o : Option Kept) (d r : Kept) → r ≡ unwrap_or o d → d.items ≡ [] → r.items ≡ kept_of o
 kept_or None d r is empty = rw is empty
 kept_or (Some w) d r is empty = ap (λ (v : Kept). v.items) is
 
--- the list at a key, or a new one, with one step more
-pub step_put : (new es : List (Living × Kept)) (k : Living) (w d r : Kept) (s : Step) → new ≡ insert_entry by_living es k w → r ≡ unwrap_or (lookup (is_at (by_living k)) es) d → d.items ≡ [] → w.items ≡ r.items ++ s ∷ []
-    → steps_view new ≡ insert_entry by_living (steps_view es) k (steps_at (steps_view es) k ++ s ∷ [])
-step_put new es k w d r s is found empty has =
-    let items : w.items ≡ steps_at (steps_view es) k ++ s ∷ [] = has ∙ ap (λ (steps : List Step). steps ++ s ∷ []) (kept_or (lookup (is_at (by_living k)) es) d r found empty ∙ kept_at es k) in
-    ap steps_view is ∙ lists_insert es k w ∙ ap (λ (steps : List Step). insert_entry by_living (steps_view es) k steps) items
+-- the list at a zone, or a new one, with one step more
+pub step_put : (new es : List (Place × Kept)) (z : Place) (w d r : Kept) (s : Step) → new ≡ insert_entry by_place es z w → r ≡ unwrap_or (lookup (is_at (by_place z)) es) d → d.items ≡ [] → w.items ≡ r.items ++ s ∷ []
+    → lists_of new ≡ with_zone (lists_of es) z s
+step_put new es z w d r s is found empty has =
+    let items : w.items ≡ at_zone (lists_of es) z ++ s ∷ [] = has ∙ ap (λ (steps : List Step). steps ++ s ∷ []) (kept_or (lookup (is_at (by_place z)) es) d r found empty ∙ kept_at es z) in
+    ap lists_of is ∙ lists_insert es z w ∙ ap (λ (steps : List Step). insert_entry by_place (lists_of es) z steps) items
 
 -- what is put at a key is found at that key alone
 
@@ -108,6 +110,19 @@ module _ {K V : Type 0} (cmp : K → K → Ordering) (total : IsTotalOrder cmp) 
   pub at_other : (q k : K) (es : List (K × List V)) (w : List V) → is_at (cmp q) k ≡ false → at (insert_entry cmp es k w) q ≡ at es q
   at_other q k [] w f = rw f refl
   at_other q k (e ∷ es) w f = other_by (cmp k e.0) q k e es w refl f (at_other q k es w f)
+
+-- the keys, with one that is put
+
+module _ {K V : Type 0} (cmp : K → K → Ordering) where
+  keys_by : (o : Ordering) (k : K) (e : K × V) (es : List (K × V)) (v : V) (tail : List K) → keys_of (insert_entry cmp es k v) ≡ tail
+      → keys_of (match_ordering o ((k, v) ∷ e ∷ es) ((e.0, v) ∷ es) (e ∷ insert_entry cmp es k v)) ≡ match_ordering o (k ∷ e.0 ∷ keys_of es) (e.0 ∷ keys_of es) (e.0 ∷ tail)
+  keys_by Less k e es v tail later = refl
+  keys_by Equal k e es v tail later = refl
+  keys_by Greater k e es v tail later = ap (λ (ks : List K). e.0 ∷ ks) later
+
+  pub keys_put : (k : K) (es : List (K × V)) (v : V) → keys_of (insert_entry cmp es k v) ≡ insert_key cmp (keys_of es) k
+  keys_put k [] v = refl
+  keys_put k (e ∷ es) v = keys_by (cmp k e.0) k e es v (insert_key cmp (keys_of es) k) (keys_put k es v)
 
 -- events and zones
 

@@ -12,12 +12,11 @@ use Rattle.event_life.specs.declared.life.Breach.{Breach}
 use Rattle.event_life.specs.Lives.{judged_product, steps_of, track_from}
 use Rattle.event_life.specs.Openings.{opened_by, opened_from, gaps_from}
 use Rattle.event_life.specs.Products.{Product, lawful_of, put_all, rows_after, rows_with, rows_of}
-use Rattle.product_decoder.specs.declared.taken.Taken.{Taken}
-use Rattle.product_decoder.specs.declared.tracks.Living.{Living}
+use Rattle.product_decoder.specs.Runs.{Taken}
 use Rattle.product_decoder.specs.declared.types.Decoded.{Decoded}
 use Rattle.product_decoder.specs.declared.types.Found.{Found}
 use Rattle.product_decoder.specs.declared.types.Track.{Track}
-use Rattle.product_decoder.specs.Lives.{living_in}
+use Rattle.product_decoder.specs.Lives.{Living, living_in}
 use Rattle.product_decoder.specs.ReaderModel.{product_of, found_in, found_from, found_of, life_in, lives_of, gap_found, gaps_found}
 use Rattle.product_decoder.specs.Takings.{product_taken, products_taken, AreJudged, rows_with_taken, rows_taken, AreLeft, IsRead, steps_in, track_in, breaches_in, opened_in}
 
@@ -100,6 +99,12 @@ module _ (office : List ℕ) (class : Class) where
       ∙ ap (λ (issue : ℕ). put_all rows issue (lawful_of t.judged) rows) (sym (ap (λ (p : Product). p.issue) product))
       ∙ ap (λ (found : List (Line × Option Breach)). put_all rows t.issue (lawful_of found) rows) j in
       subst (λ (more : List Taken). IsRead office class (Some after) more) (sym more_is) (read_push held rows after taken t h rows_are few' j left)
+
+  -- the products with one more
+  pub products_push : (taken more : List Taken) (t : Taken) (p : Product) → more ≡ taken ++ t ∷ [] → product_taken office class t ≡ p → products_taken office class more ≡ products_taken office class taken ++ p ∷ []
+  products_push taken more t p more_is product =
+      ap (products_taken office class) more_is ∙ map-append (product_taken office class) taken (t ∷ [])
+      ∙ ap (λ (p : Product). products_taken office class taken ++ p ∷ []) product
 
   track_told : (taken : List Taken) → AreJudged office class [] taken → (l : Living) → track_in taken l ≡ life_in (products_taken office class taken) l
   track_told taken h l = ap (λ (steps : List (Action × ℕ)). record { event = l.event; zone = l.zone; steps = steps }) (steps_told [] taken l.event l.zone h)

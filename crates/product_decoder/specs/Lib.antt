@@ -1,7 +1,9 @@
 pub mod Decoded
 pub mod Lives
 pub mod ReaderModel
+pub mod Runs
 pub mod Steps
+pub mod ZoneSteps
 pub mod Takings
 pub mod Feeding
 pub mod Holding

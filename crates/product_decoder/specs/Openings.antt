@@ -5,7 +5,7 @@ use Rattle.hazard_types.specs.declared.line.Row.{Row}
 use Rattle.event_life.specs.Lives.{judged_product, opens}
 use Rattle.event_life.specs.Products.{Product, lawful_of, rows_with}
 use Rattle.event_life.specs.Table.{opened_period}
-use Rattle.product_decoder.specs.declared.taken.Taken.{Taken}
+use Rattle.product_decoder.specs.Runs.{Taken}
 use Rattle.product_decoder.specs.declared.types.Opening.{Opening}
 
 -- what a line opens in a product that was issued at this minute

@@ -14,10 +14,9 @@ use Rattle.event_life.specs.Products.{Product, rows_with, rows_of}
 use Rattle.product_decoder.specs.declared.types.Decoded.{Decoded}
 use Rattle.product_decoder.specs.declared.types.Found.{Found}
 use Rattle.product_decoder.specs.declared.types.GapFound.{GapFound}
-use Rattle.product_decoder.specs.declared.tracks.Living.{Living}
 use Rattle.product_decoder.specs.declared.types.Track.{Track}
 use Rattle.product_decoder.specs.declared.types.ZonePair.{ZonePair}
-use Rattle.product_decoder.specs.Lives.{living_in}
+use Rattle.product_decoder.specs.Lives.{Living, living_in}
 
 -- a reader's office and class, and the products that it took
 pub record Reading : Type 0 where

@@ -1,15 +1,13 @@
 -- Steps of events in zones, found by event and zone.
-use Rattle.std.specs.Prelude.{◌++◌, ℕ, List, [], ◌∷◌, fold, map, unwrap_or, Vec}
+use Rattle.std.specs.Prelude.{◌++◌, ℕ, List, [], ◌∷◌, fold, map, unwrap_or}
 use Rattle.std.specs.BTreeMap.{insert_entry, is_at}
 use Rattle.std.specs.Map.{lookup}
-use Rattle.std.specs.declared.alloc.Global.{Global}
 use Rattle.hazard_types.specs.declared.codes.Action.{Action}
 use Rattle.hazard_types.specs.declared.line.Line.{Line}
 use Rattle.event_life.specs.Products.{lawful_of}
-use Rattle.product_decoder.specs.declared.taken.Taken.{Taken}
-use Rattle.product_decoder.specs.declared.tracks.Living.{Living}
+use Rattle.product_decoder.specs.Runs.{Taken}
 use Rattle.product_decoder.specs.declared.types.Track.{Track}
-use Rattle.product_decoder.specs.Lives.{by_living}
+use Rattle.product_decoder.specs.Lives.{Living, by_living}
 
 abbrev pub Step : Type 0
 Step = Action × ℕ
@@ -22,12 +20,16 @@ Steps = List (Living × List Step)
 abbrev pub steps_at : Steps → Living → List Step
 steps_at steps l = unwrap_or (lookup (is_at (by_living l)) steps) []
 
+-- one step more
+abbrev pub with_step : Steps → Living → Step → Steps
+with_step steps l s = insert_entry by_living steps l (steps_at steps l ++ s ∷ [])
+
 abbrev pub living_of : Line → Living
 living_of line = record { event = line.event; zone = line.zone }
 
--- one step more, of the event and zone of a line
+-- that of the event and zone of a line
 abbrev pub with_line : ℕ → Steps → Line → Steps
-with_line issue steps line = insert_entry by_living steps (living_of line) (steps_at steps (living_of line) ++ (line.action, issue) ∷ [])
+with_line issue steps line = with_step steps (living_of line) (line.action, issue)
 
 -- those of the lawful lines of a product
 abbrev pub with_product : Steps → Taken → Steps
@@ -39,14 +41,10 @@ steps_of_all taken = fold with_product [] taken
 abbrev pub track_at : Steps → Living → Track
 track_at steps l = record { event = l.event; zone = l.zone; steps = steps_at steps l }
 
--- what the map of the code holds
-abbrev pub steps_view : List (Living × Vec Step Global) → Steps
-steps_view es = map (λ e. (e.0, e.1.items)) es
-
 -- the life that steps tell
 abbrev pub track_told : Living × List Step → Track
 track_told e = record { event = e.0.event; zone = e.0.zone; steps = e.1 }
 
--- the same of what the map of the code holds
-abbrev pub track_of : Living × Vec Step Global → Track
-track_of e = track_told (e.0, e.1.items)
+-- the lives that steps tell
+abbrev pub tracks_told : Steps → List Track
+tracks_told steps = map track_told steps

@@ -1,12 +1,15 @@
 -- What was taken, product by product, and what it comes to.
-use Rattle.std.specs.Prelude.{◌≡◌, ◌<◌, ◌+◌, ℕ, List, [], ◌∷◌, ◌++◌, length, map, fold, Option, Some, None}
+use Rattle.std.specs.Prelude.{◌≡◌, ◌==◌, ◌&&◌, ◌<◌, ◌+◌, ℕ, Bool, List, [], ◌∷◌, ◌++◌, length, map, fold, Option, Some, None}
 use Rattle.hazard_types.specs.Places.{Place}
+use Rattle.hazard_types.specs.Same.{same_hazard}
 use Rattle.hazard_types.specs.ZoneLines.{ZoneLine}
+use Rattle.hazard_types.specs.contracts.codes.ActionPartialEq.TheImpl as action
 use Rattle.hazard_types.specs.declared.codes.Action.{Action}
 use Rattle.hazard_types.specs.declared.codes.Class.{Class}
 use Rattle.hazard_types.specs.declared.hazard.Event.{Event}
 use Rattle.hazard_types.specs.declared.line.Line.{Line}
 use Rattle.hazard_types.specs.declared.line.Row.{Row}
+use Rattle.hazard_types.specs.declared.line.Vtec.{Vtec}
 use Rattle.hazard_types.specs.declared.period.End.{End}
 use Rattle.hazard_types.specs.declared.period.End.TheVariants.{At, Ufn}
 use Rattle.event_life.specs.declared.life.Breach.{Breach}
@@ -14,11 +17,15 @@ use Rattle.event_life.specs.Lives.{judged_product, steps_of}
 use Rattle.event_life.specs.Openings.{opened_by}
 use Rattle.event_life.specs.Products.{Product, event_of, end_of, lawful_of, put_all, rows_with, rows_of}
 use Rattle.product_decoder.specs.declared.taken.Known.{Known}
-use Rattle.product_decoder.specs.declared.taken.Taken.{Taken}
-use Rattle.product_decoder.specs.declared.tracks.Living.{Living}
+use Rattle.product_decoder.specs.Runs.{Taken}
 use Rattle.product_decoder.specs.declared.types.Found.{Found}
 use Rattle.product_decoder.specs.declared.types.Track.{Track}
+use Rattle.product_decoder.specs.Lives.{Living}
 use Rattle.product_decoder.specs.ReaderModel.{found_in}
+
+-- two P-VTEC lines of a product name one event
+abbrev pub same_named : Vtec → Vtec → Bool
+same_named a b = (a.etn == b.etn) && action.eq-value.it a.action b.action && same_hazard a.hazard b.hazard
 
 -- an event that is known is that of its line
 abbrev pub IsKnown : List Row → ℕ → Option Known → Type 0

@@ -31,6 +31,17 @@ fn put_found(
     Ok(())
 }
 
+/// Adds the lines of a product that are in breach. Most products have none.
+fn put_product(alloc: Global, out: &mut List<Found>, count: u32, product: &Taken) -> Result<(), Oom>
+    ensures { OnOk result (out.new ≡ out.old ++ found_in count product.now.judged) }
+{
+    if !product.has_breach() {
+        return Ok(());
+    }
+    let judged = product.judged(alloc)?;
+    put_found(out, count, judged.as_slice())
+}
+
 /// The lines of products that are in breach. Products count from 1.
 pub fn breaches_in(alloc: Global, taken: &[Taken]) -> Result<List<Found>, Oom>
     requires { length taken.now < 4294967296 }
@@ -38,7 +49,7 @@ pub fn breaches_in(alloc: Global, taken: &[Taken]) -> Result<List<Found>, Oom>
 {
     let mut out = List::new(alloc);
     for (place, product) in taken.iter().enumerate() {
-        put_found(&mut out, place as u32 + 1, product.judged.as_slice())?;
+        put_product(alloc, &mut out, place as u32 + 1, product)?;
     }
     Ok(out)
 }
@@ -49,7 +60,8 @@ fn opened_in(alloc: Global, taken: &[Taken]) -> Result<List<Event>, Oom>
 {
     let mut events = List::new(alloc);
     for product in taken {
-        let opened = opened_by(alloc, product.judged.as_slice())?;
+        let judged = product.judged(alloc)?;
+        let opened = opened_by(alloc, judged.as_slice())?;
         events.extend(opened.as_slice())?;
     }
     Ok(events)

@@ -7,9 +7,11 @@ mod held;
 mod openings;
 mod read;
 mod reader;
+mod runs;
 mod taken;
 mod tracks;
 mod types;
+mod zone_steps;
 
 pub use feed::{Feed, lines_tell_the_products, products_of};
 pub use product_frame::split_products;

@@ -75,7 +75,10 @@ fn last_openings(alloc: Global, taken: &[Taken]) -> Result<List<Opening>, Oom>
     ensures { IfOk result (λ openings. openings ≡ openings_taken [] taken.now) }
 {
     match taken.last() {
-        Some(product) => openings_in(alloc, product.issue, product.judged.as_slice()),
+        Some(product) => {
+            let judged = product.judged(alloc)?;
+            openings_in(alloc, product.issue(), judged.as_slice())
+        }
         None => Ok(List::new(alloc)),
     }
 }
@@ -85,7 +88,10 @@ fn last_lawful(alloc: Global, taken: &[Taken]) -> Result<List<Line>, Oom>
     ensures { IfOk result (λ lines. lines ≡ lawful_taken [] taken.now) }
 {
     match taken.last() {
-        Some(product) => lawful_in(alloc, product.judged.as_slice()),
+        Some(product) => {
+            let judged = product.judged(alloc)?;
+            lawful_in(alloc, judged.as_slice())
+        }
         None => Ok(List::new(alloc)),
     }
 }

@@ -11,10 +11,9 @@ ghost use Rattle.product_decoder.specs.Lives.{by_life};
 ghost use Rattle.product_decoder.specs.ReaderModel.{product_of, lives_of, found_of, gaps_found};
 
 use crate::findings::{breaches_in, gaps_in};
-use crate::taken::{Taken, rows_taken, taken_of};
+use crate::taken::{Taken, judged_lines, rows_taken};
 use crate::tracks::tracks_in;
 use crate::types::{Decoded, Found, GapFound, Track};
-use event_life::shown;
 use hazard_types::{Class, List, Minute, Oom, Row};
 use row_index::RowIndex;
 use std::alloc::Global;
@@ -81,29 +80,22 @@ impl Reader {
         ensures err { OnErr result (self.new.products ≡ self.old.products) }
     {
         let rows = self.rows_before(alloc)?;
-        let taken = taken_of(alloc, &self.office, &self.class, &rows, d)?;
-        let after = rows.leave(alloc, d.issue, taken.judged.as_slice())?;
+        let judged = judged_lines(alloc, &self.office, &self.class, &rows, d)?;
+        let after = rows.leave(alloc, d.issue, judged.as_slice())?;
+        let taken = Taken::new(alloc, d.issue, judged.as_slice())?;
         self.taken.push(taken)?;
         self.rows = Some(after);
         Ok(())
-    }
-
-    /// The rows after the products.
-    fn rows_after(&self, alloc: Global) -> Result<List<Row>, Oom>
-        ensures { IfOk result (λ rows. rows ≡ rows_of self.now.products) }
-    {
-        match &self.rows {
-            Some(rows) => rows.rows(alloc),
-            None => rows_taken(alloc, self.taken.as_slice())?.rows(alloc),
-        }
     }
 
     /// The rows that are shown at a minute, by zone, then event.
     pub fn shown(&self, alloc: Global, t: Minute) -> Result<List<Row>, Oom>
         ensures { IfOk result (λ rows. rows ≡ shown_at t (rows_of self.now.products)) }
     {
-        let rows = self.rows_after(alloc)?;
-        shown(alloc, rows.as_slice(), t)
+        match &self.rows {
+            Some(rows) => rows.shown(alloc, t),
+            None => rows_taken(alloc, self.taken.as_slice())?.shown(alloc, t),
+        }
     }
 
     /// One life for each row, by event, then zone: the action and issue minute of each lawful line, in the order of the products.

@@ -1,28 +1,79 @@
 //! What is taken of a product: its lines of an office and class, judged by the rows before it.
 ghost use Rattle.std.specs.Prelude.{◌≡◌, IfOk};
+ghost use Rattle.std.specs.List.{list_any};
+ghost use Rattle.std.specs.Str.{bytes_eq};
 ghost use Rattle.event_life.specs.Lives.{judged_product};
 ghost use Rattle.event_life.specs.Products.{event_of, end_of, line_of, lines_of};
 ghost use Rattle.product_decoder.specs.ReaderModel.{is_by, line_said, said_by, product_of};
-ghost use Rattle.product_decoder.specs.Takings.{IsKnown, line_of_event, product_taken, rows_taken};
+ghost use Rattle.product_decoder.specs.Runs.{in_breach};
+ghost use Rattle.product_decoder.specs.Takings.{IsKnown, same_named, line_of_event, rows_taken};
 
+use crate::runs::{Run, any_breach, gathered, spelled};
 use crate::types::{Decoded, ZonePair};
 use event_life::Breach;
 use hazard_types::{Class, End, Event, Line, List, Minute, Oom, Vtec};
 use row_index::RowIndex;
 use std::alloc::Global;
+use std::marker::Model;
 
 /// What was taken of a product: its issue minute, and what its lines of the office and class say of their events, each with its breach.
 #[derive(Drop)]
 pub struct Taken {
-    pub issue: Minute,
-    pub judged: List<(Line, Option<Breach>)>,
+    issue: Minute,
+    runs: List<Run>,
+}
+
+impl Model for Taken {
+    ghost use Rattle.product_decoder.specs.Runs.{Taken as TakenValue, spelled};
+
+    ghost Value = { TakenValue };
+
+    ghost view = { λ x. record { issue = x.issue; judged = spelled x.runs } };
+}
+
+impl Taken {
+    pub fn new(alloc: Global, issue: Minute, judged: &[(Line, Option<Breach>)]) -> Result<Self, Oom>
+        ensures issue { IfOk result (λ taken. taken.issue ≡ issue) }
+        ensures judged { IfOk result (λ taken. taken.judged ≡ judged.now) }
+    {
+        let runs = gathered(alloc, judged)?;
+        Ok(Taken { issue, runs })
+    }
+
+    /// The minute at which the product was issued.
+    pub fn issue(&self) -> Minute
+        ensures { result ≡ self.now.issue }
+    {
+        self.issue
+    }
+
+    /// Whether a line is in breach.
+    pub fn has_breach(&self) -> bool
+        ensures { result ≡ list_any in_breach self.now.judged }
+    {
+        any_breach(self.runs.as_slice())
+    }
+
+    /// The lines of the office and class, each with its breach, or None where it is lawful.
+    pub fn judged(&self, alloc: Global) -> Result<List<(Line, Option<Breach>)>, Oom>
+        ensures { IfOk result (λ judged. judged ≡ self.now.judged) }
+    {
+        spelled(alloc, self.runs.as_slice())
+    }
+}
+
+/// Whether two offices are one. Byte by byte: `==` of arrays takes ten times as long.
+fn same_office(a: [u8; 4], b: [u8; 4]) -> bool
+    ensures { result ≡ bytes_eq a b }
+{
+    a[0] == b[0] && a[1] == b[1] && a[2] == b[2] && a[3] == b[3]
 }
 
 /// Whether a line is of an office and class.
 fn is_by(office: &[u8; 4], class: &Class, pair: &ZonePair) -> bool
     ensures { result ≡ is_by office.now class.now pair.now }
 {
-    pair.vtec.office == *office && pair.vtec.class == *class
+    same_office(pair.vtec.office, *office) && pair.vtec.class == *class
 }
 
 /// The event that a P-VTEC line is of.
@@ -32,14 +83,21 @@ pub struct Known {
     pub event: Event,
 }
 
-/// The event that a P-VTEC line is of. `known` is that of one before it in the product, which mostly says the same.
+/// Whether two P-VTEC lines of a product name one event.
+fn same_named(a: &Vtec, b: &Vtec) -> bool
+    ensures { result ≡ same_named a.now b.now }
+{
+    a.etn == b.etn && a.action == b.action && a.hazard == b.hazard
+}
+
+/// The event that a P-VTEC line is of. `known` is that of one before it in the product, which mostly names the same.
 fn event_of(rows: &RowIndex, t: Minute, known: &Option<Known>, vtec: &Vtec) -> Event
     requires { IsKnown rows.now t known.now }
     ensures { result ≡ event_of rows.now t vtec.now }
 {
     match known {
         Some(before) => {
-            if before.vtec == *vtec {
+            if same_named(&before.vtec, vtec) {
                 before.event
             } else {
                 rows.event_of(t, vtec)
@@ -107,23 +165,18 @@ fn lines_by(
     Ok(lines)
 }
 
-/// What is taken of a product. `rows` are the rows just before it.
-pub fn taken_of(
+/// The lines of the office and class of a product, each with its breach. `rows` are the rows just before it.
+pub fn judged_lines(
     alloc: Global,
     office: &[u8; 4],
     class: &Class,
     rows: &RowIndex,
     d: &Decoded,
-) -> Result<Taken, Oom>
-    ensures product { IfOk result (λ taken. product_taken office.now class.now taken ≡ product_of office.now class.now d.now) }
-    ensures judged { IfOk result (λ taken. taken.judged ≡ judged_product rows.now (product_of office.now class.now d.now)) }
+) -> Result<List<(Line, Option<Breach>)>, Oom>
+    ensures { IfOk result (λ judged. judged ≡ judged_product rows.now (product_of office.now class.now d.now)) }
 {
     let lines = lines_by(alloc, office, class, rows, d.issue, d.pairs.as_slice())?;
-    let judged = rows.judge(alloc, d.issue, lines.as_slice())?;
-    Ok(Taken {
-        issue: d.issue,
-        judged,
-    })
+    rows.judge(alloc, d.issue, lines.as_slice())
 }
 
 /// The rows that products leave, each judged by the rows before it.
@@ -132,7 +185,8 @@ pub fn rows_taken(alloc: Global, taken: &[Taken]) -> Result<RowIndex, Oom>
 {
     let mut rows = RowIndex::new(alloc);
     for product in taken {
-        rows = rows.leave(alloc, product.issue, product.judged.as_slice())?;
+        let judged = product.judged(alloc)?;
+        rows = rows.leave(alloc, product.issue(), judged.as_slice())?;
     }
     Ok(rows)
 }

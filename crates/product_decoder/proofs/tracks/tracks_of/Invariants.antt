@@ -1,7 +1,8 @@
-use Rattle.std.proofs.Common.{◌≡◌, map}
-use Rattle.product_decoder.specs.Steps.{track_of}
+use Rattle.std.proofs.Common.{◌≡◌}
+use Rattle.product_decoder.specs.Steps.{tracks_told}
+use Rattle.product_decoder.specs.ZoneSteps.{flat}
 use Rattle.product_decoder.proofs.tracks.tracks_of.Given as goal
 
 -- the lives so far
-abbrev pub invariant-loop-life : goal.invariant-loop-life
-invariant-loop-life l = l.tracks ≡ map track_of l.yielded
+abbrev pub invariant-loop-key : goal.invariant-loop-key
+invariant-loop-key l = l.tracks ≡ tracks_told (flat l.yielded)

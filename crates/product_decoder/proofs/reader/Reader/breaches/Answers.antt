@@ -1,7 +1,7 @@
 -- The lines in breach among what was taken are those of the products.
 use Rattle.std.proofs.Common.{◌≡◌, ◌∙◌, List, ap, subst}
 use Rattle.std.specs.Prelude.{IfOk}
-use Rattle.product_decoder.specs.declared.taken.Taken.{Taken}
+use Rattle.product_decoder.specs.Runs.{Taken}
 use Rattle.product_decoder.specs.declared.types.Found.{Found}
 use Rattle.product_decoder.specs.ReaderModel.{Reading, found_of}
 use Rattle.product_decoder.specs.Takings.{breaches_in}

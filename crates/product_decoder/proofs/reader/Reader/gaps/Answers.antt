@@ -2,7 +2,7 @@
 use Rattle.std.proofs.Common.{◌≡◌, ◌∙◌, List, [], map, ap, subst}
 use Rattle.std.specs.Prelude.{IfOk}
 use Rattle.event_life.specs.Openings.{gaps_from}
-use Rattle.product_decoder.specs.declared.taken.Taken.{Taken}
+use Rattle.product_decoder.specs.Runs.{Taken}
 use Rattle.product_decoder.specs.declared.types.GapFound.{GapFound}
 use Rattle.product_decoder.specs.ReaderModel.{Reading, gap_found, gaps_found}
 use Rattle.product_decoder.specs.Takings.{opened_in}

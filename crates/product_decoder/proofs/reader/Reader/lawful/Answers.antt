@@ -2,7 +2,7 @@
 use Rattle.std.proofs.Common.{◌≡◌, ◌∙◌, List, [], ap, subst}
 use Rattle.std.specs.Prelude.{IfOk}
 use Rattle.hazard_types.specs.declared.line.Line.{Line}
-use Rattle.product_decoder.specs.declared.taken.Taken.{Taken}
+use Rattle.product_decoder.specs.Runs.{Taken}
 use Rattle.product_decoder.specs.Openings.{lawful_taken, last_lawful}
 use Rattle.product_decoder.specs.ReaderModel.{Reading}
 use Rattle.product_decoder.proofs.OpeningLemmas.{lawful_read}

@@ -1,7 +1,7 @@
 -- The lives of what was taken are those of the products.
 use Rattle.std.proofs.Common.{◌≡◌, ◌∙◌, List, map, ap, subst}
 use Rattle.std.specs.Prelude.{IfOk}
-use Rattle.product_decoder.specs.declared.taken.Taken.{Taken}
+use Rattle.product_decoder.specs.Runs.{Taken}
 use Rattle.product_decoder.specs.declared.types.Track.{Track}
 use Rattle.product_decoder.specs.Lives.{living_in}
 use Rattle.product_decoder.specs.ReaderModel.{Reading, lives_of}

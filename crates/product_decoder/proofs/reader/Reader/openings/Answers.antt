@@ -2,7 +2,7 @@
 use Rattle.std.proofs.Common.{◌≡◌, ◌∙◌, List, [], ap, subst}
 use Rattle.std.specs.Prelude.{IfOk}
 use Rattle.product_decoder.specs.declared.types.Opening.{Opening}
-use Rattle.product_decoder.specs.declared.taken.Taken.{Taken}
+use Rattle.product_decoder.specs.Runs.{Taken}
 use Rattle.product_decoder.specs.Openings.{openings_taken, last_openings}
 use Rattle.product_decoder.specs.ReaderModel.{Reading}
 use Rattle.product_decoder.proofs.OpeningLemmas.{openings_read}

@@ -1,0 +1,197 @@
+-- The steps of each event by zone are the steps of events in zones: a step put among those of its event is put among all.
+use Rattle.std.proofs.Common.{◌≡◌, ◌∙◌, ℕ, List, [], ◌∷◌, ◌++◌, Bool, true, false, cond, Ordering, Less, Equal, Greater, Option, Some, None, Vec, Global, unwrap_or, append_assoc, append-nil, refl, ap, sym, subst}
+use Rattle.std.proofs.lemmas.Cmp.{tied_itself}
+use Rattle.std.proofs.lemmas.List.{map-append}
+use Rattle.std.specs.BTreeMap.{insert_entry, is_at}
+use Rattle.std.specs.List.{AllByRecursion}
+use Rattle.std.specs.List.Sorted.{IsStrictlySortedBy}
+use Rattle.std.specs.Map.{keys_of, lookup}
+use Rattle.std.specs.Ordering.{match_ordering}
+use Rattle.hazard_types.specs.Orders.{by_event}
+use Rattle.hazard_types.specs.Places.{Place, by_place}
+use Rattle.hazard_types.specs.declared.hazard.Event.{Event}
+use Rattle.hazard_types.specs.declared.line.Line.{Line}
+use Rattle.hazard_types.proofs.Equality.{event_one}
+use Rattle.hazard_types.proofs.OrderLaws.{by_event_total, by_event_ties}
+use Rattle.row_index.proofs.Tests.{insert-sorted}
+use Rattle.product_decoder.specs.declared.types.Track.{Track}
+use Rattle.product_decoder.specs.declared.zone_steps.ZoneStep.{ZoneStep}
+use Rattle.product_decoder.specs.Lives.{Living, by_living}
+use Rattle.product_decoder.specs.Steps.{Step, Steps, steps_at, with_step, with_line, tracks_told, track_told}
+use Rattle.product_decoder.proofs.StepLemmas.{keys_put}
+use Rattle.product_decoder.specs.ZoneSteps.{Zones, lists_of, at_zone, with_zone, with_zones, Events, AreAscending, zones_at, under, flat, with_run, with_pending, is_of}
+
+abbrev Entry : Type 0
+Entry = Living × List Step
+
+abbrev AreFrom : Ordering → Event → Steps → Type 0
+AreFrom o e steps = AllByRecursion (λ (x : Entry). by_event e x.0.event ≡ o) steps
+
+-- how the steps of an event stand among all
+
+from_append : (o : Ordering) (e : Event) (xs ys : Steps) → AreFrom o e xs → AreFrom o e ys → AreFrom o e (xs ++ ys)
+from_append o e [] ys h k = k
+from_append o e (x ∷ xs) ys h k = (h.0, from_append o e xs ys h.1 k)
+
+from_under : (o : Ordering) (e d : Event) (zones : Zones) → by_event e d ≡ o → AreFrom o e (under d zones)
+from_under o e d [] h = tt
+from_under o e d (z ∷ zones) h = (h, from_under o e d zones h)
+
+from_flat : (e : Event) (es : Events) → AllByRecursion (λ (d : Event). by_event e d ≡ Less) (keys_of es) → AreFrom Less e (flat es)
+from_flat e [] h = tt
+from_flat e (x ∷ es) h = from_append Less e (under x.0 x.1) (flat es) (from_under Less e x.0 x.1 h.0) (from_flat e es h.1)
+
+all_behind : (e d : Event) (es : List Event) → by_event e d ≡ Less → AllByRecursion (λ (c : Event). by_event d c ≡ Less) es → AllByRecursion (λ (c : Event). by_event e c ≡ Less) es
+all_behind e d [] h all = tt
+all_behind e d (c ∷ es) h all = (by_event_total.trans e d c h all.0, all_behind e d es h all.1)
+
+none_behind : (e : Event) (es : Events) → AllByRecursion (λ (d : Event). by_event e d ≡ Less) (keys_of es) → zones_at es e ≡ []
+none_behind e [] all = refl
+none_behind e (x ∷ es) all = rw all.0 (none_behind e es all.1)
+
+-- what is before the steps of an event and behind them, whatever these are
+record IsSplit (es : Events) (e : Event) : Type 0 where
+  front : Steps
+  back : Steps
+  whole : (zones : Zones) → flat (insert_entry by_event es e zones) ≡ front ++ (under e zones ++ back)
+  now : flat es ≡ front ++ (under e (zones_at es e) ++ back)
+  before : AreFrom Greater e front
+  behind : AreFrom Less e back
+
+split : (es : Events) (e : Event) → AreAscending es → IsSplit es e
+unfolding IsStrictlySortedBy
+split [] e up = record { front = []; back = []; whole = λ zones. refl; now = refl; before = tt; behind = tt }
+split (x ∷ es) e up = by_first (by_event e x.0) refl (split es e up.1)
+  where
+    by_first : (o : Ordering) → by_event e x.0 ≡ o → IsSplit es e → IsSplit (x ∷ es) e
+    by_first Less h later =
+        let all : AllByRecursion (λ (d : Event). by_event e d ≡ Less) (keys_of (x ∷ es)) = (h, all_behind e x.0 (keys_of es) h up.0) in
+        record {
+          front = [];
+          back = flat (x ∷ es);
+          whole = λ zones. rw h refl;
+          now = sym (ap (λ (zones : Zones). under e zones ++ flat (x ∷ es)) (none_behind e (x ∷ es) all));
+          before = tt;
+          behind = from_flat e (x ∷ es) all;
+        }
+    by_first Equal h later =
+        let is : e ≡ x.0 = by_event_ties e x.0 h in
+        record {
+          front = [];
+          back = flat es;
+          whole = λ zones. rw h (ap (λ (d : Event). under d zones ++ flat es) (sym is));
+          now = rw h (ap (λ (d : Event). under d x.1 ++ flat es) (sym is));
+          before = tt;
+          behind = from_flat e es (subst (λ (d : Event). AllByRecursion (λ (c : Event). by_event d c ≡ Less) (keys_of es)) (sym is) up.0);
+        }
+    by_first Greater h later = record {
+      front = under x.0 x.1 ++ later.front;
+      back = later.back;
+      whole = λ zones. rw h (ap (λ (steps : Steps). under x.0 x.1 ++ steps) (later.whole zones) ∙ sym (append_assoc (under x.0 x.1) later.front (under e zones ++ later.back)));
+      now = rw h (ap (λ (steps : Steps). under x.0 x.1 ++ steps) later.now ∙ sym (append_assoc (under x.0 x.1) later.front (under e (zones_at es e) ++ later.back)));
+      before = from_append Greater e (under x.0 x.1) later.front (from_under Greater e x.0 x.1 h) later.before;
+      behind = later.behind;
+    }
+
+-- a step put between them
+
+module _ (e : Event) (z : Place) where
+  abbrev own : Living
+  own = record { event = e; zone = z }
+
+  put_past : (front rest : Steps) (w : List Step) → AreFrom Greater e front → insert_entry by_living (front ++ rest) own w ≡ front ++ insert_entry by_living rest own w
+  put_past [] rest w h = refl
+  put_past (x ∷ front) rest w h = rw h.0 (ap (λ (steps : Steps). x ∷ steps) (put_past front rest w h.1))
+
+  at_past : (front rest : Steps) → AreFrom Greater e front → steps_at (front ++ rest) own ≡ steps_at rest own
+  at_past [] rest h = refl
+  at_past (x ∷ front) rest h = rw h.0 (at_past front rest h.1)
+
+  put_first : (back : Steps) (w : List Step) → AreFrom Less e back → insert_entry by_living back own w ≡ (own, w) ∷ back
+  put_first [] w h = refl
+  put_first (x ∷ back) w h = rw h.0 refl
+
+  at_none : (back : Steps) → AreFrom Less e back → steps_at back own ≡ []
+  at_none [] h = refl
+  at_none (x ∷ back) h = rw h.0 (at_none back h.1)
+
+  put_under : (zones : Zones) (back : Steps) (w : List Step) → AreFrom Less e back → insert_entry by_living (under e zones ++ back) own w ≡ under e (insert_entry by_place zones z w) ++ back
+  put_under [] back w h = put_first back w h
+  put_under (x ∷ zones) back w h = rw (tied_itself by_event_total e) (by_zone (by_place z x.0) (put_under zones back w h))
+    where
+      by_zone : (o : Ordering) → insert_entry by_living (under e zones ++ back) own w ≡ under e (insert_entry by_place zones z w) ++ back
+          → match_ordering o ((own, w) ∷ under e (x ∷ zones) ++ back) ((record { event = e; zone = x.0 }, w) ∷ under e zones ++ back) ((record { event = e; zone = x.0 }, x.1) ∷ insert_entry by_living (under e zones ++ back) own w)
+          ≡ under e (match_ordering o ((z, w) ∷ x ∷ zones) ((x.0, w) ∷ zones) (x ∷ insert_entry by_place zones z w)) ++ back
+      by_zone Less later = refl
+      by_zone Equal later = refl
+      by_zone Greater later = ap (λ (steps : Steps). (record { event = e; zone = x.0 }, x.1) ∷ steps) later
+
+  at_first : (b : Bool) (w : List Step) (o p : Option (List Step)) → unwrap_or o [] ≡ unwrap_or p [] → unwrap_or (cond b (Some w) o) [] ≡ unwrap_or (cond b (Some w) p) []
+  at_first true w o p h = refl
+  at_first false w o p h = h
+
+  at_under : (zones : Zones) (back : Steps) → AreFrom Less e back → steps_at (under e zones ++ back) own ≡ at_zone zones z
+  at_under [] back h = at_none back h
+  at_under (x ∷ zones) back h =
+      rw (tied_itself by_event_total e) (at_first (is_at (by_place z) x.0) x.1 (lookup (is_at (by_living own)) (under e zones ++ back)) (lookup (is_at (by_place z)) zones) (at_under zones back h))
+
+  pub step_between : (front back : Steps) (zones : Zones) (s : Step) → AreFrom Greater e front → AreFrom Less e back
+      → with_step (front ++ (under e zones ++ back)) own s ≡ front ++ (under e (with_zone zones z s) ++ back)
+  step_between front back zones s before behind =
+      ap (λ (w : List Step). insert_entry by_living (front ++ (under e zones ++ back)) own (w ++ s ∷ [])) (at_past front (under e zones ++ back) before ∙ at_under zones back behind)
+      ∙ put_past front (under e zones ++ back) (at_zone zones z ++ s ∷ []) before
+      ∙ ap (λ (steps : Steps). front ++ steps) (put_under zones back (at_zone zones z ++ s ∷ []) behind)
+
+-- a run of them
+
+run_between : (issue : ℕ) (e : Event) (front back : Steps) (zones : Zones) (run : List ZoneStep) → AreFrom Greater e front → AreFrom Less e back
+    → with_run issue e (front ++ (under e zones ++ back)) run ≡ front ++ (under e (with_zones issue zones run) ++ back)
+run_between issue e front back zones [] before behind = refl
+run_between issue e front back zones (r ∷ run) before behind =
+    ap (λ (steps : Steps). with_run issue e steps run) (step_between e r.zone front back zones (r.action, issue) before behind)
+    ∙ run_between issue e front back (with_zone zones r.zone (r.action, issue)) run before behind
+
+pub run_put : (issue : ℕ) (e : Event) (es new : Events) (run : List ZoneStep) → AreAscending es → new ≡ insert_entry by_event es e (with_zones issue (zones_at es e) run) → flat new ≡ with_run issue e (flat es) run
+run_put issue e es new run up is =
+    let s = split es e up in
+    ap flat is ∙ s.whole (with_zones issue (zones_at es e) run) ∙ sym (run_between issue e s.front s.back (zones_at es e) run s.before s.behind)
+    ∙ ap (λ (steps : Steps). with_run issue e steps run) (sym s.now)
+
+pub ascending_put : (e : Event) (es new : Events) (zones : Zones) → AreAscending es → new ≡ insert_entry by_event es e zones → AreAscending new
+ascending_put e es new zones up is =
+    subst (λ (keys : List Event). IsStrictlySortedBy by_event keys) (sym (ap (λ (es : Events). keys_of es) is ∙ keys_put by_event e es zones)) (insert-sorted by_event by_event_total by_event_ties e (keys_of es) up)
+
+-- one line behind a run
+
+run_last : (issue : ℕ) (e : Event) (steps : Steps) (run : List ZoneStep) (r : ZoneStep) → with_run issue e steps (run ++ r ∷ []) ≡ with_step (with_run issue e steps run) (record { event = e; zone = r.zone }) (r.action, issue)
+run_last issue e steps [] r = refl
+run_last issue e steps (x ∷ run) r = run_last issue e (with_step steps (record { event = e; zone = x.zone }) (x.action, issue)) run r
+
+-- the first line of a run
+pub line_first : (issue : ℕ) (line : Line) (r : ZoneStep) (steps : Steps) (run : List ZoneStep) → r.zone ≡ line.zone → r.action ≡ line.action → run ≡ [] ++ r ∷ []
+    → with_run issue line.event steps run ≡ with_line issue steps line
+line_first issue line r steps run zone_is action_is is =
+    ap (λ (run : List ZoneStep). with_run issue line.event steps run) is ∙ (λ i. with_step steps (record { event = line.event; zone = zone_is i }) (action_is i, issue))
+
+-- and a further one
+pub line_last : (issue : ℕ) (known : Option Event) (line : Line) (r : ZoneStep) (steps : Steps) (run more : List ZoneStep) → is_of known line ≡ true → r.zone ≡ line.zone → r.action ≡ line.action → more ≡ run ++ r ∷ []
+    → with_run issue line.event steps more ≡ with_line issue (with_pending issue known run steps) line
+line_last issue None line r steps run more h zone_is action_is is = cc
+line_last issue (Some e) line r steps run more h zone_is action_is is =
+    ap (λ (run : List ZoneStep). with_run issue line.event steps run) is ∙ run_last issue line.event steps run r
+    ∙ (λ i. with_step (with_run issue line.event steps run) (record { event = line.event; zone = zone_is i }) (action_is i, issue))
+    ∙ ap (λ (d : Event). with_line issue (with_run issue d steps run) line) (sym (event_one e line.event h))
+
+-- the lives that one event's steps more tell
+pub tracks_more : (es : Events) (e : Event × Zones) → tracks_told (flat (es ++ e ∷ [])) ≡ tracks_told (flat es) ++ tracks_told (under e.0 e.1)
+tracks_more es e = ap tracks_told (flat_more es e) ∙ map-append track_told (flat es) (under e.0 e.1)
+  where
+    flat_more : (es : Events) (e : Event × Zones) → flat (es ++ e ∷ []) ≡ flat es ++ under e.0 e.1
+    flat_more [] e = append-nil (under e.0 e.1)
+    flat_more (x ∷ es) e = ap (λ (steps : Steps). under x.0 x.1 ++ steps) (flat_more es e) ∙ sym (append_assoc (under x.0 x.1) (flat es) (under e.0 e.1))
+
+-- and one zone's steps more
+pub zone_more : (e : Event) (ys : List (Place × Vec Step Global)) (y : Place × Vec Step Global)
+    → tracks_told (under e (lists_of (ys ++ y ∷ []))) ≡ tracks_told (under e (lists_of ys)) ++ record { event = e; zone = y.0; steps = y.1.items } ∷ []
+zone_more e [] y = refl
+zone_more e (x ∷ ys) y = ap (λ (tracks : List Track). record { event = e; zone = x.0; steps = x.1.items } ∷ tracks) (zone_more e ys y)
