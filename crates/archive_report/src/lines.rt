@@ -8,15 +8,9 @@ use crate::tally::Reading;
 use crate::texts::{breach_name, put_fault, put_stamp, put_steps, put_where};
 use crate::words::Asked;
 use hazard_types::{Minute, Oom, Text, hazard_text, put_number, put_wide};
-use product_decoder::{Decoded, Found, GapFound, Track, ZonePair};
+use product_decoder::{Decoded, Found, GapFound, Track, ZonePair, is_by};
 use product_frame::FrameFault;
 use std::alloc::Global;
-
-fn is_by(asked: &Asked, pair: &ZonePair) -> bool
-    ensures { result ≡ is_by asked.now.office asked.now.class pair.now }
-{
-    pair.vtec.office == asked.office && pair.vtec.class == asked.class
-}
 
 /// How many lines are of the office and class.
 fn count_by(asked: &Asked, pairs: &[ZonePair]) -> usize
@@ -24,7 +18,7 @@ fn count_by(asked: &Asked, pairs: &[ZonePair]) -> usize
 {
     let mut count = 0;
     for pair in pairs {
-        if is_by(asked, pair) {
+        if is_by(&asked.office, &asked.class, pair) {
             count += 1;
         }
     }

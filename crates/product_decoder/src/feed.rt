@@ -38,7 +38,7 @@ impl Feed {
         }
     }
 
-    /// Takes a piece behind what was taken before. Want of memory changes nothing.
+    /// Takes a piece behind what was taken before. Out of memory changes nothing.
     pub fn push(&mut self, alloc: Global, piece: &[u8]) -> Result<(), Oom>
         requires { self.old.ended ≡ false }
         ensures ok { OnOk result (self.new.rest ≡ self.old.rest ++ piece.now) }
@@ -61,7 +61,7 @@ impl Feed {
     ///
     /// # Errors
     ///
-    /// Want of memory. No product is lost then.
+    /// Out of memory. No product is lost then.
     pub fn take(&mut self, alloc: Global) -> Result<Option<Text>, Oom>
         ensures ended { self.new.ended ≡ self.old.ended }
         ensures taken { IfOk result (λ text. Takes self.old text self.new) }

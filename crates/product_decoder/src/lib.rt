@@ -17,4 +17,5 @@ pub use feed::{Feed, lines_tell_the_products, products_of};
 pub use product_frame::split_products;
 pub use read::decode;
 pub use reader::Reader;
+pub use taken::is_by;
 pub use types::{Decoded, Found, GapFound, Opening, Track, ZonePair};

@@ -21,7 +21,7 @@ use std::marker::Model;
 use std::mem;
 
 /// Takes the products of an office in order, and of each the lines of the office and class. Its answers depend on the list of
-/// products that it took alone. The rows after these are not held after a want of memory, until the next product is taken.
+/// products that it took alone. The rows after these are not held once memory ran out, until the next product is taken.
 #[derive(Drop)]
 pub struct Reader {
     office: [u8; 4],
@@ -71,7 +71,7 @@ impl Reader {
     ///
     /// # Errors
     ///
-    /// Want of memory. Nothing is taken then.
+    /// Out of memory. Nothing is taken then.
     pub fn take(&mut self, alloc: Global, d: &Decoded) -> Result<(), Oom>
         requires { length self.old.products < 4294967295 }
         ensures office { self.new.office ≡ self.old.office }

@@ -69,8 +69,8 @@ fn same_office(a: [u8; 4], b: [u8; 4]) -> bool
     a[0] == b[0] && a[1] == b[1] && a[2] == b[2] && a[3] == b[3]
 }
 
-/// Whether a line is of an office and class.
-fn is_by(office: &[u8; 4], class: &Class, pair: &ZonePair) -> bool
+/// Whether what a P-VTEC line says of a zone is of an office and class.
+pub fn is_by(office: &[u8; 4], class: &Class, pair: &ZonePair) -> bool
     ensures { result ≡ is_by office.now class.now pair.now }
 {
     same_office(pair.vtec.office, *office) && pair.vtec.class == *class
