@@ -6,7 +6,7 @@ mod Lists
 mod HeldRows
 mod Opened
 mod Kept
-mod Lasted
+mod Reached
 mod Stood
 mod EventRows
 mod Indexed

@@ -3,7 +3,7 @@ pub mod Listing
 pub mod Holding
 pub mod Seating
 pub mod Risen
-pub mod Lastings
+pub mod Reaching
 pub mod Numbers
 pub mod Standings
 pub mod Steps

@@ -2,7 +2,6 @@
 use Rattle.std.specs.Prelude.{◌==◌, ◌&&◌, not, Bool, List, [], ◌∷◌, ◌++◌, if◌then◌else◌, Option, Some, None}
 use Rattle.std.specs.BTreeMap.{insert_entry}
 use Rattle.std.specs.List.{list_any}
-use Rattle.std.specs.List.Sorted.{IsStrictlySortedBy}
 use Rattle.std.specs.declared.cmp.Ordering.{Ordering}
 use Rattle.std.specs.Ordering.{nat_cmp, on, then_cmp}
 use Rattle.hazard_types.specs.Orders.{by_hazard}
@@ -10,11 +9,11 @@ use Rattle.hazard_types.specs.Places.{Place}
 use Rattle.hazard_types.specs.Same.{same_zone, same_hazard, same_event}
 use Rattle.hazard_types.specs.declared.hazard.Event.{Event}
 use Rattle.hazard_types.specs.declared.line.Row.{Row}
-use Rattle.row_index.specs.declared.lasting.Lasting.{Lasting}
 use Rattle.row_index.specs.declared.numbers.Number.{Number}
+use Rattle.row_index.specs.declared.reach.Reach.{Reach}
 use Rattle.row_index.specs.Holding.{AreHeld, told}
-use Rattle.row_index.specs.Lastings.{by_lasting, lasting_of}
 use Rattle.row_index.specs.Listing.{list_at}
+use Rattle.row_index.specs.Reaching.{Reaches}
 use Rattle.row_index.specs.Telling.{Tells}
 
 abbrev pub number_of : Event → Number
@@ -48,9 +47,8 @@ AreOpened events rows = (k : Number) → Tells (has_number k) (λ (r : Row). r.e
 abbrev pub stands : Row → Bool
 stands r = not r.ended
 
--- the rows of each event are its own, the events stand by hazard and number, and the rows that no line has ended by zone and end
-pub record IsIndex (es : List (Event × List Row)) (events : List (Number × List Event)) (lastings : List Lasting) : Type 0 where
+-- the rows of each event are its own, the events stand by hazard and number, and each reaches as far as its rows
+pub record IsIndex (es : List (Event × List Row)) (events : List (Number × List Event)) (reach : List Reach) : Type 0 where
   pub held : AreHeld es
   pub opened : AreOpened events (told es)
-  pub lasting_ascending : IsStrictlySortedBy by_lasting lastings
-  pub lasting : Tells stands lasting_of lastings (told es)
+  pub reached : Reaches reach (told es)

@@ -7,12 +7,10 @@ use Rattle.hazard_types.specs.Same.{same_event}
 use Rattle.hazard_types.specs.declared.hazard.Event.{Event}
 use Rattle.hazard_types.specs.declared.line.Row.{Row}
 use Rattle.event_life.specs.Products.{put, row_at}
-use Rattle.row_index.specs.declared.lasting.Lasting.{Lasting}
 use Rattle.row_index.specs.declared.numbers.Number.{Number}
-use Rattle.row_index.specs.Lastings.{by_lasting, lasting_of}
 use Rattle.row_index.specs.Listing.{list_at}
 use Rattle.row_index.specs.Numbers.{events_with}
-use Rattle.row_index.specs.Steps.{restood, put_each}
+use Rattle.row_index.specs.Steps.{put_each}
 
 -- the rows are of one event, if there are any
 abbrev pub AreOfOne : Option Event → List Row → Type 0
@@ -31,8 +29,3 @@ held_put e rows es = insert_entry by_event es e (put_each rows (list_at by_event
 abbrev pub events_put : List Row → List Row → List (Number × List Event) → List (Number × List Event)
 events_put [] known events = events
 events_put (row ∷ rows) known events = events_put rows (put row known) (events_with (row_at known row.event row.zone) row.event events)
-
--- and the places of the rows that no line has ended
-abbrev pub lasting_put : List Row → List Row → List Lasting → List Lasting
-lasting_put [] known keys = keys
-lasting_put (row ∷ rows) known keys = lasting_put rows (put row known) (restood by_lasting lasting_of (row_at known row.event row.zone) row keys)

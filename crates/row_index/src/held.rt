@@ -1,6 +1,6 @@
 //! The rows of each event, by zone.
 ghost use Rattle.std.specs.Prelude.{◌≡◌, ◌&&◌, [], flat_map, IfOk, OnOk};
-ghost use Rattle.std.specs.List.{list_any};
+ghost use Rattle.std.specs.List.{AllByRecursion, list_any};
 ghost use Rattle.std.specs.List.Sorted.{IsStrictlySortedBy};
 ghost use Rattle.std.specs.Map.{values_of};
 ghost use Rattle.hazard_types.specs.Orders.{by_event};
@@ -8,17 +8,18 @@ ghost use Rattle.event_life.specs.Periods.{is_live, keeps_open, same_at};
 ghost use Rattle.event_life.specs.Products.{by_key, put, row_at, has_rows};
 ghost use Rattle.row_index.specs.Holding.{puts};
 ghost use Rattle.row_index.specs.Listing.{lists_of, list_at};
-ghost use Rattle.row_index.specs.Runs.{held_put, events_put, lasting_put};
+ghost use Rattle.row_index.specs.Reaching.{Reached};
+ghost use Rattle.row_index.specs.Runs.{held_put, events_put};
 ghost use Rattle.row_index.specs.Seating.{AreSeated};
 ghost use Rattle.row_index.specs.Standings.{by_standing, standing_of};
 ghost use Rattle.row_index.specs.Steps.{restood, put_each};
 
-use crate::lasting::{Lastings, relast};
 use crate::numbers::{Events, put_event_of};
 use crate::parts::EventKey;
+use crate::reach::{Reaches, reach_with};
 use crate::seats::{Seated, all_rows, put_seated, row_in};
 use crate::standing::{Standings, has_same_among, is_open_among, restand};
-use hazard_types::{Event, Minute, Oom, Period, Row, Zone};
+use hazard_types::{End, Event, Minute, Oom, Period, Row, Zone};
 use std::alloc::{AllocError, Global};
 use std::collections::{BTreeMap, BTreeSet};
 use std::marker::Model;
@@ -40,11 +41,12 @@ fn put_standing(
     restand(standing, before, row)
 }
 
-/// The rows of one event, each at its seat, and where those of them stand that no line has ended.
+/// The rows of one event, each at its seat, where those of them stand that no line has ended, and how far they were seen to reach.
 #[derive(Drop)]
 pub struct EventRows {
     rows: Seated,
     standing: Standings,
+    latest: Option<End>,
 }
 
 impl Model for EventRows {
@@ -67,6 +69,7 @@ impl EventRows {
         EventRows {
             rows: BTreeMap::new(alloc),
             standing: BTreeSet::new(alloc),
+            latest: None,
         }
     }
 
@@ -113,6 +116,15 @@ impl EventRows {
                 Err(oom)
             }
         }
+    }
+
+    /// The event reaches as far as these rows of it.
+    fn reach(&mut self, reaches: &mut Reaches, event: &Event, rows: &[Row]) -> Result<(), Oom>
+        requires { AllByRecursion (λ r. r.event ≡ event.now) rows.now }
+        ensures rows { OnOk result (self.new ≡ self.old) }
+        ensures reached { OnOk result (Reached rows.now reaches.old.keys reaches.new.keys) }
+    {
+        reach_with(reaches, &mut self.latest, event, rows)
     }
 
     /// Whether a row stands whose end is at most half an hour past. `event` is that of the rows.
@@ -212,23 +224,20 @@ pub fn has_period(held: &Held, t: Minute, event: &Event, period: &Period) -> boo
     }
 }
 
-/// Puts each of the rows among those of their event, and among what is kept of the rows besides.
+/// Puts each of the rows among those of their event, and their events among those of their hazards and numbers.
 fn put_rows(
     alloc: Global,
     known: &mut EventRows,
     events: &mut Events,
-    lasting: &mut Lastings,
     rows: &[Row],
 ) -> Result<(), Oom>
     ensures rows { OnOk result (known.new ≡ put_each rows.now known.old) }
     ensures events { OnOk result (lists_of events.new.entries ≡ events_put rows.now known.old (lists_of events.old.entries)) }
-    ensures lasting { OnOk result (lasting.new.keys ≡ lasting_put rows.now known.old lasting.old.keys) }
 {
     for row in rows {
         let mut before = None;
         known.put(row, &mut before)?;
         put_event_of(alloc, events, &before, &row.event)?;
-        relast(lasting, &before, row)?;
     }
     Ok(())
 }
@@ -238,18 +247,20 @@ pub fn put_held(
     alloc: Global,
     held: &mut Held,
     events: &mut Events,
-    lasting: &mut Lastings,
+    reaches: &mut Reaches,
     event: &Event,
     rows: &[Row],
 ) -> Result<(), Oom>
+    requires { AllByRecursion (λ r. r.event ≡ event.now) rows.now }
     ensures held { OnOk result (held.new.entries ≡ held_put event.now rows.now held.old.entries) }
     ensures events { OnOk result (lists_of events.new.entries ≡ events_put rows.now (list_at by_event held.old.entries event.now) (lists_of events.old.entries)) }
-    ensures lasting { OnOk result (lasting.new.keys ≡ lasting_put rows.now (list_at by_event held.old.entries event.now) lasting.old.keys) }
+    ensures reached { OnOk result (Reached rows.now reaches.old.keys reaches.new.keys) }
 {
     let known = held
         .entry(EventKey { event: *event })?
         .or_insert(EventRows::new(alloc));
-    put_rows(alloc, known, events, lasting, rows)
+    known.reach(reaches, event, rows)?;
+    put_rows(alloc, known, events, rows)
 }
 
 /// The rows of all events, one event after another.

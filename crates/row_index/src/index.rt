@@ -1,10 +1,13 @@
 //! The rows of an office's class, as the judging of its lines needs them.
-ghost use Rattle.std.specs.Prelude.{◌≡◌, ◌&&◌, not, true, false, nat_lt, [], List as Seq, Some, None, Option, if◌then◌else◌, is_none, IfOk, OnOk};
+ghost use Rattle.std.specs.Prelude.{◌≡◌, ◌&&◌, ◌++◌, not, true, false, nat_lt, [], List as Seq, Some, None, Option, if◌then◌else◌, is_none, IfOk, OnOk};
 ghost use Rattle.std.specs.List.{list_any};
+ghost use Rattle.hazard_types.specs.Hazards.{facts_of};
 ghost use Rattle.hazard_types.specs.declared.line.Line.{Line as LineValue};
 ghost use Rattle.std.specs.Map.{values_of};
 ghost use Rattle.event_life.specs.declared.life.Breach.TheVariants.{Twice};
 ghost use Rattle.event_life.specs.declared.life.Life.{Life as LifeValue};
+ghost use Rattle.event_life.specs.Higher.{family_of, is_above};
+ghost use Rattle.event_life.specs.Periods.{is_live};
 ghost use Rattle.event_life.specs.Products.{put, line_of, row_at, row_after, is_open, going_in, event_of, has_rows, is_held, has_same, is_routine, is_upgrade, is_second, life_at, around_but_higher, has_higher, breach_in, judged, lawful_of, put_all, put_but_upgrades};
 ghost use Rattle.event_life.specs.Seats.{may_count};
 ghost use Rattle.event_life.specs.Shown.{shown_at};
@@ -12,19 +15,22 @@ ghost use Rattle.event_life.specs.Table.{breach_of_line};
 ghost use Rattle.row_index.specs.Holding.{AreNear, AreRowsOf};
 ghost use Rattle.row_index.specs.Runs.{AreOfOne};
 ghost use Rattle.row_index.specs.Seating.{AreSeated, upgrades};
-ghost use Rattle.row_index.specs.Steps.{IsChanged, around_new, around_joining, asked_around, latest_open, event_going, rows_left, put_each};
+ghost use Rattle.row_index.specs.Steps.{IsChanged, around_new, around_joining, asked_around, latest_open, event_going, listed, higher_rows, rows_left, put_each};
+ghost use Rattle.row_index.specs.Telling.{Covers};
 
 use crate::held::{Held, RowsOf, all_held, has_period, is_open, put_held, rows_of, seated};
-use crate::higher::{Changed, any_upgrades, rivals, upgraded_by};
-use crate::lasting::Lastings;
+use crate::higher::{Changed, add_found, any_upgrades, is_above, rank_of, rivals, upgraded_by};
 use crate::look::{is_of, later_event, life_of, nothing_around, of_event, opens};
 use crate::numbers::{Events, Number, events_at, number_of};
 use crate::parts::HazardKey;
+use crate::reach::{Reaches, lasting_events};
 use crate::seats::{Seated, all_rows, count_row};
 use crate::spoken::Spoken;
 use event_life::{Around, Breach, is_lawful, is_routine, is_upgrade, life_step, opened_period};
-use hazard_types::{Action, Event, Flood, Line, List, Minute, Oom, Row, Vtec, Zone};
-use std::alloc::Global;
+use hazard_types::{
+    Action, Event, Family, Flood, Hazard, Line, List, Minute, Oom, Row, Vtec, Zone,
+};
+use std::alloc::{AllocError, Global};
 use std::collections::{BTreeMap, BTreeSet};
 use std::marker::Model;
 
@@ -33,7 +39,7 @@ use std::marker::Model;
 pub struct RowIndex {
     held: Held,
     events: Events,
-    lasting: Lastings,
+    reach: Reaches,
 }
 
 impl Model for RowIndex {
@@ -47,7 +53,7 @@ impl Model for RowIndex {
 
     ghost view = { λ x. told x.held.entries };
 
-    ghost invariant = { λ x. IsIndex x.held.entries (lists_of x.events.entries) x.lasting.keys };
+    ghost invariant = { λ x. IsIndex x.held.entries (lists_of x.events.entries) x.reach.keys };
 }
 
 impl RowIndex {
@@ -58,7 +64,7 @@ impl RowIndex {
         RowIndex {
             held: BTreeMap::new(alloc),
             events: BTreeMap::new(alloc),
-            lasting: BTreeSet::new(alloc),
+            reach: BTreeSet::new(alloc),
         }
     }
 
@@ -92,6 +98,13 @@ impl RowIndex {
         ensures { result ≡ row_at self.now line.now.event line.now.zone }
     {
         rows.row_at(&line.event, &line.zone)
+    }
+
+    /// The row of an event in a zone.
+    fn row_at(&self, event: &Event, zone: &Zone) -> Option<Row>
+        ensures { result ≡ row_at self.now event.now zone.now }
+    {
+        self.rows_of(event).row_at(event, zone)
     }
 
     /// Whether a line's event has rows, ended ones among them. `rows` are the event's.
@@ -308,20 +321,67 @@ impl RowIndex {
         Ok(counted)
     }
 
+    /// The events that have live rows, among others.
+    fn lasting(&self, alloc: Global, t: Minute) -> Result<Vec<Event>, AllocError>
+        ensures { IfOk result (λ events. Covers (is_live t) (λ r. r.event) events.items self.now) }
+    {
+        lasting_events(alloc, &self.reach, t)
+    }
+
     /// What a product changes where a higher row is looked for, as far as a UPG line asks for it.
-    fn changed(&self, alloc: Global, t: Minute, lines: &[Line]) -> Result<Changed, Oom>
-        ensures changed { list_any upgrades lines.now ≡ true → IfOk result (λ c. IsChanged self.now t lines.now (values_of c.counted.entries) c.upgraded.keys) }
+    fn change_of(&self, alloc: Global, t: Minute, lines: &[Line]) -> Result<Changed, Oom>
+        ensures changed { list_any upgrades lines.now ≡ true → IfOk result (λ c. IsChanged self.now t lines.now (values_of c.counted.entries) c.upgraded.keys c.lasting.items) }
         ensures seated { IfOk result (λ c. AreSeated c.counted.entries) }
     {
         if !any_upgrades(lines) {
             return Ok(Changed {
                 counted: BTreeMap::new(alloc),
                 upgraded: BTreeSet::new(alloc),
+                lasting: Vec::new(alloc),
             });
         }
         let counted = self.counted(alloc, t, lines)?;
         let upgraded = upgraded_by(alloc, lines)?;
-        Ok(Changed { counted, upgraded })
+        let lasting = self.lasting(alloc, t)?;
+        Ok(Changed {
+            counted,
+            upgraded,
+            lasting,
+        })
+    }
+
+    /// Adds an event's row in a zone, where the event is of a higher rank than one.
+    fn add_higher(
+        &self,
+        rows: &mut Vec<Row>,
+        event: &Event,
+        low: &Option<(Family, u8)>,
+        zone: &Zone,
+    ) -> Result<(), AllocError>
+        ensures { OnOk result (rows.new.items ≡ rows.old.items ++ (if is_above (family_of (facts_of event.now.hazard)) low.now then listed (row_at self.now event.now zone.now) else [])) }
+    {
+        if is_above(&rank_of(&event.hazard), low) {
+            add_found(rows, &self.row_at(event, zone))?;
+        }
+        Ok(())
+    }
+
+    /// The rows in a zone of those of the events that are of a higher rank than a hazard.
+    fn higher_rows(
+        &self,
+        alloc: Global,
+        events: &[Event],
+        hazard: &Hazard,
+        zone: &Zone,
+    ) -> Result<Vec<Row>, AllocError>
+        ensures { IfOk result (λ rows. rows.items ≡ higher_rows self.now hazard.now zone.now events.now) }
+    {
+        let low = rank_of(hazard);
+        let mut rows = Vec::new(alloc);
+        for event in events {
+            self.add_higher(&mut rows, event, &low, zone)?;
+        }
+        Ok(rows)
     }
 
     /// Whether the row of a UPG line, its `own`, is overlapped by a higher one after the product.
@@ -335,9 +395,11 @@ impl RowIndex {
     ) -> Result<bool, Oom>
         requires seated { AreSeated changed.now.counted.entries }
         requires own { own.now ≡ row_at self.now line.now.event line.now.zone }
-        ensures { (lines : Seq LineValue) → IsChanged self.now t lines (values_of changed.now.counted.entries) changed.now.upgraded.keys → IfOk result (λ higher. higher ≡ has_higher self.now t lines line.now) }
+        ensures { (lines : Seq LineValue) → IsChanged self.now t lines (values_of changed.now.counted.entries) changed.now.upgraded.keys changed.now.lasting.items → IfOk result (λ higher. higher ≡ has_higher self.now t lines line.now) }
     {
-        let rows = rivals(alloc, &self.lasting, t, changed, &line.zone)?;
+        let _ = &self.reach;
+        let before = self.higher_rows(alloc, &changed.lasting, &line.event.hazard, &line.zone)?;
+        let rows = rivals(alloc, changed, &line.zone, &before)?;
         match own {
             Some(own) => Ok(event_life::has_higher(&[*own], t, &rows, line)),
             None => Ok(event_life::has_higher(&[], t, &rows, line)),
@@ -356,7 +418,7 @@ impl RowIndex {
     ) -> Result<Option<Breach>, Oom>
         requires seated { AreSeated changed.now.counted.entries }
         requires rows { AreRowsOf self.now line.now.event rows.now }
-        ensures { (lines earlier : Seq LineValue) → (is_upgrade line.now.action ≡ true → IsChanged self.now t lines (values_of changed.now.counted.entries) changed.now.upgraded.keys)
+        ensures { (lines earlier : Seq LineValue) → (is_upgrade line.now.action ≡ true → IsChanged self.now t lines (values_of changed.now.counted.entries) changed.now.upgraded.keys changed.now.lasting.items)
             → second ≡ is_second earlier line.now → IfOk result (λ breach. breach ≡ breach_in self.now t lines earlier line.now) }
     {
         if !is_upgrade(&line.action) {
@@ -376,7 +438,7 @@ impl RowIndex {
     ) -> Result<List<(Line, Option<Breach>)>, Oom>
         ensures { IfOk result (λ found. found ≡ judged self.now t lines.now) }
     {
-        let changed = self.changed(alloc, t, lines)?;
+        let changed = self.change_of(alloc, t, lines)?;
         let mut spoken = Spoken::new(alloc);
         let mut found = Vec::with_capacity(alloc, lines.len())?;
         let mut near = None;
@@ -402,13 +464,13 @@ impl RowIndex {
         let RowIndex {
             mut held,
             mut events,
-            mut lasting,
+            mut reach,
         } = self;
-        put_held(alloc, &mut held, &mut events, &mut lasting, event, rows)?;
+        put_held(alloc, &mut held, &mut events, &mut reach, event, rows)?;
         Ok(RowIndex {
             held,
             events,
-            lasting,
+            reach,
         })
     }
 

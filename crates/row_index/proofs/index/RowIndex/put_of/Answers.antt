@@ -7,12 +7,12 @@ use Rattle.row_index.proofs.index.RowIndex.put_of.Goals as goal
 
 pub invariant_of-result : goal.invariant_of-result
 invariant_of-result c =
-    let made = rows-put c.args.event.now c.args.rows.now (sym c.is_empty.ensures ∙ c.if-is_empty.false) c.requires c.self.inside.held.entries c.put_held.new.held.entries (lists_of c.self.inside.events.entries) (lists_of c.put_held.new.events.entries) c.self.inside.lasting.keys c.put_held.new.lasting.keys
-    c.in_ok-put_held.ensures.held c.in_ok-put_held.ensures.events c.in_ok-put_held.ensures.lasting c.self.invariant in
+    let made = rows-put c.args.event.now c.args.rows.now (sym c.is_empty.ensures ∙ c.if-is_empty.false) c.requires c.self.inside.held.entries c.put_held.new.held.entries (lists_of c.self.inside.events.entries) (lists_of c.put_held.new.events.entries) c.self.inside.reach.keys c.put_held.new.reaches.keys
+    c.in_ok-put_held.ensures.held c.in_ok-put_held.ensures.events c.in_ok-put_held.ensures.reached c.self.invariant in
     made.0
 
 pub returns : goal.returns
 returns c =
-    let made = rows-put c.args.event.now c.args.rows.now (sym c.is_empty.ensures ∙ c.if-is_empty.false) c.requires c.self.inside.held.entries c.put_held.new.held.entries (lists_of c.self.inside.events.entries) (lists_of c.put_held.new.events.entries) c.self.inside.lasting.keys c.put_held.new.lasting.keys
-    c.in_ok-put_held.ensures.held c.in_ok-put_held.ensures.events c.in_ok-put_held.ensures.lasting c.self.invariant in
+    let made = rows-put c.args.event.now c.args.rows.now (sym c.is_empty.ensures ∙ c.if-is_empty.false) c.requires c.self.inside.held.entries c.put_held.new.held.entries (lists_of c.self.inside.events.entries) (lists_of c.put_held.new.events.entries) c.self.inside.reach.keys c.put_held.new.reaches.keys
+    c.in_ok-put_held.ensures.held c.in_ok-put_held.ensures.events c.in_ok-put_held.ensures.reached c.self.invariant in
     made.1 ∙ ap (put_each c.args.rows.now) c.self.view_is
