@@ -1,4 +1,4 @@
--- Rows of an event with one more stay in order, and so do the keys of those that no line has ended; they tell what is asked of the event.
+-- Rows of an event with one more stay in order, and those that no line has ended are counted; they tell what is asked of the event.
 use Rattle.std.proofs.Common.{◌≡◌, ◌∙◌, ℕ, List, [], ◌∷◌, ◌&&◌, ◌||◌, Bool, true, false, Option, refl, ap, sym, subst}
 use Rattle.std.specs.List.{AllByRecursion, list_any}
 use Rattle.std.specs.List.Sorted.{IsStrictlySortedBy}
@@ -17,36 +17,28 @@ use Rattle.row_index.specs.declared.seats.Seat.{Seat}
 use Rattle.row_index.specs.declared.standing.Standing.{Standing}
 use Rattle.row_index.specs.Holding.{told, AreHeld}
 use Rattle.row_index.specs.Listing.{list_at}
-use Rattle.row_index.specs.Numbers.{stands}
 use Rattle.row_index.specs.Seating.{AreSeated}
-use Rattle.row_index.specs.Standings.{by_standing, standing_of, AreEventRows}
-use Rattle.row_index.specs.Steps.{restood}
-use Rattle.row_index.specs.Telling.{Tells}
+use Rattle.row_index.specs.Standings.{restood, AreCounts, AreEventRows}
 use Rattle.row_index.proofs.HeldRows.{none-sorted, held-own, held-part, is_open-of, has_same-of}
-use Rattle.row_index.proofs.Stood.{stood-put, stood-sorted}
+use Rattle.row_index.proofs.Stood.{stood-put, stood-none}
 use Rattle.row_index.proofs.Tests.{any_same}
 
-no_keys : IsStrictlySortedBy by_standing []
-unfolding IsStrictlySortedBy
-no_keys = tt
-
 rows-none : AreEventRows [] []
-rows-none = record { seated = tt; in_order = none-sorted; ascending = no_keys; standing = λ q. refl }
+rows-none = record { seated = tt; in_order = none-sorted; standing = stood-none }
 
-pub rows-emptied : (es : List (Seat × Row)) (keys : List Standing) → es ≡ [] → keys ≡ [] → AreEventRows es keys
-rows-emptied es keys es_are keys_are = rw (es_are, keys_are) rows-none
+pub rows-emptied : (es : List (Seat × Row)) (counts : List (Standing × ℕ)) → es ≡ [] → counts ≡ [] → AreEventRows es counts
+rows-emptied es counts es_are counts_are = rw (es_are, counts_are) rows-none
 
 -- one row more
-pub rows-made : (es after : List (Seat × Row)) (keys next : List Standing) (row : Row) (before : Option Row) → before ≡ row_at (values_of es) row.event row.zone → values_of after ≡ put row (values_of es) → AreSeated after
-    → next ≡ restood by_standing standing_of before row keys → AreEventRows es keys → AreEventRows after next
-rows-made es after keys next row before found after_is seated next_is are =
+pub rows-made : (es after : List (Seat × Row)) (counts next : List (Standing × ℕ)) (row : Row) (before : Option Row) → before ≡ row_at (values_of es) row.event row.zone → values_of after ≡ put row (values_of es) → AreSeated after
+    → next ≡ restood before row counts → AreEventRows es counts → AreEventRows after next
+rows-made es after counts next row before found after_is seated next_is are =
     let rows = values_of es in
     record {
       seated = seated;
       in_order = subst (λ (all : List Row). IsStrictlySortedBy by_key all) (sym after_is) (put-sorted row rows are.in_order);
-      ascending = subst (λ (all : List Standing). IsStrictlySortedBy by_standing all) (sym next_is) (stood-sorted before row keys are.ascending);
-      standing = subst (λ (all : List Row). Tells stands standing_of next all) (sym after_is)
-          (subst (λ (all : List Standing). Tells stands standing_of all (put row rows)) (sym next_is) (stood-put rows keys row before are.in_order are.ascending are.standing found));
+      standing = subst (λ (all : List Row). AreCounts next all) (sym after_is)
+          (subst (λ (all : List (Standing × ℕ)). AreCounts all (put row rows)) (sym next_is) (stood-put rows counts row before are.in_order are.standing found));
     }
 
 -- what is asked of an event

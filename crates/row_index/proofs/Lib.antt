@@ -5,7 +5,6 @@ mod LeftLemmas
 mod Lists
 mod HeldRows
 mod Opened
-mod Kept
 mod Reached
 mod Stood
 mod EventRows

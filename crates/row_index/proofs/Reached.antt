@@ -1,5 +1,5 @@
 -- How far events reach, where an end is added, and the events that reach to a minute.
-use Rattle.std.proofs.Common.{◌≡◌, ◌∙◌, ◌⊎◌, inl, inr, ℕ, List, [], ◌∷◌, ◌++◌, ◌&&◌, ◌||◌, not, Bool, true, false, cond, Ordering, Less, Equal, Greater, Option, Some, None, fold, refl, ap, sym, subst, arith}
+use Rattle.std.proofs.Common.{◌≡◌, ◌∙◌, ◌⊎◌, inl, inr, ℕ, List, [], ◌∷◌, ◌&&◌, ◌||◌, not, Bool, true, false, cond, Ordering, Less, Equal, Greater, Option, Some, None, fold, refl, ap, sym, subst, arith}
 use Rattle.std.specs.Prelude.{nat_le, flat_map}
 use Rattle.std.proofs.lemmas.Bool.{and_parts}
 use Rattle.std.proofs.lemmas.Bool.Decides.{nat_tests}
@@ -21,7 +21,7 @@ use Rattle.hazard_types.proofs.OrderLaws.{by_end_ties}
 use Rattle.event_life.specs.Periods.{ends_after, is_live}
 use Rattle.event_life.specs.Products.{by_key, put}
 use Rattle.event_life.proofs.Keys.{then_parts}
-use Rattle.event_life.proofs.Members.{IsIn, any_in, in_any, of_all}
+use Rattle.event_life.proofs.Members.{any_in, in_any, of_all}
 use Rattle.event_life.proofs.Puts.{put-sorted}
 use Rattle.row_index.specs.declared.reach.Reach.{Reach}
 use Rattle.row_index.specs.declared.seats.Spot.{Spot}

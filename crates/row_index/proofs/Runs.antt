@@ -10,7 +10,7 @@ use Rattle.hazard_types.proofs.OrderLaws.{by_event_total, by_event_ties}
 use Rattle.event_life.specs.Products.{put, row_at}
 use Rattle.row_index.specs.declared.numbers.Number.{Number}
 use Rattle.row_index.specs.declared.reach.Reach.{Reach}
-use Rattle.row_index.specs.Holding.{told, held_with}
+use Rattle.row_index.specs.Holding.{told}
 use Rattle.row_index.specs.Listing.{list_at}
 use Rattle.row_index.specs.Numbers.{IsIndex}
 use Rattle.row_index.specs.Reaching.{Reaches, Reached}

@@ -1,9 +1,5 @@
 -- What the code of an index does on the way: the rows that lines leave, and those by which a higher row is looked for in a zone.
 use Rattle.std.specs.Prelude.{◌≡◌, ◌&&◌, ◌∷◌, ◌++◌, not, ℕ, Bool, false, List, [], filter, flat_map, fold, if◌then◌else◌, Option, Some, None, is_none}
-use Rattle.std.specs.BTreeMap.{is_at}
-use Rattle.std.specs.BTreeSet.{insert_key}
-use Rattle.std.specs.Set.{remove_key}
-use Rattle.std.specs.declared.cmp.Ordering.{Ordering}
 use Rattle.hazard_types.specs.Places.{Place}
 use Rattle.hazard_types.specs.contracts.period.PeriodPartialEq.TheImpl as period
 use Rattle.hazard_types.specs.declared.codes.Action.{Action}
@@ -61,22 +57,10 @@ rows_left rows t (line ∷ lines) = row_after rows t line ∷ rows_left rows t l
 abbrev pub put_each : List Row → List Row → List Row
 put_each left after = fold (λ (rows : List Row) (row : Row). put row rows) after left
 
--- the keys without that of the row before
-abbrev pub stood_without : {K : Type 0} → (K → K → Ordering) → (Row → K) → Option Row → List K → List K
-stood_without cmp key None keys = keys
-stood_without cmp key (Some old) keys = remove_key (is_at (cmp (key old))) keys
-
--- and with that of a row that no line has ended
-abbrev pub stood_with : {K : Type 0} → (K → K → Ordering) → (Row → K) → Row → List K → List K
-stood_with cmp key row keys = if row.ended then keys else insert_key cmp keys (key row)
-
 -- no line has ended the row or the one before, which had the same period
 abbrev pub stays : Option Row → Row → Bool
 stays None row = false
 stays (Some old) row = period.eq-value.it old.period row.period && not old.ended && not row.ended
-
-abbrev pub restood : {K : Type 0} → (K → K → Ordering) → (Row → K) → Option Row → Row → List K → List K
-restood cmp key before row keys = if stays before row then keys else stood_with cmp key row (stood_without cmp key before keys)
 
 -- What a product changes where a higher row is looked for: the rows that its lawful lines other than UPG leave, each put in turn,
 -- and the seats that its UPG lines speak of. With it the events that have a live row are known, among others.

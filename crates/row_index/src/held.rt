@@ -11,8 +11,8 @@ ghost use Rattle.row_index.specs.Listing.{lists_of, list_at};
 ghost use Rattle.row_index.specs.Reaching.{Reached};
 ghost use Rattle.row_index.specs.Runs.{held_put, events_put};
 ghost use Rattle.row_index.specs.Seating.{AreSeated};
-ghost use Rattle.row_index.specs.Standings.{by_standing, standing_of};
-ghost use Rattle.row_index.specs.Steps.{restood, put_each};
+ghost use Rattle.row_index.specs.Standings.{restood};
+ghost use Rattle.row_index.specs.Steps.{put_each};
 
 use crate::numbers::{Events, put_event_of};
 use crate::parts::EventKey;
@@ -21,7 +21,7 @@ use crate::seats::{Seated, all_rows, put_seated, row_in};
 use crate::standing::{Standings, has_same_among, is_open_among, restand};
 use hazard_types::{End, Event, Minute, Oom, Period, Row, Zone};
 use std::alloc::{AllocError, Global};
-use std::collections::{BTreeMap, BTreeSet};
+use std::collections::BTreeMap;
 use std::marker::Model;
 
 /// Puts a row among those of an event, and among those of them that no line has ended.
@@ -35,13 +35,14 @@ fn put_standing(
     ensures before { OnOk result (before.new ≡ row_at (values_of rows.old.entries) row.now.event row.now.zone) }
     ensures rows { OnOk result (values_of rows.new.entries ≡ put row.now (values_of rows.old.entries)) }
     ensures seated { OnOk result (AreSeated rows.new.entries) }
-    ensures standing { OnOk result (standing.new.keys ≡ restood by_standing standing_of before.new row.now standing.old.keys) }
+    ensures standing { OnOk result (standing.new.entries ≡ restood before.new row.now standing.old.entries) }
 {
     put_seated(rows, row, before)?;
     restand(standing, before, row)
 }
 
-/// The rows of one event, each at its seat, where those of them stand that no line has ended, and how far they were seen to reach.
+/// The rows of one event, each at its seat, how many of those that no line has ended have each period, and how far they were seen
+/// to reach.
 #[derive(Drop)]
 pub struct EventRows {
     rows: Seated,
@@ -59,7 +60,7 @@ impl Model for EventRows {
 
     ghost view = { λ x. values_of x.rows.entries };
 
-    ghost invariant = { λ x. AreEventRows x.rows.entries x.standing.keys };
+    ghost invariant = { λ x. AreEventRows x.rows.entries x.standing.entries };
 }
 
 impl EventRows {
@@ -68,7 +69,7 @@ impl EventRows {
     {
         EventRows {
             rows: BTreeMap::new(alloc),
-            standing: BTreeSet::new(alloc),
+            standing: BTreeMap::new(alloc),
             latest: None,
         }
     }
@@ -127,20 +128,20 @@ impl EventRows {
         reach_with(reaches, &mut self.latest, event, rows)
     }
 
-    /// Whether a row stands whose end is at most half an hour past. `event` is that of the rows.
-    fn is_open(&self, t: Minute, event: &Event) -> bool
+    /// Whether a row stands whose end is at most half an hour past.
+    fn is_open(&self, t: Minute) -> bool
         ensures open { result ≡ list_any (keeps_open t) self.now }
         ensures order { IsStrictlySortedBy by_key self.now }
     {
-        is_open_among(&self.standing, t, event)
+        is_open_among(&self.standing, t)
     }
 
-    /// Whether a live row has this period. `event` is that of the rows.
-    fn has_period(&self, t: Minute, event: &Event, period: &Period) -> bool
+    /// Whether a live row has this period.
+    fn has_period(&self, t: Minute, period: &Period) -> bool
         ensures same { result ≡ list_any (λ r. is_live t r && same_at t r.period period.now) self.now }
         ensures order { IsStrictlySortedBy by_key self.now }
     {
-        has_same_among(&self.standing, t, event, period)
+        has_same_among(&self.standing, t, period)
     }
 }
 
@@ -208,7 +209,7 @@ pub fn is_open(held: &Held, t: Minute, event: &Event) -> bool
     ensures order { IsStrictlySortedBy by_key (list_at by_event held.now.entries event.now) }
 {
     match held.get(&EventKey { event: *event }) {
-        Some(rows) => rows.is_open(t, event),
+        Some(rows) => rows.is_open(t),
         None => false,
     }
 }
@@ -219,7 +220,7 @@ pub fn has_period(held: &Held, t: Minute, event: &Event, period: &Period) -> boo
     ensures order { IsStrictlySortedBy by_key (list_at by_event held.now.entries event.now) }
 {
     match held.get(&EventKey { event: *event }) {
-        Some(rows) => rows.has_period(t, event, period),
+        Some(rows) => rows.has_period(t, period),
         None => false,
     }
 }

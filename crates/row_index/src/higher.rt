@@ -1,5 +1,5 @@
 //! What a product changes where a higher row is looked for.
-ghost use Rattle.std.specs.Prelude.{◌≡◌, ◌++◌, not, is_none, IfOk, OnOk, filter};
+ghost use Rattle.std.specs.Prelude.{◌≡◌, ◌++◌, is_none, IfOk, OnOk, filter};
 ghost use Rattle.std.specs.List.{list_any};
 ghost use Rattle.std.specs.Map.{values_of};
 ghost use Rattle.event_life.specs.Higher.{family_of, is_above};

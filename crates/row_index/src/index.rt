@@ -5,7 +5,6 @@ ghost use Rattle.hazard_types.specs.Hazards.{facts_of};
 ghost use Rattle.hazard_types.specs.declared.line.Line.{Line as LineValue};
 ghost use Rattle.std.specs.Map.{values_of};
 ghost use Rattle.event_life.specs.declared.life.Breach.TheVariants.{Twice};
-ghost use Rattle.event_life.specs.declared.life.Life.{Life as LifeValue};
 ghost use Rattle.event_life.specs.Higher.{family_of, is_above};
 ghost use Rattle.event_life.specs.Periods.{is_live};
 ghost use Rattle.event_life.specs.Products.{put, line_of, row_at, row_after, is_open, going_in, event_of, has_rows, is_held, has_same, is_routine, is_upgrade, is_second, life_at, around_but_higher, has_higher, breach_in, judged, lawful_of, put_all, put_but_upgrades};

@@ -1,5 +1,5 @@
 //! How far the rows of each event reach: an end that is not before that of any of them that no line has ended.
-ghost use Rattle.std.specs.Prelude.{◌≡◌, ◌++◌, ◌&&◌, not, [], filter, flat_map, IfOk, OnOk};
+ghost use Rattle.std.specs.Prelude.{◌≡◌, ◌++◌, ◌&&◌, filter, IfOk, OnOk};
 ghost use Rattle.std.specs.BTreeSet.{insert_key};
 ghost use Rattle.std.specs.List.{AllByRecursion};
 ghost use Rattle.row_index.specs.Reaching.{by_reach, reach_at, dropped, is_reached, later_end, last_end, lasts, events_told, lasting_events, Reached, ReachedTo};

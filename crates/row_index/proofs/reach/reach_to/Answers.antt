@@ -1,6 +1,5 @@
 -- The end is reached already, or it is added.
 use Rattle.std.proofs.Common.{◌∙◌, sym}
-use Rattle.std.proofs.lemmas.Result.{on_ok_weaker}
 use Rattle.row_index.proofs.Reached.{reached-there, reached-added}
 use Rattle.row_index.proofs.reach.reach_to.Goals as goal
 

@@ -4,8 +4,8 @@ use Rattle.row_index.proofs.held.EventRows.put.Goals as goal
 
 pub invariant_of-self : goal.invariant_of-self
 invariant_of-self c =
-    rows-made c.self.inside.rows.entries c.put_standing.new.rows.entries c.self.inside.standing.keys c.put_standing.new.standing.keys c.args.row.now c.put_standing.new.before
+    rows-made c.self.inside.rows.entries c.put_standing.new.rows.entries c.self.inside.standing.entries c.put_standing.new.standing.entries c.args.row.now c.put_standing.new.before
     c.in-Ok.ensures.before c.in-Ok.ensures.rows c.in-Ok.ensures.seated c.in-Ok.ensures.standing c.self.invariant
 
 pub invariant_of-self-in-Err : goal.invariant_of-self-in-Err
-invariant_of-self-in-Err c = rows-emptied c.clear.new.self.entries c.clear-in-Err.new.self.keys c.clear.ensures.empty c.clear-in-Err.ensures.empty
+invariant_of-self-in-Err c = rows-emptied c.clear.new.self.entries c.clear-in-Err.new.self.entries c.clear.ensures.empty c.clear-in-Err.ensures.empty

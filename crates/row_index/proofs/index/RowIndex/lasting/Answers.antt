@@ -1,5 +1,5 @@
 -- Each event with a live row reaches to the minute.
-use Rattle.std.proofs.Common.{◌≡◌, List, IfOk, ap, subst, sym}
+use Rattle.std.proofs.Common.{◌≡◌, List, IfOk, subst, sym}
 use Rattle.hazard_types.specs.declared.hazard.Event.{Event}
 use Rattle.hazard_types.specs.declared.line.Row.{Row}
 use Rattle.event_life.specs.Periods.{is_live}
