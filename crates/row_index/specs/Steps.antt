@@ -1,6 +1,8 @@
 -- What the code of an index does on the way: the rows that lines leave, and those by which a higher row is looked for in a zone.
-use Rattle.std.specs.Prelude.{◌≡◌, ◌&&◌, ◌∷◌, ◌++◌, not, ℕ, Bool, false, List, [], filter, flat_map, fold, if◌then◌else◌, Option, Some, None, is_none}
+use Rattle.std.specs.Prelude.{◌≡◌, ◌&&◌, ◌∷◌, ◌++◌, not, ℕ, Bool, true, false, List, [], filter, flat_map, fold, if◌then◌else◌, Option, Some, None, is_none}
 use Rattle.hazard_types.specs.Places.{Place}
+use Rattle.hazard_types.specs.Same.{same_event}
+use Rattle.hazard_types.specs.contracts.codes.ActionPartialEq.TheImpl as action_eq
 use Rattle.hazard_types.specs.contracts.period.PeriodPartialEq.TheImpl as period
 use Rattle.hazard_types.specs.declared.codes.Action.{Action}
 use Rattle.hazard_types.specs.declared.codes.Action.TheVariants as action
@@ -12,6 +14,7 @@ use Rattle.hazard_types.specs.declared.line.Row.{Row}
 use Rattle.event_life.specs.declared.life.Around.{Around}
 use Rattle.event_life.specs.Higher.{outranks}
 use Rattle.event_life.specs.Periods.{is_live}
+use Rattle.event_life.specs.Table.{opened_period}
 use Rattle.event_life.specs.Products.{put, row_at, row_after, put_but_upgrades, has_rows, is_open, is_held, has_same, is_new, later_event, going_in}
 use Rattle.row_index.specs.declared.seats.Seat.{Seat}
 use Rattle.row_index.specs.Numbers.{is_in_zone}
@@ -47,6 +50,15 @@ asked_around action.New rows t line higher = around_new rows t line higher
 asked_around action.Exa rows t line higher = around_joining rows t line higher
 asked_around action.Exb rows t line higher = around_joining rows t line higher
 asked_around _ rows t line higher = nothing_around higher
+
+-- two lines that open a spell alike, but for the zone and its flood values
+abbrev pub asks_alike : ℕ → Line → Line → Bool
+asks_alike t a b = action_eq.eq-value.it a.action b.action && same_event a.event b.event && period.eq-value.it (opened_period a t) (opened_period b t)
+
+-- what stands around the line that was last asked about, if one was, which is no UPG line
+abbrev pub IsAsked : List Row → ℕ → Option (Line × Around) → Type 0
+IsAsked rows t None = Unit {0}
+IsAsked rows t (Some asked) = asked.1 ≡ asked_around asked.0.action rows t asked.0 true
 
 -- the row that each of the lines leaves
 abbrev pub rows_left : List Row → ℕ → List Line → List Row

@@ -14,12 +14,12 @@ ghost use Rattle.event_life.specs.Table.{breach_of_line};
 ghost use Rattle.row_index.specs.Holding.{AreNear, AreRowsOf};
 ghost use Rattle.row_index.specs.Runs.{AreOfOne};
 ghost use Rattle.row_index.specs.Seating.{AreSeated, upgrades};
-ghost use Rattle.row_index.specs.Steps.{IsChanged, around_new, around_joining, asked_around, latest_open, event_going, listed, higher_rows, rows_left, put_each};
+ghost use Rattle.row_index.specs.Steps.{IsAsked, IsChanged, around_new, around_joining, asked_around, latest_open, event_going, listed, higher_rows, rows_left, put_each};
 ghost use Rattle.row_index.specs.Telling.{Covers};
 
 use crate::held::{Held, RowsOf, all_held, has_period, is_open, put_held, rows_of, seated};
 use crate::higher::{Changed, add_found, any_upgrades, is_above, rank_of, rivals, upgraded_by};
-use crate::look::{is_of, later_event, life_of, nothing_around, of_event, opens};
+use crate::look::{asks_alike, is_of, later_event, life_of, nothing_around, of_event, opens};
 use crate::numbers::{Events, Number, events_at, number_of};
 use crate::parts::HazardKey;
 use crate::reach::{Reaches, lasting_events};
@@ -247,30 +247,66 @@ impl RowIndex {
         }
     }
 
-    /// The first breach of a line on the life of its event in its zone, where its row is overlapped or not.
-    fn step_breach(&self, rows: &RowsOf<'_>, t: Minute, line: &Line, higher: bool) -> Option<Breach>
+    /// What stands around a line, as far as its action asks for it, where its row is overlapped. `asked` is what stood around the line
+    /// before, which mostly asks for the same.
+    fn around_near(
+        &self,
+        asked: &Option<(Line, Around)>,
+        rows: &RowsOf<'_>,
+        t: Minute,
+        line: &Line,
+    ) -> Around
+        requires asked { IsAsked self.now t asked.now }
+        requires rows { AreRowsOf self.now line.now.event rows.now }
+        ensures { result ≡ asked_around line.now.action self.now t line.now true }
+    {
+        if !opens(&line.action) {
+            return nothing_around(true);
+        }
+        match asked {
+            Some(before) => {
+                if asks_alike(t, &before.0, line) {
+                    before.1
+                } else {
+                    self.around(rows, t, line, true)
+                }
+            }
+            None => self.around(rows, t, line, true),
+        }
+    }
+
+    /// The first breach of a line on the life of its event in its zone.
+    fn step_breach(
+        &self,
+        rows: &RowsOf<'_>,
+        t: Minute,
+        line: &Line,
+        around: Around,
+    ) -> Option<Breach>
         requires touches { is_routine line.now.action ≡ false }
         requires rows { AreRowsOf self.now line.now.event rows.now }
-        ensures { result ≡ breach_of_line (life_at self.now line.now) line.now t (around_but_higher self.now t line.now higher) }
+        requires around { around ≡ asked_around line.now.action self.now t line.now around.higher }
+        ensures { result ≡ breach_of_line (life_at self.now line.now) line.now t (around_but_higher self.now t line.now around.higher) }
     {
         let life = life_of(&self.own_row(rows, line));
-        match life_step(life, line, t, self.around(rows, t, line, higher)) {
+        match life_step(life, line, t, around) {
             Ok(_life) => None,
             Err(breach) => Some(breach),
         }
     }
 
-    /// The first breach of a line, which is a second one of its event and zone or not, where its row is overlapped or not.
+    /// The first breach of a line, which is a second one of its event and zone or not.
     fn first_breach(
         &self,
         rows: &RowsOf<'_>,
         t: Minute,
         line: &Line,
         second: bool,
-        higher: bool,
+        around: Around,
     ) -> Option<Breach>
-        requires { AreRowsOf self.now line.now.event rows.now }
-        ensures { result ≡ (if is_routine line.now.action then None else (if second then Some Twice else breach_of_line (life_at self.now line.now) line.now t (around_but_higher self.now t line.now higher))) }
+        requires rows { AreRowsOf self.now line.now.event rows.now }
+        requires around { around ≡ asked_around line.now.action self.now t line.now around.higher }
+        ensures { result ≡ (if is_routine line.now.action then None else (if second then Some Twice else breach_of_line (life_at self.now line.now) line.now t (around_but_higher self.now t line.now around.higher))) }
     {
         if is_routine(&line.action) {
             return None;
@@ -278,7 +314,7 @@ impl RowIndex {
         if second {
             return Some(Breach::Twice);
         }
-        self.step_breach(rows, t, line, higher)
+        self.step_breach(rows, t, line, around)
     }
 
     /// The row that a lawful line leaves. `rows` are its event's.
@@ -295,12 +331,50 @@ impl RowIndex {
         }
     }
 
+    /// The first breach of a line, where its row is overlapped.
+    fn breach_but_higher(
+        &self,
+        rows: &RowsOf<'_>,
+        t: Minute,
+        line: &Line,
+        second: bool,
+        around: Around,
+    ) -> Option<Breach>
+        requires rows { AreRowsOf self.now line.now.event rows.now }
+        requires around { around ≡ asked_around line.now.action self.now t line.now true }
+        ensures { result ≡ (if is_routine line.now.action then None else (if second then Some Twice else breach_of_line (life_at self.now line.now) line.now t (around_but_higher self.now t line.now true))) }
+    {
+        self.first_breach(rows, t, line, second, around)
+    }
+
+    /// The first breach of a UPG line, where its row is overlapped or not.
+    fn breach_of_upgrade(
+        &self,
+        rows: &RowsOf<'_>,
+        t: Minute,
+        line: &Line,
+        second: bool,
+        higher: bool,
+    ) -> Option<Breach>
+        requires rows { AreRowsOf self.now line.now.event rows.now }
+        requires upgrade { is_upgrade line.now.action ≡ true }
+        ensures { result ≡ (if is_routine line.now.action then None else (if second then Some Twice else breach_of_line (life_at self.now line.now) line.now t (around_but_higher self.now t line.now higher))) }
+    {
+        self.first_breach(rows, t, line, second, nothing_around(higher))
+    }
+
     /// Whether a line is lawful and no UPG, so that its row counts where a higher row is looked for.
     fn may_count(&self, rows: &RowsOf<'_>, t: Minute, line: &Line, second: bool) -> bool
         requires { AreRowsOf self.now line.now.event rows.now }
         ensures { result ≡ (not (is_routine line.now.action) && not (is_upgrade line.now.action) && not second && is_none (breach_of_line (life_at self.now line.now) line.now t (around_but_higher self.now t line.now true))) }
     {
-        let breach = self.first_breach(rows, t, line, second, true);
+        let breach = self.breach_but_higher(
+            rows,
+            t,
+            line,
+            second,
+            self.around(rows, t, line, true),
+        );
         !is_routine(&line.action) && !is_upgrade(&line.action) && !second && breach.is_none()
     }
 
@@ -405,7 +479,7 @@ impl RowIndex {
         }
     }
 
-    /// The first breach of a line of a product. `rows` are its event's.
+    /// The first breach of a line of a product. `rows` are its event's, and `around` is what stands around it, where it is no UPG line.
     fn breach_in(
         &self,
         alloc: Global,
@@ -414,17 +488,19 @@ impl RowIndex {
         rows: &RowsOf<'_>,
         line: &Line,
         second: bool,
+        around: Around,
     ) -> Result<Option<Breach>, Oom>
         requires seated { AreSeated changed.now.counted.entries }
         requires rows { AreRowsOf self.now line.now.event rows.now }
+        requires around { around ≡ asked_around line.now.action self.now t line.now true }
         ensures { (lines earlier : Seq LineValue) → (is_upgrade line.now.action ≡ true → IsChanged self.now t lines (values_of changed.now.counted.entries) changed.now.upgraded.keys changed.now.lasting.items)
             → second ≡ is_second earlier line.now → IfOk result (λ breach. breach ≡ breach_in self.now t lines earlier line.now) }
     {
         if !is_upgrade(&line.action) {
-            return Ok(self.first_breach(rows, t, line, second, true));
+            return Ok(self.breach_but_higher(rows, t, line, second, around));
         }
         let higher = self.has_higher(alloc, t, changed, line, &self.own_row(rows, line))?;
-        Ok(self.first_breach(rows, t, line, second, higher))
+        Ok(self.breach_of_upgrade(rows, t, line, second, higher))
     }
 
     /// The lines of a product, each with its first breach, or None where it is lawful. The rows are those just before the product,
@@ -442,11 +518,14 @@ impl RowIndex {
         let mut found = Vec::with_capacity(alloc, lines.len())?;
         let mut near = None;
         let mut rows = RowsOf::none();
+        let mut asked = None;
         for line in lines {
             rows = self.rows_near(&near, rows, &line.event);
             near = Some(line.event);
+            let around = self.around_near(&asked, &rows, t, line);
+            asked = Some((*line, around));
             let second = spoken.speak(!is_routine(&line.action), line)?;
-            let breach = self.breach_in(alloc, t, &changed, &rows, line, second)?;
+            let breach = self.breach_in(alloc, t, &changed, &rows, line, second, around)?;
             found.push((*line, breach))?;
         }
         Ok(List::from_vec(found))
