@@ -8,7 +8,6 @@ mod Opened
 mod Reached
 mod Stood
 mod EventRows
-mod Indexed
 mod Runs
 mod Asked
 mod Changing

@@ -7,64 +7,52 @@ use Rattle.hazard_types.specs.declared.hazard.Event.{Event}
 use Rattle.hazard_types.specs.declared.line.Row.{Row}
 use Rattle.hazard_types.proofs.Equality.{event_one}
 use Rattle.hazard_types.proofs.OrderLaws.{by_event_total, by_event_ties}
-use Rattle.event_life.specs.Products.{put, row_at}
+use Rattle.event_life.specs.Products.{put, has_rows}
 use Rattle.row_index.specs.declared.numbers.Number.{Number}
 use Rattle.row_index.specs.declared.reach.Reach.{Reach}
-use Rattle.row_index.specs.Holding.{told}
+use Rattle.row_index.specs.Holding.{told, AreHeld}
 use Rattle.row_index.specs.Listing.{list_at}
-use Rattle.row_index.specs.Numbers.{IsIndex}
+use Rattle.row_index.specs.Numbers.{events_with, AreOpened, IsIndex}
 use Rattle.row_index.specs.Reaching.{Reaches, Reached}
-use Rattle.row_index.specs.Runs.{AreOfOne, is_of, held_put, events_put}
+use Rattle.row_index.specs.Runs.{AreOfOne, is_of, held_put}
 use Rattle.row_index.specs.Steps.{put_each}
-use Rattle.row_index.proofs.HeldRows.{told-sorted, told-with}
-use Rattle.row_index.proofs.Indexed.{AreIndexed, indexed-made}
+use Rattle.row_index.proofs.HeldRows.{held-with, has_rows-told, told-sorted, told-with}
 use Rattle.row_index.proofs.Lists.{at_same, put_twice}
+use Rattle.row_index.proofs.Opened.{opened-with}
 use Rattle.row_index.proofs.Reached.{reaches-put}
 
--- the maps are an index of the rows with those put
-abbrev pub IsPut : List Row → List (Event × List Row) → List (Event × List Row) → List (Number × List Event) → Type 0
-IsPut rows es new events = AreIndexed new events × (told new ≡ put_each rows (told es))
+-- the rows of each event are its own, and all of them are the rows with those put
+abbrev pub IsPut : List Row → List (Event × List Row) → List (Event × List Row) → Type 0
+IsPut rows es new = AreHeld new × (told new ≡ put_each rows (told es))
 
-one-put : (row : Row) (es : List (Event × List Row)) (events : List (Number × List Event)) → AreIndexed es events
-    → IsPut (row ∷ []) es (held_put row.event (row ∷ []) es) (events_put (row ∷ []) (list_at by_event es row.event) events)
-one-put row es events index =
-    (indexed-made es events row (row_at (list_at by_event es row.event) row.event row.zone) refl index, told-with row es index.held)
+one-put : (e : Event) (row : Row) → row.event ≡ e → (es : List (Event × List Row)) → AreHeld es → IsPut (row ∷ []) es (held_put e (row ∷ []) es)
+one-put e row is es held = subst (λ (d : Event). IsPut (row ∷ []) es (held_put d (row ∷ []) es)) is (held-with row es held, told-with row es held)
 
-one-of : (e : Event) (row : Row) → row.event ≡ e → (es : List (Event × List Row)) (events : List (Number × List Event)) → AreIndexed es events
-    → IsPut (row ∷ []) es (held_put e (row ∷ []) es) (events_put (row ∷ []) (list_at by_event es e) events)
-one-of e row is es events index =
-    subst (λ (d : Event). IsPut (row ∷ []) es (held_put d (row ∷ []) es) (events_put (row ∷ []) (list_at by_event es d) events)) is (one-put row es events index)
-
-pub run-put : (e : Event) (row : Row) (rows : List Row) → row.event ≡ e → AllByRecursion (λ (r : Row). r.event ≡ e) rows → (es : List (Event × List Row)) (events : List (Number × List Event)) → AreIndexed es events
-    → IsPut (row ∷ rows) es (held_put e (row ∷ rows) es) (events_put (row ∷ rows) (list_at by_event es e) events)
-run-put e row [] is all es events index = one-of e row is es events index
-run-put e row (next ∷ rows) is all es events index =
+run-put : (e : Event) (row : Row) (rows : List Row) → row.event ≡ e → AllByRecursion (λ (r : Row). r.event ≡ e) rows → (es : List (Event × List Row)) → AreHeld es → IsPut (row ∷ rows) es (held_put e (row ∷ rows) es)
+run-put e row [] is all es held = one-put e row is es held
+run-put e row (next ∷ rows) is all es held =
     let known = list_at by_event es e in
     let es' = held_put e (row ∷ []) es in
-    let events' = events_put (row ∷ []) known events in
-    let one = one-of e row is es events index in
-    let more = run-put e next rows all.0 all.1 es' events' one.0 in
+    let one = one-put e row is es held in
+    let more = run-put e next rows all.0 all.1 es' one.0 in
     let known_is : list_at by_event es' e ≡ put row known = at_same by_event by_event_total by_event_ties e es (put row known) in
     let told_is : put_each (next ∷ rows) (told es') ≡ put_each (row ∷ next ∷ rows) (told es) = ap (put_each (next ∷ rows)) one.1 in
     let twice : held_put e (next ∷ rows) es' ≡ held_put e (row ∷ next ∷ rows) es =
     ap (λ (part : List Row). insert_entry by_event es' e (put_each (next ∷ rows) part)) known_is ∙ put_twice by_event by_event_total by_event_ties e es (put row known) (put_each (next ∷ rows) (put row known)) in
-    let index' = subst (λ (part : List Row). AreIndexed (held_put e (next ∷ rows) es') (events_put (next ∷ rows) part events')) known_is more.0 in (
-      subst (λ (new : List (Event × List Row)). AreIndexed new (events_put (next ∷ rows) (put row known) events')) twice index',
-      ap told (sym twice) ∙ more.1 ∙ told_is,
-    )
+    (subst (λ (new : List (Event × List Row)). AreHeld new) twice more.0, ap told (sym twice) ∙ more.1 ∙ told_is)
 
 -- rows that are there, put
 pub rows-put : (e : Event) (rows : List Row) → (length rows == 0) ≡ false → AreOfOne (Some e) rows → (es new : List (Event × List Row)) (events new_events : List (Number × List Event)) (reach new_reach : List Reach)
-    → new ≡ held_put e rows es → new_events ≡ events_put rows (list_at by_event es e) events → Reached rows reach new_reach → IsIndex es events reach → IsIndex new new_events new_reach × (told new ≡ put_each rows (told es))
+    → new ≡ held_put e rows es → new_events ≡ events_with (has_rows (list_at by_event es e) e) e events → Reached rows reach new_reach → IsIndex es events reach → IsIndex new new_events new_reach × (told new ≡ put_each rows (told es))
 rows-put e [] some all es new events new_events reach new_reach new_is events_are reached index = cc
 rows-put e (row ∷ rows) some all es new events new_events reach new_reach new_is events_are reached index =
-    let made = run-put e row rows all.0 all.1 es events (record { held = index.held; opened = index.opened }) in
-    let put =
-    subst (λ (x : List (Event × List Row)). IsPut (row ∷ rows) es x new_events) (sym new_is)
-    (subst (λ (x : List (Number × List Event)). IsPut (row ∷ rows) es (held_put e (row ∷ rows) es) x) (sym events_are) made) in (
+    let known = has_rows (list_at by_event es e) e in
+    let put = subst (λ (x : List (Event × List Row)). IsPut (row ∷ rows) es x) (sym new_is) (run-put e row rows all.0 all.1 es index.held) in
+    let opened = opened-with known e row rows (told es) events (told-sorted es) all.0 all.1 (has_rows-told es e index.held) index.opened in (
       record {
-        held = put.0.held;
-        opened = put.0.opened;
+        held = put.0;
+        opened = subst (λ (all : List Row). AreOpened new_events all) (sym put.1)
+            (subst (λ (x : List (Number × List Event)). AreOpened x (put_each (row ∷ rows) (told es))) (sym events_are) opened);
         reached = subst (λ (all : List Row). Reaches new_reach all) (sym put.1) (reaches-put (row ∷ rows) (told es) reach new_reach (told-sorted es) reached index.reached);
       },
       put.1,

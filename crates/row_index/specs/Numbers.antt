@@ -1,5 +1,5 @@
 -- Hazards and numbers, the events that have them, and what the maps of an index hold of its rows.
-use Rattle.std.specs.Prelude.{◌==◌, ◌&&◌, not, Bool, List, [], ◌∷◌, ◌++◌, if◌then◌else◌, Option, Some, None}
+use Rattle.std.specs.Prelude.{◌==◌, ◌&&◌, not, Bool, true, false, List, [], ◌∷◌, ◌++◌, if◌then◌else◌}
 use Rattle.std.specs.BTreeMap.{insert_entry}
 use Rattle.std.specs.List.{list_any}
 use Rattle.std.specs.declared.cmp.Ordering.{Ordering}
@@ -34,10 +34,10 @@ is_in_zone z r = same_zone r.zone z
 abbrev pub with_event : Event → List Event → List Event
 with_event e events = if list_any (λ d. same_event d e) events then events else events ++ e ∷ []
 
--- the lists with the event of a row, unless a row of it stood in its place before
-abbrev pub events_with : Option Row → Event → List (Number × List Event) → List (Number × List Event)
-events_with None e es = insert_entry by_number es (number_of e) (with_event e (list_at by_number es (number_of e)))
-events_with (Some old) e es = es
+-- the lists with an event, unless it had rows before
+abbrev pub events_with : Bool → Event → List (Number × List Event) → List (Number × List Event)
+events_with true e es = es
+events_with false e es = insert_entry by_number es (number_of e) (with_event e (list_at by_number es (number_of e)))
 
 -- the events of each hazard and number are those of its rows
 abbrev pub AreOpened : List (Number × List Event) → List Row → Type 0

@@ -8,8 +8,9 @@ ghost use Rattle.event_life.specs.Periods.{is_live, keeps_open, same_at};
 ghost use Rattle.event_life.specs.Products.{by_key, put, row_at, has_rows};
 ghost use Rattle.row_index.specs.Holding.{puts};
 ghost use Rattle.row_index.specs.Listing.{lists_of, list_at};
+ghost use Rattle.row_index.specs.Numbers.{events_with};
 ghost use Rattle.row_index.specs.Reaching.{Reached};
-ghost use Rattle.row_index.specs.Runs.{held_put, events_put};
+ghost use Rattle.row_index.specs.Runs.{held_put};
 ghost use Rattle.row_index.specs.Seating.{AreSeated};
 ghost use Rattle.row_index.specs.Standings.{restood};
 ghost use Rattle.row_index.specs.Steps.{put_each};
@@ -104,12 +105,12 @@ impl EventRows {
         all_rows(alloc, &self.rows)
     }
 
-    /// Puts a row. `before` becomes the one that was in its place. When memory runs out, the event has no rows.
-    fn put(&mut self, row: &Row, before: &mut Option<Row>) -> Result<(), Oom>
-        ensures before { OnOk result (before.new ≡ row_at self.old row.now.event row.now.zone) }
-        ensures rows { OnOk result (self.new ≡ put row.now self.old) }
+    /// Puts a row. When memory runs out, the event has no rows.
+    fn put(&mut self, row: &Row) -> Result<(), Oom>
+        ensures { OnOk result (self.new ≡ put row.now self.old) }
     {
-        match put_standing(&mut self.rows, &mut self.standing, row, before) {
+        let mut before = None;
+        match put_standing(&mut self.rows, &mut self.standing, row, &mut before) {
             Ok(()) => Ok(()),
             Err(oom) => {
                 self.rows.clear();
@@ -225,20 +226,12 @@ pub fn has_period(held: &Held, t: Minute, event: &Event, period: &Period) -> boo
     }
 }
 
-/// Puts each of the rows among those of their event, and their events among those of their hazards and numbers.
-fn put_rows(
-    alloc: Global,
-    known: &mut EventRows,
-    events: &mut Events,
-    rows: &[Row],
-) -> Result<(), Oom>
-    ensures rows { OnOk result (known.new ≡ put_each rows.now known.old) }
-    ensures events { OnOk result (lists_of events.new.entries ≡ events_put rows.now known.old (lists_of events.old.entries)) }
+/// Puts each of the rows.
+fn put_rows(known: &mut EventRows, rows: &[Row]) -> Result<(), Oom>
+    ensures { OnOk result (known.new ≡ put_each rows.now known.old) }
 {
     for row in rows {
-        let mut before = None;
-        known.put(row, &mut before)?;
-        put_event_of(alloc, events, &before, &row.event)?;
+        known.put(row)?;
     }
     Ok(())
 }
@@ -254,14 +247,15 @@ pub fn put_held(
 ) -> Result<(), Oom>
     requires { AllByRecursion (λ r. r.event ≡ event.now) rows.now }
     ensures held { OnOk result (held.new.entries ≡ held_put event.now rows.now held.old.entries) }
-    ensures events { OnOk result (lists_of events.new.entries ≡ events_put rows.now (list_at by_event held.old.entries event.now) (lists_of events.old.entries)) }
+    ensures events { OnOk result (lists_of events.new.entries ≡ events_with (has_rows (list_at by_event held.old.entries event.now) event.now) event.now (lists_of events.old.entries)) }
     ensures reached { OnOk result (Reached rows.now reaches.old.keys reaches.new.keys) }
 {
     let known = held
         .entry(EventKey { event: *event })?
         .or_insert(EventRows::new(alloc));
+    put_event_of(alloc, events, known.has_rows(event), event)?;
     known.reach(reaches, event, rows)?;
-    put_rows(alloc, known, events, rows)
+    put_rows(known, rows)
 }
 
 /// The rows of all events, one event after another.

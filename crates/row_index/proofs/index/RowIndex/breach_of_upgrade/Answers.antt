@@ -1,5 +1,5 @@
 -- A UPG line asks for a higher row alone.
-use Rattle.std.proofs.Common.{◌∙◌, Bool, Some, None, cond, ap}
+use Rattle.std.proofs.Common.{◌∙◌, Some, None, cond, ap}
 use Rattle.event_life.specs.declared.life.Around.{Around}
 use Rattle.event_life.specs.declared.life.Breach.TheVariants.{Twice}
 use Rattle.event_life.specs.Products.{is_routine, life_at, around_but_higher}
