@@ -2,8 +2,11 @@
 use Rattle.std.proofs.Common.{◌≡◌, ◌∙◌, ℕ, List, [], ◌∷◌, ◌&&◌, ◌||◌, Bool, true, false, Option, refl, ap, sym, subst}
 use Rattle.std.specs.List.{AllByRecursion, list_any}
 use Rattle.std.specs.List.Sorted.{IsStrictlySortedBy}
-use Rattle.std.specs.Map.{values_of}
+use Rattle.std.specs.BTreeMap.{insert_entry}
+use Rattle.std.specs.Map.{keys_of, values_of}
 use Rattle.hazard_types.specs.Orders.{by_event}
+use Rattle.hazard_types.specs.Places.{Place, by_place}
+use Rattle.hazard_types.proofs.OrderLaws.{by_place_total, by_place_ties}
 use Rattle.hazard_types.specs.Same.{same_event}
 use Rattle.hazard_types.specs.declared.hazard.Event.{Event}
 use Rattle.hazard_types.specs.declared.line.Line.{Line}
@@ -13,29 +16,35 @@ use Rattle.event_life.specs.Periods.{is_live, keeps_open, same_at}
 use Rattle.event_life.specs.Products.{by_key, put, row_at, is_open, has_same}
 use Rattle.event_life.specs.Table.{opened_period}
 use Rattle.event_life.proofs.Puts.{put-sorted}
-use Rattle.row_index.specs.declared.seats.Seat.{Seat}
 use Rattle.row_index.specs.declared.standing.Standing.{Standing}
 use Rattle.row_index.specs.Holding.{told, AreHeld}
 use Rattle.row_index.specs.Listing.{list_at}
-use Rattle.row_index.specs.Seating.{AreSeated}
+use Rattle.row_index.specs.Zoning.{AreZoned}
 use Rattle.row_index.specs.Standings.{restood, AreCounts, AreEventRows}
+use Rattle.row_index.proofs.Lists.{ascending-put}
+use Rattle.row_index.proofs.Zoned.{zoned-put}
 use Rattle.row_index.proofs.HeldRows.{none-sorted, held-own, held-part, is_open-of, has_same-of}
 use Rattle.row_index.proofs.Stood.{stood-put, stood-none}
 use Rattle.row_index.proofs.Tests.{any_same}
 
-rows-none : AreEventRows [] []
-rows-none = record { seated = tt; in_order = none-sorted; standing = stood-none }
+no_zones : IsStrictlySortedBy by_place []
+unfolding IsStrictlySortedBy
+no_zones = tt
 
-pub rows-emptied : (es : List (Seat × Row)) (counts : List (Standing × ℕ)) → es ≡ [] → counts ≡ [] → AreEventRows es counts
+rows-none : AreEventRows [] []
+rows-none = record { zoned = tt; zones_ascending = no_zones; in_order = none-sorted; standing = stood-none }
+
+pub rows-emptied : (es : List (Place × Row)) (counts : List (Standing × ℕ)) → es ≡ [] → counts ≡ [] → AreEventRows es counts
 rows-emptied es counts es_are counts_are = rw (es_are, counts_are) rows-none
 
 -- one row more
-pub rows-made : (es after : List (Seat × Row)) (counts next : List (Standing × ℕ)) (row : Row) (before : Option Row) → before ≡ row_at (values_of es) row.event row.zone → values_of after ≡ put row (values_of es) → AreSeated after
+pub rows-made : (es after : List (Place × Row)) (counts next : List (Standing × ℕ)) (row : Row) (before : Option Row) → before ≡ row_at (values_of es) row.event row.zone → values_of after ≡ put row (values_of es) → after ≡ insert_entry by_place es row.zone row
     → next ≡ restood before row counts → AreEventRows es counts → AreEventRows after next
-rows-made es after counts next row before found after_is seated next_is are =
+rows-made es after counts next row before found after_is entries_are next_is are =
     let rows = values_of es in
     record {
-      seated = seated;
+      zoned = subst (λ (all : List (Place × Row)). AreZoned all) (sym entries_are) (zoned-put row es are.zoned);
+      zones_ascending = subst (λ (all : List (Place × Row)). IsStrictlySortedBy by_place (keys_of all)) (sym entries_are) (ascending-put by_place by_place_total by_place_ties row.zone es row are.zones_ascending);
       in_order = subst (λ (all : List Row). IsStrictlySortedBy by_key all) (sym after_is) (put-sorted row rows are.in_order);
       standing = subst (λ (all : List Row). AreCounts next all) (sym after_is)
           (subst (λ (all : List (Standing × ℕ)). AreCounts all (put row rows)) (sym next_is) (stood-put rows counts row before are.in_order are.standing found));

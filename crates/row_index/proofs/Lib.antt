@@ -1,5 +1,6 @@
 pub mod Tests
 mod Seated
+mod Zoned
 mod Saying
 mod LeftLemmas
 mod Lists

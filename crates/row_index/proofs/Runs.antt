@@ -1,5 +1,5 @@
 -- An index with the rows of one event put in turn.
-use Rattle.std.proofs.Common.{◌≡◌, ◌∙◌, ◌==◌, length, false, List, [], ◌∷◌, ◌++◌, true, Option, Some, None, refl, ap, sym, subst}
+use Rattle.std.proofs.Common.{◌≡◌, ◌∙◌, ◌==◌, ◌<◌, ◌+◌, ℕ, zero, suc, arith, drop, drop-cons, get_or, length, false, List, [], ◌∷◌, ◌++◌, true, Option, Some, None, refl, ap, sym, subst}
 use Rattle.std.specs.BTreeMap.{insert_entry}
 use Rattle.std.specs.List.{AllByRecursion}
 use Rattle.hazard_types.specs.Orders.{by_event}
@@ -57,6 +57,19 @@ rows-put e (row ∷ rows) some all es new events new_events reach new_reach new_
       },
       put.1,
     )
+
+-- one row more of a list
+pub put_next : (rows known next all : List Row) (i : ℕ) (row : Row) → i < length rows → row ≡ get_or rows i row → next ≡ put row known → put_each (drop i rows) known ≡ all → put_each (drop (i + 1) rows) next ≡ all
+put_next rows known next all i row within is next_is sofar =
+    let after : suc i ≡ i + 1 = omega arith in
+    let cut : drop i rows ≡ row ∷ drop (i + 1) rows =
+    drop-cons rows i row within ∙ ap (λ (x : Row). x ∷ drop (suc i) rows) (sym is) ∙ ap (λ (k : ℕ). row ∷ drop k rows) after in
+    ap (put_each (drop (i + 1) rows)) next_is ∙ ap (λ (rest : List Row). put_each rest known) (sym cut) ∙ sofar
+
+pub of_at : (e : Event) (i : ℕ) (rows : List Row) (row : Row) → AllByRecursion (λ (r : Row). r.event ≡ e) rows → i < length rows → row ≡ get_or rows i row → row.event ≡ e
+of_at e i [] row all within is = absurd (omega (arith, within))
+of_at e zero (r ∷ rows) row all within is = ap (λ (x : Row). x.event) is ∙ all.0
+of_at e (suc i) (r ∷ rows) row all within is = of_at e i rows row all.1 (omega (arith, within)) is
 
 -- one row behind a run
 

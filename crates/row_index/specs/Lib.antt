@@ -2,6 +2,7 @@ pub mod Telling
 pub mod Listing
 pub mod Holding
 pub mod Seating
+pub mod Zoning
 pub mod Risen
 pub mod Reaching
 pub mod Numbers

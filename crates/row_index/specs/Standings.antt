@@ -7,17 +7,17 @@ use Rattle.std.specs.List.Sorted.{IsStrictlySortedBy}
 use Rattle.std.specs.Map.{keys_of, lookup, remove_entry, values_of}
 use Rattle.std.specs.declared.cmp.Ordering.{Ordering}
 use Rattle.std.specs.declared.ops.Bound.TheVariants.{Included, Unbounded}
+use Rattle.hazard_types.specs.Places.{Place, by_place}
 use Rattle.hazard_types.specs.declared.line.Row.{Row}
 use Rattle.hazard_types.specs.declared.period.End.{End}
 use Rattle.hazard_types.specs.declared.period.End.TheVariants as end
 use Rattle.hazard_types.specs.declared.period.Period.{Period}
 use Rattle.event_life.specs.Products.{by_key}
-use Rattle.row_index.specs.declared.seats.Seat.{Seat}
 use Rattle.row_index.specs.declared.standing.Standing.{Standing}
 use Rattle.row_index.specs.contracts.standing.StandingOrd.TheImpl as order
 use Rattle.row_index.specs.Numbers.{stands}
-use Rattle.row_index.specs.Seating.{AreSeated}
 use Rattle.row_index.specs.Steps.{stays}
+use Rattle.row_index.specs.Zoning.{AreZoned}
 
 abbrev pub by_standing : Standing → Standing → Ordering
 by_standing = order.cmp-value.it
@@ -89,8 +89,9 @@ pub record AreCounts (counts : List (Standing × ℕ)) (rows : List Row) : Type 
   pub some : AllByRecursion (λ (e : Standing × ℕ). (e.1 == 0) ≡ false) counts
   pub counted : (k : Standing) → count_at counts k ≡ tally (stands_with k) rows
 
--- the rows are at their seats and in order, and those of them are counted that no line has ended
-pub record AreEventRows (es : List (Seat × Row)) (counts : List (Standing × ℕ)) : Type 0 where
-  pub seated : AreSeated es
+-- the rows are at their zones and in order, and those of them are counted that no line has ended
+pub record AreEventRows (es : List (Place × Row)) (counts : List (Standing × ℕ)) : Type 0 where
+  pub zoned : AreZoned es
+  pub zones_ascending : IsStrictlySortedBy by_place (keys_of es)
   pub in_order : IsStrictlySortedBy by_key (values_of es)
   pub standing : AreCounts counts (values_of es)

@@ -1,9 +1,11 @@
 //! The rows of each event, by zone.
 ghost use Rattle.std.specs.Prelude.{◌≡◌, ◌&&◌, [], flat_map, IfOk, OnOk};
-ghost use Rattle.std.specs.List.{AllByRecursion, list_any};
+ghost use Rattle.std.specs.BTreeMap.{insert_entry};
+ghost use Rattle.std.specs.List.{list_any};
 ghost use Rattle.std.specs.List.Sorted.{IsStrictlySortedBy};
 ghost use Rattle.std.specs.Map.{values_of};
 ghost use Rattle.hazard_types.specs.Orders.{by_event};
+ghost use Rattle.hazard_types.specs.Places.{by_place};
 ghost use Rattle.event_life.specs.Periods.{is_live, keeps_open, same_at};
 ghost use Rattle.event_life.specs.Products.{by_key, put, row_at, has_rows};
 ghost use Rattle.row_index.specs.Holding.{puts};
@@ -11,15 +13,16 @@ ghost use Rattle.row_index.specs.Listing.{lists_of, list_at};
 ghost use Rattle.row_index.specs.Numbers.{events_with};
 ghost use Rattle.row_index.specs.Reaching.{Reached};
 ghost use Rattle.row_index.specs.Runs.{held_put};
-ghost use Rattle.row_index.specs.Seating.{AreSeated};
 ghost use Rattle.row_index.specs.Standings.{restood};
 ghost use Rattle.row_index.specs.Steps.{put_each};
+ghost use Rattle.row_index.specs.Zoning.{AreOf, AreZoned};
 
 use crate::numbers::{Events, put_event_of};
 use crate::parts::EventKey;
 use crate::reach::{Reaches, reach_with};
-use crate::seats::{Seated, all_rows, put_seated, row_in};
+use crate::seats::{Seated, put_seated};
 use crate::standing::{Standings, has_same_among, is_open_among, restand};
+use crate::zones::{Zoned, put_zoned, zone_row};
 use hazard_types::{End, Event, Minute, Oom, Period, Row, Zone};
 use std::alloc::{AllocError, Global};
 use std::collections::BTreeMap;
@@ -27,26 +30,27 @@ use std::marker::Model;
 
 /// Puts a row among those of an event, and among those of them that no line has ended.
 fn put_standing(
-    rows: &mut Seated,
+    rows: &mut Zoned,
     standing: &mut Standings,
     row: &Row,
     before: &mut Option<Row>,
 ) -> Result<(), Oom>
-    requires { AreSeated rows.old.entries }
+    requires zoned { AreZoned rows.old.entries }
+    requires own { AreOf row.now.event (values_of rows.old.entries) }
     ensures before { OnOk result (before.new ≡ row_at (values_of rows.old.entries) row.now.event row.now.zone) }
     ensures rows { OnOk result (values_of rows.new.entries ≡ put row.now (values_of rows.old.entries)) }
-    ensures seated { OnOk result (AreSeated rows.new.entries) }
+    ensures entries { OnOk result (rows.new.entries ≡ insert_entry by_place rows.old.entries row.now.zone row.now) }
     ensures standing { OnOk result (standing.new.entries ≡ restood before.new row.now standing.old.entries) }
 {
-    put_seated(rows, row, before)?;
+    put_zoned(rows, row, before)?;
     restand(standing, before, row)
 }
 
-/// The rows of one event, each at its seat, how many of those that no line has ended have each period, and how far they were seen
+/// The rows of one event, each at its zone, how many of those that no line has ended have each period, and how far they were seen
 /// to reach.
 #[derive(Drop)]
 pub struct EventRows {
-    rows: Seated,
+    rows: Zoned,
     standing: Standings,
     latest: Option<End>,
 }
@@ -88,7 +92,7 @@ impl EventRows {
     fn row_at(&self, event: &Event, zone: &Zone) -> Option<Row>
         ensures { result ≡ row_at self.now event.now zone.now }
     {
-        row_in(&self.rows, event, zone)
+        zone_row(&self.rows, event, zone)
     }
 
     /// Whether a row is of an event.
@@ -102,11 +106,12 @@ impl EventRows {
     fn all(&self, alloc: Global) -> Result<Vec<Row>, AllocError>
         ensures { IfOk result (λ rows. rows.items ≡ self.now) }
     {
-        all_rows(alloc, &self.rows)
+        self.rows.values().copied().collect(alloc)
     }
 
-    /// Puts a row. When memory runs out, the event has no rows.
+    /// Puts a row of the event. When memory runs out, the event has no rows.
     fn put(&mut self, row: &Row) -> Result<(), Oom>
+        requires { AreOf row.now.event self.old }
         ensures { OnOk result (self.new ≡ put row.now self.old) }
     {
         let mut before = None;
@@ -122,7 +127,7 @@ impl EventRows {
 
     /// The event reaches as far as these rows of it.
     fn reach(&mut self, reaches: &mut Reaches, event: &Event, rows: &[Row]) -> Result<(), Oom>
-        requires { AllByRecursion (λ r. r.event ≡ event.now) rows.now }
+        requires { AreOf event.now rows.now }
         ensures rows { OnOk result (self.new ≡ self.old) }
         ensures reached { OnOk result (Reached rows.now reaches.old.keys reaches.new.keys) }
     {
@@ -226,8 +231,10 @@ pub fn has_period(held: &Held, t: Minute, event: &Event, period: &Period) -> boo
     }
 }
 
-/// Puts each of the rows.
-fn put_rows(known: &mut EventRows, rows: &[Row]) -> Result<(), Oom>
+/// Puts each of the rows, which are of the event.
+fn put_rows(known: &mut EventRows, event: &Event, rows: &[Row]) -> Result<(), Oom>
+    requires known { AreOf event.now known.old }
+    requires rows { AreOf event.now rows.now }
     ensures { OnOk result (known.new ≡ put_each rows.now known.old) }
 {
     for row in rows {
@@ -245,7 +252,8 @@ pub fn put_held(
     event: &Event,
     rows: &[Row],
 ) -> Result<(), Oom>
-    requires { AllByRecursion (λ r. r.event ≡ event.now) rows.now }
+    requires known { AreOf event.now (list_at by_event held.old.entries event.now) }
+    requires rows { AreOf event.now rows.now }
     ensures held { OnOk result (held.new.entries ≡ held_put event.now rows.now held.old.entries) }
     ensures events { OnOk result (lists_of events.new.entries ≡ events_with (has_rows (list_at by_event held.old.entries event.now) event.now) event.now (lists_of events.old.entries)) }
     ensures reached { OnOk result (Reached rows.now reaches.old.keys reaches.new.keys) }
@@ -255,7 +263,7 @@ pub fn put_held(
         .or_insert(EventRows::new(alloc));
     put_event_of(alloc, events, known.has_rows(event), event)?;
     known.reach(reaches, event, rows)?;
-    put_rows(known, rows)
+    put_rows(known, event, rows)
 }
 
 /// The rows of all events, one event after another.

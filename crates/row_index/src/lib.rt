@@ -12,6 +12,7 @@ mod reach;
 mod seats;
 mod spoken;
 mod standing;
+mod zones;
 
 pub use index::RowIndex;
 pub use parts::{EventKey, ZoneKey};

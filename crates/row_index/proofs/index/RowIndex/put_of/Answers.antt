@@ -2,8 +2,12 @@
 use Rattle.std.proofs.Common.{◌∙◌, ap, sym}
 use Rattle.row_index.specs.Listing.{lists_of}
 use Rattle.row_index.specs.Steps.{put_each}
+use Rattle.row_index.proofs.HeldRows.{held-own}
 use Rattle.row_index.proofs.Runs.{rows-put}
 use Rattle.row_index.proofs.index.RowIndex.put_of.Goals as goal
+
+pub put_held-requires-clause-known : goal.put_held-requires-clause-known
+put_held-requires-clause-known c = held-own c.self.inside.held.entries c.args.event.now c.self.invariant.held
 
 pub invariant_of-result : goal.invariant_of-result
 invariant_of-result c =
