@@ -457,7 +457,27 @@ impl RowIndex {
         Ok(rows)
     }
 
-    /// Whether the row of a UPG line, its `own`, is overlapped by a higher one after the product.
+    /// Whether the row of a UPG line, its `own`, is overlapped by a higher one after the product, or its hazard yields to none.
+    fn has_higher_over(
+        &self,
+        alloc: Global,
+        t: Minute,
+        changed: &Changed,
+        line: &Line,
+        own: &Row,
+    ) -> Result<bool, Oom>
+        requires seated { AreSeated changed.now.counted.entries }
+        requires own { Some own.now ≡ row_at self.now line.now.event line.now.zone }
+        ensures { (lines : Seq LineValue) → IsChanged self.now t lines (values_of changed.now.counted.entries) changed.now.upgraded.keys changed.now.lasting.items → IfOk result (λ higher. higher ≡ has_higher self.now t lines line.now) }
+    {
+        let _ = &self.reach;
+        let before = self.higher_rows(alloc, &changed.lasting, &line.event.hazard, &line.zone)?;
+        let rows = rivals(alloc, changed, &line.zone, &before)?;
+        Ok(event_life::has_higher(&[*own], t, &rows, line))
+    }
+
+    /// Whether the row of a UPG line, its `own` where it has one, is overlapped by a higher one after the product, or its hazard
+    /// yields to none.
     fn has_higher(
         &self,
         alloc: Global,
@@ -470,12 +490,9 @@ impl RowIndex {
         requires own { own.now ≡ row_at self.now line.now.event line.now.zone }
         ensures { (lines : Seq LineValue) → IsChanged self.now t lines (values_of changed.now.counted.entries) changed.now.upgraded.keys changed.now.lasting.items → IfOk result (λ higher. higher ≡ has_higher self.now t lines line.now) }
     {
-        let _ = &self.reach;
-        let before = self.higher_rows(alloc, &changed.lasting, &line.event.hazard, &line.zone)?;
-        let rows = rivals(alloc, changed, &line.zone, &before)?;
         match own {
-            Some(own) => Ok(event_life::has_higher(&[*own], t, &rows, line)),
-            None => Ok(event_life::has_higher(&[], t, &rows, line)),
+            Some(own) => self.has_higher_over(alloc, t, changed, line, own),
+            None => Ok(event_life::has_higher(&[], t, &[], line)),
         }
     }
 

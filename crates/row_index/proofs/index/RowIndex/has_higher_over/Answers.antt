@@ -8,17 +8,17 @@ use Rattle.event_life.specs.Products.{by_key, row_at, is_overlapped}
 use Rattle.row_index.specs.Steps.{higher_rows, rivals}
 use Rattle.row_index.proofs.Changing.{higher_own}
 use Rattle.row_index.proofs.HeldRows.{told-sorted}
-use Rattle.row_index.proofs.index.RowIndex.has_higher.Goals as goal
+use Rattle.row_index.proofs.index.RowIndex.has_higher_over.Goals as goal
 
-pub returns-in-Some : goal.returns-in-Some
-returns-in-Some c = λ lines changed.
+pub returns : goal.returns
+returns c = λ lines changed.
     let rows = c.args.self.now in
     let line = c.args.line.now in
     let counted = values_of c.args.changed.now.counted.entries in
     let seats = c.args.changed.now.upgraded.keys in
     let up : IsStrictlySortedBy by_key rows = subst (λ (all : List Row). IsStrictlySortedBy by_key all) c.self.view_is (told-sorted c.self.inside.held.entries) in
     let before_is = c.deref-2.ensures.value ∙ c.in_ok-before.ensures ∙ ap (higher_rows rows line.event.hazard line.zone) c.deref.ensures.value in
-    let rivals_are = c.deref-in-Some.ensures.value ∙ c.in_ok-rows.ensures ∙ ap (rivals line.zone counted seats) before_is in
+    let rivals_are = c.deref-3.ensures.value ∙ c.in_ok-rows.ensures ∙ ap (rivals line.zone counted seats) before_is in
     c.has_higher.ensures
-    ∙ ap (λ (all : List Row). not (may_yield line.event.hazard) || is_overlapped all c.args.t (row_at (c.in-Some.own ∷ []) line.event line.zone)) rivals_are
-    ∙ higher_own rows c.args.t lines counted seats c.args.changed.now.lasting.items changed up line c.in-Some.own (sym c.requires.own ∙ c.in-Some.is)
+    ∙ ap (λ (all : List Row). not (may_yield line.event.hazard) || is_overlapped all c.args.t (row_at (c.args.own.now ∷ []) line.event line.zone)) rivals_are
+    ∙ higher_own rows c.args.t lines counted seats c.args.changed.now.lasting.items changed up line c.args.own.now (sym c.requires.own)
