@@ -6,16 +6,17 @@ use Rattle.std.specs.BTreeMap.{is_at}
 use Rattle.std.specs.List.{filter, list_any}
 use Rattle.std.specs.List.Sorted.{IsStrictlySortedBy}
 use Rattle.std.specs.Option.{is_none}
+use Rattle.hazard_types.specs.Hazards.{facts_of}
 use Rattle.hazard_types.specs.Places.{Place}
 use Rattle.hazard_types.specs.Same.{same_zone, same_event}
 use Rattle.hazard_types.specs.declared.codes.Action.{Action}
 use Rattle.hazard_types.specs.declared.codes.Action.TheVariants.{New, Con, Exa, Ext, Exb, Upg, Can, Exp, Cor, Rou}
+use Rattle.hazard_types.specs.declared.codes.Family.{Family}
 use Rattle.hazard_types.specs.declared.hazard.Event.{Event}
-use Rattle.hazard_types.specs.declared.hazard.Hazard.{Hazard}
 use Rattle.hazard_types.specs.declared.line.Line.{Line}
 use Rattle.hazard_types.specs.declared.line.Row.{Row}
-use Rattle.hazard_types.proofs.Equality.{zone_one}
-use Rattle.event_life.specs.Higher.{may_yield, outranks}
+use Rattle.hazard_types.proofs.Equality.{event_one, zone_one}
+use Rattle.event_life.specs.Higher.{family_of, is_above, may_yield, outranks}
 use Rattle.event_life.specs.Periods.{is_live, overlaps}
 use Rattle.event_life.specs.Products.{by_key, put, row_at, row_after, is_routine, is_upgrade, speaks_of, put_but_upgrades, end_upgraded, rows_for_higher, is_overlapped, has_higher}
 use Rattle.event_life.specs.Seats.{may_count, is_upgraded}
@@ -25,8 +26,9 @@ use Rattle.row_index.specs.declared.seats.Seat.{Seat}
 use Rattle.row_index.specs.Numbers.{is_in_zone}
 use Rattle.row_index.specs.Seating.{by_seat, seat_of, seat_said, has_seat, upgrades}
 use Rattle.row_index.specs.Steps.{IsChanged, not_upgraded, not_counted, listed, higher_at, higher_rows, rivals}
-use Rattle.row_index.specs.Telling.{Tells, Covers}
-use Rattle.row_index.proofs.Reached.{any_flat, both}
+use Rattle.row_index.specs.Reaching.{lives, Covers}
+use Rattle.row_index.specs.Telling.{Tells}
+use Rattle.row_index.proofs.Reached.{any_flat}
 use Rattle.row_index.proofs.Seated.{seat_tied}
 use Rattle.row_index.proofs.Tests.{and_true, and_false, any_same, any_filtered, any_put, at_itself, but, found_own}
 
@@ -163,7 +165,7 @@ asked_parts t own r h =
     let z = and_parts (same_zone r.zone own.zone) _ q.0 in
     (z.1, q.1, zone_one r.zone own.zone z.0)
 
--- the rows of events of higher rank that have one in a zone
+-- the rows of events above a rank that have one in a zone
 
 shown_in : (P : Row → Bool) (b : Bool) (o : Option Row) → list_any P (cond b (listed o) []) ≡ true → (r : Row) × (o ≡ Some r) × (P r ≡ true)
 shown_in P true (Some r) h = (r, refl, one (P r) h)
@@ -174,13 +176,16 @@ shown_in P true (Some r) h = (r, refl, one (P r) h)
 shown_in P true None h = cc
 shown_in P false o h = cc
 
-higher_told : (P : Row → Bool) (rows : List Row) (t : ℕ) (h : Hazard) (z : Place) (events : List Event) → IsStrictlySortedBy by_key rows → Covers (is_live t) (λ (r : Row). r.event) events rows
-    → ((r : Row) → P r ≡ true → (is_live t r ≡ true) × (outranks r.event.hazard h ≡ true) × (r.zone ≡ z)) → list_any P (higher_rows rows h z events) ≡ list_any P rows
-higher_told P rows t h z events up covers asks =
-    any_flat P (higher_at rows h z) events ∙ one_way (list_any passes events) (list_any P rows)
+abbrev is_higher : Option (Family × ℕ) → Event → Bool
+is_higher low e = is_above (family_of (facts_of e.hazard)) low
+
+higher_told : (P : Row → Bool) (rows : List Row) (t : ℕ) (low : Option (Family × ℕ)) (z : Place) (events : List Event) → IsStrictlySortedBy by_key rows → Covers rows t low z events
+    → ((r : Row) → P r ≡ true → (is_live t r ≡ true) × (is_higher low r.event ≡ true) × (r.zone ≡ z)) → list_any P (higher_rows rows low z events) ≡ list_any P rows
+higher_told P rows t low z events up covers asks =
+    any_flat P (higher_at rows low z) events ∙ one_way (list_any passes events) (list_any P rows)
     (λ g.
     let w = any_in passes events g in
-    let r = shown_in P (outranks w.0.hazard h) (row_at rows w.0 z) w.2 in
+    let r = shown_in P (is_higher low w.0) (row_at rows w.0 z) w.2 in
     in_any P rows r.0 (find_in (at_key w.0 z) rows r.0 r.1).0 r.2)
     (λ g.
     let w = any_in P rows g in
@@ -188,16 +193,22 @@ higher_told P rows t h z events up covers asks =
     let a = asks r w.2 in
     let found : row_at rows r.event z ≡ Some r = subst (λ (y : Place). row_at rows r.event y ≡ Some r) a.2 (found_own rows r up w.1) in
     let own : passes r.event ≡ true = rw (a.1, found, w.2) refl in
-    covers passes (in_any (λ (s : Row). is_live t s && passes s.event) rows r w.1 (both (is_live t r) (passes r.event) a.0 own)))
+    let there : lives t (row_at rows r.event z) ≡ true = ap (lives t) found ∙ a.0 in
+    let k = any_in (λ (d : Event). same_event d r.event) events (covers r.event a.1 there) in
+    in_any passes events k.0 k.1 (subst (λ (e : Event). passes e ≡ true) (sym (event_one k.0 r.event k.2)) own))
   where
     passes : Event → Bool
-    passes e = list_any P (higher_at rows h z e)
+    passes e = list_any P (higher_at rows low z e)
 
-module _ (rows : List Row) (t : ℕ) (lines : List Line) (counted : List Row) (seats : List Seat) (events : List Event) (changed : IsChanged rows t lines counted seats events) (up : IsStrictlySortedBy by_key rows) where
-  rivals_told : (own : Row) → is_overlapped (rivals own.zone counted seats (higher_rows rows own.event.hazard own.zone events)) t (Some own) ≡ is_overlapped (rows_for_higher rows t lines) t (Some own)
-  rivals_told own =
+module _ (rows : List Row) (t : ℕ) (lines : List Line) (counted : List Row) (seats : List Seat) (changed : IsChanged rows t lines counted seats) (up : IsStrictlySortedBy by_key rows) where
+  abbrev before_of : Event → Place → List Event → List Row
+  before_of e z events = higher_rows rows (family_of (facts_of e.hazard)) z events
+
+  rivals_told : (own : Row) (events : List Event) → Covers rows t (family_of (facts_of own.event.hazard)) own.zone events
+      → is_overlapped (rivals own.zone counted seats (before_of own.event own.zone events)) t (Some own) ≡ is_overlapped (rows_for_higher rows t lines) t (Some own)
+  rivals_told own events covers =
       let p = overlaps_own t own in
-      let before = higher_rows rows own.event.hazard own.zone events in
+      let before = before_of own.event own.zone events in
       let kept : Row → Bool = λ r. p r && not (is_upgraded lines r) in
       let over = subst (λ (es : List Row). Over es rows (put_but_upgrades rows t [] lines rows)) (sym changed.put) (over_lines rows t lines up) in
       let first : list_any p (not_upgraded seats (filter (is_in_zone own.zone) counted)) ≡ list_any kept counted =
@@ -209,7 +220,7 @@ module _ (rows : List Row) (t : ℕ) (lines : List Line) (counted : List Row) (s
       let later : list_any p (not_counted counted (not_upgraded seats before)) ≡ list_any (λ r. kept r && in_place counted r) rows =
       any_filtered p (in_place counted) (not_upgraded seats before)
       ∙ any_filtered (λ r. in_place counted r && p r) (λ r. not (has_seat seats (seat_of r))) before
-      ∙ higher_told asked rows t own.event.hazard own.zone events up changed.lasting
+      ∙ higher_told asked rows t (family_of (facts_of own.event.hazard)) own.zone events up covers
       (λ r h. asked_parts t own r (and_parts (in_place counted r) _ (and_parts (not (has_seat seats (seat_of r))) _ h).1).1)
       ∙ any_same asked (λ r. kept r && in_place counted r) rows
       (λ r. ap (λ (b : Bool). not b && (in_place counted r && p r)) (upgraded_told seats lines r changed.said) ∙ turned (p r) (is_upgraded lines r) (in_place counted r)) in
@@ -218,18 +229,17 @@ module _ (rows : List Row) (t : ℕ) (lines : List Line) (counted : List Row) (s
       ∙ sym (over kept)
       ∙ sym (any_ended p lines (put_but_upgrades rows t [] lines rows) (none_ended t own))
 
-  pub higher_own : (line : Line) (own : Row) → row_at rows line.event line.zone ≡ Some own
-      → (not (may_yield line.event.hazard) || is_overlapped (rivals line.zone counted seats (higher_rows rows line.event.hazard line.zone events)) t (row_at (own ∷ []) line.event line.zone)) ≡ has_higher rows t lines line
-  higher_own line own found =
+  pub higher_own : (line : Line) (own : Row) (events : List Event) → row_at rows line.event line.zone ≡ Some own → Covers rows t (family_of (facts_of line.event.hazard)) line.zone events
+      → (not (may_yield line.event.hazard) || is_overlapped (rivals line.zone counted seats (before_of line.event line.zone events)) t (row_at (own ∷ []) line.event line.zone)) ≡ has_higher rows t lines line
+  higher_own line own events found covers =
       let own_at = (find_in (at_key line.event line.zone) rows own found).1 in
       let key = at_key-parts line.event line.zone own own_at in
       let one : row_at (own ∷ []) line.event line.zone ≡ Some own = rw own_at refl in
-      let told : is_overlapped (rivals line.zone counted seats (higher_rows rows line.event.hazard line.zone events)) t (Some own) ≡ is_overlapped (rows_for_higher rows t lines) t (Some own) =
-      subst (λ (e : Event). is_overlapped (rivals line.zone counted seats (higher_rows rows e.hazard line.zone events)) t (Some own) ≡ is_overlapped (rows_for_higher rows t lines) t (Some own)) key.0
-      (subst (λ (z : Place). is_overlapped (rivals z counted seats (higher_rows rows own.event.hazard z events)) t (Some own) ≡ is_overlapped (rows_for_higher rows t lines) t (Some own)) key.1 (rivals_told own)) in
+      let covers_own : Covers rows t (family_of (facts_of own.event.hazard)) own.zone events =
+      subst (λ (e : Event). Covers rows t (family_of (facts_of e.hazard)) own.zone events) (sym key.0)
+      (subst (λ (z : Place). Covers rows t (family_of (facts_of line.event.hazard)) z events) (sym key.1) covers) in
+      let told : is_overlapped (rivals line.zone counted seats (before_of line.event line.zone events)) t (Some own) ≡ is_overlapped (rows_for_higher rows t lines) t (Some own) =
+      subst (λ (e : Event). is_overlapped (rivals line.zone counted seats (before_of e line.zone events)) t (Some own) ≡ is_overlapped (rows_for_higher rows t lines) t (Some own)) key.0
+      (subst (λ (z : Place). is_overlapped (rivals z counted seats (before_of own.event z events)) t (Some own) ≡ is_overlapped (rows_for_higher rows t lines) t (Some own)) key.1 (rivals_told own events covers_own)) in
       ap (λ (b : Bool). not (may_yield line.event.hazard) || b)
-      (ap (λ (o : Option Row). is_overlapped (rivals line.zone counted seats (higher_rows rows line.event.hazard line.zone events)) t o) one ∙ told ∙ ap (λ (o : Option Row). is_overlapped (rows_for_higher rows t lines) t o) (sym found))
-
-  pub higher_none : (line : Line) → row_at rows line.event line.zone ≡ None
-      → (not (may_yield line.event.hazard) || false) ≡ has_higher rows t lines line
-  higher_none line found = ap (λ (b : Bool). not (may_yield line.event.hazard) || b) (ap (λ (o : Option Row). is_overlapped (rows_for_higher rows t lines) t o) (sym found))
+      (ap (λ (o : Option Row). is_overlapped (rivals line.zone counted seats (before_of line.event line.zone events)) t o) one ∙ told ∙ ap (λ (o : Option Row). is_overlapped (rows_for_higher rows t lines) t o) (sym found))

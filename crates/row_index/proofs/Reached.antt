@@ -1,37 +1,51 @@
--- How far events reach, where an end is added, and the events that reach to a minute.
-use Rattle.std.proofs.Common.{◌≡◌, ◌∙◌, ◌⊎◌, inl, inr, ℕ, List, [], ◌∷◌, ◌&&◌, ◌||◌, not, Bool, true, false, cond, Ordering, Less, Equal, Greater, Option, Some, None, fold, refl, ap, sym, subst, arith}
+-- The ends of each zone's rows, where a row is put, and the events that they tell.
+use Rattle.std.proofs.Common.{◌≡◌, ◌∙◌, ◌⊎◌, inl, inr, ℕ, List, [], ◌∷◌, ◌&&◌, ◌||◌, not, Bool, true, false, cond, Ordering, Less, Equal, Greater, Option, Some, None, refl, ap, sym, subst, arith}
 use Rattle.std.specs.Prelude.{nat_le, flat_map}
 use Rattle.std.proofs.lemmas.Bool.{and_parts}
 use Rattle.std.proofs.lemmas.Bool.Decides.{nat_tests}
 use Rattle.std.proofs.lemmas.List.Folds.{list_any-append}
-use Rattle.std.specs.BTreeMap.{is_at}
+use Rattle.std.specs.BTreeMap.{insert_entry, is_at}
 use Rattle.std.specs.BTreeSet.{insert_key}
 use Rattle.std.specs.Cmp.{IsTotalOrder}
 use Rattle.std.specs.List.{AllByRecursion, filter, list_any}
-use Rattle.std.specs.List.Sorted.{IsStrictlySortedBy}
-use Rattle.std.specs.Ordering.{ordering_then, is_le, is_lt, nat_cmp}
+use Rattle.std.specs.Option.{is_none}
+use Rattle.std.specs.Ordering.{ordering_then, is_le, nat_cmp}
 use Rattle.std.specs.Set.{remove_key}
-use Rattle.hazard_types.specs.Same.{same_event}
+use Rattle.hazard_types.specs.Hazards.{facts_of}
+use Rattle.hazard_types.specs.Places.{Place, by_place}
+use Rattle.hazard_types.specs.Same.{same_event, same_zone}
+use Rattle.hazard_types.specs.contracts.period.EndOrd.TheImpl as end_order
+use Rattle.hazard_types.specs.contracts.period.PeriodPartialEq.TheImpl as period_eq
+use Rattle.hazard_types.specs.declared.codes.Family.{Family}
 use Rattle.hazard_types.specs.declared.hazard.Event.{Event}
 use Rattle.hazard_types.specs.declared.line.Row.{Row}
 use Rattle.hazard_types.specs.declared.period.End.{End}
 use Rattle.hazard_types.specs.declared.period.End.TheVariants as end
-use Rattle.hazard_types.proofs.Equality.{event_one, event_itself}
-use Rattle.hazard_types.proofs.OrderLaws.{by_end_ties}
-use Rattle.event_life.specs.Periods.{ends_after, is_live}
-use Rattle.event_life.specs.Products.{by_key, put}
+use Rattle.hazard_types.specs.declared.period.Period.{Period}
+use Rattle.hazard_types.proofs.Equality.{event_itself, period_one, zone_itself}
+use Rattle.hazard_types.proofs.OrderLaws.{by_end_ties, by_place_total, by_place_ties}
+use Rattle.event_life.specs.Higher.{family_of, is_above}
+use Rattle.event_life.specs.Periods.{ends_after}
+use Rattle.event_life.specs.Products.{put, row_at}
 use Rattle.event_life.proofs.Keys.{then_parts}
-use Rattle.event_life.proofs.Members.{any_in, in_any, of_all}
-use Rattle.event_life.proofs.Puts.{put-sorted}
+use Rattle.event_life.proofs.Members.{any_in, in_any, find_in}
+use Rattle.event_life.proofs.Puts.{at_key, at_key-parts, row_at-put}
 use Rattle.row_index.specs.declared.reach.Reach.{Reach}
 use Rattle.row_index.specs.declared.seats.Spot.{Spot}
 use Rattle.row_index.specs.declared.seats.Spot.TheVariants.{Front, At, Back}
 use Rattle.row_index.specs.contracts.reach.ReachOrd.TheImpl.Laws as reach_laws
-use Rattle.row_index.specs.Reaching.{by_reach, end_cmp, reach_at, ends_from, events_told, reaches_to, asks_to, Reaches, Reached, ReachedTo, later_end, last_end, is_reached, dropped, lasts, lasting_events}
-use Rattle.row_index.specs.Steps.{put_each}
-use Rattle.row_index.specs.Telling.{Covers}
+use Rattle.row_index.specs.Listing.{list_at}
+use Rattle.row_index.specs.Reaching.{by_reach, reach_at, reach_of, less_reach, more_reach, reached_with, reached_each, is_reached, Reaches, lasts, events_told, lasting_events, lives, Covers}
+use Rattle.row_index.specs.Steps.{stays, put_each}
+use Rattle.row_index.proofs.Lists.{at_same, at_other}
 use Rattle.row_index.proofs.Seated.{spot_ties}
-use Rattle.row_index.proofs.Tests.{any_filtered, any_insert, any_put, at_one, but}
+use Rattle.row_index.proofs.Tests.{any_filtered, any_insert, at_one, at_own}
+
+abbrev pub Zones : Type 0
+Zones = List (Place × List Reach)
+
+abbrev end_cmp : End → End → Ordering
+end_cmp = end_order.cmp-value.it
 
 by_reach_total : IsTotalOrder by_reach
 by_reach_total = reach_laws.total-law
@@ -45,216 +59,159 @@ by_reach_ties a b h =
 
 -- one of two
 
-pub either : (a b : Bool) → (a || b) ≡ true → (a ≡ true) ⊎ (b ≡ true)
+either : (a b : Bool) → (a || b) ≡ true → (a ≡ true) ⊎ (b ≡ true)
 either true b h = inl refl
 either false b h = inr h
 
-pub first_one : (a b : Bool) → a ≡ true → (a || b) ≡ true
+first_one : (a b : Bool) → a ≡ true → (a || b) ≡ true
 first_one true b h = refl
 first_one false b h = cc
 
-pub second_one : (a b : Bool) → b ≡ true → (a || b) ≡ true
+second_one : (a b : Bool) → b ≡ true → (a || b) ≡ true
 second_one true b h = refl
 second_one false b h = h
 
-pub both : (a b : Bool) → a ≡ true → b ≡ true → (a && b) ≡ true
-both a b p q = rw (p, q) refl
+second_true : (a b : Bool) → not a ≡ true → (a || b) ≡ true → b ≡ true
+second_true true b h g = cc
+second_true false b h g = g
 
-not_true : (b : Bool) → not b ≡ true → b ≡ false
-not_true true h = cc
-not_true false h = refl
+first_false : (a b : Bool) → b ≡ true → (a && b) ≡ false → a ≡ false
+first_false true true h g = cc
+first_false true false h g = cc
+first_false false b h g = refl
 
--- ends
+or_kept : (a b c : Bool) → (b ≡ true → c ≡ true) → (a || b) ≡ true → (a || c) ≡ true
+or_kept true b c up h = refl
+or_kept false b c up h = up h
 
-later_from : (a b : End) (t : ℕ) → is_lt (end_cmp a b) ≡ true → ends_from a t ≡ true → ends_from b t ≡ true
-later_from (end.At m) (end.At n) t h g = grind (arith, nat_tests)
-later_from (end.At m) end.Ufn t h g = refl
-later_from end.Ufn (end.At n) t h g = cc
-later_from end.Ufn end.Ufn t h g = refl
+-- ends that come and go
 
-earlier_from : (a b : End) (t : ℕ) → is_lt (end_cmp a b) ≡ false → ends_from b t ≡ true → ends_from a t ≡ true
-earlier_from (end.At m) (end.At n) t h g = grind (arith, nat_tests)
-earlier_from (end.At m) end.Ufn t h g = cc
-earlier_from end.Ufn (end.At n) t h g = refl
-earlier_from end.Ufn end.Ufn t h g = refl
-
-after_from : (a : End) (t : ℕ) → ends_after a t ≡ true → ends_from a t ≡ true
-after_from (end.At m) t h = grind (arith, nat_tests)
-after_from end.Ufn t h = refl
-
--- there is an end, and it is not before the minute
-abbrev is_within : ℕ → Option End → Bool
-is_within t None = false
-is_within t (Some a) = ends_from a t
-
-within_kept : (best : Option End) (a : End) (t : ℕ) → is_within t best ≡ true → is_within t (later_end best a) ≡ true
-within_kept None a t h = cc
-within_kept (Some b) a t h = by_order (is_lt (end_cmp b a)) refl
-  where
-    by_order : (o : Bool) → is_lt (end_cmp b a) ≡ o → is_within t (cond o (Some a) (Some b)) ≡ true
-    by_order true g = later_from b a t g h
-    by_order false g = h
-
-within_later : (best : Option End) (a : End) (t : ℕ) → ends_from a t ≡ true → is_within t (later_end best a) ≡ true
-within_later None a t h = h
-within_later (Some b) a t h = by_order (is_lt (end_cmp b a)) refl
-  where
-    by_order : (o : Bool) → is_lt (end_cmp b a) ≡ o → is_within t (cond o (Some a) (Some b)) ≡ true
-    by_order true g = h
-    by_order false g = earlier_from b a t g h
-
-abbrev last_by : Bool → Option End → End → Option End
-last_by stands best a = cond stands (later_end best a) best
-
-abbrev last_from : Option End → List Row → Option End
-last_from best rows = fold (λ (best : Option End) (r : Row). last_by (not r.ended) best r.period.end) best rows
-
-by_kept : (stands : Bool) (best : Option End) (a : End) (t : ℕ) → is_within t best ≡ true → is_within t (last_by stands best a) ≡ true
-by_kept true best a t h = within_kept best a t h
-by_kept false best a t h = h
-
-last_kept : (rows : List Row) (best : Option End) (t : ℕ) → is_within t best ≡ true → is_within t (last_from best rows) ≡ true
-last_kept [] best t h = h
-last_kept (r ∷ rows) best t h = last_kept rows (last_by (not r.ended) best r.period.end) t (by_kept (not r.ended) best r.period.end t h)
-
-by_later : (stands : Bool) (best : Option End) (a : End) (t : ℕ) → stands ≡ true → ends_from a t ≡ true → is_within t (last_by stands best a) ≡ true
-by_later true best a t s h = within_later best a t h
-by_later false best a t s h = cc
-
-last_later : (rows : List Row) (best : Option End) (t : ℕ) (e : Event) → list_any (asks_to t e) rows ≡ true → is_within t (last_from best rows) ≡ true
-last_later [] best t e h = cc
-last_later (r ∷ rows) best t e h = by_either (last_later rows (last_by (not r.ended) best r.period.end) t e) (either (asks_to t e r) (list_any (asks_to t e) rows) h)
-  where
-    next : Option End
-    next = last_by (not r.ended) best r.period.end
-
-    by_either : (list_any (asks_to t e) rows ≡ true → is_within t (last_from next rows) ≡ true) → (asks_to t e r ≡ true) ⊎ (list_any (asks_to t e) rows ≡ true) → is_within t (last_from next rows) ≡ true
-    by_either later (inl g) =
-        let p = and_parts (not r.ended) _ g in
-        let q = and_parts (same_event r.event e) _ p.1 in
-        last_kept rows next t (by_later (not r.ended) best r.period.end t p.0 q.1)
-    by_either later (inr g) = later g
-
--- rows of one event
-
-asks_own : (d e : Event) (t : ℕ) (rows : List Row) → AllByRecursion (λ (r : Row). r.event ≡ d) rows → list_any (asks_to t e) rows ≡ true → same_event d e ≡ true
-asks_own d e t rows own h =
-    let w = any_in (asks_to t e) rows h in
-    let p = and_parts (not w.0.ended) _ w.2 in
-    subst (λ (x : Event). same_event x e ≡ true) (of_all (λ (r : Row). r.event ≡ d) rows w.0 own w.1) (and_parts (same_event w.0.event e) _ p.1).0
-
-pub reached-none : (d : Event) (rows : List Row) (keys : List Reach) → None ≡ last_end rows → Reached rows keys keys
-reached-none d rows keys none t e h = by_either (either (list_any (reaches_to t e) keys) (list_any (asks_to t e) rows) h)
-  where
-    by_either : (list_any (reaches_to t e) keys ≡ true) ⊎ (list_any (asks_to t e) rows ≡ true) → list_any (reaches_to t e) keys ≡ true
-    by_either (inl g) = g
-    by_either (inr g) =
-        let within : is_within t None ≡ true = ap (is_within t) none ∙ last_later rows None t e g in
-        cc
-
-pub reached-last : (d : Event) (rows : List Row) (a : End) (old new : List Reach) → AllByRecursion (λ (r : Row). r.event ≡ d) rows → Some a ≡ last_end rows → ReachedTo d a old new → Reached rows old new
-reached-last d rows a old new own last to t e h = to t e (by_either (either (list_any (reaches_to t e) old) (list_any (asks_to t e) rows) h))
-  where
-    by_either : (list_any (reaches_to t e) old ≡ true) ⊎ (list_any (asks_to t e) rows ≡ true) → (list_any (reaches_to t e) old || (same_event d e && ends_from a t)) ≡ true
-    by_either (inl g) = first_one (list_any (reaches_to t e) old) _ g
-    by_either (inr g) =
-        let within : is_within t (Some a) ≡ true = ap (is_within t) last ∙ last_later rows None t e g in
-        second_one (list_any (reaches_to t e) old) _ (both (same_event d e) (ends_from a t) (asks_own d e t rows own g) within)
-
--- an end that is added
-
-own_reaches : (t : ℕ) (d e : Event) (a : End) → same_event d e ≡ true → ends_from a t ≡ true → reaches_to t e (reach_at d a) ≡ true
-own_reaches t d e a s h = both (same_event d e || false) (ends_from a t) (first_one (same_event d e) false s) h
-
-own_parts : (t : ℕ) (d e : Event) (a : End) → reaches_to t e (reach_at d a) ≡ true → (same_event d e ≡ true) × (ends_from a t ≡ true)
-own_parts t d e a h =
-    let p = and_parts (same_event d e || false) _ h in
-    (one (same_event d e) p.0, p.1)
-  where
-    one : (b : Bool) → (b || false) ≡ true → b ≡ true
-    one true g = refl
-    one false g = cc
-
-pub reached-there : (latest : Option End) (d : Event) (a : End) (keys : List Reach) → is_reached latest d a keys ≡ true → ReachedTo d a keys keys
-reached-there None d a keys there t e h = cc
-reached-there (Some b) d a keys there t e h = by_either (either (list_any (reaches_to t e) keys) (same_event d e && ends_from a t) h)
-  where
-    by_either : (list_any (reaches_to t e) keys ≡ true) ⊎ ((same_event d e && ends_from a t) ≡ true) → list_any (reaches_to t e) keys ≡ true
-    by_either (inl g) = g
-    by_either (inr g) =
-        let p = and_parts (same_event d e) _ g in
-        let q = and_parts (not (is_lt (end_cmp b a))) _ there in
-        let w = any_in (is_at (by_reach (reach_at d b))) keys q.1 in
-        let one : reach_at d b ≡ w.0 = at_one by_reach by_reach_total by_reach_ties (reach_at d b) w.0 w.2 in
-        in_any (reaches_to t e) keys w.0 w.1
-        (subst (λ (k : Reach). reaches_to t e k ≡ true) one (own_reaches t d e b p.0 (earlier_from b a t (not_true (is_lt (end_cmp b a)) q.0) p.1)))
+abbrev has : List Reach → Reach → Bool
+has keys k = list_any (is_at (by_reach k)) keys
 
 -- what passes is left where a key is taken out, or it was that key
 left_or : (q : Reach → Bool) (k : Reach) (keys : List Reach) → list_any q keys ≡ true → (list_any q (remove_key (is_at (by_reach k)) keys) ≡ true) ⊎ (q k ≡ true)
 left_or q k [] h = cc
-left_or q k (x ∷ xs) h = by_place (left_or q k xs) (is_at (by_reach k) x) refl (either (q x) (list_any q xs) h)
+left_or q k (x ∷ xs) h = by_place_of (left_or q k xs) (is_at (by_reach k) x) refl (either (q x) (list_any q xs) h)
   where
     later : (list_any q (remove_key (is_at (by_reach k)) xs) ≡ true) ⊎ (q k ≡ true) → (list_any q (x ∷ remove_key (is_at (by_reach k)) xs) ≡ true) ⊎ (q k ≡ true)
     later (inl g) = inl (second_one (q x) _ g)
     later (inr g) = inr g
 
-    by_place : (list_any q xs ≡ true → (list_any q (remove_key (is_at (by_reach k)) xs) ≡ true) ⊎ (q k ≡ true)) → (b : Bool) → is_at (by_reach k) x ≡ b → (q x ≡ true) ⊎ (list_any q xs ≡ true) → (list_any q (cond b xs (x ∷ remove_key (is_at (by_reach k)) xs)) ≡ true) ⊎ (q k ≡ true)
-    by_place left true at (inl g) = inr (subst (λ (y : Reach). q y ≡ true) (sym (at_one by_reach by_reach_total by_reach_ties k x at)) g)
-    by_place left true at (inr g) = inl g
-    by_place left false at (inl g) = inl (first_one (q x) _ g)
-    by_place left false at (inr g) = later (left g)
+    by_place_of : (list_any q xs ≡ true → (list_any q (remove_key (is_at (by_reach k)) xs) ≡ true) ⊎ (q k ≡ true)) → (b : Bool) → is_at (by_reach k) x ≡ b → (q x ≡ true) ⊎ (list_any q xs ≡ true) → (list_any q (cond b xs (x ∷ remove_key (is_at (by_reach k)) xs)) ≡ true) ⊎ (q k ≡ true)
+    by_place_of left true at (inl g) = inr (subst (λ (y : Reach). q y ≡ true) (sym (at_one by_reach by_reach_total by_reach_ties k x at)) g)
+    by_place_of left true at (inr g) = inl g
+    by_place_of left false at (inl g) = inl (first_one (q x) _ g)
+    by_place_of left false at (inr g) = later (left g)
 
-dropped_or : (latest : Option End) (d : Event) (a : End) (keys : List Reach) (t : ℕ) (e : Event) → list_any (reaches_to t e) keys ≡ true
-    → (list_any (reaches_to t e) (dropped latest d a keys) ≡ true) ⊎ (reaches_to t e (reach_at d a) ≡ true)
-dropped_or None d a keys t e h = inl h
-dropped_or (Some b) d a keys t e h = by_order (is_lt (end_cmp b a)) refl
+-- the event that a spot is of, or this one
+abbrev event_in : Event → Spot → Event
+event_in d (At e) = e
+event_in d _ = d
+
+-- ends of another event stay
+less_kept : (before : Option Row) (d e : Event) (a : End) (keys : List Reach) → ((old : Row) → before ≡ Some old → old.event ≡ d) → same_event d e ≡ false → has keys (reach_at e a) ≡ true → has (less_reach before keys) (reach_at e a) ≡ true
+less_kept None d e a keys own apart h = h
+less_kept (Some old) d e a keys own apart h = by_left (left_or (is_at (by_reach (reach_at e a))) (reach_of old) keys h)
   where
-    less : List Reach
-    less = remove_key (is_at (by_reach (reach_at d b))) keys
+    by_left : (has (less_reach (Some old) keys) (reach_at e a) ≡ true) ⊎ (is_at (by_reach (reach_at e a)) (reach_of old) ≡ true) → has (less_reach (Some old) keys) (reach_at e a) ≡ true
+    by_left (inl g) = g
+    by_left (inr g) =
+        let one : reach_at e a ≡ reach_of old = at_one by_reach by_reach_total by_reach_ties (reach_at e a) (reach_of old) g in
+        let event_is : e ≡ d = ap (λ (k : Reach). event_in e k.spot) one ∙ own old refl in
+        let same : same_event d e ≡ true = subst (λ (x : Event). same_event d x ≡ true) (sym event_is) (event_itself d) in
+        let none : true ≡ false = sym same ∙ apart in cc
 
-    by_left : is_lt (end_cmp b a) ≡ true → (list_any (reaches_to t e) less ≡ true) ⊎ (reaches_to t e (reach_at d b) ≡ true) → (list_any (reaches_to t e) less ≡ true) ⊎ (reaches_to t e (reach_at d a) ≡ true)
-    by_left lt (inl g) = inl g
-    by_left lt (inr g) = let p = own_parts t d e b g in inr (own_reaches t d e a p.0 (later_from b a t lt p.1))
-
-    by_order : (o : Bool) → is_lt (end_cmp b a) ≡ o → (list_any (reaches_to t e) (cond o less keys) ≡ true) ⊎ (reaches_to t e (reach_at d a) ≡ true)
-    by_order true lt = by_left lt (left_or (reaches_to t e) (reach_at d b) keys h)
-    by_order false lt = inl h
-
-pub reached-added : (latest : Option End) (d : Event) (a : End) (keys less next : List Reach) → less ≡ dropped latest d a keys → next ≡ insert_key by_reach less (reach_at d a) → ReachedTo d a keys next
-reached-added latest d a keys less next less_is next_is t e h =
-    ap (list_any (reaches_to t e)) next_is ∙ any_insert by_reach by_reach_total by_reach_ties (reaches_to t e) (reach_at d a) less
-    ∙ by_either (either (list_any (reaches_to t e) keys) (same_event d e && ends_from a t) h)
+more_kept : (q : Reach → Bool) (row : Row) (keys : List Reach) → list_any q keys ≡ true → list_any q (more_reach row keys) ≡ true
+more_kept q row keys h = by_ended (not row.ended)
   where
-    by_left : (list_any (reaches_to t e) (dropped latest d a keys) ≡ true) ⊎ (reaches_to t e (reach_at d a) ≡ true) → (reaches_to t e (reach_at d a) || list_any (reaches_to t e) less) ≡ true
-    by_left (inl g) = second_one (reaches_to t e (reach_at d a)) _ (ap (list_any (reaches_to t e)) less_is ∙ g)
-    by_left (inr g) = first_one (reaches_to t e (reach_at d a)) _ g
+    by_ended : (b : Bool) → list_any q (cond b (insert_key by_reach keys (reach_of row)) keys) ≡ true
+    by_ended true = any_insert by_reach by_reach_total by_reach_ties q (reach_of row) keys ∙ second_one (q (reach_of row)) _ h
+    by_ended false = h
 
-    by_either : (list_any (reaches_to t e) keys ≡ true) ⊎ ((same_event d e && ends_from a t) ≡ true) → (reaches_to t e (reach_at d a) || list_any (reaches_to t e) less) ≡ true
-    by_either (inl g) = by_left (dropped_or latest d a keys t e g)
-    by_either (inr g) = let p = and_parts (same_event d e) _ g in first_one (reaches_to t e (reach_at d a)) _ (own_reaches t d e a p.0 p.1)
-
--- rows that are put
-
-any_put_each : (p : Row → Bool) (rows all : List Row) → IsStrictlySortedBy by_key all → list_any p (put_each rows all) ≡ true → (list_any p all ≡ true) ⊎ (list_any p rows ≡ true)
-any_put_each p [] all up h = inl h
-any_put_each p (r ∷ rows) all up h = by_rest (any_put_each p rows (put r all) (put-sorted r all up) h)
+more_own : (row : Row) (keys : List Reach) → is_reached row.event (more_reach row keys) (Some row) ≡ true
+more_own row keys = by_ended row.ended
   where
-    by_one : (p r ≡ true) ⊎ (list_any (but p r) all ≡ true) → (list_any p all ≡ true) ⊎ (list_any p (r ∷ rows) ≡ true)
-    by_one (inl g) = inr (first_one (p r) _ g)
-    by_one (inr g) = let w = any_in (but p r) all g in inl (in_any p all w.0 w.1 (and_parts (p w.0) _ w.2).0)
+    by_ended : (b : Bool) → (b || has (cond (not b) (insert_key by_reach keys (reach_of row)) keys) (reach_of row)) ≡ true
+    by_ended true = refl
+    by_ended false =
+        any_insert by_reach by_reach_total by_reach_ties (is_at (by_reach (reach_of row))) (reach_of row) keys
+        ∙ first_one (is_at (by_reach (reach_of row)) (reach_of row)) _ (at_own by_reach by_reach_total by_reach_ties (reach_of row))
 
-    by_rest : (list_any p (put r all) ≡ true) ⊎ (list_any p rows ≡ true) → (list_any p all ≡ true) ⊎ (list_any p (r ∷ rows) ≡ true)
-    by_rest (inl g) = by_one (either (p r) (list_any (but p r) all) (sym (any_put p r all up) ∙ g))
-    by_rest (inr g) = inr (second_one (p r) _ g)
+reached_kept : (e : Event) (o : Option Row) (old new : List Reach) → ((a : End) → has old (reach_at e a) ≡ true → has new (reach_at e a) ≡ true) → is_reached e old o ≡ true → is_reached e new o ≡ true
+reached_kept e None old new up h = refl
+reached_kept e (Some r) old new up h = or_kept r.ended (has old (reach_at e r.period.end)) (has new (reach_at e r.period.end)) (up r.period.end) h
 
-pub reaches-put : (rows all : List Row) (old new : List Reach) → IsStrictlySortedBy by_key all → Reached rows old new → Reaches old all → Reaches new (put_each rows all)
-reaches-put rows all old new up reached reaches t e h = reached t e (by_either (any_put_each (asks_to t e) rows all up h))
-  where
-    by_either : (list_any (asks_to t e) all ≡ true) ⊎ (list_any (asks_to t e) rows ≡ true) → (list_any (reaches_to t e) old || list_any (asks_to t e) rows) ≡ true
-    by_either (inl g) = first_one (list_any (reaches_to t e) old) _ (reaches t e g)
-    by_either (inr g) = second_one (list_any (reaches_to t e) old) _ g
+reached_stays : (e : Event) (keys : List Reach) (before : Option Row) (row : Row) → stays before row ≡ true → is_reached e keys before ≡ true → is_reached e keys (Some row) ≡ true
+reached_stays e keys None row h there = cc
+reached_stays e keys (Some old) row h there =
+    let p = and_parts (period_eq.eq-value.it old.period row.period && not old.ended) _ h in
+    let r = and_parts (period_eq.eq-value.it old.period row.period) _ p.0 in
+    second_one row.ended _
+    (subst (λ (x : Period). has keys (reach_at e x.end) ≡ true) (period_one old.period row.period r.0) (second_true old.ended (has keys (reach_at e old.period.end)) r.1 there))
 
--- the events that reach to a minute
+-- a row is put
+
+module _ (rows : List Row) (reach : Zones) (row : Row) (before : Option Row) (found : before ≡ row_at rows row.event row.zone) (reaches : Reaches reach rows) where
+  abbrev anew : Bool → Zones
+  anew b = cond b reach (insert_entry by_place reach row.zone (more_reach row (less_reach before (list_at by_place reach row.zone))))
+
+  anew_own : (b : Bool) → stays before row ≡ b → is_reached row.event (list_at by_place (anew b) row.zone) (Some row) ≡ true
+  anew_own true h =
+      let there : is_reached row.event (list_at by_place reach row.zone) before ≡ true = ap (is_reached row.event (list_at by_place reach row.zone)) found ∙ reaches row.event row.zone in
+      reached_stays row.event (list_at by_place reach row.zone) before row h there
+  anew_own false h =
+      let keys = less_reach before (list_at by_place reach row.zone) in
+      ap (λ (all : List Reach). is_reached row.event all (Some row)) (at_same by_place by_place_total by_place_ties row.zone reach (more_reach row keys)) ∙ more_own row keys
+
+  own_event : (old : Row) → before ≡ Some old → old.event ≡ row.event
+  own_event old is = (at_key-parts row.event row.zone old (find_in (at_key row.event row.zone) rows old (sym found ∙ is)).1).0
+
+  -- another event's row in the zone
+  anew_beside : (e : Event) → at_key e row.zone row ≡ false → is_reached e (list_at by_place (anew false) row.zone) (row_at rows e row.zone) ≡ true
+  anew_beside e away =
+      let old = list_at by_place reach row.zone in
+      let new = more_reach row (less_reach before old) in
+      let apart : same_event row.event e ≡ false = first_false (same_event row.event e) (same_zone row.zone row.zone) (zone_itself row.zone) away in
+      ap (λ (all : List Reach). is_reached e all (row_at rows e row.zone)) (at_same by_place by_place_total by_place_ties row.zone reach new)
+      ∙ reached_kept e (row_at rows e row.zone) old new
+      (λ a h. more_kept (is_at (by_reach (reach_at e a))) row (less_reach before old) (less_kept before row.event e a old own_event apart h))
+      (reaches e row.zone)
+
+  anew_other : (e : Event) (z : Place) (b : Bool) → at_key e z row ≡ false → is_reached e (list_at by_place (anew b) z) (row_at rows e z) ≡ true
+  anew_other e z true away = reaches e z
+  anew_other e z false away = by_zone (is_at (by_place z) row.zone) refl
+    where
+      by_zone : (b : Bool) → is_at (by_place z) row.zone ≡ b → is_reached e (list_at by_place (anew false) z) (row_at rows e z) ≡ true
+      by_zone true at =
+          let one : z ≡ row.zone = at_one by_place by_place_total by_place_ties z row.zone at in
+          subst (λ (y : Place). is_reached e (list_at by_place (anew false) y) (row_at rows e y) ≡ true) (sym one)
+          (anew_beside e (subst (λ (y : Place). at_key e y row ≡ false) one away))
+      by_zone false at =
+          ap (λ (all : List Reach). is_reached e all (row_at rows e z)) (at_other by_place by_place_total by_place_ties z row.zone reach (more_reach row (less_reach before (list_at by_place reach row.zone))) at)
+          ∙ reaches e z
+
+  reaches-put : Reaches (reached_with before row reach) (put row rows)
+  reaches-put e z = ap (is_reached e (list_at by_place (anew (stays before row)) z)) (row_at-put row rows e z) ∙ by_key_of (at_key e z row) refl
+    where
+      by_key_of : (b : Bool) → at_key e z row ≡ b → is_reached e (list_at by_place (anew (stays before row)) z) (cond b (Some row) (row_at rows e z)) ≡ true
+      by_key_of true at =
+          let k = at_key-parts e z row at in
+          subst (λ (d : Event). is_reached d (list_at by_place (anew (stays before row)) z) (Some row) ≡ true) k.0
+          (subst (λ (y : Place). is_reached row.event (list_at by_place (anew (stays before row)) y) (Some row) ≡ true) k.1 (anew_own (stays before row) refl))
+      by_key_of false at = anew_other e z (stays before row) at
+
+-- rows of one event are put
+pub reaches-each : (d : Event) (rows all known : List Row) (reach : Zones) → AllByRecursion (λ (r : Row). r.event ≡ d) rows → ((z : Place) → row_at all d z ≡ row_at known d z) → Reaches reach all → Reaches (reached_each rows known reach) (put_each rows all)
+reaches-each d [] all known reach own same reaches = reaches
+reaches-each d (r ∷ rows) all known reach own same reaches =
+    let before = row_at known r.event r.zone in
+    let found : before ≡ row_at all r.event r.zone = subst (λ (e : Event). row_at known e r.zone ≡ row_at all e r.zone) (sym own.0) (sym (same r.zone)) in
+    reaches-each d rows (put r all) (put r known) (reached_with before r reach) own.1
+    (λ z. row_at-put r all d z ∙ ap (λ (o : Option Row). cond (at_key d z r) (Some r) o) (same z) ∙ sym (row_at-put r known d z))
+    (reaches-put all reach r before found reaches)
+
+-- the events that a zone's ends tell
 
 le_less : (o : Ordering) → is_le (ordering_then o Less) ≡ is_le o
 le_less Less = refl
@@ -264,9 +221,12 @@ le_less Greater = refl
 le_is : (a b : ℕ) → is_le (nat_cmp a b) ≡ nat_le a b
 le_is a b = grind (arith, nat_tests)
 
-from_end : (t : ℕ) (a : End) → is_le (ordering_then (end_cmp (end.At t) a) Less) ≡ ends_from a t
-from_end t (end.At m) = le_less (nat_cmp t m) ∙ le_is t m
-from_end t end.Ufn = refl
+from_at : (t m : ℕ) → ends_after (end.At m) t ≡ true → nat_le t m ≡ true
+from_at t m h = grind (arith, nat_tests)
+
+from_end : (t : ℕ) (a : End) → ends_after a t ≡ true → is_le (ordering_then (end_cmp (end.At t) a) Less) ≡ true
+from_end t (end.At m) h = le_less (nat_cmp t m) ∙ le_is t m ∙ from_at t m h
+from_end t end.Ufn h = refl
 
 pub any_flat : {A B : Type 0} (p : B → Bool) (f : A → List B) (xs : List A) → list_any p (flat_map f xs) ≡ list_any (λ x. list_any p (f x)) xs
 any_flat p f [] = refl
@@ -275,24 +235,30 @@ any_flat p f (x ∷ xs) = list_any-append p (f x) (flat_map f xs) ∙ ap (λ (b 
 abbrev tells : ℕ → (Event → Bool) → Reach → Bool
 tells t q k = lasts t k && list_any q (events_told k.spot)
 
-told_from : (t : ℕ) (e : Event) (q : Event → Bool) (a : End) (s : Spot) → reaches_to t e (record { end = a; spot = s }) ≡ true → q e ≡ true → tells t q (record { end = a; spot = s }) ≡ true
-told_from t e q a Front h g = cc
-told_from t e q a Back h g = cc
-told_from t e q a (At d) h g =
-    let p = own_parts t d e a h in
-    let from : is_le (ordering_then (end_cmp (end.At t) a) Less) ≡ true = from_end t a ∙ p.1 in
-    let own : q d ≡ true = subst (λ (x : Event). q x ≡ true) (sym (event_one d e p.0)) g in
+told_from : (t : ℕ) (e : Event) (q : Event → Bool) (a : End) → ends_after a t ≡ true → q e ≡ true → tells t q (reach_at e a) ≡ true
+told_from t e q a h own =
+    let from : is_le (ordering_then (end_cmp (end.At t) a) Less) ≡ true = from_end t a h in
     rw (from, own) refl
 
-pub lasting-covers : (rows : List Row) (keys : List Reach) (t : ℕ) → Reaches keys rows → Covers (is_live t) (λ (r : Row). r.event) (lasting_events t keys) rows
-lasting-covers rows keys t reaches q h =
-    let w = any_in (λ (r : Row). is_live t r && q r.event) rows h in
-    let r = w.0 in
-    let p = and_parts (is_live t r) _ w.2 in
-    let live = and_parts (not r.ended) _ p.0 in
-    let asks : list_any (asks_to t r.event) rows ≡ true =
-    in_any (asks_to t r.event) rows r w.1 (both (not r.ended) _ live.0 (both (same_event r.event r.event) _ (event_itself r.event) (after_from r.period.end t live.1))) in
-    let k = any_in (reaches_to t r.event) keys (reaches t r.event asks) in
+lasting_told : (t : ℕ) (e : Event) (keys : List Reach) (o : Option Row) → is_reached e keys o ≡ true → lives t o ≡ true → list_any (λ (d : Event). same_event d e) (lasting_events t keys) ≡ true
+lasting_told t e keys None there h = cc
+lasting_told t e keys (Some r) there h =
+    let q : Event → Bool = λ d. same_event d e in
+    let live = and_parts (not r.ended) _ h in
+    let k = any_in (is_at (by_reach (reach_at e r.period.end))) keys (second_true r.ended (has keys (reach_at e r.period.end)) live.0 there) in
+    let one : reach_at e r.period.end ≡ k.0 = at_one by_reach by_reach_total by_reach_ties (reach_at e r.period.end) k.0 k.2 in
     any_flat q (λ (k : Reach). events_told k.spot) (filter (lasts t) keys)
     ∙ any_filtered (λ (k : Reach). list_any q (events_told k.spot)) (lasts t) keys
-    ∙ in_any (tells t q) keys k.0 k.1 (told_from t r.event q k.0.end k.0.spot k.2 p.1)
+    ∙ in_any (tells t q) keys k.0 k.1 (subst (λ (x : Reach). tells t q x ≡ true) one (told_from t e q r.period.end live.1 (event_itself e)))
+
+pub lasting-covers : (rows : List Row) (reach : Zones) (t : ℕ) (low : Option (Family × ℕ)) (z : Place) → Reaches reach rows → Covers rows t low z (lasting_events t (list_at by_place reach z))
+lasting-covers rows reach t low z reaches e above h = lasting_told t e (list_at by_place reach z) (row_at rows e z) (reaches e z) h
+
+above_none : (f : Option (Family × ℕ)) → is_above f None ≡ false
+above_none None = refl
+above_none (Some f) = refl
+
+-- no event is above none
+pub none-covers : (rows : List Row) (t : ℕ) (low : Option (Family × ℕ)) (z : Place) → is_none low ≡ true → Covers rows t low z []
+none-covers rows t None z h e above there = let none : true ≡ false = sym above ∙ above_none (family_of (facts_of e.hazard)) in cc
+none-covers rows t (Some f) z h e above there = cc

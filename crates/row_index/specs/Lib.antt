@@ -4,8 +4,9 @@ pub mod Holding
 pub mod Seating
 pub mod Zoning
 pub mod Risen
-pub mod Reaching
 pub mod Numbers
 pub mod Standings
 pub mod Steps
 pub mod Runs
+pub mod Reaching
+pub mod Indexing

@@ -1,4 +1,4 @@
--- Hazards and numbers, the events that have them, and what the maps of an index hold of its rows.
+-- Hazards and numbers, and the events that have them.
 use Rattle.std.specs.Prelude.{◌==◌, ◌&&◌, not, Bool, true, false, List, [], ◌∷◌, ◌++◌, if◌then◌else◌}
 use Rattle.std.specs.BTreeMap.{insert_entry}
 use Rattle.std.specs.List.{list_any}
@@ -10,10 +10,7 @@ use Rattle.hazard_types.specs.Same.{same_zone, same_hazard, same_event}
 use Rattle.hazard_types.specs.declared.hazard.Event.{Event}
 use Rattle.hazard_types.specs.declared.line.Row.{Row}
 use Rattle.row_index.specs.declared.numbers.Number.{Number}
-use Rattle.row_index.specs.declared.reach.Reach.{Reach}
-use Rattle.row_index.specs.Holding.{AreHeld, told}
 use Rattle.row_index.specs.Listing.{list_at}
-use Rattle.row_index.specs.Reaching.{Reaches}
 use Rattle.row_index.specs.Telling.{Tells}
 
 abbrev pub number_of : Event → Number
@@ -46,9 +43,3 @@ AreOpened events rows = (k : Number) → Tells (has_number k) (λ (r : Row). r.e
 -- the rows that no line has ended
 abbrev pub stands : Row → Bool
 stands r = not r.ended
-
--- the rows of each event are its own, the events stand by hazard and number, and each reaches as far as its rows
-pub record IsIndex (es : List (Event × List Row)) (events : List (Number × List Event)) (reach : List Reach) : Type 0 where
-  pub held : AreHeld es
-  pub opened : AreOpened events (told es)
-  pub reached : Reaches reach (told es)

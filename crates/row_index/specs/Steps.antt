@@ -1,25 +1,25 @@
 -- What the code of an index does on the way: the rows that lines leave, and those by which a higher row is looked for in a zone.
 use Rattle.std.specs.Prelude.{◌≡◌, ◌&&◌, ◌∷◌, ◌++◌, not, ℕ, Bool, true, false, List, [], filter, flat_map, fold, if◌then◌else◌, Option, Some, None, is_none}
+use Rattle.hazard_types.specs.Hazards.{facts_of}
 use Rattle.hazard_types.specs.Places.{Place}
 use Rattle.hazard_types.specs.Same.{same_event}
 use Rattle.hazard_types.specs.contracts.codes.ActionPartialEq.TheImpl as action_eq
 use Rattle.hazard_types.specs.contracts.period.PeriodPartialEq.TheImpl as period
 use Rattle.hazard_types.specs.declared.codes.Action.{Action}
+use Rattle.hazard_types.specs.declared.codes.Family.{Family}
 use Rattle.hazard_types.specs.declared.codes.Action.TheVariants as action
 use Rattle.hazard_types.specs.declared.hazard.Event.{Event}
-use Rattle.hazard_types.specs.declared.hazard.Hazard.{Hazard}
 use Rattle.hazard_types.specs.declared.line.Line.{Line}
 use Rattle.hazard_types.specs.declared.line.Vtec.{Vtec}
 use Rattle.hazard_types.specs.declared.line.Row.{Row}
 use Rattle.event_life.specs.declared.life.Around.{Around}
-use Rattle.event_life.specs.Higher.{outranks}
-use Rattle.event_life.specs.Periods.{is_live}
+use Rattle.event_life.specs.Higher.{family_of, is_above}
 use Rattle.event_life.specs.Table.{opened_period}
 use Rattle.event_life.specs.Products.{put, row_at, row_after, put_but_upgrades, has_rows, is_open, is_held, has_same, is_new, later_event, going_in}
 use Rattle.row_index.specs.declared.seats.Seat.{Seat}
 use Rattle.row_index.specs.Numbers.{is_in_zone}
 use Rattle.row_index.specs.Seating.{seat_of, seat_said, has_seat, upgrades}
-use Rattle.row_index.specs.Telling.{Tells, Covers}
+use Rattle.row_index.specs.Telling.{Tells}
 
 -- of the events that are open the one of the latest year
 abbrev pub latest_open : List Row → ℕ → List Event → Option Event
@@ -75,11 +75,10 @@ stays None row = false
 stays (Some old) row = period.eq-value.it old.period row.period && not old.ended && not row.ended
 
 -- What a product changes where a higher row is looked for: the rows that its lawful lines other than UPG leave, each put in turn,
--- and the seats that its UPG lines speak of. With it the events that have a live row are known, among others.
-pub record IsChanged (rows : List Row) (t : ℕ) (lines : List Line) (counted : List Row) (upgraded : List Seat) (events : List Event) : Type 0 where
+-- and the seats that its UPG lines speak of.
+pub record IsChanged (rows : List Row) (t : ℕ) (lines : List Line) (counted : List Row) (upgraded : List Seat) : Type 0 where
   pub put : counted ≡ put_but_upgrades rows t [] lines []
   pub said : Tells upgrades seat_said upgraded lines
-  pub lasting : Covers (is_live t) (λ (r : Row). r.event) events rows
 
 -- rows that no UPG line speaks of
 abbrev pub not_upgraded : List Seat → List Row → List Row
@@ -89,16 +88,16 @@ not_upgraded seats rows = filter (λ (r : Row). not (has_seat seats (seat_of r))
 abbrev pub not_counted : List Row → List Row → List Row
 not_counted counted rows = filter (λ (r : Row). is_none (row_at counted r.event r.zone)) rows
 
--- the row of an event in a zone, where the event is of a higher rank than a hazard
+-- the row of an event in a zone, where the event is above a rank
 abbrev pub listed : Option Row → List Row
 listed None = []
 listed (Some r) = r ∷ []
 
-abbrev pub higher_at : List Row → Hazard → Place → Event → List Row
-higher_at rows h z e = if outranks e.hazard h then listed (row_at rows e z) else []
+abbrev pub higher_at : List Row → Option (Family × ℕ) → Place → Event → List Row
+higher_at rows low z e = if is_above (family_of (facts_of e.hazard)) low then listed (row_at rows e z) else []
 
-abbrev pub higher_rows : List Row → Hazard → Place → List Event → List Row
-higher_rows rows h z events = flat_map (higher_at rows h z) events
+abbrev pub higher_rows : List Row → Option (Family × ℕ) → Place → List Event → List Row
+higher_rows rows low z events = flat_map (higher_at rows low z) events
 
 -- a zone's rows after a product that no UPG line of it has ended, in whatever order, where these stood before it
 abbrev pub rivals : Place → List Row → List Seat → List Row → List Row

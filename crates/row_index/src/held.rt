@@ -11,7 +11,7 @@ ghost use Rattle.event_life.specs.Products.{by_key, put, row_at, has_rows};
 ghost use Rattle.row_index.specs.Holding.{puts};
 ghost use Rattle.row_index.specs.Listing.{lists_of, list_at};
 ghost use Rattle.row_index.specs.Numbers.{events_with};
-ghost use Rattle.row_index.specs.Reaching.{Reached};
+ghost use Rattle.row_index.specs.Reaching.{reached_each};
 ghost use Rattle.row_index.specs.Runs.{held_put};
 ghost use Rattle.row_index.specs.Standings.{restood};
 ghost use Rattle.row_index.specs.Steps.{put_each};
@@ -23,7 +23,7 @@ use crate::reach::{Reaches, reach_with};
 use crate::seats::{Seated, put_seated};
 use crate::standing::{Standings, has_same_among, is_open_among, restand};
 use crate::zones::{Zoned, put_zoned, zone_row};
-use hazard_types::{End, Event, Minute, Oom, Period, Row, Zone};
+use hazard_types::{Event, Minute, Oom, Period, Row, Zone};
 use std::alloc::{AllocError, Global};
 use std::collections::BTreeMap;
 use std::marker::Model;
@@ -46,13 +46,11 @@ fn put_standing(
     restand(standing, before, row)
 }
 
-/// The rows of one event, each at its zone, how many of those that no line has ended have each period, and how far they were seen
-/// to reach.
+/// The rows of one event, each at its zone, and how many of those that no line has ended have each period.
 #[derive(Drop)]
 pub struct EventRows {
     rows: Zoned,
     standing: Standings,
-    latest: Option<End>,
 }
 
 impl Model for EventRows {
@@ -75,7 +73,6 @@ impl EventRows {
         EventRows {
             rows: BTreeMap::new(alloc),
             standing: BTreeMap::new(alloc),
-            latest: None,
         }
     }
 
@@ -109,13 +106,13 @@ impl EventRows {
         self.rows.values().copied().collect(alloc)
     }
 
-    /// Puts a row of the event. When memory runs out, the event has no rows.
-    fn put(&mut self, row: &Row) -> Result<(), Oom>
+    /// Puts a row of the event. `before` becomes the one that was there. When memory runs out, the event has no rows.
+    fn put(&mut self, row: &Row, before: &mut Option<Row>) -> Result<(), Oom>
         requires { AreOf row.now.event self.old }
-        ensures { OnOk result (self.new ≡ put row.now self.old) }
+        ensures before { OnOk result (before.new ≡ row_at self.old row.now.event row.now.zone) }
+        ensures put { OnOk result (self.new ≡ put row.now self.old) }
     {
-        let mut before = None;
-        match put_standing(&mut self.rows, &mut self.standing, row, &mut before) {
+        match put_standing(&mut self.rows, &mut self.standing, row, before) {
             Ok(()) => Ok(()),
             Err(oom) => {
                 self.rows.clear();
@@ -123,15 +120,6 @@ impl EventRows {
                 Err(oom)
             }
         }
-    }
-
-    /// The event reaches as far as these rows of it.
-    fn reach(&mut self, reaches: &mut Reaches, event: &Event, rows: &[Row]) -> Result<(), Oom>
-        requires { AreOf event.now rows.now }
-        ensures rows { OnOk result (self.new ≡ self.old) }
-        ensures reached { OnOk result (Reached rows.now reaches.old.keys reaches.new.keys) }
-    {
-        reach_with(reaches, &mut self.latest, event, rows)
     }
 
     /// Whether a row stands whose end is at most half an hour past.
@@ -231,14 +219,23 @@ pub fn has_period(held: &Held, t: Minute, event: &Event, period: &Period) -> boo
     }
 }
 
-/// Puts each of the rows, which are of the event.
-fn put_rows(known: &mut EventRows, event: &Event, rows: &[Row]) -> Result<(), Oom>
+/// Puts each of the rows, which are of the event. Each comes into the place of the one before in its zone.
+fn put_rows(
+    alloc: Global,
+    known: &mut EventRows,
+    reaches: &mut Reaches,
+    event: &Event,
+    rows: &[Row],
+) -> Result<(), Oom>
     requires known { AreOf event.now known.old }
     requires rows { AreOf event.now rows.now }
-    ensures { OnOk result (known.new ≡ put_each rows.now known.old) }
+    ensures rows { OnOk result (known.new ≡ put_each rows.now known.old) }
+    ensures reached { OnOk result (reaches.new.entries ≡ reached_each rows.now known.old reaches.old.entries) }
 {
+    let mut before = None;
     for row in rows {
-        known.put(row)?;
+        known.put(row, &mut before)?;
+        reach_with(alloc, reaches, &before, row)?;
     }
     Ok(())
 }
@@ -256,14 +253,13 @@ pub fn put_held(
     requires rows { AreOf event.now rows.now }
     ensures held { OnOk result (held.new.entries ≡ held_put event.now rows.now held.old.entries) }
     ensures events { OnOk result (lists_of events.new.entries ≡ events_with (has_rows (list_at by_event held.old.entries event.now) event.now) event.now (lists_of events.old.entries)) }
-    ensures reached { OnOk result (Reached rows.now reaches.old.keys reaches.new.keys) }
+    ensures reached { OnOk result (reaches.new.entries ≡ reached_each rows.now (list_at by_event held.old.entries event.now) reaches.old.entries) }
 {
     let known = held
         .entry(EventKey { event: *event })?
         .or_insert(EventRows::new(alloc));
     put_event_of(alloc, events, known.has_rows(event), event)?;
-    known.reach(reaches, event, rows)?;
-    put_rows(known, event, rows)
+    put_rows(alloc, known, reaches, event, rows)
 }
 
 /// The rows of all events, one event after another.

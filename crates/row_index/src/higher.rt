@@ -11,17 +11,15 @@ ghost use Rattle.row_index.specs.Telling.{Tells};
 use crate::seats::{Seated, Seats, add_seat, has_seat, row_in, rows_in};
 use event_life::is_upgrade;
 use hazard_types::desk_hazards::facts;
-use hazard_types::{Event, Family, Hazard, Line, Oom, Row, Zone};
+use hazard_types::{Family, Hazard, Line, Oom, Row, Zone};
 use std::alloc::{AllocError, Global};
 use std::collections::BTreeSet;
 
-/// The rows that a product's lawful lines other than UPG leave, the seats that its UPG lines speak of, and the events that have
-/// live rows before it, among others.
+/// The rows that a product's lawful lines other than UPG leave, and the seats that its UPG lines speak of.
 #[derive(Drop)]
 pub struct Changed {
     pub counted: Seated,
     pub upgraded: Seats,
-    pub lasting: Vec<Event>,
 }
 
 /// Whether one of the lines says that a higher row takes a zone over.

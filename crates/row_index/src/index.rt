@@ -6,16 +6,15 @@ ghost use Rattle.hazard_types.specs.declared.line.Line.{Line as LineValue};
 ghost use Rattle.std.specs.Map.{values_of};
 ghost use Rattle.event_life.specs.declared.life.Breach.TheVariants.{Twice};
 ghost use Rattle.event_life.specs.Higher.{family_of, is_above};
-ghost use Rattle.event_life.specs.Periods.{is_live};
 ghost use Rattle.event_life.specs.Products.{put, line_of, row_at, row_after, is_open, going_in, event_of, has_rows, is_held, has_same, is_routine, is_upgrade, is_second, life_at, around_but_higher, has_higher, breach_in, judged, lawful_of, put_all, put_but_upgrades};
 ghost use Rattle.event_life.specs.Seats.{may_count};
 ghost use Rattle.event_life.specs.Shown.{shown_at};
 ghost use Rattle.event_life.specs.Table.{breach_of_line};
 ghost use Rattle.row_index.specs.Holding.{AreNear, AreRowsOf};
+ghost use Rattle.row_index.specs.Reaching.{Covers};
 ghost use Rattle.row_index.specs.Runs.{AreOfOne};
 ghost use Rattle.row_index.specs.Seating.{AreSeated, upgrades};
 ghost use Rattle.row_index.specs.Steps.{IsAsked, IsChanged, around_new, around_joining, asked_around, latest_open, event_going, listed, higher_rows, rows_left, put_each};
-ghost use Rattle.row_index.specs.Telling.{Covers};
 
 use crate::held::{Held, RowsOf, all_held, has_period, is_open, put_held, rows_of, seated};
 use crate::higher::{Changed, add_found, any_upgrades, is_above, rank_of, rivals, upgraded_by};
@@ -26,9 +25,7 @@ use crate::reach::{Reaches, lasting_events};
 use crate::seats::{Seated, all_rows, count_row};
 use crate::spoken::Spoken;
 use event_life::{Around, Breach, is_lawful, is_routine, is_upgrade, life_step, opened_period};
-use hazard_types::{
-    Action, Event, Family, Flood, Hazard, Line, List, Minute, Oom, Row, Vtec, Zone,
-};
+use hazard_types::{Action, Event, Family, Flood, Line, List, Minute, Oom, Row, Vtec, Zone};
 use std::alloc::{AllocError, Global};
 use std::collections::{BTreeMap, BTreeSet};
 use std::marker::Model;
@@ -46,13 +43,13 @@ impl Model for RowIndex {
     ghost use Rattle.hazard_types.specs.declared.line.Row.{Row};
     ghost use Rattle.row_index.specs.Holding.{told};
     ghost use Rattle.row_index.specs.Listing.{lists_of};
-    ghost use Rattle.row_index.specs.Numbers.{IsIndex};
+    ghost use Rattle.row_index.specs.Indexing.{IsIndex};
 
     ghost Value = { List Row };
 
     ghost view = { λ x. told x.held.entries };
 
-    ghost invariant = { λ x. IsIndex x.held.entries (lists_of x.events.entries) x.reach.keys };
+    ghost invariant = { λ x. IsIndex x.held.entries (lists_of x.events.entries) x.reach.entries };
 }
 
 impl RowIndex {
@@ -63,7 +60,7 @@ impl RowIndex {
         RowIndex {
             held: BTreeMap::new(alloc),
             events: BTreeMap::new(alloc),
-            reach: BTreeSet::new(alloc),
+            reach: BTreeMap::new(alloc),
         }
     }
 
@@ -394,36 +391,39 @@ impl RowIndex {
         Ok(counted)
     }
 
-    /// The events that have live rows, among others.
-    fn lasting(&self, alloc: Global, t: Minute) -> Result<Vec<Event>, AllocError>
-        ensures { IfOk result (λ events. Covers (is_live t) (λ r. r.event) events.items self.now) }
+    /// The events above a rank that have live rows in a zone, among others. No event is above none.
+    fn lasting(
+        &self,
+        alloc: Global,
+        t: Minute,
+        low: &Option<(Family, u8)>,
+        zone: &Zone,
+    ) -> Result<Vec<Event>, AllocError>
+        ensures { IfOk result (λ events. Covers self.now t low.now zone.now events.items) }
     {
-        lasting_events(alloc, &self.reach, t)
+        if low.is_none() {
+            return Ok(Vec::new(alloc));
+        }
+        lasting_events(alloc, &self.reach, t, zone)
     }
 
     /// What a product changes where a higher row is looked for, as far as a UPG line asks for it.
     fn change_of(&self, alloc: Global, t: Minute, lines: &[Line]) -> Result<Changed, Oom>
-        ensures changed { list_any upgrades lines.now ≡ true → IfOk result (λ c. IsChanged self.now t lines.now (values_of c.counted.entries) c.upgraded.keys c.lasting.items) }
+        ensures changed { list_any upgrades lines.now ≡ true → IfOk result (λ c. IsChanged self.now t lines.now (values_of c.counted.entries) c.upgraded.keys) }
         ensures seated { IfOk result (λ c. AreSeated c.counted.entries) }
     {
         if !any_upgrades(lines) {
             return Ok(Changed {
                 counted: BTreeMap::new(alloc),
                 upgraded: BTreeSet::new(alloc),
-                lasting: Vec::new(alloc),
             });
         }
         let counted = self.counted(alloc, t, lines)?;
         let upgraded = upgraded_by(alloc, lines)?;
-        let lasting = self.lasting(alloc, t)?;
-        Ok(Changed {
-            counted,
-            upgraded,
-            lasting,
-        })
+        Ok(Changed { counted, upgraded })
     }
 
-    /// Adds an event's row in a zone, where the event is of a higher rank than one.
+    /// Adds an event's row in a zone, where the event is above a rank.
     fn add_higher(
         &self,
         rows: &mut Vec<Row>,
@@ -439,20 +439,19 @@ impl RowIndex {
         Ok(())
     }
 
-    /// The rows in a zone of those of the events that are of a higher rank than a hazard.
+    /// The rows in a zone of those of the events that are above a rank.
     fn higher_rows(
         &self,
         alloc: Global,
         events: &[Event],
-        hazard: &Hazard,
+        low: &Option<(Family, u8)>,
         zone: &Zone,
     ) -> Result<Vec<Row>, AllocError>
-        ensures { IfOk result (λ rows. rows.items ≡ higher_rows self.now hazard.now zone.now events.now) }
+        ensures { IfOk result (λ rows. rows.items ≡ higher_rows self.now low.now zone.now events.now) }
     {
-        let low = rank_of(hazard);
         let mut rows = Vec::new(alloc);
         for event in events {
-            self.add_higher(&mut rows, event, &low, zone)?;
+            self.add_higher(&mut rows, event, low, zone)?;
         }
         Ok(rows)
     }
@@ -468,10 +467,12 @@ impl RowIndex {
     ) -> Result<bool, Oom>
         requires seated { AreSeated changed.now.counted.entries }
         requires own { Some own.now ≡ row_at self.now line.now.event line.now.zone }
-        ensures { (lines : Seq LineValue) → IsChanged self.now t lines (values_of changed.now.counted.entries) changed.now.upgraded.keys changed.now.lasting.items → IfOk result (λ higher. higher ≡ has_higher self.now t lines line.now) }
+        ensures { (lines : Seq LineValue) → IsChanged self.now t lines (values_of changed.now.counted.entries) changed.now.upgraded.keys → IfOk result (λ higher. higher ≡ has_higher self.now t lines line.now) }
     {
         let _ = &self.reach;
-        let before = self.higher_rows(alloc, &changed.lasting, &line.event.hazard, &line.zone)?;
+        let low = rank_of(&line.event.hazard);
+        let events = self.lasting(alloc, t, &low, &line.zone)?;
+        let before = self.higher_rows(alloc, &events, &low, &line.zone)?;
         let rows = rivals(alloc, changed, &line.zone, &before)?;
         Ok(event_life::has_higher(&[*own], t, &rows, line))
     }
@@ -488,7 +489,7 @@ impl RowIndex {
     ) -> Result<bool, Oom>
         requires seated { AreSeated changed.now.counted.entries }
         requires own { own.now ≡ row_at self.now line.now.event line.now.zone }
-        ensures { (lines : Seq LineValue) → IsChanged self.now t lines (values_of changed.now.counted.entries) changed.now.upgraded.keys changed.now.lasting.items → IfOk result (λ higher. higher ≡ has_higher self.now t lines line.now) }
+        ensures { (lines : Seq LineValue) → IsChanged self.now t lines (values_of changed.now.counted.entries) changed.now.upgraded.keys → IfOk result (λ higher. higher ≡ has_higher self.now t lines line.now) }
     {
         match own {
             Some(own) => self.has_higher_over(alloc, t, changed, line, own),
@@ -510,7 +511,7 @@ impl RowIndex {
         requires seated { AreSeated changed.now.counted.entries }
         requires rows { AreRowsOf self.now line.now.event rows.now }
         requires around { around ≡ asked_around line.now.action self.now t line.now true }
-        ensures { (lines earlier : Seq LineValue) → (is_upgrade line.now.action ≡ true → IsChanged self.now t lines (values_of changed.now.counted.entries) changed.now.upgraded.keys changed.now.lasting.items)
+        ensures { (lines earlier : Seq LineValue) → (is_upgrade line.now.action ≡ true → IsChanged self.now t lines (values_of changed.now.counted.entries) changed.now.upgraded.keys)
             → second ≡ is_second earlier line.now → IfOk result (λ breach. breach ≡ breach_in self.now t lines earlier line.now) }
     {
         if !is_upgrade(&line.action) {

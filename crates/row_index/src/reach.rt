@@ -1,136 +1,66 @@
-//! How far the rows of each event reach: an end that is not before that of any of them that no line has ended.
-ghost use Rattle.std.specs.Prelude.{◌≡◌, ◌++◌, ◌&&◌, filter, IfOk, OnOk};
-ghost use Rattle.std.specs.BTreeSet.{insert_key};
-ghost use Rattle.std.specs.List.{AllByRecursion};
-ghost use Rattle.row_index.specs.Reaching.{by_reach, reach_at, dropped, is_reached, later_end, last_end, lasts, events_told, lasting_events, Reached, ReachedTo};
+//! How far the rows of each zone reach: the ends of those that no line has ended.
+ghost use Rattle.std.specs.Prelude.{◌≡◌, ◌++◌, [], filter, IfOk, OnOk};
+ghost use Rattle.hazard_types.specs.Places.{by_place};
+ghost use Rattle.row_index.specs.Listing.{list_at};
+ghost use Rattle.row_index.specs.Reaching.{reach_of, less_reach, more_reach, reached_with, lasts, events_told, lasting_events};
 
 use crate::keys::{add_key, take_key};
-use crate::parts::EventKey;
+use crate::look::stays;
+use crate::parts::{EventKey, ZoneKey};
 use crate::seats::Spot;
-use hazard_types::{End, Event, Minute, Oom, Row};
+use hazard_types::{End, Event, Minute, Oom, Row, Zone};
 use std::alloc::{AllocError, Global};
-use std::collections::BTreeSet;
+use std::collections::{BTreeMap, BTreeSet};
+use std::marker::Model;
 
-/// An end of an event. They are in order by end, then spot.
+/// The end of a row in its zone. They are in order by end, then spot.
 #[derive(Clone, Copy, PartialEq, Eq, PartialOrd, Ord)]
 pub struct Reach {
     pub end: End,
     pub spot: Spot,
 }
 
-/// The ends of events: of each the latest that a row of it had before a line ended the row.
-pub type Reaches = BTreeSet<Reach>;
+/// The ends of rows of one zone.
+type Ends = BTreeSet<Reach>;
 
-fn reach_at(event: &Event, end: &End) -> Reach
-    ensures { result ≡ reach_at event.now end.now }
+fn reach_of(row: &Row) -> Reach
+    ensures { result ≡ reach_of row.now }
 {
-    let end = *end;
-    let spot = Spot::At(EventKey { event: *event });
+    let end = row.period.end;
+    let spot = Spot::At(EventKey { event: row.event });
     Reach { end, spot }
 }
 
-/// Of two ends the later one.
-fn later_end(best: Option<End>, end: &End) -> Option<End>
-    ensures { result ≡ later_end best end.now }
+/// Takes out the end of the row before, if there was one.
+fn drop_end(ends: &mut Ends, before: &Option<Row>)
+    ensures { ends.new.keys ≡ less_reach before.now ends.old.keys }
 {
-    match best {
-        Some(best) => {
-            if best.cmp(end).is_lt() {
-                Some(*end)
-            } else {
-                Some(best)
-            }
-        }
-        None => Some(*end),
+    if let Some(old) = before {
+        take_key(ends, &reach_of(old));
     }
 }
 
-/// The latest end of the rows that no line has ended.
-fn last_end(rows: &[Row]) -> Option<End>
-    ensures { result ≡ last_end rows.now }
+/// Adds the end of a row, unless a line has ended it.
+fn add_end(ends: &mut Ends, row: &Row) -> Result<(), Oom>
+    ensures { OnOk result (ends.new.keys ≡ more_reach row.now ends.old.keys) }
 {
-    let mut last = None;
-    for row in rows {
-        if !row.ended {
-            last = later_end(last, &row.period.end);
-        }
+    if !row.ended {
+        let end = row.period.end;
+        let spot = Spot::At(EventKey { event: row.event });
+        let reach = Reach { end, spot };
+        add_key(ends, reach)?;
     }
-    last
-}
-
-/// Whether the latest end of an event that is known is there, and is not before this one.
-fn is_reached(reaches: &Reaches, latest: &Option<End>, event: &Event, end: &End) -> bool
-    ensures { result ≡ is_reached latest.now event.now end.now reaches.now.keys }
-{
-    match latest {
-        Some(latest) => !latest.cmp(end).is_lt() && reaches.contains(&reach_at(event, latest)),
-        None => false,
-    }
-}
-
-/// Takes out an event's latest end that is known, where it is before this one.
-fn drop_latest(reaches: &mut Reaches, latest: &Option<End>, event: &Event, end: &End)
-    ensures { reaches.new.keys ≡ dropped latest.now event.now end.now reaches.old.keys }
-{
-    if let Some(latest) = latest {
-        if latest.cmp(end).is_lt() {
-            take_key(reaches, &reach_at(event, latest));
-        }
-    }
-}
-
-/// Adds an end.
-fn add_reach(reaches: &mut Reaches, event: &Event, end: &End) -> Result<(), Oom>
-    ensures { OnOk result (reaches.new.keys ≡ insert_key by_reach reaches.old.keys (reach_at event.now end.now)) }
-{
-    let end = *end;
-    let spot = Spot::At(EventKey { event: *event });
-    let reach = Reach { end, spot };
-    add_key(reaches, reach)
-}
-
-/// An event reaches to an end. `latest` is the latest one of it that is known, and becomes this one where it is before it.
-fn reach_to(
-    reaches: &mut Reaches,
-    latest: &mut Option<End>,
-    event: &Event,
-    end: &End,
-) -> Result<(), Oom>
-    ensures { OnOk result (ReachedTo event.now end.now reaches.old.keys reaches.new.keys) }
-{
-    if is_reached(reaches, latest, event, end) {
-        return Ok(());
-    }
-    drop_latest(reaches, latest, event, end);
-    add_reach(reaches, event, end)?;
-    *latest = Some(*end);
     Ok(())
 }
 
-/// An event reaches as far as these rows of it.
-pub fn reach_with(
-    reaches: &mut Reaches,
-    latest: &mut Option<End>,
-    event: &Event,
-    rows: &[Row],
-) -> Result<(), Oom>
-    requires { AllByRecursion (λ r. r.event ≡ event.now) rows.now }
-    ensures { OnOk result (Reached rows.now reaches.old.keys reaches.new.keys) }
-{
-    match last_end(rows) {
-        Some(end) => reach_to(reaches, latest, event, &end),
-        None => Ok(()),
-    }
-}
-
 /// The ends that are not before a minute.
-fn ends_from(alloc: Global, reaches: &Reaches, t: Minute) -> Result<Vec<Reach>, AllocError>
-    ensures { IfOk result (λ ends. ends.items ≡ filter (lasts t) reaches.now.keys) }
+fn ends_from(alloc: Global, ends: &Ends, t: Minute) -> Result<Vec<Reach>, AllocError>
+    ensures { IfOk result (λ found. found.items ≡ filter (lasts t) ends.now.keys) }
 {
     let front = Spot::Front;
     let end = End::At(t);
     let from = Reach { end, spot: front };
-    reaches.range(from..).copied().collect(alloc)
+    ends.range(from..).copied().collect(alloc)
 }
 
 /// Adds the event that an end is of.
@@ -143,14 +73,90 @@ fn add_told(events: &mut Vec<Event>, reach: &Reach) -> Result<(), AllocError>
     Ok(())
 }
 
-/// The events that reach to a minute.
-pub fn lasting_events(alloc: Global, reaches: &Reaches, t: Minute) -> Result<Vec<Event>, AllocError>
-    ensures { IfOk result (λ events. events.items ≡ lasting_events t reaches.now.keys) }
+/// The events whose ends are not before a minute.
+fn lasting_among(alloc: Global, ends: &Ends, t: Minute) -> Result<Vec<Event>, AllocError>
+    ensures { IfOk result (λ events. events.items ≡ lasting_events t ends.now.keys) }
 {
-    let ends = ends_from(alloc, reaches, t)?;
+    let found = ends_from(alloc, ends, t)?;
     let mut events = Vec::new(alloc);
-    for reach in &ends {
+    for reach in &found {
         add_told(&mut events, reach)?;
     }
     Ok(events)
+}
+
+/// The ends of a zone's rows that no line has ended.
+#[derive(Drop)]
+pub struct ZoneEnds {
+    ends: Ends,
+}
+
+impl Model for ZoneEnds {
+    ghost use Rattle.std.specs.Prelude.{List};
+    ghost use Rattle.row_index.specs.declared.reach.Reach.{Reach};
+
+    ghost Value = { List Reach };
+
+    ghost view = { λ x. x.ends.keys };
+}
+
+impl ZoneEnds {
+    fn new(alloc: Global) -> Self
+        ensures { result ≡ [] }
+    {
+        ZoneEnds {
+            ends: BTreeSet::new(alloc),
+        }
+    }
+
+    /// A row comes into the place of the one before.
+    fn reach(&mut self, before: &Option<Row>, row: &Row) -> Result<(), Oom>
+        ensures { OnOk result (self.new ≡ more_reach row.now (less_reach before.now self.old)) }
+    {
+        drop_end(&mut self.ends, before);
+        add_end(&mut self.ends, row)
+    }
+
+    /// The events whose ends are not before a minute.
+    fn lasting(&self, alloc: Global, t: Minute) -> Result<Vec<Event>, AllocError>
+        ensures { IfOk result (λ events. events.items ≡ lasting_events t self.now) }
+    {
+        lasting_among(alloc, &self.ends, t)
+    }
+}
+
+/// The ends of each zone's rows that no line has ended.
+pub type Reaches = BTreeMap<ZoneKey, ZoneEnds>;
+
+/// A row comes into the place of the one before in its zone.
+pub fn reach_with(
+    alloc: Global,
+    reaches: &mut Reaches,
+    before: &Option<Row>,
+    row: &Row,
+) -> Result<(), Oom>
+    ensures { OnOk result (reaches.new.entries ≡ reached_with before.now row.now reaches.old.entries) }
+{
+    if stays(before, row) {
+        return Ok(());
+    }
+    let known = reaches
+        .entry(ZoneKey { zone: row.zone })?
+        .or_insert(ZoneEnds::new(alloc));
+    known.reach(before, row)
+}
+
+/// The events whose rows in a zone reach to a minute.
+pub fn lasting_events(
+    alloc: Global,
+    reaches: &Reaches,
+    t: Minute,
+    zone: &Zone,
+) -> Result<Vec<Event>, AllocError>
+    ensures { IfOk result (λ events. events.items ≡ lasting_events t (list_at by_place reaches.now.entries zone.now)) }
+{
+    match reaches.get(&ZoneKey { zone: *zone }) {
+        Some(ends) => ends.lasting(alloc, t),
+        None => Ok(Vec::new(alloc)),
+    }
 }

@@ -11,12 +11,12 @@ put_held-requires-clause-known c = held-own c.self.inside.held.entries c.args.ev
 
 pub invariant_of-result : goal.invariant_of-result
 invariant_of-result c =
-    let made = rows-put c.args.event.now c.args.rows.now (sym c.is_empty.ensures ∙ c.if-is_empty.false) c.requires c.self.inside.held.entries c.put_held.new.held.entries (lists_of c.self.inside.events.entries) (lists_of c.put_held.new.events.entries) c.self.inside.reach.keys c.put_held.new.reaches.keys
+    let made = rows-put c.args.event.now c.args.rows.now (sym c.is_empty.ensures ∙ c.if-is_empty.false) c.requires c.self.inside.held.entries c.put_held.new.held.entries (lists_of c.self.inside.events.entries) (lists_of c.put_held.new.events.entries) c.self.inside.reach.entries c.put_held.new.reaches.entries
     c.in_ok-put_held.ensures.held c.in_ok-put_held.ensures.events c.in_ok-put_held.ensures.reached c.self.invariant in
     made.0
 
 pub returns : goal.returns
 returns c =
-    let made = rows-put c.args.event.now c.args.rows.now (sym c.is_empty.ensures ∙ c.if-is_empty.false) c.requires c.self.inside.held.entries c.put_held.new.held.entries (lists_of c.self.inside.events.entries) (lists_of c.put_held.new.events.entries) c.self.inside.reach.keys c.put_held.new.reaches.keys
+    let made = rows-put c.args.event.now c.args.rows.now (sym c.is_empty.ensures ∙ c.if-is_empty.false) c.requires c.self.inside.held.entries c.put_held.new.held.entries (lists_of c.self.inside.events.entries) (lists_of c.put_held.new.events.entries) c.self.inside.reach.entries c.put_held.new.reaches.entries
     c.in_ok-put_held.ensures.held c.in_ok-put_held.ensures.events c.in_ok-put_held.ensures.reached c.self.invariant in
     made.1 ∙ ap (put_each c.args.rows.now) c.self.view_is
