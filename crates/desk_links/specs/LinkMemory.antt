@@ -51,10 +51,11 @@ IsIdle d = IsUnused d.given (length d.back) d.faults (Some d.back)
 abbrev pub AcceptFails : DoorInMemory → Type 0
 AcceptFails d = Contains d.failing (next_count d.calls) ⊎ (d.waiting ≡ [])
 
--- a port in memory: the doors that it has still to give, the links taken back, door by door, and how often its doors failed
+-- a port in memory: the doors that it has still to give, the links taken back, door by door, the numbers at which it has listened, and how often its doors failed
 pub record PortInMemory : Type 0 where
   pub doors : List DoorInMemory
   pub back : List (List LinkInMemory)
+  pub numbers : List ℕ
   pub faults : ℕ
 
 -- the links of all doors, one after another

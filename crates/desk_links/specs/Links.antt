@@ -31,9 +31,9 @@ behind None more = None
 behind (Some links) None = None
 behind (Some links) (Some more) = Some (links ++ more)
 
--- the same with one link more
+-- one more behind those before, where these are told
 abbrev pub with_one : {L : Type 0} → Option (List L) → L → Option (List L)
-with_one links link = option_map (λ before. before ++ link ∷ []) links
+with_one before one = option_map (λ list. list ++ one ∷ []) before
 
 -- a link's count of faults is that of its reads and that of its writes together
 abbrev pub both_counts : ℕ → ℕ → ℕ

@@ -62,7 +62,10 @@ pub trait Port {
     /// and these links, door by door, where the port tells them.
     ghost links: { Self → Option (Seq Self.Door.Link) };
 
-    /// So many doors, none of which was used.
+    /// The numbers at which it has listened, in order, where the port tells them.
+    ghost numbers: { Self → Option (Seq ℕ) };
+
+    /// So many doors at the port of this number, none of which was used.
     ///
     /// # Errors
     ///
@@ -74,7 +77,9 @@ pub trait Port {
         ensures cause { MayFail (Rose (faults self.old) (faults self.new)) result }
         ensures steady { OnOk result (faults self.new ≡ faults self.old) }
         ensures returned { returned self.new ≡ returned self.old }
-        ensures links { links self.new ≡ links self.old };
+        ensures links { links self.new ≡ links self.old }
+        ensures numbers { OnOk result (numbers self.new ≡ with_one (numbers self.old) port) }
+        ensures kept { OnErr result (numbers self.new ≡ numbers self.old) };
 
     /// Takes a door back, with its count and its links. It takes no memory and can't be refused.
     fn back(&mut self, door: Self::Door)
@@ -82,5 +87,6 @@ pub trait Port {
         requires few { returned self.old + Self.Door.returned door < 2 ^ 32 }
         ensures faults { faults self.new ≡ min (faults self.old + Self.Door.faults door) (2 ^ 64 - 1) }
         ensures returned { returned self.new ≡ returned self.old + Self.Door.returned door }
-        ensures links { links self.new ≡ behind (links self.old) (Self.Door.links door) };
+        ensures links { links self.new ≡ behind (links self.old) (Self.Door.links door) }
+        ensures numbers { numbers self.new ≡ numbers self.old };
 }

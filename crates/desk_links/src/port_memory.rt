@@ -1,5 +1,5 @@
 //! A port in memory, whose doors give the links that it was made with.
-ghost use Rattle.std.specs.Prelude.{◌≡◌, ◌≤◌, ◌<◌, ◌+◌, ◌-◌, ◌^◌, ◌↔◌, ◌∷◌, [], ℕ, All, length, drop, min, Some, Contains, IfOk, OnOk, OnErr, IsErr};
+ghost use Rattle.std.specs.Prelude.{◌≡◌, ◌≤◌, ◌<◌, ◌+◌, ◌-◌, ◌^◌, ◌↔◌, ◌++◌, ◌∷◌, [], ℕ, All, length, drop, min, Some, Contains, IfOk, OnOk, OnErr, IsErr};
 ghost use Rattle.desk_traits.specs.Faults.{HasCause, Rose, next_count};
 ghost use Rattle.desk_links.specs.Links.{IsNew, IsUnused, behind, with_one};
 ghost use Rattle.desk_links.specs.Listening.{MayFail};
@@ -137,12 +137,13 @@ fn next_door(alloc: Global, doors: &mut VecDeque<MemDoor>) -> Result<MemDoor, Oo
     }
 }
 
-/// A port that gives the doors that it was made with.
+/// A port that gives the doors that it was made with, and keeps the numbers at which it listened.
 #[derive(Drop)]
 pub struct MemPort {
     alloc: Global,
     doors: VecDeque<MemDoor>,
     back: LinkedList<List<MemLink>>,
+    numbers: Vec<u16>,
     faults: u64,
 }
 
@@ -152,7 +153,7 @@ impl Model for MemPort {
 
     ghost Value = { PortInMemory };
 
-    ghost view = { λ p. record { doors = p.doors.items; back = p.back; faults = p.faults } };
+    ghost view = { λ p. record { doors = p.doors.items; back = p.back; numbers = p.numbers.items; faults = p.faults } };
 
     ghost invariant = { λ p. (length p.back ≤ length (all_links p.back)) × All IsIdle p.doors.items };
 }
@@ -167,7 +168,7 @@ impl MemPort {
         failing: &List<List<u64>>,
     ) -> Result<Self, Oom>
         requires { All (λ list. All IsUntouched list) links }
-        ensures { IfOk result (λ port. port ≡ record { doors = doors_with links failing.now; back = []; faults = 0 }) }
+        ensures { IfOk result (λ port. port ≡ record { doors = doors_with links failing.now; back = []; numbers = []; faults = 0 }) }
     {
         let mut doors = VecDeque::with_capacity(alloc, links.len())?;
         let mut place = 0;
@@ -180,6 +181,7 @@ impl MemPort {
             alloc,
             doors,
             back: LinkedList::new(alloc),
+            numbers: Vec::new(alloc),
             faults: 0,
         })
     }
@@ -190,6 +192,13 @@ impl MemPort {
         ensures { result.now ≡ self.now.back }
     {
         &self.back
+    }
+
+    /// The numbers at which it has listened, in order.
+    pub fn numbers(&self) -> &[u16]
+        ensures { result.now ≡ self.now.numbers }
+    {
+        self.numbers.as_slice()
     }
 }
 
@@ -202,22 +211,28 @@ impl Port for MemPort {
 
     ghost links = { λ p. Some (all_links p.back) };
 
-    fn listen(&mut self, _port: u16, doors: usize) -> Result<List<MemDoor>, Or<Failed>>
+    ghost numbers = { λ p. Some p.numbers };
+
+    fn listen(&mut self, port: u16, doors: usize) -> Result<List<MemDoor>, Or<Failed>>
         ensures count { IfOk result (λ list. length list ≡ doors) }
         ensures unused { IfOk result (λ list. All IsIdle list) }
         ensures later { self.old.faults ≤ self.new.faults }
         ensures cause { MayFail (Rose self.old.faults self.new.faults) result }
         ensures faults { self.new.faults ≡ self.old.faults }
         ensures back { self.new.back ≡ self.old.back }
+        ensures numbers { OnOk result (self.new.numbers ≡ self.old.numbers ++ port ∷ []) }
+        ensures kept { OnErr result (self.new.numbers ≡ self.old.numbers) }
 
         // It gives the next of its doors.
         ensures dealt { IfOk result (λ list. list ≡ dealt doors self.old.doors) }
     {
+        self.numbers.reserve(1)?;
         let mut list = Vec::with_capacity(self.alloc, doors)?;
         for _ in 0..doors {
             let door = next_door(self.alloc, &mut self.doors)?;
             list.push_reserved(door);
         }
+        self.numbers.push_reserved(port);
         Ok(List::from_vec(list))
     }
 

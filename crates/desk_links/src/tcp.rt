@@ -205,6 +205,8 @@ impl<R: Net<Listener = TcpListener, Stream = TcpStream>> Port for TcpPort<R> {
 
     ghost links = { λ _. None };
 
+    ghost numbers = { λ _. None };
+
     fn listen(&mut self, port: u16, doors: usize) -> Result<List<TcpDoor>, Or<Failed>> {
         let address = SocketAddr::V4(SocketAddrV4::new(Ipv4Addr::LOCALHOST, port));
         match self.net.bind(address) {

@@ -77,8 +77,8 @@ fn serve_office<
         IsServeRun D.Disk
         (ways P.Door.Link.came P.Door.Link.left P.Door.Link.taken P.Door.Link.Source.faults P.Door.Link.Sink.faults)
         (C.gives clock.now) serving.now disk result.disk
-        (record { returned = P.returned port.old; links = P.links port.old; faults = P.faults port.old })
-        (record { returned = P.returned port.new; links = P.links port.new; faults = P.faults port.new })
+        (record { returned = P.returned port.old; links = P.links port.old; numbers = P.numbers port.old; faults = P.faults port.old })
+        (record { returned = P.returned port.new; links = P.links port.new; numbers = P.numbers port.new; faults = P.faults port.new })
         (K.taken output.old) (K.taken output.new) (K.faults output.old) (K.faults output.new) result.status }
 {
     let (kept, end) = serve(
@@ -124,8 +124,8 @@ pub fn run_serve<
     ensures { Serves D.Disk
         (ways P.Door.Link.came P.Door.Link.left P.Door.Link.taken P.Door.Link.Source.faults P.Door.Link.Sink.faults)
         (C.gives clock.now) serving.now disk result.disk
-        (record { returned = P.returned port.old; links = P.links port.old; faults = P.faults port.old })
-        (record { returned = P.returned port.new; links = P.links port.new; faults = P.faults port.new })
+        (record { returned = P.returned port.old; links = P.links port.old; numbers = P.numbers port.old; faults = P.faults port.old })
+        (record { returned = P.returned port.new; links = P.links port.new; numbers = P.numbers port.new; faults = P.faults port.new })
         (K.taken output.old) (K.taken output.new) (K.faults output.old) (K.faults output.new) result.status }
 {
     match open(alloc, disk) {

@@ -63,8 +63,8 @@ pub fn desk_run<
     ensures done { DoesAsAsked D.Disk C.Clock
         (ways P.Door.Link.came P.Door.Link.left P.Door.Link.taken P.Door.Link.Source.faults P.Door.Link.Sink.faults)
         words.now most_bytes disk result.disk clock.old clock.new
-        (record { returned = P.returned port.old; links = P.links port.old; faults = P.faults port.old })
-        (record { returned = P.returned port.new; links = P.links port.new; faults = P.faults port.new })
+        (record { returned = P.returned port.old; links = P.links port.old; numbers = P.numbers port.old; faults = P.faults port.old })
+        (record { returned = P.returned port.new; links = P.links port.new; numbers = P.numbers port.new; faults = P.faults port.new })
         (S.left input.old) (S.left input.new) (K.taken output.old) (K.taken output.new)
         (S.faults input.old) (S.faults input.new) (K.faults output.old) (K.faults output.new)
         result.status }
@@ -104,8 +104,8 @@ pub fn run_program<
         ⊎ DoesAsAsked D.Disk C.Clock
         (ways P.Door.Link.came P.Door.Link.left P.Door.Link.taken P.Door.Link.Source.faults P.Door.Link.Sink.faults)
         (words_behind 2 command_line.now) most_bytes disk result.disk clock.old clock.new
-        (record { returned = P.returned port.old; links = P.links port.old; faults = P.faults port.old })
-        (record { returned = P.returned port.new; links = P.links port.new; faults = P.faults port.new })
+        (record { returned = P.returned port.old; links = P.links port.old; numbers = P.numbers port.old; faults = P.faults port.old })
+        (record { returned = P.returned port.new; links = P.links port.new; numbers = P.numbers port.new; faults = P.faults port.new })
         (S.left input.old) (S.left input.new) (K.taken output.old) (K.taken output.new)
         (S.faults input.old) (S.faults input.new) (K.faults output.old) (K.faults output.new)
         result.status }

@@ -1,5 +1,5 @@
 -- What was gathered, of an office from its opening on.
-use Rattle.std.proofs.Common.{ℕ, ℤ, ◌≡◌, ◌<◌, List, [], length, inl, ◌∙◌, ap, subst, arith}
+use Rattle.std.proofs.Common.{ℕ, ℤ, ◌≡◌, ◌<◌, List, [], length, inl, inr, refl, ◌∙◌, ap, subst, arith}
 use Rattle.desk_traits.specs.declared.disk.Disk.{Ghosts as Disks}
 use Rattle.office_journal.specs.declared.kept.KeptOffice.{KeptOffice}
 use Rattle.office_turns.specs.Since.{IsSince}
@@ -8,7 +8,7 @@ use Rattle.turn_lock.specs.Passes.{Closes, PassRecord}
 use Rattle.warn_serve.specs.Calls.{AnswersCall}
 use Rattle.warn_serve.specs.Gathered.{IsGathered, IsPartOf}
 use Rattle.warn_serve.specs.Links.{Ways}
-use Rattle.warn_serve.specs.Served.{HasPart, IsServed, Part, PortState, passes_of}
+use Rattle.warn_serve.specs.Served.{HasListened, HasPart, IsServed, Part, PortState, passes_of}
 use Rattle.warn_serve.specs.Sharing.{IsShared}
 use Rattle.warn_serve.specs.declared.serving.ServeEnd.{ServeEnd}
 use Rattle.warn_serve.specs.declared.serving.ServeEnd.TheVariants.{OutOfMemory}
@@ -20,8 +20,8 @@ module _ {D L : Type 0} (d : Disks D) (w : Ways L) (gives : ℤ → Type 0) (ope
   part_since old p base none h = record { start = h.start; base = h.is_share.base ∙ base; unseen = h.is_share.seen ∙ none; none_added = h.is_share.mine; visits = h.visits }
 
   -- nobody could be had
-  pub served_none : (connections : ℕ) (port : PortState L) (happenings : List Happening) → happenings ≡ [] → 0 < connections → IsSince d opened kept happenings → IsServed d w gives opened kept connections port port OutOfMemory
-  served_none connections port happenings none some since = record {
+  pub served_none : (number connections : ℕ) (port : PortState L) (happenings : List Happening) → happenings ≡ [] → 0 < connections → IsSince d opened kept happenings → IsServed d w gives opened kept number connections port port OutOfMemory
+  served_none number connections port happenings none some since = record {
     happenings = happenings;
     since = since;
     parts = [];
@@ -32,21 +32,23 @@ module _ {D L : Type 0} (d : Disks D) (w : Ways L) (gives : ℤ → Type 0) (ope
       counted = ap length none;
     };
     served = λ k x less. absurd (omega (arith, less));
+    listened = inr (refl, refl);
     returned = omega arith;
     links = (takes_none port).links;
     later = (takes_none port).later;
     ends = inl some;
   }
 
-  pub served_all : (base : KeptOffice D d) (connections : ℕ) (first last : PortState L) (end : ServeEnd) (old new : PassRecord (KeptOffice D d) Happening) (happenings : List Happening)
+  pub served_all : (base : KeptOffice D d) (number connections : ℕ) (first last : PortState L) (end : ServeEnd) (old new : PassRecord (KeptOffice D d) Happening) (happenings : List Happening)
       → old.base ≡ opened → old.seen ≡ [] → old.first ≡ 0 → old.mine ≡ []
-      → IsGathered w (AnswersCall gives) connections first last old new end → Closes new base happenings → IsSince d opened kept happenings → IsServed d w gives opened kept connections first last end
-  served_all base connections first last end old new happenings b s f m g closes since = record {
+      → HasListened number first last → IsGathered w (AnswersCall gives) connections first last old new end → Closes new base happenings → IsSince d opened kept happenings → IsServed d w gives opened kept number connections first last end
+  served_all base number connections first last end old new happenings b s f m listened g closes since = record {
     happenings = happenings;
     since = since;
     parts = g.parts;
     shared = subst (λ (n : ℕ). IsShared n happenings (passes_of g.parts)) f (is_shared old new (passes_of g.parts) base happenings m g.passes closes);
     served = λ k x less. part_since old _ b s (g.served k x less);
+    listened = listened;
     returned = g.back.returned;
     links = g.back.links;
     later = g.back.later;

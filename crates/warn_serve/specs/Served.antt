@@ -2,6 +2,7 @@
 use Rattle.std.specs.Prelude.{◌≡◌, ◌⊎◌, ◌≤◌, ◌<◌, ◌+◌, ◌-◌, ◌^◌, ◌++◌, ℕ, ℤ, All, List, [], ◌∷◌, length, map, min, Option, None, Some}
 use Rattle.desk_traits.specs.Faults.{Rose}
 use Rattle.desk_traits.specs.declared.disk.Disk.{Ghosts as Disks}
+use Rattle.desk_links.specs.Links.{with_one}
 use Rattle.office_journal.specs.declared.kept.KeptOffice.{KeptOffice}
 use Rattle.turn_lock.specs.Passes.{PassRecord}
 use Rattle.office_turns.specs.Since.{IsSince}
@@ -13,14 +14,19 @@ use Rattle.warn_serve.specs.Workers.{AreVisits, Visit, lacks_of, links_of}
 use Rattle.warn_serve.specs.declared.serving.ServeEnd.{ServeEnd}
 use Rattle.warn_serve.specs.declared.serving.ServeEnd.TheVariants.{Done, PortFault, OutOfMemory}
 
--- what a port tells: how many links went back to it, these as they then stood, and how often it and its doors have failed
+-- what a port tells: how many links went back to it, these as they then stood, the numbers at which it has listened, and how often it and its doors have failed
 pub record PortState (L : Type 0) : Type 0 where
   pub returned : ℕ
   pub links : Option (List L)
+  pub numbers : Option (List ℕ)
   pub faults : ℕ
 
-abbrev pub port_of : {Port L : Type 0} → (Port → ℕ) → (Port → Option (List L)) → (Port → ℕ) → Port → PortState L
-port_of returned links faults port = record { returned = returned port; links = links port; faults = faults port }
+abbrev pub port_of : {Port L : Type 0} → (Port → ℕ) → (Port → Option (List L)) → (Port → Option (List ℕ)) → (Port → ℕ) → Port → PortState L
+port_of returned links numbers faults port = record { returned = returned port; links = links port; numbers = numbers port; faults = faults port }
+
+-- The port listened at this number, once; or it gave no doors, and no link.
+abbrev pub HasListened : {L : Type 0} → ℕ → PortState L → PortState L → Type 0
+HasListened number first last = (last.numbers ≡ with_one first.numbers number) ⊎ ((last.numbers ≡ first.numbers) × (last.returned ≡ first.returned))
 
 -- a worker's pass at its end, and the links that it served
 pub record Part (P L : Type 0) : Type 0 where
@@ -56,13 +62,14 @@ module _ {D L : Type 0} (d : Disks D) (w : Ways L) (gives : ℤ → Type 0) (ope
     pub none_added : start.mine ≡ []
     pub visits : AreVisits w (AnswersCall gives) start p.visits p.pass
 
-  -- There is one list of happenings since the opening, those of the calls on these links, each once; and the links went back to the port.
-  pub record IsServed (kept : KeptOffice D d) (connections : ℕ) (first last : PortState L) (end : ServeEnd) : Type 0 where
+  -- There is one list of happenings since the opening, those of the calls on these links, each once; and the links went back to the port, which had listened at the number.
+  pub record IsServed (kept : KeptOffice D d) (number connections : ℕ) (first last : PortState L) (end : ServeEnd) : Type 0 where
     pub happenings : List Happening
     pub since : IsSince d opened kept happenings
     pub parts : List (Part (PassRecord (KeptOffice D d) Happening) L)
     pub shared : IsShared 0 happenings (passes_of parts)
     pub served : All HasPart parts
+    pub listened : HasListened number first last
     pub returned : last.returned ≡ first.returned + length (visits_of parts)
     pub links : TellsBehind first.links last.links (links_of (visits_of parts))
     pub later : min first.faults (2 ^ 64 - 1) ≤ last.faults

@@ -55,7 +55,8 @@ pub(crate) fn hire<D: Disk, P: Port>(
     ensures shares { pass.new.shares + vec_len result.0 ≡ pass.old.shares }
     ensures fresh { All (λ w. IsFresh pass.old w.pass (door_of P.Door.given P.Door.returned P.Door.links P.Door.faults w.door) w.share connections) result.0.items }
     ensures total { total_of (map (λ w. w.share) result.0.items) + result.1 ≡ connections }
-    ensures port { TakesBack (port_of P.returned P.links P.faults port.old) (port_of P.returned P.links P.faults port.new) [] }
+    ensures port { TakesBack (port_of P.returned P.links P.numbers P.faults port.old) (port_of P.returned P.links P.numbers P.faults port.new) [] }
+    ensures numbers { P.numbers port.new ≡ P.numbers port.old }
 {
     let mut workers = Vec::new(alloc);
     let mut left = connections;

@@ -83,6 +83,14 @@ fn add_links(alloc: Global, answer: &mut String, port: &MemPort, shown: Shown) -
     Ok(())
 }
 
+/// Adds a line for each number at which a port listened.
+fn add_numbers(alloc: Global, answer: &mut String, port: &MemPort) -> Result<(), Oom> {
+    for number in port.numbers() {
+        answer.push_str(format!(in alloc; "listened at {number}\n")?.as_str())?;
+    }
+    Ok(())
+}
+
 /// Adds what the program wrote, and its status.
 pub fn add_output(
     alloc: Global,
@@ -130,6 +138,7 @@ pub fn serve_doors<R: Threads + Wait + Sync>(
         gate,
     );
     let mut answer = String::new(alloc);
+    add_numbers(alloc, &mut answer, &port)?;
     add_links(alloc, &mut answer, &port, shown)?;
     add_output(alloc, &mut answer, output.taken(), status)?;
     Ok(Served {

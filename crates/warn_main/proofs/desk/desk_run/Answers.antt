@@ -12,7 +12,7 @@ returns-in-Some-clause-done g c =
     let link = g.P.Door.Link in
     let served = c.run_serve.ensures in
     let causes = ends g.D.Disk (ways link.Link.came link.Source.left link.Sink.taken link.Source.faults link.Sink.faults) (g.C.Clock.gives c.args.clock.now) c.in-Some.serving c.args.disk c.run_serve.result.disk
-    (state_of p.returned p.links p.faults c.args.port.now) (state_of p.returned p.links p.faults c.run_serve.new.port) _ _ _ _ _ served in
+    (state_of p.returned p.links p.numbers p.faults c.args.port.now) (state_of p.returned p.links p.numbers p.faults c.run_serve.new.port) _ _ _ _ _ served in
     record {
       run = present (serving_of c.args.words.now) c.in-Some.serving _ _ (sym c.serving_of.ensures.value ∙ c.in-Some.is) (record { unread = refl; steady = refl }, refl, served);
       read_fault = λ seven. absurd (causes.unread seven);

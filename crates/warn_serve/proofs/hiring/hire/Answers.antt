@@ -20,13 +20,14 @@ loop-door-init g c = record {
   unused = all_same c.args.doors.items c.into_iter-door-iterator.result.rest.items (search rules) (λ d. IsUnused (g.P.Door.Door.given d) (g.P.Door.Door.returned d) (g.P.Door.Door.faults d) (g.P.Door.Door.links d)) c.requires.unused;
   fresh = search rules;
   total = search rules;
-  back = takes_none (port_of g.P.Port.returned g.P.Port.links g.P.Port.faults c.args.port.now);
+  back = takes_none (port_of g.P.Port.returned g.P.Port.links g.P.Port.numbers g.P.Port.faults c.args.port.now);
+  numbers = refl;
 }
 
 pub loop-door-preserved-then-is_err : goal.loop-door-preserved-then-is_err
 loop-door-preserved-then-is_err g c =
     let door = g.P.Door.Door in
-    let port = port_of g.P.Port.returned g.P.Port.links g.P.Port.faults in
+    let port = port_of g.P.Port.returned g.P.Port.links g.P.Port.numbers g.P.Port.faults in
     let was = c.loop-door.invariant in
     let step = c.in-Some.ensures.steps.0 in
     record {
@@ -42,6 +43,7 @@ loop-door-preserved-then-is_err g c =
       back = takes_unused (port c.args.port.now) (port c.loop-door.port) (port c.back.new.self) (door_of door.given door.returned door.links door.faults c.in-Some.door) was.back
           (all_here [] c.in-Some.door c.next.new.self.rest.items c.loop-door.door-iterator.rest.items step (λ d. IsUnused (door.given d) (door.returned d) (door.faults d) (door.links d)) was.unused)
           c.back.ensures.faults c.back.ensures.returned c.back.ensures.links;
+      numbers = c.back.ensures.numbers ∙ was.numbers;
     }
 
 pub back-requires-in_default-clause-none_out : goal.back-requires-in_default-clause-none_out
@@ -59,7 +61,7 @@ back-requires-in_default-clause-few g c =
 pub loop-door-preserved-in_default : goal.loop-door-preserved-in_default
 loop-door-preserved-in_default g c =
     let door = g.P.Door.Door in
-    let port = port_of g.P.Port.returned g.P.Port.links g.P.Port.faults in
+    let port = port_of g.P.Port.returned g.P.Port.links g.P.Port.numbers g.P.Port.faults in
     let was = c.loop-door.invariant in
     let step = c.in-Some.ensures.steps.0 in
     record {
@@ -75,6 +77,7 @@ loop-door-preserved-in_default g c =
       back = takes_unused (port c.args.port.now) (port c.loop-door.port) (port c.back-in_default.new.self) (door_of door.given door.returned door.links door.faults c.in-Some.door) was.back
           (all_here [] c.in-Some.door c.next.new.self.rest.items c.loop-door.door-iterator.rest.items step (λ d. IsUnused (door.given d) (door.returned d) (door.faults d) (door.links d)) was.unused)
           c.back-in_default.ensures.faults c.back-in_default.ensures.returned c.back-in_default.ensures.links;
+      numbers = c.back-in_default.ensures.numbers ∙ was.numbers;
     }
 
 pub loop-door-preserved : goal.loop-door-preserved
@@ -100,4 +103,5 @@ loop-door-preserved g c =
           });
       total = omega (arith, sum, was.total, c.share_of-share.ensures.most);
       back = was.back;
+      numbers = was.numbers;
     }

@@ -8,7 +8,7 @@ use Rattle.warn_serve.proofs.hiring.hire.Given as goal
 abbrev pub invariant-loop-door : goal.invariant-loop-door
 invariant-loop-door g l =
     let door = g.P.Door.Door in
-    let port = port_of g.P.Port.returned g.P.Port.links g.P.Port.faults in
+    let port = port_of g.P.Port.returned g.P.Port.links g.P.Port.numbers g.P.Port.faults in
     record {
       can : (goal.iterator-loop-door g).can_next l.door-iterator;
       ends : (goal.iterator-loop-door g).is_finite l.door-iterator;
@@ -20,4 +20,5 @@ invariant-loop-door g l =
       fresh : All (λ w. IsFresh l.initial.pass w.pass (door_of door.given door.returned door.links door.faults w.door) w.share l.fn.connections) l.workers.items;
       total : total_of (map (λ w. w.share) l.workers.items) + l.left ≡ l.fn.connections;
       back : TakesBack (port l.initial.port) (port l.port) [];
+      numbers : g.P.Port.numbers l.port ≡ g.P.Port.numbers l.initial.port;
     }

@@ -1,4 +1,4 @@
-use Rattle.std.proofs.Common.{[], ◌∷◌, ◌++◌, ℕ, sym, ◌∙◌, ap, arith, append_assoc, map, rules, subst, length, length-append}
+use Rattle.std.proofs.Common.{[], ◌∷◌, ◌++◌, ℕ, refl, sym, ◌∙◌, ap, arith, append_assoc, map, rules, subst, length, length-append}
 use Rattle.warn_serve.specs.Calls.{AnswersCall}
 use Rattle.warn_serve.specs.Gathered.{HasDone, IsGathered, total_of}
 use Rattle.warn_serve.specs.Links.{ways}
@@ -18,7 +18,8 @@ loop-worker-init g c =
       ends = tt;
       items = search rules;
       shares = omega arith;
-      gathered = gathered_none way (AnswersCall (g.C.Clock.gives c.args.clock.now)) (port_of g.P.Port.returned g.P.Port.links g.P.Port.faults c.args.port.now) c.args.pass.now;
+      gathered = gathered_none way (AnswersCall (g.C.Clock.gives c.args.clock.now)) (port_of g.P.Port.returned g.P.Port.links g.P.Port.numbers g.P.Port.faults c.args.port.now) c.args.pass.now;
+      numbers = refl;
     }
 
 pub join-requires-clause-pass : goal.join-requires-clause-pass
@@ -56,7 +57,7 @@ back-requires-clause-few g c =
 pub loop-worker-preserved : goal.loop-worker-preserved
 loop-worker-preserved g c =
     let door = g.P.Door.Door in
-    let port = port_of g.P.Port.returned g.P.Port.links g.P.Port.faults in
+    let port = port_of g.P.Port.returned g.P.Port.links g.P.Port.numbers g.P.Port.faults in
     let way = ways g.P.Door.Link.Link.came g.P.Door.Link.Source.left g.P.Door.Link.Sink.taken g.P.Door.Link.Source.faults g.P.Door.Link.Sink.faults in
     let answers = AnswersCall (g.C.Clock.gives c.args.clock.now) in
     let state = door_of door.given door.returned door.links door.faults in
@@ -78,6 +79,7 @@ loop-worker-preserved g c =
           (port c.args.port.now) (port c.loop-worker.port) (port c.back.new.self) c.args.pass.now c.loop-worker.pass c.join.new.pass one.pass (state one.door) c.loop-worker.end c.end_after-end.result one.end
           c.loop-worker.invariant.gathered done (total_on (λ w. w.share) yielded one) c.end_after-end.ensures
           c.join.ensures.both c.join.ensures.begins.0 c.join.ensures.begins.1 c.back.ensures.faults c.back.ensures.returned c.back.ensures.links;
+      numbers = c.back.ensures.numbers ∙ c.loop-worker.invariant.numbers;
     }
 
 pub returns-clause-shares : goal.returns-clause-shares
@@ -89,7 +91,7 @@ returns-clause-shares g c =
 
 pub returns-clause-gathered : goal.returns-clause-gathered
 returns-clause-gathered g c =
-    let port = port_of g.P.Port.returned g.P.Port.links g.P.Port.faults in
+    let port = port_of g.P.Port.returned g.P.Port.links g.P.Port.numbers g.P.Port.faults in
     let way = ways g.P.Door.Link.Link.came g.P.Door.Link.Source.left g.P.Door.Link.Sink.taken g.P.Door.Link.Source.faults g.P.Door.Link.Sink.faults in
     let rest = c.loop-worker.worker-iterator.rest in
     let all = all_given c.args.workers.items c.loop-worker.yielded rest.items rest.len c.loop-worker.invariant.items rest.ok.0 c.in-None.ensures.steps.0 in

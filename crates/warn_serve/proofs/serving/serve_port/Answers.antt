@@ -14,7 +14,7 @@ use Rattle.warn_serve.proofs.serving.serve_port.Goals as goal
 
 pub returns-in-Err-No-clause-gathered : goal.returns-in-Err-No-clause-gathered
 returns-in-Err-No-clause-gathered g c =
-    let port = port_of g.P.Port.returned g.P.Port.links g.P.Port.faults in
+    let port = port_of g.P.Port.returned g.P.Port.links g.P.Port.numbers g.P.Port.faults in
     let way = ways g.P.Door.Link.Link.came g.P.Door.Link.Source.left g.P.Door.Link.Sink.taken g.P.Door.Link.Source.faults g.P.Door.Link.Sink.faults in
     let first = port c.args.port.now in
     let last = port c.listen.new.self in
@@ -22,7 +22,7 @@ returns-in-Err-No-clause-gathered g c =
 
 pub returns-in-Err-OutOfMemory-clause-gathered : goal.returns-in-Err-OutOfMemory-clause-gathered
 returns-in-Err-OutOfMemory-clause-gathered g c =
-    let port = port_of g.P.Port.returned g.P.Port.links g.P.Port.faults in
+    let port = port_of g.P.Port.returned g.P.Port.links g.P.Port.numbers g.P.Port.faults in
     let way = ways g.P.Door.Link.Link.came g.P.Door.Link.Source.left g.P.Door.Link.Sink.taken g.P.Door.Link.Source.faults g.P.Door.Link.Sink.faults in
     let first = port c.args.port.now in
     let last = port c.listen.new.self in
@@ -39,7 +39,7 @@ serve_shares-end-requires-clause-fresh g c κs within =
 
 pub returns-clause-gathered : goal.returns-clause-gathered
 returns-clause-gathered g c =
-    let port = port_of g.P.Port.returned g.P.Port.links g.P.Port.faults in
+    let port = port_of g.P.Port.returned g.P.Port.links g.P.Port.numbers g.P.Port.faults in
     let way = ways g.P.Door.Link.Link.came g.P.Door.Link.Source.left g.P.Door.Link.Sink.taken g.P.Door.Link.Source.faults g.P.Door.Link.Sink.faults in
     let hired = c.hire-hired.result.0.items in
     let first = port c.args.port.now in

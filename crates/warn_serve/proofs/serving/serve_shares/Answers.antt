@@ -38,7 +38,7 @@ gather-requires-clause-few g c =
 
 pub returns-clause-gathered : goal.returns-clause-gathered
 returns-clause-gathered g c =
-    let port = port_of g.P.Port.returned g.P.Port.links g.P.Port.faults in
+    let port = port_of g.P.Port.returned g.P.Port.links g.P.Port.numbers g.P.Port.faults in
     let way = ways g.P.Door.Link.Link.came g.P.Door.Link.Source.left g.P.Door.Link.Sink.taken g.P.Door.Link.Source.faults g.P.Door.Link.Sink.faults in
     let old = c.as_mut_slice.result.now in
     let new = c.work_all.new.workers in

@@ -16,6 +16,8 @@ loop-preserved c =
       idle = subst (λ (l : List DoorInMemory). All IsIdle l) (sym c.in_ok-door.ensures.others) (all_rest IsIdle c.loop.self-inside.doors.items c.loop.invariant.idle);
       back = c.loop.invariant.back;
       faults = c.loop.invariant.faults;
+      numbers = c.loop.invariant.numbers;
+      spare = c.loop.invariant.spare;
     }
 
 pub returns-clause-unused : goal.returns-clause-unused

@@ -1,4 +1,4 @@
-use Rattle.std.proofs.Common.{◌≡◌, ◌≤◌, ◌-◌, ◌++◌, All, length}
+use Rattle.std.proofs.Common.{◌≡◌, ◌≤◌, ◌<◌, ◌-◌, ◌++◌, All, length}
 use Rattle.std.specs.Prelude.{vec_capacity}
 use Rattle.desk_links.specs.LinkMemory.{dealt, IsIdle}
 use Rattle.desk_links.proofs.port_memory.MemPortPort.listen.Given as goal
@@ -13,4 +13,6 @@ invariant-loop l = record {
   idle : All IsIdle l.self-inside.doors.items;
   back : l.self-inside.back ≡ l.fn.self.back;
   faults : l.self-inside.faults ≡ l.fn.self.faults;
+  numbers : l.self-inside.numbers.items ≡ l.fn.self.numbers;
+  spare : length l.self-inside.numbers.items < vec_capacity l.self-inside.numbers;
 }
