@@ -1,0 +1,30 @@
+-- Entries in a list, in order by zone.
+use Rattle.std.specs.Prelude.{◌-◌, ℕ, Bool, true, false, List, length, slice_get, Option, Some, None}
+use Rattle.std.specs.BTreeMap.{is_at}
+use Rattle.std.specs.Ordering.{is_lt}
+use Rattle.hazard_types.specs.Places.{Place, by_place}
+
+module _ {V : Type 0} where
+  abbrev pub is_there : Option (Place × V) → Place → Bool
+  is_there None z = false
+  is_there (Some e) z = is_at (by_place z) e.0
+
+  -- a zone stands at a place
+  abbrev pub stands_at : List (Place × V) → ℕ → Place → Bool
+  stands_at es place z = is_there (slice_get es place) z
+
+  abbrev pub is_behind_last : Option (Place × V) → Place → Bool
+  is_behind_last None z = true
+  is_behind_last (Some last) z = is_lt (by_place last.0 z)
+
+  -- a zone is behind the last of these
+  abbrev pub is_behind : List (Place × V) → Place → Bool
+  is_behind es z = is_behind_last (slice_get es (length es - 1)) z
+
+  abbrev pub is_seat_by : Option (Place × V) → List (Place × V) → Place → Bool
+  is_seat_by None es z = is_behind es z
+  is_seat_by (Some e) es z = is_at (by_place z) e.0
+
+  -- a zone stands at a place, or the place is behind the last and so is the zone
+  abbrev pub is_seat : List (Place × V) → ℕ → Place → Bool
+  is_seat es place z = is_seat_by (slice_get es place) es z

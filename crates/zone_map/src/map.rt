@@ -1,0 +1,180 @@
+//! A value at each of some zones.
+ghost use Rattle.std.specs.Prelude.{◌≡◌, [], None, option_map, slice_get, IfOk, OnOk};
+ghost use Rattle.std.specs.BTreeMap.{insert_entry, is_at};
+ghost use Rattle.std.specs.List.Sorted.{IsStrictlySortedBy};
+ghost use Rattle.std.specs.Map.{keys_of, lookup, values_of};
+ghost use Rattle.hazard_types.specs.Places.{by_place};
+ghost use Rattle.zone_map.specs.Kept.{kept_in, AreKept};
+
+use crate::rising::{seat_of, set_at, value_near, values_in};
+use hazard_types::{List, Oom, Zone};
+use std::alloc::Global;
+use std::collections::BTreeMap;
+use std::marker::Model;
+
+/// A value at each of some zones.
+///
+/// They stand in a list while each new zone is behind the last. From the first one that is not,
+/// they stand in a tree.
+#[derive(Drop)]
+pub struct ZoneMap<V> {
+    rising: Option<Vec<(Zone, V)>>,
+    near: usize,
+    others: BTreeMap<Zone, V>,
+}
+
+impl<V> Model for ZoneMap<V> {
+    ghost use Rattle.std.specs.Prelude.{List as Seq};
+    ghost use Rattle.hazard_types.specs.Places.{Place};
+    ghost use Rattle.zone_map.specs.Kept.{kept_in, AreKept};
+
+    ghost Value = { Seq (Place × V) };
+
+    ghost view = { λ m. kept_in m.rising m.others.entries };
+
+    ghost invariant = { λ m. AreKept m.rising m.others.entries };
+}
+
+/// Sets the value of a zone in a tree. `before` becomes the one that was there.
+fn set_among<V: Copy>(
+    others: &mut BTreeMap<Zone, V>,
+    zone: Zone,
+    value: V,
+    before: &mut Option<V>,
+) -> Result<(), Oom>
+    ensures set { OnOk result (others.new.entries ≡ insert_entry by_place others.old.entries zone value) }
+    ensures before { OnOk result (before.new ≡ lookup (is_at (by_place zone)) others.old.entries) }
+    ensures sorted { IsStrictlySortedBy by_place (keys_of others.new.entries) }
+{
+    *before = others.insert(zone, value)?;
+    Ok(())
+}
+
+/// Entries in order come into a tree that has none.
+fn insert_all<V: Copy>(others: &mut BTreeMap<Zone, V>, list: &[(Zone, V)]) -> Result<(), Oom>
+    requires sorted { IsStrictlySortedBy by_place (keys_of list.now) }
+    requires empty { others.old.entries ≡ [] }
+    ensures all { OnOk result (others.new.entries ≡ list.now) }
+    ensures sorted { IsStrictlySortedBy by_place (keys_of others.new.entries) }
+{
+    for entry in list {
+        others.insert(entry.0, entry.1)?;
+    }
+    let _ = others.len();
+    Ok(())
+}
+
+/// The entries that rose, if there are any, come into the tree.
+fn settle<V: Copy>(
+    rising: &mut Option<Vec<(Zone, V)>>,
+    others: &mut BTreeMap<Zone, V>,
+) -> Result<(), Oom>
+    requires { AreKept rising.old others.old.entries }
+    ensures none { rising.new ≡ None }
+    ensures all { OnOk result (others.new.entries ≡ kept_in rising.old others.old.entries) }
+    ensures sorted { IsStrictlySortedBy by_place (keys_of others.new.entries) }
+{
+    match rising.take() {
+        Some(list) => insert_all(others, &list),
+        None => Ok(()),
+    }
+}
+
+/// The entries of a tree in order.
+fn listed<V: Copy>(alloc: Global, others: &BTreeMap<Zone, V>) -> Result<List<(Zone, V)>, Oom>
+    ensures { IfOk result (λ list. list ≡ others.now.entries) }
+{
+    let mut list = Vec::new(alloc);
+    for (zone, value) in others {
+        list.push((*zone, *value))?;
+    }
+    Ok(List::from_vec(list))
+}
+
+/// The value of the first zone of a tree.
+fn first_among<V: Copy>(others: &BTreeMap<Zone, V>) -> Option<V>
+    ensures { result ≡ option_map (λ e. e.1) (slice_get others.now.entries 0) }
+{
+    match others.first_key_value() {
+        Some((_zone, value)) => Some(*value),
+        None => None,
+    }
+}
+
+impl<V: Copy> ZoneMap<V> {
+    /// No zones.
+    pub fn new(alloc: Global) -> Self
+        ensures { result ≡ [] }
+    {
+        ZoneMap {
+            rising: Some(Vec::new(alloc)),
+            near: 0,
+            others: BTreeMap::new(alloc),
+        }
+    }
+
+    /// The value at a zone. `near` is a guess of its place, and becomes the place behind the one found.
+    pub fn get(&self, near: &mut usize, zone: &Zone) -> Option<V>
+        ensures value { result ≡ lookup (is_at (by_place zone.now)) self.now }
+        ensures order { IsStrictlySortedBy by_place (keys_of self.now) }
+    {
+        match &self.rising {
+            Some(list) => value_near(list, near, zone),
+            None => self.others.get(zone).copied(),
+        }
+    }
+
+    /// Sets the value at a zone. `before` becomes the one that was there. When memory runs out, values may be gone.
+    pub fn set(&mut self, zone: Zone, value: V, before: &mut Option<V>) -> Result<(), Oom>
+        ensures set { OnOk result (self.new ≡ insert_entry by_place self.old zone value) }
+        ensures before { OnOk result (before.new ≡ lookup (is_at (by_place zone)) self.old) }
+    {
+        if let Some(list) = &mut self.rising {
+            if let Some(seat) = seat_of(list, self.near, &zone) {
+                self.near = seat.saturating_add(1);
+                return set_at(list, seat, &zone, value, before);
+            }
+        }
+        settle(&mut self.rising, &mut self.others)?;
+        set_among(&mut self.others, zone, value, before)
+    }
+
+    /// The value at the first zone.
+    pub fn first(&self) -> Option<V>
+        ensures { result ≡ option_map (λ e. e.1) (slice_get self.now 0) }
+    {
+        match &self.rising {
+            Some(list) => list.first().map(|entry| entry.1),
+            None => first_among(&self.others),
+        }
+    }
+
+    /// The zones in order, each with its value.
+    pub fn list(&self, alloc: Global) -> Result<List<(Zone, V)>, Oom>
+        ensures value { IfOk result (λ list. list ≡ self.now) }
+        ensures order { IsStrictlySortedBy by_place (keys_of self.now) }
+    {
+        match &self.rising {
+            Some(list) => Ok(List::from_vec(Vec::from_slice(alloc, list)?)),
+            None => listed(alloc, &self.others),
+        }
+    }
+
+    /// The values in the order of their zones.
+    pub fn values(&self, alloc: Global) -> Result<Vec<V>, Oom>
+        ensures { IfOk result (λ values. values.items ≡ values_of self.now) }
+    {
+        match &self.rising {
+            Some(list) => values_in(alloc, list),
+            None => Ok(self.others.values().copied().collect(alloc)?),
+        }
+    }
+
+    /// No zone has a value any more.
+    pub fn clear(&mut self)
+        ensures { self.new ≡ [] }
+    {
+        self.rising = None;
+        self.others.clear();
+    }
+}
