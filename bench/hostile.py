@@ -1,7 +1,8 @@
 """Measures the archive report, outside the gate, on small inputs that name very much: two products whose UGC names so many states of
 999 zones each; a UGC that names one state's zones again and again; very many products of an event each; one event of very many
-zones of which very many products name one each; one whose zones come in falling order, a segment each; and one that very many zones
-join by EXB lines. Seconds are of processor time; the exponent is that of the growth of time.
+zones of which very many products name one each; one whose zones come in falling order, a segment each; one that very many zones
+join by EXB lines; and very many warnings of a zone each, then products that upgrade an advisory of whole states. Seconds are of
+processor time; the exponent is that of the growth of time.
 With `--beside FOLDER` the program of the same name in that folder runs over the same files, and the ratios are printed.
 
     python3 bench/hostile.py [--beside FOLDER]
@@ -72,6 +73,12 @@ def joined(count):
     return product(groups[::2], "NEW", "WW.Y", 3) + product(groups[1::2], "EXB", "WW.Y", 3, end="180104T0900Z")
 
 
+def upgraded(count):
+    groups = [letters(k) + "Z001>999" for k in range(20)]
+    warnings = [product([letters(k // 999) + "Z%03d" % (k % 999 + 1)], "NEW", "WS.W", k + 1) for k in range(count)]
+    return product(groups, "NEW", "WW.Y", 3) + "".join(warnings) + "".join(product([group], "UPG", "WW.Y", 3) for group in groups)
+
+
 words, folder = beside(sys.argv[1:])
 report = [program("warn_archive"), "KDMX", "O", "180103T1700Z"]
 with tempfile.TemporaryDirectory() as place:
@@ -79,7 +86,8 @@ with tempfile.TemporaryDirectory() as place:
     for name, make, sizes in (("states of 999 zones, twice", states, (16, 64, 676)), ("runs 001>999 of one state, twice", repeated, (16, 64, 676)),
                               ("products of an event each", tiny, (10000, 100000)), ("products of a zone each of one great event", named_again, (1000, 10000)),
                               ("states of 999 zones of one event in falling order, a segment each", falling, (4, 16, 64)),
-                              ("states of 999 zones of one event, each second one by EXB lines", joined, (16, 64, 676))):
+                              ("states of 999 zones of one event, each second one by EXB lines", joined, (16, 64, 676)),
+                              ("warnings of a zone each, then an upgrade of each of 20 states of 999 zones", upgraded, (2000, 8000))):
         before = None
         for size in sizes:
             with open(path, "w", newline="") as out:

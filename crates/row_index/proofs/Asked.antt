@@ -1,7 +1,13 @@
 -- A line's breach depends on no more of what stands around it than its action asks for.
 use Rattle.std.proofs.Common.{◌≡◌, ◌∙◌, ◌<◌, ◌+◌, ◌&&◌, not, ℕ, List, [], ◌∷◌, ◌++◌, take, drop, length, get_or, append_assoc, subst, Bool, true, false, cond, Option, Some, None, Result, Ok, Err, refl, ap, sym}
 use Rattle.std.proofs.lemmas.List.Folds.{list_any_at}
+use Rattle.std.proofs.lemmas.Bool.{and_parts}
 use Rattle.std.specs.List.{list_any}
+use Rattle.hazard_types.specs.Same.{same_event}
+use Rattle.hazard_types.specs.contracts.codes.ActionPartialEq.TheImpl as action_eq
+use Rattle.hazard_types.proofs.Equality.{action_one, event_one, period_one}
+use Rattle.event_life.specs.Lives.{opens}
+use Rattle.event_life.specs.Periods.{is_live, same_at}
 use Rattle.std.specs.Option.{is_none}
 use Rattle.hazard_types.specs.declared.codes.Action.{Action}
 use Rattle.hazard_types.specs.declared.codes.Action.TheVariants.{New, Con, Exa, Ext, Exb, Upg, Can, Exp, Cor, Rou}
@@ -13,10 +19,10 @@ use Rattle.event_life.specs.declared.life.Breach.{Breach}
 use Rattle.event_life.specs.declared.life.Breach.TheVariants.{Twice}
 use Rattle.event_life.specs.Products.{has_rows, is_open, is_held, has_same, around_but_higher, life_at, is_routine, is_upgrade, is_second, has_higher, around_of, breach_in, put, row_after, put_but_upgrades, judged_from}
 use Rattle.event_life.specs.Seats.{may_count}
-use Rattle.event_life.specs.Table.{first_of, on_new, on_joining, on_life, on_nothing, breach_of_line, life_after, unless_breach, step}
+use Rattle.event_life.specs.Table.{opened_period, first_of, on_new, on_joining, on_life, on_nothing, breach_of_line, life_after, unless_breach, step}
 use Rattle.event_life.proofs.HigherLemmas.{breach-higher}
 use Rattle.row_index.specs.Seating.{upgrades}
-use Rattle.row_index.specs.Steps.{asked_around}
+use Rattle.row_index.specs.Steps.{asks_alike, asked_around, nothing_around}
 use Rattle.row_index.proofs.Seated.{one_longer, cut_at}
 
 abbrev around : Bool → Bool → Bool → Bool → Bool → Around
@@ -89,6 +95,75 @@ pub step_err : (rows : List Row) (line : Line) (t : ℕ) (higher : Bool) (before
 step_err rows line t higher before around breach before_is around_is h =
     unless_err (breach_of_line before line t around) (life_after before line t) breach h
     ∙ (λ i. breach_of_line (before_is i) line t (around_is i)) ∙ breach-asked rows line t higher (life_at rows line)
+
+-- lines that open a spell alike
+
+alike_by : (a : Action) (rows : List Row) (t : ℕ) (l m : Line) (higher : Bool) → l.event ≡ m.event → opened_period l t ≡ opened_period m t → asked_around a rows t l higher ≡ asked_around a rows t m higher
+alike_by New rows t l m higher event_is period_is = λ i. around (has_rows rows (event_is i)) false (not (has_rows rows (event_is i)) && is_held rows t (event_is i)) false higher
+alike_by Exa rows t l m higher event_is period_is =
+    λ i. around false (is_open rows t (event_is i)) false (is_open rows t (event_is i) && list_any (λ (r : Row). same_event r.event (event_is i) && is_live t r && same_at t r.period (period_is i)) rows) higher
+alike_by Exb rows t l m higher event_is period_is =
+    λ i. around false (is_open rows t (event_is i)) false (is_open rows t (event_is i) && list_any (λ (r : Row). same_event r.event (event_is i) && is_live t r && same_at t r.period (period_is i)) rows) higher
+alike_by Con rows t l m higher event_is period_is = refl
+alike_by Ext rows t l m higher event_is period_is = refl
+alike_by Upg rows t l m higher event_is period_is = refl
+alike_by Can rows t l m higher event_is period_is = refl
+alike_by Exp rows t l m higher event_is period_is = refl
+alike_by Cor rows t l m higher event_is period_is = refl
+alike_by Rou rows t l m higher event_is period_is = refl
+
+pub asked_alike : (rows : List Row) (t : ℕ) (l m : Line) (higher : Bool) → asks_alike t l m ≡ true → asked_around l.action rows t l higher ≡ asked_around m.action rows t m higher
+asked_alike rows t l m higher h =
+    let p = and_parts (action_eq.eq-value.it l.action m.action && same_event l.event m.event) _ h in
+    let q = and_parts (action_eq.eq-value.it l.action m.action) _ p.0 in
+    ap (λ (a : Action). asked_around a rows t l higher) (action_one l.action m.action q.0)
+    ∙ alike_by m.action rows t l m higher (event_one l.event m.event q.1) (period_one (opened_period l t) (opened_period m t) p.1)
+
+-- a line that opens no spell asks for a higher row alone
+pub unopened_asked : (a : Action) (rows : List Row) (t : ℕ) (line : Line) (higher : Bool) → opens a ≡ false → nothing_around higher ≡ asked_around a rows t line higher
+unopened_asked New rows t line higher h = cc
+unopened_asked Exa rows t line higher h = cc
+unopened_asked Exb rows t line higher h = cc
+unopened_asked Con rows t line higher h = refl
+unopened_asked Ext rows t line higher h = refl
+unopened_asked Upg rows t line higher h = refl
+unopened_asked Can rows t line higher h = refl
+unopened_asked Exp rows t line higher h = refl
+unopened_asked Cor rows t line higher h = refl
+unopened_asked Rou rows t line higher h = refl
+
+higher_by : (a : Action) (rows : List Row) (t : ℕ) (line : Line) (higher : Bool) → (asked_around a rows t line higher).higher ≡ higher
+higher_by New rows t line higher = refl
+higher_by Exa rows t line higher = refl
+higher_by Exb rows t line higher = refl
+higher_by Con rows t line higher = refl
+higher_by Ext rows t line higher = refl
+higher_by Upg rows t line higher = refl
+higher_by Can rows t line higher = refl
+higher_by Exp rows t line higher = refl
+higher_by Cor rows t line higher = refl
+higher_by Rou rows t line higher = refl
+
+pub asked_higher : (rows : List Row) (t : ℕ) (line : Line) (higher : Bool) (stands : Around) → stands ≡ asked_around line.action rows t line higher → stands.higher ≡ higher
+asked_higher rows t line higher stands is = ap (λ (a : Around). a.higher) is ∙ higher_by line.action rows t line higher
+
+pub asked_own : (rows : List Row) (t : ℕ) (line : Line) (higher : Bool) (stands : Around) → stands ≡ asked_around line.action rows t line higher → stands ≡ asked_around line.action rows t line stands.higher
+asked_own rows t line higher stands is = is ∙ ap (asked_around line.action rows t line) (sym (asked_higher rows t line higher stands is))
+
+upgrade_unopened : (a : Action) → is_upgrade a ≡ true → opens a ≡ false
+upgrade_unopened Upg h = refl
+upgrade_unopened New h = cc
+upgrade_unopened Exa h = cc
+upgrade_unopened Exb h = cc
+upgrade_unopened Con h = cc
+upgrade_unopened Ext h = cc
+upgrade_unopened Can h = cc
+upgrade_unopened Exp h = cc
+upgrade_unopened Cor h = cc
+upgrade_unopened Rou h = cc
+
+pub upgrade_asked : (a : Action) (rows : List Row) (t : ℕ) (line : Line) (higher : Bool) → is_upgrade a ≡ true → nothing_around higher ≡ asked_around a rows t line higher
+upgrade_asked a rows t line higher h = unopened_asked a rows t line higher (upgrade_unopened a h)
 
 -- only UPG asks for a higher row
 

@@ -1,55 +1,75 @@
--- Rows of an event with one more stay in order, and so do the keys of those that no line has ended; they tell what is asked of the event.
+-- Rows of an event with one more stay in order, and those that no line has ended are counted; they tell what is asked of the event.
 use Rattle.std.proofs.Common.{◌≡◌, ◌∙◌, ℕ, List, [], ◌∷◌, ◌&&◌, ◌||◌, Bool, true, false, Option, refl, ap, sym, subst}
+use Rattle.std.specs.Prelude.{option_map, slice_get}
 use Rattle.std.specs.List.{AllByRecursion, list_any}
 use Rattle.std.specs.List.Sorted.{IsStrictlySortedBy}
-use Rattle.std.specs.Map.{values_of}
+use Rattle.std.specs.BTreeMap.{insert_entry}
+use Rattle.std.specs.Map.{keys_of, values_of}
 use Rattle.hazard_types.specs.Orders.{by_event}
+use Rattle.hazard_types.specs.Places.{Place, by_place}
+use Rattle.hazard_types.proofs.OrderLaws.{by_place_total, by_place_ties}
 use Rattle.hazard_types.specs.Same.{same_event}
 use Rattle.hazard_types.specs.declared.hazard.Event.{Event}
 use Rattle.hazard_types.specs.declared.line.Line.{Line}
 use Rattle.hazard_types.specs.declared.line.Row.{Row}
 use Rattle.hazard_types.proofs.Equality.{event_itself}
 use Rattle.event_life.specs.Periods.{is_live, keeps_open, same_at}
-use Rattle.event_life.specs.Products.{by_key, put, row_at, is_open, has_same}
+use Rattle.event_life.specs.Products.{by_key, put, row_at, has_rows, is_open, has_same}
 use Rattle.event_life.specs.Table.{opened_period}
-use Rattle.event_life.proofs.Puts.{put-sorted}
-use Rattle.row_index.specs.declared.seats.Seat.{Seat}
+use Rattle.event_life.proofs.Puts.{put-all, put-sorted}
 use Rattle.row_index.specs.declared.standing.Standing.{Standing}
 use Rattle.row_index.specs.Holding.{told, AreHeld}
 use Rattle.row_index.specs.Listing.{list_at}
-use Rattle.row_index.specs.Numbers.{stands}
-use Rattle.row_index.specs.Seating.{AreSeated}
-use Rattle.row_index.specs.Standings.{by_standing, standing_of, AreEventRows}
-use Rattle.row_index.specs.Steps.{restood}
-use Rattle.row_index.specs.Telling.{Tells}
+use Rattle.row_index.specs.Zoning.{AreOf, AreOfFirst, AreZoned, is_first_of}
+use Rattle.row_index.specs.Standings.{restood, AreCounts, AreEventRows}
+use Rattle.row_index.proofs.Lists.{ascending-put}
+use Rattle.row_index.proofs.Zoned.{zoned-put}
 use Rattle.row_index.proofs.HeldRows.{none-sorted, held-own, held-part, is_open-of, has_same-of}
-use Rattle.row_index.proofs.Stood.{stood-put, stood-sorted}
+use Rattle.row_index.proofs.Stood.{stood-put, stood-none}
 use Rattle.row_index.proofs.Tests.{any_same}
 
-no_keys : IsStrictlySortedBy by_standing []
+no_zones : IsStrictlySortedBy by_place []
 unfolding IsStrictlySortedBy
-no_keys = tt
+no_zones = tt
 
 rows-none : AreEventRows [] []
-rows-none = record { seated = tt; in_order = none-sorted; ascending = no_keys; standing = λ q. refl }
+rows-none = record { zoned = tt; zones_ascending = no_zones; in_order = none-sorted; of_first = tt; standing = stood-none }
 
-pub rows-emptied : (es : List (Seat × Row)) (keys : List Standing) → es ≡ [] → keys ≡ [] → AreEventRows es keys
-rows-emptied es keys es_are keys_are = rw (es_are, keys_are) rows-none
+pub rows-emptied : (es : List (Place × Row)) (counts : List (Standing × ℕ)) → es ≡ [] → counts ≡ [] → AreEventRows es counts
+rows-emptied es counts es_are counts_are = rw (es_are, counts_are) rows-none
+
+of-first : (d : Event) (rows : List Row) → AreOf d rows → AreOfFirst rows
+of-first d [] all = tt
+of-first d (r ∷ rows) all = subst (λ (x : Event). AreOf x rows) (sym all.0) all.1
 
 -- one row more
-pub rows-made : (es after : List (Seat × Row)) (keys next : List Standing) (row : Row) (before : Option Row) → before ≡ row_at (values_of es) row.event row.zone → values_of after ≡ put row (values_of es) → AreSeated after
-    → next ≡ restood by_standing standing_of before row keys → AreEventRows es keys → AreEventRows after next
-rows-made es after keys next row before found after_is seated next_is are =
+pub rows-made : (es after : List (Place × Row)) (counts next : List (Standing × ℕ)) (row : Row) (before : Option Row) → before ≡ row_at (values_of es) row.event row.zone → values_of after ≡ put row (values_of es) → after ≡ insert_entry by_place es row.zone row
+    → next ≡ restood before row counts → AreOf row.event (values_of es) → AreEventRows es counts → AreEventRows after next
+rows-made es after counts next row before found after_is entries_are next_is own are =
     let rows = values_of es in
     record {
-      seated = seated;
+      zoned = subst (λ (all : List (Place × Row)). AreZoned all) (sym entries_are) (zoned-put row es are.zoned);
+      zones_ascending = subst (λ (all : List (Place × Row)). IsStrictlySortedBy by_place (keys_of all)) (sym entries_are) (ascending-put by_place by_place_total by_place_ties row.zone es row are.zones_ascending);
       in_order = subst (λ (all : List Row). IsStrictlySortedBy by_key all) (sym after_is) (put-sorted row rows are.in_order);
-      ascending = subst (λ (all : List Standing). IsStrictlySortedBy by_standing all) (sym next_is) (stood-sorted before row keys are.ascending);
-      standing = subst (λ (all : List Row). Tells stands standing_of next all) (sym after_is)
-          (subst (λ (all : List Standing). Tells stands standing_of all (put row rows)) (sym next_is) (stood-put rows keys row before are.in_order are.ascending are.standing found));
+      of_first = subst (λ (all : List Row). AreOfFirst all) (sym after_is) (of-first row.event (put row rows) (put-all (λ (r : Row). r.event ≡ row.event) row rows refl own));
+      standing = subst (λ (all : List Row). AreCounts next all) (sym after_is)
+          (subst (λ (all : List (Standing × ℕ)). AreCounts all (put row rows)) (sym next_is) (stood-put rows counts row before are.in_order are.standing found));
     }
 
 -- what is asked of an event
+
+none_else : (e d : Event) (rows : List Row) → AreOf d rows → same_event d e ≡ false → has_rows rows e ≡ false
+none_else e d [] all other = refl
+none_else e d (r ∷ rows) all other = rw (ap (λ (x : Event). same_event x e) all.0 ∙ other) (none_else e d rows all.1 other)
+
+first_or : (b c : Bool) → (b ≡ false → c ≡ false) → b ≡ (b || c)
+first_or true c h = refl
+first_or false c h = sym (h refl)
+
+-- the first row tells whether there are rows of an event
+pub first-tells : (e : Event) (es : List (Place × Row)) → AreOfFirst (values_of es) → is_first_of (option_map (λ (x : Place × Row). x.1) (slice_get es 0)) e ≡ has_rows (values_of es) e
+first-tells e [] all = refl
+first-tells e (x ∷ es) all = first_or (same_event x.1.event e) (has_rows (values_of es) e) (λ other. none_else e x.1.event (values_of es) all other)
 
 own_or : (b c x y : Bool) → b ≡ true → x ≡ y → (c || x) ≡ ((b && c) || y)
 own_or true c x y h later = ap (λ (z : Bool). c || z) later

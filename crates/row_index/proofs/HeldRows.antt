@@ -3,7 +3,7 @@ use Rattle.std.proofs.Common.{◌≡◌, ◌∙◌, ℕ, List, [], ◌∷◌, �
 use Rattle.std.proofs.lemmas.Bool.{and_parts}
 use Rattle.std.specs.Prelude.{flat_map}
 use Rattle.std.specs.BTreeMap.{is_at}
-use Rattle.std.specs.List.{AllByRecursion, list_any}
+use Rattle.std.specs.List.{AllByRecursion, find, list_any}
 use Rattle.std.specs.List.Sorted.{IsStrictlySortedBy}
 use Rattle.std.specs.Map.{keys_of, lookup, values_of}
 use Rattle.hazard_types.specs.Orders.{by_event}
@@ -12,13 +12,13 @@ use Rattle.hazard_types.specs.Same.{same_event, same_zone}
 use Rattle.hazard_types.specs.declared.hazard.Event.{Event}
 use Rattle.hazard_types.specs.declared.line.Line.{Line}
 use Rattle.hazard_types.specs.declared.line.Row.{Row}
-use Rattle.hazard_types.proofs.Equality.{event_one}
+use Rattle.hazard_types.proofs.Equality.{event_one, zone_itself}
 use Rattle.hazard_types.proofs.OrderLaws.{by_event_total, by_event_ties}
 use Rattle.event_life.specs.Periods.{is_live, keeps_open, same_at}
 use Rattle.event_life.specs.Products.{by_key, put, row_at, has_rows, is_open, has_same}
 use Rattle.event_life.specs.Table.{opened_period}
 use Rattle.event_life.proofs.FreeOrder.{told_by_keys}
-use Rattle.event_life.proofs.Members.{any_in, in_any, find_in, one_way}
+use Rattle.event_life.proofs.Members.{IsIn, any_in, in_any, find_in, none_in, one_way}
 use Rattle.event_life.proofs.Puts.{at_key, row_at-put, put-sorted, put-all}
 use Rattle.row_index.specs.Holding.{puts, told, held_with, AreHeld, AreRowsOf}
 use Rattle.row_index.specs.Listing.{list_at}
@@ -26,7 +26,7 @@ use Rattle.row_index.proofs.Lists.{at_same, at_other, at_none, at_each, each_put
 use Rattle.row_index.proofs.Seated.{event_by}
 use Rattle.row_index.proofs.Tests.{at_one, found_own}
 
-abbrev Rows : Type 0
+abbrev pub Rows : Type 0
 Rows = List (Event × List Row)
 
 abbrev Own : Event → List Row → Type 0
@@ -114,12 +114,19 @@ held-part es e part held is up = record {
 pub held-own : (es : Rows) (e : Event) → AreHeld es → Own e (list_at by_event es e)
 held-own es e held = at_each by_event by_event_total by_event_ties Own e es held.each tt
 
+abbrev InOrder : Event → List Row → Type 0
+InOrder e rows = IsStrictlySortedBy by_key rows
+
+pub held-sorted : (es : Rows) (e : Event) → AreHeld es → IsStrictlySortedBy by_key (list_at by_event es e)
+held-sorted es e held = at_each by_event by_event_total by_event_ties InOrder e es held.in_order none-sorted
+
 pub held-with : (row : Row) (es : Rows) → AreHeld es → AreHeld (held_with row es)
 held-with row es held =
     let rows = put row (list_at by_event es row.event) in
     record {
       ascending = ascending-put by_event by_event_total by_event_ties row.event es rows held.ascending;
       each = each_put by_event by_event_total by_event_ties Own row.event es rows (put-all (λ (r : Row). r.event ≡ row.event) row (list_at by_event es row.event) refl (held-own es row.event held)) held.each;
+      in_order = each_put by_event by_event_total by_event_ties InOrder row.event es rows (put-sorted row (list_at by_event es row.event) (held-sorted es row.event held)) held.in_order;
     }
 
 put_apart : (e : Event) (z : Place) (row : Row) (o : Option Row) → same_event row.event e ≡ false → o ≡ cond (at_key e z row) (Some row) o
@@ -182,3 +189,19 @@ puts-append (x ∷ xs) ys after = ap (put x) (puts-append xs ys after)
 pub told-all : (es : Rows) → puts (flat_map (λ (rows : List Row). rows) (values_of es)) [] ≡ told es
 told-all [] = refl
 told-all (e ∷ es) = puts-append e.1 (flat_map (λ (rows : List Row). rows) (values_of es)) [] ∙ ap (puts e.1) (told-all es)
+
+-- an event that has rows of its own has them among all
+
+found_one : (p : Row → Bool) (rows : List Row) (r : Row) → IsIn r rows → p r ≡ true → (o : Option Row) → find p rows ≡ o → (y : Row) × (find p rows ≡ Some y)
+found_one p rows r is h (Some y) found = (y, found)
+found_one p rows r is h None found = let e : true ≡ false = sym (in_any p rows r is h) ∙ none_in p rows found in cc
+
+pub has_rows-told : (es : Rows) (e : Event) → AreHeld es → has_rows (list_at by_event es e) e ≡ true → has_rows (told es) e ≡ true
+has_rows-told es e held h =
+    let part = list_at by_event es e in
+    let w = any_in (λ (r : Row). same_event r.event e) part h in
+    let z = w.0.zone in
+    let own : at_key e z w.0 ≡ true = rw (w.2, zone_itself z) refl in
+    let found = found_one (at_key e z) part w.0 w.1 own (row_at part e z) refl in
+    let there = find_in (at_key e z) (told es) found.0 (held-found es held e z ∙ found.1) in
+    in_any (λ (r : Row). same_event r.event e) (told es) found.0 there.0 (and_parts (same_event found.0.event e) _ there.1).0

@@ -1,16 +1,16 @@
 pub mod Tests
 mod Seated
+mod Zoned
 mod Saying
 mod LeftLemmas
 mod Lists
 mod HeldRows
 mod Opened
-mod Kept
-mod Lasted
+mod Reached
 mod Stood
 mod EventRows
-mod Indexed
 mod Runs
 mod Asked
 mod Changing
 mod Alone
+mod Shown

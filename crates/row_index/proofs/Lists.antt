@@ -74,15 +74,16 @@ module _ {K X : Type 0} (cmp : K → K → Ordering) (total : IsTotalOrder cmp) 
   each_put P k [] w p all = (p, tt)
   each_put P k (e ∷ es) w p all = each_by P (cmp k e.0) k e es (insert_entry cmp es k w) w refl p all (each_put P k es w p all.1)
 
-  keys_by : (o : Ordering) (k : K) (e : K × List X) (es : List (K × List X)) (w : List X) → keys_of (insert_entry cmp es k w) ≡ insert_key cmp (keys_of es) k
+module _ {K V : Type 0} (cmp : K → K → Ordering) (total : IsTotalOrder cmp) (ties : (a b : K) → cmp a b ≡ Equal → a ≡ b) where
+  keys_by : (o : Ordering) (k : K) (e : K × V) (es : List (K × V)) (w : V) → keys_of (insert_entry cmp es k w) ≡ insert_key cmp (keys_of es) k
       → keys_of (match_ordering o ((k, w) ∷ e ∷ es) ((e.0, w) ∷ es) (e ∷ insert_entry cmp es k w)) ≡ match_ordering o (k ∷ e.0 ∷ keys_of es) (e.0 ∷ keys_of es) (e.0 ∷ insert_key cmp (keys_of es) k)
   keys_by Less k e es w later = refl
   keys_by Equal k e es w later = refl
   keys_by Greater k e es w later = ap (λ (ks : List K). e.0 ∷ ks) later
 
-  keys-put : (k : K) (es : List (K × List X)) (w : List X) → keys_of (insert_entry cmp es k w) ≡ insert_key cmp (keys_of es) k
+  keys-put : (k : K) (es : List (K × V)) (w : V) → keys_of (insert_entry cmp es k w) ≡ insert_key cmp (keys_of es) k
   keys-put k [] w = refl
   keys-put k (e ∷ es) w = keys_by (cmp k e.0) k e es w (keys-put k es w)
 
-  pub ascending-put : (k : K) (es : List (K × List X)) (w : List X) → IsStrictlySortedBy cmp (keys_of es) → IsStrictlySortedBy cmp (keys_of (insert_entry cmp es k w))
+  pub ascending-put : (k : K) (es : List (K × V)) (w : V) → IsStrictlySortedBy cmp (keys_of es) → IsStrictlySortedBy cmp (keys_of (insert_entry cmp es k w))
   ascending-put k es w up = subst (λ (ks : List K). IsStrictlySortedBy cmp ks) (sym (keys-put k es w)) (insert-sorted cmp total ties k (keys_of es) up)

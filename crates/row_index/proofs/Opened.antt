@@ -7,7 +7,7 @@ use Rattle.std.proofs.lemmas.Cmp.{tied_itself, then_total, on_total, nat_cmp_tot
 use Rattle.std.proofs.lemmas.List.Folds.{list_any-append}
 use Rattle.std.specs.BTreeMap.{insert_entry, is_at}
 use Rattle.std.specs.Cmp.{IsTotalOrder}
-use Rattle.std.specs.List.{list_any}
+use Rattle.std.specs.List.{AllByRecursion, list_any}
 use Rattle.std.specs.List.Sorted.{IsStrictlySortedBy}
 use Rattle.std.specs.Map.{lookup}
 use Rattle.std.specs.Ordering.{match_ordering}
@@ -18,14 +18,14 @@ use Rattle.hazard_types.specs.declared.line.Row.{Row}
 use Rattle.hazard_types.proofs.Equality.{hazard_one, hazard_itself, event_one, event_itself}
 use Rattle.hazard_types.proofs.OrderLaws.{by_hazard_total, by_hazard_ties, numbers_tied}
 use Rattle.event_life.specs.Periods.{keeps_open}
-use Rattle.event_life.specs.Products.{by_key, put, row_at, is_open, is_held, later_event, going_in}
+use Rattle.event_life.specs.Products.{by_key, put, has_rows, is_open, is_held, later_event, going_in}
 use Rattle.event_life.proofs.Keys.{then_parts}
-use Rattle.event_life.proofs.Members.{IsIn, any_in, in_any, one_way, find_in}
-use Rattle.event_life.proofs.Puts.{at_key, at_key-parts}
+use Rattle.event_life.proofs.Members.{IsIn, any_in, in_any, one_way}
+use Rattle.event_life.proofs.Puts.{put-sorted}
 use Rattle.row_index.specs.declared.numbers.Number.{Number}
 use Rattle.row_index.specs.Listing.{lists_of, list_at}
 use Rattle.row_index.specs.Numbers.{number_of, by_number, has_number, with_event, events_with, AreOpened}
-use Rattle.row_index.specs.Steps.{latest_open}
+use Rattle.row_index.specs.Steps.{latest_open, put_each}
 use Rattle.row_index.proofs.Lists.{at_same, at_other}
 use Rattle.row_index.proofs.Tests.{any_same, any_put_plain, or_false}
 use Rattle.row_index.proofs.Tests as keys
@@ -155,25 +155,41 @@ opened_by false events rows row k h up opened q =
     ap (list_any q) (at_other by_number by_number_total by_number_ties k n events (with_event row.event (list_at by_number events n)) h) ∙ opened k q
     ∙ ap (λ (b : Bool). b || list_any (of_number k q) rows) (sym none) ∙ sym (put_plain k q row rows up)
 
-pub opened-put : (events : Lists) (rows : List Row) (row : Row) → IsStrictlySortedBy by_key rows → AreOpened events rows → AreOpened (put_known events row) (put row rows)
+opened-put : (events : Lists) (rows : List Row) (row : Row) → IsStrictlySortedBy by_key rows → AreOpened events rows → AreOpened (put_known events row) (put row rows)
 opened-put events rows row up opened k q = opened_by (is_at (by_number k) (number_of row.event)) events rows row k refl up opened q
 
--- a row in the place of one of its event tells no other event
-opened-kept : (events : Lists) (rows : List Row) (row old : Row) → IsStrictlySortedBy by_key rows → row_at rows row.event row.zone ≡ Some old → AreOpened events rows → AreOpened events (put row rows)
-opened-kept events rows row old up found opened k q =
-    let own = find_in (at_key row.event row.zone) rows old found in
-    let event_is = (at_key-parts row.event row.zone old own.1).0 in
+-- a row of an event that has others tells no other event
+opened-known : (events : Lists) (rows : List Row) (row : Row) → IsStrictlySortedBy by_key rows → has_rows rows row.event ≡ true → AreOpened events rows → AreOpened events (put row rows)
+opened-known events rows row up there opened k q =
+    let w = any_in (λ (r : Row). same_event r.event row.event) rows there in
+    let event_is = event_one w.0.event row.event w.2 in
     opened k q
-    ∙ known (of_number k q row) (list_any (of_number k q) rows) (λ h. in_any (of_number k q) rows old own.0 (subst (λ (e : Event). (same_hazard e.hazard k.hazard && (e.etn == k.etn) && q e) ≡ true) (sym event_is) h))
+    ∙ known (of_number k q row) (list_any (of_number k q) rows) (λ h. in_any (of_number k q) rows w.0 w.1 (subst (λ (e : Event). (same_hazard e.hazard k.hazard && (e.etn == k.etn) && q e) ≡ true) (sym event_is) h))
     ∙ sym (put_plain k q row rows up)
   where
     known : (a b : Bool) → (a ≡ true → b ≡ true) → b ≡ (a || b)
     known true b f = f refl
     known false b f = refl
 
-pub opened-with : (before : Option Row) (events : Lists) (rows : List Row) (row : Row) → IsStrictlySortedBy by_key rows → before ≡ row_at rows row.event row.zone → AreOpened events rows → AreOpened (events_with before row.event events) (put row rows)
-opened-with None events rows row up found opened = opened-put events rows row up opened
-opened-with (Some old) events rows row up found opened = opened-kept events rows row old up (sym found) opened
+own_rows : (e : Event) (row : Row) (rows : List Row) → IsStrictlySortedBy by_key rows → row.event ≡ e → has_rows (put row rows) e ≡ true
+own_rows e row rows up is =
+    any_put_plain (λ (r : Row). same_event r.event e) (λ a b z d. rw d refl) row rows up
+    ∙ ap (λ (b : Bool). b || has_rows rows e) (subst (λ (d : Event). same_event d e ≡ true) (sym is) (event_itself e))
+
+-- rows of an event that has others, put in turn
+opened-run : (e : Event) (rows all : List Row) (events : Lists) → IsStrictlySortedBy by_key all → AllByRecursion (λ (r : Row). r.event ≡ e) rows → has_rows all e ≡ true → AreOpened events all → AreOpened events (put_each rows all)
+opened-run e [] all events up own there opened = opened
+opened-run e (r ∷ rows) all events up own there opened =
+    opened-run e rows (put r all) events (put-sorted r all up) own.1 (own_rows e r all up own.0)
+    (opened-known events all r up (subst (λ (d : Event). has_rows all d ≡ true) (sym own.0) there) opened)
+
+-- and rows of an event, whether it had others or not
+pub opened-with : (known : Bool) (e : Event) (r : Row) (rows all : List Row) (events : Lists) → IsStrictlySortedBy by_key all → r.event ≡ e → AllByRecursion (λ (r : Row). r.event ≡ e) rows → (known ≡ true → has_rows all e ≡ true) → AreOpened events all
+    → AreOpened (events_with known e events) (put_each (r ∷ rows) all)
+opened-with true e r rows all events up is own there opened = opened-run e (r ∷ rows) all events up (is, own) (there refl) opened
+opened-with false e r rows all events up is own there opened =
+    opened-run e rows (put r all) (events_with false e events) (put-sorted r all up) own (own_rows e r all up is)
+    (subst (λ (d : Event). AreOpened (events_with false d events) (put r all)) is (opened-put events all r up opened))
 
 -- what is asked of the events of a number
 

@@ -1,5 +1,5 @@
 -- An index with the rows of one event put in turn.
-use Rattle.std.proofs.Common.{◌≡◌, ◌∙◌, ◌==◌, length, false, List, [], ◌∷◌, ◌++◌, true, Option, Some, None, refl, ap, sym, subst}
+use Rattle.std.proofs.Common.{◌≡◌, ◌∙◌, ◌==◌, ◌<◌, ◌+◌, ℕ, zero, suc, arith, drop, drop-cons, get_or, length, false, List, [], ◌∷◌, ◌++◌, true, Option, Some, None, refl, ap, sym, subst}
 use Rattle.std.specs.BTreeMap.{insert_entry}
 use Rattle.std.specs.List.{AllByRecursion}
 use Rattle.hazard_types.specs.Orders.{by_event}
@@ -7,60 +7,84 @@ use Rattle.hazard_types.specs.declared.hazard.Event.{Event}
 use Rattle.hazard_types.specs.declared.line.Row.{Row}
 use Rattle.hazard_types.proofs.Equality.{event_one}
 use Rattle.hazard_types.proofs.OrderLaws.{by_event_total, by_event_ties}
-use Rattle.event_life.specs.Products.{put, row_at}
-use Rattle.row_index.specs.declared.lasting.Lasting.{Lasting}
+use Rattle.event_life.specs.Products.{put, row_at, has_rows}
 use Rattle.row_index.specs.declared.numbers.Number.{Number}
-use Rattle.row_index.specs.Holding.{told, held_with}
+use Rattle.row_index.specs.Holding.{told, AreHeld}
 use Rattle.row_index.specs.Listing.{list_at}
-use Rattle.row_index.specs.Numbers.{IsIndex}
-use Rattle.row_index.specs.Runs.{AreOfOne, is_of, held_put, events_put, lasting_put}
+use Rattle.row_index.specs.Indexing.{IsIndex}
+use Rattle.row_index.specs.Numbers.{events_with, AreOpened}
+use Rattle.row_index.specs.Reaching.{reached_with, reached_each, Reaches}
+use Rattle.row_index.specs.Runs.{AreOfOne, is_of, held_put}
 use Rattle.row_index.specs.Steps.{put_each}
-use Rattle.row_index.proofs.HeldRows.{told-with}
-use Rattle.row_index.proofs.Indexed.{index-made}
+use Rattle.row_index.proofs.HeldRows.{held-found, held-with, has_rows-told, told-sorted, told-with}
 use Rattle.row_index.proofs.Lists.{at_same, put_twice}
+use Rattle.row_index.proofs.Opened.{opened-with}
+use Rattle.row_index.proofs.Reached.{Zones, reaches-each}
 
--- the maps are an index of the rows with those put
-abbrev pub IsPut : List Row → List (Event × List Row) → List (Event × List Row) → List (Number × List Event) → List Lasting → Type 0
-IsPut rows es new events lastings = IsIndex new events lastings × (told new ≡ put_each rows (told es))
+-- the rows of each event are its own, and all of them are the rows with those put
+abbrev pub IsPut : List Row → List (Event × List Row) → List (Event × List Row) → Type 0
+IsPut rows es new = AreHeld new × (told new ≡ put_each rows (told es))
 
-one-put : (row : Row) (es : List (Event × List Row)) (events : List (Number × List Event)) (lastings : List Lasting) → IsIndex es events lastings
-    → IsPut (row ∷ []) es (held_put row.event (row ∷ []) es) (events_put (row ∷ []) (list_at by_event es row.event) events) (lasting_put (row ∷ []) (list_at by_event es row.event) lastings)
-one-put row es events lastings index =
-    (index-made es (held_with row es) events _ lastings _ row (row_at (list_at by_event es row.event) row.event row.zone) refl refl refl refl index, told-with row es index.held)
+one-put : (e : Event) (row : Row) → row.event ≡ e → (es : List (Event × List Row)) → AreHeld es → IsPut (row ∷ []) es (held_put e (row ∷ []) es)
+one-put e row is es held = subst (λ (d : Event). IsPut (row ∷ []) es (held_put d (row ∷ []) es)) is (held-with row es held, told-with row es held)
 
-one-of : (e : Event) (row : Row) → row.event ≡ e → (es : List (Event × List Row)) (events : List (Number × List Event)) (lastings : List Lasting) → IsIndex es events lastings
-    → IsPut (row ∷ []) es (held_put e (row ∷ []) es) (events_put (row ∷ []) (list_at by_event es e) events) (lasting_put (row ∷ []) (list_at by_event es e) lastings)
-one-of e row is es events lastings index =
-    subst (λ (d : Event). IsPut (row ∷ []) es (held_put d (row ∷ []) es) (events_put (row ∷ []) (list_at by_event es d) events) (lasting_put (row ∷ []) (list_at by_event es d) lastings)) is (one-put row es events lastings index)
-
-pub run-put : (e : Event) (row : Row) (rows : List Row) → row.event ≡ e → AllByRecursion (λ (r : Row). r.event ≡ e) rows → (es : List (Event × List Row)) (events : List (Number × List Event)) (lastings : List Lasting) → IsIndex es events lastings
-    → IsPut (row ∷ rows) es (held_put e (row ∷ rows) es) (events_put (row ∷ rows) (list_at by_event es e) events) (lasting_put (row ∷ rows) (list_at by_event es e) lastings)
-run-put e row [] is all es events lastings index = one-of e row is es events lastings index
-run-put e row (next ∷ rows) is all es events lastings index =
+run-put : (e : Event) (row : Row) (rows : List Row) → row.event ≡ e → AllByRecursion (λ (r : Row). r.event ≡ e) rows → (es : List (Event × List Row)) → AreHeld es → IsPut (row ∷ rows) es (held_put e (row ∷ rows) es)
+run-put e row [] is all es held = one-put e row is es held
+run-put e row (next ∷ rows) is all es held =
     let known = list_at by_event es e in
     let es' = held_put e (row ∷ []) es in
-    let events' = events_put (row ∷ []) known events in
-    let lastings' = lasting_put (row ∷ []) known lastings in
-    let one = one-of e row is es events lastings index in
-    let more = run-put e next rows all.0 all.1 es' events' lastings' one.0 in
+    let one = one-put e row is es held in
+    let more = run-put e next rows all.0 all.1 es' one.0 in
     let known_is : list_at by_event es' e ≡ put row known = at_same by_event by_event_total by_event_ties e es (put row known) in
     let told_is : put_each (next ∷ rows) (told es') ≡ put_each (row ∷ next ∷ rows) (told es) = ap (put_each (next ∷ rows)) one.1 in
     let twice : held_put e (next ∷ rows) es' ≡ held_put e (row ∷ next ∷ rows) es =
     ap (λ (part : List Row). insert_entry by_event es' e (put_each (next ∷ rows) part)) known_is ∙ put_twice by_event by_event_total by_event_ties e es (put row known) (put_each (next ∷ rows) (put row known)) in
-    let index' = subst (λ (part : List Row). IsIndex (held_put e (next ∷ rows) es') (events_put (next ∷ rows) part events') (lasting_put (next ∷ rows) part lastings')) known_is more.0 in (
-      subst (λ (new : List (Event × List Row)). IsIndex new (events_put (next ∷ rows) (put row known) events') (lasting_put (next ∷ rows) (put row known) lastings')) twice index',
-      ap told (sym twice) ∙ more.1 ∙ told_is,
-    )
+    (subst (λ (new : List (Event × List Row)). AreHeld new) twice more.0, ap told (sym twice) ∙ more.1 ∙ told_is)
 
 -- rows that are there, put
-pub rows-put : (e : Event) (rows : List Row) → (length rows == 0) ≡ false → AreOfOne (Some e) rows → (es new : List (Event × List Row)) (events new_events : List (Number × List Event)) (lastings new_lastings : List Lasting)
-    → new ≡ held_put e rows es → new_events ≡ events_put rows (list_at by_event es e) events → new_lastings ≡ lasting_put rows (list_at by_event es e) lastings → IsIndex es events lastings → IsPut rows es new new_events new_lastings
-rows-put e [] some all es new events new_events lastings new_lastings new_is events_are lastings_are index = cc
-rows-put e (row ∷ rows) some all es new events new_events lastings new_lastings new_is events_are lastings_are index =
-    let made = run-put e row rows all.0 all.1 es events lastings index in
-    subst (λ (x : List (Event × List Row)). IsPut (row ∷ rows) es x new_events new_lastings) (sym new_is)
-    (subst (λ (x : List (Number × List Event)). IsPut (row ∷ rows) es (held_put e (row ∷ rows) es) x new_lastings) (sym events_are)
-    (subst (λ (x : List Lasting). IsPut (row ∷ rows) es (held_put e (row ∷ rows) es) (events_put (row ∷ rows) (list_at by_event es e) events) x) (sym lastings_are) made))
+pub rows-put : (e : Event) (rows : List Row) → (length rows == 0) ≡ false → AreOfOne (Some e) rows → (es new : List (Event × List Row)) (events new_events : List (Number × List Event)) (reach new_reach : Zones)
+    → new ≡ held_put e rows es → new_events ≡ events_with (has_rows (list_at by_event es e) e) e events → new_reach ≡ reached_each rows (list_at by_event es e) reach → IsIndex es events reach → IsIndex new new_events new_reach × (told new ≡ put_each rows (told es))
+rows-put e [] some all es new events new_events reach new_reach new_is events_are reach_is index = cc
+rows-put e (row ∷ rows) some all es new events new_events reach new_reach new_is events_are reach_is index =
+    let known = has_rows (list_at by_event es e) e in
+    let put = subst (λ (x : List (Event × List Row)). IsPut (row ∷ rows) es x) (sym new_is) (run-put e row rows all.0 all.1 es index.held) in
+    let opened = opened-with known e row rows (told es) events (told-sorted es) all.0 all.1 (has_rows-told es e index.held) index.opened in (
+      record {
+        held = put.0;
+        opened = subst (λ (all : List Row). AreOpened new_events all) (sym put.1)
+            (subst (λ (x : List (Number × List Event)). AreOpened x (put_each (row ∷ rows) (told es))) (sym events_are) opened);
+        reached = subst (λ (all : List Row). Reaches new_reach all) (sym put.1)
+            (subst (λ (x : Zones). Reaches x (put_each (row ∷ rows) (told es))) (sym reach_is)
+            (reaches-each e (row ∷ rows) (told es) (list_at by_event es e) reach all (held-found es index.held e) index.reached));
+      },
+      put.1,
+    )
+
+-- one row more of a list
+pub put_next : (rows known next all : List Row) (i : ℕ) (row : Row) → i < length rows → row ≡ get_or rows i row → next ≡ put row known → put_each (drop i rows) known ≡ all → put_each (drop (i + 1) rows) next ≡ all
+put_next rows known next all i row within is next_is sofar =
+    let after : suc i ≡ i + 1 = omega arith in
+    let cut : drop i rows ≡ row ∷ drop (i + 1) rows =
+    drop-cons rows i row within ∙ ap (λ (x : Row). x ∷ drop (suc i) rows) (sym is) ∙ ap (λ (k : ℕ). row ∷ drop k rows) after in
+    ap (put_each (drop (i + 1) rows)) next_is ∙ ap (λ (rest : List Row). put_each rest known) (sym cut) ∙ sofar
+
+-- the ends of each zone with one row more of a list
+pub reached_next : (rows known next : List Row) (reach after all : Zones) (before : Option Row) (i : ℕ) (row : Row) → i < length rows → row ≡ get_or rows i row → before ≡ row_at known row.event row.zone → next ≡ put row known
+    → after ≡ reached_with before row reach → reached_each (drop i rows) known reach ≡ all → reached_each (drop (i + 1) rows) next after ≡ all
+reached_next rows known next reach after all before i row within is found next_is after_is sofar =
+    let behind : suc i ≡ i + 1 = omega arith in
+    let rest = drop (i + 1) rows in
+    let cut : drop i rows ≡ row ∷ rest =
+    drop-cons rows i row within ∙ ap (λ (x : Row). x ∷ drop (suc i) rows) (sym is) ∙ ap (λ (k : ℕ). row ∷ drop k rows) behind in
+    ap (λ (k : List Row). reached_each rest k after) next_is
+    ∙ ap (λ (x : Zones). reached_each rest (put row known) x) after_is
+    ∙ ap (λ (o : Option Row). reached_each rest (put row known) (reached_with o row reach)) found
+    ∙ ap (λ (more : List Row). reached_each more known reach) (sym cut) ∙ sofar
+
+pub of_at : (e : Event) (i : ℕ) (rows : List Row) (row : Row) → AllByRecursion (λ (r : Row). r.event ≡ e) rows → i < length rows → row ≡ get_or rows i row → row.event ≡ e
+of_at e i [] row all within is = absurd (omega (arith, within))
+of_at e zero (r ∷ rows) row all within is = ap (λ (x : Row). x.event) is ∙ all.0
+of_at e (suc i) (r ∷ rows) row all within is = of_at e i rows row all.1 (omega (arith, within)) is
 
 -- one row behind a run
 

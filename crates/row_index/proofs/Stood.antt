@@ -1,49 +1,42 @@
--- The rows of an event that no line has ended, by end, begin and zone.
-use Rattle.std.proofs.Common.{◌≡◌, ◌∙◌, ◌≤◌, ◌+◌, ◌-◌, ◌==◌, ℕ, List, [], ◌∷◌, ◌&&◌, ◌||◌, not, Bool, true, false, cond, Ordering, Less, Equal, Greater, Option, refl, ap, sym, subst, arith}
+-- The rows of an event that no line has ended, counted by period.
+use Rattle.std.proofs.Common.{◌≡◌, ◌∙◌, ◌≤◌, ◌+◌, ◌-◌, ◌==◌, inl, inr, ℕ, suc, List, [], ◌∷◌, ◌&&◌, ◌||◌, not, Bool, true, false, cond, Ordering, Less, Equal, Greater, Option, Some, None, unwrap_or, refl, ap, sym, subst, arith}
 use Rattle.std.specs.Prelude.{nat_le}
+use Rattle.std.proofs.lemmas.Bool.{and_parts}
 use Rattle.std.proofs.lemmas.Bool.Decides.{nat_tests}
 use Rattle.std.proofs.lemmas.Cmp.{tied_itself}
+use Rattle.std.specs.BTreeMap.{insert_entry, is_at}
 use Rattle.std.specs.BTreeMap.Range.{IsLeBy}
 use Rattle.std.specs.Cmp.{IsTotalOrder}
-use Rattle.std.specs.List.{list_any}
+use Rattle.std.specs.List.{AllByRecursion, list_any}
 use Rattle.std.specs.List.Sorted.{IsStrictlySortedBy}
-use Rattle.std.specs.Ordering.{ordering_then, is_eq, is_le, is_lt, is_gt, nat_cmp}
-use Rattle.hazard_types.specs.Places.{Place}
-use Rattle.hazard_types.specs.declared.hazard.Event.{Event}
+use Rattle.std.specs.Map.{keys_of, lookup, remove_entry}
+use Rattle.std.specs.Ordering.{match_ordering, ordering_then, is_eq, is_le, is_lt, is_gt, nat_cmp}
+use Rattle.std.specs.Set.{remove_key}
+use Rattle.hazard_types.specs.contracts.period.PeriodPartialEq.TheImpl as period_eq
 use Rattle.hazard_types.specs.declared.line.Row.{Row}
 use Rattle.hazard_types.specs.declared.period.End.{End}
 use Rattle.hazard_types.specs.declared.period.End.TheVariants as end
 use Rattle.hazard_types.specs.declared.period.Period.{Period}
 use Rattle.hazard_types.specs.contracts.period.EndOrd.TheImpl as end_order
-use Rattle.hazard_types.proofs.OrderLaws.{by_event_ties, by_end_total, by_end_ties, by_place_ties, numbers_tied}
+use Rattle.hazard_types.proofs.Equality.{period_one}
+use Rattle.hazard_types.proofs.OrderLaws.{by_end_total, by_end_ties, numbers_tied}
 use Rattle.event_life.specs.Periods.{ends_after, ends_within, same_end, same_at, is_live, keeps_open}
-use Rattle.event_life.specs.Products.{by_key, put, row_at}
+use Rattle.event_life.specs.Products.{by_key, placed, put, row_at}
 use Rattle.event_life.proofs.Keys.{then_parts}
-use Rattle.row_index.specs.declared.standing.Corner.{Corner}
-use Rattle.row_index.specs.declared.standing.Corner.TheVariants as corner
+use Rattle.event_life.proofs.Members.{IsIn, any_in, in_any, find_in, one_way}
+use Rattle.event_life.proofs.Puts.{at_key}
+use Rattle.event_life.proofs.Puts as puts
 use Rattle.row_index.specs.declared.standing.Standing.{Standing}
-use Rattle.row_index.specs.contracts.standing.CornerOrd.TheImpl as corner_order
 use Rattle.row_index.specs.contracts.standing.StandingOrd.TheImpl.Laws as standing_laws
 use Rattle.row_index.specs.Numbers.{stands}
-use Rattle.row_index.specs.Standings.{by_standing, place_of, standing_of, lies, lies_from, open_from, first_same, last_same, same_from, same_to}
-use Rattle.row_index.specs.Steps.{restood}
+use Rattle.row_index.specs.Standings.{by_standing, period_at, standing_of, lies, lies_from, open_from, first_same, last_same, same_from, same_to, count_at, with_count, one_less, one_more, restood, tally, stands_with, AreCounts}
+use Rattle.row_index.specs.Steps.{stays}
 use Rattle.row_index.specs.Telling.{Tells}
-use Rattle.row_index.proofs.Kept.{kept-put, kept-sorted}
-use Rattle.row_index.proofs.Tests.{any_same, and_true, and_false}
+use Rattle.row_index.proofs.Lists.{ascending-put}
+use Rattle.row_index.proofs.Tests.{any_same, and_true, and_false, at_apart, at_tied, less_apart, greater_apart, at_one, at_own, remove-sorted}
 
 by_standing_total : IsTotalOrder by_standing
 by_standing_total = standing_laws.total-law
-
-corner_ties : (a b : Corner) → corner_order.cmp-value.it a b ≡ Equal → a ≡ b
-corner_ties corner.Front corner.Front h = refl
-corner_ties corner.Front (corner.At z) h = cc
-corner_ties corner.Front corner.Back h = cc
-corner_ties (corner.At z) corner.Front h = cc
-corner_ties (corner.At z) (corner.At y) h = ap corner.At (by_place_ties z y h)
-corner_ties (corner.At z) corner.Back h = cc
-corner_ties corner.Back corner.Front h = cc
-corner_ties corner.Back (corner.At z) h = cc
-corner_ties corner.Back corner.Back h = refl
 
 abbrev end_cmp : End → End → Ordering
 end_cmp = end_order.cmp-value.it
@@ -51,51 +44,363 @@ end_cmp = end_order.cmp-value.it
 by_standing_ties : (a b : Standing) → by_standing a b ≡ Equal → a ≡ b
 by_standing_ties a b h =
     let p = then_parts (end_cmp a.end b.end) _ h in
-    let q = then_parts (nat_cmp a.begin b.begin) _ p.1 in
     let end_is = by_end_ties a.end b.end p.0 in
-    let begin_is = numbers_tied a.begin b.begin q.0 in
-    let o = then_parts (corner_order.cmp-value.it a.corner b.corner) _ q.1 in
-    let corner_is = corner_ties a.corner b.corner o.0 in
-    let event_is = by_event_ties a.event b.event o.1 in
-    λ i. record { end = end_is i; begin = begin_is i; corner = corner_is i; event = event_is i }
+    let begin_is = numbers_tied a.begin b.begin p.1 in
+    λ i. record { end = end_is i; begin = begin_is i }
 
--- what a key tells of its row's zone
-abbrev zone_in : Place → Corner → Place
-zone_in d (corner.At z) = z
-zone_in d _ = d
+one_at : (k y : Standing) → is_at (by_standing k) y ≡ true → k ≡ y
+one_at = at_one by_standing by_standing_total by_standing_ties
 
-standing_one : (a b : Row) → standing_of a ≡ standing_of b → (a.event ≡ b.event) × (a.zone ≡ b.zone)
-standing_one a b same = (ap (λ (k : Standing). k.event) same, ap (λ (k : Standing). zone_in a.zone k.corner) same)
+own_at : (k : Standing) → is_at (by_standing k) k ≡ true
+own_at = at_own by_standing by_standing_total by_standing_ties
 
-standing_alike : (a b : Row) → a.event ≡ b.event → a.zone ≡ b.zone → a.period ≡ b.period → standing_of a ≡ standing_of b
-standing_alike a b event_is zone_is period_is = λ i. place_of (event_is i) (period_is i).end (period_is i).begin (corner.At (zone_is i))
+abbrev Counts : Type 0
+Counts = List (Standing × ℕ)
 
-pub stood-put : (rows : List Row) (keys : List Standing) (row : Row) (before : Option Row) → IsStrictlySortedBy by_key rows → IsStrictlySortedBy by_standing keys → Tells stands standing_of keys rows
-    → before ≡ row_at rows row.event row.zone → Tells stands standing_of (restood by_standing standing_of before row keys) (put row rows)
-stood-put = kept-put by_standing by_standing_total by_standing_ties standing_of standing_one standing_alike
+-- rows that are counted where one is put
 
-pub stood-sorted : (before : Option Row) (row : Row) (keys : List Standing) → IsStrictlySortedBy by_standing keys → IsStrictlySortedBy by_standing (restood by_standing standing_of before row keys)
-stood-sorted = kept-sorted by_standing by_standing_total by_standing_ties standing_of standing_one standing_alike
+abbrev one : Bool → ℕ
+one true = 1
+one false = 0
 
-abbrev counted : (Standing → Bool) → Row → Bool
-counted q r = stands r && q (standing_of r)
+abbrev one_of : (Row → Bool) → Option Row → ℕ
+one_of p None = 0
+one_of p (Some r) = one (p r)
+
+tally-first : (p : Row → Bool) (r : Row) (rows : List Row) → tally p (r ∷ rows) ≡ one (p r) + tally p rows
+tally-first p r rows = by_test (p r)
+  where
+    by_test : (b : Bool) → cond b (suc (tally p rows)) (tally p rows) ≡ one b + tally p rows
+    by_test true = omega arith
+    by_test false = omega arith
+
+none_behind : (row : Row) (rows : List Row) → AllByRecursion (λ y. by_key row y ≡ Less) rows → row_at rows row.event row.zone ≡ None
+none_behind row [] all = refl
+none_behind row (r ∷ rows) all = rw (at_apart row r (less_apart row r all.0)) (none_behind row rows all.1)
+
+placed_tally : (p : Row → Bool) (row r : Row) (rows : List Row) (o : Ordering) → by_key row r ≡ o → AllByRecursion (λ y. by_key r y ≡ Less) rows
+    → tally p (put row rows) + one_of p (row_at rows row.event row.zone) ≡ one (p row) + tally p rows
+    → tally p (placed o row r rows (put row rows)) + one_of p (row_at (r ∷ rows) row.event row.zone) ≡ one (p row) + tally p (r ∷ rows)
+placed_tally p row r rows Less h all later =
+    let found : row_at (r ∷ rows) row.event row.zone ≡ None = none_behind row (r ∷ rows) (h, puts.all_above row r rows h all) in
+    rw (found, tally-first p row (r ∷ rows)) (omega arith)
+placed_tally p row r rows Equal h all later =
+    rw (at_tied row r h, tally-first p row rows, tally-first p r rows) (omega arith)
+placed_tally p row r rows Greater h all later =
+    rw (at_apart row r (greater_apart row r h), tally-first p r rows, tally-first p r (put row rows)) (omega (arith, later))
+
+pub tally-put : (p : Row → Bool) (row : Row) (rows : List Row) → IsStrictlySortedBy by_key rows → tally p (put row rows) + one_of p (row_at rows row.event row.zone) ≡ one (p row) + tally p rows
+unfolding IsStrictlySortedBy
+tally-put p row [] up = rw (tally-first p row []) (omega arith)
+tally-put p row (r ∷ rows) up = placed_tally p row r rows (by_key row r) refl up.0 (tally-put p row rows up.1)
+
+found_tally : (p : Row → Bool) (rows : List Row) (r : Row) → IsIn r rows → one (p r) ≤ tally p rows
+found_tally p [] r is = absurd is
+found_tally p (y ∷ rows) r (inl is) = rw (tally-first p y rows, is) (omega arith)
+found_tally p (y ∷ rows) r (inr is) = let later = found_tally p rows r is in rw (tally-first p y rows) (omega (arith, later))
+
+-- a count that is set
+
+kept_first : (b : Bool) (n : ℕ) (o p : Option ℕ) → unwrap_or o 0 ≡ unwrap_or p 0 → unwrap_or (cond b (Some n) o) 0 ≡ unwrap_or (cond b (Some n) p) 0
+kept_first true n o p h = refl
+kept_first false n o p h = h
+
+put_own_by : (o : Ordering) (k : Standing) (n : ℕ) (e : Standing × ℕ) (es : Counts) → by_standing k e.0 ≡ o → count_at (insert_entry by_standing es k n) k ≡ n
+    → count_at (match_ordering o ((k, n) ∷ e ∷ es) ((e.0, n) ∷ es) (e ∷ insert_entry by_standing es k n)) k ≡ n
+put_own_by Less k n e es h later = rw (own_at k) refl
+put_own_by Equal k n e es h later = rw h refl
+put_own_by Greater k n e es h later = rw h later
+
+put_own : (k : Standing) (n : ℕ) (es : Counts) → count_at (insert_entry by_standing es k n) k ≡ n
+put_own k n [] = rw (own_at k) refl
+put_own k n (e ∷ es) = put_own_by (by_standing k e.0) k n e es refl (put_own k n es)
+
+put_other_by : (o : Ordering) (q k : Standing) (n : ℕ) (e : Standing × ℕ) (es : Counts) → by_standing k e.0 ≡ o → is_at (by_standing q) k ≡ false → count_at (insert_entry by_standing es k n) q ≡ count_at es q
+    → count_at (match_ordering o ((k, n) ∷ e ∷ es) ((e.0, n) ∷ es) (e ∷ insert_entry by_standing es k n)) q ≡ count_at (e ∷ es) q
+put_other_by Less q k n e es h f later = rw f refl
+put_other_by Equal q k n e es h f later =
+    let g : is_at (by_standing q) e.0 ≡ false = subst (λ (y : Standing). is_at (by_standing q) y ≡ false) (by_standing_ties k e.0 h) f in
+    rw g refl
+put_other_by Greater q k n e es h f later = kept_first (is_at (by_standing q) e.0) e.1 (lookup (is_at (by_standing q)) (insert_entry by_standing es k n)) (lookup (is_at (by_standing q)) es) later
+
+put_other : (q k : Standing) (n : ℕ) (es : Counts) → is_at (by_standing q) k ≡ false → count_at (insert_entry by_standing es k n) q ≡ count_at es q
+put_other q k n [] f = rw f refl
+put_other q k n (e ∷ es) f = put_other_by (by_standing k e.0) q k n e es refl f (put_other q k n es f)
+
+none_there : (k : Standing) (es : Counts) → AllByRecursion (λ y. by_standing k y ≡ Less) (keys_of es) → count_at es k ≡ 0
+none_there k [] all = refl
+none_there k (e ∷ es) all = rw all.0 (none_there k es all.1)
+
+take_own_by : (b : Bool) (k : Standing) (e : Standing × ℕ) (es : Counts) → is_at (by_standing k) e.0 ≡ b → AllByRecursion (λ y. by_standing e.0 y ≡ Less) (keys_of es) → count_at (remove_entry (is_at (by_standing k)) es) k ≡ 0
+    → count_at (cond b es (e ∷ remove_entry (is_at (by_standing k)) es)) k ≡ 0
+take_own_by true k e es h all later = none_there k es (subst (λ (y : Standing). AllByRecursion (λ z. by_standing y z ≡ Less) (keys_of es)) (sym (one_at k e.0 h)) all)
+take_own_by false k e es h all later = rw h later
+
+take_own : (k : Standing) (es : Counts) → IsStrictlySortedBy by_standing (keys_of es) → count_at (remove_entry (is_at (by_standing k)) es) k ≡ 0
+unfolding IsStrictlySortedBy
+take_own k [] up = refl
+take_own k (e ∷ es) up = take_own_by (is_at (by_standing k) e.0) k e es refl up.0 (take_own k es up.1)
+
+take_other_by : (b : Bool) (q k : Standing) (e : Standing × ℕ) (es : Counts) → is_at (by_standing k) e.0 ≡ b → is_at (by_standing q) k ≡ false → count_at (remove_entry (is_at (by_standing k)) es) q ≡ count_at es q
+    → count_at (cond b es (e ∷ remove_entry (is_at (by_standing k)) es)) q ≡ count_at (e ∷ es) q
+take_other_by true q k e es h f later =
+    let g : is_at (by_standing q) e.0 ≡ false = subst (λ (y : Standing). is_at (by_standing q) y ≡ false) (one_at k e.0 h) f in
+    rw g refl
+take_other_by false q k e es h f later = kept_first (is_at (by_standing q) e.0) e.1 (lookup (is_at (by_standing q)) (remove_entry (is_at (by_standing k)) es)) (lookup (is_at (by_standing q)) es) later
+
+take_other : (q k : Standing) (es : Counts) → is_at (by_standing q) k ≡ false → count_at (remove_entry (is_at (by_standing k)) es) q ≡ count_at es q
+take_other q k [] f = refl
+take_other q k (e ∷ es) f = take_other_by (is_at (by_standing k) e.0) q k e es refl f (take_other q k es f)
+
+nought : (n : ℕ) → (n == 0) ≡ true → n ≡ 0
+nought n h = grind (arith, nat_tests)
+
+set_own : (k : Standing) (n : ℕ) (es : Counts) → IsStrictlySortedBy by_standing (keys_of es) → count_at (with_count by_standing k n es) k ≡ n
+set_own k n es up = by_nought (n == 0) refl
+  where
+    by_nought : (b : Bool) → (n == 0) ≡ b → count_at (cond b (remove_entry (is_at (by_standing k)) es) (insert_entry by_standing es k n)) k ≡ n
+    by_nought true h = take_own k es up ∙ sym (nought n h)
+    by_nought false h = put_own k n es
+
+set_other : (q k : Standing) (n : ℕ) (es : Counts) → is_at (by_standing q) k ≡ false → count_at (with_count by_standing k n es) q ≡ count_at es q
+set_other q k n es f = by_nought (n == 0)
+  where
+    by_nought : (b : Bool) → count_at (cond b (remove_entry (is_at (by_standing k)) es) (insert_entry by_standing es k n)) q ≡ count_at es q
+    by_nought true = take_other q k es f
+    by_nought false = put_other q k n es f
+
+-- what is kept of the counts
+
+abbrev IsThere : Standing × ℕ → Type 0
+IsThere e = (e.1 == 0) ≡ false
+
+put_some_by : (o : Ordering) (k : Standing) (n : ℕ) (e : Standing × ℕ) (es tail : Counts) → (n == 0) ≡ false → AllByRecursion IsThere (e ∷ es) → AllByRecursion IsThere tail
+    → AllByRecursion IsThere (match_ordering o ((k, n) ∷ e ∷ es) ((e.0, n) ∷ es) (e ∷ tail))
+put_some_by Less k n e es tail h all more = (h, all)
+put_some_by Equal k n e es tail h all more = (h, all.1)
+put_some_by Greater k n e es tail h all more = (all.0, more)
+
+put_some : (k : Standing) (n : ℕ) (es : Counts) → (n == 0) ≡ false → AllByRecursion IsThere es → AllByRecursion IsThere (insert_entry by_standing es k n)
+put_some k n [] h all = (h, tt)
+put_some k n (e ∷ es) h all = put_some_by (by_standing k e.0) k n e es (insert_entry by_standing es k n) h all (put_some k n es h all.1)
+
+take_some_by : (b : Bool) (e : Standing × ℕ) (es tail : Counts) → AllByRecursion IsThere (e ∷ es) → AllByRecursion IsThere tail → AllByRecursion IsThere (cond b es (e ∷ tail))
+take_some_by true e es tail all more = all.1
+take_some_by false e es tail all more = (all.0, more)
+
+take_some : (test : Standing → Bool) (es : Counts) → AllByRecursion IsThere es → AllByRecursion IsThere (remove_entry test es)
+take_some test [] all = tt
+take_some test (e ∷ es) all = take_some_by (test e.0) e es (remove_entry test es) all (take_some test es all.1)
+
+take_keys_by : (b : Bool) (e : Standing × ℕ) (es tail : Counts) (keys : List Standing) → keys_of tail ≡ keys → keys_of (cond b es (e ∷ tail)) ≡ cond b (keys_of es) (e.0 ∷ keys)
+take_keys_by true e es tail keys h = refl
+take_keys_by false e es tail keys h = ap (λ (ks : List Standing). e.0 ∷ ks) h
+
+take_keys : (test : Standing → Bool) (es : Counts) → keys_of (remove_entry test es) ≡ remove_key test (keys_of es)
+take_keys test [] = refl
+take_keys test (e ∷ es) = take_keys_by (test e.0) e es (remove_entry test es) (remove_key test (keys_of es)) (take_keys test es)
+
+set-sorted : (k : Standing) (n : ℕ) (es : Counts) → IsStrictlySortedBy by_standing (keys_of es) → IsStrictlySortedBy by_standing (keys_of (with_count by_standing k n es))
+set-sorted k n es up = by_nought (n == 0)
+  where
+    by_nought : (b : Bool) → IsStrictlySortedBy by_standing (keys_of (cond b (remove_entry (is_at (by_standing k)) es) (insert_entry by_standing es k n)))
+    by_nought true = subst (λ (ks : List Standing). IsStrictlySortedBy by_standing ks) (sym (take_keys (is_at (by_standing k)) es)) (remove-sorted by_standing by_standing_total by_standing_ties (is_at (by_standing k)) (keys_of es) up)
+    by_nought false = ascending-put by_standing by_standing_total by_standing_ties k es n up
+
+set_some : (k : Standing) (n : ℕ) (es : Counts) → AllByRecursion IsThere es → AllByRecursion IsThere (with_count by_standing k n es)
+set_some k n es all = by_nought (n == 0) refl
+  where
+    by_nought : (b : Bool) → (n == 0) ≡ b → AllByRecursion IsThere (cond b (remove_entry (is_at (by_standing k)) es) (insert_entry by_standing es k n))
+    by_nought true h = take_some (is_at (by_standing k)) es all
+    by_nought false h = put_some k n es h all
+
+-- one row less, and one more
+
+abbrev is_with : Standing → Row → Bool
+is_with k r = is_at (by_standing k) (standing_of r)
+
+less_at : (b : Bool) (k c : Standing) (es : Counts) → is_at (by_standing k) c ≡ b → IsStrictlySortedBy by_standing (keys_of es) → count_at (with_count by_standing c (count_at es c - 1) es) k ≡ count_at es k - one b
+less_at true k c es at up =
+    subst (λ (q : Standing). count_at (with_count by_standing c (count_at es c - 1) es) q ≡ count_at es q - 1) (sym (one_at k c at)) (set_own c (count_at es c - 1) es up)
+less_at false k c es at up = set_other k c (count_at es c - 1) es at ∙ same (count_at es k)
+  where
+    same : (n : ℕ) → n ≡ n - 0
+    same n = omega arith
+
+more_at : (b : Bool) (k c : Standing) (es : Counts) → is_at (by_standing k) c ≡ b → IsStrictlySortedBy by_standing (keys_of es) → count_at (with_count by_standing c (count_at es c + 1) es) k ≡ one b + count_at es k
+more_at true k c es at up =
+    subst (λ (q : Standing). count_at (with_count by_standing c (count_at es c + 1) es) q ≡ 1 + count_at es q) (sym (one_at k c at)) (set_own c (count_at es c + 1) es up ∙ turned (count_at es c))
+  where
+    turned : (n : ℕ) → n + 1 ≡ 1 + n
+    turned n = omega arith
+more_at false k c es at up = set_other k c (count_at es c + 1) es at ∙ same (count_at es k)
+  where
+    same : (n : ℕ) → n ≡ 0 + n
+    same n = omega arith
+
+none_less : (n : ℕ) → n ≡ n - 0
+none_less n = omega arith
+
+none_more : (n : ℕ) → n ≡ 0 + n
+none_more n = omega arith
+
+less_count : (before : Option Row) (k : Standing) (es : Counts) → IsStrictlySortedBy by_standing (keys_of es) → count_at (one_less before es) k ≡ count_at es k - one_of (stands_with k) before
+less_count None k es up = none_less (count_at es k)
+less_count (Some old) k es up = by_ended old.ended
+  where
+    by_ended : (b : Bool) → count_at (cond b es (with_count by_standing (standing_of old) (count_at es (standing_of old) - 1) es)) k ≡ count_at es k - one (not b && is_with k old)
+    by_ended true = none_less (count_at es k)
+    by_ended false = less_at (is_with k old) k (standing_of old) es refl up
+
+more_count : (row : Row) (k : Standing) (es : Counts) → IsStrictlySortedBy by_standing (keys_of es) → count_at (one_more row es) k ≡ one (stands_with k row) + count_at es k
+more_count row k es up = by_ended row.ended
+  where
+    by_ended : (b : Bool) → count_at (cond b es (with_count by_standing (standing_of row) (count_at es (standing_of row) + 1) es)) k ≡ one (not b && is_with k row) + count_at es k
+    by_ended true = none_more (count_at es k)
+    by_ended false = more_at (is_with k row) k (standing_of row) es refl up
+
+less-sorted : (before : Option Row) (es : Counts) → IsStrictlySortedBy by_standing (keys_of es) → IsStrictlySortedBy by_standing (keys_of (one_less before es))
+less-sorted None es up = up
+less-sorted (Some old) es up = by_ended old.ended
+  where
+    by_ended : (b : Bool) → IsStrictlySortedBy by_standing (keys_of (cond b es (with_count by_standing (standing_of old) (count_at es (standing_of old) - 1) es)))
+    by_ended true = up
+    by_ended false = set-sorted (standing_of old) (count_at es (standing_of old) - 1) es up
+
+more-sorted : (row : Row) (es : Counts) → IsStrictlySortedBy by_standing (keys_of es) → IsStrictlySortedBy by_standing (keys_of (one_more row es))
+more-sorted row es up = by_ended row.ended
+  where
+    by_ended : (b : Bool) → IsStrictlySortedBy by_standing (keys_of (cond b es (with_count by_standing (standing_of row) (count_at es (standing_of row) + 1) es)))
+    by_ended true = up
+    by_ended false = set-sorted (standing_of row) (count_at es (standing_of row) + 1) es up
+
+less_some : (before : Option Row) (es : Counts) → AllByRecursion IsThere es → AllByRecursion IsThere (one_less before es)
+less_some None es all = all
+less_some (Some old) es all = by_ended old.ended
+  where
+    by_ended : (b : Bool) → AllByRecursion IsThere (cond b es (with_count by_standing (standing_of old) (count_at es (standing_of old) - 1) es))
+    by_ended true = all
+    by_ended false = set_some (standing_of old) (count_at es (standing_of old) - 1) es all
+
+more_some : (row : Row) (es : Counts) → AllByRecursion IsThere es → AllByRecursion IsThere (one_more row es)
+more_some row es all = by_ended row.ended
+  where
+    by_ended : (b : Bool) → AllByRecursion IsThere (cond b es (with_count by_standing (standing_of row) (count_at es (standing_of row) + 1) es))
+    by_ended true = all
+    by_ended false = set_some (standing_of row) (count_at es (standing_of row) + 1) es all
+
+-- a row is put
+
+of_found : (p : Row → Bool) (rows : List Row) (row : Row) (before : Option Row) → row_at rows row.event row.zone ≡ before → one_of p before ≤ tally p rows
+of_found p rows row None found = omega arith
+of_found p rows row (Some old) found = found_tally p rows old (find_in (at_key row.event row.zone) rows old found).0
+
+sum_up : (next before first all less more : ℕ) → next + before ≡ first + all → before ≤ all → less ≡ all - before → more ≡ first + less → more ≡ next
+sum_up next before first all less more h le less_is more_is = omega (arith, h, le, less_is, more_is)
+
+counts_anew : (rows : List Row) (es : Counts) (row : Row) (before : Option Row) → IsStrictlySortedBy by_key rows → AreCounts es rows → before ≡ row_at rows row.event row.zone → AreCounts (one_more row (one_less before es)) (put row rows)
+counts_anew rows es row before up are found = record {
+  ascending = more-sorted row (one_less before es) (less-sorted before es are.ascending);
+  some = more_some row (one_less before es) (less_some before es are.some);
+  counted = λ k.
+      let p = stands_with k in
+      let put_is : tally p (put row rows) + one_of p before ≡ one (p row) + tally p rows = ap (λ (o : Option Row). tally p (put row rows) + one_of p o) found ∙ tally-put p row rows up in
+      let less_is : count_at (one_less before es) k ≡ tally p rows - one_of p before = less_count before k es are.ascending ∙ ap (λ (n : ℕ). n - one_of p before) (are.counted k) in
+      sum_up (tally p (put row rows)) (one_of p before) (one (p row)) (tally p rows) (count_at (one_less before es) k) (count_at (one_more row (one_less before es)) k)
+      put_is (of_found p rows row before (sym found)) less_is (more_count row k (one_less before es) (less-sorted before es are.ascending));
+}
+
+stays_alike : (k : Standing) (row old : Row) → stays (Some old) row ≡ true → stands_with k old ≡ stands_with k row
+stays_alike k row old h =
+    let p = and_parts (period_eq.eq-value.it old.period row.period && not old.ended) _ h in
+    let r = and_parts (period_eq.eq-value.it old.period row.period) _ p.0 in
+    let same : standing_of old ≡ standing_of row = ap (λ (q : Period). period_at q.end q.begin) (period_one old.period row.period r.0) in
+    let both : not old.ended ≡ not row.ended = r.1 ∙ sym p.1 in
+    λ i. both i && is_at (by_standing k) (same i)
+
+counts_same : (rows : List Row) (es : Counts) (row old : Row) → IsStrictlySortedBy by_key rows → AreCounts es rows → Some old ≡ row_at rows row.event row.zone → stays (Some old) row ≡ true → AreCounts es (put row rows)
+counts_same rows es row old up are found h = record {
+  ascending = are.ascending;
+  some = are.some;
+  counted = λ k.
+      let p = stands_with k in
+      let put_is : tally p (put row rows) + one (p old) ≡ one (p row) + tally p rows = ap (λ (o : Option Row). tally p (put row rows) + one_of p o) found ∙ tally-put p row rows up in
+      let one_is : one (p old) ≡ one (p row) = ap one (stays_alike k row old h) in
+      are.counted k ∙ same_sum (tally p (put row rows)) (one (p old)) (one (p row)) (tally p rows) put_is one_is;
+}
+  where
+    same_sum : (next before first all : ℕ) → next + before ≡ first + all → before ≡ first → all ≡ next
+    same_sum next before first all h is = omega (arith, h, is)
+
+pub stood-put : (rows : List Row) (es : Counts) (row : Row) (before : Option Row) → IsStrictlySortedBy by_key rows → AreCounts es rows → before ≡ row_at rows row.event row.zone → AreCounts (restood before row es) (put row rows)
+stood-put rows es row None up are found = counts_anew rows es row None up are found
+stood-put rows es row (Some old) up are found = by_stay (stays (Some old) row) refl
+  where
+    by_stay : (b : Bool) → stays (Some old) row ≡ b → AreCounts (cond b es (one_more row (one_less (Some old) es))) (put row rows)
+    by_stay true h = counts_same rows es row old up are found h
+    by_stay false h = counts_anew rows es row (Some old) up are found
+
+pub stood-none : AreCounts [] []
+unfolding IsStrictlySortedBy
+stood-none = record { ascending = tt; some = tt; counted = λ k. refl }
+
+-- the periods are those of the rows that are counted
+
+tally_any : (p : Row → Bool) (rows : List Row) → (tally p rows == 0) ≡ not (list_any p rows)
+tally_any p [] = refl
+tally_any p (r ∷ rows) = by_test (p r) (tally_any p rows)
+  where
+    by_test : (b : Bool) → (tally p rows == 0) ≡ not (list_any p rows) → (cond b (suc (tally p rows)) (tally p rows) == 0) ≡ not (b || list_any p rows)
+    by_test true later = grind (arith, nat_tests)
+    by_test false later = later
+
+key_there : (k : Standing) (es : Counts) → IsIn k (keys_of es) → AllByRecursion IsThere es → (count_at es k == 0) ≡ false
+key_there k [] is all = absurd is
+key_there k (e ∷ es) is all = by_place (is_at (by_standing k) e.0) refl is (λ h. key_there k es h all.1)
+  where
+    by_place : (b : Bool) → is_at (by_standing k) e.0 ≡ b → IsIn k (e.0 ∷ keys_of es) → (IsIn k (keys_of es) → (count_at es k == 0) ≡ false) → (unwrap_or (cond b (Some e.1) (lookup (is_at (by_standing k)) es)) 0 == 0) ≡ false
+    by_place true at is later = all.0
+    by_place false at (inl same) later = let own : true ≡ false = sym (own_at k) ∙ ap (is_at (by_standing k)) (sym same) ∙ at in cc
+    by_place false at (inr is) later = later is
+
+there_key : (k : Standing) (es : Counts) → (count_at es k == 0) ≡ false → IsIn k (keys_of es)
+there_key k [] h = cc
+there_key k (e ∷ es) h = by_place (is_at (by_standing k) e.0) refl h (there_key k es)
+  where
+    by_place : (b : Bool) → is_at (by_standing k) e.0 ≡ b → (unwrap_or (cond b (Some e.1) (lookup (is_at (by_standing k)) es)) 0 == 0) ≡ false → ((count_at es k == 0) ≡ false → IsIn k (keys_of es)) → IsIn k (e.0 ∷ keys_of es)
+    by_place true at h later = inl (sym (one_at k e.0 at))
+    by_place false at h later = inr (later h)
+
+not_false : (b : Bool) → false ≡ not b → b ≡ true
+not_false true h = refl
+not_false false h = cc
+
+pub stood-told : (rows : List Row) (es : Counts) → AreCounts es rows → Tells stands standing_of (keys_of es) rows
+stood-told rows es are q = one_way (list_any q (keys_of es)) (list_any (λ r. stands r && q (standing_of r)) rows)
+    (λ h.
+    let w = any_in q (keys_of es) h in
+    let k = w.0 in
+    let some : (tally (stands_with k) rows == 0) ≡ false = ap (λ (n : ℕ). n == 0) (sym (are.counted k)) ∙ key_there k es w.1 are.some in
+    let row = any_in (stands_with k) rows (not_false (list_any (stands_with k) rows) (sym some ∙ tally_any (stands_with k) rows)) in
+    let p = and_parts (stands row.0) _ row.2 in
+    in_any (λ r. stands r && q (standing_of r)) rows row.0 row.1 (rw (p.0, sym (one_at k (standing_of row.0) p.1), w.2) refl))
+    (λ h.
+    let w = any_in (λ r. stands r && q (standing_of r)) rows h in
+    let k = standing_of w.0 in
+    let p = and_parts (stands w.0) _ w.2 in
+    let any : list_any (stands_with k) rows ≡ true = in_any (stands_with k) rows w.0 w.1 (rw (p.0, own_at k) refl) in
+    let some : (count_at es k == 0) ≡ false = ap (λ (n : ℕ). n == 0) (are.counted k) ∙ tally_any (stands_with k) rows ∙ ap not any in
+    in_any q (keys_of es) k (there_key k es some) p.1)
 
 -- what is asked of an event
 
-within : (o x y : Ordering) → (is_le (ordering_then o x) && not (is_le (ordering_then o y))) ≡ (is_eq o && (is_le x && not (is_le y)))
+abbrev passes : (Standing → Bool) → Row → Bool
+passes q r = stands r && q (standing_of r)
+
+within : (o x y : Ordering) → (is_le (ordering_then o x) && not (is_lt (ordering_then o y))) ≡ (is_eq o && (is_le x && not (is_lt y)))
 within Less x y = refl
 within Equal x y = refl
 within Greater x y = refl
-
-le_less : (o : Ordering) → is_le (ordering_then o Less) ≡ is_le o
-le_less Less = refl
-le_less Equal = refl
-le_less Greater = refl
-
-lt_greater : (o : Ordering) → not (is_le (ordering_then o Greater)) ≡ not (is_lt o)
-lt_greater Less = refl
-lt_greater Equal = refl
-lt_greater Greater = refl
 
 le_is : (a b : ℕ) → is_le (nat_cmp a b) ≡ nat_le a b
 le_is a b = grind (arith, nat_tests)
@@ -103,13 +408,16 @@ le_is a b = grind (arith, nat_tests)
 lt_is : (a b : ℕ) → not (is_lt (nat_cmp a b)) ≡ nat_le b a
 lt_is a b = grind (arith, nat_tests)
 
-zero_less : (b : ℕ) → ordering_then (nat_cmp 0 b) Less ≡ Less
-zero_less b = by_order (nat_cmp 0 b) (le_is 0 b)
+le_first : (o x : Ordering) → is_le x ≡ true → is_le (ordering_then o x) ≡ is_le o
+le_first Less x h = refl
+le_first Equal x h = h
+le_first Greater x h = refl
+
+zero_first : (b : ℕ) → is_le (nat_cmp 0 b) ≡ true
+zero_first b = le_is 0 b ∙ first
   where
-    by_order : (o : Ordering) → is_le o ≡ nat_le 0 b → ordering_then o Less ≡ Less
-    by_order Less h = refl
-    by_order Equal h = refl
-    by_order Greater h = let e : nat_le 0 b ≡ true = grind (arith, nat_tests) in let f : false ≡ true = h ∙ e in cc
+    first : nat_le 0 b ≡ true
+    first = grind (arith, nat_tests)
 
 open_end : (t : ℕ) (a : End) → is_le (end_cmp (end.At (t - 30)) a) ≡ ends_within a t
 open_end t (end.At m) = le_is (t - 30) m ∙ early
@@ -118,15 +426,16 @@ open_end t (end.At m) = le_is (t - 30) m ∙ early
     early = grind (arith, nat_tests)
 open_end t end.Ufn = refl
 
-open_lies : (t : ℕ) (e : Event) (r : Row) → lies_from (open_from t e) (standing_of r) ≡ ends_within r.period.end t
-open_lies t e r =
-    let from : Ordering = ordering_then (end_cmp (end.At (t - 30)) r.period.end) (ordering_then (nat_cmp 0 r.period.begin) Less) in
-    and_true (is_le from) ∙ ap (λ (o : Ordering). is_le (ordering_then (end_cmp (end.At (t - 30)) r.period.end) o)) (zero_less r.period.begin) ∙ le_less (end_cmp (end.At (t - 30)) r.period.end) ∙ open_end t r.period.end
+open_lies : (t : ℕ) (r : Row) → lies_from (open_from t) (standing_of r) ≡ ends_within r.period.end t
+open_lies t r =
+    let o : Ordering = end_cmp (end.At (t - 30)) r.period.end in
+    let x : Ordering = nat_cmp 0 r.period.begin in
+    and_true (is_le (ordering_then o x)) ∙ le_first o x (zero_first r.period.begin) ∙ open_end t r.period.end
 
-pub open-told : (rows : List Row) (keys : List Standing) (t : ℕ) (e : Event) → Tells stands standing_of keys rows → list_any (lies_from (open_from t e)) keys ≡ list_any (keeps_open t) rows
-open-told rows keys t e tells =
-    tells (lies_from (open_from t e))
-    ∙ any_same (counted (lies_from (open_from t e))) (keeps_open t) rows (λ r. ap (λ (b : Bool). stands r && b) (open_lies t e r))
+pub open-told : (rows : List Row) (es : Counts) (t : ℕ) → AreCounts es rows → list_any (lies_from (open_from t)) (keys_of es) ≡ list_any (keeps_open t) rows
+open-told rows es t are =
+    stood-told rows es are (lies_from (open_from t))
+    ∙ any_same (passes (lies_from (open_from t))) (keeps_open t) rows (λ r. ap (λ (b : Bool). stands r && b) (open_lies t r))
 
 same_end_is : (a b : End) → is_eq (end_cmp a b) ≡ same_end b a
 same_end_is (end.At m) (end.At n) = equal
@@ -144,14 +453,12 @@ same_begin t b m = by_case (nat_le b t) refl
     by_case true h = grind (arith, nat_tests)
     by_case false h = grind (arith, nat_tests)
 
-same_lies : (t : ℕ) (e : Event) (p : Period) (r : Row) → lies (same_from t e p) (same_to t e p) (standing_of r) ≡ same_at t r.period p
-same_lies t e p r =
+same_lies : (t : ℕ) (p : Period) (r : Row) → lies (same_from t p) (same_to t p) (standing_of r) ≡ same_at t r.period p
+same_lies t p r =
     let end_is = same_end_is p.end r.period.end in
-    let first : Ordering = ordering_then (nat_cmp (first_same t p.begin) r.period.begin) Less in
-    let last : Ordering = ordering_then (nat_cmp (last_same t p.begin) r.period.begin) Greater in
-    let first_is = le_less (nat_cmp (first_same t p.begin) r.period.begin) ∙ le_is (first_same t p.begin) r.period.begin in
-    let last_is = lt_greater (nat_cmp (last_same t p.begin) r.period.begin) ∙ lt_is (last_same t p.begin) r.period.begin in
-    within (end_cmp p.end r.period.end) first last
+    let first_is = le_is (first_same t p.begin) r.period.begin in
+    let last_is = lt_is (last_same t p.begin) r.period.begin in
+    within (end_cmp p.end r.period.end) (nat_cmp (first_same t p.begin) r.period.begin) (nat_cmp (last_same t p.begin) r.period.begin)
     ∙ (λ i. end_is i && (first_is i && last_is i))
     ∙ ap (λ (b : Bool). same_end r.period.end p.end && b) (same_begin t p.begin r.period.begin)
 
@@ -176,26 +483,26 @@ and_any true p rows = refl
 and_any false p [] = refl
 and_any false p (r ∷ rows) = and_any false p rows
 
-pub period-told : (rows : List Row) (keys : List Standing) (t : ℕ) (e : Event) (p : Period) → Tells stands standing_of keys rows
-    → (ends_after p.end t && list_any (lies (same_from t e p) (same_to t e p)) keys) ≡ list_any (λ (r : Row). is_live t r && same_at t r.period p) rows
-period-told rows keys t e p tells =
-    let between = lies (same_from t e p) (same_to t e p) in
-    ap (λ (b : Bool). ends_after p.end t && b) (tells between)
-    ∙ and_any (ends_after p.end t) (counted between) rows
-    ∙ any_same (λ r. ends_after p.end t && counted between r) (λ r. is_live t r && same_at t r.period p) rows
-    (λ r. ap (λ (b : Bool). ends_after p.end t && (stands r && b)) (same_lies t e p r)
+pub period-told : (rows : List Row) (es : Counts) (t : ℕ) (p : Period) → AreCounts es rows
+    → (ends_after p.end t && list_any (lies (same_from t p) (same_to t p)) (keys_of es)) ≡ list_any (λ (r : Row). is_live t r && same_at t r.period p) rows
+period-told rows es t p are =
+    let between = lies (same_from t p) (same_to t p) in
+    ap (λ (b : Bool). ends_after p.end t && b) (stood-told rows es are between)
+    ∙ and_any (ends_after p.end t) (passes between) rows
+    ∙ any_same (λ r. ends_after p.end t && passes between r) (λ r. is_live t r && same_at t r.period p) rows
+    (λ r. ap (λ (b : Bool). ends_after p.end t && (stands r && b)) (same_lies t p r)
     ∙ gathered (ends_after p.end t) (stands r) (same_end r.period.end p.end) ((r.period.begin == p.begin) || (nat_le r.period.begin t && nat_le p.begin t)) (ends_after r.period.end t) (ends_alike r.period.end p.end t))
 
 -- the places asked about stand in order
-pub with_forward : (e : Event) (a : End) (first last : ℕ) → first ≤ last → IsLeBy by_standing (place_of e a first corner.Front) (place_of e a last corner.Back)
-with_forward e a first last le =
-    ap (λ (o : Ordering). is_gt (ordering_then o (ordering_then (nat_cmp first last) Less))) (tied_itself by_end_total a)
+pub with_forward : (a : End) (first last : ℕ) → first ≤ last → IsLeBy by_standing (period_at a first) (period_at a last)
+with_forward a first last le =
+    ap (λ (o : Ordering). is_gt (ordering_then o (nat_cmp first last))) (tied_itself by_end_total a)
     ∙ forward (nat_cmp first last) (le_is first last ∙ rises)
   where
     rises : nat_le first last ≡ true
     rises = grind (arith, nat_tests)
 
-    forward : (o : Ordering) → is_le o ≡ true → is_gt (ordering_then o Less) ≡ false
+    forward : (o : Ordering) → is_le o ≡ true → is_gt o ≡ false
     forward Less h = refl
     forward Equal h = refl
     forward Greater h = cc

@@ -8,6 +8,7 @@ use Rattle.std.specs.Cmp.{IsTotalOrder}
 use Rattle.std.specs.List.{AllByRecursion, filter, list_any}
 use Rattle.std.specs.List.Sorted.{IsStrictlySortedBy}
 use Rattle.std.specs.Ordering.{match_ordering, ordering_reverse, is_eq}
+use Rattle.std.specs.Map.{keys_of}
 use Rattle.std.specs.Map.Iter.{TakesFirst}
 use Rattle.std.specs.Option.{is_some}
 use Rattle.std.specs.Set.{remove_key}
@@ -87,12 +88,17 @@ module _ {A X : Type 0} (shows : A → X) (test : X → Bool) where
   first_left xs left None h = sym (none_left xs h.0)
   first_left xs left (Some a) h = sym (one_left xs (shows a) left h)
 
+-- tests of keys alone
+pub any_keys : {K X : Type 0} (q : K → Bool) (es : List (K × X)) → list_any (λ (e : K × X). q e.0) es ≡ list_any q (keys_of es)
+any_keys q [] = refl
+any_keys q (e ∷ es) = ap (λ (b : Bool). q e.0 || b) (any_keys q es)
+
 -- a row that is put
 
 pub at_itself : (row : Row) → at_key row.event row.zone row ≡ true
 at_itself row = rw (event_itself row.event, zone_itself row.zone) refl
 
-at_tied : (row r : Row) → by_key row r ≡ Equal → at_key row.event row.zone r ≡ true
+pub at_tied : (row r : Row) → by_key row r ≡ Equal → at_key row.event row.zone r ≡ true
 at_tied row r h =
     let k = key_exact row r h in
     rw (k.0, k.1, event_itself r.event, zone_itself r.zone) refl
@@ -102,10 +108,10 @@ at_apart row r apart = false_from_ne_true _ (λ h.
     let p = at_key-parts row.event row.zone r h in
     apart (key_ties row r (sym p.1) (sym p.0)))
 
-less_apart : (row r : Row) → by_key row r ≡ Less → by_key row r ≢ Equal
+pub less_apart : (row r : Row) → by_key row r ≡ Less → by_key row r ≢ Equal
 less_apart row r h g = let f : Less ≡ Equal = sym h ∙ g in cc
 
-greater_apart : (row r : Row) → by_key row r ≡ Greater → by_key row r ≢ Equal
+pub greater_apart : (row r : Row) → by_key row r ≡ Greater → by_key row r ≢ Equal
 greater_apart row r h g = let f : Greater ≡ Equal = sym h ∙ g in cc
 
 all_tied : (row r : Row) (rows : List Row) → by_key row r ≡ Equal → AllByRecursion (λ y. by_key r y ≡ Less) rows → AllByRecursion (λ y. by_key row y ≡ Less) rows
@@ -195,24 +201,6 @@ module _ {K : Type 0} (cmp : K → K → Ordering) (total : IsTotalOrder cmp) (t
 
   pub at_own : (k : K) → is_at (cmp k) k ≡ true
   at_own k = rw (tied_itself total k) refl
-
-  later_apart : (k x : K) → cmp k x ≡ Less → is_at (cmp k) x ≡ false
-  later_apart k x h = rw h refl
-
-  take_by : (q : K → Bool) (b : Bool) (k x : K) (xs : List K) → is_at (cmp k) x ≡ b → AllByRecursion (λ y. cmp x y ≡ Less) xs → list_any q (remove_key (is_at (cmp k)) xs) ≡ list_any (λ y. q y && not (is_at (cmp k) y)) xs
-      → list_any q (cond b xs (x ∷ remove_key (is_at (cmp k)) xs)) ≡ ((q x && not b) || list_any (λ y. q y && not (is_at (cmp k) y)) xs)
-  take_by q true k x xs h all later =
-      let others = any_alike q (λ y. q y && not (is_at (cmp k) y)) xs (λ y i. sym (and_not (q y) (is_at (cmp k) y) (later_apart k y (subst (λ (z : K). cmp z y ≡ Less) (sym (at_one k x h)) (of_all (λ z. cmp x z ≡ Less) xs y all i))))) in
-      let own = and_false (q x) in
-      λ i. sym own i || others i
-  take_by q false k x xs h all later =
-      let own = and_true (q x) in
-      λ i. sym own i || later i
-
-  pub any_removed : (q : K → Bool) (k : K) (xs : List K) → IsStrictlySortedBy cmp xs → list_any q (remove_key (is_at (cmp k)) xs) ≡ list_any (λ y. q y && not (is_at (cmp k) y)) xs
-  unfolding IsStrictlySortedBy
-  any_removed q k [] up = refl
-  any_removed q k (x ∷ xs) up = take_by q (is_at (cmp k) x) k x xs refl up.0 (any_removed q k xs up.1)
 
   all_above : (k x : K) (xs : List K) → cmp k x ≡ Less → AllByRecursion (λ y. cmp x y ≡ Less) xs → AllByRecursion (λ y. cmp k y ≡ Less) xs
   all_above k x [] h all = tt

@@ -25,10 +25,11 @@ told (e ∷ es) = puts e.1 (told es)
 abbrev pub held_with : Row → List (Event × List Row) → List (Event × List Row)
 held_with row es = insert_entry by_event es row.event (put row (list_at by_event es row.event))
 
--- the events stand in order, each with rows of its own alone
+-- the events stand in order, each with rows of its own alone, which are in order
 pub record AreHeld (es : List (Event × List Row)) : Type 0 where
   pub ascending : IsStrictlySortedBy by_event (keys_of es)
   pub each : AllByRecursion (λ (e : Event × List Row). AllByRecursion (λ (r : Row). r.event ≡ e.0) e.1) es
+  pub in_order : AllByRecursion (λ (e : Event × List Row). IsStrictlySortedBy by_key e.1) es
 
 -- some rows, in order, among which an event's are found as among all of them
 pub record AreRowsOf (rows : List Row) (e : Event) (part : List Row) : Type 0 where

@@ -2,9 +2,11 @@ pub mod Telling
 pub mod Listing
 pub mod Holding
 pub mod Seating
+pub mod Zoning
 pub mod Risen
-pub mod Lastings
 pub mod Numbers
 pub mod Standings
 pub mod Steps
 pub mod Runs
+pub mod Reaching
+pub mod Indexing

@@ -1,8 +1,7 @@
--- Hazards and numbers, the events that have them, and what the maps of an index hold of its rows.
-use Rattle.std.specs.Prelude.{◌==◌, ◌&&◌, not, Bool, List, [], ◌∷◌, ◌++◌, if◌then◌else◌, Option, Some, None}
+-- Hazards and numbers, and the events that have them.
+use Rattle.std.specs.Prelude.{◌==◌, ◌&&◌, not, Bool, true, false, List, [], ◌∷◌, ◌++◌, if◌then◌else◌}
 use Rattle.std.specs.BTreeMap.{insert_entry}
 use Rattle.std.specs.List.{list_any}
-use Rattle.std.specs.List.Sorted.{IsStrictlySortedBy}
 use Rattle.std.specs.declared.cmp.Ordering.{Ordering}
 use Rattle.std.specs.Ordering.{nat_cmp, on, then_cmp}
 use Rattle.hazard_types.specs.Orders.{by_hazard}
@@ -10,10 +9,7 @@ use Rattle.hazard_types.specs.Places.{Place}
 use Rattle.hazard_types.specs.Same.{same_zone, same_hazard, same_event}
 use Rattle.hazard_types.specs.declared.hazard.Event.{Event}
 use Rattle.hazard_types.specs.declared.line.Row.{Row}
-use Rattle.row_index.specs.declared.lasting.Lasting.{Lasting}
 use Rattle.row_index.specs.declared.numbers.Number.{Number}
-use Rattle.row_index.specs.Holding.{AreHeld, told}
-use Rattle.row_index.specs.Lastings.{by_lasting, lasting_of}
 use Rattle.row_index.specs.Listing.{list_at}
 use Rattle.row_index.specs.Telling.{Tells}
 
@@ -35,10 +31,10 @@ is_in_zone z r = same_zone r.zone z
 abbrev pub with_event : Event → List Event → List Event
 with_event e events = if list_any (λ d. same_event d e) events then events else events ++ e ∷ []
 
--- the lists with the event of a row, unless a row of it stood in its place before
-abbrev pub events_with : Option Row → Event → List (Number × List Event) → List (Number × List Event)
-events_with None e es = insert_entry by_number es (number_of e) (with_event e (list_at by_number es (number_of e)))
-events_with (Some old) e es = es
+-- the lists with an event, unless it had rows before
+abbrev pub events_with : Bool → Event → List (Number × List Event) → List (Number × List Event)
+events_with true e es = es
+events_with false e es = insert_entry by_number es (number_of e) (with_event e (list_at by_number es (number_of e)))
 
 -- the events of each hazard and number are those of its rows
 abbrev pub AreOpened : List (Number × List Event) → List Row → Type 0
@@ -47,10 +43,3 @@ AreOpened events rows = (k : Number) → Tells (has_number k) (λ (r : Row). r.e
 -- the rows that no line has ended
 abbrev pub stands : Row → Bool
 stands r = not r.ended
-
--- the rows of each event are its own, the events stand by hazard and number, and the rows that no line has ended by zone and end
-pub record IsIndex (es : List (Event × List Row)) (events : List (Number × List Event)) (lastings : List Lasting) : Type 0 where
-  pub held : AreHeld es
-  pub opened : AreOpened events (told es)
-  pub lasting_ascending : IsStrictlySortedBy by_lasting lastings
-  pub lasting : Tells stands lasting_of lastings (told es)

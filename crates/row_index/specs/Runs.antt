@@ -1,18 +1,13 @@
 -- Rows of one event, each put in turn.
-use Rattle.std.specs.Prelude.{◌≡◌, Bool, false, List, [], ◌∷◌, Option, Some, None}
+use Rattle.std.specs.Prelude.{◌≡◌, Bool, false, List, [], Option, Some, None}
 use Rattle.std.specs.BTreeMap.{insert_entry}
 use Rattle.std.specs.List.{AllByRecursion}
 use Rattle.hazard_types.specs.Orders.{by_event}
 use Rattle.hazard_types.specs.Same.{same_event}
 use Rattle.hazard_types.specs.declared.hazard.Event.{Event}
 use Rattle.hazard_types.specs.declared.line.Row.{Row}
-use Rattle.event_life.specs.Products.{put, row_at}
-use Rattle.row_index.specs.declared.lasting.Lasting.{Lasting}
-use Rattle.row_index.specs.declared.numbers.Number.{Number}
-use Rattle.row_index.specs.Lastings.{by_lasting, lasting_of}
 use Rattle.row_index.specs.Listing.{list_at}
-use Rattle.row_index.specs.Numbers.{events_with}
-use Rattle.row_index.specs.Steps.{restood, put_each}
+use Rattle.row_index.specs.Steps.{put_each}
 
 -- the rows are of one event, if there are any
 abbrev pub AreOfOne : Option Event → List Row → Type 0
@@ -26,13 +21,3 @@ is_of (Some e) row = same_event e row.event
 -- the rows of each event, with those of one put among its rows
 abbrev pub held_put : Event → List Row → List (Event × List Row) → List (Event × List Row)
 held_put e rows es = insert_entry by_event es e (put_each rows (list_at by_event es e))
-
--- the events of each hazard and number, where the event of the rows has those that are known
-abbrev pub events_put : List Row → List Row → List (Number × List Event) → List (Number × List Event)
-events_put [] known events = events
-events_put (row ∷ rows) known events = events_put rows (put row known) (events_with (row_at known row.event row.zone) row.event events)
-
--- and the places of the rows that no line has ended
-abbrev pub lasting_put : List Row → List Row → List Lasting → List Lasting
-lasting_put [] known keys = keys
-lasting_put (row ∷ rows) known keys = lasting_put rows (put row known) (restood by_lasting lasting_of (row_at known row.event row.zone) row keys)

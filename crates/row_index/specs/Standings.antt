@@ -1,45 +1,44 @@
--- The rows of an event that no line has ended, in the order in which what is asked of them stands together: by end, begin, then zone.
-use Rattle.std.specs.Prelude.{◌-◌, ℕ, Bool, List, nat_le, if◌then◌else◌}
+-- How many rows of an event that no line has ended have each period. Periods are in order by end, then begin.
+use Rattle.std.specs.Prelude.{◌≡◌, ◌==◌, ◌-◌, ◌+◌, ◌&&◌, ℕ, Bool, false, List, [], ◌∷◌, nat_le, suc, if◌then◌else◌, Option, Some, None, unwrap_or}
+use Rattle.std.specs.BTreeMap.{insert_entry, is_at}
 use Rattle.std.specs.BTreeMap.Range.{range_contains}
+use Rattle.std.specs.List.{AllByRecursion}
 use Rattle.std.specs.List.Sorted.{IsStrictlySortedBy}
-use Rattle.std.specs.Map.{values_of}
+use Rattle.std.specs.Map.{keys_of, lookup, remove_entry, values_of}
 use Rattle.std.specs.declared.cmp.Ordering.{Ordering}
-use Rattle.std.specs.declared.ops.Bound.TheVariants.{Included, Excluded, Unbounded}
-use Rattle.hazard_types.specs.declared.hazard.Event.{Event}
+use Rattle.std.specs.declared.ops.Bound.TheVariants.{Included, Unbounded}
+use Rattle.hazard_types.specs.Places.{Place, by_place}
 use Rattle.hazard_types.specs.declared.line.Row.{Row}
 use Rattle.hazard_types.specs.declared.period.End.{End}
 use Rattle.hazard_types.specs.declared.period.End.TheVariants as end
 use Rattle.hazard_types.specs.declared.period.Period.{Period}
 use Rattle.event_life.specs.Products.{by_key}
-use Rattle.row_index.specs.declared.seats.Seat.{Seat}
 use Rattle.row_index.specs.declared.standing.Standing.{Standing}
-use Rattle.row_index.specs.declared.standing.Corner.{Corner}
-use Rattle.row_index.specs.declared.standing.Corner.TheVariants as corner
 use Rattle.row_index.specs.contracts.standing.StandingOrd.TheImpl as order
 use Rattle.row_index.specs.Numbers.{stands}
-use Rattle.row_index.specs.Seating.{AreSeated}
-use Rattle.row_index.specs.Telling.{Tells}
+use Rattle.row_index.specs.Steps.{stays}
+use Rattle.row_index.specs.Zoning.{AreOfFirst, AreZoned}
 
 abbrev pub by_standing : Standing → Standing → Ordering
 by_standing = order.cmp-value.it
 
-abbrev pub place_of : Event → End → ℕ → Corner → Standing
-place_of e end begin corner = record { end = end; begin = begin; corner = corner; event = e }
+abbrev pub period_at : End → ℕ → Standing
+period_at end begin = record { end = end; begin = begin }
 
 abbrev pub standing_of : Row → Standing
-standing_of r = place_of r.event r.period.end r.period.begin (corner.At r.zone)
+standing_of r = period_at r.period.end r.period.begin
 
 -- at a place of the order or behind it
 abbrev pub lies_from : Standing → Standing → Bool
 lies_from from k = range_contains by_standing (Included from) Unbounded k
 
--- between two places of the order, the first with it
+-- between two places of the order, or at one of them
 abbrev pub lies : Standing → Standing → Standing → Bool
-lies from to k = range_contains by_standing (Included from) (Excluded to) k
+lies from to k = range_contains by_standing (Included from) (Included to) k
 
 -- before all whose end is at most half an hour before this minute, or after it
-abbrev pub open_from : ℕ → Event → Standing
-open_from t e = place_of e (end.At (t - 30)) 0 corner.Front
+abbrev pub open_from : ℕ → Standing
+open_from t = period_at (end.At (t - 30)) 0
 
 -- a period that begins at most at a minute is the same as all that do and end as it does
 abbrev pub first_same : ℕ → ℕ → ℕ
@@ -48,16 +47,52 @@ first_same t begin = if nat_le begin t then 0 else begin
 abbrev pub last_same : ℕ → ℕ → ℕ
 last_same t begin = if nat_le begin t then t else begin
 
--- before and behind all that have the same period at a minute
-abbrev pub same_from : ℕ → Event → Period → Standing
-same_from t e p = place_of e p.end (first_same t p.begin) corner.Front
+-- the first and the last that may be the same period at a minute
+abbrev pub same_from : ℕ → Period → Standing
+same_from t p = period_at p.end (first_same t p.begin)
 
-abbrev pub same_to : ℕ → Event → Period → Standing
-same_to t e p = place_of e p.end (last_same t p.begin) corner.Back
+abbrev pub same_to : ℕ → Period → Standing
+same_to t p = period_at p.end (last_same t p.begin)
 
--- the rows are at their seats and in order, and the keys are those of the rows that no line has ended
-pub record AreEventRows (es : List (Seat × Row)) (keys : List Standing) : Type 0 where
-  pub seated : AreSeated es
+-- how many have a period
+abbrev pub count_at : List (Standing × ℕ) → Standing → ℕ
+count_at counts k = unwrap_or (lookup (is_at (by_standing k)) counts) 0
+
+-- the counts with another one at a key, which is taken out where it is nought
+abbrev pub with_count : {K : Type 0} → (K → K → Ordering) → K → ℕ → List (K × ℕ) → List (K × ℕ)
+with_count cmp k n counts = if n == 0 then remove_entry (is_at (cmp k)) counts else insert_entry cmp counts k n
+
+-- without the row before, where there was one and no line had ended it
+abbrev pub one_less : Option Row → List (Standing × ℕ) → List (Standing × ℕ)
+one_less None counts = counts
+one_less (Some old) counts = if old.ended then counts else with_count by_standing (standing_of old) (count_at counts (standing_of old) - 1) counts
+
+-- with a row that no line has ended
+abbrev pub one_more : Row → List (Standing × ℕ) → List (Standing × ℕ)
+one_more row counts = if row.ended then counts else with_count by_standing (standing_of row) (count_at counts (standing_of row) + 1) counts
+
+abbrev pub restood : Option Row → Row → List (Standing × ℕ) → List (Standing × ℕ)
+restood before row counts = if stays before row then counts else one_more row (one_less before counts)
+
+-- how many items pass a test
+abbrev pub tally : {X : Type 0} → (X → Bool) → List X → ℕ
+tally p [] = 0
+tally p (x ∷ xs) = if p x then suc (tally p xs) else tally p xs
+
+-- no line has ended the row, and it has this period
+abbrev pub stands_with : Standing → Row → Bool
+stands_with k r = stands r && is_at (by_standing k) (standing_of r)
+
+-- each period is there with the number of rows that have it
+pub record AreCounts (counts : List (Standing × ℕ)) (rows : List Row) : Type 0 where
+  pub ascending : IsStrictlySortedBy by_standing (keys_of counts)
+  pub some : AllByRecursion (λ (e : Standing × ℕ). (e.1 == 0) ≡ false) counts
+  pub counted : (k : Standing) → count_at counts k ≡ tally (stands_with k) rows
+
+-- the rows of one event are at their zones and in order, and those of them are counted that no line has ended
+pub record AreEventRows (es : List (Place × Row)) (counts : List (Standing × ℕ)) : Type 0 where
+  pub zoned : AreZoned es
+  pub zones_ascending : IsStrictlySortedBy by_place (keys_of es)
   pub in_order : IsStrictlySortedBy by_key (values_of es)
-  pub ascending : IsStrictlySortedBy by_standing keys
-  pub standing : Tells stands standing_of keys (values_of es)
+  pub of_first : AreOfFirst (values_of es)
+  pub standing : AreCounts counts (values_of es)

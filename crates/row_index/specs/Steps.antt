@@ -1,24 +1,24 @@
 -- What the code of an index does on the way: the rows that lines leave, and those by which a higher row is looked for in a zone.
-use Rattle.std.specs.Prelude.{◌≡◌, ◌&&◌, ◌∷◌, ◌++◌, not, ℕ, Bool, false, List, [], filter, fold, if◌then◌else◌, Option, Some, None, is_none}
-use Rattle.std.specs.BTreeMap.{is_at}
-use Rattle.std.specs.BTreeSet.{insert_key}
-use Rattle.std.specs.Set.{remove_key}
-use Rattle.std.specs.declared.cmp.Ordering.{Ordering}
+use Rattle.std.specs.Prelude.{◌≡◌, ◌&&◌, ◌∷◌, ◌++◌, not, ℕ, Bool, true, false, List, [], filter, flat_map, fold, if◌then◌else◌, Option, Some, None, is_none}
+use Rattle.hazard_types.specs.Hazards.{facts_of}
 use Rattle.hazard_types.specs.Places.{Place}
+use Rattle.hazard_types.specs.Same.{same_event}
+use Rattle.hazard_types.specs.contracts.codes.ActionPartialEq.TheImpl as action_eq
 use Rattle.hazard_types.specs.contracts.period.PeriodPartialEq.TheImpl as period
 use Rattle.hazard_types.specs.declared.codes.Action.{Action}
+use Rattle.hazard_types.specs.declared.codes.Family.{Family}
 use Rattle.hazard_types.specs.declared.codes.Action.TheVariants as action
 use Rattle.hazard_types.specs.declared.hazard.Event.{Event}
 use Rattle.hazard_types.specs.declared.line.Line.{Line}
 use Rattle.hazard_types.specs.declared.line.Vtec.{Vtec}
 use Rattle.hazard_types.specs.declared.line.Row.{Row}
 use Rattle.event_life.specs.declared.life.Around.{Around}
+use Rattle.event_life.specs.Higher.{family_of, is_above}
+use Rattle.event_life.specs.Table.{opened_period}
 use Rattle.event_life.specs.Products.{put, row_at, row_after, put_but_upgrades, has_rows, is_open, is_held, has_same, is_new, later_event, going_in}
 use Rattle.row_index.specs.declared.seats.Seat.{Seat}
-use Rattle.row_index.specs.declared.lasting.Lasting.{Lasting}
 use Rattle.row_index.specs.Numbers.{is_in_zone}
 use Rattle.row_index.specs.Seating.{seat_of, seat_said, has_seat, upgrades}
-use Rattle.row_index.specs.Lastings.{lasting_rows}
 use Rattle.row_index.specs.Telling.{Tells}
 
 -- of the events that are open the one of the latest year
@@ -51,6 +51,15 @@ asked_around action.Exa rows t line higher = around_joining rows t line higher
 asked_around action.Exb rows t line higher = around_joining rows t line higher
 asked_around _ rows t line higher = nothing_around higher
 
+-- two lines that open a spell alike, but for the zone and its flood values
+abbrev pub asks_alike : ℕ → Line → Line → Bool
+asks_alike t a b = action_eq.eq-value.it a.action b.action && same_event a.event b.event && period.eq-value.it (opened_period a t) (opened_period b t)
+
+-- what stands around the line that was last asked about, if one was, which is no UPG line
+abbrev pub IsAsked : List Row → ℕ → Option (Line × Around) → Type 0
+IsAsked rows t None = Unit {0}
+IsAsked rows t (Some asked) = asked.1 ≡ asked_around asked.0.action rows t asked.0 true
+
 -- the row that each of the lines leaves
 abbrev pub rows_left : List Row → ℕ → List Line → List Row
 rows_left rows t [] = []
@@ -60,22 +69,10 @@ rows_left rows t (line ∷ lines) = row_after rows t line ∷ rows_left rows t l
 abbrev pub put_each : List Row → List Row → List Row
 put_each left after = fold (λ (rows : List Row) (row : Row). put row rows) after left
 
--- the keys without that of the row before
-abbrev pub stood_without : {K : Type 0} → (K → K → Ordering) → (Row → K) → Option Row → List K → List K
-stood_without cmp key None keys = keys
-stood_without cmp key (Some old) keys = remove_key (is_at (cmp (key old))) keys
-
--- and with that of a row that no line has ended
-abbrev pub stood_with : {K : Type 0} → (K → K → Ordering) → (Row → K) → Row → List K → List K
-stood_with cmp key row keys = if row.ended then keys else insert_key cmp keys (key row)
-
 -- no line has ended the row or the one before, which had the same period
 abbrev pub stays : Option Row → Row → Bool
 stays None row = false
 stays (Some old) row = period.eq-value.it old.period row.period && not old.ended && not row.ended
-
-abbrev pub restood : {K : Type 0} → (K → K → Ordering) → (Row → K) → Option Row → Row → List K → List K
-restood cmp key before row keys = if stays before row then keys else stood_with cmp key row (stood_without cmp key before keys)
 
 -- What a product changes where a higher row is looked for: the rows that its lawful lines other than UPG leave, each put in turn,
 -- and the seats that its UPG lines speak of.
@@ -91,6 +88,17 @@ not_upgraded seats rows = filter (λ (r : Row). not (has_seat seats (seat_of r))
 abbrev pub not_counted : List Row → List Row → List Row
 not_counted counted rows = filter (λ (r : Row). is_none (row_at counted r.event r.zone)) rows
 
--- a zone's rows after a product that no UPG line of it has ended, in whatever order, without those before it that have ended by then
-abbrev pub rivals : Place → ℕ → List Row → List Seat → List Lasting → List Row
-rivals z t counted upgraded keys = not_upgraded upgraded (filter (is_in_zone z) counted) ++ not_counted counted (not_upgraded upgraded (lasting_rows t z keys))
+-- the row of an event in a zone, where the event is above a rank
+abbrev pub listed : Option Row → List Row
+listed None = []
+listed (Some r) = r ∷ []
+
+abbrev pub higher_at : List Row → Option (Family × ℕ) → Place → Event → List Row
+higher_at rows low z e = if is_above (family_of (facts_of e.hazard)) low then listed (row_at rows e z) else []
+
+abbrev pub higher_rows : List Row → Option (Family × ℕ) → Place → List Event → List Row
+higher_rows rows low z events = flat_map (higher_at rows low z) events
+
+-- a zone's rows after a product that no UPG line of it has ended, in whatever order, where these stood before it
+abbrev pub rivals : Place → List Row → List Seat → List Row → List Row
+rivals z counted upgraded before = not_upgraded upgraded (filter (is_in_zone z) counted) ++ not_counted counted (not_upgraded upgraded before)

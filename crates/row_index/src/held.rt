@@ -1,49 +1,57 @@
 //! The rows of each event, by zone.
 ghost use Rattle.std.specs.Prelude.{◌≡◌, ◌&&◌, [], flat_map, IfOk, OnOk};
+ghost use Rattle.std.specs.BTreeMap.{insert_entry};
 ghost use Rattle.std.specs.List.{list_any};
 ghost use Rattle.std.specs.List.Sorted.{IsStrictlySortedBy};
 ghost use Rattle.std.specs.Map.{values_of};
 ghost use Rattle.hazard_types.specs.Orders.{by_event};
+ghost use Rattle.hazard_types.specs.Places.{by_place};
 ghost use Rattle.event_life.specs.Periods.{is_live, keeps_open, same_at};
 ghost use Rattle.event_life.specs.Products.{by_key, put, row_at, has_rows};
+ghost use Rattle.event_life.specs.Shown.{shown_at};
 ghost use Rattle.row_index.specs.Holding.{puts};
 ghost use Rattle.row_index.specs.Listing.{lists_of, list_at};
-ghost use Rattle.row_index.specs.Runs.{held_put, events_put, lasting_put};
-ghost use Rattle.row_index.specs.Seating.{AreSeated};
-ghost use Rattle.row_index.specs.Standings.{by_standing, standing_of};
-ghost use Rattle.row_index.specs.Steps.{restood, put_each};
+ghost use Rattle.row_index.specs.Numbers.{events_with};
+ghost use Rattle.row_index.specs.Reaching.{reached_each};
+ghost use Rattle.row_index.specs.Runs.{held_put};
+ghost use Rattle.row_index.specs.Standings.{restood};
+ghost use Rattle.row_index.specs.Steps.{put_each};
+ghost use Rattle.row_index.specs.Zoning.{AreOf, AreZoned};
 
-use crate::lasting::{Lastings, relast};
 use crate::numbers::{Events, put_event_of};
 use crate::parts::EventKey;
-use crate::seats::{Seated, all_rows, put_seated, row_in};
+use crate::reach::{Reaches, reach_with};
+use crate::seats::{Seated, put_seated};
 use crate::standing::{Standings, has_same_among, is_open_among, restand};
-use hazard_types::{Event, Minute, Oom, Period, Row, Zone};
-use std::alloc::{AllocError, Global};
-use std::collections::{BTreeMap, BTreeSet};
+use crate::zones::{Zoned, is_first_of, put_zoned, zone_row};
+use hazard_types::{Event, List, Minute, Oom, Period, Row, Zone};
+use std::alloc::Global;
+use std::collections::BTreeMap;
 use std::marker::Model;
+use zone_map::ZoneMap;
 
 /// Puts a row among those of an event, and among those of them that no line has ended.
 fn put_standing(
-    rows: &mut Seated,
+    rows: &mut Zoned,
     standing: &mut Standings,
     row: &Row,
     before: &mut Option<Row>,
 ) -> Result<(), Oom>
-    requires { AreSeated rows.old.entries }
-    ensures before { OnOk result (before.new ≡ row_at (values_of rows.old.entries) row.now.event row.now.zone) }
-    ensures rows { OnOk result (values_of rows.new.entries ≡ put row.now (values_of rows.old.entries)) }
-    ensures seated { OnOk result (AreSeated rows.new.entries) }
-    ensures standing { OnOk result (standing.new.keys ≡ restood by_standing standing_of before.new row.now standing.old.keys) }
+    requires zoned { AreZoned rows.old }
+    requires own { AreOf row.now.event (values_of rows.old) }
+    ensures before { OnOk result (before.new ≡ row_at (values_of rows.old) row.now.event row.now.zone) }
+    ensures rows { OnOk result (values_of rows.new ≡ put row.now (values_of rows.old)) }
+    ensures entries { OnOk result (rows.new ≡ insert_entry by_place rows.old row.now.zone row.now) }
+    ensures standing { OnOk result (standing.new.entries ≡ restood before.new row.now standing.old.entries) }
 {
-    put_seated(rows, row, before)?;
+    put_zoned(rows, row, before)?;
     restand(standing, before, row)
 }
 
-/// The rows of one event, each at its seat, and where those of them stand that no line has ended.
+/// The rows of one event, each at its zone, and how many of those that no line has ended have each period.
 #[derive(Drop)]
 pub struct EventRows {
-    rows: Seated,
+    rows: Zoned,
     standing: Standings,
 }
 
@@ -55,9 +63,9 @@ impl Model for EventRows {
 
     ghost Value = { List Row };
 
-    ghost view = { λ x. values_of x.rows.entries };
+    ghost view = { λ x. values_of x.rows };
 
-    ghost invariant = { λ x. AreEventRows x.rows.entries x.standing.keys };
+    ghost invariant = { λ x. AreEventRows x.rows x.standing.entries };
 }
 
 impl EventRows {
@@ -65,8 +73,8 @@ impl EventRows {
         ensures { result ≡ [] }
     {
         EventRows {
-            rows: BTreeMap::new(alloc),
-            standing: BTreeSet::new(alloc),
+            rows: ZoneMap::new(alloc),
+            standing: BTreeMap::new(alloc),
         }
     }
 
@@ -79,31 +87,39 @@ impl EventRows {
         RowsOf { rows: Some(self) }
     }
 
-    /// The row of an event in a zone.
-    fn row_at(&self, event: &Event, zone: &Zone) -> Option<Row>
+    /// The row of an event in a zone. `near` is a guess of its place.
+    fn row_at(&self, near: &mut usize, event: &Event, zone: &Zone) -> Option<Row>
         ensures { result ≡ row_at self.now event.now zone.now }
     {
-        row_in(&self.rows, event, zone)
+        zone_row(&self.rows, near, event, zone)
     }
 
     /// Whether a row is of an event.
     fn has_rows(&self, event: &Event) -> bool
         ensures { result ≡ has_rows self.now event.now }
     {
-        self.rows.values().any(|row| row.event == *event)
+        is_first_of(&self.rows.first(), event)
     }
 
     /// All the rows.
-    fn all(&self, alloc: Global) -> Result<Vec<Row>, AllocError>
+    fn all(&self, alloc: Global) -> Result<Vec<Row>, Oom>
         ensures { IfOk result (λ rows. rows.items ≡ self.now) }
     {
-        all_rows(alloc, &self.rows)
+        self.rows.values(alloc)
     }
 
-    /// Puts a row. `before` becomes the one that was in its place. When memory runs out, the event has no rows.
+    /// The rows that are shown at a minute.
+    fn shown(&self, alloc: Global, t: Minute) -> Result<List<Row>, Oom>
+        ensures { IfOk result (λ rows. rows ≡ shown_at t self.now) }
+    {
+        event_life::shown(alloc, &self.all(alloc)?, t)
+    }
+
+    /// Puts a row of the event. `before` becomes the one that was there. When memory runs out, the event has no rows.
     fn put(&mut self, row: &Row, before: &mut Option<Row>) -> Result<(), Oom>
+        requires { AreOf row.now.event self.old }
         ensures before { OnOk result (before.new ≡ row_at self.old row.now.event row.now.zone) }
-        ensures rows { OnOk result (self.new ≡ put row.now self.old) }
+        ensures put { OnOk result (self.new ≡ put row.now self.old) }
     {
         match put_standing(&mut self.rows, &mut self.standing, row, before) {
             Ok(()) => Ok(()),
@@ -115,20 +131,20 @@ impl EventRows {
         }
     }
 
-    /// Whether a row stands whose end is at most half an hour past. `event` is that of the rows.
-    fn is_open(&self, t: Minute, event: &Event) -> bool
+    /// Whether a row stands whose end is at most half an hour past.
+    fn is_open(&self, t: Minute) -> bool
         ensures open { result ≡ list_any (keeps_open t) self.now }
         ensures order { IsStrictlySortedBy by_key self.now }
     {
-        is_open_among(&self.standing, t, event)
+        is_open_among(&self.standing, t)
     }
 
-    /// Whether a live row has this period. `event` is that of the rows.
-    fn has_period(&self, t: Minute, event: &Event, period: &Period) -> bool
+    /// Whether a live row has this period.
+    fn has_period(&self, t: Minute, period: &Period) -> bool
         ensures same { result ≡ list_any (λ r. is_live t r && same_at t r.period period.now) self.now }
         ensures order { IsStrictlySortedBy by_key self.now }
     {
-        has_same_among(&self.standing, t, event, period)
+        has_same_among(&self.standing, t, period)
     }
 }
 
@@ -155,12 +171,12 @@ impl<'a> RowsOf<'a> {
         RowsOf { rows: None }
     }
 
-    /// The row of an event in a zone.
-    pub fn row_at(&self, event: &Event, zone: &Zone) -> Option<Row>
+    /// The row of an event in a zone. `near` is a guess of its place.
+    pub fn row_at(&self, near: &mut usize, event: &Event, zone: &Zone) -> Option<Row>
         ensures { result ≡ row_at self.now event.now zone.now }
     {
         match self.rows {
-            Some(rows) => rows.row_at(event, zone),
+            Some(rows) => rows.row_at(near, event, zone),
             None => None,
         }
     }
@@ -196,7 +212,7 @@ pub fn is_open(held: &Held, t: Minute, event: &Event) -> bool
     ensures order { IsStrictlySortedBy by_key (list_at by_event held.now.entries event.now) }
 {
     match held.get(&EventKey { event: *event }) {
-        Some(rows) => rows.is_open(t, event),
+        Some(rows) => rows.is_open(t),
         None => false,
     }
 }
@@ -207,28 +223,28 @@ pub fn has_period(held: &Held, t: Minute, event: &Event, period: &Period) -> boo
     ensures order { IsStrictlySortedBy by_key (list_at by_event held.now.entries event.now) }
 {
     match held.get(&EventKey { event: *event }) {
-        Some(rows) => rows.has_period(t, event, period),
+        Some(rows) => rows.has_period(t, period),
         None => false,
     }
 }
 
-/// Puts each of the rows among those of their event, and among what is kept of the rows besides.
+/// Puts each of the rows, which are of the event. Each comes into the place of the one before in its zone.
 fn put_rows(
     alloc: Global,
     known: &mut EventRows,
-    events: &mut Events,
-    lasting: &mut Lastings,
+    reaches: &mut Reaches,
+    event: &Event,
     rows: &[Row],
 ) -> Result<(), Oom>
+    requires known { AreOf event.now known.old }
+    requires rows { AreOf event.now rows.now }
     ensures rows { OnOk result (known.new ≡ put_each rows.now known.old) }
-    ensures events { OnOk result (lists_of events.new.entries ≡ events_put rows.now known.old (lists_of events.old.entries)) }
-    ensures lasting { OnOk result (lasting.new.keys ≡ lasting_put rows.now known.old lasting.old.keys) }
+    ensures reached { OnOk result (reaches.new.entries ≡ reached_each rows.now known.old reaches.old.entries) }
 {
+    let mut before = None;
     for row in rows {
-        let mut before = None;
         known.put(row, &mut before)?;
-        put_event_of(alloc, events, &before, &row.event)?;
-        relast(lasting, &before, row)?;
+        reach_with(alloc, reaches, &before, row)?;
     }
     Ok(())
 }
@@ -238,18 +254,21 @@ pub fn put_held(
     alloc: Global,
     held: &mut Held,
     events: &mut Events,
-    lasting: &mut Lastings,
+    reaches: &mut Reaches,
     event: &Event,
     rows: &[Row],
 ) -> Result<(), Oom>
+    requires known { AreOf event.now (list_at by_event held.old.entries event.now) }
+    requires rows { AreOf event.now rows.now }
     ensures held { OnOk result (held.new.entries ≡ held_put event.now rows.now held.old.entries) }
-    ensures events { OnOk result (lists_of events.new.entries ≡ events_put rows.now (list_at by_event held.old.entries event.now) (lists_of events.old.entries)) }
-    ensures lasting { OnOk result (lasting.new.keys ≡ lasting_put rows.now (list_at by_event held.old.entries event.now) lasting.old.keys) }
+    ensures events { OnOk result (lists_of events.new.entries ≡ events_with (has_rows (list_at by_event held.old.entries event.now) event.now) event.now (lists_of events.old.entries)) }
+    ensures reached { OnOk result (reaches.new.entries ≡ reached_each rows.now (list_at by_event held.old.entries event.now) reaches.old.entries) }
 {
     let known = held
         .entry(EventKey { event: *event })?
         .or_insert(EventRows::new(alloc));
-    put_rows(alloc, known, events, lasting, rows)
+    put_event_of(alloc, events, known.has_rows(event), event)?;
+    put_rows(alloc, known, reaches, event, rows)
 }
 
 /// The rows of all events, one event after another.
@@ -259,6 +278,17 @@ pub fn all_held(alloc: Global, held: &Held) -> Result<Vec<Row>, Oom>
     let mut all = Vec::new(alloc);
     for rows in held.values() {
         all.extend_from_slice(&rows.all(alloc)?)?;
+    }
+    Ok(all)
+}
+
+/// The rows of all events that are shown at a minute, one event after another.
+pub fn all_shown(alloc: Global, held: &Held, t: Minute) -> Result<Vec<Row>, Oom>
+    ensures { IfOk result (λ rows. rows.items ≡ flat_map (shown_at t) (values_of held.now.entries)) }
+{
+    let mut all = Vec::new(alloc);
+    for rows in held.values() {
+        all.extend_from_slice(rows.shown(alloc, t)?.as_slice())?;
     }
     Ok(all)
 }

@@ -1,15 +1,17 @@
 //! What a product changes where a higher row is looked for.
-ghost use Rattle.std.specs.Prelude.{◌≡◌, ◌++◌, not, is_none, IfOk, filter};
+ghost use Rattle.std.specs.Prelude.{◌≡◌, ◌++◌, is_none, IfOk, OnOk, filter};
 ghost use Rattle.std.specs.List.{list_any};
 ghost use Rattle.std.specs.Map.{values_of};
+ghost use Rattle.event_life.specs.Higher.{family_of, is_above};
+ghost use Rattle.hazard_types.specs.Hazards.{facts_of};
 ghost use Rattle.row_index.specs.Seating.{AreSeated, seat_said, upgrades};
-ghost use Rattle.row_index.specs.Steps.{not_upgraded, not_counted, rivals};
+ghost use Rattle.row_index.specs.Steps.{listed, not_upgraded, not_counted, rivals};
 ghost use Rattle.row_index.specs.Telling.{Tells};
 
-use crate::lasting::{Lastings, lasting_rows};
 use crate::seats::{Seated, Seats, add_seat, has_seat, row_in, rows_in};
 use event_life::is_upgrade;
-use hazard_types::{Line, Minute, Oom, Row, Zone};
+use hazard_types::desk_hazards::facts;
+use hazard_types::{Family, Hazard, Line, Oom, Row, Zone};
 use std::alloc::{AllocError, Global};
 use std::collections::BTreeSet;
 
@@ -62,23 +64,51 @@ fn not_counted(alloc: Global, counted: &Seated, rows: &[Row]) -> Result<Vec<Row>
     Ok(kept)
 }
 
-/// A zone's rows after the product that no UPG line of it has ended, without those before it that have ended by then.
-/// These are without their flood values.
+/// A zone's rows after the product that no UPG line of it has ended, where these stood before it.
 pub fn rivals(
     alloc: Global,
-    lastings: &Lastings,
-    t: Minute,
     changed: &Changed,
     zone: &Zone,
+    before: &[Row],
 ) -> Result<Vec<Row>, Oom>
     requires { AreSeated changed.now.counted.entries }
-    ensures { IfOk result (λ rows. rows.items ≡ rivals zone.now t (values_of changed.now.counted.entries) changed.now.upgraded.keys lastings.now.keys) }
+    ensures { IfOk result (λ rows. rows.items ≡ rivals zone.now (values_of changed.now.counted.entries) changed.now.upgraded.keys before.now) }
 {
     let counted = rows_in(alloc, &changed.counted, zone)?;
     let mut rows = not_upgraded(alloc, &changed.upgraded, &counted)?;
-    let before = lasting_rows(alloc, lastings, t, zone)?;
-    let before = not_upgraded(alloc, &changed.upgraded, &before)?;
+    let before = not_upgraded(alloc, &changed.upgraded, before)?;
     let before = not_counted(alloc, &changed.counted, &before)?;
     rows.extend_from_slice(&before)?;
     Ok(rows)
+}
+
+/// Adds a row that was found.
+pub fn add_found(rows: &mut Vec<Row>, found: &Option<Row>) -> Result<(), AllocError>
+    ensures { OnOk result (rows.new.items ≡ rows.old.items ++ listed found.now) }
+{
+    match found {
+        Some(row) => rows.extend_from_slice(&[*row])?,
+        None => {}
+    }
+    Ok(())
+}
+
+/// A hazard's family and its rank there. None where it has none, or the desk does not issue it.
+pub fn rank_of(hazard: &Hazard) -> Option<(Family, u8)>
+    ensures { result ≡ family_of (facts_of hazard.now) }
+{
+    match facts(*hazard) {
+        Some(facts) => facts.family,
+        None => None,
+    }
+}
+
+/// Whether the first rank is higher than the second in one family, and so has the greater number.
+pub fn is_above(high: &Option<(Family, u8)>, low: &Option<(Family, u8)>) -> bool
+    ensures { result ≡ is_above high.now low.now }
+{
+    let (Some((family, rank)), Some((other, under))) = (high, low) else {
+        return false;
+    };
+    *family == *other && *under < *rank
 }

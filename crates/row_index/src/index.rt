@@ -1,30 +1,34 @@
 //! The rows of an office's class, as the judging of its lines needs them.
-ghost use Rattle.std.specs.Prelude.{◌≡◌, ◌&&◌, not, true, false, nat_lt, [], List as Seq, Some, None, Option, if◌then◌else◌, is_none, IfOk, OnOk};
+ghost use Rattle.std.specs.Prelude.{◌≡◌, ◌&&◌, ◌++◌, not, true, false, nat_lt, [], List as Seq, Some, None, Option, if◌then◌else◌, is_none, IfOk, OnOk};
 ghost use Rattle.std.specs.List.{list_any};
+ghost use Rattle.hazard_types.specs.Hazards.{facts_of};
 ghost use Rattle.hazard_types.specs.declared.line.Line.{Line as LineValue};
 ghost use Rattle.std.specs.Map.{values_of};
 ghost use Rattle.event_life.specs.declared.life.Breach.TheVariants.{Twice};
-ghost use Rattle.event_life.specs.declared.life.Life.{Life as LifeValue};
+ghost use Rattle.event_life.specs.Higher.{family_of, is_above};
 ghost use Rattle.event_life.specs.Products.{put, line_of, row_at, row_after, is_open, going_in, event_of, has_rows, is_held, has_same, is_routine, is_upgrade, is_second, life_at, around_but_higher, has_higher, breach_in, judged, lawful_of, put_all, put_but_upgrades};
 ghost use Rattle.event_life.specs.Seats.{may_count};
 ghost use Rattle.event_life.specs.Shown.{shown_at};
 ghost use Rattle.event_life.specs.Table.{breach_of_line};
 ghost use Rattle.row_index.specs.Holding.{AreNear, AreRowsOf};
+ghost use Rattle.row_index.specs.Reaching.{Covers};
 ghost use Rattle.row_index.specs.Runs.{AreOfOne};
 ghost use Rattle.row_index.specs.Seating.{AreSeated, upgrades};
-ghost use Rattle.row_index.specs.Steps.{IsChanged, around_new, around_joining, asked_around, latest_open, event_going, rows_left, put_each};
+ghost use Rattle.row_index.specs.Steps.{IsAsked, IsChanged, around_new, around_joining, asked_around, latest_open, event_going, listed, higher_rows, rows_left, put_each};
 
-use crate::held::{Held, RowsOf, all_held, has_period, is_open, put_held, rows_of, seated};
-use crate::higher::{Changed, any_upgrades, rivals, upgraded_by};
-use crate::lasting::Lastings;
-use crate::look::{is_of, later_event, life_of, nothing_around, of_event, opens};
+use crate::held::{
+    Held, RowsOf, all_held, all_shown, has_period, is_open, put_held, rows_of, seated,
+};
+use crate::higher::{Changed, add_found, any_upgrades, is_above, rank_of, rivals, upgraded_by};
+use crate::look::{asks_alike, is_of, later_event, life_of, nothing_around, of_event, opens};
 use crate::numbers::{Events, Number, events_at, number_of};
 use crate::parts::HazardKey;
+use crate::reach::{Reaches, lasting_events};
 use crate::seats::{Seated, all_rows, count_row};
 use crate::spoken::Spoken;
 use event_life::{Around, Breach, is_lawful, is_routine, is_upgrade, life_step, opened_period};
-use hazard_types::{Action, Event, Flood, Line, List, Minute, Oom, Row, Vtec, Zone};
-use std::alloc::Global;
+use hazard_types::{Action, Event, Family, Flood, Line, List, Minute, Oom, Row, Vtec, Zone};
+use std::alloc::{AllocError, Global};
 use std::collections::{BTreeMap, BTreeSet};
 use std::marker::Model;
 
@@ -33,7 +37,7 @@ use std::marker::Model;
 pub struct RowIndex {
     held: Held,
     events: Events,
-    lasting: Lastings,
+    reach: Reaches,
 }
 
 impl Model for RowIndex {
@@ -41,13 +45,13 @@ impl Model for RowIndex {
     ghost use Rattle.hazard_types.specs.declared.line.Row.{Row};
     ghost use Rattle.row_index.specs.Holding.{told};
     ghost use Rattle.row_index.specs.Listing.{lists_of};
-    ghost use Rattle.row_index.specs.Numbers.{IsIndex};
+    ghost use Rattle.row_index.specs.Indexing.{IsIndex};
 
     ghost Value = { List Row };
 
     ghost view = { λ x. told x.held.entries };
 
-    ghost invariant = { λ x. IsIndex x.held.entries (lists_of x.events.entries) x.lasting.keys };
+    ghost invariant = { λ x. IsIndex x.held.entries (lists_of x.events.entries) x.reach.entries };
 }
 
 impl RowIndex {
@@ -58,7 +62,7 @@ impl RowIndex {
         RowIndex {
             held: BTreeMap::new(alloc),
             events: BTreeMap::new(alloc),
-            lasting: BTreeSet::new(alloc),
+            reach: BTreeMap::new(alloc),
         }
     }
 
@@ -86,12 +90,20 @@ impl RowIndex {
         }
     }
 
-    /// The row of a line's event in its zone. `rows` are the event's.
-    fn own_row(&self, rows: &RowsOf<'_>, line: &Line) -> Option<Row>
+    /// The row of a line's event in its zone. `rows` are the event's, and `near` is a guess of the row's place among them.
+    fn own_row(&self, rows: &RowsOf<'_>, near: &mut usize, line: &Line) -> Option<Row>
         requires { AreRowsOf self.now line.now.event rows.now }
         ensures { result ≡ row_at self.now line.now.event line.now.zone }
     {
-        rows.row_at(&line.event, &line.zone)
+        rows.row_at(near, &line.event, &line.zone)
+    }
+
+    /// The row of an event in a zone.
+    fn row_at(&self, event: &Event, zone: &Zone) -> Option<Row>
+        ensures { result ≡ row_at self.now event.now zone.now }
+    {
+        let mut near = 0;
+        self.rows_of(event).row_at(&mut near, event, zone)
     }
 
     /// Whether a line's event has rows, ended ones among them. `rows` are the event's.
@@ -235,30 +247,68 @@ impl RowIndex {
         }
     }
 
-    /// The first breach of a line on the life of its event in its zone, where its row is overlapped or not.
-    fn step_breach(&self, rows: &RowsOf<'_>, t: Minute, line: &Line, higher: bool) -> Option<Breach>
+    /// What stands around a line, as far as its action asks for it, where its row is overlapped. `asked` is what stood around the line
+    /// before, which mostly asks for the same.
+    fn around_near(
+        &self,
+        asked: &Option<(Line, Around)>,
+        rows: &RowsOf<'_>,
+        t: Minute,
+        line: &Line,
+    ) -> Around
+        requires asked { IsAsked self.now t asked.now }
+        requires rows { AreRowsOf self.now line.now.event rows.now }
+        ensures { result ≡ asked_around line.now.action self.now t line.now true }
+    {
+        if !opens(&line.action) {
+            return nothing_around(true);
+        }
+        match asked {
+            Some(before) => {
+                if asks_alike(t, &before.0, line) {
+                    before.1
+                } else {
+                    self.around(rows, t, line, true)
+                }
+            }
+            None => self.around(rows, t, line, true),
+        }
+    }
+
+    /// The first breach of a line on the life of its event in its zone.
+    fn step_breach(
+        &self,
+        rows: &RowsOf<'_>,
+        near: &mut usize,
+        t: Minute,
+        line: &Line,
+        around: Around,
+    ) -> Option<Breach>
         requires touches { is_routine line.now.action ≡ false }
         requires rows { AreRowsOf self.now line.now.event rows.now }
-        ensures { result ≡ breach_of_line (life_at self.now line.now) line.now t (around_but_higher self.now t line.now higher) }
+        requires around { around ≡ asked_around line.now.action self.now t line.now around.higher }
+        ensures { result ≡ breach_of_line (life_at self.now line.now) line.now t (around_but_higher self.now t line.now around.higher) }
     {
-        let life = life_of(&self.own_row(rows, line));
-        match life_step(life, line, t, self.around(rows, t, line, higher)) {
+        let life = life_of(&self.own_row(rows, near, line));
+        match life_step(life, line, t, around) {
             Ok(_life) => None,
             Err(breach) => Some(breach),
         }
     }
 
-    /// The first breach of a line, which is a second one of its event and zone or not, where its row is overlapped or not.
+    /// The first breach of a line, which is a second one of its event and zone or not.
     fn first_breach(
         &self,
         rows: &RowsOf<'_>,
+        near: &mut usize,
         t: Minute,
         line: &Line,
         second: bool,
-        higher: bool,
+        around: Around,
     ) -> Option<Breach>
-        requires { AreRowsOf self.now line.now.event rows.now }
-        ensures { result ≡ (if is_routine line.now.action then None else (if second then Some Twice else breach_of_line (life_at self.now line.now) line.now t (around_but_higher self.now t line.now higher))) }
+        requires rows { AreRowsOf self.now line.now.event rows.now }
+        requires around { around ≡ asked_around line.now.action self.now t line.now around.higher }
+        ensures { result ≡ (if is_routine line.now.action then None else (if second then Some Twice else breach_of_line (life_at self.now line.now) line.now t (around_but_higher self.now t line.now around.higher))) }
     {
         if is_routine(&line.action) {
             return None;
@@ -266,29 +316,77 @@ impl RowIndex {
         if second {
             return Some(Breach::Twice);
         }
-        self.step_breach(rows, t, line, higher)
+        self.step_breach(rows, near, t, line, around)
     }
 
-    /// The row that a lawful line leaves. `rows` are its event's.
-    fn row_after(&self, rows: &RowsOf<'_>, t: Minute, line: &Line) -> Row
+    /// The row that a lawful line leaves. `rows` are its event's, and `near` is a guess of the row's place among them.
+    fn row_after(&self, rows: &RowsOf<'_>, near: &mut usize, t: Minute, line: &Line) -> Row
         requires { AreRowsOf self.now line.now.event rows.now }
         ensures { result ≡ row_after self.now t line.now }
     {
         if opens(&line.action) {
             return event_life::row_after(&[], t, line);
         }
-        match self.own_row(rows, line) {
+        match self.own_row(rows, near, line) {
             Some(own) => event_life::row_after(&[own], t, line),
             None => event_life::row_after(&[], t, line),
         }
     }
 
+    /// The first breach of a line, where its row is overlapped.
+    fn breach_but_higher(
+        &self,
+        rows: &RowsOf<'_>,
+        near: &mut usize,
+        t: Minute,
+        line: &Line,
+        second: bool,
+        around: Around,
+    ) -> Option<Breach>
+        requires rows { AreRowsOf self.now line.now.event rows.now }
+        requires around { around ≡ asked_around line.now.action self.now t line.now true }
+        ensures { result ≡ (if is_routine line.now.action then None else (if second then Some Twice else breach_of_line (life_at self.now line.now) line.now t (around_but_higher self.now t line.now true))) }
+    {
+        self.first_breach(rows, near, t, line, second, around)
+    }
+
+    /// The first breach of a UPG line, where its row is overlapped or not.
+    fn breach_of_upgrade(
+        &self,
+        rows: &RowsOf<'_>,
+        near: &mut usize,
+        t: Minute,
+        line: &Line,
+        second: bool,
+        higher: bool,
+    ) -> Option<Breach>
+        requires rows { AreRowsOf self.now line.now.event rows.now }
+        requires upgrade { is_upgrade line.now.action ≡ true }
+        ensures { result ≡ (if is_routine line.now.action then None else (if second then Some Twice else breach_of_line (life_at self.now line.now) line.now t (around_but_higher self.now t line.now higher))) }
+    {
+        self.first_breach(rows, near, t, line, second, nothing_around(higher))
+    }
+
     /// Whether a line is lawful and no UPG, so that its row counts where a higher row is looked for.
-    fn may_count(&self, rows: &RowsOf<'_>, t: Minute, line: &Line, second: bool) -> bool
+    fn may_count(
+        &self,
+        rows: &RowsOf<'_>,
+        near: &mut usize,
+        t: Minute,
+        line: &Line,
+        second: bool,
+    ) -> bool
         requires { AreRowsOf self.now line.now.event rows.now }
         ensures { result ≡ (not (is_routine line.now.action) && not (is_upgrade line.now.action) && not second && is_none (breach_of_line (life_at self.now line.now) line.now t (around_but_higher self.now t line.now true))) }
     {
-        let breach = self.first_breach(rows, t, line, second, true);
+        let breach = self.breach_but_higher(
+            rows,
+            near,
+            t,
+            line,
+            second,
+            self.around(rows, t, line, true),
+        );
         !is_routine(&line.action) && !is_upgrade(&line.action) && !second && breach.is_none()
     }
 
@@ -299,17 +397,38 @@ impl RowIndex {
     {
         let mut counted = BTreeMap::new(alloc);
         let mut spoken = Spoken::new(alloc);
+        let mut near = 0;
         for line in lines {
             let second = spoken.speak(!is_routine(&line.action), line)?;
             let rows = self.rows_of(&line.event);
-            let counts = self.may_count(&rows, t, line, second);
-            count_row(&mut counted, counts, &self.row_after(&rows, t, line))?;
+            let counts = self.may_count(&rows, &mut near, t, line, second);
+            count_row(
+                &mut counted,
+                counts,
+                &self.row_after(&rows, &mut near, t, line),
+            )?;
         }
         Ok(counted)
     }
 
+    /// The events above a rank that have live rows in a zone, among others. No event is above none.
+    fn lasting(
+        &self,
+        alloc: Global,
+        t: Minute,
+        low: &Option<(Family, u8)>,
+        zone: &Zone,
+    ) -> Result<Vec<Event>, AllocError>
+        ensures { IfOk result (λ events. Covers self.now t low.now zone.now events.items) }
+    {
+        if low.is_none() {
+            return Ok(Vec::new(alloc));
+        }
+        lasting_events(alloc, &self.reach, t, zone)
+    }
+
     /// What a product changes where a higher row is looked for, as far as a UPG line asks for it.
-    fn changed(&self, alloc: Global, t: Minute, lines: &[Line]) -> Result<Changed, Oom>
+    fn change_of(&self, alloc: Global, t: Minute, lines: &[Line]) -> Result<Changed, Oom>
         ensures changed { list_any upgrades lines.now ≡ true → IfOk result (λ c. IsChanged self.now t lines.now (values_of c.counted.entries) c.upgraded.keys) }
         ensures seated { IfOk result (λ c. AreSeated c.counted.entries) }
     {
@@ -324,7 +443,62 @@ impl RowIndex {
         Ok(Changed { counted, upgraded })
     }
 
-    /// Whether the row of a UPG line, its `own`, is overlapped by a higher one after the product.
+    /// Adds an event's row in a zone, where the event is above a rank.
+    fn add_higher(
+        &self,
+        rows: &mut Vec<Row>,
+        event: &Event,
+        low: &Option<(Family, u8)>,
+        zone: &Zone,
+    ) -> Result<(), AllocError>
+        ensures { OnOk result (rows.new.items ≡ rows.old.items ++ (if is_above (family_of (facts_of event.now.hazard)) low.now then listed (row_at self.now event.now zone.now) else [])) }
+    {
+        if is_above(&rank_of(&event.hazard), low) {
+            add_found(rows, &self.row_at(event, zone))?;
+        }
+        Ok(())
+    }
+
+    /// The rows in a zone of those of the events that are above a rank.
+    fn higher_rows(
+        &self,
+        alloc: Global,
+        events: &[Event],
+        low: &Option<(Family, u8)>,
+        zone: &Zone,
+    ) -> Result<Vec<Row>, AllocError>
+        ensures { IfOk result (λ rows. rows.items ≡ higher_rows self.now low.now zone.now events.now) }
+    {
+        let mut rows = Vec::new(alloc);
+        for event in events {
+            self.add_higher(&mut rows, event, low, zone)?;
+        }
+        Ok(rows)
+    }
+
+    /// Whether the row of a UPG line, its `own`, is overlapped by a higher one after the product, or its hazard yields to none.
+    fn has_higher_over(
+        &self,
+        alloc: Global,
+        t: Minute,
+        changed: &Changed,
+        line: &Line,
+        own: &Row,
+    ) -> Result<bool, Oom>
+        requires seated { AreSeated changed.now.counted.entries }
+        requires own { Some own.now ≡ row_at self.now line.now.event line.now.zone }
+        ensures { (lines : Seq LineValue) → IsChanged self.now t lines (values_of changed.now.counted.entries) changed.now.upgraded.keys → IfOk result (λ higher. higher ≡ has_higher self.now t lines line.now) }
+    {
+        let _ = &self.reach;
+        let low = rank_of(&line.event.hazard);
+        let events = self.lasting(alloc, t, &low, &line.zone)?;
+        let before = self.higher_rows(alloc, &events, &low, &line.zone)?;
+        let rows = rivals(alloc, changed, &line.zone, &before)?;
+        Ok(event_life::has_higher(&[*own], t, &rows, line))
+    }
+
+    /// Whether the row of a UPG line, its `own` where it has one, is overlapped by a higher one after the product, or its hazard
+    /// yields to none.
     fn has_higher(
         &self,
         alloc: Global,
@@ -337,33 +511,35 @@ impl RowIndex {
         requires own { own.now ≡ row_at self.now line.now.event line.now.zone }
         ensures { (lines : Seq LineValue) → IsChanged self.now t lines (values_of changed.now.counted.entries) changed.now.upgraded.keys → IfOk result (λ higher. higher ≡ has_higher self.now t lines line.now) }
     {
-        let rows = rivals(alloc, &self.lasting, t, changed, &line.zone)?;
         match own {
-            Some(own) => Ok(event_life::has_higher(&[*own], t, &rows, line)),
-            None => Ok(event_life::has_higher(&[], t, &rows, line)),
+            Some(own) => self.has_higher_over(alloc, t, changed, line, own),
+            None => Ok(event_life::has_higher(&[], t, &[], line)),
         }
     }
 
-    /// The first breach of a line of a product. `rows` are its event's.
+    /// The first breach of a line of a product. `rows` are its event's, and `around` is what stands around it, where it is no UPG line.
     fn breach_in(
         &self,
         alloc: Global,
         t: Minute,
         changed: &Changed,
         rows: &RowsOf<'_>,
+        near: &mut usize,
         line: &Line,
         second: bool,
+        around: Around,
     ) -> Result<Option<Breach>, Oom>
         requires seated { AreSeated changed.now.counted.entries }
         requires rows { AreRowsOf self.now line.now.event rows.now }
+        requires around { around ≡ asked_around line.now.action self.now t line.now true }
         ensures { (lines earlier : Seq LineValue) → (is_upgrade line.now.action ≡ true → IsChanged self.now t lines (values_of changed.now.counted.entries) changed.now.upgraded.keys)
             → second ≡ is_second earlier line.now → IfOk result (λ breach. breach ≡ breach_in self.now t lines earlier line.now) }
     {
         if !is_upgrade(&line.action) {
-            return Ok(self.first_breach(rows, t, line, second, true));
+            return Ok(self.breach_but_higher(rows, near, t, line, second, around));
         }
-        let higher = self.has_higher(alloc, t, changed, line, &self.own_row(rows, line))?;
-        Ok(self.first_breach(rows, t, line, second, higher))
+        let higher = self.has_higher(alloc, t, changed, line, &self.own_row(rows, near, line))?;
+        Ok(self.breach_of_upgrade(rows, near, t, line, second, higher))
     }
 
     /// The lines of a product, each with its first breach, or None where it is lawful. The rows are those just before the product,
@@ -376,16 +552,22 @@ impl RowIndex {
     ) -> Result<List<(Line, Option<Breach>)>, Oom>
         ensures { IfOk result (λ found. found ≡ judged self.now t lines.now) }
     {
-        let changed = self.changed(alloc, t, lines)?;
+        let changed = self.change_of(alloc, t, lines)?;
         let mut spoken = Spoken::new(alloc);
         let mut found = Vec::with_capacity(alloc, lines.len())?;
         let mut near = None;
         let mut rows = RowsOf::none();
+        let mut asked = None;
+        let mut place = 0;
         for line in lines {
             rows = self.rows_near(&near, rows, &line.event);
             near = Some(line.event);
+            let around = self.around_near(&asked, &rows, t, line);
+            asked = Some((*line, around));
             let second = spoken.speak(!is_routine(&line.action), line)?;
-            let breach = self.breach_in(alloc, t, &changed, &rows, line, second)?;
+            let breach = self.breach_in(
+                alloc, t, &changed, &rows, &mut place, line, second, around,
+            )?;
             found.push((*line, breach))?;
         }
         Ok(List::from_vec(found))
@@ -402,13 +584,13 @@ impl RowIndex {
         let RowIndex {
             mut held,
             mut events,
-            mut lasting,
+            mut reach,
         } = self;
-        put_held(alloc, &mut held, &mut events, &mut lasting, event, rows)?;
+        put_held(alloc, &mut held, &mut events, &mut reach, event, rows)?;
         Ok(RowIndex {
             held,
             events,
-            lasting,
+            reach,
         })
     }
 
@@ -457,11 +639,12 @@ impl RowIndex {
         let mut left = List::new(alloc);
         let mut near = None;
         let mut rows = RowsOf::none();
+        let mut place = 0;
         for found in judged {
             rows = self.rows_near(&near, rows, &found.0.event);
             near = Some(found.0.event);
             if is_lawful(found) {
-                left.extend(&[self.row_after(&rows, t, &found.0)])?;
+                left.extend(&[self.row_after(&rows, &mut place, t, &found.0)])?;
             }
         }
         Ok(left)
@@ -508,7 +691,8 @@ impl RowIndex {
     pub fn shown(&self, alloc: Global, t: Minute) -> Result<List<Row>, Oom>
         ensures { IfOk result (λ shown. shown ≡ shown_at t self.now) }
     {
-        let rows = self.rows(alloc)?;
-        event_life::shown(alloc, rows.as_slice(), t)
+        let rows = all_shown(alloc, &self.held, t)?;
+        let rows = all_rows(alloc, &seated(alloc, &rows)?)?;
+        Ok(List::from_vec(rows))
     }
 }

@@ -1,14 +1,15 @@
-//! Sets of keys in order.
+//! Sets and counts of keys in order.
 ghost use Rattle.std.specs.Prelude.{◌≡◌, OnOk};
 ghost use Rattle.std.specs.BTreeMap.{is_at};
 ghost use Rattle.std.specs.BTreeMap.Range.{range_contains, IsLeBy};
 ghost use Rattle.std.specs.BTreeSet.{insert_key};
 ghost use Rattle.std.specs.List.{list_any};
+ghost use Rattle.std.specs.Map.{keys_of};
 ghost use Rattle.std.specs.Set.{remove_key};
-ghost use Rattle.std.specs.declared.ops.Bound.TheVariants.{Included, Excluded, Unbounded};
+ghost use Rattle.std.specs.declared.ops.Bound.TheVariants.{Included};
 
 use hazard_types::Oom;
-use std::collections::BTreeSet;
+use std::collections::{BTreeMap, BTreeSet};
 
 /// Adds a key.
 pub fn add_key<K: Ord + Drop>(keys: &mut BTreeSet<K>, key: K) -> Result<(), Oom>
@@ -25,17 +26,10 @@ pub fn take_key<K: Ord + Drop>(keys: &mut BTreeSet<K>, key: &K)
     keys.remove(key);
 }
 
-/// Whether a key stands at a place or behind it.
-pub fn any_from<K: Ord + Drop>(keys: &BTreeSet<K>, from: K) -> bool
-    ensures { result ≡ list_any (range_contains K.cmp (Included from) Unbounded) keys.now.keys }
-{
-    keys.range(from..).next().is_some()
-}
-
-/// Whether a key stands between two places, the first with it.
-pub fn any_between<K: Ord + Drop>(keys: &BTreeSet<K>, from: K, to: K) -> bool
+/// Whether a key is counted that stands between two places, or at one of them.
+pub fn any_between<K: Ord + Drop>(counts: &BTreeMap<K, u32>, from: K, to: K) -> bool
     requires { IsLeBy K.cmp from to }
-    ensures { result ≡ list_any (range_contains K.cmp (Included from) (Excluded to)) keys.now.keys }
+    ensures { result ≡ list_any (range_contains K.cmp (Included from) (Included to)) (keys_of counts.now.entries) }
 {
-    keys.range(from..to).next().is_some()
+    counts.range(from..=to).next().is_some()
 }

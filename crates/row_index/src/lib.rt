@@ -5,13 +5,14 @@ mod held;
 mod higher;
 mod index;
 mod keys;
-mod lasting;
 mod look;
 mod numbers;
 mod parts;
+mod reach;
 mod seats;
 mod spoken;
 mod standing;
+mod zones;
 
 pub use index::RowIndex;
 pub use parts::{EventKey, ZoneKey};

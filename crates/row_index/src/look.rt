@@ -3,10 +3,10 @@ ghost use Rattle.std.specs.Prelude.{◌≡◌, option_map};
 ghost use Rattle.event_life.specs.Lives.{opens};
 ghost use Rattle.event_life.specs.Products.{life_of, later_event};
 ghost use Rattle.row_index.specs.Runs.{is_of};
-ghost use Rattle.row_index.specs.Steps.{nothing_around, of_event, stays};
+ghost use Rattle.row_index.specs.Steps.{asks_alike, nothing_around, of_event, stays};
 
-use event_life::{Around, Life};
-use hazard_types::{Action, Event, Line, Row};
+use event_life::{Around, Life, opened_period};
+use hazard_types::{Action, Event, Line, Minute, Row};
 
 /// The life of a row.
 pub fn life_of(row: &Option<Row>) -> Option<Life>
@@ -56,6 +56,13 @@ pub fn opens(action: &Action) -> bool
     ensures { result ≡ opens action.now }
 {
     matches!(action, Action::New | Action::Exa | Action::Exb)
+}
+
+/// Whether two lines are of one action and event, and would open one period.
+pub fn asks_alike(t: Minute, a: &Line, b: &Line) -> bool
+    ensures { result ≡ asks_alike t a.now b.now }
+{
+    a.action == b.action && a.event == b.event && opened_period(a, t) == opened_period(b, t)
 }
 
 /// The line, of another event.

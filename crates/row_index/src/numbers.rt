@@ -1,5 +1,5 @@
 //! The events of each hazard and number, one for each year in which it was opened.
-ghost use Rattle.std.specs.Prelude.{◌≡◌, ◌++◌, ◌∷◌, [], OnOk};
+ghost use Rattle.std.specs.Prelude.{◌≡◌, [], OnOk};
 ghost use Rattle.std.specs.BTreeMap.{insert_entry};
 ghost use Rattle.std.specs.List.{list_any};
 ghost use Rattle.hazard_types.specs.Same.{same_event};
@@ -7,7 +7,7 @@ ghost use Rattle.row_index.specs.Listing.{lists_of, list_at};
 ghost use Rattle.row_index.specs.Numbers.{number_of, by_number, with_event, events_with};
 
 use crate::parts::HazardKey;
-use hazard_types::{Event, Oom, Row};
+use hazard_types::{Event, Oom};
 use std::alloc::Global;
 use std::collections::BTreeMap;
 
@@ -58,19 +58,19 @@ pub fn put_event(alloc: Global, events: &mut Events, event: &Event) -> Result<()
     add_event(known, event)
 }
 
-/// Puts the event of a row among those of its hazard and number, unless a row of it stood there before.
+/// Puts an event among those of its hazard and number, unless it had rows before.
 pub fn put_event_of(
     alloc: Global,
     events: &mut Events,
-    before: &Option<Row>,
+    had_rows: bool,
     event: &Event,
 ) -> Result<(), Oom>
-    ensures { OnOk result (lists_of events.new.entries ≡ events_with before.now event.now (lists_of events.old.entries)) }
+    ensures { OnOk result (lists_of events.new.entries ≡ events_with had_rows event.now (lists_of events.old.entries)) }
 {
-    match before {
-        Some(_old) => Ok(()),
-        None => put_event(alloc, events, event),
+    if had_rows {
+        return Ok(());
     }
+    put_event(alloc, events, event)
 }
 
 /// The events of a hazard and number.

@@ -76,7 +76,7 @@ pub fn row_in(seated: &Seated, event: &Event, zone: &Zone) -> Option<Row>
 }
 
 /// Sets the value at a key. `before` becomes the one that was there.
-fn set<K: Ord + Drop, V: Copy>(
+pub fn set<K: Ord + Drop, V: Copy>(
     map: &mut BTreeMap<K, V>,
     key: K,
     value: &V,

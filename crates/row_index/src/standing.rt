@@ -1,49 +1,33 @@
-//! The rows of an event that no line has ended, in the order in which what is asked of them stands together.
+//! How many rows of an event that no line has ended have each period, in the order in which what is asked of them stands together.
 ghost use Rattle.std.specs.Prelude.{◌≡◌, ◌≤◌, ◌&&◌, ◌-◌, OnOk};
-ghost use Rattle.std.specs.BTreeSet.{insert_key};
 ghost use Rattle.std.specs.List.{list_any};
+ghost use Rattle.std.specs.Map.{keys_of};
 ghost use Rattle.event_life.specs.Periods.{ends_after};
-ghost use Rattle.row_index.specs.Standings.{by_standing, place_of, standing_of, lies, lies_from, open_from, same_from, same_to};
-ghost use Rattle.row_index.specs.Steps.{restood};
-ghost use Rattle.row_index.specs.declared.standing.Corner.TheVariants as corner;
+ghost use Rattle.row_index.specs.Standings.{period_at, standing_of, lies, lies_from, open_from, same_from, same_to, count_at, with_count, one_less, one_more, restood};
 
-use crate::keys::{add_key, any_between, any_from, take_key};
+use crate::keys::any_between;
 use crate::look::stays;
-use crate::parts::{EventKey, ZoneKey};
 use event_life::ends_after;
-use hazard_types::{End, Event, Minute, Oom, Period, Row};
-use std::collections::BTreeSet;
+use hazard_types::{End, Minute, Oom, Period, Row};
+use std::collections::BTreeMap;
 
-/// A place among the rows with one period: in front of all zones, at a zone, or behind them all.
-#[derive(Clone, Copy, PartialEq, Eq, PartialOrd, Ord)]
-pub enum Corner {
-    Front,
-    At(ZoneKey),
-    Back,
-}
-
-/// Where a row stands among those of its event, which are in order by end, then begin, then corner.
+/// A period of rows. Periods are in order by end, then begin.
 #[derive(Clone, Copy, PartialEq, Eq, PartialOrd, Ord)]
 pub struct Standing {
     pub end: End,
     pub begin: Minute,
-    pub corner: Corner,
-    pub event: EventKey,
 }
 
-/// The rows of an event that no line has ended.
-pub type Standings = BTreeSet<Standing>;
+/// How many rows of an event that no line has ended have each period. A period that none of them has is not there.
+pub type Standings = BTreeMap<Standing, u32>;
 
 fn standing_of(row: &Row) -> Standing
     ensures { result ≡ standing_of row.now }
 {
     let end = row.period.end;
-    let corner = Corner::At(ZoneKey { zone: row.zone });
     Standing {
         end,
         begin: row.period.begin,
-        corner,
-        event: EventKey { event: row.event },
     }
 }
 
@@ -57,91 +41,119 @@ fn minutes_before(t: Minute, count: u32) -> Minute
     }
 }
 
-/// Whether a row of the event stands whose end is at most half an hour past.
-pub fn is_open_among(standings: &Standings, t: Minute, event: &Event) -> bool
-    ensures { result ≡ list_any (lies_from (open_from t event.now)) standings.now.keys }
+/// Whether a row stands with this period or one behind it.
+fn any_from(standings: &Standings, from: Standing) -> bool
+    ensures { result ≡ list_any (lies_from from) (keys_of standings.now.entries) }
+{
+    standings.range(from..).next().is_some()
+}
+
+/// Whether a row stands whose end is at most half an hour past.
+pub fn is_open_among(standings: &Standings, t: Minute) -> bool
+    ensures { result ≡ list_any (lies_from (open_from t)) (keys_of standings.now.entries) }
 {
     let end = End::At(minutes_before(t, 30));
     let begin = minutes_before(t, u32::MAX);
-    let corner = Corner::Front;
-    let from = Standing {
-        end,
-        begin,
-        corner,
-        event: EventKey { event: *event },
-    };
+    let from = Standing { end, begin };
     any_from(standings, from)
 }
 
-/// Whether a row of the event stands with the end of a period, and with a begin between two minutes.
-fn any_with(
-    standings: &Standings,
-    event: &Event,
-    period: &Period,
-    first: Minute,
-    last: Minute,
-) -> bool
+/// Whether a row stands with the end of a period, and with a begin from one minute to another.
+fn any_with(standings: &Standings, period: &Period, first: Minute, last: Minute) -> bool
     requires { first ≤ last }
-    ensures { result ≡ list_any (lies (place_of event.now period.now.end first corner.Front) (place_of event.now period.now.end last corner.Back)) standings.now.keys }
+    ensures { result ≡ list_any (lies (period_at period.now.end first) (period_at period.now.end last)) (keys_of standings.now.entries) }
 {
-    let front = Corner::Front;
     let from = Standing {
         end: period.end,
         begin: first,
-        corner: front,
-        event: EventKey { event: *event },
     };
-    let back = Corner::Back;
     let to = Standing {
         end: period.end,
         begin: last,
-        corner: back,
-        event: EventKey { event: *event },
     };
     any_between(standings, from, to)
 }
 
-/// Whether a live row of the event has this period.
-pub fn has_same_among(standings: &Standings, t: Minute, event: &Event, period: &Period) -> bool
-    ensures { result ≡ (ends_after period.now.end t && list_any (lies (same_from t event.now period.now) (same_to t event.now period.now)) standings.now.keys) }
+/// Whether a live row has this period.
+pub fn has_same_among(standings: &Standings, t: Minute, period: &Period) -> bool
+    ensures { result ≡ (ends_after period.now.end t && list_any (lies (same_from t period.now) (same_to t period.now)) (keys_of standings.now.entries)) }
 {
     if !ends_after(&period.end, t) {
         return false;
     }
     if period.begin.get() <= t.get() {
-        any_with(standings, event, period, minutes_before(t, u32::MAX), t)
+        any_with(standings, period, minutes_before(t, u32::MAX), t)
     } else {
-        any_with(standings, event, period, period.begin, period.begin)
+        any_with(standings, period, period.begin, period.begin)
     }
 }
 
-/// Adds the place of a row.
-fn stand(standings: &mut Standings, row: &Row) -> Result<(), Oom>
-    ensures { OnOk result (standings.new.keys ≡ insert_key by_standing standings.old.keys (standing_of row.now)) }
+/// How many rows stand with a period.
+fn count_at(standings: &Standings, period: &Standing) -> u32
+    ensures { result ≡ count_at standings.now.entries period.now }
 {
+    match standings.get(period) {
+        Some(count) => *count,
+        None => 0,
+    }
+}
+
+/// Sets the count at a key, which is taken out where it is nought.
+fn set_count<K: Ord + Drop>(counts: &mut BTreeMap<K, u32>, key: K, count: u32) -> Result<(), Oom>
+    ensures { OnOk result (counts.new.entries ≡ with_count K.cmp key count counts.old.entries) }
+{
+    if count == 0 {
+        counts.remove(&key);
+    } else {
+        counts.insert(key, count)?;
+    }
+    Ok(())
+}
+
+/// The row before stands no more, if there was one and no line had ended it.
+fn stand_less(standings: &mut Standings, before: &Option<Row>) -> Result<(), Oom>
+    ensures { OnOk result (standings.new.entries ≡ one_less before.now standings.old.entries) }
+{
+    let Some(old) = before else {
+        return Ok(());
+    };
+    if old.ended {
+        return Ok(());
+    }
+    let count = count_at(standings, &standing_of(old)).saturating_sub(1);
+    let end = old.period.end;
+    let period = Standing {
+        end,
+        begin: old.period.begin,
+    };
+    set_count(standings, period, count)
+}
+
+/// A row stands, unless a line has ended it.
+fn stand_more(standings: &mut Standings, row: &Row) -> Result<(), Oom>
+    ensures { OnOk result (standings.new.entries ≡ one_more row.now standings.old.entries) }
+{
+    if row.ended {
+        return Ok(());
+    }
+    let Some(count) = count_at(standings, &standing_of(row)).checked_add(1) else {
+        return Err(Oom);
+    };
     let end = row.period.end;
-    let corner = Corner::At(ZoneKey { zone: row.zone });
-    let standing = Standing {
+    let period = Standing {
         end,
         begin: row.period.begin,
-        corner,
-        event: EventKey { event: row.event },
     };
-    add_key(standings, standing)
+    set_count(standings, period, count)
 }
 
 /// A row stands in the place of the one before, unless a line has ended it.
 pub fn restand(standings: &mut Standings, before: &Option<Row>, row: &Row) -> Result<(), Oom>
-    ensures { OnOk result (standings.new.keys ≡ restood by_standing standing_of before.now row.now standings.old.keys) }
+    ensures { OnOk result (standings.new.entries ≡ restood before.now row.now standings.old.entries) }
 {
     if stays(before, row) {
         return Ok(());
     }
-    if let Some(old) = before {
-        take_key(standings, &standing_of(old));
-    }
-    if !row.ended {
-        stand(standings, row)?;
-    }
-    Ok(())
+    stand_less(standings, before)?;
+    stand_more(standings, row)
 }

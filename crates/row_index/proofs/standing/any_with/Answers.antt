@@ -3,4 +3,4 @@ use Rattle.row_index.proofs.Stood.{with_forward}
 use Rattle.row_index.proofs.standing.any_with.Goals as goal
 
 pub any_between-requires : goal.any_between-requires
-any_between-requires c = with_forward c.args.event.now c.args.period.now.end c.args.first c.args.last c.requires
+any_between-requires c = with_forward c.args.period.now.end c.args.first c.args.last c.requires

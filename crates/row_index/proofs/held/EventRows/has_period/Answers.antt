@@ -10,5 +10,5 @@ use Rattle.row_index.proofs.held.EventRows.has_period.Goals as goal
 pub returns-clause-same : goal.returns-clause-same
 returns-clause-same c =
     c.has_same_among.ensures
-    ∙ period-told (values_of c.self.inside.rows.entries) c.self.inside.standing.keys c.args.t c.args.event.now c.args.period.now c.self.invariant.standing
+    ∙ period-told (values_of c.self.inside.rows) c.self.inside.standing.entries c.args.t c.args.period.now c.self.invariant.standing
     ∙ ap (λ (rows : List Row). list_any (λ (r : Row). is_live c.args.t r && same_at c.args.t r.period c.args.period.now) rows) c.self.view_is

@@ -10,5 +10,5 @@ use Rattle.row_index.proofs.held.EventRows.is_open.Goals as goal
 pub returns-clause-open : goal.returns-clause-open
 returns-clause-open c =
     c.is_open_among.ensures
-    ∙ open-told (values_of c.self.inside.rows.entries) c.self.inside.standing.keys c.args.t c.args.event.now c.self.invariant.standing
+    ∙ open-told (values_of c.self.inside.rows) c.self.inside.standing.entries c.args.t c.self.invariant.standing
     ∙ ap (λ (rows : List Row). list_any (keeps_open c.args.t) rows) c.self.view_is

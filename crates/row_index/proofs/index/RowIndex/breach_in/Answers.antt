@@ -5,8 +5,8 @@ use Rattle.row_index.proofs.index.RowIndex.breach_in.Goals as goal
 
 pub returns-then-not-is_upgrade : goal.returns-then-not-is_upgrade
 returns-then-not-is_upgrade c = λ lines earlier changed second_is.
-    c.first_breach.ensures ∙ other_made c.args.self.now c.args.t lines earlier c.args.line.now c.args.second (search rules) second_is
+    c.breach_but_higher.ensures ∙ other_made c.args.self.now c.args.t lines earlier c.args.line.now c.args.second (search rules) second_is
 
 pub returns : goal.returns
 returns c = λ lines earlier changed second_is.
-    c.first_breach-2.ensures ∙ upgrade_made c.args.self.now c.args.t lines earlier c.args.line.now c.args.second c.in_ok-higher.higher (c.in_ok-higher.ensures lines (changed (search rules))) second_is
+    c.breach_of_upgrade.ensures ∙ upgrade_made c.args.self.now c.args.t lines earlier c.args.line.now c.args.second c.in_ok-higher.higher (c.in_ok-higher.ensures lines (changed (search rules))) second_is

@@ -23,4 +23,5 @@ loop-line-preserved c =
       free = c.in_ok-second.ensures.free;
       spoken = told_next speaks before next lines i line _ c.loop-line-test.true c.line-item.is (search rules) c.in_ok-second.ensures.said c.loop-line.invariant.spoken;
       near = c.rows_near-rows.ensures;
+      asked = c.around_near-around.ensures;
     }

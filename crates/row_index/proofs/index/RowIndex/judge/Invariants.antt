@@ -1,9 +1,10 @@
--- what was found so far, with what will be, is what is found of all lines, the seats so far are those of the lines so far, and the rows are those of the last line's event
+-- what was found so far, with what will be, is what is found of all lines, the seats so far are those of the lines so far, the rows are those of the last line's event, and what stands around it is known
 use Rattle.std.proofs.Common.{◌≡◌, ◌++◌, take, drop}
 use Rattle.event_life.specs.Products.{judged, judged_from}
 use Rattle.row_index.specs.Holding.{AreNear}
 use Rattle.row_index.specs.Risen.{seats_of, IsFree}
 use Rattle.row_index.specs.Seating.{seat_said, speaks}
+use Rattle.row_index.specs.Steps.{IsAsked}
 use Rattle.row_index.specs.Telling.{Tells}
 use Rattle.row_index.proofs.index.RowIndex.judge.Given as goal
 
@@ -13,4 +14,5 @@ invariant-loop-line l = record {
   free : IsFree l.spoken.last l.spoken.rising.items;
   spoken : Tells speaks seat_said (seats_of l.spoken.rising.items l.spoken.others.keys) (take l.line-index l.lines);
   near : AreNear l.self l.near l.rows;
+  asked : IsAsked l.self l.t l.asked;
 }

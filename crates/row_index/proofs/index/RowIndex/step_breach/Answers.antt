@@ -8,10 +8,10 @@ use Rattle.row_index.proofs.index.RowIndex.step_breach.Goals as goal
 
 pub returns-in-Ok : goal.returns-in-Ok
 returns-in-Ok c =
-    step_ok c.args.self.now c.args.line.now c.args.t c.args.higher c.life_of-life.result c.around.result _
-    (c.life_of-life.ensures ∙ ap (λ (o : Option Row). option_map life_of o) c.own_row.ensures) c.around.ensures (sym c.in-Ok.is ∙ c.life_step.ensures)
+    step_ok c.args.self.now c.args.line.now c.args.t c.args.around.higher c.life_of-life.result c.args.around _
+    (c.life_of-life.ensures ∙ ap (λ (o : Option Row). option_map life_of o) c.own_row.ensures) c.requires.around (sym c.in-Ok.is ∙ c.life_step.ensures)
 
 pub returns-in-Err : goal.returns-in-Err
 returns-in-Err c =
-    step_err c.args.self.now c.args.line.now c.args.t c.args.higher c.life_of-life.result c.around.result c.in-Err.breach
-    (c.life_of-life.ensures ∙ ap (λ (o : Option Row). option_map life_of o) c.own_row.ensures) c.around.ensures (sym c.in-Err.is ∙ c.life_step.ensures)
+    step_err c.args.self.now c.args.line.now c.args.t c.args.around.higher c.life_of-life.result c.args.around c.in-Err.breach
+    (c.life_of-life.ensures ∙ ap (λ (o : Option Row). option_map life_of o) c.own_row.ensures) c.requires.around (sym c.in-Err.is ∙ c.life_step.ensures)
