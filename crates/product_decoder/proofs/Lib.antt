@@ -3,10 +3,13 @@ pub mod KnownLemmas
 pub mod TakingLemmas
 pub mod LawLemmas
 pub mod RunLemmas
+pub mod FirstLemmas
 pub mod StepLemmas
 pub mod Nested
+pub mod ChainLemmas
 pub mod KeyLemmas
 pub mod Parting
 pub mod Holding
 pub mod Dividing
 pub mod OpeningLemmas
+pub mod FrameLemmas

@@ -1,7 +1,8 @@
 -- The steps of each event by zone are the steps of events in zones: a step put among those of its event is put among all.
-use Rattle.std.proofs.Common.{◌≡◌, ◌∙◌, ℕ, List, [], ◌∷◌, ◌++◌, Bool, true, false, cond, Ordering, Less, Equal, Greater, Option, Some, None, Vec, Global, unwrap_or, append_assoc, append-nil, refl, ap, sym, subst}
+use Rattle.std.proofs.Common.{◌≡◌, ◌∙◌, ◌&&◌, not, ℕ, List, [], ◌∷◌, ◌++◌, Bool, true, false, cond, fold, is_none, Ordering, Less, Equal, Greater, Option, Some, unwrap_or, append_assoc, append-nil, refl, ap, sym, subst}
 use Rattle.std.proofs.lemmas.Cmp.{tied_itself}
 use Rattle.std.proofs.lemmas.List.{map-append}
+use Rattle.std.proofs.lemmas.List.Sums.{fold-append}
 use Rattle.std.specs.BTreeMap.{insert_entry, is_at}
 use Rattle.std.specs.List.{AllByRecursion}
 use Rattle.std.specs.List.Sorted.{IsStrictlySortedBy}
@@ -11,15 +12,16 @@ use Rattle.hazard_types.specs.Orders.{by_event}
 use Rattle.hazard_types.specs.Places.{Place, by_place}
 use Rattle.hazard_types.specs.declared.hazard.Event.{Event}
 use Rattle.hazard_types.specs.declared.line.Line.{Line}
-use Rattle.hazard_types.proofs.Equality.{event_one}
 use Rattle.hazard_types.proofs.OrderLaws.{by_event_total, by_event_ties}
+use Rattle.event_life.specs.declared.life.Breach.{Breach}
+use Rattle.event_life.specs.Products.{is_routine, lawful_of}
 use Rattle.row_index.proofs.Tests.{insert-sorted}
-use Rattle.product_decoder.specs.declared.types.Track.{Track}
-use Rattle.product_decoder.specs.declared.zone_steps.ZoneStep.{ZoneStep}
+use Rattle.product_decoder.specs.declared.runs.Run.{Run}
+use Rattle.product_decoder.specs.Runs.{Judged, in_zone, along, places_of, spelled_run, spelled}
 use Rattle.product_decoder.specs.Lives.{Living, by_living}
-use Rattle.product_decoder.specs.Steps.{Step, Steps, steps_at, with_step, with_line, tracks_told, track_told}
+use Rattle.product_decoder.specs.Steps.{Step, Steps, steps_at, with_step, with_line, with_lines, with_runs, tracks_told, track_told}
 use Rattle.product_decoder.proofs.StepLemmas.{keys_put}
-use Rattle.product_decoder.specs.ZoneSteps.{Zones, lists_of, at_zone, with_zone, with_zones, Events, AreAscending, zones_at, under, flat, with_run, with_pending, is_of}
+use Rattle.product_decoder.specs.ZoneSteps.{Zones, at_zone, with_zone, with_zones, Events, AreAscending, zones_at, under, flat, with_run}
 
 abbrev Entry : Type 0
 Entry = Living × List Step
@@ -144,43 +146,58 @@ module _ (e : Event) (z : Place) where
 
 -- a run of them
 
-run_between : (issue : ℕ) (e : Event) (front back : Steps) (zones : Zones) (run : List ZoneStep) → AreFrom Greater e front → AreFrom Less e back
-    → with_run issue e (front ++ (under e zones ++ back)) run ≡ front ++ (under e (with_zones issue zones run) ++ back)
-run_between issue e front back zones [] before behind = refl
-run_between issue e front back zones (r ∷ run) before behind =
-    ap (λ (steps : Steps). with_run issue e steps run) (step_between e r.zone front back zones (r.action, issue) before behind)
-    ∙ run_between issue e front back (with_zone zones r.zone (r.action, issue)) run before behind
+run_between : (step : Step) (e : Event) (front back : Steps) (zones : Zones) (places : List Place) → AreFrom Greater e front → AreFrom Less e back
+    → with_run step e (front ++ (under e zones ++ back)) places ≡ front ++ (under e (with_zones step zones places) ++ back)
+run_between step e front back zones [] before behind = refl
+run_between step e front back zones (z ∷ places) before behind =
+    ap (λ (steps : Steps). with_run step e steps places) (step_between e z front back zones step before behind)
+    ∙ run_between step e front back (with_zone zones z step) places before behind
 
-pub run_put : (issue : ℕ) (e : Event) (es new : Events) (run : List ZoneStep) → AreAscending es → new ≡ insert_entry by_event es e (with_zones issue (zones_at es e) run) → flat new ≡ with_run issue e (flat es) run
-run_put issue e es new run up is =
+run_put : (step : Step) (e : Event) (es new : Events) (places : List Place) → AreAscending es → new ≡ insert_entry by_event es e (with_zones step (zones_at es e) places) → flat new ≡ with_run step e (flat es) places
+run_put step e es new places up is =
     let s = split es e up in
-    ap flat is ∙ s.whole (with_zones issue (zones_at es e) run) ∙ sym (run_between issue e s.front s.back (zones_at es e) run s.before s.behind)
-    ∙ ap (λ (steps : Steps). with_run issue e steps run) (sym s.now)
+    ap flat is ∙ s.whole (with_zones step (zones_at es e) places) ∙ sym (run_between step e s.front s.back (zones_at es e) places s.before s.behind)
+    ∙ ap (λ (steps : Steps). with_run step e steps places) (sym s.now)
 
 pub ascending_put : (e : Event) (es new : Events) (zones : Zones) → AreAscending es → new ≡ insert_entry by_event es e zones → AreAscending new
 ascending_put e es new zones up is =
     subst (λ (keys : List Event). IsStrictlySortedBy by_event keys) (sym (ap (λ (es : Events). keys_of es) is ∙ keys_put by_event e es zones)) (insert-sorted by_event by_event_total by_event_ties e (keys_of es) up)
 
--- one line behind a run
+-- the lines of a run
 
-run_last : (issue : ℕ) (e : Event) (steps : Steps) (run : List ZoneStep) (r : ZoneStep) → with_run issue e steps (run ++ r ∷ []) ≡ with_step (with_run issue e steps run) (record { event = e; zone = r.zone }) (r.action, issue)
-run_last issue e steps [] r = refl
-run_last issue e steps (x ∷ run) r = run_last issue e (with_step steps (record { event = e; zone = x.zone }) (x.action, issue)) run r
+lawful_both : (xs ys : List Judged) → lawful_of (xs ++ ys) ≡ lawful_of xs ++ lawful_of ys
+lawful_both [] ys = refl
+lawful_both (x ∷ xs) ys = by_test (not (is_routine x.0.action) && is_none x.1) (lawful_both xs ys)
+  where
+    by_test : (b : Bool) → lawful_of (xs ++ ys) ≡ lawful_of xs ++ lawful_of ys → cond b (x.0 ∷ lawful_of (xs ++ ys)) (lawful_of (xs ++ ys)) ≡ cond b (x.0 ∷ lawful_of xs) (lawful_of xs) ++ lawful_of ys
+    by_test true later = ap (λ (lines : List Line). x.0 ∷ lines) later
+    by_test false later = later
 
--- the first line of a run
-pub line_first : (issue : ℕ) (line : Line) (r : ZoneStep) (steps : Steps) (run : List ZoneStep) → r.zone ≡ line.zone → r.action ≡ line.action → run ≡ [] ++ r ∷ []
-    → with_run issue line.event steps run ≡ with_line issue steps line
-line_first issue line r steps run zone_is action_is is =
-    ap (λ (run : List ZoneStep). with_run issue line.event steps run) is ∙ (λ i. with_step steps (record { event = line.event; zone = zone_is i }) (action_is i, issue))
+-- lines that go before others
+lines_both : (issue : ℕ) (steps : Steps) (xs ys : List Judged) → with_lines issue steps (xs ++ ys) ≡ with_lines issue (with_lines issue steps xs) ys
+lines_both issue steps xs ys = ap (λ (lines : List Line). fold (with_line issue) steps lines) (lawful_both xs ys) ∙ fold-append (with_line issue) steps (lawful_of xs) (lawful_of ys)
 
--- and a further one
-pub line_last : (issue : ℕ) (known : Option Event) (line : Line) (r : ZoneStep) (steps : Steps) (run more : List ZoneStep) → is_of known line ≡ true → r.zone ≡ line.zone → r.action ≡ line.action → more ≡ run ++ r ∷ []
-    → with_run issue line.event steps more ≡ with_line issue (with_pending issue known run steps) line
-line_last issue None line r steps run more h zone_is action_is is = cc
-line_last issue (Some e) line r steps run more h zone_is action_is is =
-    ap (λ (run : List ZoneStep). with_run issue line.event steps run) is ∙ run_last issue line.event steps run r
-    ∙ (λ i. with_step (with_run issue line.event steps run) (record { event = line.event; zone = zone_is i }) (action_is i, issue))
-    ∙ ap (λ (d : Event). with_line issue (with_run issue d steps run) line) (sym (event_one e line.event h))
+pub runs_told : (issue : ℕ) (steps : Steps) (runs : List Run) → with_runs issue steps runs ≡ with_lines issue steps (spelled runs)
+runs_told issue steps [] = refl
+runs_told issue steps (r ∷ runs) = runs_told issue (with_lines issue steps (spelled_run r)) runs ∙ sym (lines_both issue steps (spelled_run r) (spelled runs))
+
+along_lawful : (issue : ℕ) (steps : Steps) (line : Line) (o : Option Breach) (places : List Place) → (not (is_routine line.action) && is_none o) ≡ true
+    → with_lines issue steps (along line o places) ≡ with_run (line.action, issue) line.event steps places
+along_lawful issue steps line o [] h = refl
+along_lawful issue steps line o (z ∷ places) h = rw h (along_lawful issue (with_line issue steps (in_zone line z)) line o places h)
+
+along_passed : (issue : ℕ) (steps : Steps) (line : Line) (o : Option Breach) (places : List Place) → (not (is_routine line.action) && is_none o) ≡ false → with_lines issue steps (along line o places) ≡ steps
+along_passed issue steps line o [] h = refl
+along_passed issue steps line o (z ∷ places) h = rw h (along_passed issue steps line o places h)
+
+-- a run that is lawful
+pub run_lawful : (issue : ℕ) (r : Run) (es new : Events) → AreAscending es → (not (is_routine r.first.action) && is_none r.breach) ≡ true
+    → new ≡ insert_entry by_event es r.first.event (with_zones (r.first.action, issue) (zones_at es r.first.event) (places_of r)) → flat new ≡ with_lines issue (flat es) (spelled_run r)
+run_lawful issue r es new up h is = run_put (r.first.action, issue) r.first.event es new (places_of r) up is ∙ sym (along_lawful issue (flat es) r.first r.breach (places_of r) h)
+
+-- and one that is not
+pub run_passed : (issue : ℕ) (r : Run) (steps : Steps) → (not (is_routine r.first.action) && is_none r.breach) ≡ false → steps ≡ with_lines issue steps (spelled_run r)
+run_passed issue r steps h = sym (along_passed issue steps r.first r.breach (places_of r) h)
 
 -- the lives that one event's steps more tell
 pub tracks_more : (es : Events) (e : Event × Zones) → tracks_told (flat (es ++ e ∷ [])) ≡ tracks_told (flat es) ++ tracks_told (under e.0 e.1)
@@ -189,9 +206,3 @@ tracks_more es e = ap tracks_told (flat_more es e) ∙ map-append track_told (fl
     flat_more : (es : Events) (e : Event × Zones) → flat (es ++ e ∷ []) ≡ flat es ++ under e.0 e.1
     flat_more [] e = append-nil (under e.0 e.1)
     flat_more (x ∷ es) e = ap (λ (steps : Steps). under x.0 x.1 ++ steps) (flat_more es e) ∙ sym (append_assoc (under x.0 x.1) (flat es) (under e.0 e.1))
-
--- and one zone's steps more
-pub zone_more : (e : Event) (ys : List (Place × Vec Step Global)) (y : Place × Vec Step Global)
-    → tracks_told (under e (lists_of (ys ++ y ∷ []))) ≡ tracks_told (under e (lists_of ys)) ++ record { event = e; zone = y.0; steps = y.1.items } ∷ []
-zone_more e [] y = refl
-zone_more e (x ∷ ys) y = ap (λ (tracks : List Track). record { event = e; zone = x.0; steps = x.1.items } ∷ tracks) (zone_more e ys y)

@@ -22,7 +22,7 @@ use Rattle.product_decoder.specs.Runs.{Taken}
 use Rattle.product_decoder.specs.declared.types.Decoded.{Decoded}
 use Rattle.product_decoder.specs.declared.types.ZonePair.{ZonePair}
 use Rattle.product_decoder.specs.ReaderModel.{is_by, line_said, said_by, product_of}
-use Rattle.product_decoder.specs.Takings.{minute_of, said_in, product_taken}
+use Rattle.product_decoder.specs.Takings.{minute_of, said_in, product_taken, product_judged}
 
 -- the event of a line has the hazard and number of its text
 module _ (h : Hazard) (n : ℕ) where
@@ -102,10 +102,18 @@ module _ (office : List ℕ) (class : Class) where
   judged_back rows t all earlier (line ∷ lines) = ap (λ (more : List ZoneLine). said_in office class line ∷ more) (judged_back rows t all (earlier ++ line ∷ []) lines)
 
   -- a product is read off what was judged
-  pub product_told : (rows : List Row) (d : Decoded) (t : Taken) → t.issue ≡ d.issue → t.judged ≡ judged_product rows (product_of office class d) → product_taken office class t ≡ product_of office class d
+  product_told : (rows : List Row) (d : Decoded) (t : Taken) → t.issue ≡ d.issue → t.judged ≡ judged_product rows (product_of office class d) → product_taken office class t ≡ product_of office class d
   product_told rows d t issue_is judged_is =
       let lines = lines_of rows d.issue (said_by office class d.pairs) in
       let said_is : map (λ (l : Line × Option Breach). said_in office class l.0) t.judged ≡ said_by office class d.pairs =
       ap (λ (judged : List (Line × Option Breach)). map (λ (l : Line × Option Breach). said_in office class l.0) judged) judged_is
       ∙ judged_back rows d.issue lines [] lines ∙ lines_back rows d.issue d.pairs in
       λ i. record { issue = issue_is i; said = said_is i }
+
+  -- the product of lines that were judged of what is said
+  pub judged_told : (rows : List Row) (d : Decoded) (judged : List (Line × Option Breach)) → judged ≡ judged_product rows (product_of office class d) → product_judged office class d.issue judged ≡ product_of office class d
+  judged_told rows d judged is = product_told rows d (record { issue = d.issue; judged = judged }) refl is
+
+  -- which are judged as its own
+  pub judged_own : (rows : List Row) (d : Decoded) (judged : List (Line × Option Breach)) → judged ≡ judged_product rows (product_of office class d) → judged ≡ judged_product rows (product_judged office class d.issue judged)
+  judged_own rows d judged is = is ∙ ap (judged_product rows) (sym (judged_told rows d judged is))

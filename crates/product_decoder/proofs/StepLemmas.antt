@@ -1,5 +1,5 @@
 -- Steps put at their event and zone are found there, product by product.
-use Rattle.std.proofs.Common.{◌≡◌, ◌∙◌, ◌&&◌, ℕ, List, [], ◌∷◌, ◌++◌, Bool, true, false, cond, not, Ordering, Less, Equal, Greater, Option, Some, None, unwrap_or, Vec, Global, append_assoc, append-nil, map, fold, refl, ap, sym, subst}
+use Rattle.std.proofs.Common.{◌≡◌, ◌∙◌, ◌&&◌, ℕ, List, [], ◌∷◌, ◌++◌, Bool, true, false, cond, not, Ordering, Less, Equal, Greater, Option, Some, unwrap_or, append_assoc, append-nil, map, fold, refl, ap, sym, subst}
 use Rattle.std.proofs.lemmas.Bool.{and_parts, false_from_ne_true}
 use Rattle.std.proofs.lemmas.Cmp.{tied_itself, then_total, on_total}
 use Rattle.std.specs.BTreeMap.{insert_entry, is_at}
@@ -9,7 +9,6 @@ use Rattle.std.specs.Map.{keys_of, lookup}
 use Rattle.std.specs.Option.{is_none}
 use Rattle.std.specs.Ordering.{match_ordering, ordering_then, is_eq}
 use Rattle.hazard_types.specs.Orders.{by_event}
-use Rattle.hazard_types.specs.Places.{Place, by_place}
 use Rattle.hazard_types.specs.Same.{same_event}
 use Rattle.hazard_types.specs.declared.line.Line.{Line}
 use Rattle.hazard_types.proofs.Equality.{event_one, event_itself, zone_one, zone_itself}
@@ -22,47 +21,6 @@ use Rattle.product_decoder.specs.declared.types.Track.{Track}
 use Rattle.product_decoder.specs.Lives.{Living, by_living}
 use Rattle.product_decoder.specs.Steps.{Step, Steps, steps_at, living_of, with_line, with_product, steps_of_all, track_at}
 use Rattle.product_decoder.specs.Takings.{steps_in, track_in}
-use Rattle.product_decoder.specs.ZoneSteps.{Zones, lists_of, at_zone, with_zone}
-
--- a map's lists
-
-abbrev Kept : Type 0
-Kept = Vec Step Global
-
-by_order : (o : Ordering) (e : Place × Kept) (es : List (Place × Kept)) (z : Place) (w : Kept) (tail : Zones) → lists_of (insert_entry by_place es z w) ≡ tail
-    → lists_of (match_ordering o ((z, w) ∷ e ∷ es) ((e.0, w) ∷ es) (e ∷ insert_entry by_place es z w))
-    ≡ match_ordering o ((z, w.items) ∷ (e.0, e.1.items) ∷ lists_of es) ((e.0, w.items) ∷ lists_of es) ((e.0, e.1.items) ∷ tail)
-by_order Less e es z w tail later = refl
-by_order Equal e es z w tail later = refl
-by_order Greater e es z w tail later = rw later refl
-
-lists_insert : (es : List (Place × Kept)) (z : Place) (w : Kept) → lists_of (insert_entry by_place es z w) ≡ insert_entry by_place (lists_of es) z w.items
-lists_insert [] z w = refl
-lists_insert (e ∷ es) z w = by_order (by_place z e.0) e es z w _ (lists_insert es z w)
-
--- the steps of a list, which has none where there is no list
-abbrev pub kept_of : Option Kept → List Step
-kept_of None = []
-kept_of (Some w) = w.items
-
-at_first : (b : Bool) (e : Place × Kept) (o : Option Kept) (p : Option (List Step)) → kept_of o ≡ unwrap_or p [] → kept_of (cond b (Some e.1) o) ≡ unwrap_or (cond b (Some e.1.items) p) []
-at_first true e o p h = refl
-at_first false e o p h = h
-
-kept_at : (es : List (Place × Kept)) (z : Place) → kept_of (lookup (is_at (by_place z)) es) ≡ at_zone (lists_of es) z
-kept_at [] z = refl
-kept_at (e ∷ es) z = at_first (is_at (by_place z) e.0) e (lookup (is_at (by_place z)) es) (lookup (is_at (by_place z)) (lists_of es)) (kept_at es z)
-
-kept_or : (o : Option Kept) (d r : Kept) → r ≡ unwrap_or o d → d.items ≡ [] → r.items ≡ kept_of o
-kept_or None d r is empty = rw is empty
-kept_or (Some w) d r is empty = ap (λ (v : Kept). v.items) is
-
--- the list at a zone, or a new one, with one step more
-pub step_put : (new es : List (Place × Kept)) (z : Place) (w d r : Kept) (s : Step) → new ≡ insert_entry by_place es z w → r ≡ unwrap_or (lookup (is_at (by_place z)) es) d → d.items ≡ [] → w.items ≡ r.items ++ s ∷ []
-    → lists_of new ≡ with_zone (lists_of es) z s
-step_put new es z w d r s is found empty has =
-    let items : w.items ≡ at_zone (lists_of es) z ++ s ∷ [] = has ∙ ap (λ (steps : List Step). steps ++ s ∷ []) (kept_or (lookup (is_at (by_place z)) es) d r found empty ∙ kept_at es z) in
-    ap lists_of is ∙ lists_insert es z w ∙ ap (λ (steps : List Step). insert_entry by_place (lists_of es) z steps) items
 
 -- what is put at a key is found at that key alone
 

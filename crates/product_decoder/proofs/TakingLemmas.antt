@@ -13,12 +13,11 @@ use Rattle.event_life.specs.Lives.{judged_product, steps_of, track_from}
 use Rattle.event_life.specs.Openings.{opened_by, opened_from, gaps_from}
 use Rattle.event_life.specs.Products.{Product, lawful_of, put_all, rows_after, rows_with, rows_of}
 use Rattle.product_decoder.specs.Runs.{Taken}
-use Rattle.product_decoder.specs.declared.types.Decoded.{Decoded}
 use Rattle.product_decoder.specs.declared.types.Found.{Found}
 use Rattle.product_decoder.specs.declared.types.Track.{Track}
 use Rattle.product_decoder.specs.Lives.{Living, living_in}
-use Rattle.product_decoder.specs.ReaderModel.{product_of, found_in, found_from, found_of, life_in, lives_of, gap_found, gaps_found}
-use Rattle.product_decoder.specs.Takings.{product_taken, products_taken, AreJudged, rows_with_taken, rows_taken, AreLeft, IsRead, steps_in, track_in, breaches_in, opened_in}
+use Rattle.product_decoder.specs.ReaderModel.{found_in, found_from, found_of, life_in, lives_of, gap_found, gaps_found}
+use Rattle.product_decoder.specs.Takings.{product_taken, product_judged, products_taken, AreJudged, rows_with_taken, rows_taken, AreLeft, IsRead, steps_in, track_in, breaches_in, opened_in}
 
 some_one : (a b : List Row) → ◌≡◌ {A = Option (List Row)} (Some a) (Some b) → a ≡ b
 some_one a b h = cc
@@ -26,6 +25,9 @@ some_one a b h = cc
 held_by : (held : Option (List Row)) (rows : List Row) (products : List Product) → held ≡ Some rows → AreLeft held products → rows ≡ rows_of products
 held_by None rows products h left = cc
 held_by (Some held) rows products h left = rw (← some_one held rows h) left
+
+taken_is : (t : Taken) (issue : ℕ) (judged : List (Line × Option Breach)) → t.issue ≡ issue → t.judged ≡ judged → t ≡ record { issue = issue; judged = judged }
+taken_is t issue judged issue_is judged_is = λ i. record { issue = issue_is i; judged = judged_is i }
 
 module _ (office : List ℕ) (class : Class) where
   steps_told : (rows : List Row) (taken : List Taken) (e : Event) (z : Place) → AreJudged office class rows taken → steps_in e z taken ≡ track_from rows (products_taken office class taken) e z
@@ -85,26 +87,33 @@ module _ (office : List ℕ) (class : Class) where
     few = rw length-append (omega arith);
   }
 
-  -- a product taken from what is decoded leaves what is read
-  pub take_read : (held : Option (List Row)) (rows after : List Row) (taken more : List Taken) (t : Taken) (d : Decoded) → IsRead office class held taken →
-      rows ≡ rows_of (products_taken office class taken) →
-      length (products_taken office class taken) < 4294967295 → product_taken office class t ≡ product_of office class d → t.judged ≡ judged_product rows (product_of office class d) →
-      after ≡ put_all rows d.issue (lawful_of t.judged) rows → more ≡ taken ++ t ∷ [] → IsRead office class (Some after) more
-  unfolding rows_after
-  take_read held rows after taken more t d h rows_are few product judged after_is more_is =
-      let j : t.judged ≡ judged_product rows (product_taken office class t) = judged ∙ ap (λ (p : Product). judged_product rows p) (sym product) in
-      let few' : length taken < 4294967295 = subst (λ (n : ℕ). n < 4294967295) (length-map taken (product_taken office class)) few in
-      let left : after ≡ rows_with rows (product_taken office class t) =
-      after_is
-      ∙ ap (λ (issue : ℕ). put_all rows issue (lawful_of t.judged) rows) (sym (ap (λ (p : Product). p.issue) product))
-      ∙ ap (λ (found : List (Line × Option Breach)). put_all rows t.issue (lawful_of found) rows) j in
-      subst (λ (more : List Taken). IsRead office class (Some after) more) (sym more_is) (read_push held rows after taken t h rows_are few' j left)
-
   -- the products with one more
-  pub products_push : (taken more : List Taken) (t : Taken) (p : Product) → more ≡ taken ++ t ∷ [] → product_taken office class t ≡ p → products_taken office class more ≡ products_taken office class taken ++ p ∷ []
+  products_push : (taken more : List Taken) (t : Taken) (p : Product) → more ≡ taken ++ t ∷ [] → product_taken office class t ≡ p → products_taken office class more ≡ products_taken office class taken ++ p ∷ []
   products_push taken more t p more_is product =
       ap (products_taken office class) more_is ∙ map-append (product_taken office class) taken (t ∷ [])
       ∙ ap (λ (p : Product). products_taken office class taken ++ p ∷ []) product
+
+  -- a product that is kept leaves what is read
+  pub keep_read : (held : Option (List Row)) (rows after : List Row) (taken more : List Taken) (t : Taken) (issue : ℕ) (judged : List (Line × Option Breach)) → IsRead office class held taken →
+      rows ≡ rows_of (products_taken office class taken) →
+      length (products_taken office class taken) < 4294967295 → judged ≡ judged_product rows (product_judged office class issue judged) →
+      after ≡ put_all rows issue (lawful_of judged) rows → t.issue ≡ issue → t.judged ≡ judged → more ≡ taken ++ t ∷ [] → IsRead office class (Some after) more
+  unfolding rows_after
+  keep_read held rows after taken more t issue judged h rows_are few judged_are after_is issue_is judged_is more_is =
+      let t_is = taken_is t issue judged issue_is judged_is in
+      let j : t.judged ≡ judged_product rows (product_taken office class t) = judged_is ∙ judged_are ∙ ap (λ (u : Taken). judged_product rows (product_taken office class u)) (sym t_is) in
+      let few' : length taken < 4294967295 = subst (λ (n : ℕ). n < 4294967295) (length-map taken (product_taken office class)) few in
+      let left : after ≡ rows_with rows (product_taken office class t) =
+      after_is
+      ∙ ap (λ (u : Taken). put_all rows u.issue (lawful_of u.judged) rows) (sym t_is)
+      ∙ ap (λ (found : List (Line × Option Breach)). put_all rows t.issue (lawful_of found) rows) j in
+      subst (λ (more : List Taken). IsRead office class (Some after) more) (sym more_is) (read_push held rows after taken t h rows_are few' j left)
+
+  -- the products with the one that is kept
+  pub products_keep : (taken more : List Taken) (t : Taken) (issue : ℕ) (judged : List (Line × Option Breach)) → t.issue ≡ issue → t.judged ≡ judged → more ≡ taken ++ t ∷ [] →
+      products_taken office class more ≡ products_taken office class taken ++ product_judged office class issue judged ∷ []
+  products_keep taken more t issue judged issue_is judged_is more_is =
+      products_push taken more t (product_judged office class issue judged) more_is (ap (product_taken office class) (taken_is t issue judged issue_is judged_is))
 
   track_told : (taken : List Taken) → AreJudged office class [] taken → (l : Living) → track_in taken l ≡ life_in (products_taken office class taken) l
   track_told taken h l = ap (λ (steps : List (Action × ℕ)). record { event = l.event; zone = l.zone; steps = steps }) (steps_told [] taken l.event l.zone h)

@@ -3,8 +3,10 @@ pub mod Lives
 pub mod ReaderModel
 pub mod Runs
 pub mod Steps
+pub mod Chains
 pub mod ZoneSteps
 pub mod Takings
 pub mod Feeding
 pub mod Holding
 pub mod Openings
+pub mod FrameLines

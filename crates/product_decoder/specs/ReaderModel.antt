@@ -6,6 +6,7 @@ use Rattle.hazard_types.specs.contracts.codes.ClassPartialEq.TheImpl as classes
 use Rattle.hazard_types.specs.declared.codes.Class.{Class}
 use Rattle.hazard_types.specs.declared.line.Line.{Line}
 use Rattle.hazard_types.specs.declared.line.Row.{Row}
+use Rattle.hazard_types.specs.declared.line.Vtec.{Vtec}
 use Rattle.event_life.specs.declared.life.Breach.{Breach}
 use Rattle.event_life.specs.Lives.{judged_product, track_of}
 use Rattle.event_life.specs.Openings.{gaps_of}
@@ -23,6 +24,10 @@ pub record Reading : Type 0 where
   pub office : List ℕ
   pub class : Class
   pub products : List Product
+
+-- a P-VTEC line of the office and class
+abbrev pub is_vtec_by : List ℕ → Class → Vtec → Bool
+is_vtec_by office class vtec = bytes_eq vtec.office office && classes.eq-value.it vtec.class class
 
 -- the line is of the office and class
 abbrev pub is_by : List ℕ → Class → ZonePair → Bool

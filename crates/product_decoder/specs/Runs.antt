@@ -1,5 +1,5 @@
 -- Lines of a product that were judged, as runs of zones.
-use Rattle.std.specs.Prelude.{◌&&◌, ◌++◌, ℕ, Bool, List, [], ◌∷◌, Option, Some, None, is_some}
+use Rattle.std.specs.Prelude.{◌&&◌, ◌++◌, ℕ, Bool, List, [], ◌∷◌, Option, Some, None, is_some, map}
 use Rattle.std.specs.Option.{option_eq}
 use Rattle.hazard_types.specs.Places.{Place}
 use Rattle.hazard_types.specs.contracts.line.LinePartialEq.TheImpl as line
@@ -33,10 +33,18 @@ along l breach (z ∷ zones) = (in_zone l z, breach) ∷ along l breach zones
 abbrev pub spelled_run : Run → List Judged
 spelled_run r = (r.first, r.breach) ∷ along r.first r.breach r.more
 
+-- their zones
+abbrev pub places_of : Run → List Place
+places_of r = r.first.zone ∷ r.more
+
 -- those of runs, one after another
 abbrev pub spelled : List Run → List Judged
 spelled [] = []
 spelled (r ∷ runs) = spelled_run r ++ spelled runs
+
+-- the first line of each
+abbrev pub firsts_of : List Run → List Judged
+firsts_of runs = map (λ (r : Run). (r.first, r.breach)) runs
 
 -- those of the last run, if there is one
 abbrev pub spelled_last : Option Run → List Judged

@@ -5,7 +5,8 @@ use Rattle.std.specs.Map.{lookup}
 use Rattle.hazard_types.specs.declared.codes.Action.{Action}
 use Rattle.hazard_types.specs.declared.line.Line.{Line}
 use Rattle.event_life.specs.Products.{lawful_of}
-use Rattle.product_decoder.specs.Runs.{Taken}
+use Rattle.product_decoder.specs.Runs.{Judged, Taken, spelled_run}
+use Rattle.product_decoder.specs.declared.runs.Run.{Run}
 use Rattle.product_decoder.specs.declared.types.Track.{Track}
 use Rattle.product_decoder.specs.Lives.{Living, by_living}
 
@@ -31,9 +32,18 @@ living_of line = record { event = line.event; zone = line.zone }
 abbrev pub with_line : ℕ → Steps → Line → Steps
 with_line issue steps line = with_step steps (living_of line) (line.action, issue)
 
+-- those of the lawful lines among these
+abbrev pub with_lines : ℕ → Steps → List Judged → Steps
+with_lines issue steps judged = fold (with_line issue) steps (lawful_of judged)
+
+-- those of the lawful lines of runs
+abbrev pub with_runs : ℕ → Steps → List Run → Steps
+with_runs issue steps [] = steps
+with_runs issue steps (r ∷ runs) = with_runs issue (with_lines issue steps (spelled_run r)) runs
+
 -- those of the lawful lines of a product
 abbrev pub with_product : Steps → Taken → Steps
-with_product steps t = fold (with_line t.issue) steps (lawful_of t.judged)
+with_product steps t = with_lines t.issue steps t.judged
 
 abbrev pub steps_of_all : List Taken → Steps
 steps_of_all taken = fold with_product [] taken

@@ -53,6 +53,10 @@ said_in office class line = record {
 abbrev pub product_taken : List ℕ → Class → Taken → Product
 product_taken office class t = record { issue = t.issue; said = map (λ (l : Line × Option Breach). said_in office class l.0) t.judged }
 
+-- a product of an office and class of which these lines were judged
+abbrev pub product_judged : List ℕ → Class → ℕ → List (Line × Option Breach) → Product
+product_judged office class issue judged = product_taken office class (record { issue = issue; judged = judged })
+
 abbrev pub products_taken : List ℕ → Class → List Taken → List Product
 products_taken office class taken = map (product_taken office class) taken
 

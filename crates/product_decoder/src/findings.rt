@@ -1,9 +1,11 @@
 //! Lines in breach, and gaps.
 ghost use Rattle.std.specs.Prelude.{◌≡◌, ◌<◌, ◌++◌, [], length, map, IfOk, OnOk};
-ghost use Rattle.event_life.specs.Openings.{gaps_from};
+ghost use Rattle.event_life.specs.Openings.{gaps_from, opened_by};
+ghost use Rattle.event_life.specs.Products.{lawful_of};
 ghost use Rattle.product_decoder.specs.ReaderModel.{found_in, gap_found};
 ghost use Rattle.product_decoder.specs.Takings.{breaches_in, opened_in};
 
+use crate::runs::firsts_of;
 use crate::taken::Taken;
 use crate::types::{Found, GapFound};
 use event_life::{Breach, Gap, gaps, opened_by};
@@ -54,14 +56,21 @@ pub fn breaches_in(alloc: Global, taken: &[Taken]) -> Result<List<Found>, Oom>
     Ok(out)
 }
 
+/// The events that a product opened. The lines of a run are of one event, so the first of each says them.
+fn opened_of(alloc: Global, product: &Taken) -> Result<List<Event>, Oom>
+    ensures { IfOk result (λ events. events ≡ opened_by (lawful_of product.now.judged)) }
+{
+    let firsts = firsts_of(alloc, product.runs())?;
+    opened_by(alloc, firsts.as_slice())
+}
+
 /// The events that products opened, product by product.
 fn opened_in(alloc: Global, taken: &[Taken]) -> Result<List<Event>, Oom>
     ensures { IfOk result (λ events. events ≡ opened_in taken.now) }
 {
     let mut events = List::new(alloc);
     for product in taken {
-        let judged = product.judged(alloc)?;
-        let opened = opened_by(alloc, judged.as_slice())?;
+        let opened = opened_of(alloc, product)?;
         events.extend(opened.as_slice())?;
     }
     Ok(events)

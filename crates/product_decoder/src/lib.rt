@@ -3,6 +3,7 @@
 
 mod feed;
 mod findings;
+mod frame_lines;
 mod held;
 mod openings;
 mod read;
@@ -17,5 +18,6 @@ pub use feed::{Feed, lines_tell_the_products, products_of};
 pub use product_frame::split_products;
 pub use read::decode;
 pub use reader::Reader;
-pub use taken::is_by;
+pub use taken::{is_by, is_vtec_by};
+pub use tracks::EventLives;
 pub use types::{Decoded, Found, GapFound, Opening, Track, ZonePair};

@@ -1,20 +1,26 @@
 //! The reader of an office's products of a class.
 ghost use Rattle.std.specs.Prelude.{◌≡◌, ◌↔◌, ◌<◌, ◌++◌, ◌∷◌, [], length, IfOk, OnOk, OnErr};
+ghost use Rattle.std.specs.List.{flat_map};
 ghost use Rattle.std.specs.List.Sorted.{IsStrictlySortedBy};
 ghost use Rattle.hazard_types.specs.Places.{Place};
 ghost use Rattle.hazard_types.specs.declared.hazard.Event.{Event as EventValue};
-ghost use Rattle.event_life.specs.Lives.{IsLawfulLife};
+ghost use Rattle.event_life.specs.Lives.{IsLawfulLife, judged_product};
 ghost use Rattle.event_life.specs.Openings.{IsGapless, opened_of};
 ghost use Rattle.event_life.specs.Products.{rows_of};
 ghost use Rattle.event_life.specs.Shown.{shown_at};
+ghost use Rattle.product_decoder.specs.Decoded.{decoded_of};
 ghost use Rattle.product_decoder.specs.Lives.{by_life};
 ghost use Rattle.product_decoder.specs.ReaderModel.{product_of, lives_of, found_of, gaps_found};
+ghost use Rattle.product_decoder.specs.Takings.{product_judged};
 
 use crate::findings::{breaches_in, gaps_in};
+use crate::frame_lines::judged_by_frame;
 use crate::taken::{Taken, judged_lines, rows_taken};
-use crate::tracks::tracks_in;
+use crate::tracks::{EventLives, events_in, tracks_in};
 use crate::types::{Decoded, Found, GapFound, Track};
-use hazard_types::{Class, List, Minute, Oom, Row};
+use event_life::Breach;
+use hazard_types::{Class, Line, List, Minute, Oom, Row};
+use product_frame::Frame;
 use row_index::RowIndex;
 use std::alloc::Global;
 use std::marker::Model;
@@ -67,6 +73,29 @@ impl Reader {
         }
     }
 
+    /// Takes a product of which these lines were judged by the rows before it.
+    fn keep(
+        &mut self,
+        alloc: Global,
+        rows: RowIndex,
+        issue: Minute,
+        judged: &[(Line, Option<Breach>)],
+    ) -> Result<(), Oom>
+        requires rows { rows ≡ rows_of self.old.products }
+        requires few { length self.old.products < 4294967295 }
+        requires judged { judged.now ≡ judged_product rows (product_judged self.old.office self.old.class issue judged.now) }
+        ensures office { self.new.office ≡ self.old.office }
+        ensures class { self.new.class ≡ self.old.class }
+        ensures ok { OnOk result (self.new.products ≡ self.old.products ++ product_judged self.old.office self.old.class issue judged.now ∷ []) }
+        ensures err { OnErr result (self.new.products ≡ self.old.products) }
+    {
+        let after = rows.leave(alloc, issue, judged)?;
+        let taken = Taken::new(alloc, issue, judged)?;
+        self.taken.push(taken)?;
+        self.rows = Some(after);
+        Ok(())
+    }
+
     /// Takes a product. Lines of another office or class are passed over.
     ///
     /// # Errors
@@ -81,11 +110,24 @@ impl Reader {
     {
         let rows = self.rows_before(alloc)?;
         let judged = judged_lines(alloc, &self.office, &self.class, &rows, d)?;
-        let after = rows.leave(alloc, d.issue, judged.as_slice())?;
-        let taken = Taken::new(alloc, d.issue, judged.as_slice())?;
-        self.taken.push(taken)?;
-        self.rows = Some(after);
-        Ok(())
+        self.keep(alloc, rows, d.issue, judged.as_slice())
+    }
+
+    /// Takes a product by its frame. Lines of another office or class are passed over.
+    ///
+    /// # Errors
+    ///
+    /// Out of memory. Nothing is taken then.
+    pub fn take_frame(&mut self, alloc: Global, frame: &Frame) -> Result<(), Oom>
+        requires { length self.old.products < 4294967295 }
+        ensures office { self.new.office ≡ self.old.office }
+        ensures class { self.new.class ≡ self.old.class }
+        ensures ok { OnOk result (self.new.products ≡ self.old.products ++ product_of self.old.office self.old.class (decoded_of frame.now) ∷ []) }
+        ensures err { OnErr result (self.new.products ≡ self.old.products) }
+    {
+        let rows = self.rows_before(alloc)?;
+        let judged = judged_by_frame(alloc, &self.office, &self.class, &rows, frame)?;
+        self.keep(alloc, rows, frame.issue, judged.as_slice())
     }
 
     /// The rows that are shown at a minute, by zone, then event.
@@ -104,6 +146,13 @@ impl Reader {
         ensures sorted { IfOk result (λ tracks. IsStrictlySortedBy by_life tracks) }
     {
         tracks_in(alloc, self.taken.as_slice())
+    }
+
+    /// The lives, event by event: together they are `lives`.
+    pub fn lives_by_event(&self, alloc: Global) -> Result<List<EventLives>, Oom>
+        ensures value { IfOk result (λ events. flat_map (λ e. e) events ≡ lives_of self.now.products) }
+    {
+        events_in(alloc, self.taken.as_slice())
     }
 
     /// The lines in breach, product by product, and within one in the order of the text.

@@ -1,9 +1,10 @@
 //! Lines of a product that were judged, as runs of zones, which take less memory.
-ghost use Rattle.std.specs.Prelude.{◌≡◌, ◌++◌, ◌∷◌, [], is_some, if◌then◌else◌, IfOk, OnOk};
+ghost use Rattle.std.specs.Prelude.{◌≡◌, ◌&&◌, ◌++◌, ◌∷◌, [], not, is_none, is_some, if◌then◌else◌, IfOk, OnOk};
 ghost use Rattle.std.specs.List.{list_any};
-ghost use Rattle.product_decoder.specs.Runs.{in_zone, along, spelled, spelled_run, spelled_last, is_alike};
+ghost use Rattle.event_life.specs.Products.{is_routine};
+ghost use Rattle.product_decoder.specs.Runs.{in_zone, along, spelled, spelled_run, spelled_last, firsts_of, is_alike};
 
-use event_life::Breach;
+use event_life::{Breach, is_routine};
 use hazard_types::{Line, List, Oom, Zone};
 use std::alloc::Global;
 use std::mem;
@@ -57,6 +58,13 @@ impl Run {
         self.breach == found.1 && in_zone(&self.first, &found.0.zone) == found.0
     }
 
+    /// Whether the lines are lawful and touch lives.
+    pub fn is_lawful(&self) -> bool
+        ensures { result ≡ (not (is_routine self.now.first.action) && is_none self.now.breach) }
+    {
+        !is_routine(&self.first.action) && self.breach.is_none()
+    }
+
     /// Adds the lines behind the first.
     fn put_more(&self, out: &mut Vec<(Line, Option<Breach>)>) -> Result<(), Oom>
         ensures { OnOk result (out.new.items ≡ out.old.items ++ along self.now.first self.now.breach self.now.more) }
@@ -85,6 +93,17 @@ pub fn spelled(alloc: Global, runs: &[Run]) -> Result<List<(Line, Option<Breach>
         run.put_spelled(&mut out)?;
     }
     Ok(List::from_vec(out))
+}
+
+/// The first line of each run.
+pub fn firsts_of(alloc: Global, runs: &[Run]) -> Result<List<(Line, Option<Breach>)>, Oom>
+    ensures { IfOk result (λ firsts. firsts ≡ firsts_of runs.now) }
+{
+    let mut firsts = Vec::new(alloc);
+    for run in runs {
+        firsts.extend_from_slice(&[(run.first, run.breach)])?;
+    }
+    Ok(List::from_vec(firsts))
 }
 
 /// Whether the lines of a run are in breach.

@@ -4,8 +4,8 @@ ghost use Rattle.std.specs.List.{list_any};
 ghost use Rattle.std.specs.Str.{bytes_eq};
 ghost use Rattle.event_life.specs.Lives.{judged_product};
 ghost use Rattle.event_life.specs.Products.{event_of, end_of, line_of, lines_of};
-ghost use Rattle.product_decoder.specs.ReaderModel.{is_by, line_said, said_by, product_of};
-ghost use Rattle.product_decoder.specs.Runs.{in_breach};
+ghost use Rattle.product_decoder.specs.ReaderModel.{is_vtec_by, is_by, line_said, said_by, product_of};
+ghost use Rattle.product_decoder.specs.Runs.{in_breach, spelled};
 ghost use Rattle.product_decoder.specs.Takings.{IsKnown, same_named, line_of_event, rows_taken};
 
 use crate::runs::{Run, any_breach, gathered, spelled};
@@ -47,6 +47,13 @@ impl Taken {
         self.issue
     }
 
+    /// The runs of the lines of the office and class.
+    pub fn runs(&self) -> &[Run]
+        ensures { spelled result.now ≡ self.now.judged }
+    {
+        self.runs.as_slice()
+    }
+
     /// Whether a line is in breach.
     pub fn has_breach(&self) -> bool
         ensures { result ≡ list_any in_breach self.now.judged }
@@ -69,11 +76,18 @@ fn same_office(a: [u8; 4], b: [u8; 4]) -> bool
     a[0] == b[0] && a[1] == b[1] && a[2] == b[2] && a[3] == b[3]
 }
 
+/// Whether a P-VTEC line is of an office and class.
+pub fn is_vtec_by(office: &[u8; 4], class: &Class, vtec: &Vtec) -> bool
+    ensures { result ≡ is_vtec_by office.now class.now vtec.now }
+{
+    same_office(vtec.office, *office) && vtec.class == *class
+}
+
 /// Whether what a P-VTEC line says of a zone is of an office and class.
 pub fn is_by(office: &[u8; 4], class: &Class, pair: &ZonePair) -> bool
     ensures { result ≡ is_by office.now class.now pair.now }
 {
-    same_office(pair.vtec.office, *office) && pair.vtec.class == *class
+    is_vtec_by(office, class, &pair.vtec)
 }
 
 /// The event that a P-VTEC line is of.
@@ -91,7 +105,7 @@ fn same_named(a: &Vtec, b: &Vtec) -> bool
 }
 
 /// The event that a P-VTEC line is of. `known` is that of one before it in the product, which mostly names the same.
-fn event_of(rows: &RowIndex, t: Minute, known: &Option<Known>, vtec: &Vtec) -> Event
+pub fn event_of(rows: &RowIndex, t: Minute, known: &Option<Known>, vtec: &Vtec) -> Event
     requires { IsKnown rows.now t known.now }
     ensures { result ≡ event_of rows.now t vtec.now }
 {
@@ -108,7 +122,7 @@ fn event_of(rows: &RowIndex, t: Minute, known: &Option<Known>, vtec: &Vtec) -> E
 }
 
 /// The end that a text prints: none is until further notice.
-fn end_of(end: &Option<Minute>) -> End
+pub fn end_of(end: &Option<Minute>) -> End
     ensures { result ≡ end_of end.now }
 {
     match end {

@@ -1,101 +1,49 @@
 //! Lives, by event, then zone.
-ghost use Rattle.std.specs.Prelude.{◌≡◌, map, Some, IfOk, OnOk};
+ghost use Rattle.std.specs.Prelude.{◌≡◌, ◌++◌, map, IfOk, OnOk};
 ghost use Rattle.std.specs.BTreeMap.{insert_entry};
+ghost use Rattle.std.specs.List.{flat_map};
 ghost use Rattle.std.specs.List.Sorted.{IsStrictlySortedBy};
 ghost use Rattle.hazard_types.specs.Orders.{by_event};
 ghost use Rattle.product_decoder.specs.Lives.{living_in, by_life};
-ghost use Rattle.product_decoder.specs.Steps.{with_line, with_product, steps_of_all, tracks_told};
+ghost use Rattle.product_decoder.specs.Runs.{places_of, spelled_run};
+ghost use Rattle.product_decoder.specs.Steps.{with_lines, with_product, steps_of_all, tracks_told};
 ghost use Rattle.product_decoder.specs.Takings.{track_in, rows_taken};
-ghost use Rattle.product_decoder.specs.ZoneSteps.{AreAscending, zones_at, with_zones, with_pending, flat, is_of};
+ghost use Rattle.product_decoder.specs.ZoneSteps.{AreAscending, zones_at, with_zones, flat};
 
+use crate::runs::Run;
 use crate::taken::Taken;
 use crate::types::Track;
-use crate::zone_steps::{ZoneStep, ZoneSteps};
-use event_life::is_lawful;
-use hazard_types::{Event, Line, List, Minute, Oom};
+use crate::zone_steps::ZoneSteps;
+use hazard_types::{Event, List, Minute, Oom};
 use row_index::EventKey;
 use std::alloc::Global;
 use std::collections::BTreeMap;
+use std::marker::Model;
 
 /// The steps of each event, by event.
 type Steps = BTreeMap<EventKey, ZoneSteps>;
 
-/// What a line did in its zone.
-fn step_of(line: &Line) -> ZoneStep
-    ensures zone { result.zone ≡ line.now.zone }
-    ensures action { result.action ≡ line.now.action }
-{
-    ZoneStep {
-        zone: line.zone,
-        action: line.action,
-    }
-}
-
-/// Whether a line is of an event that is known.
-fn is_of(event: &Option<Event>, line: &Line) -> bool
-    ensures { result ≡ is_of event.now line.now }
-{
-    match event {
-        Some(event) => *event == line.event,
-        None => false,
-    }
-}
-
 /// Adds the steps of a run of lines to those of their event.
-fn put_of(
-    alloc: Global,
-    steps: &mut Steps,
-    issue: Minute,
-    event: &Event,
-    run: &[ZoneStep],
-) -> Result<(), Oom>
-    ensures { OnOk result (steps.new.entries ≡ insert_entry by_event steps.old.entries event.now (with_zones issue (zones_at steps.old.entries event.now) run.now)) }
+fn put_run(alloc: Global, steps: &mut Steps, issue: &Minute, run: &Run) -> Result<(), Oom>
+    ensures { OnOk result (steps.new.entries ≡ insert_entry by_event steps.old.entries run.now.first.event (with_zones (run.now.first.action, issue.now) (zones_at steps.old.entries run.now.first.event) (places_of run.now))) }
 {
+    let event = run.first.event;
     let zones = steps
-        .entry(EventKey { event: *event })?
+        .entry(EventKey { event })?
         .or_insert(ZoneSteps::new(alloc));
-    zones.add_each(alloc, issue, run)
+    zones.add(alloc, issue, run)
 }
 
-/// Adds the steps of a run of lines, if there is an event that they are of.
-fn put_run(
-    alloc: Global,
-    steps: &mut Steps,
-    issue: Minute,
-    event: &Option<Event>,
-    run: &[ZoneStep],
-) -> Result<(), Oom>
+/// Adds the steps of the lines of a run, where these are lawful.
+fn add_run(alloc: Global, steps: &mut Steps, issue: &Minute, run: &Run) -> Result<(), Oom>
     requires ascending { AreAscending steps.old.entries }
-    ensures put { OnOk result (flat steps.new.entries ≡ with_pending issue event.now run.now (flat steps.old.entries)) }
+    ensures put { OnOk result (flat steps.new.entries ≡ with_lines issue.now (flat steps.old.entries) (spelled_run run.now)) }
     ensures ascending { OnOk result (AreAscending steps.new.entries) }
 {
-    match event {
-        Some(event) => put_of(alloc, steps, issue, event, run),
-        None => Ok(()),
-    }
-}
-
-/// Adds the steps of a run of lines of one event, unless a further line is of that event too. The run then has that line.
-fn put_before(
-    alloc: Global,
-    steps: &mut Steps,
-    issue: Minute,
-    event: &Option<Event>,
-    run: &mut Vec<ZoneStep>,
-    line: &Line,
-) -> Result<(), Oom>
-    requires ascending { AreAscending steps.old.entries }
-    ensures put { OnOk result (with_pending issue (Some line.now.event) run.new.items (flat steps.new.entries) ≡ with_line issue (with_pending issue event.now run.old.items (flat steps.old.entries)) line.now) }
-    ensures ascending { OnOk result (AreAscending steps.new.entries) }
-{
-    if is_of(event, line) {
-        run.push(step_of(line))?;
+    if !run.is_lawful() {
         return Ok(());
     }
-    put_run(alloc, steps, issue, event, run)?;
-    run.clear();
-    run.push(step_of(line))?;
-    Ok(())
+    put_run(alloc, steps, issue, run)
 }
 
 /// Adds the lawful lines of a product.
@@ -105,16 +53,10 @@ fn add_product(alloc: Global, steps: &mut Steps, product: &Taken) -> Result<(), 
     ensures ascending { OnOk result (AreAscending steps.new.entries) }
 {
     let issue = product.issue();
-    let judged = product.judged(alloc)?;
-    let mut run = Vec::new(alloc);
-    let mut event = None;
-    for found in judged.as_slice() {
-        if is_lawful(found) {
-            put_before(alloc, steps, issue, &event, &mut run, &found.0)?;
-            event = Some(found.0.event);
-        }
+    for run in product.runs() {
+        add_run(alloc, steps, &issue, run)?;
     }
-    put_run(alloc, steps, issue, &event, &run)
+    Ok(())
 }
 
 /// What the lawful lines of the products did to each event in a zone.
@@ -128,13 +70,70 @@ fn steps_of_all(alloc: Global, taken: &[Taken]) -> Result<Steps, Oom>
     Ok(steps)
 }
 
-/// The life of each event in a zone, from its steps.
-fn tracks_of(alloc: Global, steps: Steps) -> Result<List<Track>, Oom>
-    ensures { IfOk result (λ tracks. tracks ≡ tracks_told (flat steps.entries)) }
+/// The lives of one event, by zone.
+#[derive(Drop)]
+pub struct EventLives {
+    event: Event,
+    zones: ZoneSteps,
+}
+
+impl Model for EventLives {
+    ghost use Rattle.std.specs.Prelude.{List as Seq};
+    ghost use Rattle.product_decoder.specs.declared.types.Track.{Track as Life};
+    ghost use Rattle.product_decoder.specs.Steps.{tracks_told};
+    ghost use Rattle.product_decoder.specs.ZoneSteps.{under};
+
+    ghost Value = { Seq Life };
+
+    ghost view = { λ x. tracks_told (under x.event x.zones) };
+}
+
+impl EventLives {
+    /// Adds the lives.
+    fn put_tracks(&self, alloc: Global, tracks: &mut List<Track>) -> Result<(), Oom>
+        ensures { OnOk result (tracks.new ≡ tracks.old ++ self.now) }
+    {
+        self.zones.put_tracks(alloc, &self.event, tracks)
+    }
+
+    /// The lives.
+    pub fn tracks(&self, alloc: Global) -> Result<List<Track>, Oom>
+        ensures { IfOk result (λ tracks. tracks ≡ self.now) }
+    {
+        let mut tracks = List::new(alloc);
+        self.put_tracks(alloc, &mut tracks)?;
+        Ok(tracks)
+    }
+}
+
+/// The lives of each event, from its steps.
+fn lives_of(alloc: Global, steps: Steps) -> Result<List<EventLives>, Oom>
+    ensures { IfOk result (λ events. flat_map (λ e. e) events ≡ tracks_told (flat steps.entries)) }
+{
+    let mut events = List::new(alloc);
+    for (key, zones) in steps {
+        let event = key.event;
+        events.push(EventLives { event, zones })?;
+    }
+    Ok(events)
+}
+
+/// The life of each row that the products left, event by event.
+pub fn events_in(alloc: Global, taken: &[Taken]) -> Result<List<EventLives>, Oom>
+    ensures value { IfOk result (λ events. flat_map (λ e. e) events ≡ map (track_in taken.now) (living_in (rows_taken taken.now))) }
+    ensures sorted { IfOk result (λ events. IsStrictlySortedBy by_life (flat_map (λ e. e) events)) }
+{
+    let steps = steps_of_all(alloc, taken)?;
+    lives_of(alloc, steps)
+}
+
+/// The lives of events, one after another.
+fn tracks_of(alloc: Global, events: &[EventLives]) -> Result<List<Track>, Oom>
+    ensures { IfOk result (λ tracks. tracks ≡ flat_map (λ e. e) events.now) }
 {
     let mut tracks = List::new(alloc);
-    for (key, zones) in steps {
-        zones.put_tracks(&key.event, &mut tracks)?;
+    for event in events {
+        event.put_tracks(alloc, &mut tracks)?;
     }
     Ok(tracks)
 }
@@ -144,6 +143,6 @@ pub fn tracks_in(alloc: Global, taken: &[Taken]) -> Result<List<Track>, Oom>
     ensures value { IfOk result (λ tracks. tracks ≡ map (track_in taken.now) (living_in (rows_taken taken.now))) }
     ensures sorted { IfOk result (λ tracks. IsStrictlySortedBy by_life tracks) }
 {
-    let steps = steps_of_all(alloc, taken)?;
-    tracks_of(alloc, steps)
+    let events = events_in(alloc, taken)?;
+    tracks_of(alloc, events.as_slice())
 }

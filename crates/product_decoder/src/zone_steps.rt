@@ -1,48 +1,200 @@
-//! The steps of one event in each of its zones.
-ghost use Rattle.std.specs.Prelude.{◌≡◌, ◌++◌, [], OnOk};
+//! The steps of one event in each of its zones. Zones with one history share its steps.
+ghost use Rattle.std.specs.Prelude.{◌≡◌, ◌<◌, ◌++◌, [], suc, Some, length, reverse, IfOk, OnOk};
+ghost use Rattle.product_decoder.specs.Chains.{below, height, told, chains_of, same_place, is_last, IsPlaced};
+ghost use Rattle.product_decoder.specs.Runs.{places_of};
 ghost use Rattle.product_decoder.specs.Steps.{tracks_told};
-ghost use Rattle.product_decoder.specs.ZoneSteps.{lists_of, with_zone, with_zones, under};
+ghost use Rattle.product_decoder.specs.ZoneSteps.{zones_told, AreWithin, with_zone, with_zones, under};
 
+use crate::runs::Run;
 use crate::types::Track;
 use hazard_types::{Action, Event, List, Minute, Oom, Zone};
-use row_index::ZoneKey;
 use std::alloc::Global;
-use std::collections::BTreeMap;
 use std::marker::Model;
+use std::mem;
+use zone_map::ZoneMap;
 
-/// What a line did in a zone.
+/// What a line did in a zone, and the place of what was done there before, which is below its own.
 #[derive(Clone, Copy)]
-pub struct ZoneStep {
-    pub zone: Zone,
+pub struct SharedStep {
     pub action: Action,
+    pub issue: Minute,
+    pub before: Option<u32>,
 }
 
-/// Steps by zone.
-type ByZone = BTreeMap<ZoneKey, Vec<(Action, Minute)>>;
+impl SharedStep {
+    /// The place of the step before this one, which stands at this place.
+    fn before(&self, place: u32) -> Option<u32>
+        ensures { result ≡ below place self.now.before }
+    {
+        match self.before {
+            Some(before) => { if before < place { Some(before) } else { None } }
+            None => None,
+        }
+    }
+}
 
-/// Adds what a line of a product did in its zone.
-fn add_step(alloc: Global, steps: &mut ByZone, issue: Minute, step: &ZoneStep) -> Result<(), Oom>
-    ensures { OnOk result (lists_of steps.new.entries ≡ with_zone (lists_of steps.old.entries) step.now.zone (step.now.action, issue)) }
+/// Whether two places are one.
+fn same_place(a: Option<u32>, b: Option<u32>) -> bool
+    ensures { result ≡ same_place a b }
 {
-    steps
-        .entry(ZoneKey { zone: step.zone })?
-        .or_insert(Vec::new(alloc))
-        .push((step.action, issue))?;
+    match (a, b) {
+        (Some(a), Some(b)) => a == b,
+        (None, None) => true,
+        _ => false,
+    }
+}
+
+/// Whether this step, behind the one at a place, stands last.
+fn is_last(
+    shared: &[SharedStep],
+    last: u32,
+    action: &Action,
+    issue: &Minute,
+    before: Option<u32>,
+) -> bool
+    ensures { result ≡ is_last shared.now last (action.now, issue.now) before }
+{
+    match shared.get(last as usize) {
+        Some(step) => {
+            step.action == *action && step.issue == *issue && same_place(step.before(last), before)
+        }
+        None => false,
+    }
+}
+
+/// The place of a step behind the one at a place: that of the last, where it is this step, and else of one that is added.
+fn place_of(
+    shared: &mut Vec<SharedStep>,
+    action: &Action,
+    issue: &Minute,
+    before: Option<u32>,
+) -> Result<u32, Oom>
+    ensures { IfOk result (IsPlaced shared.old.items shared.new.items before (action.now, issue.now)) }
+{
+    let Ok(place) = u32::try_from(shared.len()) else {
+        return Err(Oom);
+    };
+    if place > 0 && is_last(shared, place - 1, action, issue, before) {
+        return Ok(place - 1);
+    }
+    shared.push(SharedStep {
+        action: *action,
+        issue: *issue,
+        before,
+    })?;
+    Ok(place)
+}
+
+/// The place of the last step in each zone.
+type Lasts = ZoneMap<u32>;
+
+/// Adds what a line of a product did in its zone. `near` is where its last step is looked for first.
+fn add_step(
+    shared: &mut Vec<SharedStep>,
+    lasts: &mut Lasts,
+    near: &mut usize,
+    issue: &Minute,
+    action: &Action,
+    zone: &Zone,
+) -> Result<(), Oom>
+    requires within { AreWithin (length shared.old.items) lasts.old }
+    ensures put { OnOk result (zones_told shared.new.items lasts.new ≡ with_zone (zones_told shared.old.items lasts.old) zone.now (action.now, issue.now)) }
+    ensures within { OnOk result (AreWithin (length shared.new.items) lasts.new) }
+{
+    let before = lasts.get(near, zone);
+    let place = place_of(shared, action, issue, before)?;
+    let mut known = None;
+    lasts.set(*zone, place, &mut known)
+}
+
+/// Adds what the lines of a run did in their zones.
+fn add_steps(
+    shared: &mut Vec<SharedStep>,
+    lasts: &mut Lasts,
+    issue: &Minute,
+    run: &Run,
+) -> Result<(), Oom>
+    requires within { AreWithin (length shared.old.items) lasts.old }
+    ensures put { OnOk result (zones_told shared.new.items lasts.new ≡ with_zones (run.now.first.action, issue.now) (zones_told shared.old.items lasts.old) (places_of run.now)) }
+    ensures within { OnOk result (AreWithin (length shared.new.items) lasts.new) }
+{
+    let action = &run.first.action;
+    let mut near = 0;
+    add_step(shared, lasts, &mut near, issue, action, &run.first.zone)?;
+    for zone in run.more.as_slice() {
+        add_step(shared, lasts, &mut near, issue, action, zone)?;
+    }
+    Ok(())
+}
+
+/// Adds the step at a place to those behind it. Returns the place of the step before it.
+fn put_step(
+    shared: &[SharedStep],
+    place: u32,
+    steps: &mut Vec<(Action, Minute)>,
+) -> Result<Option<u32>, Oom>
+    ensures told { IfOk result (λ before. told (chains_of shared.now) before ++ reverse steps.new.items ≡ told (chains_of shared.now) (Some place) ++ reverse steps.old.items) }
+    ensures lower { IfOk result (λ before. height before < suc place) }
+{
+    match shared.get(place as usize) {
+        Some(step) => {
+            steps.push((step.action, step.issue))?;
+            Ok(step.before(place))
+        }
+        None => Ok(None),
+    }
+}
+
+/// The steps of a zone of which this is the place of the last.
+fn steps_to(alloc: Global, shared: &[SharedStep], last: u32) -> Result<Vec<(Action, Minute)>, Oom>
+    ensures { IfOk result (λ steps. steps.items ≡ told (chains_of shared.now) (Some last)) }
+{
+    let mut steps = Vec::new(alloc);
+    let mut at = Some(last);
+    while let Some(place) = at {
+        at = put_step(shared, place, &mut steps)?;
+    }
+    steps.reverse();
+    Ok(steps)
+}
+
+/// Adds the life of an event in each of these zones.
+fn put_each(
+    alloc: Global,
+    shared: &[SharedStep],
+    event: &Event,
+    lasts: &[(Zone, u32)],
+    tracks: &mut List<Track>,
+) -> Result<(), Oom>
+    ensures { OnOk result (tracks.new ≡ tracks.old ++ tracks_told (under event.now (zones_told shared.now lasts.now))) }
+{
+    for (zone, last) in lasts {
+        let steps = steps_to(alloc, shared, *last)?;
+        tracks.push(Track {
+            event: *event,
+            zone: *zone,
+            steps: List::from_vec(steps),
+        })?;
+    }
     Ok(())
 }
 
 /// The steps of one event in each of its zones.
 #[derive(Drop)]
 pub struct ZoneSteps {
-    steps: ByZone,
+    shared: Vec<SharedStep>,
+    lasts: Lasts,
 }
 
 impl Model for ZoneSteps {
-    ghost use Rattle.product_decoder.specs.ZoneSteps.{Zones, lists_of};
+    ghost use Rattle.std.specs.Prelude.{length};
+    ghost use Rattle.product_decoder.specs.ZoneSteps.{Zones, zones_told, AreWithin};
 
     ghost Value = { Zones };
 
-    ghost view = { λ x. lists_of x.steps.entries };
+    ghost view = { λ x. zones_told x.shared.items x.lasts };
+
+    ghost invariant = { λ x. AreWithin (length x.shared.items) x.lasts };
 }
 
 impl ZoneSteps {
@@ -51,38 +203,34 @@ impl ZoneSteps {
         ensures { result ≡ [] }
     {
         ZoneSteps {
-            steps: BTreeMap::new(alloc),
+            shared: Vec::new(alloc),
+            lasts: ZoneMap::new(alloc),
         }
     }
 
-    /// Adds what a line of a product did in its zone.
-    fn add(&mut self, alloc: Global, issue: Minute, step: &ZoneStep) -> Result<(), Oom>
-        ensures { OnOk result (self.new ≡ with_zone self.old step.now.zone (step.now.action, issue)) }
+    /// Adds what the lines of a run did in their zones. None is left where memory ran out.
+    pub fn add(&mut self, alloc: Global, issue: &Minute, run: &Run) -> Result<(), Oom>
+        ensures { OnOk result (self.new ≡ with_zones (run.now.first.action, issue.now) self.old (places_of run.now)) }
     {
-        add_step(alloc, &mut self.steps, issue, step)
-    }
-
-    /// Adds what each line of a run did in its zone.
-    pub fn add_each(&mut self, alloc: Global, issue: Minute, run: &[ZoneStep]) -> Result<(), Oom>
-        ensures { OnOk result (self.new ≡ with_zones issue self.old run.now) }
-    {
-        for step in run {
-            self.add(alloc, issue, step)?;
-        }
+        let ZoneSteps {
+            mut shared,
+            mut lasts,
+        } = mem::replace(self, ZoneSteps::new(alloc));
+        add_steps(&mut shared, &mut lasts, issue, run)?;
+        *self = ZoneSteps { shared, lasts };
         Ok(())
     }
 
     /// Adds the life of the event in each zone.
-    pub fn put_tracks(self, event: &Event, tracks: &mut List<Track>) -> Result<(), Oom>
-        ensures { OnOk result (tracks.new ≡ tracks.old ++ tracks_told (under event.now self)) }
+    pub fn put_tracks(
+        &self,
+        alloc: Global,
+        event: &Event,
+        tracks: &mut List<Track>,
+    ) -> Result<(), Oom>
+        ensures { OnOk result (tracks.new ≡ tracks.old ++ tracks_told (under event.now self.now)) }
     {
-        for (zone, steps) in self.steps {
-            tracks.push(Track {
-                event: *event,
-                zone: zone.zone,
-                steps: List::from_vec(steps),
-            })?;
-        }
-        Ok(())
+        let lasts = self.lasts.list(alloc)?;
+        put_each(alloc, &self.shared, event, lasts.as_slice(), tracks)
     }
 }

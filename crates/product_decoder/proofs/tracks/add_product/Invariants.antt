@@ -1,12 +1,11 @@
-use Rattle.std.proofs.Common.{◌≡◌, fold, drop}
-use Rattle.event_life.specs.Products.{lawful_of}
-use Rattle.product_decoder.specs.Steps.{with_line, with_product}
-use Rattle.product_decoder.specs.ZoneSteps.{AreAscending, with_pending, flat}
+use Rattle.std.proofs.Common.{◌≡◌, drop}
+use Rattle.product_decoder.specs.Steps.{with_runs}
+use Rattle.product_decoder.specs.ZoneSteps.{AreAscending, flat}
 use Rattle.product_decoder.proofs.tracks.add_product.Given as goal
 
--- the run and the lines that are left add what all lines do
-abbrev pub invariant-loop-found : goal.invariant-loop-found
-invariant-loop-found l = record {
-  put : fold (with_line l.product.issue) (with_pending l.product.issue l.event l.run.items (flat l.steps.entries)) (lawful_of (drop l.found-index l.found-items)) ≡ with_product (flat l.initial.steps.entries) l.product;
+-- the runs that are left add what all of them do
+abbrev pub invariant-loop-run : goal.invariant-loop-run
+invariant-loop-run l = record {
+  put : with_runs l.issue (flat l.steps.entries) (drop l.run-index l.run-items) ≡ with_runs l.issue (flat l.initial.steps.entries) l.run-items;
   ascending : AreAscending l.steps.entries;
 }

@@ -1,8 +1,7 @@
-use Rattle.std.proofs.Common.{◌≡◌}
-use Rattle.product_decoder.specs.Steps.{tracks_told}
-use Rattle.product_decoder.specs.ZoneSteps.{flat}
+use Rattle.std.proofs.Common.{◌≡◌, ◌++◌, drop}
+use Rattle.std.specs.List.{flat_map}
 use Rattle.product_decoder.proofs.tracks.tracks_of.Given as goal
 
--- the lives so far
-abbrev pub invariant-loop-key : goal.invariant-loop-key
-invariant-loop-key l = l.tracks ≡ tracks_told (flat l.yielded)
+-- the lives so far, and those of the events that are left
+abbrev pub invariant-loop-event : goal.invariant-loop-event
+invariant-loop-event l = l.tracks ++ flat_map (λ e. e) (drop l.event-index l.events) ≡ flat_map (λ e. e) l.events

@@ -1,27 +1,29 @@
--- The rows are those after the products, with the one that was taken.
-use Rattle.std.proofs.Common.{◌∙◌, ◌<◌, ◌++◌, ◌∷◌, [], length, sym, ap, subst}
-use Rattle.event_life.specs.Products.{lawful_of, put_all, rows_of}
+-- What is kept is the product that was given.
+use Rattle.std.proofs.Common.{◌∙◌, ◌++◌, ◌∷◌, [], ap}
+use Rattle.std.proofs.lemmas.Result.{on_ok_weaker}
+use Rattle.event_life.specs.Lives.{judged_product}
+use Rattle.event_life.specs.Products.{Product}
 use Rattle.product_decoder.specs.ReaderModel.{Reading, product_of}
-use Rattle.product_decoder.proofs.Said.{product_told}
-use Rattle.product_decoder.proofs.TakingLemmas.{take_read, products_push}
+use Rattle.product_decoder.specs.Takings.{product_judged}
+use Rattle.product_decoder.proofs.Said.{judged_own, judged_told}
 use Rattle.product_decoder.proofs.reader.Reader.take.Goals as goal
 
-pub invariant_of-self-2 : goal.invariant_of-self-2
-invariant_of-self-2 c =
-    let view = c.self.view_is ∙ c.rows_before.ensures.unchanged in
-    let few = subst (λ (r : Reading). length r.products < 4294967295) (sym view) c.requires in
-    let rows_are = c.in_ok-rows.ensures.rows ∙ ap (λ (r : Reading). rows_of r.products) (sym view) in
-    let judged_is = c.in_ok-taken.ensures.judged ∙ c.as_slice-2.ensures in
-    let judged = judged_is ∙ c.in_ok-judged.ensures in
-    let product = product_told c.self.inside.office c.self.inside.class c.in_ok-rows.rows c.args.d.now c.in_ok-taken.taken c.in_ok-taken.ensures.issue judged in
-    let after = c.in_ok-after.ensures
-    ∙ ap (λ found. put_all c.in_ok-rows.rows c.args.d.now.issue (lawful_of found) c.in_ok-rows.rows) (c.as_slice.ensures ∙ sym judged_is) in
-    take_read c.self.inside.office c.self.inside.class c.self.inside.rows c.in_ok-rows.rows c.in_ok-after.after c.self.inside.taken c.push.new.self c.in_ok-taken.taken c.args.d.now
-    c.self.invariant rows_are few product judged after c.in_ok-push.ensures.ok
+pub keep-requires-clause-judged : goal.keep-requires-clause-judged
+keep-requires-clause-judged c =
+    let d = c.args.d.now in
+    let rows = c.in_ok-rows.rows in
+    let judged = c.as_slice.result.now in
+    judged_own c.self.inside.office c.self.inside.class rows d judged (c.as_slice.ensures ∙ c.in_ok-judged.ensures)
+    ∙ ap (λ (r : Reading). judged_product rows (product_judged r.office r.class d.issue judged)) c.self.view_is
 
 pub returns-clause-ok : goal.returns-clause-ok
 returns-clause-ok c =
-    let judged = c.in_ok-taken.ensures.judged ∙ c.as_slice-2.ensures ∙ c.in_ok-judged.ensures in
-    let product = product_told c.self.inside.office c.self.inside.class c.in_ok-rows.rows c.args.d.now c.in_ok-taken.taken c.in_ok-taken.ensures.issue judged in
-    products_push c.self.inside.office c.self.inside.class c.self.inside.taken c.push.new.self c.in_ok-taken.taken (product_of c.self.inside.office c.self.inside.class c.args.d.now) c.in_ok-push.ensures.ok product
-    ∙ ap (λ (r : Reading). r.products ++ product_of r.office r.class c.args.d.now ∷ []) (c.self.view_is ∙ c.rows_before.ensures.unchanged)
+    let d = c.args.d.now in
+    let rows = c.in_ok-rows.rows in
+    let judged = c.as_slice.result.now in
+    let was = c.args.self.now in
+    let own = c.as_slice.ensures ∙ c.in_ok-judged.ensures ∙ ap (λ (r : Reading). judged_product rows (product_of r.office r.class d)) (c.self.view_is ∙ c.rows_before.ensures.unchanged) in
+    let product = judged_told was.office was.class rows d judged own in
+    on_ok_weaker c.keep.result (λ is. is
+    ∙ ap (λ (r : Reading). r.products ++ product_judged r.office r.class d.issue judged ∷ []) c.rows_before.ensures.unchanged
+    ∙ ap (λ (p : Product). was.products ++ p ∷ []) product) c.keep.ensures.ok
