@@ -4,3 +4,4 @@ pub mod Paging
 pub mod Taking
 pub mod Reading
 pub mod Ending
+pub mod FrameCounts

@@ -142,6 +142,26 @@ module _ {X : Type 0} (f : X → List ℕ) (xs : List X) (i : ℕ) (taken mid : 
       halts_alike taken taken' (out ++ (text ++ more)) (out ++ flat_map f xs) why (ap (λ (t : List ℕ). out ++ t) whole)
       (halts_then taken mid taken' out out2 text more why so_far front)
 
+  -- the text of one item more, which was told
+  pub part_next : (x : X) (out2 : List ℕ) (taken' : Option (List ℕ)) → i < length xs → x ≡ get_or xs i x → Pages mid taken' out1 out2 (f x) → Pages taken taken' out out2 (flat_map f (take (i + 1) xs))
+  part_next x out2 taken' within is told =
+      let both = pages_both taken mid taken' out out1 out2 (flat_map f (take i xs)) (f x) pages told in
+      rw (next_line f xs i x within is) at both
+
+  -- or halted
+  pub part_halts : (x : X) (taken' : Option (List ℕ)) (why : Stop) → i < length xs → x ≡ get_or xs i x → Halts mid taken' (out1 ++ f x) why → Halts taken taken' (out ++ flat_map f xs) why
+  part_halts x taken' why within is halts =
+      let first = flat_map f (take i xs) in
+      let more = flat_map f (drop (i + 1) xs) in
+      let whole : first ++ (f x ++ more) ≡ flat_map f xs = sym (append_assoc first (f x) more) ∙ ap (λ (t : List ℕ). t ++ more) (next_line f xs i x within is) ∙ other_lines f xs (i + 1) in
+      halts_alike taken taken' (out ++ (first ++ (f x ++ more))) (out ++ flat_map f xs) why (ap (λ (t : List ℕ). out ++ t) whole)
+      (halts_then taken mid taken' out out1 first (f x ++ more) why pages (halts_longer mid taken' out1 (f x) more why halts))
+
+-- texts of lists, one after another
+pub flat_twice : {X : Type 0} (f : X → List ℕ) (lists : List (List X)) → flat_map (λ (xs : List X). flat_map f xs) lists ≡ flat_map f (flat_map (λ (xs : List X). xs) lists)
+flat_twice f [] = refl
+flat_twice f (xs ∷ lists) = ap (λ (t : List ℕ). flat_map f xs ++ t) (flat_twice f lists) ∙ sym (flat_map-append f xs (flat_map (λ ys. ys) lists))
+
 -- a text that was put before
 
 pub pages_before : (taken taken' : Option (List ℕ)) (out out1 out2 a b : List ℕ) → out1 ≡ out ++ a → Pages taken taken' out1 out2 b → Pages taken taken' out out2 (a ++ b)

@@ -85,6 +85,10 @@ product_lines asked k (r ∷ readings) = product_line asked k r ++ product_lines
 abbrev pub life_line : Track → List ℕ
 life_line t = codes "life " ++ (where_text t.event t.zone ++ (steps_text t.steps ++ codes "\n"))
 
+-- the lives of an event
+abbrev pub lives_text : List Track → List ℕ
+lives_text lives = flat_map life_line lives
+
 -- a line in breach, where the products that were taken have these numbers
 abbrev pub breach_line : List ℕ → Found → List ℕ
 breach_line numbers f = codes "breach " ++ (decimal (slice_index numbers (f.product - 1)) ++ (codes " " ++ (where_text f.event f.zone ++ (codes " " ++ (breach_name f.breach ++ codes "\n")))))

@@ -8,7 +8,7 @@ ghost use Rattle.product_decoder.specs.ReaderModel.{lives_of, found_of, gaps_fou
 ghost use Rattle.program_ends.specs.Steps.{IsCauseOf};
 ghost use Rattle.archive_report.specs.Pieces.{Halts, Pages, count_listed, end_text, rest_text};
 ghost use Rattle.archive_report.specs.Readings.{IsNumbered};
-ghost use Rattle.archive_report.specs.Report.{life_line, breach_line, findings_text, shown_text, last_line};
+ghost use Rattle.archive_report.specs.Report.{life_line, lives_text, breach_line, findings_text, shown_text, last_line};
 
 use crate::entries::tell_entries;
 use crate::lines::{put_breach, put_last, put_shown};
@@ -17,11 +17,43 @@ use crate::tally::Tally;
 use crate::words::Asked;
 use desk_traits::Sink;
 use hazard_types::{List, Text};
-use product_decoder::{Found, GapFound, Reader};
+use product_decoder::{EventLives, Found, GapFound, Reader};
 use program_ends::Stop;
 use std::alloc::Global;
 
-/// Tells the lives.
+/// Tells the lives of an event.
+fn tell_event<K: Sink>(
+    alloc: Global,
+    out: &mut Text,
+    output: &mut K,
+    event: &EventLives,
+) -> Result<(), Stop>
+    ensures told { OnOk result (Pages (K.taken output.old) (K.taken output.new) out.old out.new (lives_text event.now)) }
+    ensures halted { IfErr result (Halts (K.taken output.old) (K.taken output.new) (out.old ++ lives_text event.now)) }
+    ensures cause { IsCauseOf Stop.Write (K.faults output.old) (K.faults output.new) result }
+{
+    let lives = event.tracks(alloc)?;
+    tell_entries(alloc, out, output, lives.as_slice())
+}
+
+/// Tells the lives of these events, so that those of one alone stand at once.
+fn tell_events<K: Sink>(
+    alloc: Global,
+    out: &mut Text,
+    output: &mut K,
+    events: &[EventLives],
+) -> Result<(), Stop>
+    ensures told { OnOk result (Pages (K.taken output.old) (K.taken output.new) out.old out.new (flat_map lives_text events.now)) }
+    ensures halted { IfErr result (Halts (K.taken output.old) (K.taken output.new) (out.old ++ flat_map lives_text events.now)) }
+    ensures cause { IsCauseOf Stop.Write (K.faults output.old) (K.faults output.new) result }
+{
+    for event in events {
+        tell_event(alloc, out, output, event)?;
+    }
+    Ok(())
+}
+
+/// Tells the lives, event by event.
 fn tell_lives<K: Sink>(
     alloc: Global,
     out: &mut Text,
@@ -32,8 +64,8 @@ fn tell_lives<K: Sink>(
     ensures halted { IfErr result (Halts (K.taken output.old) (K.taken output.new) (out.old ++ flat_map life_line (lives_of reader.now.products))) }
     ensures cause { IsCauseOf Stop.Write (K.faults output.old) (K.faults output.new) result }
 {
-    let lives = reader.lives(alloc)?;
-    tell_entries(alloc, out, output, lives.as_slice())
+    let events = reader.lives_by_event(alloc)?;
+    tell_events(alloc, out, output, events.as_slice())
 }
 
 /// Tells the breaches. `numbers` are those of the products that were taken, among all.

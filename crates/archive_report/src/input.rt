@@ -30,7 +30,7 @@ pub fn tell_input<S: Source, K: Sink>(
     ensures write { IsCauseOf Stop.Write (K.faults output.old) (K.faults output.new) result }
 {
     let mut feed = Feed::new(alloc);
-    let mut buffer = [0u8; 4096];
+    let mut buffer = [0u8; 65_536];
     let mut total = 0usize;
     // Each turn but the last reads a byte or more, so the turns are no more than the bytes.
     for _turn in 0..limit + 1 {

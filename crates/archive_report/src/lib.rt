@@ -3,6 +3,7 @@
 #![tactic(auto)]
 
 mod archive;
+mod counts;
 mod entries;
 mod findings;
 mod input;

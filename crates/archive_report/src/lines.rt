@@ -1,29 +1,17 @@
 //! The lines of a report. Each is added to a text.
 ghost use Rattle.std.specs.Prelude.{◌≡◌, ◌++◌, length, OnOk};
-ghost use Rattle.product_decoder.specs.ReaderModel.{is_by, said_by};
+ghost use Rattle.product_decoder.specs.Decoded.{decoded_of};
 ghost use Rattle.archive_report.specs.Report.{title, counted_text, taken_line, faulty_line, product_line, life_line, breach_line, spaced, gap_line, shown_front, last_line};
-ghost use Rattle.archive_report.specs.Readings.{IsNumbered};
+ghost use Rattle.archive_report.specs.Readings.{said_of, IsNumbered};
 
+use crate::counts::count_by_frame;
 use crate::tally::Reading;
 use crate::texts::{breach_name, put_fault, put_stamp, put_steps, put_where};
 use crate::words::Asked;
 use hazard_types::{Minute, Oom, Text, hazard_text, put_number, put_wide};
-use product_decoder::{Decoded, Found, GapFound, Track, ZonePair, is_by};
-use product_frame::FrameFault;
+use product_decoder::{Found, GapFound, Track};
+use product_frame::{Frame, FrameFault};
 use std::alloc::Global;
-
-/// How many lines are of the office and class.
-fn count_by(asked: &Asked, pairs: &[ZonePair]) -> usize
-    ensures { result ≡ length (said_by asked.now.office asked.now.class pairs.now) }
-{
-    let mut count = 0;
-    for pair in pairs {
-        if is_by(&asked.office, &asked.class, pair) {
-            count += 1;
-        }
-    }
-    count
-}
 
 fn put_title(alloc: Global, out: &mut Text, number: usize) -> Result<(), Oom>
     ensures { OnOk result (out.new ≡ out.old ++ title number) }
@@ -43,19 +31,21 @@ fn put_counted(alloc: Global, out: &mut Text, minute: Minute, count: usize) -> R
     out.push(b'\n')
 }
 
+/// The line of a product without a fault.
 fn put_taken(
     alloc: Global,
     out: &mut Text,
     asked: &Asked,
     number: usize,
-    d: &Decoded,
+    frame: &Frame,
 ) -> Result<(), Oom>
-    ensures { OnOk result (out.new ≡ out.old ++ taken_line asked.now number d.now) }
+    ensures { OnOk result (out.new ≡ out.old ++ taken_line asked.now number (decoded_of frame.now)) }
 {
+    let count = count_by_frame(asked, frame)?;
     put_title(alloc, out, number)?;
-    out.extend(d.identifier.as_slice())?;
+    out.extend(frame.identifier.as_slice())?;
     out.push(b' ')?;
-    put_counted(alloc, out, d.issue, count_by(asked, d.pairs.as_slice()))
+    put_counted(alloc, out, frame.issue, count)
 }
 
 fn put_faulty(alloc: Global, out: &mut Text, number: usize, fault: FrameFault) -> Result<(), Oom>
@@ -75,10 +65,10 @@ pub fn put_product(
     number: usize,
     reading: &Reading,
 ) -> Result<(), Oom>
-    ensures { OnOk result (out.new ≡ out.old ++ product_line asked.now number reading.now) }
+    ensures { OnOk result (out.new ≡ out.old ++ product_line asked.now number (said_of reading.now)) }
 {
     match reading {
-        Ok(d) => put_taken(alloc, out, asked, number, d),
+        Ok(frame) => put_taken(alloc, out, asked, number, frame),
         Err(fault) => put_faulty(alloc, out, number, *fault),
     }
 }

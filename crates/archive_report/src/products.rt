@@ -4,21 +4,24 @@ ghost use Rattle.product_decoder.specs.Decoded.{decode};
 ghost use Rattle.product_decoder.specs.Feeding.{GivesNone};
 ghost use Rattle.program_ends.specs.Steps.{IsCauseOf};
 ghost use Rattle.archive_report.specs.Pieces.{IsTally, TellsNext, TellsEach, TellsPiece, HaltsPiece};
+ghost use Rattle.archive_report.specs.Readings.{said_of};
 
 use crate::lines::put_product;
 use crate::tally::{Reading, Tally};
 use crate::words::Asked;
 use desk_traits::{Failed, Sink, write_whole};
 use hazard_types::{List, Oom, Or, Text};
-use product_decoder::{Feed, decode};
+use product_decoder::Feed;
+use product_frame::read_frame;
 use program_ends::Stop;
 use std::alloc::Global;
 
+/// What is read of a product: its frame, or its first fault.
 fn read_product(alloc: Global, bytes: &[u8]) -> Result<Reading, Oom>
-    ensures { IfOk result (λ reading. reading ≡ decode bytes.now) }
+    ensures { IfOk result (λ reading. said_of reading ≡ decode bytes.now) }
 {
-    match decode(alloc, bytes) {
-        Ok(d) => Ok(Ok(d)),
+    match read_frame(alloc, bytes) {
+        Ok(frame) => Ok(Ok(frame)),
         Err(Or::No(fault)) => Ok(Err(fault)),
         Err(Or::OutOfMemory) => Err(Oom),
     }

@@ -1,15 +1,16 @@
 //! What the products of an input come to.
 ghost use Rattle.std.specs.Prelude.{◌≡◌, ◌<◌, ◌≤◌, OnOk, [], length};
 ghost use Rattle.archive_report.specs.Pieces.{IsTally, Counts};
+ghost use Rattle.archive_report.specs.Readings.{said_of};
 
 use crate::words::Asked;
 use hazard_types::{List, Oom};
-use product_decoder::{Decoded, Reader};
-use product_frame::FrameFault;
+use product_decoder::Reader;
+use product_frame::{Frame, FrameFault};
 use std::alloc::Global;
 
-/// What a product says, or its first fault.
-pub type Reading = Result<Decoded, FrameFault>;
+/// What is read of a product: its frame, or its first fault.
+pub type Reading = Result<Frame, FrameFault>;
 
 /// What the products so far come to.
 #[derive(Drop)]
@@ -41,16 +42,16 @@ impl Tally {
         }
     }
 
-    /// Takes what the next product says.
+    /// Takes what was read of the next product.
     pub fn take(&mut self, alloc: Global, asked: &Asked, reading: &Reading) -> Result<(), Oom>
         requires tally { IsTally asked.now self.old }
         requires few { self.old.count < 2000000000 }
         ensures tally { OnOk result (IsTally asked.now self.new) }
-        ensures counts { OnOk result (Counts asked.now reading.now self.old self.new) }
+        ensures counts { OnOk result (Counts asked.now (said_of reading.now) self.old self.new) }
     {
         match reading {
-            Ok(d) => {
-                self.reader.take(alloc, d)?;
+            Ok(frame) => {
+                self.reader.take_frame(alloc, frame)?;
                 self.numbers.push(self.count + 1)?;
             }
             Err(_fault) => self.faults += 1,

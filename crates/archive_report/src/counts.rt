@@ -1,0 +1,60 @@
+//! How many lines of an office and class a product has, counted for each zone of their segment.
+ghost use Rattle.std.specs.Prelude.{◌≡◌, ◌+◌, ◌*◌, length, filter, IfOk};
+ghost use Rattle.product_decoder.specs.Decoded.{decoded_of};
+ghost use Rattle.product_decoder.specs.FrameLines.{is_pair_by};
+ghost use Rattle.product_decoder.specs.ReaderModel.{said_by};
+ghost use Rattle.archive_report.specs.Readings.{count_in};
+
+use crate::words::Asked;
+use hazard_types::Oom;
+use product_decoder::is_vtec_by;
+use product_frame::{Frame, FrameSegment, Pair};
+
+/// How many pairs are of the office and class.
+fn count_by(asked: &Asked, pairs: &[Pair]) -> usize
+    ensures { result ≡ length (filter (is_pair_by asked.now.office asked.now.class) pairs.now) }
+{
+    let mut count = 0;
+    for pair in pairs {
+        if is_vtec_by(&asked.office, &asked.class, &pair.vtec) {
+            count += 1;
+        }
+    }
+    count
+}
+
+/// A count and one of so many pairs for each zone. It never wraps: zones and pairs of a text that memory holds are far too few.
+fn count_with(count: usize, zones: usize, pairs: usize) -> Result<usize, Oom>
+    ensures { IfOk result (λ n. n ≡ count + zones * pairs) }
+{
+    let Some(more) = zones.checked_mul(pairs) else {
+        return Err(Oom);
+    };
+    match count.checked_add(more) {
+        Some(count) => Ok(count),
+        None => Err(Oom),
+    }
+}
+
+/// How many lines of the office and class segments have.
+fn count_in(asked: &Asked, segments: &[FrameSegment]) -> Result<usize, Oom>
+    ensures { IfOk result (λ count. count ≡ count_in asked.now segments.now) }
+{
+    let mut count = 0;
+    for segment in segments {
+        let pairs = count_by(asked, segment.pairs.as_slice());
+        count = count_with(count, segment.zones.len(), pairs)?;
+    }
+    Ok(count)
+}
+
+/// How many lines of the office and class a frame has.
+///
+/// # Errors
+///
+/// Out of memory where the count would wrap, which it never does.
+pub fn count_by_frame(asked: &Asked, frame: &Frame) -> Result<usize, Oom>
+    ensures { IfOk result (λ count. count ≡ length (said_by asked.now.office asked.now.class (decoded_of frame.now).pairs)) }
+{
+    count_in(asked, frame.segments.as_slice())
+}
