@@ -171,6 +171,9 @@ pages_before taken taken' out out1 out2 a b is p = record {
   whole = p.whole ∙ ap (λ (t : List ℕ). t ++ b) is ∙ append_assoc out a b;
 }
 
+pub pages_line : (taken taken' : Option (List ℕ)) (out out1 out2 a : List ℕ) → out1 ≡ out ++ a → Pages taken taken' out1 out2 [] → Pages taken taken' out out2 a
+pages_line taken taken' out out1 out2 a is p = record { written = p.written; adds = p.adds; whole = p.whole ∙ append-nil out1 ∙ is }
+
 pub halts_before : (taken taken' : Option (List ℕ)) (out out1 a b : List ℕ) (why : Stop) → out1 ≡ out ++ a → Halts taken taken' (out1 ++ b) why → Halts taken taken' (out ++ (a ++ b)) why
 halts_before taken taken' out out1 a b why is h = halts_alike taken taken' (out1 ++ b) (out ++ (a ++ b)) why (ap (λ (t : List ℕ). t ++ b) is ∙ append_assoc out a b) h
 

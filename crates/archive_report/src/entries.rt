@@ -1,14 +1,14 @@
-//! Lines of a report that stand for themselves: lives, gaps and rows.
+//! Lines of a report that stand for themselves: gaps and rows.
 ghost use Rattle.std.specs.Prelude.{◌≡◌, ◌++◌, ℕ, List, flat_map, OnOk, IfErr};
 ghost use Rattle.program_ends.specs.Steps.{IsCauseOf};
 ghost use Rattle.archive_report.specs.Pieces.{Halts, Pages};
 
-use crate::lines::{put_gap, put_life};
+use crate::lines::put_gap;
 use crate::page::turn;
 use board_text::put_row;
 use desk_traits::Sink;
 use hazard_types::{Oom, Row, Text};
-use product_decoder::{GapFound, Track};
+use product_decoder::GapFound;
 use program_ends::Stop;
 use std::alloc::Global;
 
@@ -24,16 +24,6 @@ pub trait Entry {
     /// Out of memory: the text may then end with the beginning of the line.
     fn put(&self, alloc: Global, out: &mut Text) -> Result<(), Oom>
         ensures { OnOk result (out.new ≡ out.old ++ line self.now) };
-}
-
-impl Entry for Track {
-    ghost use Rattle.archive_report.specs.Report.{life_line};
-
-    ghost line = { life_line };
-
-    fn put(&self, alloc: Global, out: &mut Text) -> Result<(), Oom> {
-        put_life(alloc, out, self)
-    }
 }
 
 impl Entry for GapFound {

@@ -4,7 +4,7 @@ ghost use Rattle.std.specs.List.{All};
 ghost use Rattle.event_life.specs.Products.{rows_of};
 ghost use Rattle.event_life.specs.Shown.{shown_at};
 ghost use Rattle.desk_traits.specs.Streams.{Adds};
-ghost use Rattle.product_decoder.specs.ReaderModel.{lives_of, found_of, gaps_found};
+ghost use Rattle.product_decoder.specs.ReaderModel.{lives_of, found_of};
 ghost use Rattle.program_ends.specs.Steps.{IsCauseOf};
 ghost use Rattle.archive_report.specs.Pieces.{Halts, Pages, count_listed, end_text, rest_text};
 ghost use Rattle.archive_report.specs.Readings.{IsNumbered};
@@ -12,14 +12,31 @@ ghost use Rattle.archive_report.specs.Report.{life_line, lives_text, breach_line
 
 use crate::entries::tell_entries;
 use crate::lines::{put_breach, put_last, put_shown};
+use crate::lives::LastLife;
 use crate::page::{flush, turn};
 use crate::tally::Tally;
 use crate::words::Asked;
 use desk_traits::Sink;
 use hazard_types::{List, Text};
-use product_decoder::{EventLives, Found, GapFound, Reader};
+use product_decoder::{EventLives, Found, GapFound, Reader, Track};
 use program_ends::Stop;
 use std::alloc::Global;
+
+/// Tells a life, which becomes the last.
+fn tell_life<K: Sink>(
+    alloc: Global,
+    out: &mut Text,
+    output: &mut K,
+    last: &mut LastLife,
+    life: &Track,
+) -> Result<(), Stop>
+    ensures told { OnOk result (Pages (K.taken output.old) (K.taken output.new) out.old out.new (life_line life.now)) }
+    ensures halted { IfErr result (Halts (K.taken output.old) (K.taken output.new) (out.old ++ life_line life.now)) }
+    ensures cause { IsCauseOf Stop.Write (K.faults output.old) (K.faults output.new) result }
+{
+    last.put(alloc, out, life)?;
+    turn(alloc, out, output)
+}
 
 /// Tells the lives of an event.
 fn tell_event<K: Sink>(
@@ -33,7 +50,11 @@ fn tell_event<K: Sink>(
     ensures cause { IsCauseOf Stop.Write (K.faults output.old) (K.faults output.new) result }
 {
     let lives = event.tracks(alloc)?;
-    tell_entries(alloc, out, output, lives.as_slice())
+    let mut last = LastLife::none(alloc);
+    for life in lives.as_slice() {
+        tell_life(alloc, out, output, &mut last, life)?;
+    }
+    Ok(())
 }
 
 /// Tells the lives of these events, so that those of one alone stand at once.

@@ -1,5 +1,5 @@
 //! An input is read piece by piece.
-ghost use Rattle.std.specs.Prelude.{◌≡◌, ◌≤◌};
+ghost use Rattle.std.specs.Prelude.{◌≤◌};
 ghost use Rattle.program_ends.specs.Steps.{IsCauseOf};
 ghost use Rattle.program_ends.specs.Lines.{most_bytes};
 ghost use Rattle.archive_report.specs.Pieces.{IsTally, IsFresh, TellsTo, ReadsAll};

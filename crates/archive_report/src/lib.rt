@@ -9,6 +9,7 @@ mod findings;
 mod input;
 mod laws;
 mod lines;
+mod lives;
 mod page;
 mod products;
 mod report;

@@ -1,15 +1,15 @@
 //! The lines of a report. Each is added to a text.
 ghost use Rattle.std.specs.Prelude.{◌≡◌, ◌++◌, length, OnOk};
 ghost use Rattle.product_decoder.specs.Decoded.{decoded_of};
-ghost use Rattle.archive_report.specs.Report.{title, counted_text, taken_line, faulty_line, product_line, life_line, breach_line, spaced, gap_line, shown_front, last_line};
+ghost use Rattle.archive_report.specs.Report.{title, counted_text, taken_line, faulty_line, product_line, breach_line, spaced, gap_line, shown_front, last_line};
 ghost use Rattle.archive_report.specs.Readings.{said_of, IsNumbered};
 
 use crate::counts::count_by_frame;
 use crate::tally::Reading;
-use crate::texts::{breach_name, put_fault, put_stamp, put_steps, put_where};
+use crate::texts::{breach_name, put_fault, put_stamp, put_where};
 use crate::words::Asked;
 use hazard_types::{Minute, Oom, Text, hazard_text, put_number, put_wide};
-use product_decoder::{Found, GapFound, Track};
+use product_decoder::{Found, GapFound};
 use product_frame::{Frame, FrameFault};
 use std::alloc::Global;
 
@@ -71,16 +71,6 @@ pub fn put_product(
         Ok(frame) => put_taken(alloc, out, asked, number, frame),
         Err(fault) => put_faulty(alloc, out, number, *fault),
     }
-}
-
-/// The line of a life.
-pub fn put_life(alloc: Global, out: &mut Text, life: &Track) -> Result<(), Oom>
-    ensures { OnOk result (out.new ≡ out.old ++ life_line life.now) }
-{
-    out.extend(b"life ")?;
-    put_where(alloc, out, &life.event, &life.zone)?;
-    put_steps(out, life.steps.as_slice())?;
-    out.push(b'\n')
 }
 
 /// The line of a breach. `numbers` are those of the products that were taken, among all.

@@ -1,5 +1,5 @@
 //! The products of an input are taken as they come, and their lines told.
-ghost use Rattle.std.specs.Prelude.{◌≡◌, ◌<◌, ◌+◌, true, false, length, Ok, [], IfOk, OnOk, IfErr};
+ghost use Rattle.std.specs.Prelude.{◌≡◌, ◌<◌, ◌+◌, true, false, length, Ok, IfOk, OnOk, IfErr};
 ghost use Rattle.product_decoder.specs.Decoded.{decode};
 ghost use Rattle.product_decoder.specs.Feeding.{GivesNone};
 ghost use Rattle.program_ends.specs.Steps.{IsCauseOf};

@@ -1,5 +1,5 @@
 //! What the products of an input come to.
-ghost use Rattle.std.specs.Prelude.{◌≡◌, ◌<◌, ◌≤◌, OnOk, [], length};
+ghost use Rattle.std.specs.Prelude.{◌≡◌, ◌<◌, OnOk, []};
 ghost use Rattle.archive_report.specs.Pieces.{IsTally, Counts};
 ghost use Rattle.archive_report.specs.Readings.{said_of};
 

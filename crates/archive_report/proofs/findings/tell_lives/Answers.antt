@@ -1,6 +1,5 @@
 -- The lives of the events are all lives.
-use Rattle.std.proofs.Common.{◌∙◌, ◌++◌, ◌≡◌, ℕ, List, flat_map, ap, subst, IfErr, OnOk}
-use Rattle.product_decoder.specs.ReaderModel.{lives_of}
+use Rattle.std.proofs.Common.{◌∙◌, ◌++◌, ℕ, List, flat_map, ap, subst, IfErr, OnOk}
 use Rattle.product_decoder.specs.declared.types.Track.{Track}
 use Rattle.archive_report.specs.Pieces.{Halts, Pages}
 use Rattle.archive_report.specs.Report.{life_line, lives_text}
