@@ -1,7 +1,5 @@
 //! Laws of the statistics.
 ghost use Rattle.std.specs.Prelude.{◌≡◌, ◌≤◌, ◌↔◌, ℕ, List, length, take, true};
-ghost use Rattle.hazard_types.specs.Places.{Place};
-ghost use Rattle.hazard_types.specs.declared.hazard.Hazard.{Hazard};
 ghost use Rattle.event_life.specs.Products.{Product, rows_of};
 ghost use Rattle.stats_report.specs.Adding.{sum_where};
 ghost use Rattle.stats_report.specs.Minutes.{greatest, governing};

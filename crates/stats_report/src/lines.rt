@@ -1,7 +1,7 @@
 //! The lines of the statistics. Each is added to a text, or, when memory runs out, its beginning.
 ghost use Rattle.std.specs.Prelude.{◌≡◌, ◌++◌, IfOk, OnOk};
 ghost use Rattle.stats_report.specs.Report.{named, total_text, faults_text, stats_text};
-ghost use Rattle.stats_report.specs.Told.{hazard_told, zone_told, hazards_told, zones_told, all_told};
+ghost use Rattle.stats_report.specs.Told.{hazard_told, zone_told, hazards_told, zones_told};
 ghost use Rattle.stats_report.specs.Tallies.{IsKept};
 
 use crate::opened::Opened;

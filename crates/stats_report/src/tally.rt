@@ -1,6 +1,5 @@
 //! What the products of an input come to.
-ghost use Rattle.std.specs.Prelude.{◌≡◌, ◌<◌, ◌++◌, ◌∷◌, [], OnOk};
-ghost use Rattle.product_decoder.specs.ReaderModel.{product_of};
+ghost use Rattle.std.specs.Prelude.{◌≡◌, ◌<◌, [], OnOk};
 ghost use Rattle.stats_report.specs.Tallies.{IsKept, IsFor, Counts, TakesProduct};
 
 use crate::opened::Opened;
