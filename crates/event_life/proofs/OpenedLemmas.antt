@@ -1,10 +1,11 @@
 -- The events that lines open: in order those of the NEW lines, whatever else these lines are.
 use Rattle.std.proofs.Common.{◌≡◌, ◌↔◌, inl, inr, ◌&&◌, not, ℕ, List, [], ◌∷◌, ◌++◌, Bool, true, false, Option, Ordering, Less, Equal, Greater, refl, sym, ap, subst, ◌∙◌, cond}
+use Rattle.std.specs.BTreeSet.{insert_key}
 use Rattle.std.specs.Cmp.{IsTotalOrder}
 use Rattle.std.specs.List.{AllByRecursion, Contains, list_all}
 use Rattle.std.specs.List.Sorted.{IsStrictlySortedBy}
 use Rattle.std.specs.Option.{is_none}
-use Rattle.std.specs.Ordering.{ordering_reverse}
+use Rattle.std.specs.Ordering.{match_ordering, ordering_reverse}
 use Rattle.std.proofs.lemmas.Bool.{and_parts}
 use Rattle.std.proofs.lemmas.Cmp.{tied_itself}
 use Rattle.hazard_types.specs.Orders.{by_event}
@@ -50,6 +51,17 @@ module _ {K : Type 0} {R : K → K → Ordering} (order : IsTotalOrder R) where
       (λ z h. later_in x y z xs ys same up.0 h (there z (inr h)))
       (λ z h. later_in y x z ys xs (sym same) up_too.0 h (back z (inr h))) in
       ap (λ (z : K). z ∷ xs) same ∙ ap (λ (zs : List K). y ∷ zs) rest
+
+-- an event comes among those of a set as it does into a list in order
+
+key_placed : (o : Ordering) (e d : Event) (events tail behind : List Event) → tail ≡ behind → match_ordering o (e ∷ d ∷ events) (d ∷ events) (d ∷ tail) ≡ event_placed o e d events behind
+key_placed Less e d events tail behind later = refl
+key_placed Equal e d events tail behind later = refl
+key_placed Greater e d events tail behind later = ap (λ (es : List Event). d ∷ es) later
+
+pub key-added : (e : Event) (events : List Event) → insert_key by_event events e ≡ add_event e events
+key-added e [] = refl
+key-added e (d ∷ events) = key_placed (by_event e d) e d events (insert_key by_event events e) (add_event e events) (key-added e events)
 
 -- an event that is added is there, and those before it stay
 

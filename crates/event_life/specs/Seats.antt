@@ -1,7 +1,6 @@
 -- Words of the code that judges products: where a row belongs, and which lines count where a higher row is looked for.
 use Rattle.std.specs.Prelude.{◌&&◌, ◌||◌, not, ℕ, ◌<◌, ◌≤◌, Bool, true, List, length, slice_set, Option, Some, None, Result, Ok, Err, is_none}
 use Rattle.std.specs.List.{insert, list_any}
-use Rattle.hazard_types.specs.declared.hazard.Event.{Event}
 use Rattle.hazard_types.specs.declared.line.Line.{Line}
 use Rattle.hazard_types.specs.declared.line.Row.{Row}
 use Rattle.event_life.specs.Products.{is_routine, is_upgrade, speaks_of, is_second, life_at, around_but_higher}
@@ -27,12 +26,3 @@ is_upgraded lines r = list_any (λ (line : Line). is_upgrade line.action && spea
 -- the row, ended where it is so
 abbrev pub end_if_upgraded : List Line → Row → Row
 end_if_upgraded lines r = record { event = r.event; zone = r.zone; period = r.period; flood = r.flood; ended = is_upgraded lines r || r.ended }
-
--- the events with the event before what stands at a place, or as they are where it stands among them
-abbrev pub event_seated : Option ℕ → Event → List Event → List Event
-event_seated None e events = events
-event_seated (Some i) e events = insert events i e
-
-abbrev pub IsEventSeat : Option ℕ → List Event → Type 0
-IsEventSeat None events = Unit {0}
-IsEventSeat (Some i) events = i ≤ length events

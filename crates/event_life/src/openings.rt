@@ -4,14 +4,12 @@ ghost use Rattle.std.specs.BTreeMap.{insert_entry};
 ghost use Rattle.event_life.specs.Lasts.{series_of, by_series, wanted_in, gap_in};
 ghost use Rattle.event_life.specs.Openings.{add_event, opened_by, gaps_from};
 ghost use Rattle.event_life.specs.Products.{is_new, lawful_of};
-ghost use Rattle.event_life.specs.Seats.{event_seated, IsEventSeat};
 
 use crate::life::Breach;
 use crate::putting::is_lawful;
 use hazard_types::{Action, Event, Hazard, Line, List, Oom};
 use std::alloc::Global;
-use std::cmp::Ordering;
-use std::collections::BTreeMap;
+use std::collections::{BTreeMap, BTreeSet};
 
 /// A number was opened where another was wanted.
 #[derive(Clone, Copy, Debug, PartialEq, Eq)]
@@ -22,28 +20,11 @@ pub struct Gap {
     pub wanted: u32,
 }
 
-/// The place where an event belongs in a list in order of events, or None where it stands there.
-fn seat_of(events: &[Event], event: &Event) -> Option<usize>
-    ensures seat { IsEventSeat result events.now }
-    ensures seated { event_seated result event.now events.now ≡ add_event event.now events.now }
+/// Adds an event to a set.
+fn add_event(events: &mut BTreeSet<Event>, event: &Event) -> Result<(), Oom>
+    ensures { OnOk result (events.new.keys ≡ add_event event.now events.old.keys) }
 {
-    for (place, other) in events.iter().enumerate() {
-        match event.order(other) {
-            Ordering::Less => return Some(place),
-            Ordering::Equal => return None,
-            Ordering::Greater => {}
-        }
-    }
-    Some(events.len())
-}
-
-/// Adds an event to a list in order of events, where it stands once.
-fn add_event(events: &mut Vec<Event>, event: &Event) -> Result<(), Oom>
-    ensures { OnOk result (events.new.items ≡ add_event event.now events.old.items) }
-{
-    if let Some(place) = seat_of(events, event) {
-        events.insert(place, *event)?;
-    }
+    events.insert(*event)?;
     Ok(())
 }
 
@@ -58,13 +39,14 @@ fn is_new(action: &Action) -> bool
 pub fn opened_by(alloc: Global, judged: &[(Line, Option<Breach>)]) -> Result<List<Event>, Oom>
     ensures { IfOk result (λ events. events ≡ opened_by (lawful_of judged.now)) }
 {
-    let mut events = Vec::new(alloc);
+    let mut events = BTreeSet::new(alloc);
     for place in (0..judged.len()).rev() {
         let found = &judged[place];
         if is_lawful(found) && is_new(&found.0.action) {
             add_event(&mut events, &found.0.event)?;
         }
     }
+    let events: Vec<Event> = events.iter().copied().collect(alloc)?;
     Ok(List::from_vec(events))
 }
 

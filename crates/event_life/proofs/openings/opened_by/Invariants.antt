@@ -5,4 +5,4 @@ use Rattle.event_life.proofs.openings.opened_by.Given as goal
 
 -- the events are those of the lines from this place on
 abbrev pub invariant-loop-place : goal.invariant-loop-place
-invariant-loop-place l = l.events.items ≡ opened_by (lawful_of (drop l.place l.judged))
+invariant-loop-place l = l.events.keys ≡ opened_by (lawful_of (drop l.place l.judged))
