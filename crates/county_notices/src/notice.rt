@@ -1,11 +1,10 @@
 //! The text of a notice.
-ghost use Rattle.std.specs.Prelude.{◌≡◌, ◌≤◌, ◌++◌, length, map, IfOk, IsTrue};
+ghost use Rattle.std.specs.Prelude.{◌≡◌, ◌≤◌, map, IfOk, IsTrue};
 ghost use Rattle.std.specs.List.{All};
 ghost use Rattle.hazard_types.specs.Characters.{is_office};
 ghost use Rattle.event_life.specs.Printed.{printed_end};
 ghost use Rattle.product_frame.specs.Frame.{FrameOf};
 ghost use Rattle.product_frame.specs.Splitting.{IsOneProduct};
-ghost use Rattle.segmenter.specs.Segments.{AreSegments};
 ghost use Rattle.county_notices.specs.Notices.{watch_name, heading_of, identifier_of, pair_of, segment_of, frame_of, block_of, body_of, text_of, IsPlainLine, IsPlainSegment, IsNotice};
 
 use crate::issuer::Issuer;

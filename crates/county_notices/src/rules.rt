@@ -1,10 +1,10 @@
 //! Why a command is refused.
-ghost use Rattle.std.specs.Prelude.{◌≡◌, ◌≤◌, find, option_map};
+ghost use Rattle.std.specs.Prelude.{◌≡◌, find, option_map};
 ghost use Rattle.event_life.specs.Products.{has_rows};
 ghost use Rattle.hazard_board.specs.Consistent.{IsConsistent};
 ghost use Rattle.action_planner.specs.Fitting.{are_zones};
 ghost use Rattle.action_planner.specs.Offences.{holds};
-ghost use Rattle.county_notices.specs.Commands.{broken_with, broken_by_itself, broken_by_rows, time_out, time_back, bad_zones, is_public, no_county, not_county, has_bad_end, bad_end, held_by, county_left, county_gone, number_used, number_held, none_open, no_watch, was_left, is_gone, left_in, gone_in, left_before, not_live};
+ghost use Rattle.county_notices.specs.Commands.{broken_with, broken_by_itself, broken_by_rows, time_out, time_back, bad_zones, is_public, not_county, has_bad_end, bad_end, held_by, number_used, number_held, none_open, no_watch, was_left, is_gone, left_in, gone_in, left_before, not_live};
 ghost use Rattle.county_notices.specs.Lines.{new_event};
 
 use crate::lines::{new_event, open_event};

@@ -1,5 +1,5 @@
 //! The top call.
-ghost use Rattle.std.specs.Prelude.{◌≡◌, ◌⊎◌, ◌≤◌, ◌<◌, ◌+◌, ◌^◌, IsTrue};
+ghost use Rattle.std.specs.Prelude.{◌⊎◌, ◌≤◌, ◌<◌, ◌+◌, ◌^◌, IsTrue};
 ghost use Rattle.hazard_types.specs.Characters.{is_office};
 ghost use Rattle.program_ends.specs.Words.{words_behind};
 ghost use Rattle.county_notices.specs.NoticeRuns.{DoesAsAsked, IsNoticeRun};

@@ -1,5 +1,5 @@
 //! The command `upgrade`.
-ghost use Rattle.std.specs.Prelude.{◌≡◌, ◌⊎◌};
+ghost use Rattle.std.specs.Prelude.{◌⊎◌};
 ghost use Rattle.desk_commands.specs.Opening.{IsUnopenedRun};
 ghost use Rattle.desk_commands.specs.Commands.{IsUpgradeRun, TellsUpgrade};
 

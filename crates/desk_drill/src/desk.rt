@@ -3,7 +3,7 @@ ghost use Rattle.std.specs.Prelude.{◌≡◌, ◌<◌, ◌≤◌, ◌++◌, ◌
 ghost use Rattle.request_json.specs.Formed.{IsIssuePart};
 ghost use Rattle.office_core.specs.Agreement.{ReadsAsTheBoard, texts_of};
 ghost use Rattle.office_core.specs.Prepared.{MayCommit};
-ghost use Rattle.office_core.specs.State.{last_number, said_by};
+ghost use Rattle.office_core.specs.State.{last_number};
 ghost use Rattle.office_core.specs.Step.{sent_reply, state_after};
 ghost use Rattle.desk_drill.specs.Keeping.{HasReadOne, IsKept, drilled_of, issued_by};
 ghost use Rattle.desk_drill.specs.Office.{Answers, first_drilled};

@@ -1,5 +1,5 @@
 //! A law of the definitions.
-ghost use Rattle.std.specs.Prelude.{◌≡◌, ℕ};
+ghost use Rattle.std.specs.Prelude.{◌≡◌};
 ghost use Rattle.hazard_types.specs.declared.codes.Class.TheVariants as classes;
 ghost use Rattle.office_core.specs.Agreement.{ReadsAsTheBoard, texts_of};
 ghost use Rattle.office_core.specs.State.{State};

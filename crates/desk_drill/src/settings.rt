@@ -1,5 +1,5 @@
 //! The settings of a drill.
-ghost use Rattle.std.specs.Prelude.{◌≡◌, ◌∷◌, [], IfOk, map};
+ghost use Rattle.std.specs.Prelude.{◌≡◌, IfOk, map};
 ghost use Rattle.desk_settings.specs.AreSettings.{HasForms, training_headings};
 ghost use Rattle.desk_drill.specs.Office.{drill_desks, drill_settings, drill_zones, plain};
 

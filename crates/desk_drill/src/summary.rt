@@ -1,6 +1,5 @@
 //! The summary of a drill.
 ghost use Rattle.std.specs.Prelude.{◌≡◌, ◌++◌, IfOk, OnOk};
-ghost use Rattle.office_core.specs.Agreement.{texts_of};
 ghost use Rattle.desk_drill.specs.Keeping.{IsKept, drilled_of};
 ghost use Rattle.desk_drill.specs.Tellings.{count_line, event_lines, request_lines, summary};
 

@@ -1,5 +1,5 @@
 //! Laws of the schedule: whatever is lost, late or comes again.
-ghost use Rattle.std.specs.Prelude.{◌≡◌, ◌≤◌, ℕ, List, take};
+ghost use Rattle.std.specs.Prelude.{◌≤◌, ℕ, List};
 ghost use Rattle.hazard_types.specs.declared.codes.Class.{Class};
 ghost use Rattle.follow_core.specs.Hearing.{place_of};
 ghost use Rattle.follow_core.specs.Schedule.{World, Event, run, begun, HasLostNothing};

@@ -1,5 +1,5 @@
 //! What the fields of a head say of the answer's length and end.
-ghost use Rattle.std.specs.Prelude.{◌≡◌, ◌≤◌, ◌<◌, ◌^◌, Some, None, IfSome, length, map, All, nat_le, if◌then◌else◌};
+ghost use Rattle.std.specs.Prelude.{◌≡◌, ◌≤◌, ◌<◌, None, IfSome, length, map, All};
 ghost use Rattle.httparse.specs.Spans.{IsHeaderWithin, header_bytes};
 ghost use Rattle.follow_links.specs.Answers.{is_named, same_letters, has_field, length_in, asks_to_close, closes};
 

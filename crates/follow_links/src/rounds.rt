@@ -1,5 +1,5 @@
 //! Rounds of questions, over one link after another.
-ghost use Rattle.std.specs.Prelude.{◌≡◌, ◌<◌, ◌≤◌, ◌+◌, ◌^◌, length};
+ghost use Rattle.std.specs.Prelude.{◌≡◌, ◌<◌, ◌+◌, ◌^◌};
 ghost use Rattle.follow_links.specs.Rounds.{Courses};
 
 use crate::answers::ROOM;

@@ -1,10 +1,9 @@
 //! The top call.
-ghost use Rattle.std.specs.Prelude.{◌≡◌, ◌⊎◌, ◌<◌, ◌+◌, ◌^◌, IfOk, [], length};
+ghost use Rattle.std.specs.Prelude.{◌≡◌, ◌⊎◌, ◌<◌, ◌+◌, ◌^◌, IfOk};
 ghost use Rattle.event_life.specs.Products.{rows_of};
 ghost use Rattle.event_life.specs.Shown.{shown_at};
 ghost use Rattle.follow_core.specs.Hearing.{place_of};
 ghost use Rattle.program_ends.specs.Words.{words_behind};
-ghost use Rattle.follow_links.specs.Rounds.{Courses};
 ghost use Rattle.follow_links.specs.Runs.{IsToldAt, Follows, IsFollowed, IsUnbegun, text_of, status_of};
 
 use crate::rounds::{Stop, follow_rounds};

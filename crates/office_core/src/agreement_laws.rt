@@ -1,5 +1,5 @@
 //! Laws: the texts of an office agree with its board at first, and after each product.
-ghost use Rattle.std.specs.Prelude.{◌≡◌, ◌≤◌, ℕ, List, [], Option, None};
+ghost use Rattle.std.specs.Prelude.{◌≡◌, ◌≤◌, List, [], Option, None};
 ghost use Rattle.hazard_types.specs.declared.codes.Class.{Class};
 ghost use Rattle.hazard_types.specs.declared.request.Edition.{Edition};
 ghost use Rattle.hazard_types.specs.declared.request.Entry.{Entry};

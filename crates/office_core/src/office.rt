@@ -1,14 +1,9 @@
 //! The office.
 ghost use Rattle.std.specs.Prelude.{◌≡◌, ◌≤◌, IfOk, true, length, map, option_map};
 ghost use Rattle.desk_settings.specs.AreSettings.{HasForms};
-ghost use Rattle.hazard_types.specs.declared.request.Reply.{Reply as Answered};
 ghost use Rattle.product_template.specs.Bodies.{is_training};
-ghost use Rattle.hazard_board.specs.Consistent.{IsConsistent};
-ghost use Rattle.office_core.specs.Agreement.{ReadsAsTheBoard};
 ghost use Rattle.office_core.specs.Histories.{MayFollow};
-ghost use Rattle.office_core.specs.Prepared.{MayCommit};
 ghost use Rattle.office_core.specs.State.{first_state, in_edition, said_by, unheard};
-ghost use Rattle.office_core.specs.Step.{state_after};
 
 use crate::agreement_laws::offices_begin_in_agreement;
 use crate::heard::{Heard, Said};

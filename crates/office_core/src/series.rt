@@ -1,5 +1,5 @@
 //! What a correction looks back at.
-ghost use Rattle.std.specs.Prelude.{◌≡◌, ◌≤◌, ◌<◌};
+ghost use Rattle.std.specs.Prelude.{◌≡◌, ◌≤◌};
 ghost use Rattle.office_core.specs.Making.{corrects, counted_as, last_of_category, letters_of, original_of, same_category};
 
 use hazard_types::{Category, Sent};

@@ -1,11 +1,6 @@
 //! The bodies of entries, written and read.
-ghost use Rattle.std.specs.Prelude.{◌≡◌, ◌++◌, ◌∷◌, IfOk, IfSome, MatchOption, option_map};
-ghost use Rattle.hazard_types.specs.Calendar.{stamp_of};
-ghost use Rattle.request_json.specs.Canonical.{asked_text};
-ghost use Rattle.request_json.specs.Formed.{HasForm};
-ghost use Rattle.office_core.specs.Histories.{Entered};
-ghost use Rattle.office_core.specs.Prepared.{Readied};
-ghost use Rattle.office_journal.specs.Bodies.{asked_by, carried, entry_body};
+ghost use Rattle.std.specs.Prelude.{◌≡◌, IfOk};
+ghost use Rattle.office_journal.specs.Bodies.{entry_body};
 
 use hazard_types::{Desk, Edition, Oom, Request, Text, stamp};
 use office_core::Prepared;

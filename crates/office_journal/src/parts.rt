@@ -1,6 +1,5 @@
 //! The parts of an entry's body, read.
-ghost use Rattle.std.specs.Prelude.{◌≡◌, ◌≢◌, ◌≤◌, ◌<◌, ◌+◌, List, ℕ, Some, None, Ok, length, position, IfOk, IfSome, OnSome};
-ghost use Rattle.hazard_types.specs.declared.refusal.Refusal.{Refusal as Refused};
+ghost use Rattle.std.specs.Prelude.{◌≡◌, ◌≢◌, ◌≤◌, ◌<◌, ◌+◌, Some, None, Ok, length, position, IfOk, IfSome, OnSome};
 ghost use Rattle.request_json.specs.Form.{asked_of};
 ghost use Rattle.request_json.specs.Formed.{HasForm};
 ghost use Rattle.request_json.specs.declared.asked.Asked.{Asked as Request};

@@ -1,23 +1,19 @@
 //! How a request is submitted to a kept office.
-ghost use Rattle.std.specs.Prelude.{◌≡◌, ◌≢◌, ◌⊎◌, ◌+◌, ◌-◌, ◌^◌, ◌≤◌, ℕ, ℤ, List, Option, Some, None, IfOk, IfErr, IfSome, is_some, length, option_map, true, min};
+ghost use Rattle.std.specs.Prelude.{◌≡◌, ◌⊎◌, ◌+◌, ◌-◌, ◌≤◌, ℕ, ℤ, List, Option, Some, None, IfOk, IfErr, IfSome, is_some, length, option_map, true};
 ghost use Rattle.desk_traits.specs.Crash.{LeavesOnly};
-ghost use Rattle.desk_traits.specs.Faults.{Rose};
-ghost use Rattle.desk_traits.specs.File.{Only};
 ghost use Rattle.hazard_types.specs.declared.refusal.Refusal.{Refusal as Refused};
 ghost use Rattle.hazard_types.specs.declared.refusal.Refusal.TheVariants.{JournalFull};
 ghost use Rattle.hazard_types.specs.declared.request.Reply.{Reply as Answered};
 ghost use Rattle.request_json.specs.Formed.{HasForm};
 ghost use Rattle.request_json.specs.Replies.{reply_text};
-ghost use Rattle.office_core.specs.Agreement.{ReadsAsTheBoard};
-ghost use Rattle.office_core.specs.Histories.{Entered};
-ghost use Rattle.office_core.specs.Prepared.{IsReady, Readied};
+ghost use Rattle.office_core.specs.Prepared.{IsReady};
 ghost use Rattle.office_core.specs.State.{said_by};
-ghost use Rattle.office_core.specs.Step.{Refuses, Repeats, entry_of, state_after};
+ghost use Rattle.office_core.specs.Step.{Refuses, Repeats, entry_of};
 ghost use Rattle.office_journal.specs.Changes.{Change, Leaves, body_of, changed};
 ghost use Rattle.office_journal.specs.Histories.{History};
-ghost use Rattle.office_journal.specs.Kept.{Holds, disk_of, entries_of, gate_of, notes_of, state_of};
+ghost use Rattle.office_journal.specs.Kept.{Holds, disk_of, gate_of, state_of};
 ghost use Rattle.office_journal.specs.Outcomes.{Becomes, IsAgain, IsUnkept, Names, StandsBeside};
-ghost use Rattle.office_journal.specs.Submitting.{IsAsked, IsOffered, IsTooLong, MayEnter, MayTouch, entered};
+ghost use Rattle.office_journal.specs.Submitting.{IsAsked, IsOffered, MayEnter, entered};
 
 use crate::answers::Answer;
 use crate::entry_bodies::entry_body;
