@@ -1,8 +1,9 @@
 """Measures the archive report, outside the gate, on small inputs that name very much: two products whose UGC names so many states of
 999 zones each; a UGC that names one state's zones again and again; very many products of an event each; one event of very many
 zones of which very many products name one each; one whose zones come in falling order, a segment each; one that very many zones
-join by EXB lines; and very many warnings of a zone each, then products that upgrade an advisory of whole states. Seconds are of
-processor time; the exponent is that of the growth of time.
+join by EXB lines; very many warnings of a zone each, then products that upgrade an advisory of whole states; and very many events
+in one zone, opened in falling order, or upgraded together, under as many higher events or beside them. Seconds are of processor
+time; the exponent is that of the growth of time.
 With `--beside FOLDER` the program of the same name in that folder runs over the same files, and the ratios are printed.
 
     python3 bench/hostile.py [--beside FOLDER]
@@ -79,6 +80,42 @@ def upgraded(count):
     return product(groups, "NEW", "WW.Y", 3) + "".join(warnings) + "".join(product([group], "UPG", "WW.Y", 3) for group in groups)
 
 
+def lines_of(action, hazard, numbers, hours="1800-0600"):
+    begin, end = hours.split("-")
+    days = "180103T%sZ" % begin, "1801%02dT%sZ" % (3 + (end < begin), end)
+    return ["/O.%s.KDMX.%s.%04d.%s-%s/" % (action, hazard, number, *days) for number in numbers]
+
+
+def one_zone(*lines):
+    return framed([ugc(["IAZ001"]) + [line for some in lines for line in some] + ["$$"]])
+
+
+def falling_numbers(count):
+    return one_zone(lines_of("NEW", "WW.Y", range(count, 0, -1)))
+
+
+def all_upgraded(count):
+    numbers = range(1, count + 1)
+    return one_zone(lines_of("NEW", "WW.Y", numbers)) + one_zone(lines_of("UPG", "WW.Y", numbers))
+
+
+def under_as_many(count):
+    numbers = range(1, count + 1)
+    return one_zone(lines_of("NEW", "WS.W", numbers), lines_of("NEW", "WW.Y", numbers)) + one_zone(lines_of("UPG", "WW.Y", numbers))
+
+
+def beside_as_many(count):
+    numbers = range(1, count + 1)
+    opened = one_zone(lines_of("NEW", "WS.W", numbers, "1700-1800"), lines_of("NEW", "WW.Y", numbers, "1900-0600"))
+    return opened + "".join(one_zone(lines_of("UPG", "WW.Y", [number], "1900-0600")) for number in numbers)
+
+
+def upgraded_together(count):
+    numbers = range(1, count + 1)
+    opened = one_zone(lines_of("NEW", "WS.A", numbers), lines_of("NEW", "WW.Y", numbers))
+    return opened + one_zone(lines_of("UPG", "WW.Y", numbers), lines_of("UPG", "WS.A", numbers), lines_of("NEW", "WS.W", numbers))
+
+
 words, folder = beside(sys.argv[1:])
 report = [program("warn_archive"), "KDMX", "O", "180103T1700Z"]
 with tempfile.TemporaryDirectory() as place:
@@ -87,7 +124,12 @@ with tempfile.TemporaryDirectory() as place:
                               ("products of an event each", tiny, (10000, 100000)), ("products of a zone each of one great event", named_again, (1000, 10000)),
                               ("states of 999 zones of one event in falling order, a segment each", falling, (4, 16, 64)),
                               ("states of 999 zones of one event, each second one by EXB lines", joined, (16, 64, 676)),
-                              ("warnings of a zone each, then an upgrade of each of 20 states of 999 zones", upgraded, (2000, 8000))):
+                              ("warnings of a zone each, then an upgrade of each of 20 states of 999 zones", upgraded, (2000, 8000)),
+                              ("events that one product opens in one zone, in falling order", falling_numbers, (2475, 9900)),
+                              ("events of one zone that one product opens and one upgrades", all_upgraded, (2475, 9900)),
+                              ("events of one zone that one product upgrades under as many warnings", under_as_many, (1200, 4800)),
+                              ("events of one zone that a product each upgrades beside as many warnings", beside_as_many, (1200, 4800)),
+                              ("events of two ranks of one zone that one product upgrades and takes over", upgraded_together, (1200, 4800))):
         before = None
         for size in sizes:
             with open(path, "w", newline="") as out:

@@ -206,6 +206,15 @@ def answered(runs, outcome, whole):
     return ended(runs, outcome, whole)
 
 
+def taken(runs, outcome, whole):
+    """Or a product is taken at the second time, and the reader says the same of all; or the script ends without an answer."""
+    if outcome == (0, whole[1] + b"taken again 1\n", None):
+        return "a product was taken again, and all is told as ever"
+    if outcome == (1, b"", None):
+        return "status 1, nothing written"
+    return ended(runs, outcome, whole)
+
+
 def served(runs, outcome, whole):
     """Each link is answered as ever, or M1, or not at all; the journal has the request, or is as before; the end says so."""
     status, written, left, answers = outcome
@@ -253,6 +262,11 @@ def small_day():
         {"desk": "C", "seq": 1, "do": "correct", "product": 2, "texts": [{"event": "WI.Y.0001.20" + year,
                                                                           "texts": {"what": "Gusts to 50 mph."}}]},
     ])
+
+
+def script_of(archive, asked):
+    """Rows of worked_archive: the lines of an archive, and what a reader says of it."""
+    return b"".join(b"line %s\n" % line.rstrip(b"\r") for line in archive.split(b"\n")[:-1]) + b"reader 40 %s\n" % asked
 
 
 def one_issue():
@@ -303,6 +317,8 @@ CASES = {
                                                               sample("samples", "archive.txt")), begun),
     "warn_stats over a small archive": lambda folder: (Runs(folder, "warn_stats", ["KLWX", "O", "180103T2200Z"],
                                                             sample("samples", "statistics.txt")), ended),
+    "a reader that goes on, over a small archive": lambda folder: (
+        Runs(folder, "worked_archive", [], script_of(sample("samples", "archive.txt"), b"KLWX O 180103T1900Z")), taken),
     "watch_notice over three lines": lambda folder: (
         Runs(folder, "watch_notice", ["KLWX", "Eastern"], b"".join(sample("samples", "notices.jsonl").splitlines(True)[:3])), begun),
     "serve over two links": lambda folder: (Served(folder, one_issue(), journal_with(folder, b"")), served),

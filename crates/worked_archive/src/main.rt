@@ -2,6 +2,7 @@
 //! reads and writes, over which the archive's report or the statistics are made.
 #![tactic(auto)]
 
+mod reader;
 mod runs;
 mod script;
 mod steps;

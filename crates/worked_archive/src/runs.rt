@@ -3,6 +3,7 @@ use archive_report::archive_within;
 use desk_traits::{MemSink, MemSource};
 use hazard_types::{List, Oom, Text};
 use program_ends::LIMIT;
+use sha2::{Digest, Sha256};
 use stats_report::stats_within;
 use std::alloc::Global;
 
@@ -29,6 +30,22 @@ pub struct Given {
 pub struct Run {
     pub status: u8,
     pub text: Text,
+}
+
+impl Run {
+    /// The status, and of the text how many lines and bytes it has, and its digest.
+    pub fn in_short(&self, alloc: Global) -> Result<String, Oom> {
+        let text = self.text.as_slice();
+        let status = self.status;
+        let lines = text.iter().filter(|byte| **byte == b'\n').count();
+        let bytes = text.len();
+        let mut out = format!(in alloc; "status {status}, {lines} lines, {bytes} bytes, SHA-256 ")?;
+        for byte in Sha256::digest(text) {
+            write!(out, "{byte:02x}")?;
+        }
+        out.push('\n')?;
+        Ok(out)
+    }
 }
 
 /// The words of a line.

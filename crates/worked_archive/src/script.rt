@@ -1,6 +1,8 @@
 //! The script of reports and statistics: each line's step is worked, and answered by text.
-use crate::runs::{Given, Telling, run_telling, try_cuts, words_of};
+use crate::reader::told_by_reader;
+use crate::runs::{Given, Run, Telling, run_telling, try_cuts, words_of};
 use crate::steps::{Step, step_of};
+use archive_report::asked_of;
 use hazard_types::{List, Oom, Text};
 use program_ends::LIMIT;
 use std::alloc::Global;
@@ -59,16 +61,39 @@ impl Script {
         Ok(())
     }
 
-    /// A report or statistics, and the status.
-    fn telling_step(&mut self, alloc: Global, telling: Telling, line: &str) -> Result<String, Oom> {
+    /// Adds the lines between bars.
+    fn add_lines(&mut self, texts: &str) -> Result<(), Oom> {
+        for text in texts.split('|') {
+            self.add_line(text)?;
+        }
+        Ok(())
+    }
+
+    /// A report or statistics of what is given, which is given no more.
+    fn run(&mut self, alloc: Global, telling: Telling, line: &str) -> Result<Run, Oom> {
         let words = words_of(alloc, line)?;
         let run = run_telling(alloc, telling, &words, self.input.as_slice(), &self.given)?;
         self.given = nothing_given(alloc);
+        Ok(run)
+    }
+
+    /// A report or statistics, and the status.
+    fn telling_step(&mut self, alloc: Global, telling: Telling, line: &str) -> Result<String, Oom> {
+        let run = self.run(alloc, telling, line)?;
         let mut answer = String::from_utf8_lossy(alloc, run.text.as_slice())?;
         let status = run.status;
         let line = format!(in alloc; "status {status}\n")?;
         answer.push_str(line.as_str())?;
         Ok(answer)
+    }
+
+    /// What a reader says of the input in pieces of this size.
+    fn reader_step(&self, alloc: Global, size: usize, line: &str) -> Result<String, Oom> {
+        let words = words_of(alloc, line)?;
+        match asked_of(&words) {
+            Some(asked) => told_by_reader(alloc, &asked, self.input.as_slice(), size),
+            None => Ok(format!(in alloc; "unread: reader {line}\n")?),
+        }
     }
 
     /// The reports of the input cut off behind each of its bytes.
@@ -85,6 +110,7 @@ impl Script {
         match step {
             Step::Remark => {}
             Step::Line(text) => self.add_line(text)?,
+            Step::Lines(texts) => self.add_lines(texts)?,
             Step::Numbered(most, text) => self.add_numbered(alloc, *most, text)?,
             Step::Unended(text) => self.input.extend(text.as_bytes())?,
             Step::NoText => self.input = List::new(alloc),
@@ -93,7 +119,12 @@ impl Script {
             Step::Limit(most) => self.given.limit = *most,
             Step::BadRead(call) => self.given.bad_reads.push(*call)?,
             Step::BadWrite(call) => self.given.bad_writes.push(*call)?,
-            Step::Report(_) | Step::Stats(_) | Step::Cuts(_) | Step::Unread => return Ok(false),
+            Step::Report(_)
+            | Step::Short(_)
+            | Step::Reader(_, _)
+            | Step::Stats(_)
+            | Step::Cuts(_)
+            | Step::Unread => return Ok(false),
         }
         Ok(true)
     }
@@ -108,6 +139,8 @@ impl Work for Script {
         }
         match &step {
             Step::Report(words) => self.telling_step(alloc, Telling::Report, words),
+            Step::Short(words) => self.run(alloc, Telling::Report, words)?.in_short(alloc),
+            Step::Reader(size, words) => self.reader_step(alloc, *size, words),
             Step::Stats(words) => self.telling_step(alloc, Telling::Stats, words),
             Step::Cuts(words) => self.cuts_step(alloc, words),
             _ => Ok(format!(in alloc; "unread: {line}\n")?),

@@ -7,6 +7,8 @@ pub enum Step<'a> {
     Remark,
     /// A line of the input, with CR, CR and LF.
     Line(&'a str),
+    /// Lines of the input, between bars.
+    Lines(&'a str),
     /// Bytes of the input, with nothing behind them.
     Unended(&'a str),
     /// A line of the input for each number from 1 to this one, with its four digits in place of `####`.
@@ -25,6 +27,10 @@ pub enum Step<'a> {
     BadWrite(u64),
     /// The report for these words.
     Report(&'a str),
+    /// The report for these words in short.
+    Short(&'a str),
+    /// What a reader says for these words of the input in pieces of this size.
+    Reader(usize, &'a str),
     /// The statistics for these words.
     Stats(&'a str),
     /// The reports of the input cut off behind each of its bytes.
@@ -64,14 +70,24 @@ fn numbered_lines(rest: &str) -> Option<Step<'_>> {
     Some(Step::Numbered(most, line))
 }
 
+/// The step of a size and words.
+fn reader_step(rest: &str) -> Option<Step<'_>> {
+    let (size, words) = rest.split_once(' ')?;
+    let size = size.parse::<u32>().ok()?;
+    Some(Step::Reader(size as usize, words))
+}
+
 /// The step that a line's first word says, with what stands behind it.
 fn worded_step(line: &str) -> Option<Step<'_>> {
     let (word, rest) = line.split_once(' ')?;
     match word {
         "line" => Some(Step::Line(rest)),
+        "lines" => Some(Step::Lines(rest)),
         "unended" => Some(Step::Unended(rest)),
         "numbered" => numbered_lines(rest),
         "report" => Some(Step::Report(rest)),
+        "short" => Some(Step::Short(rest)),
+        "reader" => reader_step(rest),
         "stats" => Some(Step::Stats(rest)),
         "cuts" => Some(Step::Cuts(rest)),
         _ => numbered_step(word, rest),
