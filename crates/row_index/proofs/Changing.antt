@@ -1,13 +1,12 @@
 -- A zone's rows after a product: those that its lines leave, and those in whose place it leaves none.
 use Rattle.std.proofs.Common.{◌≡◌, ◌∙◌, ℕ, List, [], ◌∷◌, ◌++◌, ◌&&◌, ◌||◌, not, Bool, true, false, cond, Option, Some, None, refl, ap, sym, subst}
 use Rattle.std.proofs.lemmas.Bool.{and_parts}
-use Rattle.std.proofs.lemmas.List.Folds.{list_any-append}
 use Rattle.std.specs.BTreeMap.{is_at}
 use Rattle.std.specs.List.{filter, list_any}
 use Rattle.std.specs.List.Sorted.{IsStrictlySortedBy}
-use Rattle.std.specs.Option.{is_none}
+use Rattle.std.specs.Option.{is_none, is_some}
 use Rattle.hazard_types.specs.Hazards.{facts_of}
-use Rattle.hazard_types.specs.Places.{Place}
+use Rattle.hazard_types.specs.Places.{Place, by_place}
 use Rattle.hazard_types.specs.Same.{same_zone, same_event}
 use Rattle.hazard_types.specs.declared.codes.Action.{Action}
 use Rattle.hazard_types.specs.declared.codes.Action.TheVariants.{New, Con, Exa, Ext, Exb, Upg, Can, Exp, Cor, Rou}
@@ -15,22 +14,25 @@ use Rattle.hazard_types.specs.declared.codes.Family.{Family}
 use Rattle.hazard_types.specs.declared.hazard.Event.{Event}
 use Rattle.hazard_types.specs.declared.line.Line.{Line}
 use Rattle.hazard_types.specs.declared.line.Row.{Row}
-use Rattle.hazard_types.proofs.Equality.{event_one, zone_one}
+use Rattle.hazard_types.proofs.Equality.{zone_one}
 use Rattle.event_life.specs.Higher.{family_of, is_above, may_yield, outranks}
 use Rattle.event_life.specs.Periods.{is_live, overlaps}
 use Rattle.event_life.specs.Products.{by_key, put, row_at, row_after, is_routine, is_upgrade, speaks_of, put_but_upgrades, end_upgraded, rows_for_higher, is_overlapped, has_higher}
 use Rattle.event_life.specs.Seats.{may_count, is_upgraded}
-use Rattle.event_life.proofs.Members.{any_in, in_any, find_in, one_way}
+use Rattle.event_life.proofs.Members.{find_in}
 use Rattle.event_life.proofs.Puts.{at_key, at_key-parts, row_at-put, put-sorted}
 use Rattle.row_index.specs.declared.seats.Seat.{Seat}
 use Rattle.row_index.specs.Numbers.{is_in_zone}
 use Rattle.row_index.specs.Seating.{by_seat, seat_of, seat_said, has_seat, upgrades}
-use Rattle.row_index.specs.Steps.{IsChanged, not_upgraded, not_counted, listed, higher_at, higher_rows, rivals}
-use Rattle.row_index.specs.Reaching.{lives, Covers}
+use Rattle.row_index.specs.Listing.{list_at}
+use Rattle.row_index.specs.declared.reach.Reach.{Reach}
+use Rattle.row_index.specs.Reaching.{is_reached, Reaches, lasts, reaches_over}
+use Rattle.row_index.specs.Steps as index
+use Rattle.row_index.specs.Steps.{IsChanged, rises_over, stays_over, is_free, still_over}
 use Rattle.row_index.specs.Telling.{Tells}
-use Rattle.row_index.proofs.Reached.{any_flat}
+use Rattle.row_index.proofs.Reached.{Zones, reached_over}
 use Rattle.row_index.proofs.Seated.{seat_tied}
-use Rattle.row_index.proofs.Tests.{and_true, and_false, any_same, any_filtered, any_put, at_itself, but, found_own}
+use Rattle.row_index.proofs.Tests.{and_true, and_false, any_same, any_filtered, any_put, at_itself, but}
 
 -- rows that are put over others
 
@@ -143,103 +145,79 @@ overlaps_own t own r = same_zone r.zone own.zone && is_live t r && outranks r.ev
 none_ended : (t : ℕ) (own r : Row) → overlaps_own t own (as_ended r) ≡ false
 none_ended t own r = rw (and_false (same_zone r.zone own.zone)) refl
 
-turned : (p u c : Bool) → (not u && (c && p)) ≡ ((p && not u) && c)
-turned p true c = ap (λ (b : Bool). b && c) (sym (and_false p))
-turned true false c = and_true c
-turned false false c = and_false c
+-- the test of a row in the zone, in another order
+sorted : (z l o a : Bool) → (z && (l && o && a)) ≡ (z && l && a && o)
+sorted false l o a = refl
+sorted true false o a = refl
+sorted true true false a = sym (and_false a)
+sorted true true true a = sym (and_true a)
 
-gathered_plain : (z u p : Bool) → (p ≡ true → z ≡ true) → (z && (not u && p)) ≡ (p && not u)
-gathered_plain z u false h = ap (λ (b : Bool). z && b) (and_false (not u)) ∙ and_false z
-gathered_plain z u true h = rw (h refl) (and_true (not u))
+-- what its parts say of a row that rises over another
+pub rises_parts : (t : ℕ) (low : Option (Family × ℕ)) (own r : Row) → rises_over t low own r ≡ true → (is_live t r ≡ true) × (overlaps r.period own.period ≡ true) × (is_above (family_of (facts_of r.event.hazard)) low ≡ true)
+rises_parts t low own r h =
+    let p = and_parts (is_live t r && overlaps r.period own.period) _ h in
+    let q = and_parts (is_live t r) _ p.0 in
+    (q.0, q.1, p.1)
 
-own_zone : (t : ℕ) (own r : Row) → overlaps_own t own r ≡ true → same_zone r.zone own.zone ≡ true
-own_zone t own r h =
-    let p = and_parts (same_zone r.zone own.zone && is_live t r && outranks r.event.hazard own.event.hazard) _ h in
-    let q = and_parts (same_zone r.zone own.zone && is_live t r) _ p.0 in
-    (and_parts (same_zone r.zone own.zone) _ q.0).0
+-- the periods that are kept of a zone tell its rows that are still over one
+pub left_over : (rows : List Row) (t : ℕ) (low : Option (Family × ℕ)) (counted : List Row) (seats : List Seat) (own : Row) (reach : Zones) (keys : List Reach) (over : Bool)
+    → IsStrictlySortedBy by_key rows → Reaches reach rows → list_at by_place reach own.zone ≡ keys
+    → over ≡ list_any (reaches_over rows (is_free counted seats own.zone) (rises_over t low own) low own) (filter (lasts t) keys)
+    → over ≡ list_any (still_over t low counted seats own) (filter (is_in_zone own.zone) rows)
+left_over rows t low counted seats own reach keys over up reaches there is =
+    is
+    ∙ reached_over rows (is_free counted seats own.zone) (rises_over t low own) t low own keys up
+    (λ e. subst (λ (all : List Reach). is_reached e all (row_at rows e own.zone) ≡ true) there (reaches e own.zone)) (rises_parts t low own)
 
-asked_parts : (t : ℕ) (own r : Row) → overlaps_own t own r ≡ true → (is_live t r ≡ true) × (outranks r.event.hazard own.event.hazard ≡ true) × (r.zone ≡ own.zone)
-asked_parts t own r h =
-    let p = and_parts (same_zone r.zone own.zone && is_live t r && outranks r.event.hazard own.event.hazard) _ h in
-    let q = and_parts (same_zone r.zone own.zone && is_live t r) _ p.0 in
-    let z = and_parts (same_zone r.zone own.zone) _ q.0 in
-    (z.1, q.1, zone_one r.zone own.zone z.0)
+-- in its own zone
+free_there : (counted : List Row) (seats : List Seat) (own r : Row) (x : Bool) (b : Bool) → is_in_zone own.zone r ≡ b → (b && (x && is_free counted seats own.zone r.event)) ≡ ((b && (x && not (has_seat seats (seat_of r)))) && in_place counted r)
+free_there counted seats own r x false h = refl
+free_there counted seats own r x true h =
+    ap (λ (z : Place). x && is_free counted seats z r.event) (sym (zone_one r.zone own.zone h))
+    ∙ and_assoc x (not (has_seat seats (seat_of r))) (in_place counted r)
 
--- the rows of events above a rank that have one in a zone
-
-shown_in : (P : Row → Bool) (b : Bool) (o : Option Row) → list_any P (cond b (listed o) []) ≡ true → (r : Row) × (o ≡ Some r) × (P r ≡ true)
-shown_in P true (Some r) h = (r, refl, one (P r) h)
-  where
-    one : (b : Bool) → (b || false) ≡ true → b ≡ true
-    one true g = refl
-    one false g = cc
-shown_in P true None h = cc
-shown_in P false o h = cc
-
-abbrev is_higher : Option (Family × ℕ) → Event → Bool
-is_higher low e = is_above (family_of (facts_of e.hazard)) low
-
-higher_told : (P : Row → Bool) (rows : List Row) (t : ℕ) (low : Option (Family × ℕ)) (z : Place) (events : List Event) → IsStrictlySortedBy by_key rows → Covers rows t low z events
-    → ((r : Row) → P r ≡ true → (is_live t r ≡ true) × (is_higher low r.event ≡ true) × (r.zone ≡ z)) → list_any P (higher_rows rows low z events) ≡ list_any P rows
-higher_told P rows t low z events up covers asks =
-    any_flat P (higher_at rows low z) events ∙ one_way (list_any passes events) (list_any P rows)
-    (λ g.
-    let w = any_in passes events g in
-    let r = shown_in P (is_higher low w.0) (row_at rows w.0 z) w.2 in
-    in_any P rows r.0 (find_in (at_key w.0 z) rows r.0 r.1).0 r.2)
-    (λ g.
-    let w = any_in P rows g in
-    let r = w.0 in
-    let a = asks r w.2 in
-    let found : row_at rows r.event z ≡ Some r = subst (λ (y : Place). row_at rows r.event y ≡ Some r) a.2 (found_own rows r up w.1) in
-    let own : passes r.event ≡ true = rw (a.1, found, w.2) refl in
-    let there : lives t (row_at rows r.event z) ≡ true = ap (lives t) found ∙ a.0 in
-    let k = any_in (λ (d : Event). same_event d r.event) events (covers r.event a.1 there) in
-    in_any passes events k.0 k.1 (subst (λ (e : Event). passes e ≡ true) (sym (event_one k.0 r.event k.2)) own))
-  where
-    passes : Event → Bool
-    passes e = list_any P (higher_at rows low z e)
+none_is : (o : Option (Family × ℕ)) → is_none o ≡ not (is_some o)
+none_is None = refl
+none_is (Some f) = refl
 
 module _ (rows : List Row) (t : ℕ) (lines : List Line) (counted : List Row) (seats : List Seat) (changed : IsChanged rows t lines counted seats) (up : IsStrictlySortedBy by_key rows) where
-  abbrev before_of : Event → Place → List Event → List Row
-  before_of e z events = higher_rows rows (family_of (facts_of e.hazard)) z events
+  abbrev rank : Row → Option (Family × ℕ)
+  rank own = family_of (facts_of own.event.hazard)
 
-  rivals_told : (own : Row) (events : List Event) → Covers rows t (family_of (facts_of own.event.hazard)) own.zone events
-      → is_overlapped (rivals own.zone counted seats (before_of own.event own.zone events)) t (Some own) ≡ is_overlapped (rows_for_higher rows t lines) t (Some own)
-  rivals_told own events covers =
-      let p = overlaps_own t own in
-      let before = before_of own.event own.zone events in
-      let kept : Row → Bool = λ r. p r && not (is_upgraded lines r) in
+  abbrev kept : Row → Row → Bool
+  kept own r = overlaps_own t own r && not (is_upgraded lines r)
+
+  stays_told : (own r : Row) → (is_in_zone own.zone r && stays_over t (rank own) seats own r) ≡ kept own r
+  stays_told own r =
+      let rises = rises_over t (rank own) own r in
+      ap (λ (b : Bool). is_in_zone own.zone r && (rises && not b)) (upgraded_told seats lines r changed.said)
+      ∙ and_assoc (is_in_zone own.zone r) rises (not (is_upgraded lines r))
+      ∙ ap (λ (b : Bool). b && not (is_upgraded lines r)) (sorted (is_in_zone own.zone r) (is_live t r) (overlaps r.period own.period) (outranks r.event.hazard own.event.hazard))
+
+  still_told : (own r : Row) → (is_in_zone own.zone r && still_over t (rank own) counted seats own r) ≡ (kept own r && in_place counted r)
+  still_told own r =
+      free_there counted seats own r (rises_over t (rank own) own r) (is_in_zone own.zone r) refl
+      ∙ ap (λ (b : Bool). b && in_place counted r) (stays_told own r)
+
+  over_told : (own : Row) → (list_any (stays_over t (rank own) seats own) (filter (is_in_zone own.zone) counted) || list_any (still_over t (rank own) counted seats own) (filter (is_in_zone own.zone) rows))
+      ≡ is_overlapped (rows_for_higher rows t lines) t (Some own)
+  over_told own =
       let over = subst (λ (es : List Row). Over es rows (put_but_upgrades rows t [] lines rows)) (sym changed.put) (over_lines rows t lines up) in
-      let first : list_any p (not_upgraded seats (filter (is_in_zone own.zone) counted)) ≡ list_any kept counted =
-      any_filtered p (λ r. not (has_seat seats (seat_of r))) (filter (is_in_zone own.zone) counted)
-      ∙ any_filtered (λ r. not (has_seat seats (seat_of r)) && p r) (is_in_zone own.zone) counted
-      ∙ any_same (λ r. is_in_zone own.zone r && (not (has_seat seats (seat_of r)) && p r)) kept counted
-      (λ r. ap (λ (b : Bool). is_in_zone own.zone r && (not b && p r)) (upgraded_told seats lines r changed.said) ∙ gathered_plain (is_in_zone own.zone r) (is_upgraded lines r) (p r) (own_zone t own r)) in
-      let asked : Row → Bool = λ r. not (has_seat seats (seat_of r)) && (in_place counted r && p r) in
-      let later : list_any p (not_counted counted (not_upgraded seats before)) ≡ list_any (λ r. kept r && in_place counted r) rows =
-      any_filtered p (in_place counted) (not_upgraded seats before)
-      ∙ any_filtered (λ r. in_place counted r && p r) (λ r. not (has_seat seats (seat_of r))) before
-      ∙ higher_told asked rows t (family_of (facts_of own.event.hazard)) own.zone events up covers
-      (λ r h. asked_parts t own r (and_parts (in_place counted r) _ (and_parts (not (has_seat seats (seat_of r))) _ h).1).1)
-      ∙ any_same asked (λ r. kept r && in_place counted r) rows
-      (λ r. ap (λ (b : Bool). not b && (in_place counted r && p r)) (upgraded_told seats lines r changed.said) ∙ turned (p r) (is_upgraded lines r) (in_place counted r)) in
-      list_any-append p (not_upgraded seats (filter (is_in_zone own.zone) counted)) (not_counted counted (not_upgraded seats before))
-      ∙ (λ i. first i || later i)
-      ∙ sym (over kept)
-      ∙ sym (any_ended p lines (put_but_upgrades rows t [] lines rows) (none_ended t own))
+      let first : list_any (stays_over t (rank own) seats own) (filter (is_in_zone own.zone) counted) ≡ list_any (kept own) counted =
+      any_filtered (stays_over t (rank own) seats own) (is_in_zone own.zone) counted
+      ∙ any_same (λ r. is_in_zone own.zone r && stays_over t (rank own) seats own r) (kept own) counted (stays_told own) in
+      let later : list_any (still_over t (rank own) counted seats own) (filter (is_in_zone own.zone) rows) ≡ list_any (λ r. kept own r && in_place counted r) rows =
+      any_filtered (still_over t (rank own) counted seats own) (is_in_zone own.zone) rows
+      ∙ any_same (λ r. is_in_zone own.zone r && still_over t (rank own) counted seats own r) (λ r. kept own r && in_place counted r) rows (still_told own) in
+      (λ i. first i || later i)
+      ∙ sym (over (kept own))
+      ∙ sym (any_ended (overlaps_own t own) lines (put_but_upgrades rows t [] lines rows) (none_ended t own))
 
-  pub higher_own : (line : Line) (own : Row) (events : List Event) → row_at rows line.event line.zone ≡ Some own → Covers rows t (family_of (facts_of line.event.hazard)) line.zone events
-      → (not (may_yield line.event.hazard) || is_overlapped (rivals line.zone counted seats (before_of line.event line.zone events)) t (row_at (own ∷ []) line.event line.zone)) ≡ has_higher rows t lines line
-  higher_own line own events found covers =
+  pub higher_own : (line : Line) (own : Row) → row_at rows line.event line.zone ≡ Some own → index.is_overlapped rows t counted seats (rank own) own ≡ has_higher rows t lines line
+  higher_own line own found =
       let own_at = (find_in (at_key line.event line.zone) rows own found).1 in
       let key = at_key-parts line.event line.zone own own_at in
-      let one : row_at (own ∷ []) line.event line.zone ≡ Some own = rw own_at refl in
-      let covers_own : Covers rows t (family_of (facts_of own.event.hazard)) own.zone events =
-      subst (λ (e : Event). Covers rows t (family_of (facts_of e.hazard)) own.zone events) (sym key.0)
-      (subst (λ (z : Place). Covers rows t (family_of (facts_of line.event.hazard)) z events) (sym key.1) covers) in
-      let told : is_overlapped (rivals line.zone counted seats (before_of line.event line.zone events)) t (Some own) ≡ is_overlapped (rows_for_higher rows t lines) t (Some own) =
-      subst (λ (e : Event). is_overlapped (rivals line.zone counted seats (before_of e line.zone events)) t (Some own) ≡ is_overlapped (rows_for_higher rows t lines) t (Some own)) key.0
-      (subst (λ (z : Place). is_overlapped (rivals z counted seats (before_of own.event z events)) t (Some own) ≡ is_overlapped (rows_for_higher rows t lines) t (Some own)) key.1 (rivals_told own events covers_own)) in
-      ap (λ (b : Bool). not (may_yield line.event.hazard) || b)
-      (ap (λ (o : Option Row). is_overlapped (rivals line.zone counted seats (before_of line.event line.zone events)) t o) one ∙ told ∙ ap (λ (o : Option Row). is_overlapped (rows_for_higher rows t lines) t o) (sym found))
+      or_assoc (is_none (rank own)) (list_any (stays_over t (rank own) seats own) (filter (is_in_zone own.zone) counted)) (list_any (still_over t (rank own) counted seats own) (filter (is_in_zone own.zone) rows))
+      ∙ ap (λ (b : Bool). is_none (rank own) || b) (over_told own)
+      ∙ ap (λ (b : Bool). b || is_overlapped (rows_for_higher rows t lines) t (Some own)) (none_is (rank own) ∙ ap (λ (e : Event). not (may_yield e.hazard)) key.0)
+      ∙ ap (λ (o : Option Row). not (may_yield line.event.hazard) || is_overlapped (rows_for_higher rows t lines) t o) (sym found)

@@ -1,14 +1,13 @@
--- The ends of each zone's rows, where a row is put, and the events that they tell.
+-- The periods of each zone's rows, where a row is put, and the rows that they tell.
 use Rattle.std.proofs.Common.{◌≡◌, ◌∙◌, ◌⊎◌, inl, inr, ℕ, List, [], ◌∷◌, ◌&&◌, ◌||◌, not, Bool, true, false, cond, Ordering, Less, Equal, Greater, Option, Some, None, refl, ap, sym, subst, arith}
-use Rattle.std.specs.Prelude.{nat_le, flat_map}
+use Rattle.std.specs.Prelude.{nat_le}
 use Rattle.std.proofs.lemmas.Bool.{and_parts}
 use Rattle.std.proofs.lemmas.Bool.Decides.{nat_tests}
-use Rattle.std.proofs.lemmas.List.Folds.{list_any-append}
 use Rattle.std.specs.BTreeMap.{insert_entry, is_at}
 use Rattle.std.specs.BTreeSet.{insert_key}
 use Rattle.std.specs.Cmp.{IsTotalOrder}
 use Rattle.std.specs.List.{AllByRecursion, filter, list_any}
-use Rattle.std.specs.Option.{is_none}
+use Rattle.std.specs.List.Sorted.{IsStrictlySortedBy}
 use Rattle.std.specs.Ordering.{ordering_then, is_le, nat_cmp}
 use Rattle.std.specs.Set.{remove_key}
 use Rattle.hazard_types.specs.Hazards.{facts_of}
@@ -22,24 +21,25 @@ use Rattle.hazard_types.specs.declared.line.Row.{Row}
 use Rattle.hazard_types.specs.declared.period.End.{End}
 use Rattle.hazard_types.specs.declared.period.End.TheVariants as end
 use Rattle.hazard_types.specs.declared.period.Period.{Period}
-use Rattle.hazard_types.proofs.Equality.{event_itself, period_one, zone_itself}
-use Rattle.hazard_types.proofs.OrderLaws.{by_end_ties, by_place_total, by_place_ties}
+use Rattle.hazard_types.proofs.Equality.{event_itself, period_one, zone_itself, zone_one}
+use Rattle.hazard_types.proofs.OrderLaws.{by_end_ties, by_place_total, by_place_ties, numbers_tied}
 use Rattle.event_life.specs.Higher.{family_of, is_above}
-use Rattle.event_life.specs.Periods.{ends_after}
-use Rattle.event_life.specs.Products.{put, row_at}
+use Rattle.event_life.specs.Periods.{ends_after, is_live, overlaps}
+use Rattle.event_life.specs.Products.{by_key, put, row_at}
 use Rattle.event_life.proofs.Keys.{then_parts}
-use Rattle.event_life.proofs.Members.{any_in, in_any, find_in}
+use Rattle.event_life.proofs.Members.{any_in, in_any, find_in, one_way}
 use Rattle.event_life.proofs.Puts.{at_key, at_key-parts, row_at-put}
 use Rattle.row_index.specs.declared.reach.Reach.{Reach}
 use Rattle.row_index.specs.declared.seats.Spot.{Spot}
-use Rattle.row_index.specs.declared.seats.Spot.TheVariants.{At}
+use Rattle.row_index.specs.declared.seats.Spot.TheVariants.{Front, At, Back}
 use Rattle.row_index.specs.contracts.reach.ReachOrd.TheImpl.Laws as reach_laws
 use Rattle.row_index.specs.Listing.{list_at}
-use Rattle.row_index.specs.Reaching.{by_reach, reach_at, reach_of, less_reach, more_reach, reached_with, reached_each, is_reached, Reaches, lasts, events_told, lasting_events, lives, Covers}
-use Rattle.row_index.specs.Steps.{stays, put_each}
+use Rattle.row_index.specs.Numbers.{is_in_zone}
+use Rattle.row_index.specs.Reaching.{by_reach, reach_at, reach_of, period_of, less_reach, more_reach, reached_with, reached_each, is_reached, Reaches, lasts, is_spot_over, reaches_over}
+use Rattle.row_index.specs.Steps.{stays, put_each, passes}
 use Rattle.row_index.proofs.Lists.{at_same, at_other}
 use Rattle.row_index.proofs.Seated.{spot_ties}
-use Rattle.row_index.proofs.Tests.{any_filtered, any_insert, at_one, at_own}
+use Rattle.row_index.proofs.Tests.{any_filtered, any_insert, at_one, at_own, found_own}
 
 abbrev pub Zones : Type 0
 Zones = List (Place × List Reach)
@@ -53,9 +53,11 @@ by_reach_total = reach_laws.total-law
 by_reach_ties : (a b : Reach) → by_reach a b ≡ Equal → a ≡ b
 by_reach_ties a b h =
     let p = then_parts (end_cmp a.end b.end) _ h in
+    let q = then_parts (nat_cmp a.begin b.begin) _ p.1 in
     let end_is = by_end_ties a.end b.end p.0 in
-    let spot_is = spot_ties a.spot b.spot p.1 in
-    λ i. record { end = end_is i; spot = spot_is i }
+    let begin_is = numbers_tied a.begin b.begin q.0 in
+    let spot_is = spot_ties a.spot b.spot q.1 in
+    λ i. record { end = end_is i; begin = begin_is i; spot = spot_is i }
 
 -- one of two
 
@@ -84,7 +86,7 @@ or_kept : (a b c : Bool) → (b ≡ true → c ≡ true) → (a || b) ≡ true �
 or_kept true b c up h = refl
 or_kept false b c up h = up h
 
--- ends that come and go
+-- periods that come and go
 
 abbrev has : List Reach → Reach → Bool
 has keys k = list_any (is_at (by_reach k)) keys
@@ -109,8 +111,8 @@ abbrev event_in : Event → Spot → Event
 event_in d (At e) = e
 event_in d _ = d
 
--- ends of another event stay
-less_kept : (before : Option Row) (d e : Event) (a : End) (keys : List Reach) → ((old : Row) → before ≡ Some old → old.event ≡ d) → same_event d e ≡ false → has keys (reach_at e a) ≡ true → has (less_reach before keys) (reach_at e a) ≡ true
+-- periods of another event stay
+less_kept : (before : Option Row) (d e : Event) (a : Period) (keys : List Reach) → ((old : Row) → before ≡ Some old → old.event ≡ d) → same_event d e ≡ false → has keys (reach_at e a) ≡ true → has (less_reach before keys) (reach_at e a) ≡ true
 less_kept None d e a keys own apart h = h
 less_kept (Some old) d e a keys own apart h = by_left (left_or (is_at (by_reach (reach_at e a))) (reach_of old) keys h)
   where
@@ -138,9 +140,9 @@ more_own row keys = by_ended row.ended
         any_insert by_reach by_reach_total by_reach_ties (is_at (by_reach (reach_of row))) (reach_of row) keys
         ∙ first_one (is_at (by_reach (reach_of row)) (reach_of row)) _ (at_own by_reach by_reach_total by_reach_ties (reach_of row))
 
-reached_kept : (e : Event) (o : Option Row) (old new : List Reach) → ((a : End) → has old (reach_at e a) ≡ true → has new (reach_at e a) ≡ true) → is_reached e old o ≡ true → is_reached e new o ≡ true
+reached_kept : (e : Event) (o : Option Row) (old new : List Reach) → ((a : Period) → has old (reach_at e a) ≡ true → has new (reach_at e a) ≡ true) → is_reached e old o ≡ true → is_reached e new o ≡ true
 reached_kept e None old new up h = refl
-reached_kept e (Some r) old new up h = or_kept r.ended (has old (reach_at e r.period.end)) (has new (reach_at e r.period.end)) (up r.period.end) h
+reached_kept e (Some r) old new up h = or_kept r.ended (has old (reach_at e r.period)) (has new (reach_at e r.period)) (up r.period) h
 
 reached_stays : (e : Event) (keys : List Reach) (before : Option Row) (row : Row) → stays before row ≡ true → is_reached e keys before ≡ true → is_reached e keys (Some row) ≡ true
 reached_stays e keys None row h there = cc
@@ -148,7 +150,7 @@ reached_stays e keys (Some old) row h there =
     let p = and_parts (period_eq.eq-value.it old.period row.period && not old.ended) _ h in
     let r = and_parts (period_eq.eq-value.it old.period row.period) _ p.0 in
     second_one row.ended _
-    (subst (λ (x : Period). has keys (reach_at e x.end) ≡ true) (period_one old.period row.period r.0) (second_true old.ended (has keys (reach_at e old.period.end)) r.1 there))
+    (subst (λ (x : Period). has keys (reach_at e x) ≡ true) (period_one old.period row.period r.0) (second_true old.ended (has keys (reach_at e old.period)) r.1 there))
 
 -- a row is put
 
@@ -211,7 +213,7 @@ reaches-each d (r ∷ rows) all known reach own same reaches =
     (λ z. row_at-put r all d z ∙ ap (λ (o : Option Row). cond (at_key d z r) (Some r) o) (same z) ∙ sym (row_at-put r known d z))
     (reaches-put all reach r before found reaches)
 
--- the events that a zone's ends tell
+-- the rows that a zone's periods tell
 
 le_less : (o : Ordering) → is_le (ordering_then o Less) ≡ is_le o
 le_less Less = refl
@@ -224,41 +226,78 @@ le_is a b = grind (arith, nat_tests)
 from_at : (t m : ℕ) → ends_after (end.At m) t ≡ true → nat_le t m ≡ true
 from_at t m h = grind (arith, nat_tests)
 
-from_end : (t : ℕ) (a : End) → ends_after a t ≡ true → is_le (ordering_then (end_cmp (end.At t) a) Less) ≡ true
-from_end t (end.At m) h = le_less (nat_cmp t m) ∙ le_is t m ∙ from_at t m h
-from_end t end.Ufn h = refl
+then_less : (o : Ordering) → is_le o ≡ true → ordering_then o Less ≡ Less
+then_less Less h = refl
+then_less Equal h = refl
+then_less Greater h = cc
 
-pub any_flat : {A B : Type 0} (p : B → Bool) (f : A → List B) (xs : List A) → list_any p (flat_map f xs) ≡ list_any (λ x. list_any p (f x)) xs
-any_flat p f [] = refl
-any_flat p f (x ∷ xs) = list_any-append p (f x) (flat_map f xs) ∙ ap (λ (b : Bool). list_any p (f x) || b) (any_flat p f xs)
+-- the first minute is behind none
+zero_first : (b : ℕ) → ordering_then (nat_cmp 0 b) Less ≡ Less
+zero_first b = then_less (nat_cmp 0 b) (le_is 0 b ∙ first)
+  where
+    first : nat_le 0 b ≡ true
+    first = grind (arith, nat_tests)
 
-abbrev tells : ℕ → (Event → Bool) → Reach → Bool
-tells t q k = lasts t k && list_any q (events_told k.spot)
+from_end : (t b : ℕ) (a : End) → ends_after a t ≡ true → is_le (ordering_then (end_cmp (end.At t) a) (ordering_then (nat_cmp 0 b) Less)) ≡ true
+from_end t b (end.At m) h = ap (λ (o : Ordering). is_le (ordering_then (nat_cmp t m) o)) (zero_first b) ∙ le_less (nat_cmp t m) ∙ le_is t m ∙ from_at t m h
+from_end t b end.Ufn h = refl
 
-told_from : (t : ℕ) (e : Event) (q : Event → Bool) (a : End) → ends_after a t ≡ true → q e ≡ true → tells t q (reach_at e a) ≡ true
-told_from t e q a h own =
-    let from : is_le (ordering_then (end_cmp (end.At t) a) Less) ≡ true = from_end t a h in
-    rw (from, own) refl
+module _ (rows : List Row) (q : Event → Bool) (p : Row → Bool) (t : ℕ) (low : Option (Family × ℕ)) (own : Row) (keys : List Reach) where
+  abbrev both : Row → Bool
+  both r = p r && q r.event
 
-lasting_told : (t : ℕ) (e : Event) (keys : List Reach) (o : Option Row) → is_reached e keys o ≡ true → lives t o ≡ true → list_any (λ (d : Event). same_event d e) (lasting_events t keys) ≡ true
-lasting_told t e keys None there h = cc
-lasting_told t e keys (Some r) there h =
-    let q : Event → Bool = λ d. same_event d e in
-    let live = and_parts (not r.ended) _ h in
-    let k = any_in (is_at (by_reach (reach_at e r.period.end))) keys (second_true r.ended (has keys (reach_at e r.period.end)) live.0 there) in
-    let one : reach_at e r.period.end ≡ k.0 = at_one by_reach by_reach_total by_reach_ties (reach_at e r.period.end) k.0 k.2 in
-    any_flat q (λ (k : Reach). events_told k.spot) (filter (lasts t) keys)
-    ∙ any_filtered (λ (k : Reach). list_any q (events_told k.spot)) (lasts t) keys
-    ∙ in_any (tells t q) keys k.0 k.1 (subst (λ (x : Reach). tells t q x ≡ true) one (told_from t e q r.period.end live.1 (event_itself e)))
+  abbrev in_zone : Row → Bool
+  in_zone r = is_in_zone own.zone r && both r
 
-pub lasting-covers : (rows : List Row) (reach : Zones) (t : ℕ) (low : Option (Family × ℕ)) (z : Place) → Reaches reach rows → Covers rows t low z (lasting_events t (list_at by_place reach z))
-lasting-covers rows reach t low z reaches e above h = lasting_told t e (list_at by_place reach z) (row_at rows e z) (reaches e z) h
+  abbrev told : Reach → Bool
+  told k = lasts t k && reaches_over rows q p low own k
 
-above_none : (f : Option (Family × ℕ)) → is_above f None ≡ false
-above_none None = refl
-above_none (Some f) = refl
+  row_in : (e : Event) (o : Option Row) → row_at rows e own.zone ≡ o → q e ≡ true → passes p o ≡ true → list_any in_zone rows ≡ true
+  row_in e None is free h = cc
+  row_in e (Some r) is free h =
+      let found = find_in (at_key e own.zone) rows r is in
+      let zone_is = (and_parts (same_event r.event e) _ found.1).1 in
+      let event_is = (at_key-parts e own.zone r found.1).0 in
+      let own_free : q r.event ≡ true = subst (λ (d : Event). q d ≡ true) (sym event_is) free in
+      let own_in : in_zone r ≡ true = rw (zone_is, h, own_free) refl in
+      in_any in_zone rows r found.0 own_in
 
--- no event is above none
-pub none-covers : (rows : List Row) (t : ℕ) (low : Option (Family × ℕ)) (z : Place) → is_none low ≡ true → Covers rows t low z []
-none-covers rows t None z h e above there = let none : true ≡ false = sym above ∙ above_none (family_of (facts_of e.hazard)) in cc
-none-covers rows t (Some f) z h e above there = cc
+  spot_in : (s : Spot) → is_spot_over rows q p low own s ≡ true → list_any in_zone rows ≡ true
+  spot_in Front h = cc
+  spot_in (At e) h =
+      let first = and_parts (is_above (family_of (facts_of e.hazard)) low && q e) _ h in
+      row_in e (row_at rows e own.zone) refl (and_parts (is_above (family_of (facts_of e.hazard)) low) _ first.0).1 first.1
+  spot_in Back h = cc
+
+  told_own : (r : Row) → row_at rows r.event own.zone ≡ Some r → is_live t r ≡ true → overlaps r.period own.period ≡ true → is_above (family_of (facts_of r.event.hazard)) low ≡ true → p r ≡ true → q r.event ≡ true → told (reach_of r) ≡ true
+  told_own r found live over above h free =
+      let from = from_end t r.period.begin r.period.end (and_parts (not r.ended) _ live).1 in
+      rw (from, over, above, free, found, h) refl
+
+  row_told : (r : Row) → row_at rows r.event own.zone ≡ Some r → is_reached r.event keys (row_at rows r.event own.zone) ≡ true → is_live t r ≡ true → told (reach_of r) ≡ true → list_any told keys ≡ true
+  row_told r found reached live own_told =
+      let there : (r.ended || has keys (reach_of r)) ≡ true = subst (λ (o : Option Row). is_reached r.event keys o ≡ true) found reached in
+      let k = any_in (is_at (by_reach (reach_of r))) keys (second_true r.ended (has keys (reach_of r)) (and_parts (not r.ended) _ live).0 there) in
+      let one : reach_of r ≡ k.0 = at_one by_reach by_reach_total by_reach_ties (reach_of r) k.0 k.2 in
+      in_any told keys k.0 k.1 (subst (λ (x : Reach). told x ≡ true) one own_told)
+
+  -- each row that passes is live and above the rank, and overlaps the one: so its period tells it
+  pub reached_over : IsStrictlySortedBy by_key rows → ((e : Event) → is_reached e keys (row_at rows e own.zone) ≡ true)
+      → ((r : Row) → p r ≡ true → (is_live t r ≡ true) × (overlaps r.period own.period ≡ true) × (is_above (family_of (facts_of r.event.hazard)) low ≡ true))
+      → list_any (reaches_over rows q p low own) (filter (lasts t) keys) ≡ list_any both (filter (is_in_zone own.zone) rows)
+  reached_over up reached asks =
+      any_filtered (reaches_over rows q p low own) (lasts t) keys
+      ∙ one_way (list_any told keys) (list_any in_zone rows)
+      (λ g.
+      let k = any_in told keys g in
+      let over = (and_parts (lasts t k.0) _ k.2).1 in
+      spot_in k.0.spot (and_parts (overlaps (period_of k.0) own.period) _ over).1)
+      (λ g.
+      let w = any_in in_zone rows g in
+      let r = w.0 in
+      let h = and_parts (is_in_zone own.zone r) _ w.2 in
+      let pq = and_parts (p r) _ h.1 in
+      let asked = asks r pq.0 in
+      let found : row_at rows r.event own.zone ≡ Some r = subst (λ (z : Place). row_at rows r.event z ≡ Some r) (zone_one r.zone own.zone h.0) (found_own rows r up w.1) in
+      row_told r found (reached r.event) asked.0 (told_own r found asked.0 asked.1 asked.2 pq.0 pq.1))
+      ∙ sym (any_filtered both (is_in_zone own.zone) rows)

@@ -1,5 +1,5 @@
--- How far the rows of each zone reach: the ends of those that no line has ended.
-use Rattle.std.specs.Prelude.{◌≡◌, ◌||◌, not, ℕ, Bool, true, false, List, [], ◌∷◌, filter, flat_map, if◌then◌else◌, Option, Some, None}
+-- How far the rows of each zone reach: the periods of those that no line has ended.
+use Rattle.std.specs.Prelude.{◌≡◌, ◌&&◌, ◌||◌, not, ℕ, Bool, true, false, List, [], ◌∷◌, if◌then◌else◌, Option, Some, None}
 use Rattle.std.specs.BTreeMap.{insert_entry, is_at}
 use Rattle.std.specs.BTreeMap.Range.{range_contains}
 use Rattle.std.specs.BTreeSet.{insert_key}
@@ -7,43 +7,43 @@ use Rattle.std.specs.List.{list_any}
 use Rattle.std.specs.Set.{remove_key}
 use Rattle.std.specs.declared.cmp.Ordering.{Ordering}
 use Rattle.std.specs.declared.ops.Bound.TheVariants.{Included, Unbounded}
-use Rattle.hazard_types.specs.Hazards.{facts_of}
 use Rattle.hazard_types.specs.Places.{Place, by_place}
-use Rattle.hazard_types.specs.Same.{same_event}
 use Rattle.hazard_types.specs.declared.codes.Family.{Family}
 use Rattle.hazard_types.specs.declared.hazard.Event.{Event}
 use Rattle.hazard_types.specs.declared.line.Row.{Row}
-use Rattle.hazard_types.specs.declared.period.End.{End}
 use Rattle.hazard_types.specs.declared.period.End.TheVariants as end
-use Rattle.event_life.specs.Higher.{family_of, is_above}
-use Rattle.event_life.specs.Periods.{is_live}
+use Rattle.hazard_types.specs.declared.period.Period.{Period}
+use Rattle.event_life.specs.Periods.{overlaps}
 use Rattle.event_life.specs.Products.{put, row_at}
 use Rattle.row_index.specs.declared.reach.Reach.{Reach}
 use Rattle.row_index.specs.declared.seats.Spot.{Spot}
 use Rattle.row_index.specs.declared.seats.Spot.TheVariants.{Front, At, Back}
 use Rattle.row_index.specs.contracts.reach.ReachOrd.TheImpl as order
 use Rattle.row_index.specs.Listing.{list_at}
-use Rattle.row_index.specs.Steps.{stays}
+use Rattle.row_index.specs.Steps.{stays, is_over}
 
 abbrev pub by_reach : Reach → Reach → Ordering
 by_reach = order.cmp-value.it
 
-abbrev pub reach_at : Event → End → Reach
-reach_at e end = record { end = end; spot = At e }
+abbrev pub reach_at : Event → Period → Reach
+reach_at e p = record { end = p.end; begin = p.begin; spot = At e }
 
 abbrev pub reach_of : Row → Reach
-reach_of r = reach_at r.event r.period.end
+reach_of r = reach_at r.event r.period
 
--- without the end of the row before, if there was one
+abbrev pub period_of : Reach → Period
+period_of k = record { begin = k.begin; end = k.end }
+
+-- without the period of the row before, if there was one
 abbrev pub less_reach : Option Row → List Reach → List Reach
 less_reach None keys = keys
 less_reach (Some old) keys = remove_key (is_at (by_reach (reach_of old))) keys
 
--- with the end of a row, unless a line has ended it
+-- with the period of a row, unless a line has ended it
 abbrev pub more_reach : Row → List Reach → List Reach
 more_reach row keys = if not row.ended then insert_key by_reach keys (reach_of row) else keys
 
--- the ends of each zone, where a row comes into the place of the one before
+-- the periods of each zone, where a row comes into the place of the one before
 abbrev pub reached_with : Option Row → Row → List (Place × List Reach) → List (Place × List Reach)
 reached_with before row reach = if stays before row then reach else insert_entry by_place reach row.zone (more_reach row (less_reach before (list_at by_place reach row.zone)))
 
@@ -52,33 +52,25 @@ abbrev pub reached_each : List Row → List Row → List (Place × List Reach) �
 reached_each [] known reach = reach
 reached_each (row ∷ rows) known reach = reached_each rows (put row known) (reached_with (row_at known row.event row.zone) row reach)
 
--- an event's row has its end among these, unless there is none or a line has ended it
+-- an event's row has its period among these, unless there is none or a line has ended it
 abbrev pub is_reached : Event → List Reach → Option Row → Bool
 is_reached e keys None = true
-is_reached e keys (Some r) = r.ended || list_any (is_at (by_reach (reach_at e r.period.end))) keys
+is_reached e keys (Some r) = r.ended || list_any (is_at (by_reach (reach_at e r.period))) keys
 
--- the end of each row that no line has ended is among those of its zone
+-- the period of each row that no line has ended is among those of its zone
 abbrev pub Reaches : List (Place × List Reach) → List Row → Type 0
 Reaches reach rows = (e : Event) (z : Place) → is_reached e (list_at by_place reach z) (row_at rows e z) ≡ true
 
--- an end that is not before the minute
+-- one whose end is not before the minute
 abbrev pub lasts : ℕ → Reach → Bool
-lasts t k = range_contains by_reach (Included (record { end = end.At t; spot = Front })) Unbounded k
+lasts t k = range_contains by_reach (Included (record { end = end.At t; begin = 0; spot = Front })) Unbounded k
 
--- the event that a spot is of
-abbrev pub events_told : Spot → List Event
-events_told Front = []
-events_told (At e) = e ∷ []
-events_told Back = []
+-- the spot is of an event above a rank that passes a test, and its row in the zone of this one passes another
+abbrev pub is_spot_over : List Row → (Event → Bool) → (Row → Bool) → Option (Family × ℕ) → Row → Spot → Bool
+is_spot_over rows q p low own (At e) = is_over rows q p low own e
+is_spot_over rows q p low own Front = false
+is_spot_over rows q p low own Back = false
 
--- the events whose ends are not before the minute
-abbrev pub lasting_events : ℕ → List Reach → List Event
-lasting_events t keys = flat_map (λ (k : Reach). events_told k.spot) (filter (lasts t) keys)
-
-abbrev pub lives : ℕ → Option Row → Bool
-lives t None = false
-lives t (Some r) = is_live t r
-
--- each event above a rank whose row in a zone is live is among these
-abbrev pub Covers : List Row → ℕ → Option (Family × ℕ) → Place → List Event → Type 0
-Covers rows t low z events = (e : Event) → is_above (family_of (facts_of e.hazard)) low ≡ true → lives t (row_at rows e z) ≡ true → list_any (λ (d : Event). same_event d e) events ≡ true
+-- that is so where the period is kept, which overlaps this row
+abbrev pub reaches_over : List Row → (Event → Bool) → (Row → Bool) → Option (Family × ℕ) → Row → Reach → Bool
+reaches_over rows q p low own k = overlaps (period_of k) own.period && is_spot_over rows q p low own k.spot

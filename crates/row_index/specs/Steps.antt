@@ -1,5 +1,6 @@
 -- What the code of an index does on the way: the rows that lines leave, and those by which a higher row is looked for in a zone.
-use Rattle.std.specs.Prelude.{◌≡◌, ◌&&◌, ◌∷◌, ◌++◌, not, ℕ, Bool, true, false, List, [], filter, flat_map, fold, if◌then◌else◌, Option, Some, None, is_none}
+use Rattle.std.specs.Prelude.{◌≡◌, ◌&&◌, ◌||◌, ◌∷◌, not, ℕ, Bool, true, false, List, [], filter, fold, if◌then◌else◌, Option, Some, None, is_none}
+use Rattle.std.specs.List.{list_any}
 use Rattle.hazard_types.specs.Hazards.{facts_of}
 use Rattle.hazard_types.specs.Places.{Place}
 use Rattle.hazard_types.specs.Same.{same_event}
@@ -14,11 +15,12 @@ use Rattle.hazard_types.specs.declared.line.Vtec.{Vtec}
 use Rattle.hazard_types.specs.declared.line.Row.{Row}
 use Rattle.event_life.specs.declared.life.Around.{Around}
 use Rattle.event_life.specs.Higher.{family_of, is_above}
+use Rattle.event_life.specs.Periods.{is_live, overlaps}
 use Rattle.event_life.specs.Table.{opened_period}
 use Rattle.event_life.specs.Products.{put, row_at, row_after, put_but_upgrades, has_rows, is_open, is_held, has_same, is_new, later_event, going_in}
 use Rattle.row_index.specs.declared.seats.Seat.{Seat}
 use Rattle.row_index.specs.Numbers.{is_in_zone}
-use Rattle.row_index.specs.Seating.{seat_of, seat_said, has_seat, upgrades}
+use Rattle.row_index.specs.Seating.{seat_at, seat_of, seat_said, has_seat, upgrades}
 use Rattle.row_index.specs.Telling.{Tells}
 
 -- of the events that are open the one of the latest year
@@ -80,25 +82,34 @@ pub record IsChanged (rows : List Row) (t : ℕ) (lines : List Line) (counted : 
   pub put : counted ≡ put_but_upgrades rows t [] lines []
   pub said : Tells upgrades seat_said upgraded lines
 
--- rows that no UPG line speaks of
-abbrev pub not_upgraded : List Seat → List Row → List Row
-not_upgraded seats rows = filter (λ (r : Row). not (has_seat seats (seat_of r))) rows
+-- Rows that are higher than a row and overlap it, after a product.
 
--- rows in whose place there is none among these
-abbrev pub not_counted : List Row → List Row → List Row
-not_counted counted rows = filter (λ (r : Row). is_none (row_at counted r.event r.zone)) rows
+-- the row is live and above a rank, and overlaps this one
+abbrev pub rises_over : ℕ → Option (Family × ℕ) → Row → Row → Bool
+rises_over t low own r = is_live t r && overlaps r.period own.period && is_above (family_of (facts_of r.event.hazard)) low
 
--- the row of an event in a zone, where the event is above a rank
-abbrev pub listed : Option Row → List Row
-listed None = []
-listed (Some r) = r ∷ []
+-- that is so, and no UPG line speaks of the row
+abbrev pub stays_over : ℕ → Option (Family × ℕ) → List Seat → Row → Row → Bool
+stays_over t low upgraded own r = rises_over t low own r && not (has_seat upgraded (seat_of r))
 
-abbrev pub higher_at : List Row → Option (Family × ℕ) → Place → Event → List Row
-higher_at rows low z e = if is_above (family_of (facts_of e.hazard)) low then listed (row_at rows e z) else []
+-- no UPG line speaks of an event in a zone, and no other line leaves a row there
+abbrev pub is_free : List Row → List Seat → Place → Event → Bool
+is_free counted upgraded z e = not (has_seat upgraded (seat_at e z)) && is_none (row_at counted e z)
 
-abbrev pub higher_rows : List Row → Option (Family × ℕ) → Place → List Event → List Row
-higher_rows rows low z events = flat_map (higher_at rows low z) events
+-- the row rises over this one in its zone, and is free
+abbrev pub still_over : ℕ → Option (Family × ℕ) → List Row → List Seat → Row → Row → Bool
+still_over t low counted upgraded own r = rises_over t low own r && is_free counted upgraded own.zone r.event
 
--- a zone's rows after a product that no UPG line of it has ended, in whatever order, where these stood before it
-abbrev pub rivals : Place → List Row → List Seat → List Row → List Row
-rivals z counted upgraded before = not_upgraded upgraded (filter (is_in_zone z) counted) ++ not_counted counted (not_upgraded upgraded before)
+-- there is a row, and it passes a test
+abbrev pub passes : (Row → Bool) → Option Row → Bool
+passes p None = false
+passes p (Some r) = p r
+
+-- the event is above a rank and passes a test, and its row in the zone of this one passes another
+abbrev pub is_over : List Row → (Event → Bool) → (Row → Bool) → Option (Family × ℕ) → Row → Event → Bool
+is_over rows q p low own e = is_above (family_of (facts_of e.hazard)) low && q e && passes p (row_at rows e own.zone)
+
+-- the row has no rank, or after the product a row is over it: one that a line leaves, or one that was there before
+abbrev pub is_overlapped : List Row → ℕ → List Row → List Seat → Option (Family × ℕ) → Row → Bool
+is_overlapped rows t counted upgraded low own =
+    is_none low || list_any (stays_over t low upgraded own) (filter (is_in_zone own.zone) counted) || list_any (still_over t low counted upgraded own) (filter (is_in_zone own.zone) rows)

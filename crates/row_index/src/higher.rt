@@ -1,18 +1,19 @@
 //! What a product changes where a higher row is looked for.
-ghost use Rattle.std.specs.Prelude.{◌≡◌, ◌++◌, is_none, IfOk, OnOk, filter};
+ghost use Rattle.std.specs.Prelude.{◌≡◌, IfOk, filter};
 ghost use Rattle.std.specs.List.{list_any};
 ghost use Rattle.std.specs.Map.{values_of};
 ghost use Rattle.event_life.specs.Higher.{family_of, is_above};
 ghost use Rattle.hazard_types.specs.Hazards.{facts_of};
+ghost use Rattle.row_index.specs.Numbers.{is_in_zone};
 ghost use Rattle.row_index.specs.Seating.{AreSeated, seat_said, upgrades};
-ghost use Rattle.row_index.specs.Steps.{listed, not_upgraded, not_counted, rivals};
+ghost use Rattle.row_index.specs.Steps.{rises_over, stays_over, is_free};
 ghost use Rattle.row_index.specs.Telling.{Tells};
 
-use crate::seats::{Seated, Seats, add_seat, has_seat, row_in, rows_in};
-use event_life::is_upgrade;
+use crate::seats::{Seated, Seats, add_seat, has_seat, row_in, seated_in};
+use event_life::{is_live, is_upgrade, overlaps};
 use hazard_types::desk_hazards::facts;
-use hazard_types::{Family, Hazard, Line, Oom, Row, Zone};
-use std::alloc::{AllocError, Global};
+use hazard_types::{Event, Family, Hazard, Line, Minute, Oom, Row, Zone};
+use std::alloc::Global;
 use std::collections::BTreeSet;
 
 /// The rows that a product's lawful lines other than UPG leave, and the seats that its UPG lines speak of.
@@ -40,59 +41,6 @@ pub fn upgraded_by(alloc: Global, lines: &[Line]) -> Result<Seats, Oom>
     Ok(seats)
 }
 
-/// Those of the rows that no UPG line speaks of.
-fn not_upgraded(alloc: Global, upgraded: &Seats, rows: &[Row]) -> Result<Vec<Row>, AllocError>
-    ensures { IfOk result (λ kept. kept.items ≡ not_upgraded upgraded.now.keys rows.now) }
-{
-    rows.iter()
-        .filter(|row| !has_seat(upgraded, &row.event, &row.zone))
-        .copied()
-        .collect(alloc)
-}
-
-/// Those of the rows in whose place none is counted.
-fn not_counted(alloc: Global, counted: &Seated, rows: &[Row]) -> Result<Vec<Row>, AllocError>
-    requires { AreSeated counted.now.entries }
-    ensures { IfOk result (λ kept. kept.items ≡ not_counted (values_of counted.now.entries) rows.now) }
-{
-    let mut kept = Vec::new(alloc);
-    for row in rows {
-        if row_in(counted, &row.event, &row.zone).is_none() {
-            kept.push(*row)?;
-        }
-    }
-    Ok(kept)
-}
-
-/// A zone's rows after the product that no UPG line of it has ended, where these stood before it.
-pub fn rivals(
-    alloc: Global,
-    changed: &Changed,
-    zone: &Zone,
-    before: &[Row],
-) -> Result<Vec<Row>, Oom>
-    requires { AreSeated changed.now.counted.entries }
-    ensures { IfOk result (λ rows. rows.items ≡ rivals zone.now (values_of changed.now.counted.entries) changed.now.upgraded.keys before.now) }
-{
-    let counted = rows_in(alloc, &changed.counted, zone)?;
-    let mut rows = not_upgraded(alloc, &changed.upgraded, &counted)?;
-    let before = not_upgraded(alloc, &changed.upgraded, before)?;
-    let before = not_counted(alloc, &changed.counted, &before)?;
-    rows.extend_from_slice(&before)?;
-    Ok(rows)
-}
-
-/// Adds a row that was found.
-pub fn add_found(rows: &mut Vec<Row>, found: &Option<Row>) -> Result<(), AllocError>
-    ensures { OnOk result (rows.new.items ≡ rows.old.items ++ listed found.now) }
-{
-    match found {
-        Some(row) => rows.extend_from_slice(&[*row])?,
-        None => {}
-    }
-    Ok(())
-}
-
 /// A hazard's family and its rank there. None where it has none, or the desk does not issue it.
 pub fn rank_of(hazard: &Hazard) -> Option<(Family, u8)>
     ensures { result ≡ family_of (facts_of hazard.now) }
@@ -111,4 +59,42 @@ pub fn is_above(high: &Option<(Family, u8)>, low: &Option<(Family, u8)>) -> bool
         return false;
     };
     *family == *other && *under < *rank
+}
+
+/// Whether a row is live and above a rank, and overlaps this one.
+pub fn rises_over(t: Minute, low: &Option<(Family, u8)>, own: &Row, row: &Row) -> bool
+    ensures { result ≡ rises_over t low.now own.now row.now }
+{
+    is_live(row, t)
+        && overlaps(&row.period, &own.period)
+        && is_above(&rank_of(&row.event.hazard), low)
+}
+
+/// Whether that is so of a row of which no UPG line speaks.
+fn stays_over(upgraded: &Seats, t: Minute, low: &Option<(Family, u8)>, own: &Row, row: &Row) -> bool
+    ensures { result ≡ stays_over t low.now upgraded.now.keys own.now row.now }
+{
+    rises_over(t, low, own, row) && !has_seat(upgraded, &row.event, &row.zone)
+}
+
+/// Whether no UPG line speaks of an event in a zone, and no other line leaves a row there.
+pub fn is_free(changed: &Changed, zone: &Zone, event: &Event) -> bool
+    requires { AreSeated changed.now.counted.entries }
+    ensures { result ≡ is_free (values_of changed.now.counted.entries) changed.now.upgraded.keys zone.now event.now }
+{
+    !has_seat(&changed.upgraded, event, zone) && row_in(&changed.counted, event, zone).is_none()
+}
+
+/// Whether one of the rows that a product leaves in a zone, and of which no UPG line speaks, is live and above a rank, and overlaps
+/// the zone's row `own`.
+pub fn any_left_over(changed: &Changed, t: Minute, low: &Option<(Family, u8)>, own: &Row) -> bool
+    requires { AreSeated changed.now.counted.entries }
+    ensures { result ≡ list_any (stays_over t low.now changed.now.upgraded.keys own.now) (filter (is_in_zone own.now.zone) (values_of changed.now.counted.entries)) }
+{
+    for (_, row) in seated_in(&changed.counted, &own.zone) {
+        if stays_over(&changed.upgraded, t, low, own, row) {
+            return true;
+        }
+    }
+    false
 }

@@ -1,34 +1,39 @@
 //! The rows of an office's class, as the judging of its lines needs them.
-ghost use Rattle.std.specs.Prelude.{◌≡◌, ◌&&◌, ◌++◌, not, true, false, nat_lt, [], List as Seq, Some, None, Option, if◌then◌else◌, is_none, IfOk, OnOk};
+ghost use Rattle.std.specs.Prelude.{◌≡◌, ◌&&◌, not, true, false, nat_lt, [], List as Seq, Some, None, Option, filter, if◌then◌else◌, is_none, IfOk, OnOk};
 ghost use Rattle.std.specs.List.{list_any};
 ghost use Rattle.hazard_types.specs.Hazards.{facts_of};
 ghost use Rattle.hazard_types.specs.declared.line.Line.{Line as LineValue};
 ghost use Rattle.std.specs.Map.{values_of};
 ghost use Rattle.event_life.specs.declared.life.Breach.TheVariants.{Twice};
-ghost use Rattle.event_life.specs.Higher.{family_of, is_above};
+ghost use Rattle.event_life.specs.Higher.{family_of};
 ghost use Rattle.event_life.specs.Products.{put, line_of, row_at, row_after, is_open, going_in, event_of, has_rows, is_held, has_same, is_routine, is_upgrade, is_second, life_at, around_but_higher, has_higher, breach_in, judged, lawful_of, put_all, put_but_upgrades};
 ghost use Rattle.event_life.specs.Seats.{may_count};
 ghost use Rattle.event_life.specs.Shown.{shown_at};
 ghost use Rattle.event_life.specs.Table.{breach_of_line};
 ghost use Rattle.row_index.specs.Holding.{AreNear, AreRowsOf};
-ghost use Rattle.row_index.specs.Reaching.{Covers};
+ghost use Rattle.row_index.specs.Numbers.{is_in_zone};
+ghost use Rattle.row_index.specs.Reaching.{lasts, reaches_over};
 ghost use Rattle.row_index.specs.Runs.{AreOfOne};
 ghost use Rattle.row_index.specs.Seating.{AreSeated, upgrades};
-ghost use Rattle.row_index.specs.Steps.{IsAsked, IsChanged, around_new, around_joining, asked_around, latest_open, event_going, listed, higher_rows, rows_left, put_each};
+ghost use Rattle.row_index.specs.Steps.{IsAsked, IsChanged, around_new, around_joining, asked_around, latest_open, event_going, rises_over, is_free, still_over, is_over, is_overlapped, rows_left, put_each};
 
 use crate::held::{
     Held, RowsOf, all_held, all_shown, has_period, is_open, put_held, rows_of, seated,
 };
-use crate::higher::{Changed, add_found, any_upgrades, is_above, rank_of, rivals, upgraded_by};
+use crate::higher::{
+    Changed, any_left_over, any_upgrades, is_above, is_free, rank_of, rises_over, upgraded_by,
+};
 use crate::look::{asks_alike, is_of, later_event, life_of, nothing_around, of_event, opens};
 use crate::numbers::{Events, Number, events_at, number_of};
-use crate::parts::HazardKey;
-use crate::reach::{Reaches, lasting_events};
-use crate::seats::{Seated, all_rows, count_row};
+use crate::parts::{HazardKey, ZoneKey};
+use crate::reach::{Reach, Reaches, ZoneEnds, period_of};
+use crate::seats::{Seated, Spot, all_rows, count_row};
 use crate::spoken::Spoken;
-use event_life::{Around, Breach, is_lawful, is_routine, is_upgrade, life_step, opened_period};
+use event_life::{
+    Around, Breach, is_lawful, is_routine, is_upgrade, life_step, opened_period, overlaps,
+};
 use hazard_types::{Action, Event, Family, Flood, Line, List, Minute, Oom, Row, Vtec, Zone};
-use std::alloc::{AllocError, Global};
+use std::alloc::Global;
 use std::collections::{BTreeMap, BTreeSet};
 use std::marker::Model;
 
@@ -411,22 +416,6 @@ impl RowIndex {
         Ok(counted)
     }
 
-    /// The events above a rank that have live rows in a zone, among others. No event is above none.
-    fn lasting(
-        &self,
-        alloc: Global,
-        t: Minute,
-        low: &Option<(Family, u8)>,
-        zone: &Zone,
-    ) -> Result<Vec<Event>, AllocError>
-        ensures { IfOk result (λ events. Covers self.now t low.now zone.now events.items) }
-    {
-        if low.is_none() {
-            return Ok(Vec::new(alloc));
-        }
-        lasting_events(alloc, &self.reach, t, zone)
-    }
-
     /// What a product changes where a higher row is looked for, as far as a UPG line asks for it.
     fn change_of(&self, alloc: Global, t: Minute, lines: &[Line]) -> Result<Changed, Oom>
         ensures changed { list_any upgrades lines.now ≡ true → IfOk result (λ c. IsChanged self.now t lines.now (values_of c.counted.entries) c.upgraded.keys) }
@@ -443,84 +432,109 @@ impl RowIndex {
         Ok(Changed { counted, upgraded })
     }
 
-    /// Adds an event's row in a zone, where the event is above a rank.
-    fn add_higher(
+    /// Whether an event is above a rank, its row in the zone of `own` is live and overlaps `own`, and the product changes that row in
+    /// no way that counts.
+    fn is_over(
         &self,
-        rows: &mut Vec<Row>,
-        event: &Event,
-        low: &Option<(Family, u8)>,
-        zone: &Zone,
-    ) -> Result<(), AllocError>
-        ensures { OnOk result (rows.new.items ≡ rows.old.items ++ (if is_above (family_of (facts_of event.now.hazard)) low.now then listed (row_at self.now event.now zone.now) else [])) }
-    {
-        if is_above(&rank_of(&event.hazard), low) {
-            add_found(rows, &self.row_at(event, zone))?;
-        }
-        Ok(())
-    }
-
-    /// The rows in a zone of those of the events that are above a rank.
-    fn higher_rows(
-        &self,
-        alloc: Global,
-        events: &[Event],
-        low: &Option<(Family, u8)>,
-        zone: &Zone,
-    ) -> Result<Vec<Row>, AllocError>
-        ensures { IfOk result (λ rows. rows.items ≡ higher_rows self.now low.now zone.now events.now) }
-    {
-        let mut rows = Vec::new(alloc);
-        for event in events {
-            self.add_higher(&mut rows, event, low, zone)?;
-        }
-        Ok(rows)
-    }
-
-    /// Whether the row of a UPG line, its `own`, is overlapped by a higher one after the product, or its hazard yields to none.
-    fn has_higher_over(
-        &self,
-        alloc: Global,
-        t: Minute,
         changed: &Changed,
-        line: &Line,
+        t: Minute,
+        low: &Option<(Family, u8)>,
         own: &Row,
-    ) -> Result<bool, Oom>
-        requires seated { AreSeated changed.now.counted.entries }
-        requires own { Some own.now ≡ row_at self.now line.now.event line.now.zone }
-        ensures { (lines : Seq LineValue) → IsChanged self.now t lines (values_of changed.now.counted.entries) changed.now.upgraded.keys → IfOk result (λ higher. higher ≡ has_higher self.now t lines line.now) }
+        event: &Event,
+    ) -> bool
+        requires { AreSeated changed.now.counted.entries }
+        ensures { result ≡ is_over self.now (is_free (values_of changed.now.counted.entries) changed.now.upgraded.keys own.now.zone) (rises_over t low.now own.now) low.now own.now event.now }
     {
-        let _ = &self.reach;
-        let low = rank_of(&line.event.hazard);
-        let events = self.lasting(alloc, t, &low, &line.zone)?;
-        let before = self.higher_rows(alloc, &events, &low, &line.zone)?;
-        let rows = rivals(alloc, changed, &line.zone, &before)?;
-        Ok(event_life::has_higher(&[*own], t, &rows, line))
+        if !is_above(&rank_of(&event.hazard), low) || !is_free(changed, &own.zone, event) {
+            return false;
+        }
+        match self.row_at(event, &own.zone) {
+            Some(row) => rises_over(t, low, own, &row),
+            None => false,
+        }
+    }
+
+    /// Whether a kept period overlaps `own`, and the event that it is of is so.
+    fn reaches_over(
+        &self,
+        changed: &Changed,
+        t: Minute,
+        low: &Option<(Family, u8)>,
+        own: &Row,
+        reach: &Reach,
+    ) -> bool
+        requires { AreSeated changed.now.counted.entries }
+        ensures { result ≡ reaches_over self.now (is_free (values_of changed.now.counted.entries) changed.now.upgraded.keys own.now.zone) (rises_over t low.now own.now) low.now own.now reach.now }
+    {
+        if !overlaps(&period_of(reach), &own.period) {
+            return false;
+        }
+        match &reach.spot {
+            Spot::At(event) => self.is_over(changed, t, low, own, &event.event),
+            _ => false,
+        }
+    }
+
+    /// Whether one of a zone's periods is so whose ends are not before the minute.
+    fn any_reaches_over(
+        &self,
+        changed: &Changed,
+        t: Minute,
+        low: &Option<(Family, u8)>,
+        own: &Row,
+        ends: &ZoneEnds,
+    ) -> bool
+        requires { AreSeated changed.now.counted.entries }
+        ensures { result ≡ list_any (reaches_over self.now (is_free (values_of changed.now.counted.entries) changed.now.upgraded.keys own.now.zone) (rises_over t low.now own.now) low.now own.now) (filter (lasts t) ends.now) }
+    {
+        for reach in ends.lasting(t) {
+            if self.reaches_over(changed, t, low, own, reach) {
+                return true;
+            }
+        }
+        false
+    }
+
+    /// Whether one of the rows in the zone of `own` is live and above a rank, overlaps `own`, and the product changes it in no way that
+    /// counts.
+    fn any_over(&self, changed: &Changed, t: Minute, low: &Option<(Family, u8)>, own: &Row) -> bool
+        requires { AreSeated changed.now.counted.entries }
+        ensures { result ≡ list_any (still_over t low.now (values_of changed.now.counted.entries) changed.now.upgraded.keys own.now) (filter (is_in_zone own.now.zone) self.now) }
+    {
+        match self.reach.get(&ZoneKey { zone: own.zone }) {
+            Some(ends) => self.any_reaches_over(changed, t, low, own, ends),
+            None => false,
+        }
+    }
+
+    /// Whether the row `own` is overlapped by a higher one after the product, or its hazard yields to none.
+    fn is_overlapped(&self, changed: &Changed, t: Minute, own: &Row) -> bool
+        requires { AreSeated changed.now.counted.entries }
+        ensures { result ≡ is_overlapped self.now t (values_of changed.now.counted.entries) changed.now.upgraded.keys (family_of (facts_of own.now.event.hazard)) own.now }
+    {
+        let low = rank_of(&own.event.hazard);
+        low.is_none()
+            || any_left_over(changed, t, &low, own)
+            || self.any_over(changed, t, &low, own)
     }
 
     /// Whether the row of a UPG line, its `own` where it has one, is overlapped by a higher one after the product, or its hazard
     /// yields to none.
-    fn has_higher(
-        &self,
-        alloc: Global,
-        t: Minute,
-        changed: &Changed,
-        line: &Line,
-        own: &Option<Row>,
-    ) -> Result<bool, Oom>
+    fn has_higher(&self, changed: &Changed, t: Minute, line: &Line, own: &Option<Row>) -> bool
         requires seated { AreSeated changed.now.counted.entries }
         requires own { own.now ≡ row_at self.now line.now.event line.now.zone }
-        ensures { (lines : Seq LineValue) → IsChanged self.now t lines (values_of changed.now.counted.entries) changed.now.upgraded.keys → IfOk result (λ higher. higher ≡ has_higher self.now t lines line.now) }
+        ensures { (lines : Seq LineValue) → IsChanged self.now t lines (values_of changed.now.counted.entries) changed.now.upgraded.keys → result ≡ has_higher self.now t lines line.now }
     {
+        let _ = &self.reach;
         match own {
-            Some(own) => self.has_higher_over(alloc, t, changed, line, own),
-            None => Ok(event_life::has_higher(&[], t, &[], line)),
+            Some(own) => self.is_overlapped(changed, t, own),
+            None => event_life::has_higher(&[], t, &[], line),
         }
     }
 
     /// The first breach of a line of a product. `rows` are its event's, and `around` is what stands around it, where it is no UPG line.
     fn breach_in(
         &self,
-        alloc: Global,
         t: Minute,
         changed: &Changed,
         rows: &RowsOf<'_>,
@@ -528,18 +542,18 @@ impl RowIndex {
         line: &Line,
         second: bool,
         around: Around,
-    ) -> Result<Option<Breach>, Oom>
+    ) -> Option<Breach>
         requires seated { AreSeated changed.now.counted.entries }
         requires rows { AreRowsOf self.now line.now.event rows.now }
         requires around { around ≡ asked_around line.now.action self.now t line.now true }
         ensures { (lines earlier : Seq LineValue) → (is_upgrade line.now.action ≡ true → IsChanged self.now t lines (values_of changed.now.counted.entries) changed.now.upgraded.keys)
-            → second ≡ is_second earlier line.now → IfOk result (λ breach. breach ≡ breach_in self.now t lines earlier line.now) }
+            → second ≡ is_second earlier line.now → result ≡ breach_in self.now t lines earlier line.now }
     {
         if !is_upgrade(&line.action) {
-            return Ok(self.breach_but_higher(rows, near, t, line, second, around));
+            return self.breach_but_higher(rows, near, t, line, second, around);
         }
-        let higher = self.has_higher(alloc, t, changed, line, &self.own_row(rows, near, line))?;
-        Ok(self.breach_of_upgrade(rows, near, t, line, second, higher))
+        let higher = self.has_higher(changed, t, line, &self.own_row(rows, near, line));
+        self.breach_of_upgrade(rows, near, t, line, second, higher)
     }
 
     /// The lines of a product, each with its first breach, or None where it is lawful. The rows are those just before the product,
@@ -565,9 +579,7 @@ impl RowIndex {
             let around = self.around_near(&asked, &rows, t, line);
             asked = Some((*line, around));
             let second = spoken.speak(!is_routine(&line.action), line)?;
-            let breach = self.breach_in(
-                alloc, t, &changed, &rows, &mut place, line, second, around,
-            )?;
+            let breach = self.breach_in(t, &changed, &rows, &mut place, line, second, around);
             found.push((*line, breach))?;
         }
         Ok(List::from_vec(found))

@@ -1,26 +1,28 @@
-//! How far the rows of each zone reach: the ends of those that no line has ended.
-ghost use Rattle.std.specs.Prelude.{◌≡◌, ◌++◌, [], filter, IfOk, OnOk};
+//! How far the rows of each zone reach: the periods of those that no line has ended.
+ghost use Rattle.std.specs.Prelude.{◌≡◌, [], filter, OnOk};
 ghost use Rattle.hazard_types.specs.Places.{by_place};
-ghost use Rattle.row_index.specs.Listing.{list_at};
-ghost use Rattle.row_index.specs.Reaching.{reach_of, less_reach, more_reach, reached_with, lasts, events_told, lasting_events};
+ghost use Rattle.row_index.specs.Reaching.{reach_of, period_of, less_reach, more_reach, reached_with, lasts};
 
 use crate::keys::{add_key, take_key};
 use crate::look::stays;
 use crate::parts::{EventKey, ZoneKey};
 use crate::seats::Spot;
-use hazard_types::{End, Event, Minute, Oom, Row, Zone};
-use std::alloc::{AllocError, Global};
+use crate::standing::minutes_before;
+use hazard_types::{End, Minute, Oom, Period, Row};
+use std::alloc::Global;
+use std::collections::btree_set::Range;
 use std::collections::{BTreeMap, BTreeSet};
 use std::marker::Model;
 
-/// The end of a row in its zone. They are in order by end, then spot.
+/// The period of a row in its zone. They are in order by end, then begin, then spot.
 #[derive(Clone, Copy, PartialEq, Eq, PartialOrd, Ord)]
 pub struct Reach {
     pub end: End,
+    pub begin: Minute,
     pub spot: Spot,
 }
 
-/// The ends of rows of one zone.
+/// The periods of rows of one zone.
 type Ends = BTreeSet<Reach>;
 
 fn reach_of(row: &Row) -> Reach
@@ -28,10 +30,24 @@ fn reach_of(row: &Row) -> Reach
 {
     let end = row.period.end;
     let spot = Spot::At(EventKey { event: row.event });
-    Reach { end, spot }
+    Reach {
+        end,
+        begin: row.period.begin,
+        spot,
+    }
 }
 
-/// Takes out the end of the row before, if there was one.
+/// The period that is kept of a row.
+pub fn period_of(reach: &Reach) -> Period
+    ensures { result ≡ period_of reach.now }
+{
+    Period {
+        begin: reach.begin,
+        end: reach.end,
+    }
+}
+
+/// Takes out the period of the row before, if there was one.
 fn drop_end(ends: &mut Ends, before: &Option<Row>)
     ensures { ends.new.keys ≡ less_reach before.now ends.old.keys }
 {
@@ -40,52 +56,24 @@ fn drop_end(ends: &mut Ends, before: &Option<Row>)
     }
 }
 
-/// Adds the end of a row, unless a line has ended it.
+/// Adds the period of a row, unless a line has ended it.
 fn add_end(ends: &mut Ends, row: &Row) -> Result<(), Oom>
     ensures { OnOk result (ends.new.keys ≡ more_reach row.now ends.old.keys) }
 {
     if !row.ended {
         let end = row.period.end;
         let spot = Spot::At(EventKey { event: row.event });
-        let reach = Reach { end, spot };
+        let reach = Reach {
+            end,
+            begin: row.period.begin,
+            spot,
+        };
         add_key(ends, reach)?;
     }
     Ok(())
 }
 
-/// The ends that are not before a minute.
-fn ends_from(alloc: Global, ends: &Ends, t: Minute) -> Result<Vec<Reach>, AllocError>
-    ensures { IfOk result (λ found. found.items ≡ filter (lasts t) ends.now.keys) }
-{
-    let front = Spot::Front;
-    let end = End::At(t);
-    let from = Reach { end, spot: front };
-    ends.range(from..).copied().collect(alloc)
-}
-
-/// Adds the event that an end is of.
-fn add_told(events: &mut Vec<Event>, reach: &Reach) -> Result<(), AllocError>
-    ensures { OnOk result (events.new.items ≡ events.old.items ++ events_told reach.now.spot) }
-{
-    if let Spot::At(event) = reach.spot {
-        events.push(event.event)?;
-    }
-    Ok(())
-}
-
-/// The events whose ends are not before a minute.
-fn lasting_among(alloc: Global, ends: &Ends, t: Minute) -> Result<Vec<Event>, AllocError>
-    ensures { IfOk result (λ events. events.items ≡ lasting_events t ends.now.keys) }
-{
-    let found = ends_from(alloc, ends, t)?;
-    let mut events = Vec::new(alloc);
-    for reach in &found {
-        add_told(&mut events, reach)?;
-    }
-    Ok(events)
-}
-
-/// The ends of a zone's rows that no line has ended.
+/// The periods of a zone's rows that no line has ended.
 #[derive(Drop)]
 pub struct ZoneEnds {
     ends: Ends,
@@ -117,15 +105,22 @@ impl ZoneEnds {
         add_end(&mut self.ends, row)
     }
 
-    /// The events whose ends are not before a minute.
-    fn lasting(&self, alloc: Global, t: Minute) -> Result<Vec<Event>, AllocError>
-        ensures { IfOk result (λ events. events.items ≡ lasting_events t self.now) }
+    /// The periods whose ends are not before a minute, in order.
+    pub fn lasting(&self, t: Minute) -> Range<'_, Reach>
+        ensures { result ≡ filter (lasts t) self.now }
     {
-        lasting_among(alloc, &self.ends, t)
+        let front = Spot::Front;
+        let end = End::At(t);
+        let from = Reach {
+            end,
+            begin: minutes_before(t, u32::MAX),
+            spot: front,
+        };
+        self.ends.range(from..)
     }
 }
 
-/// The ends of each zone's rows that no line has ended.
+/// The periods of each zone's rows that no line has ended.
 pub type Reaches = BTreeMap<ZoneKey, ZoneEnds>;
 
 /// A row comes into the place of the one before in its zone.
@@ -144,19 +139,4 @@ pub fn reach_with(
         .entry(ZoneKey { zone: row.zone })?
         .or_insert(ZoneEnds::new(alloc));
     known.reach(before, row)
-}
-
-/// The events whose rows in a zone reach to a minute.
-pub fn lasting_events(
-    alloc: Global,
-    reaches: &Reaches,
-    t: Minute,
-    zone: &Zone,
-) -> Result<Vec<Event>, AllocError>
-    ensures { IfOk result (λ events. events.items ≡ lasting_events t (list_at by_place reaches.now.entries zone.now)) }
-{
-    match reaches.get(&ZoneKey { zone: *zone }) {
-        Some(ends) => ends.lasting(alloc, t),
-        None => Ok(Vec::new(alloc)),
-    }
 }

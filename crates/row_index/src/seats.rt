@@ -10,6 +10,7 @@ use crate::keys::add_key;
 use crate::parts::{EventKey, ZoneKey};
 use hazard_types::{Event, Line, Oom, Row, Zone};
 use std::alloc::{AllocError, Global};
+use std::collections::btree_map::Range;
 use std::collections::{BTreeMap, BTreeSet};
 
 /// A spot in a zone: in front of all events, at an event, or behind them all.
@@ -117,10 +118,10 @@ pub fn count_row(seated: &mut Seated, counts: bool, row: &Row) -> Result<(), Oom
     Ok(())
 }
 
-/// The rows of a zone, in order.
-pub fn rows_in(alloc: Global, seated: &Seated, zone: &Zone) -> Result<Vec<Row>, AllocError>
+/// The rows of a zone at their seats, in order.
+pub fn seated_in<'a>(seated: &'a Seated, zone: &Zone) -> Range<'a, Seat, Row>
     requires { AreSeated seated.now.entries }
-    ensures { IfOk result (λ rows. rows.items ≡ filter (is_in_zone zone.now) (values_of seated.now.entries)) }
+    ensures { values_of result ≡ filter (is_in_zone zone.now) (values_of seated.now.entries) }
 {
     let front = Seat {
         zone: ZoneKey { zone: *zone },
@@ -130,10 +131,7 @@ pub fn rows_in(alloc: Global, seated: &Seated, zone: &Zone) -> Result<Vec<Row>, 
         zone: ZoneKey { zone: *zone },
         spot: Spot::Back,
     };
-    seated
-        .range(front..back)
-        .map(|(_, row)| *row)
-        .collect(alloc)
+    seated.range(front..back)
 }
 
 /// All rows, in order.

@@ -32,7 +32,7 @@ fn standing_of(row: &Row) -> Standing
 }
 
 /// The minute so many before this one, or the first of all.
-fn minutes_before(t: Minute, count: u32) -> Minute
+pub fn minutes_before(t: Minute, count: u32) -> Minute
     ensures { result ≡ t - count }
 {
     match Minute::new(t.get().saturating_sub(count)) {

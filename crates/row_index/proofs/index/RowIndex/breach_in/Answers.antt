@@ -9,4 +9,4 @@ returns-then-not-is_upgrade c = λ lines earlier changed second_is.
 
 pub returns : goal.returns
 returns c = λ lines earlier changed second_is.
-    c.breach_of_upgrade.ensures ∙ upgrade_made c.args.self.now c.args.t lines earlier c.args.line.now c.args.second c.in_ok-higher.higher (c.in_ok-higher.ensures lines (changed (search rules))) second_is
+    c.breach_of_upgrade.ensures ∙ upgrade_made c.args.self.now c.args.t lines earlier c.args.line.now c.args.second c.has_higher-higher.result (c.has_higher-higher.ensures lines (changed (search rules))) second_is

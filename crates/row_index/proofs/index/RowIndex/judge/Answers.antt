@@ -17,9 +17,9 @@ loop-line-preserved c =
     let before = seats_of c.loop-line.spoken.rising.items c.loop-line.spoken.others.keys in
     let next = seats_of c.speak.new.self.rising.items c.speak.new.self.others.keys in
     let second = c.in_ok-second.ensures.second ∙ second_told before earlier line c.loop-line.invariant.spoken in
-    let breach = c.in_ok-breach.ensures lines earlier (λ h. c.in_ok-changed.ensures.changed (any_upgrade lines i line c.loop-line-test.true c.line-item.is h)) second in
+    let breach = c.breach_in-breach.ensures lines earlier (λ h. c.in_ok-changed.ensures.changed (any_upgrade lines i line c.loop-line-test.true c.line-item.is h)) second in
     record {
-      found = judged_next c.args.self.now c.args.t lines c.loop-line.found.items c.push.new.self.items (judged c.args.self.now c.args.t lines) i line c.in_ok-breach.breach c.loop-line-test.true c.line-item.is breach c.in_ok-push.ensures.items c.loop-line.invariant.found;
+      found = judged_next c.args.self.now c.args.t lines c.loop-line.found.items c.push.new.self.items (judged c.args.self.now c.args.t lines) i line c.breach_in-breach.result c.loop-line-test.true c.line-item.is breach c.in_ok-push.ensures.items c.loop-line.invariant.found;
       free = c.in_ok-second.ensures.free;
       spoken = told_next speaks before next lines i line _ c.loop-line-test.true c.line-item.is (search rules) c.in_ok-second.ensures.said c.loop-line.invariant.spoken;
       near = c.rows_near-rows.ensures;
