@@ -160,11 +160,11 @@ rises_parts t low own r h =
     (q.0, q.1, p.1)
 
 -- the periods that are kept of a zone tell its rows that are still over one
-pub left_over : (rows : List Row) (t : ℕ) (low : Option (Family × ℕ)) (counted : List Row) (seats : List Seat) (own : Row) (reach : Zones) (keys : List Reach) (over : Bool)
+pub still_tell : (rows : List Row) (t : ℕ) (low : Option (Family × ℕ)) (counted : List Row) (seats : List Seat) (own : Row) (reach : Zones) (keys : List Reach) (over : Bool)
     → IsStrictlySortedBy by_key rows → Reaches reach rows → list_at by_place reach own.zone ≡ keys
     → over ≡ list_any (reaches_over rows (is_free counted seats own.zone) (rises_over t low own) low own) (filter (lasts t) keys)
     → over ≡ list_any (still_over t low counted seats own) (filter (is_in_zone own.zone) rows)
-left_over rows t low counted seats own reach keys over up reaches there is =
+still_tell rows t low counted seats own reach keys over up reaches there is =
     is
     ∙ reached_over rows (is_free counted seats own.zone) (rises_over t low own) t low own keys up
     (λ e. subst (λ (all : List Reach). is_reached e all (row_at rows e own.zone) ≡ true) there (reaches e own.zone)) (rises_parts t low own)

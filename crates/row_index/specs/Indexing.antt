@@ -9,7 +9,7 @@ use Rattle.row_index.specs.Holding.{AreHeld, told}
 use Rattle.row_index.specs.Numbers.{AreOpened}
 use Rattle.row_index.specs.Reaching.{Reaches}
 
--- the rows of each event are its own, the events stand by hazard and number, and each zone has the ends of its rows
+-- the rows of each event are its own, the events stand by hazard and number, and each zone has the periods of its rows
 pub record IsIndex (es : List (Event × List Row)) (events : List (Number × List Event)) (reach : List (Place × List Reach)) : Type 0 where
   pub held : AreHeld es
   pub opened : AreOpened events (told es)

@@ -65,12 +65,12 @@ Reaches reach rows = (e : Event) (z : Place) → is_reached e (list_at by_place 
 abbrev pub lasts : ℕ → Reach → Bool
 lasts t k = range_contains by_reach (Included (record { end = end.At t; begin = 0; spot = Front })) Unbounded k
 
--- the spot is of an event above a rank that passes a test, and its row in the zone of this one passes another
+-- the spot is of an event that is above a rank and passes one test, and its row in the zone of this one passes another
 abbrev pub is_spot_over : List Row → (Event → Bool) → (Row → Bool) → Option (Family × ℕ) → Row → Spot → Bool
 is_spot_over rows q p low own (At e) = is_over rows q p low own e
 is_spot_over rows q p low own Front = false
 is_spot_over rows q p low own Back = false
 
--- that is so where the period is kept, which overlaps this row
+-- the period overlaps this row, and is of such an event
 abbrev pub reaches_over : List Row → (Event → Bool) → (Row → Bool) → Option (Family × ℕ) → Row → Reach → Bool
 reaches_over rows q p low own k = overlaps (period_of k) own.period && is_spot_over rows q p low own k.spot

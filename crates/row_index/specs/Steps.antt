@@ -88,15 +88,15 @@ pub record IsChanged (rows : List Row) (t : ℕ) (lines : List Line) (counted : 
 abbrev pub rises_over : ℕ → Option (Family × ℕ) → Row → Row → Bool
 rises_over t low own r = is_live t r && overlaps r.period own.period && is_above (family_of (facts_of r.event.hazard)) low
 
--- that is so, and no UPG line speaks of the row
+-- and no UPG line speaks of it
 abbrev pub stays_over : ℕ → Option (Family × ℕ) → List Seat → Row → Row → Bool
 stays_over t low upgraded own r = rises_over t low own r && not (has_seat upgraded (seat_of r))
 
--- no UPG line speaks of an event in a zone, and no other line leaves a row there
+-- no UPG line speaks of the event in the zone, and no other line leaves a row of it there
 abbrev pub is_free : List Row → List Seat → Place → Event → Bool
 is_free counted upgraded z e = not (has_seat upgraded (seat_at e z)) && is_none (row_at counted e z)
 
--- the row rises over this one in its zone, and is free
+-- the row is live and above a rank, and overlaps this one in its zone, where the product changes nothing of it
 abbrev pub still_over : ℕ → Option (Family × ℕ) → List Row → List Seat → Row → Row → Bool
 still_over t low counted upgraded own r = rises_over t low own r && is_free counted upgraded own.zone r.event
 
@@ -105,11 +105,11 @@ abbrev pub passes : (Row → Bool) → Option Row → Bool
 passes p None = false
 passes p (Some r) = p r
 
--- the event is above a rank and passes a test, and its row in the zone of this one passes another
+-- the event is above a rank and passes one test, and its row in the zone of this one passes another
 abbrev pub is_over : List Row → (Event → Bool) → (Row → Bool) → Option (Family × ℕ) → Row → Event → Bool
 is_over rows q p low own e = is_above (family_of (facts_of e.hazard)) low && q e && passes p (row_at rows e own.zone)
 
--- the row has no rank, or after the product a row is over it: one that a line leaves, or one that was there before
+-- the row has no rank, or one is over it after the product: of those that its lines leave, or of those that stood before it
 abbrev pub is_overlapped : List Row → ℕ → List Row → List Seat → Option (Family × ℕ) → Row → Bool
 is_overlapped rows t counted upgraded low own =
     is_none low || list_any (stays_over t low upgraded own) (filter (is_in_zone own.zone) counted) || list_any (still_over t low counted upgraded own) (filter (is_in_zone own.zone) rows)

@@ -61,7 +61,7 @@ pub fn is_above(high: &Option<(Family, u8)>, low: &Option<(Family, u8)>) -> bool
     *family == *other && *under < *rank
 }
 
-/// Whether a row is live and above a rank, and overlaps this one.
+/// Whether a row is live and above a rank, and overlaps `own`.
 pub fn rises_over(t: Minute, low: &Option<(Family, u8)>, own: &Row, row: &Row) -> bool
     ensures { result ≡ rises_over t low.now own.now row.now }
 {
@@ -70,24 +70,16 @@ pub fn rises_over(t: Minute, low: &Option<(Family, u8)>, own: &Row, row: &Row) -
         && is_above(&rank_of(&row.event.hazard), low)
 }
 
-/// Whether that is so of a row of which no UPG line speaks.
+/// Whether a row is live and above a rank, overlaps `own`, and no UPG line speaks of it.
 fn stays_over(upgraded: &Seats, t: Minute, low: &Option<(Family, u8)>, own: &Row, row: &Row) -> bool
     ensures { result ≡ stays_over t low.now upgraded.now.keys own.now row.now }
 {
     rises_over(t, low, own, row) && !has_seat(upgraded, &row.event, &row.zone)
 }
 
-/// Whether no UPG line speaks of an event in a zone, and no other line leaves a row there.
-pub fn is_free(changed: &Changed, zone: &Zone, event: &Event) -> bool
-    requires { AreSeated changed.now.counted.entries }
-    ensures { result ≡ is_free (values_of changed.now.counted.entries) changed.now.upgraded.keys zone.now event.now }
-{
-    !has_seat(&changed.upgraded, event, zone) && row_in(&changed.counted, event, zone).is_none()
-}
-
-/// Whether one of the rows that a product leaves in a zone, and of which no UPG line speaks, is live and above a rank, and overlaps
-/// the zone's row `own`.
-pub fn any_left_over(changed: &Changed, t: Minute, low: &Option<(Family, u8)>, own: &Row) -> bool
+/// Whether one of the rows that a product leaves in the zone of `own` is live and above a rank, overlaps `own`, and no UPG line
+/// speaks of it.
+pub fn any_counted_over(changed: &Changed, t: Minute, low: &Option<(Family, u8)>, own: &Row) -> bool
     requires { AreSeated changed.now.counted.entries }
     ensures { result ≡ list_any (stays_over t low.now changed.now.upgraded.keys own.now) (filter (is_in_zone own.now.zone) (values_of changed.now.counted.entries)) }
 {
@@ -97,4 +89,12 @@ pub fn any_left_over(changed: &Changed, t: Minute, low: &Option<(Family, u8)>, o
         }
     }
     false
+}
+
+/// Whether no UPG line speaks of an event in a zone, and no other line leaves a row of it there.
+pub fn is_free(changed: &Changed, zone: &Zone, event: &Event) -> bool
+    requires { AreSeated changed.now.counted.entries }
+    ensures { result ≡ is_free (values_of changed.now.counted.entries) changed.now.upgraded.keys zone.now event.now }
+{
+    !has_seat(&changed.upgraded, event, zone) && row_in(&changed.counted, event, zone).is_none()
 }

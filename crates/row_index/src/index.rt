@@ -21,12 +21,12 @@ use crate::held::{
     Held, RowsOf, all_held, all_shown, has_period, is_open, put_held, rows_of, seated,
 };
 use crate::higher::{
-    Changed, any_left_over, any_upgrades, is_above, is_free, rank_of, rises_over, upgraded_by,
+    Changed, any_counted_over, any_upgrades, is_above, is_free, rank_of, rises_over, upgraded_by,
 };
 use crate::look::{asks_alike, is_of, later_event, life_of, nothing_around, of_event, opens};
 use crate::numbers::{Events, Number, events_at, number_of};
 use crate::parts::{HazardKey, ZoneKey};
-use crate::reach::{Reach, Reaches, ZoneEnds, period_of};
+use crate::reach::{Reach, Reaches, ZonePeriods, period_of};
 use crate::seats::{Seated, Spot, all_rows, count_row};
 use crate::spoken::Spoken;
 use event_life::{
@@ -432,8 +432,8 @@ impl RowIndex {
         Ok(Changed { counted, upgraded })
     }
 
-    /// Whether an event is above a rank, its row in the zone of `own` is live and overlaps `own`, and the product changes that row in
-    /// no way that counts.
+    /// Whether an event is above a rank, the product changes nothing of it in the zone of `own`, and its row there is live and overlaps
+    /// `own`.
     fn is_over(
         &self,
         changed: &Changed,
@@ -454,7 +454,7 @@ impl RowIndex {
         }
     }
 
-    /// Whether a kept period overlaps `own`, and the event that it is of is so.
+    /// Whether a period that is kept in the zone of `own` overlaps it, and is of such an event. Most periods end the test at once.
     fn reaches_over(
         &self,
         changed: &Changed,
@@ -475,19 +475,19 @@ impl RowIndex {
         }
     }
 
-    /// Whether one of a zone's periods is so whose ends are not before the minute.
+    /// Whether one of the periods that are kept in the zone of `own` overlaps it, and is of such an event.
     fn any_reaches_over(
         &self,
         changed: &Changed,
         t: Minute,
         low: &Option<(Family, u8)>,
         own: &Row,
-        ends: &ZoneEnds,
+        periods: &ZonePeriods,
     ) -> bool
         requires { AreSeated changed.now.counted.entries }
-        ensures { result ≡ list_any (reaches_over self.now (is_free (values_of changed.now.counted.entries) changed.now.upgraded.keys own.now.zone) (rises_over t low.now own.now) low.now own.now) (filter (lasts t) ends.now) }
+        ensures { result ≡ list_any (reaches_over self.now (is_free (values_of changed.now.counted.entries) changed.now.upgraded.keys own.now.zone) (rises_over t low.now own.now) low.now own.now) (filter (lasts t) periods.now) }
     {
-        for reach in ends.lasting(t) {
+        for reach in periods.lasting(t) {
             if self.reaches_over(changed, t, low, own, reach) {
                 return true;
             }
@@ -495,27 +495,32 @@ impl RowIndex {
         false
     }
 
-    /// Whether one of the rows in the zone of `own` is live and above a rank, overlaps `own`, and the product changes it in no way that
-    /// counts.
-    fn any_over(&self, changed: &Changed, t: Minute, low: &Option<(Family, u8)>, own: &Row) -> bool
+    /// Whether one of the rows in the zone of `own` is live and above a rank, overlaps `own`, and the product changes nothing of it.
+    fn any_still_over(
+        &self,
+        changed: &Changed,
+        t: Minute,
+        low: &Option<(Family, u8)>,
+        own: &Row,
+    ) -> bool
         requires { AreSeated changed.now.counted.entries }
         ensures { result ≡ list_any (still_over t low.now (values_of changed.now.counted.entries) changed.now.upgraded.keys own.now) (filter (is_in_zone own.now.zone) self.now) }
     {
         match self.reach.get(&ZoneKey { zone: own.zone }) {
-            Some(ends) => self.any_reaches_over(changed, t, low, own, ends),
+            Some(periods) => self.any_reaches_over(changed, t, low, own, periods),
             None => false,
         }
     }
 
-    /// Whether the row `own` is overlapped by a higher one after the product, or its hazard yields to none.
+    /// Whether a row is overlapped by a higher one after the product, or its hazard yields to none.
     fn is_overlapped(&self, changed: &Changed, t: Minute, own: &Row) -> bool
         requires { AreSeated changed.now.counted.entries }
         ensures { result ≡ is_overlapped self.now t (values_of changed.now.counted.entries) changed.now.upgraded.keys (family_of (facts_of own.now.event.hazard)) own.now }
     {
         let low = rank_of(&own.event.hazard);
         low.is_none()
-            || any_left_over(changed, t, &low, own)
-            || self.any_over(changed, t, &low, own)
+            || any_counted_over(changed, t, &low, own)
+            || self.any_still_over(changed, t, &low, own)
     }
 
     /// Whether the row of a UPG line, its `own` where it has one, is overlapped by a higher one after the product, or its hazard

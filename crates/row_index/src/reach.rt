@@ -14,7 +14,7 @@ use std::collections::btree_set::Range;
 use std::collections::{BTreeMap, BTreeSet};
 use std::marker::Model;
 
-/// The period of a row in its zone. They are in order by end, then begin, then spot.
+/// The period of a row in its zone. Periods are in order by end, then begin, then spot.
 #[derive(Clone, Copy, PartialEq, Eq, PartialOrd, Ord)]
 pub struct Reach {
     pub end: End,
@@ -23,7 +23,7 @@ pub struct Reach {
 }
 
 /// The periods of rows of one zone.
-type Ends = BTreeSet<Reach>;
+type Periods = BTreeSet<Reach>;
 
 fn reach_of(row: &Row) -> Reach
     ensures { result ≡ reach_of row.now }
@@ -48,17 +48,17 @@ pub fn period_of(reach: &Reach) -> Period
 }
 
 /// Takes out the period of the row before, if there was one.
-fn drop_end(ends: &mut Ends, before: &Option<Row>)
-    ensures { ends.new.keys ≡ less_reach before.now ends.old.keys }
+fn drop_period(periods: &mut Periods, before: &Option<Row>)
+    ensures { periods.new.keys ≡ less_reach before.now periods.old.keys }
 {
     if let Some(old) = before {
-        take_key(ends, &reach_of(old));
+        take_key(periods, &reach_of(old));
     }
 }
 
 /// Adds the period of a row, unless a line has ended it.
-fn add_end(ends: &mut Ends, row: &Row) -> Result<(), Oom>
-    ensures { OnOk result (ends.new.keys ≡ more_reach row.now ends.old.keys) }
+fn add_period(periods: &mut Periods, row: &Row) -> Result<(), Oom>
+    ensures { OnOk result (periods.new.keys ≡ more_reach row.now periods.old.keys) }
 {
     if !row.ended {
         let end = row.period.end;
@@ -68,32 +68,32 @@ fn add_end(ends: &mut Ends, row: &Row) -> Result<(), Oom>
             begin: row.period.begin,
             spot,
         };
-        add_key(ends, reach)?;
+        add_key(periods, reach)?;
     }
     Ok(())
 }
 
 /// The periods of a zone's rows that no line has ended.
 #[derive(Drop)]
-pub struct ZoneEnds {
-    ends: Ends,
+pub struct ZonePeriods {
+    periods: Periods,
 }
 
-impl Model for ZoneEnds {
+impl Model for ZonePeriods {
     ghost use Rattle.std.specs.Prelude.{List};
     ghost use Rattle.row_index.specs.declared.reach.Reach.{Reach};
 
     ghost Value = { List Reach };
 
-    ghost view = { λ x. x.ends.keys };
+    ghost view = { λ x. x.periods.keys };
 }
 
-impl ZoneEnds {
+impl ZonePeriods {
     fn new(alloc: Global) -> Self
         ensures { result ≡ [] }
     {
-        ZoneEnds {
-            ends: BTreeSet::new(alloc),
+        ZonePeriods {
+            periods: BTreeSet::new(alloc),
         }
     }
 
@@ -101,8 +101,8 @@ impl ZoneEnds {
     fn reach(&mut self, before: &Option<Row>, row: &Row) -> Result<(), Oom>
         ensures { OnOk result (self.new ≡ more_reach row.now (less_reach before.now self.old)) }
     {
-        drop_end(&mut self.ends, before);
-        add_end(&mut self.ends, row)
+        drop_period(&mut self.periods, before);
+        add_period(&mut self.periods, row)
     }
 
     /// The periods whose ends are not before a minute, in order.
@@ -116,12 +116,12 @@ impl ZoneEnds {
             begin: minutes_before(t, u32::MAX),
             spot: front,
         };
-        self.ends.range(from..)
+        self.periods.range(from..)
     }
 }
 
 /// The periods of each zone's rows that no line has ended.
-pub type Reaches = BTreeMap<ZoneKey, ZoneEnds>;
+pub type Reaches = BTreeMap<ZoneKey, ZonePeriods>;
 
 /// A row comes into the place of the one before in its zone.
 pub fn reach_with(
@@ -137,6 +137,6 @@ pub fn reach_with(
     }
     let known = reaches
         .entry(ZoneKey { zone: row.zone })?
-        .or_insert(ZoneEnds::new(alloc));
+        .or_insert(ZonePeriods::new(alloc));
     known.reach(before, row)
 }

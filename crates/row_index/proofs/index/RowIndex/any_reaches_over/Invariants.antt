@@ -8,4 +8,4 @@ use Rattle.row_index.proofs.index.RowIndex.any_reaches_over.Given as goal
 
 abbrev pub invariant-loop-reach : goal.invariant-loop-reach
 invariant-loop-reach l = list_any (reaches_over l.self (is_free (values_of l.changed.counted.entries) l.changed.upgraded.keys l.own.zone) (rises_over l.t l.low l.own) l.low l.own) l.reach-iterator
-    ≡ list_any (reaches_over l.self (is_free (values_of l.changed.counted.entries) l.changed.upgraded.keys l.own.zone) (rises_over l.t l.low l.own) l.low l.own) (filter (lasts l.t) l.ends)
+    ≡ list_any (reaches_over l.self (is_free (values_of l.changed.counted.entries) l.changed.upgraded.keys l.own.zone) (rises_over l.t l.low l.own) l.low l.own) (filter (lasts l.t) l.periods)

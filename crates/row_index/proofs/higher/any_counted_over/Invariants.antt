@@ -4,7 +4,7 @@ use Rattle.std.specs.List.{list_any}
 use Rattle.std.specs.Map.{values_of}
 use Rattle.row_index.specs.Numbers.{is_in_zone}
 use Rattle.row_index.specs.Steps.{stays_over}
-use Rattle.row_index.proofs.higher.any_left_over.Given as goal
+use Rattle.row_index.proofs.higher.any_counted_over.Given as goal
 
 abbrev pub invariant-loop-row : goal.invariant-loop-row
 invariant-loop-row l = list_any (stays_over l.t l.low l.changed.upgraded.keys l.own) (values_of l.row-iterator)
