@@ -14,3 +14,4 @@ mod Asked
 mod Changing
 mod Alone
 mod Shown
+pub mod SharedRows

@@ -3,6 +3,7 @@ pub mod Listing
 pub mod Holding
 pub mod Seating
 pub mod Zoning
+pub mod Sharing
 pub mod Risen
 pub mod Numbers
 pub mod Standings

@@ -1,5 +1,5 @@
 //! The rows of each event, by zone.
-ghost use Rattle.std.specs.Prelude.{◌≡◌, ◌&&◌, [], flat_map, IfOk, OnOk};
+ghost use Rattle.std.specs.Prelude.{◌≡◌, ◌&&◌, [], flat_map, option_map, IfOk, OnOk};
 ghost use Rattle.std.specs.BTreeMap.{insert_entry};
 ghost use Rattle.std.specs.List.{list_any};
 ghost use Rattle.std.specs.List.Sorted.{IsStrictlySortedBy};
@@ -7,7 +7,7 @@ ghost use Rattle.std.specs.Map.{values_of};
 ghost use Rattle.hazard_types.specs.Orders.{by_event};
 ghost use Rattle.hazard_types.specs.Places.{by_place};
 ghost use Rattle.event_life.specs.Periods.{is_live, keeps_open, same_at};
-ghost use Rattle.event_life.specs.Products.{by_key, put, row_at, has_rows};
+ghost use Rattle.event_life.specs.Products.{by_key, life_of, put, row_at, has_rows};
 ghost use Rattle.event_life.specs.Shown.{shown_at};
 ghost use Rattle.row_index.specs.Holding.{puts};
 ghost use Rattle.row_index.specs.Listing.{lists_of, list_at};
@@ -18,20 +18,22 @@ ghost use Rattle.row_index.specs.Standings.{restood};
 ghost use Rattle.row_index.specs.Steps.{put_each};
 ghost use Rattle.row_index.specs.Zoning.{AreOf, AreZoned};
 
+use crate::lives::row_with;
 use crate::numbers::{Events, put_event_of};
 use crate::parts::EventKey;
 use crate::reach::{Reaches, reach_with};
 use crate::seats::{Seated, put_seated};
 use crate::standing::{Standings, has_same_among, is_open_among, restand};
-use crate::zones::{Zoned, is_first_of, put_zoned, zone_row};
+use crate::zones::{Zoned, put_zoned};
+use event_life::Life;
 use hazard_types::{Event, List, Minute, Oom, Period, Row, Zone};
 use std::alloc::Global;
 use std::collections::BTreeMap;
 use std::marker::Model;
-use zone_map::ZoneMap;
 
 /// Puts a row among those of an event, and among those of them that no line has ended.
 fn put_standing(
+    alloc: Global,
     rows: &mut Zoned,
     standing: &mut Standings,
     row: &Row,
@@ -44,7 +46,7 @@ fn put_standing(
     ensures entries { OnOk result (rows.new ≡ insert_entry by_place rows.old row.now.zone row.now) }
     ensures standing { OnOk result (standing.new.entries ≡ restood before.new row.now standing.old.entries) }
 {
-    put_zoned(rows, row, before)?;
+    put_zoned(alloc, rows, row, before)?;
     restand(standing, before, row)
 }
 
@@ -73,7 +75,7 @@ impl EventRows {
         ensures { result ≡ [] }
     {
         EventRows {
-            rows: ZoneMap::new(alloc),
+            rows: Zoned::new(alloc),
             standing: BTreeMap::new(alloc),
         }
     }
@@ -87,18 +89,18 @@ impl EventRows {
         RowsOf { rows: Some(self) }
     }
 
-    /// The row of an event in a zone. `near` is a guess of its place.
-    fn row_at(&self, near: &mut usize, event: &Event, zone: &Zone) -> Option<Row>
-        ensures { result ≡ row_at self.now event.now zone.now }
+    /// The life of the row of an event in a zone. `near` is a guess of its place.
+    fn life_at(&self, near: &mut usize, event: &Event, zone: &Zone) -> Option<&Life>
+        ensures { option_map (λ life. life.now) result ≡ option_map life_of (row_at self.now event.now zone.now) }
     {
-        zone_row(&self.rows, near, event, zone)
+        self.rows.life_at(near, event, zone)
     }
 
     /// Whether a row is of an event.
     fn has_rows(&self, event: &Event) -> bool
         ensures { result ≡ has_rows self.now event.now }
     {
-        is_first_of(&self.rows.first(), event)
+        self.rows.is_of(event)
     }
 
     /// All the rows.
@@ -116,12 +118,12 @@ impl EventRows {
     }
 
     /// Puts a row of the event. `before` becomes the one that was there. When memory runs out, the event has no rows.
-    fn put(&mut self, row: &Row, before: &mut Option<Row>) -> Result<(), Oom>
+    fn put(&mut self, alloc: Global, row: &Row, before: &mut Option<Row>) -> Result<(), Oom>
         requires { AreOf row.now.event self.old }
         ensures before { OnOk result (before.new ≡ row_at self.old row.now.event row.now.zone) }
         ensures put { OnOk result (self.new ≡ put row.now self.old) }
     {
-        match put_standing(&mut self.rows, &mut self.standing, row, before) {
+        match put_standing(alloc, &mut self.rows, &mut self.standing, row, before) {
             Ok(()) => Ok(()),
             Err(oom) => {
                 self.rows.clear();
@@ -171,12 +173,22 @@ impl<'a> RowsOf<'a> {
         RowsOf { rows: None }
     }
 
+    /// The life of the row of an event in a zone. `near` is a guess of its place.
+    fn life_at(&self, near: &mut usize, event: &Event, zone: &Zone) -> Option<&Life>
+        ensures { option_map (λ life. life.now) result ≡ option_map life_of (row_at self.now event.now zone.now) }
+    {
+        match self.rows {
+            Some(rows) => rows.life_at(near, event, zone),
+            None => None,
+        }
+    }
+
     /// The row of an event in a zone. `near` is a guess of its place.
     pub fn row_at(&self, near: &mut usize, event: &Event, zone: &Zone) -> Option<Row>
         ensures { result ≡ row_at self.now event.now zone.now }
     {
-        match self.rows {
-            Some(rows) => rows.row_at(near, event, zone),
+        match self.life_at(near, event, zone) {
+            Some(life) => Some(row_with(event, zone, life)),
             None => None,
         }
     }
@@ -243,7 +255,7 @@ fn put_rows(
 {
     let mut before = None;
     for row in rows {
-        known.put(row, &mut before)?;
+        known.put(alloc, row, &mut before)?;
         reach_with(alloc, reaches, &before, row)?;
     }
     Ok(())
