@@ -1,23 +1,20 @@
 -- Rows of one event, each at its zone: where a row is put, and look-ups.
-use Rattle.std.proofs.Common.{◌≡◌, ◌∙◌, List, [], ◌∷◌, ◌&&◌, Bool, true, false, cond, Ordering, Less, Equal, Greater, Option, Some, None, refl, ap, sym, subst}
+use Rattle.std.proofs.Common.{◌≡◌, ◌∙◌, List, [], ◌∷◌, ◌&&◌, Bool, true, cond, Ordering, Less, Equal, Greater, Option, Some, refl, ap, sym, subst}
 use Rattle.std.proofs.lemmas.Cmp.{tied_itself}
 use Rattle.std.specs.BTreeMap.{insert_entry, is_at}
-use Rattle.std.specs.List.{AllByRecursion}
-use Rattle.std.specs.List.Sorted.{IsStrictlySortedBy}
-use Rattle.std.specs.Map.{keys_of, lookup, values_of}
-use Rattle.std.specs.Ordering.{match_ordering, ordering_then, is_eq}
+use Rattle.std.specs.Map.{lookup, values_of}
+use Rattle.std.specs.Ordering.{match_ordering, ordering_then}
 use Rattle.hazard_types.specs.Orders.{by_event}
 use Rattle.hazard_types.specs.Places.{Place, by_place}
 use Rattle.hazard_types.specs.Same.{same_zone, same_event}
 use Rattle.hazard_types.specs.declared.hazard.Event.{Event}
 use Rattle.hazard_types.specs.declared.line.Row.{Row}
 use Rattle.hazard_types.proofs.Equality.{event_itself}
-use Rattle.hazard_types.proofs.OrderLaws.{by_event_total, by_place_total, by_place_ties}
+use Rattle.hazard_types.proofs.OrderLaws.{by_event_total, by_place_ties}
 use Rattle.event_life.specs.Products.{by_key, placed, put, row_at}
 use Rattle.event_life.proofs.Puts.{at_key}
-use Rattle.row_index.specs.Zoning.{AreOf, AreZoned, only_of}
+use Rattle.row_index.specs.Zoning.{AreOf, AreZoned}
 use Rattle.row_index.proofs.Seated.{same_by}
-use Rattle.row_index.proofs.Tests.{at_one}
 
 abbrev Zones : Type 0
 Zones = List (Place × Row)
@@ -72,38 +69,3 @@ own_found d z [] at own = refl
 own_found d z (e ∷ es) at own =
     found_by (is_at (by_place z) e.0) (at_key d z e.1) e.1 (lookup (is_at (by_place z)) es) (row_at (values_of es) d z)
     (at_zone z e at.0 ∙ own_key d e.1 (same_zone e.1.zone z) own.0) (own_found d z es at.1 own.1)
-
-none_first : (a b : Bool) (r : Row) (o : Option Row) → b ≡ false → o ≡ None → cond (a && b) (Some r) o ≡ None
-none_first true b r o h later = rw h later
-none_first false b r o h later = later
-
-none_behind : (d : Event) (z : Place) (es : Zones) → AreZoned es → AllByRecursion (λ y. by_place z y ≡ Less) (keys_of es) → row_at (values_of es) d z ≡ None
-none_behind d z [] at all = refl
-none_behind d z (e ∷ es) at all =
-    none_first (same_event e.1.event d) (same_zone e.1.zone z) e.1 (row_at (values_of es) d z) (sym (at_zone z e at.0) ∙ ap is_eq all.0) (none_behind d z es at.1 all.1)
-
-only_by : (a : Bool) (r : Row) (o : Option Row) → o ≡ None → cond a (Some r) None ≡ cond (a && true) (Some r) o
-only_by true r o h = refl
-only_by false r o h = sym h
-
-later_by : (a : Bool) (r : Row) (o p : Option Row) → o ≡ p → o ≡ cond (a && false) (Some r) p
-later_by true r o p h = h
-later_by false r o p h = h
-
-pub zone_found : (d : Event) (z : Place) (es : Zones) → AreZoned es → IsStrictlySortedBy by_place (keys_of es) → only_of d (lookup (is_at (by_place z)) es) ≡ row_at (values_of es) d z
-unfolding IsStrictlySortedBy
-zone_found d z [] at up = refl
-zone_found d z (e ∷ es) at up = by_place_of (is_at (by_place z) e.0) refl (zone_found d z es at.1 up.1)
-  where
-    rest : Option Row
-    rest = row_at (values_of es) d z
-
-    by_place_of : (b : Bool) → is_at (by_place z) e.0 ≡ b → only_of d (lookup (is_at (by_place z)) es) ≡ rest → only_of d (cond b (Some e.1) (lookup (is_at (by_place z)) es)) ≡ cond (same_event e.1.event d && same_zone e.1.zone z) (Some e.1) rest
-    by_place_of true h later =
-        let one : z ≡ e.0 = at_one by_place by_place_total by_place_ties z e.0 h in
-        let behind : AllByRecursion (λ y. by_place z y ≡ Less) (keys_of es) = subst (λ (x : Place). AllByRecursion (λ y. by_place x y ≡ Less) (keys_of es)) (sym one) up.0 in
-        let here : same_zone e.1.zone z ≡ true = sym (at_zone z e at.0) ∙ h in
-        rw here (only_by (same_event e.1.event d) e.1 rest (none_behind d z es at.1 behind))
-    by_place_of false h later =
-        let away : same_zone e.1.zone z ≡ false = sym (at_zone z e at.0) ∙ h in
-        rw away (later_by (same_event e.1.event d) e.1 (only_of d (lookup (is_at (by_place z)) es)) rest later)

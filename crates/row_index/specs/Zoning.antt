@@ -1,5 +1,5 @@
 -- Rows by zone.
-use Rattle.std.specs.Prelude.{◌≡◌, Bool, false, List, [], ◌∷◌, if◌then◌else◌, Option, Some, None}
+use Rattle.std.specs.Prelude.{◌≡◌, Bool, false, List, [], ◌∷◌, Option, Some, None}
 use Rattle.std.specs.List.{AllByRecursion}
 use Rattle.hazard_types.specs.Places.{Place}
 use Rattle.hazard_types.specs.Same.{same_event}
@@ -23,8 +23,3 @@ AreOfFirst (r ∷ rows) = AreOf r.event rows
 abbrev pub is_first_of : Option Row → Event → Bool
 is_first_of None d = false
 is_first_of (Some r) d = same_event r.event d
-
--- a row, where it is of the event
-abbrev pub only_of : Event → Option Row → Option Row
-only_of d None = None
-only_of d (Some r) = if same_event r.event d then Some r else None

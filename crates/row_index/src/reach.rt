@@ -1,6 +1,5 @@
 //! How far the rows of each zone reach: the periods of those that no line has ended.
 ghost use Rattle.std.specs.Prelude.{◌≡◌, [], filter, OnOk};
-ghost use Rattle.hazard_types.specs.Places.{by_place};
 ghost use Rattle.row_index.specs.Reaching.{reach_of, period_of, less_reach, more_reach, reached_with, lasts};
 
 use crate::keys::{add_key, take_key};

@@ -1,8 +1,7 @@
 //! The rows of one event, each at its zone, which share what their lives have come to.
 ghost use Rattle.std.specs.Prelude.{◌≡◌, [], option_map, slice_get, IfOk, OnOk};
 ghost use Rattle.std.specs.BTreeMap.{insert_entry, is_at};
-ghost use Rattle.std.specs.List.Sorted.{IsStrictlySortedBy};
-ghost use Rattle.std.specs.Map.{keys_of, lookup, values_of};
+ghost use Rattle.std.specs.Map.{lookup, values_of};
 ghost use Rattle.hazard_types.specs.Places.{by_place};
 ghost use Rattle.event_life.specs.Products.{life_of, row_at};
 ghost use Rattle.row_index.specs.Zoning.{AreOf, is_first_of};
