@@ -110,6 +110,12 @@ def beside_as_many(count):
     return opened + "".join(one_zone(lines_of("UPG", "WW.Y", [number], "1900-0600")) for number in numbers)
 
 
+def under_upgraded(count):
+    numbers = range(1, count + 1)
+    opened = one_zone(lines_of("NEW", "WS.A", numbers), lines_of("NEW", "WW.Y", numbers))
+    return opened + one_zone(lines_of("UPG", "WW.Y", numbers), lines_of("UPG", "WS.A", numbers))
+
+
 def upgraded_together(count):
     numbers = range(1, count + 1)
     opened = one_zone(lines_of("NEW", "WS.A", numbers), lines_of("NEW", "WW.Y", numbers))
@@ -129,7 +135,8 @@ with tempfile.TemporaryDirectory() as place:
                               ("events of one zone that one product opens and one upgrades", all_upgraded, (2475, 9900)),
                               ("events of one zone that one product upgrades under as many warnings", under_as_many, (1200, 4800)),
                               ("events of one zone that a product each upgrades beside as many warnings", beside_as_many, (1200, 4800)),
-                              ("events of two ranks of one zone that one product upgrades and takes over", upgraded_together, (1200, 4800))):
+                              ("events of two ranks of one zone that one product upgrades and takes over", upgraded_together, (1200, 4800)),
+                              ("events of two ranks of one zone that one product upgrades", under_upgraded, (600, 2400))):
         before = None
         for size in sizes:
             with open(path, "w", newline="") as out:
