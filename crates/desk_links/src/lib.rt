@@ -11,6 +11,7 @@ mod port;
 mod port_memory;
 mod tcp;
 mod tcp_dialer;
+mod tcp_link;
 
 pub use dialer::{Dialer, Peer};
 pub use dialer_memory::{MemDialer, MemPeer};
@@ -19,5 +20,6 @@ pub use link::Link;
 pub use link_memory::MemLink;
 pub use port::{Door, Port};
 pub use port_memory::{MemDoor, MemPort};
-pub use tcp::{TcpDoor, TcpLink, TcpPort};
+pub use tcp::{TcpDoor, TcpPort};
 pub use tcp_dialer::{TcpDialer, TcpPeer};
+pub use tcp_link::TcpLink;

@@ -1,113 +1,46 @@
-//! The port, doors and links of the system, over TCP on this machine's own address. They tell
-//! nothing of the bytes, and are trusted.
-ghost use Rattle.std.specs.Prelude.{◌≡◌, ◌≤◌, ◌<◌, ◌+◌, ◌^◌, All, None, length, min, IfOk, OnOk};
+//! The port and doors of the system, over TCP on this machine's own address. They tell nothing of the
+//! links, and are trusted.
+ghost use Rattle.std.specs.Prelude.{◌≡◌, ◌≤◌, ◌+◌, ◌^◌, All, None, length, min, IfOk, OnOk};
 ghost use Rattle.desk_links.specs.Links.{IsUnused};
 
-use crate::link::Link;
 use crate::port::{Door, Port};
-use desk_traits::{Failed, Sink, Source};
+use crate::tcp_link::{Side, TcpLink};
+use desk_traits::Failed;
 use hazard_types::{List, Oom, Or};
 use std::alloc::Global;
-use std::io::{ErrorKind, Read, Write};
+use std::io::{Error, ErrorKind};
 use std::net::{Ipv4Addr, Net, SocketAddr, SocketAddrV4, TcpListener, TcpStream};
 use std::sync::Arc;
-use std::time::Duration;
+use std::time::{Clock, Duration};
 
-// The seconds after which a read or a write that waits for the other side has failed.
-const PATIENCE: u64 = 30;
+// How often an accept is tried in a row where a connection broke off before it was taken, or where the
+// system has no descriptor or no memory for it just now.
+const TRIES: usize = 100;
 
-// How often an accept is tried in a row where a connection broke off before it was taken.
-const TRIES: usize = 16;
+// The milliseconds that are waited before an accept is tried again for want of these.
+const PAUSE: u64 = 100;
 
-/// A stream with a count of the reads that failed and one of the writes. A write that takes nothing
-/// of a piece has failed, and so has a call that waited for thirty seconds.
-#[derive(Drop)]
-pub struct TcpLink {
-    stream: TcpStream,
-    pub(crate) read_faults: u64,
-    pub(crate) write_faults: u64,
-}
+// The system's numbers for want of memory, of descriptors in the system and in the program, and of
+// room for sockets.
+const LACKS: [i32; 4] = [12, 23, 24, 105];
 
-impl TcpLink {
-    // A link over the stream. Where the system does not take one of the settings it goes without.
-    pub(crate) fn over(stream: TcpStream) -> Self
-        ensures read { result.read_faults ≡ 0 }
-        ensures write { result.write_faults ≡ 0 }
-    {
-        let patience = Some(Duration::from_secs(PATIENCE));
-        let _ = stream.set_read_timeout(patience);
-        let _ = stream.set_write_timeout(patience);
-        let _ = stream.set_nodelay(true);
-        TcpLink {
-            stream,
-            read_faults: 0,
-            write_faults: 0,
-        }
+// Whether an accept failed for want of something that may be there again soon.
+fn is_want(error: &Error) -> bool {
+    match error.raw_os_error() {
+        Some(code) => LACKS.contains(&code),
+        None => false,
     }
 }
 
-impl Source for TcpLink {
-    ghost left = { λ _. None };
-
-    ghost faults = { λ l. l.read_faults };
-
-    ghost reads = { λ old new. new.write_faults ≡ old.write_faults };
-
-    fn read(&mut self, into: &mut [u8]) -> Result<usize, Failed> {
-        match self.stream.read(into) {
-            Ok(count) => Ok(count),
-            Err(_) => {
-                self.read_faults = self.read_faults.saturating_add(1);
-                Err(Failed)
-            }
-        }
-    }
-}
-
-impl Sink for TcpLink {
-    ghost use Rattle.desk_links.specs.LinkLaws.{count_same, count_kept};
-
-    ghost taken = { λ _. None };
-
-    ghost faults = { λ l. l.write_faults };
-
-    ghost writes = { λ old new. new.read_faults ≡ old.read_faults };
-
-    ghost no_writes = { λ l. count_same l.read_faults };
-
-    ghost more_writes = { λ old mid new first second. count_kept old.read_faults mid.read_faults new.read_faults first second };
-
-    fn write(&mut self, bytes: &[u8]) -> Result<usize, Failed> {
-        match self.stream.write(bytes) {
-            Ok(count) if 0 < count || bytes.is_empty() => Ok(count),
-            _ => {
-                self.write_faults = self.write_faults.saturating_add(1);
-                Err(Failed)
-            }
-        }
-    }
-}
-
-impl Link for TcpLink {
-    ghost use Rattle.std.specs.Prelude.{None};
-    ghost use Rattle.desk_links.specs.LinkLaws.{untold_alone};
-
-    ghost came = { λ _. None };
-
-    ghost reads_alone = { λ old new kept. untold_alone None old.write_faults new.write_faults kept };
-
-    ghost writes_alone = { λ old new kept. untold_alone None old.read_faults new.read_faults kept };
-
-    ghost told_whole = { λ _. tt };
-}
-
-// The next stream. A connection that broke off before it was taken is passed over, some times.
-fn next_stream(listener: &TcpListener) -> Option<TcpStream> {
+// The next stream. A connection that broke off before it was taken is passed over, and a want of
+// descriptors or memory is waited for, some times.
+fn next_stream<C: Clock>(clock: &C, listener: &TcpListener) -> Option<TcpStream> {
     for _ in 0..TRIES {
         match listener.accept() {
             Ok((stream, _address)) => return Some(stream),
             Err(error) => match error.kind() {
                 ErrorKind::ConnectionAborted | ErrorKind::Interrupted => {}
+                _ if is_want(&error) => clock.sleep(Duration::from_millis(PAUSE)),
                 _ => return None,
             },
         }
@@ -117,15 +50,16 @@ fn next_stream(listener: &TcpListener) -> Option<TcpStream> {
 
 /// A door of a port of the system. It closes the links that it takes back.
 #[derive(Drop)]
-pub struct TcpDoor {
+pub struct TcpDoor<C> {
+    clock: C,
     listener: Arc<TcpListener, Global>,
     faults: u64,
     given: u64,
     returned: u64,
 }
 
-impl Door for TcpDoor {
-    type Link = TcpLink;
+impl<C: Clock + Copy + Send + Drop> Door for TcpDoor<C> {
+    type Link = TcpLink<C>;
 
     ghost faults = { λ d. d.faults };
 
@@ -135,11 +69,11 @@ impl Door for TcpDoor {
 
     ghost links = { λ _. None };
 
-    fn accept(&mut self) -> Result<TcpLink, Failed> {
-        match next_stream(&self.listener) {
+    fn accept(&mut self) -> Result<TcpLink<C>, Failed> {
+        match next_stream(&self.clock, &self.listener) {
             Some(stream) => {
                 self.given += 1;
-                Ok(TcpLink::over(stream))
+                Ok(TcpLink::over(self.clock, stream, Side::Serves))
             }
             None => {
                 self.faults = self.faults.saturating_add(1);
@@ -148,8 +82,8 @@ impl Door for TcpDoor {
         }
     }
 
-    fn back(&mut self, link: TcpLink) {
-        drop(link);
+    fn back(&mut self, link: TcpLink<C>) {
+        link.close();
         self.returned += 1;
     }
 }
@@ -179,7 +113,12 @@ impl<R: Net<Listener = TcpListener, Stream = TcpStream>> TcpPort<R> {
 }
 
 // So many doors over one listener.
-fn doors_over(alloc: Global, listener: TcpListener, doors: usize) -> Result<Vec<TcpDoor>, Oom>
+fn doors_over<C: Clock + Copy>(
+    alloc: Global,
+    clock: C,
+    listener: TcpListener,
+    doors: usize,
+) -> Result<Vec<TcpDoor<C>>, Oom>
     ensures count { IfOk result (λ list. length list.items ≡ doors) }
     ensures unused { IfOk result (λ list. All (λ door. (door.given ≡ 0) × (door.returned ≡ 0) × (door.faults ≡ 0)) list.items) }
 {
@@ -187,6 +126,7 @@ fn doors_over(alloc: Global, listener: TcpListener, doors: usize) -> Result<Vec<
     let mut list = Vec::with_capacity(alloc, doors)?;
     for _ in 0..doors {
         list.push_reserved(TcpDoor {
+            clock,
             listener: Arc::try_clone(&shared)?,
             faults: 0,
             given: 0,
@@ -196,8 +136,9 @@ fn doors_over(alloc: Global, listener: TcpListener, doors: usize) -> Result<Vec<
     Ok(list)
 }
 
-impl<R: Net<Listener = TcpListener, Stream = TcpStream>> Port for TcpPort<R> {
-    type Door = TcpDoor;
+impl<R: Net<Listener = TcpListener, Stream = TcpStream> + Clock + Copy + Send + Drop> Port
+    for TcpPort<R> {
+    type Door = TcpDoor<R>;
 
     ghost faults = { λ p. p.faults };
 
@@ -207,10 +148,10 @@ impl<R: Net<Listener = TcpListener, Stream = TcpStream>> Port for TcpPort<R> {
 
     ghost numbers = { λ _. None };
 
-    fn listen(&mut self, port: u16, doors: usize) -> Result<List<TcpDoor>, Or<Failed>> {
+    fn listen(&mut self, port: u16, doors: usize) -> Result<List<TcpDoor<R>>, Or<Failed>> {
         let address = SocketAddr::V4(SocketAddrV4::new(Ipv4Addr::LOCALHOST, port));
         match self.net.bind(address) {
-            Ok(listener) => Ok(List::from_vec(doors_over(self.alloc, listener, doors)?)),
+            Ok(listener) => Ok(List::from_vec(doors_over(self.alloc, self.net, listener, doors)?)),
             Err(_) => {
                 self.faults = self.faults.saturating_add(1);
                 Err(Or::No(Failed))
@@ -218,7 +159,7 @@ impl<R: Net<Listener = TcpListener, Stream = TcpStream>> Port for TcpPort<R> {
         }
     }
 
-    fn back(&mut self, door: TcpDoor) {
+    fn back(&mut self, door: TcpDoor<R>) {
         self.faults = self.faults.saturating_add(door.faults);
         self.returned += door.returned;
     }

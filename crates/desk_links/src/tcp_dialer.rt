@@ -6,19 +6,20 @@ ghost use Rattle.desk_traits.specs.Streams.{Reads};
 use crate::ahead::Ahead;
 use crate::dialer::{Dialer, Peer};
 use crate::link::Link;
-use crate::tcp::TcpLink;
+use crate::tcp_link::{Side, TcpLink};
 use desk_traits::{Failed, Sink, Source};
 use std::net::{Ipv4Addr, Net, SocketAddr, SocketAddrV4, TcpListener, TcpStream};
+use std::time::Clock;
 
 /// A stream whose reads fail where the other side's bytes end. It takes what the system has of them,
 /// up to 4,096 bytes, and hands out those that are asked for; the others wait for the next read.
 #[derive(Drop)]
-pub struct TcpPeer {
-    link: TcpLink,
+pub struct TcpPeer<C> {
+    link: TcpLink<C>,
     ahead: Ahead,
 }
 
-impl Source for TcpPeer {
+impl<C: Clock> Source for TcpPeer<C> {
     ghost left = { λ _. None };
 
     ghost faults = { λ p. p.link.read_faults };
@@ -46,7 +47,7 @@ impl Source for TcpPeer {
     }
 }
 
-impl Sink for TcpPeer {
+impl<C: Clock> Sink for TcpPeer<C> {
     ghost use Rattle.desk_links.specs.LinkLaws.{count_same, count_kept};
 
     ghost taken = { λ _. None };
@@ -64,7 +65,7 @@ impl Sink for TcpPeer {
     }
 }
 
-impl Link for TcpPeer {
+impl<C: Clock> Link for TcpPeer<C> {
     ghost use Rattle.std.specs.Prelude.{None};
     ghost use Rattle.desk_links.specs.LinkLaws.{untold_alone};
 
@@ -77,7 +78,7 @@ impl Link for TcpPeer {
     ghost told_whole = { λ _. tt };
 }
 
-impl Peer for TcpPeer {
+impl<C: Clock> Peer for TcpPeer<C> {
     fn hear(&mut self, into: &mut [u8]) -> Result<usize, Failed> {
         self.read(into)
     }
@@ -110,8 +111,9 @@ impl<R: Net<Listener = TcpListener, Stream = TcpStream>> TcpDialer<R> {
     }
 }
 
-impl<R: Net<Listener = TcpListener, Stream = TcpStream>> Dialer for TcpDialer<R> {
-    type Link = TcpPeer;
+impl<R: Net<Listener = TcpListener, Stream = TcpStream> + Clock + Copy + Send + Drop> Dialer
+    for TcpDialer<R> {
+    type Link = TcpPeer<R>;
 
     ghost faults = { λ d. d.faults };
 
@@ -121,13 +123,13 @@ impl<R: Net<Listener = TcpListener, Stream = TcpStream>> Dialer for TcpDialer<R>
 
     ghost links = { λ _. None };
 
-    fn dial(&mut self) -> Result<TcpPeer, Failed> {
+    fn dial(&mut self) -> Result<TcpPeer<R>, Failed> {
         let address = SocketAddr::V4(SocketAddrV4::new(Ipv4Addr::LOCALHOST, self.port));
         match self.net.connect(address) {
             Ok(stream) => {
                 self.given += 1;
                 Ok(TcpPeer {
-                    link: TcpLink::over(stream),
+                    link: TcpLink::over(self.net, stream, Side::Asks),
                     ahead: Ahead::none(),
                 })
             }
@@ -138,7 +140,7 @@ impl<R: Net<Listener = TcpListener, Stream = TcpStream>> Dialer for TcpDialer<R>
         }
     }
 
-    fn back(&mut self, link: TcpPeer) {
+    fn back(&mut self, link: TcpPeer<R>) {
         let count = link.link.read_faults.saturating_add(link.link.write_faults);
         self.faults = self.faults.saturating_add(count);
         self.returned += 1;

@@ -1,4 +1,4 @@
-//! A subscriber of an office's products: what it has heard, and that it loses nothing.
+//! A follower of an office's products: what it has heard, and that it loses nothing.
 #![tactic(auto)]
 
 mod follower;

@@ -1,5 +1,5 @@
 -- The rows of an event are those at its spots.
-use Rattle.std.proofs.Common.{◌≡◌, ◌∙◌, ◌||◌, ℕ, suc, ◌+◌, ◌<◌, List, [], ◌∷◌, Bool, true, false, Option, Some, None, Ordering, Less, Equal, refl, sym, ap, cond, filter, find, fold, is_some, length, get_or, drop, drop-cons, arith}
+use Rattle.std.proofs.Common.{◌≡◌, ◌∙◌, ◌||◌, ℕ, suc, ◌+◌, ◌<◌, List, [], ◌∷◌, Bool, true, false, Option, Some, None, Ordering, Less, Equal, refl, sym, ap, cond, filter, find, is_some, length, get_or, drop, drop-cons, arith}
 use Rattle.std.specs.List.{AllByRecursion, list_any}
 use Rattle.std.specs.List.Sorted.{IsStrictlySortedBy}
 use Rattle.std.specs.Ordering.{ordering_then}
@@ -9,16 +9,13 @@ use Rattle.hazard_types.specs.Places.{Place, by_place}
 use Rattle.hazard_types.specs.Same.{same_event}
 use Rattle.hazard_types.specs.declared.hazard.Event.{Event}
 use Rattle.hazard_types.specs.declared.line.Row.{Row}
-use Rattle.hazard_types.specs.declared.period.End.{End}
 use Rattle.hazard_types.specs.declared.period.Period.{Period}
 use Rattle.hazard_types.proofs.Equality.{event_one}
 use Rattle.event_life.specs.Products.{by_key, row_at, has_rows}
 use Rattle.event_life.proofs.FreeOrder.{told_by_keys}
 use Rattle.event_life.proofs.LivesLemmas.{find-passes}
 use Rattle.event_life.proofs.Puts.{at_key, at_key-parts}
-use Rattle.hazard_board.specs.Board.{has_period}
 use Rattle.hazard_board.specs.Spots.{by_year, by_spot, is_spot, has_spot, spots_of, first_found, rows_on, rows_of_event, first_of, has_same, has_same_if, AreSpots}
-use Rattle.hazard_board.specs.Standing.{latest_end, latest_with, latest_with_if}
 use Rattle.hazard_board.specs.declared.spots.Spot.{Spot}
 use Rattle.hazard_board.proofs.SpotLemmas.{by_year_total, spot_parts, has_cons}
 
@@ -134,18 +131,6 @@ module _ (e : Event) (rows : List Row) (spots : List Spot) (up : IsStrictlySorte
 
 -- what the rows of an event tell, which are those at a run of spots
 
-latest_step : (b : Bool) (e : Event) (best : Option End) (r : Row) (rows : List Row) → same_event r.event e ≡ b →
-    ((some : Option End) → fold (latest_with e) some (rows_of_event e rows) ≡ fold (latest_with e) some rows) → fold (latest_with e) best (rows_of_event e (r ∷ rows)) ≡ fold (latest_with e) best (r ∷ rows)
-latest_step true e best r rows own more = rw own (more (latest_with e best r) ∙ rw own refl)
-latest_step false e best r rows own more = rw own (more best)
-
-latest_kept : (e : Event) (best : Option End) (rows : List Row) → fold (latest_with e) best (rows_of_event e rows) ≡ fold (latest_with e) best rows
-latest_kept e best [] = refl
-latest_kept e best (r ∷ rows) = latest_step (same_event r.event e) e best r rows refl (λ some. latest_kept e some rows)
-
-pub latest_is : (e : Event) (rows : List Row) (spots run : List Spot) → IsStrictlySortedBy by_key rows → AreSpots rows spots → run ≡ spots_of e spots → fold (latest_with e) None (rows_on rows run) ≡ latest_end rows e
-latest_is e rows spots run up are is = ap (λ (some : List Spot). fold (latest_with e) None (rows_on rows some)) is ∙ ap (fold (latest_with e) None) (rows_are e rows spots up are) ∙ latest_kept e None rows
-
 first_step : (b : Bool) (e : Event) (r : Row) (rows : List Row) → same_event r.event e ≡ b → first_of (rows_of_event e rows) ≡ find (λ (r : Row). same_event r.event e) rows → first_of (rows_of_event e (r ∷ rows)) ≡ find (λ (r : Row). same_event r.event e) (r ∷ rows)
 first_step true e r rows own more = rw own refl
 first_step false e r rows own more = rw own more
@@ -156,17 +141,6 @@ first_of_event e (r ∷ rows) = first_step (same_event r.event e) e r rows refl 
 
 pub first_is : (e : Event) (rows : List Row) (spots run : List Spot) → IsStrictlySortedBy by_key rows → AreSpots rows spots → run ≡ spots_of e spots → first_of (rows_on rows run) ≡ find (λ (r : Row). same_event r.event e) rows
 first_is e rows spots run up are is = ap (λ (some : List Spot). first_of (rows_on rows some)) is ∙ ap first_of (rows_are e rows spots up are) ∙ first_of_event e rows
-
-period_step : (b : Bool) (e : Event) (p : Period) (t : ℕ) (r : Row) (rows : List Row) → same_event r.event e ≡ b → list_any (has_same p t) (rows_of_event e rows) ≡ has_period rows e p t → list_any (has_same p t) (rows_of_event e (r ∷ rows)) ≡ has_period (r ∷ rows) e p t
-period_step true e p t r rows own more = rw own (ap (λ (b : Bool). has_same p t r || b) more)
-period_step false e p t r rows own more = rw own more
-
-period_of_event : (e : Event) (p : Period) (t : ℕ) (rows : List Row) → list_any (has_same p t) (rows_of_event e rows) ≡ has_period rows e p t
-period_of_event e p t [] = refl
-period_of_event e p t (r ∷ rows) = period_step (same_event r.event e) e p t r rows refl (period_of_event e p t rows)
-
-pub period_is : (e : Event) (p : Period) (t : ℕ) (rows : List Row) (spots run : List Spot) → IsStrictlySortedBy by_key rows → AreSpots rows spots → run ≡ spots_of e spots → list_any (has_same p t) (rows_on rows run) ≡ has_period rows e p t
-period_is e p t rows spots run up are is = ap (λ (some : List Spot). list_any (has_same p t) (rows_on rows some)) is ∙ ap (list_any (has_same p t)) (rows_are e rows spots up are) ∙ period_of_event e p t rows
 
 has_step : (b : Bool) (e : Event) (r : Row) (rows : List Row) → same_event r.event e ≡ b → is_some (find (λ (r : Row). same_event r.event e) rows) ≡ has_rows rows e → is_some (find (λ (r : Row). same_event r.event e) (r ∷ rows)) ≡ has_rows (r ∷ rows) e
 has_step true e r rows own more = rw own refl
@@ -187,10 +161,6 @@ none_first : (o : Option Row) (behind : List Row) → is_some o ≡ false → fi
 none_first None behind h = refl
 none_first (Some r) behind h = cc
 
-latest_first : (e : Event) (best : Option End) (o : Option Row) (behind : List Row) → fold (latest_with e) best (first_found o behind) ≡ fold (latest_with e) (latest_with_if e best o) behind
-latest_first e best None behind = refl
-latest_first e best (Some r) behind = refl
-
 any_first : (p : Period) (t : ℕ) (o : Option Row) (behind : List Row) → list_any (has_same p t) (first_found o behind) ≡ (has_same_if p t o || list_any (has_same p t) behind)
 any_first p t None behind = refl
 any_first p t (Some r) behind = refl
@@ -208,9 +178,6 @@ module _ (rows : List Row) (run : List Spot) (i : ℕ) (s : Spot) (o : Option Ro
 
   pub first_later : is_some o ≡ false → first_of (rows_on rows (drop i run)) ≡ first_of (rows_on rows (drop (i + 1) run))
   first_later h = ap first_of (cut ∙ none_first o (rows_on rows (drop (i + 1) run)) h)
-
-  pub latest_next : (e : Event) (best : Option End) → fold (latest_with e) best (rows_on rows (drop i run)) ≡ fold (latest_with e) (latest_with_if e best o) (rows_on rows (drop (i + 1) run))
-  latest_next e best = ap (fold (latest_with e) best) cut ∙ latest_first e best o (rows_on rows (drop (i + 1) run))
 
   pub same_next : (p : Period) (t : ℕ) → list_any (has_same p t) (rows_on rows (drop i run)) ≡ (has_same_if p t o || list_any (has_same p t) (rows_on rows (drop (i + 1) run)))
   same_next p t = ap (list_any (has_same p t)) cut ∙ any_first p t o (rows_on rows (drop (i + 1) run))

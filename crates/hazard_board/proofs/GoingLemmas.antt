@@ -24,7 +24,7 @@ use Rattle.hazard_board.proofs.StandingLemmas.{end_cons}
 
 -- an event is open by its greatest end
 
-abbrev open_by : ℕ → Option End → Bool
+abbrev pub open_by : ℕ → Option End → Bool
 open_by t None = false
 open_by t (Some end) = ends_within end t
 
@@ -60,7 +60,7 @@ open_fold t e (r ∷ rows) best =
     ∙ ap (λ (b : Bool). b || is_open rows t e) (open_step (same_event r.event e) r.ended t e r best refl refl)
     ∙ or_three (open_by t best) (same_event r.event e && keeps_open t r) (is_open rows t e)
 
-open_by_end : (t : ℕ) (e : Event) (rows : List Row) → open_by t (latest_end rows e) ≡ is_open rows t e
+pub open_by_end : (t : ℕ) (e : Event) (rows : List Row) → open_by t (latest_end rows e) ≡ is_open rows t e
 open_by_end t e rows = open_fold t e rows None
 
 -- the event of the greatest year

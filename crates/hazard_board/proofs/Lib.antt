@@ -29,3 +29,5 @@ pub mod QuietRows
 pub mod ZoneClashes
 pub mod KeySearch
 pub mod NewClashLemmas
+pub mod PeriodLemmas
+pub mod LiveLemmas

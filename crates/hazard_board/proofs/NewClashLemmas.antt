@@ -1,18 +1,23 @@
 -- Of rows that were apart, only those may clash that are new or not as they were.
-use Rattle.std.proofs.Common.{◌≡◌, ◌&&◌, not, ℕ, List, [], ◌∷◌, Bool, true, false, Option, Some, None, Less, refl, ap, find}
+use Rattle.std.proofs.Common.{◌≡◌, ◌∙◌, ◌⊎◌, inl, inr, ◌&&◌, not, ℕ, List, [], ◌∷◌, Bool, true, false, Option, Some, None, Less, refl, sym, ap, subst, filter, find}
 use Rattle.std.specs.List.{AllByRecursion, list_any}
 use Rattle.std.specs.List.Sorted.{IsStrictlySortedBy}
 use Rattle.std.proofs.lemmas.Bool.{false_from_ne_true}
+use Rattle.hazard_types.specs.Places.{Place}
+use Rattle.hazard_types.specs.Same.{same_zone}
+use Rattle.hazard_types.specs.declared.line.Line.{Line}
 use Rattle.hazard_types.specs.declared.line.Row.{Row}
-use Rattle.hazard_types.proofs.Equality.{row_one}
+use Rattle.hazard_types.proofs.Equality.{row_one, row_itself}
 use Rattle.event_life.specs.Products.{by_key, row_at}
-use Rattle.event_life.proofs.Puts.{at_key}
+use Rattle.event_life.proofs.Puts.{at_key, put-all}
 use Rattle.hazard_board.specs.Clashes.{clash, first_clash}
 use Rattle.hazard_board.specs.Consistent.{collide, EachToLater}
-use Rattle.hazard_board.specs.NewClashes.{is_same, stands, clash_either, clashes_among, new_clash}
-use Rattle.hazard_board.proofs.Among.{IsAmong, of_all, none_of_them, found_among, of_each, each_of}
+use Rattle.hazard_board.specs.NewClashes.{is_same, stands, clash_either, clashes_among, new_clash, clashes_if, left_clashes}
+use Rattle.hazard_board.specs.Board.{slice_of}
+use Rattle.hazard_board.specs.Taken.{row_left, put_if}
+use Rattle.hazard_board.proofs.Among.{IsAmong, of_all, all_of, found_at, none_of_them, found_among, of_each, each_of}
 use Rattle.hazard_board.proofs.QuietRows.{clash_collides}
-use Rattle.hazard_board.proofs.SliceLemmas.{either_false}
+use Rattle.hazard_board.proofs.SliceLemmas.{either_false, taken_in}
 
 -- rows of which no two clash have no first clash
 
@@ -50,3 +55,45 @@ module _ (t : ℕ) (rows some : List Row) (up : IsStrictlySortedBy by_key rows) 
 
   pub no_new_clash : IsStrictlySortedBy by_key some → first_clash t some ≡ None
   no_new_clash order = none_clash t some (each_of (λ a b. clash t a b ≡ false) some order (λ a b. quiet_pair (stands rows a) (stands rows b) a b refl refl))
+
+-- rows that no line leaves stand as they are
+
+and_never : (p q : Bool) → (p ≡ true) ⊎ (q ≡ false) → (not p && q) ≡ false
+and_never true q h = refl
+and_never false q (inl h) = cc
+and_never false q (inr h) = h
+
+filter_step : (P : Row → Type 0) (p : Row → Bool) (b : Bool) (r : Row) (rows : List Row) → p r ≡ b → P r → AllByRecursion P (filter p rows) → AllByRecursion P (filter p (r ∷ rows))
+filter_step P p true r rows is own all = rw is (own, all)
+filter_step P p false r rows is own all = rw is all
+
+all_kept : (P : Row → Type 0) (p : Row → Bool) (rows : List Row) → AllByRecursion P rows → AllByRecursion P (filter p rows)
+all_kept P p [] all = tt
+all_kept P p (r ∷ rows) all = filter_step P p (p r) r rows refl all.0 (all_kept P p rows all.1)
+
+module _ (t : ℕ) (rows target : List Row) where
+  abbrev IsQuiet : Row → Type 0
+  IsQuiet r = (stands rows r ≡ true) ⊎ (clashes_among t target r ≡ false)
+
+  put_quiet : (o : Option Row) (after : List Row) → clashes_if t target o ≡ false → AllByRecursion IsQuiet after → AllByRecursion IsQuiet (put_if o after)
+  put_quiet None after h all = all
+  put_quiet (Some row) after h all = put-all IsQuiet row after (inr h) all
+
+  all_quiet : (lines : List Line) (after : List Row) → list_any (left_clashes t rows target) lines ≡ false → AllByRecursion IsQuiet after → AllByRecursion IsQuiet (taken_in rows t after lines)
+  all_quiet [] after h all = all
+  all_quiet (line ∷ lines) after h all =
+      let p = either_false (left_clashes t rows target line) (list_any (left_clashes t rows target) lines) h in
+      all_quiet lines (put_if (row_left rows t line) after) p.1 (put_quiet (row_left rows t line) after p.0 all)
+
+  stand_quiet : IsStrictlySortedBy by_key rows → (r : Row) → IsAmong r rows → IsQuiet r
+  stand_quiet up r h = inl (ap (λ (o : Option Row). is_same o r) (found_at rows r up h) ∙ row_itself r)
+
+  none_new : (some : List Row) → AllByRecursion IsQuiet some → list_any (new_clash t rows target) some ≡ false
+  none_new [] all = refl
+  none_new (r ∷ some) all = rw (and_never (stands rows r) (clashes_among t target r) all.0) (none_new some all.1)
+
+  -- where no line's row clashes, no row does that is new, or not as it was
+  pub none_left : (z : Place) (own : List Line) → IsStrictlySortedBy by_key rows → list_any (left_clashes t rows target) own ≡ false → target ≡ taken_in rows t (slice_of z rows) own → list_any (new_clash t rows target) target ≡ false
+  none_left z own up h is =
+      none_new target (subst (λ (some : List Row). AllByRecursion IsQuiet some) (sym is)
+      (all_quiet own (slice_of z rows) h (all_kept IsQuiet (λ r. same_zone r.zone z) rows (all_of IsQuiet rows (stand_quiet up)))))

@@ -36,6 +36,10 @@ clash_parts t a b h =
     let u = and_parts (same_zone a.zone b.zone) _ s.0 in
     record { zone = u.0; first = u.1; second = s.1; over = r.1; kin = p.1 }
 
+-- both are live
+pub clash_live : (t : ℕ) (a b : Row) → clash t a b ≡ true → (is_live t a ≡ true) × (is_live t b ≡ true)
+clash_live t a b h = let c = clash_parts t a b h in (c.first, c.second)
+
 pub clash_collides : (t : ℕ) (a b : Row) → clash t a b ≡ true → collide a b ≡ true
 clash_collides t a b h =
     let c = clash_parts t a b h in

@@ -7,11 +7,12 @@ use Rattle.std.proofs.lemmas.List.Sums.{sum_by-append}
 use Rattle.hazard_types.specs.Same.{same_event}
 use Rattle.hazard_types.specs.declared.hazard.Event.{Event}
 use Rattle.hazard_types.specs.declared.line.Line.{Line}
-use Rattle.hazard_types.specs.declared.line.Row.{Row}
 use Rattle.hazard_types.specs.declared.period.End.{End}
 use Rattle.hazard_types.proofs.Equality.{event_one}
 use Rattle.event_life.specs.Products.{is_routine}
-use Rattle.hazard_board.specs.Standing.{latest_end, end_in, touched, touches_anew, newly}
+use Rattle.hazard_board.specs.Standing.{end_in, touched, touches_anew, newly}
+use Rattle.hazard_board.specs.Periods.{latest_in}
+use Rattle.hazard_board.specs.declared.periods.PeriodCount.{PeriodCount}
 use Rattle.hazard_board.specs.declared.standing.Standing.{Standing}
 
 touches : Event → Line → Bool
@@ -62,27 +63,27 @@ not_anew true b h e = cc
 not_anew false true h e = refl
 not_anew false false h e = cc
 
-module _ (rows : List Row) (lines : List Line) (was now : List Standing) (i : ℕ) (line : Line) (within : i < length lines) (is : line ≡ get_or lines i line)
-    (so_far : (e : Event) → end_in now e ≡ cond (touched (take i lines) e) (latest_end rows e) (end_in was e)) where
-  pub settled_anew : (after : List Standing) → touches_anew (take i lines) line ≡ true → ((d : Event) → end_in after d ≡ cond (same_event line.event d) (latest_end rows line.event) (end_in now d)) →
-      (e : Event) → end_in after e ≡ cond (touched (take (i + 1) lines) e) (latest_end rows e) (end_in was e)
+module _ (rows : List PeriodCount) (lines : List Line) (was now : List Standing) (i : ℕ) (line : Line) (within : i < length lines) (is : line ≡ get_or lines i line)
+    (so_far : (e : Event) → end_in now e ≡ cond (touched (take i lines) e) (latest_in rows e) (end_in was e)) where
+  pub settled_anew : (after : List Standing) → touches_anew (take i lines) line ≡ true → ((d : Event) → end_in after d ≡ cond (same_event line.event d) (latest_in rows line.event) (end_in now d)) →
+      (e : Event) → end_in after e ≡ cond (touched (take (i + 1) lines) e) (latest_in rows e) (end_in was e)
   settled_anew after anew set e =
       let p = and_parts (not (is_routine line.action)) _ anew in
-      set e ∙ anew_step true (is_routine line.action) (same_event line.event e) (touched (take i lines) e) line.event e (latest_end rows line.event) (end_in now e) (end_in was e) (latest_end rows e) (not-true _ p.0)
-      (λ h. ap (latest_end rows) (event_one line.event e h)) (so_far e)
-      ∙ ap (λ (b : Bool). cond b (latest_end rows e) (end_in was e)) (sym (grown lines i line e within is))
+      set e ∙ anew_step true (is_routine line.action) (same_event line.event e) (touched (take i lines) e) line.event e (latest_in rows line.event) (end_in now e) (end_in was e) (latest_in rows e) (not-true _ p.0)
+      (λ h. ap (latest_in rows) (event_one line.event e h)) (so_far e)
+      ∙ ap (λ (b : Bool). cond b (latest_in rows e) (end_in was e)) (sym (grown lines i line e within is))
 
-  pub settled_still : touches_anew (take i lines) line ≡ false → (e : Event) → end_in now e ≡ cond (touched (take (i + 1) lines) e) (latest_end rows e) (end_in was e)
+  pub settled_still : touches_anew (take i lines) line ≡ false → (e : Event) → end_in now e ≡ cond (touched (take (i + 1) lines) e) (latest_in rows e) (end_in was e)
   settled_still other e =
-      still_step (is_routine line.action) (same_event line.event e) (touched (take i lines) e) (end_in now e) (end_in was e) (latest_end rows e)
+      still_step (is_routine line.action) (same_event line.event e) (touched (take i lines) e) (end_in now e) (end_in was e) (latest_in rows e)
       (λ h own. ap (λ (d : Event). touched (take i lines) d) (sym (event_one line.event e h)) ∙ not_anew (is_routine line.action) (touched (take i lines) line.event) other own) (so_far e)
-      ∙ ap (λ (b : Bool). cond b (latest_end rows e) (end_in was e)) (sym (grown lines i line e within is))
+      ∙ ap (λ (b : Bool). cond b (latest_in rows e) (end_in was e)) (sym (grown lines i line e within is))
 
   -- the event of the line has the end of before
   end_unset : touches_anew (take i lines) line ≡ true → end_in now line.event ≡ end_in was line.event
   end_unset anew =
       let p = and_parts (not (is_routine line.action)) _ anew in
-      so_far line.event ∙ ap (λ (b : Bool). cond b (latest_end rows line.event) (end_in was line.event)) (not-true _ p.1)
+      so_far line.event ∙ ap (λ (b : Bool). cond b (latest_in rows line.event) (end_in was line.event)) (not-true _ p.1)
 
   abbrev comes : Line → Bool
   comes l = not (is_routine l.action) && is_none (end_in was l.event)

@@ -30,10 +30,10 @@ use Rattle.hazard_board.proofs.Turns.{put_held, fresh_longer}
 pub by_year_total : IsTotalOrder by_year
 by_year_total = then_total (on_total (λ (e : Event). e.year) nat_cmp_total) (then_total (on_total (λ (e : Event). e.etn) nat_cmp_total) by_event_total)
 
-year_ties : (a b : Event) → by_year a b ≡ Equal → a ≡ b
+pub year_ties : (a b : Event) → by_year a b ≡ Equal → a ≡ b
 year_ties a b h = by_event_ties a b (then_parts (nat_cmp a.etn b.etn) _ (then_parts (nat_cmp a.year b.year) _ h).1).1
 
-year_tied : (a b : Event) → is_eq (by_year a b) ≡ same_event a b
+pub year_tied : (a b : Event) → is_eq (by_year a b) ≡ same_event a b
 year_tied a b = alike _ _
     (λ h. let same = year_ties a b (is_tied (by_year a b) h) in rw same (event_itself b))
     (λ h. ap is_eq (ap (λ (e : Event). by_year a e) (sym (event_one a b h)) ∙ tied_itself by_year_total a))
@@ -86,11 +86,11 @@ module _ (s : Spot) (spots : List Spot) (i : ℕ) (place : i ≡ front (λ x. by
 -- a list in order stays so where an item is put
 
 module _ {X : Type 0} (R : X → X → Ordering) (total : IsTotalOrder R) where
-  all_after : (a x : X) (xs : List X) → R a x ≡ Less → AllByRecursion (λ y. R x y ≡ Less) xs → AllByRecursion (λ y. R a y ≡ Less) xs
+  pub all_after : (a x : X) (xs : List X) → R a x ≡ Less → AllByRecursion (λ y. R x y ≡ Less) xs → AllByRecursion (λ y. R a y ≡ Less) xs
   all_after a x [] less all = tt
   all_after a x (y ∷ xs) less all = (total.trans a x y less all.0, all_after a x xs less all.1)
 
-  all_tied : (a x : X) (xs : List X) → R x a ≡ Equal → AllByRecursion (λ y. R x y ≡ Less) xs → AllByRecursion (λ y. R a y ≡ Less) xs
+  pub all_tied : (a x : X) (xs : List X) → R x a ≡ Equal → AllByRecursion (λ y. R x y ≡ Less) xs → AllByRecursion (λ y. R a y ≡ Less) xs
   all_tied a x [] tie all = tt
   all_tied a x (y ∷ xs) tie all = (sym (total.congr x a y tie) ∙ all.0, all_tied a x xs tie all.1)
 
@@ -100,7 +100,7 @@ module _ {X : Type 0} (R : X → X → Ordering) (total : IsTotalOrder R) where
   put_step Equal a x xs h up more = (all_tied a x xs h up.0, up.1)
   put_step Greater a x xs h up more = let less : R a x ≡ Less = total.antisymm a x ∙ ap ordering_reverse h in ((less, all_after a x xs less up.0), up)
 
-  put_in_order : (a : X) (xs : List X) → IsStrictlySortedBy R xs → IsStrictlySortedBy R (put_at (λ y. R y a) a xs)
+  pub put_in_order : (a : X) (xs : List X) → IsStrictlySortedBy R xs → IsStrictlySortedBy R (put_at (λ y. R y a) a xs)
   unfolding IsStrictlySortedBy
   put_in_order a [] up = (tt, tt)
   put_in_order a (x ∷ xs) up = put_step (R x a) a x xs refl up (put_in_order a xs up.1)

@@ -9,3 +9,5 @@ pub mod Seats
 pub mod Shelves
 pub mod ByZone
 pub mod NewClashes
+pub mod Periods
+pub mod Live

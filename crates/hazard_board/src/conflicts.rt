@@ -8,12 +8,12 @@ ghost use Rattle.hazard_board.specs.Board.{slice_of};
 ghost use Rattle.hazard_board.specs.ByZone.{lines_of};
 ghost use Rattle.hazard_board.specs.Clashes.{clash, clash_of, first_clash, earlier_clash, may_clash};
 ghost use Rattle.hazard_board.specs.Consistent.{collide, EachToLater};
-ghost use Rattle.hazard_board.specs.NewClashes.{is_same, stands, clash_either, clashes_among, new_clash};
+ghost use Rattle.hazard_board.specs.NewClashes.{clash_either, clashes_among, left_clashes};
 ghost use Rattle.hazard_board.specs.Taken.{rows_taken};
 
+use crate::board_rows::BoardRows;
 use crate::by_zone::{lines_by_zone, lines_in};
-use crate::lines::{rows_taken, zone_taken};
-use crate::shelves::Shelves;
+use crate::lines::{row_left, rows_taken, zone_taken};
 use event_life::{is_live, overlaps};
 use hazard_types::desk_hazards::facts;
 use hazard_types::{Clash, Hazard, Line, Minute, Oom, Row, Zone};
@@ -109,23 +109,6 @@ fn those_that_may_clash(alloc: Global, rows: &[Row], t: Minute) -> Result<Vec<Ro
         .collect(alloc)
 }
 
-/// Whether the row is the one that is found, if any.
-fn is_same(found: &Option<Row>, row: &Row) -> bool
-    ensures { result ≡ is_same found.now row.now }
-{
-    match found {
-        Some(old) => *old == *row,
-        None => false,
-    }
-}
-
-/// Whether the row is among the rows as it is.
-fn stands(rows: &Shelves, row: &Row) -> bool
-    ensures { result ≡ stands rows.now.rows row.now }
-{
-    is_same(&rows.row_at(&row.event, &row.zone), row)
-}
-
 /// Whether the two rows clash, in either order.
 fn clash_either(t: Minute, a: &Row, b: &Row) -> bool
     ensures { result ≡ clash_either t a.now b.now }
@@ -140,18 +123,21 @@ fn clashes_among(t: Minute, some: &[Row], row: &Row) -> bool
     some.iter().any(|other| clash_either(t, row, other))
 }
 
-/// Whether the row is new, or not as it was, and clashes with one of some.
-fn new_clash(t: Minute, rows: &Shelves, some: &[Row], row: &Row) -> bool
-    ensures { result ≡ new_clash t rows.now.rows some.now row.now }
+/// Whether the row that a line leaves clashes with one of some.
+fn left_clashes(t: Minute, rows: &BoardRows, some: &[Row], line: &Line) -> bool
+    ensures { result ≡ left_clashes t rows.now.rows some.now line.now }
 {
-    !stands(rows, row) && clashes_among(t, some, row)
+    match row_left(rows, line, t) {
+        Some(row) => clashes_among(t, some, &row),
+        None => false,
+    }
 }
 
-/// Whether one of the rows is new, or not as it was, and clashes with another.
-fn has_new_clash(t: Minute, rows: &Shelves, some: &[Row]) -> bool
-    ensures { result ≡ list_any (new_clash t rows.now.rows some.now) some.now }
+/// Whether a row that one of the lines leaves clashes with one of some.
+fn has_left_clash(t: Minute, rows: &BoardRows, some: &[Row], lines: &[Line]) -> bool
+    ensures { result ≡ list_any (left_clashes t rows.now.rows some.now) lines.now }
 {
-    some.iter().any(|row| new_clash(t, rows, some, row))
+    lines.iter().any(|line| left_clashes(t, rows, some, line))
 }
 
 /// Of two clashes the one in the earlier zone.
@@ -173,10 +159,10 @@ fn earlier_clash(best: Option<Clash>, found: Option<Clash>) -> Option<Clash>
     }
 }
 
-/// The first clash in a zone after the lines, of which these are the zone's own. All pairs are gone through only where a row that is new, or not as it was, clashes: the others were apart.
+/// The first clash in a zone after the lines, of which these are the zone's own. All pairs are gone through only where a row that a line leaves clashes: the others were apart.
 fn clash_in(
     alloc: Global,
-    rows: &Shelves,
+    rows: &BoardRows,
     lines: &[Line],
     own: &[Line],
     t: Minute,
@@ -188,17 +174,17 @@ fn clash_in(
     ensures { IfOk result (λ found. found ≡ first_clash t (slice_of z.now (rows_taken rows.now.rows t lines.now))) }
 {
     let after = zone_taken(alloc, rows, lines, own, t, z)?;
-    let some = those_that_may_clash(alloc, &after, t)?;
-    if !has_new_clash(t, rows, &some) {
+    if !has_left_clash(t, rows, &after, own) {
         return Ok(None);
     }
+    let some = those_that_may_clash(alloc, &after, t)?;
     Ok(first_clash(&some, t))
 }
 
 /// The first clash after the lines, of rows of which no two of one zone and family that no line has ended overlap: only the zones of the lines are looked at.
 pub fn clash_in_zones(
     alloc: Global,
-    rows: &Shelves,
+    rows: &BoardRows,
     lines: &[Line],
     t: Minute,
 ) -> Result<Option<Clash>, Oom>
@@ -222,7 +208,7 @@ pub fn clash_in_zones(
 /// The first clash after the lines, in whatever zone it is.
 pub fn clash_anywhere(
     alloc: Global,
-    rows: &Shelves,
+    rows: &BoardRows,
     lines: &[Line],
     t: Minute,
 ) -> Result<Option<Clash>, Oom>

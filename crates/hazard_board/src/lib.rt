@@ -13,16 +13,19 @@ ghost use Rattle.hazard_board.specs.Consistent.{collide, EachToLater};
 ghost use Rattle.hazard_board.specs.Standing.{AreStandingOf};
 ghost use Rattle.hazard_board.specs.Taken.{rows_taken};
 
+mod board_rows;
 mod by_zone;
 mod conflicts;
 mod laws;
 mod lines;
 mod open_events;
+mod periods;
 mod searches;
 mod shelves;
 mod spots;
 mod standing;
 
+use board_rows::BoardRows;
 use conflicts::{clash_anywhere, clash_in_zones};
 use hazard_types::{Clash, Event, Hazard, Line, List, Minute, Oom, Period, Row, Zone};
 pub use laws::{
@@ -33,8 +36,9 @@ pub use laws::{
 use lines::bring_lines;
 pub use lines::openings;
 use open_events::{of_hazard, open_event};
-use shelves::{Shelves, live};
-use spots::{Spot, first_row, has_period};
+use periods::{PeriodCount, has_period};
+use shelves::live;
+use spots::{Spot, first_row};
 pub use standing::Standing;
 use standing::settle;
 use std::alloc::Global;
@@ -43,26 +47,29 @@ use std::marker::Model;
 /// The rows of all events that were opened, by zone, then event, each pair once.
 #[derive(Drop)]
 pub struct Board {
-    rows: Shelves,
+    rows: BoardRows,
     standing: Vec<Standing>,
     // Where the events have rows, ended ones among them: the event and zone of each row, by event.
     spots: Vec<Spot>,
+    // The periods of the rows that no line has ended, by event, each with the number of these rows.
+    periods: Vec<PeriodCount>,
 }
 
 impl Model for Board {
-    ghost use Rattle.std.specs.Prelude.{◌≡◌, ◌-◌, min};
+    ghost use Rattle.std.specs.Prelude.{◌≡◌, ◌≤◌, ◌-◌, min};
     ghost use Rattle.std.specs.List.Sorted.{IsStrictlySortedBy};
     ghost use Rattle.std.specs.Vec.{vec_len, vec_capacity};
     ghost use Rattle.event_life.specs.Products.{by_key};
     ghost use Rattle.hazard_board.specs.Board.{Posted};
+    ghost use Rattle.hazard_board.specs.Periods.{AreCounted};
     ghost use Rattle.hazard_board.specs.Spots.{AreSpots};
     ghost use Rattle.hazard_board.specs.Standing.{AreStanding};
 
     ghost Value = { Posted };
 
-    ghost view = { λ b. record { rows = b.rows.rows; spare = min b.rows.spare (min (vec_capacity b.standing - vec_len b.standing) (vec_capacity b.spots - vec_len b.spots)) } };
+    ghost view = { λ b. record { rows = b.rows.rows; spare = min b.rows.spare (min (vec_capacity b.standing - vec_len b.standing) (min (vec_capacity b.spots - vec_len b.spots) (vec_capacity b.periods - vec_len b.spots))) } };
 
-    ghost invariant = { λ b. IsStrictlySortedBy by_key b.rows.rows × AreStanding b.rows.rows b.standing.items × AreSpots b.rows.rows b.spots.items };
+    ghost invariant = { λ b. IsStrictlySortedBy by_key b.rows.rows × AreStanding b.rows.rows b.standing.items × AreSpots b.rows.rows b.spots.items × AreCounted b.rows.rows b.periods.items × (vec_len b.spots ≤ vec_capacity b.periods) };
 }
 
 impl Board {
@@ -71,9 +78,10 @@ impl Board {
         ensures { result.rows ≡ [] }
     {
         Board {
-            rows: Shelves::new(alloc),
+            rows: BoardRows::new(alloc),
             standing: Vec::new(alloc),
             spots: Vec::new(alloc),
+            periods: Vec::new(alloc),
         }
     }
 
@@ -87,6 +95,8 @@ impl Board {
         self.rows.reserve(n)?;
         self.standing.reserve(n)?;
         self.spots.reserve(n)?;
+        let fewer = self.spots.len() - self.periods.len();
+        self.periods.reserve(fewer + n)?;
         Ok(())
     }
 
@@ -139,7 +149,7 @@ impl Board {
     pub fn same_period(&self, e: Event, p: Period, t: Minute) -> bool
         ensures { result ≡ has_period self.now.rows e p t }
     {
-        has_period(&self.rows, &self.spots, t, &e, &p)
+        has_period(&self.periods, t, &e, &p)
     }
 
     /// The live rows of a zone, by event.
@@ -147,7 +157,7 @@ impl Board {
         ensures rows { IfOk result (λ live. live ≡ live_in z t self.now.rows) }
         ensures order { IfOk result (λ live. IsStrictlySortedBy by_row_event live) }
     {
-        Ok(List::from_vec(live(alloc, self.rows.slice_of(&z), t)?))
+        Ok(List::from_vec(live(alloc, self.rows.live_slice(&z, t), t)?))
     }
 
     /// The live rows, by zone, then event.
@@ -166,8 +176,9 @@ impl Board {
         ensures spare { self.old.spare ≤ self.new.spare + openings lines.now }
     {
         let lines = lines.as_slice();
-        bring_lines(&mut self.rows, &mut self.spots, lines, t);
-        settle(&mut self.standing, &self.rows, &self.spots, lines);
+        bring_lines(&mut self.rows, &mut self.spots, &mut self.periods, lines, t);
+        settle(&mut self.standing, &self.periods, lines);
+        self.rows.pass(t);
     }
 
     /// The least clash after the lines, with NumberHeld left aside: two live rows of one zone whose events are of one family and whose periods overlap.

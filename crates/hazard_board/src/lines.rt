@@ -4,13 +4,16 @@ ghost use Rattle.std.specs.List.Sorted.{IsStrictlySortedBy};
 ghost use Rattle.std.specs.Vec.{vec_capacity};
 ghost use Rattle.event_life.specs.Products.{by_key, life_of};
 ghost use Rattle.event_life.specs.Lives.{opens};
+ghost use Rattle.event_life.specs.Shown.{shown_at};
 ghost use Rattle.hazard_board.specs.Board.{openings, slice_of};
 ghost use Rattle.hazard_board.specs.ByZone.{lines_of};
+ghost use Rattle.hazard_board.specs.Periods.{AreCounted};
 ghost use Rattle.hazard_board.specs.Spots.{AreSpots};
 ghost use Rattle.hazard_board.specs.Taken.{wanted, left_on, row_left, put_if, rows_taken, taken_in_turn};
 
+use crate::board_rows::BoardRows;
+use crate::periods::{PeriodCount, count_if};
 use crate::searches::put;
-use crate::shelves::Shelves;
 use crate::spots::{Spot, put_spot_if};
 use event_life::{Around, Life, is_routine, life_step, row_of};
 use hazard_types::{Action, Line, Minute, Oom, Row, Zone};
@@ -57,7 +60,7 @@ fn left_on(life: Option<Life>, line: &Line, t: Minute) -> Option<Row>
 }
 
 /// The row that a line leaves of the life that it meets.
-fn row_left(rows: &Shelves, line: &Line, t: Minute) -> Option<Row>
+pub fn row_left(rows: &BoardRows, line: &Line, t: Minute) -> Option<Row>
     ensures { result ≡ row_left rows.now.rows t line.now }
 {
     left_on(life_of(&rows.row_at(&line.event, &line.zone)), line, t)
@@ -78,7 +81,7 @@ fn put_if(rows: &mut Vec<Row>, row: &Option<Row>) -> Result<(), Oom>
 }
 
 /// Puts a row on its shelf, if there is one.
-fn shelve_if(rows: &mut Shelves, row: &Option<Row>)
+fn shelve_if(rows: &mut BoardRows, row: &Option<Row>)
     requires { length (put_if row.now rows.old.rows) ≤ rows.old.spare + length rows.old.rows }
     ensures rows { rows.new.rows ≡ put_if row.now rows.old.rows }
     ensures spare { rows.old.spare + length rows.old.rows ≤ rows.new.spare + length rows.new.rows }
@@ -89,18 +92,30 @@ fn shelve_if(rows: &mut Shelves, row: &Option<Row>)
     }
 }
 
-/// Brings the row that a line leaves of the life that it meets among the rows, and its spot among the spots.
-fn bring_line(rows: &mut Shelves, spots: &mut Vec<Spot>, line: &Line, t: Minute)
+/// Brings the row that a line leaves of the life that it meets among the rows, its spot among the spots, and its period among the periods.
+fn bring_line(
+    rows: &mut BoardRows,
+    spots: &mut Vec<Spot>,
+    periods: &mut Vec<PeriodCount>,
+    line: &Line,
+    t: Minute,
+)
     requires order { IsStrictlySortedBy by_key rows.old.rows }
     requires spots { AreSpots rows.old.rows spots.old.items }
+    requires periods { AreCounted rows.old.rows periods.old.items }
     requires room { length (put_if (row_left rows.old.rows t line.now) rows.old.rows) ≤ rows.old.spare + length rows.old.rows }
     requires places { length (put_if (row_left rows.old.rows t line.now) rows.old.rows) ≤ vec_capacity spots.old }
+    requires counts { length (put_if (row_left rows.old.rows t line.now) rows.old.rows) ≤ vec_capacity periods.old }
     ensures rows { rows.new.rows ≡ put_if (row_left rows.old.rows t line.now) rows.old.rows }
     ensures spots { AreSpots rows.new.rows spots.new.items }
+    ensures periods { AreCounted rows.new.rows periods.new.items }
     ensures spare { rows.old.spare + length rows.old.rows ≤ rows.new.spare + length rows.new.rows }
     ensures capacity { vec_capacity spots.old ≤ vec_capacity spots.new }
+    ensures counts { vec_capacity periods.old ≤ vec_capacity periods.new }
 {
-    let row = row_left(rows, line, t);
+    let old = rows.row_at(&line.event, &line.zone);
+    let row = left_on(life_of(&old), line, t);
+    count_if(periods, &old, &row);
     shelve_if(rows, &row);
     match put_spot_if(spots, &row) {
         Ok(()) => {}
@@ -108,28 +123,44 @@ fn bring_line(rows: &mut Shelves, spots: &mut Vec<Spot>, line: &Line, t: Minute)
     }
 }
 
-/// Brings the rows that lines leave among the rows, and their spots among the spots. Each line meets the rows that the lines before it left.
-pub fn bring_lines(rows: &mut Shelves, spots: &mut Vec<Spot>, lines: &[Line], t: Minute)
+/// Brings the rows that lines leave among the rows, with their spots and periods. Each line meets the rows that the lines before it left.
+pub fn bring_lines(
+    rows: &mut BoardRows,
+    spots: &mut Vec<Spot>,
+    periods: &mut Vec<PeriodCount>,
+    lines: &[Line],
+    t: Minute,
+)
     requires order { IsStrictlySortedBy by_key rows.old.rows }
     requires spots { AreSpots rows.old.rows spots.old.items }
+    requires periods { AreCounted rows.old.rows periods.old.items }
     requires room { length (taken_in_turn t rows.old.rows lines.now) ≤ rows.old.spare + length rows.old.rows }
     requires places { length (taken_in_turn t rows.old.rows lines.now) ≤ vec_capacity spots.old }
+    requires counts { length (taken_in_turn t rows.old.rows lines.now) ≤ vec_capacity periods.old }
     ensures rows { rows.new.rows ≡ taken_in_turn t rows.old.rows lines.now }
     ensures spots { AreSpots rows.new.rows spots.new.items }
+    ensures periods { AreCounted rows.new.rows periods.new.items }
     ensures spare { rows.old.spare + length rows.old.rows ≤ rows.new.spare + length rows.new.rows }
     ensures capacity { vec_capacity spots.old ≤ vec_capacity spots.new }
+    ensures counts { vec_capacity periods.old ≤ vec_capacity periods.new }
 {
     for line in lines {
-        bring_line(rows, spots, line, t);
+        bring_line(rows, spots, periods, line, t);
     }
 }
 
-/// The rows after the lines, each of which meets the rows before them.
-pub fn rows_taken(alloc: Global, rows: &Shelves, lines: &[Line], t: Minute) -> Result<Vec<Row>, Oom>
+/// Rows among which are all that are live after the lines, each of which meets the rows before them.
+pub fn rows_taken(
+    alloc: Global,
+    rows: &BoardRows,
+    lines: &[Line],
+    t: Minute,
+) -> Result<Vec<Row>, Oom>
     requires { IsStrictlySortedBy by_key rows.now.rows }
-    ensures { IfOk result (λ after. after.items ≡ rows_taken rows.now.rows t lines.now) }
+    ensures live { IfOk result (λ after. shown_at t after.items ≡ shown_at t (rows_taken rows.now.rows t lines.now)) }
+    ensures order { IfOk result (λ after. IsStrictlySortedBy by_key after.items) }
 {
-    let mut after = rows.gathered(alloc)?;
+    let mut after = rows.shown(alloc, t)?;
     for line in lines {
         let row = row_left(rows, line, t);
         put_if(&mut after, &row)?;
@@ -137,10 +168,10 @@ pub fn rows_taken(alloc: Global, rows: &Shelves, lines: &[Line], t: Minute) -> R
     Ok(after)
 }
 
-/// The rows of a zone after the lines, each of which meets the rows before them. Of the lines only the zone's own are looked at.
+/// Rows of a zone among which are all that are live after the lines, each of which meets the rows before them. Of the lines only the zone's own are looked at.
 pub fn zone_taken(
     alloc: Global,
-    rows: &Shelves,
+    rows: &BoardRows,
     lines: &[Line],
     own: &[Line],
     t: Minute,
@@ -148,10 +179,10 @@ pub fn zone_taken(
 ) -> Result<Vec<Row>, Oom>
     requires order { IsStrictlySortedBy by_key rows.now.rows }
     requires own { own.now ≡ lines_of z.now lines.now }
-    ensures items { IfOk result (λ after. after.items ≡ slice_of z.now (rows_taken rows.now.rows t lines.now)) }
+    ensures live { IfOk result (λ after. shown_at t after.items ≡ shown_at t (slice_of z.now (rows_taken rows.now.rows t lines.now))) }
     ensures order { IfOk result (λ after. IsStrictlySortedBy by_key after.items) }
 {
-    let mut after = Vec::from_slice(alloc, rows.slice_of(z))?;
+    let mut after = Vec::from_slice(alloc, rows.live_slice(z, t))?;
     for line in own {
         let row = row_left(rows, line, t);
         put_if(&mut after, &row)?;

@@ -1,5 +1,5 @@
 //! The rows on shelves: a row that comes in moves those of its own shelf alone.
-ghost use Rattle.std.specs.Prelude.{◌≡◌, ◌≤◌, ◌<◌, ◌+◌, ◌-◌, ◌++◌, ℕ, [], length, drop, get_or, IfOk, IfSome, OnOk, OnErr};
+ghost use Rattle.std.specs.Prelude.{◌≡◌, ◌≤◌, ◌<◌, ◌+◌, ◌-◌, ◌++◌, ℕ, [], length, drop, get_or, IfOk, IfSome, OnOk, OnErr, if◌then◌else◌};
 ghost use Rattle.std.specs.List.Sorted.{IsStrictlySortedBy};
 ghost use Rattle.std.specs.Ordering.{is_le};
 ghost use Rattle.std.specs.Vec.{vec_len, vec_capacity};
@@ -71,6 +71,20 @@ fn put_within(rows: &mut Vec<Row>, row: &Row)
     match put(rows, row) {
         Ok(()) => {}
         Err(_) => unreachable!(),
+    }
+}
+
+/// Puts a row among rows if they have room for it. Otherwise nothing changes, and the answer is false.
+fn put_if_fits(rows: &mut Vec<Row>, row: &Row) -> bool
+    requires { IsStrictlySortedBy by_key rows.old.items }
+    ensures rows { rows.new.items ≡ (if result then put row.now rows.old.items else rows.old.items) }
+    ensures capacity { vec_capacity rows.old ≤ vec_capacity rows.new }
+{
+    if rows.len() < rows.capacity() || row_at(rows, &row.event, &row.zone).is_some() {
+        put_within(rows, row);
+        true
+    } else {
+        false
     }
 }
 
@@ -205,6 +219,23 @@ impl Shelves {
         }
     }
 
+    /// These rows, on one shelf.
+    pub fn from_rows(rows: Vec<Row>) -> Self
+        requires { IsStrictlySortedBy by_key rows.items }
+        ensures { result.rows ≡ rows.items }
+    {
+        let alloc = *rows.allocator();
+        Shelves {
+            first: rows,
+            later: Vec::new(alloc),
+        }
+    }
+
+    /// What memory for the rows is taken of.
+    pub fn allocator(&self) -> Global {
+        *self.first.allocator()
+    }
+
     /// For how many more rows there is memory, wherever they stand.
     fn spare(&self) -> usize
         ensures { result ≡ self.now.spare }
@@ -272,15 +303,17 @@ impl Shelves {
         }
     }
 
-    /// All rows, in a list of their own.
-    pub fn gathered(&self, alloc: Global) -> Result<Vec<Row>, Oom>
-        ensures { IfOk result (λ rows. rows.items ≡ self.now.rows) }
+    /// Puts a row as `put` does if there is memory for it on its shelf. Otherwise nothing changes, and the answer is false.
+    pub fn put_if_room(&mut self, row: &Row) -> bool
+        ensures { self.new.rows ≡ (if result then put row.now self.old.rows else self.old.rows) }
     {
-        let mut rows = Vec::from_slice(alloc, &self.first)?;
-        for shelf in &self.later {
-            rows.extend_from_slice(&shelf.rows)?;
+        let place = shelves_through(&self.later, &row.zone);
+        if place == 0 {
+            put_if_fits(&mut self.first, row)
+        } else {
+            let shelf = &mut self.later[place - 1];
+            put_if_fits(&mut shelf.rows, row)
         }
-        Ok(rows)
     }
 
     /// The live rows.

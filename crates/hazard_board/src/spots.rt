@@ -1,18 +1,16 @@
 //! The spots of the rows: the event and zone of each, by which the rows of one event are found without the others.
 ghost use Rattle.std.specs.Prelude.{◌≡◌, ◌≤◌, ◌<◌, length, filter, find, IfOk, OnOk, OnErr};
-ghost use Rattle.std.specs.List.{prefix_len, list_any};
+ghost use Rattle.std.specs.List.{prefix_len};
 ghost use Rattle.std.specs.List.Sorted.{IsStrictlySortedBy};
 ghost use Rattle.std.specs.Ordering.{is_lt, is_le};
 ghost use Rattle.std.specs.Vec.{vec_capacity};
 ghost use Rattle.hazard_types.specs.Same.{same_event};
 ghost use Rattle.event_life.specs.Products.{by_key};
-ghost use Rattle.hazard_board.specs.Board.{has_period};
-ghost use Rattle.hazard_board.specs.Spots.{by_year, by_spot, spots_of, put_spot, put_spot_if, spot_seated, IsSpotSeat, first_of, rows_on, has_same, has_same_if, AreSpots};
+ghost use Rattle.hazard_board.specs.Spots.{by_year, by_spot, spots_of, put_spot, put_spot_if, spot_seated, IsSpotSeat, first_of, rows_on, AreSpots};
 
+use crate::board_rows::BoardRows;
 use crate::searches::then_by_event;
-use crate::shelves::Shelves;
-use event_life::{is_live, same_at};
-use hazard_types::{Event, Minute, Oom, Period, Row, Zone};
+use hazard_types::{Event, Oom, Row, Zone};
 use std::cmp::Ordering;
 
 /// The event and zone of a row.
@@ -23,7 +21,7 @@ pub struct Spot {
 }
 
 /// How two events stand in the order by year, then number, then hazard.
-fn order_by_year(a: &Event, b: &Event) -> Ordering
+pub fn order_by_year(a: &Event, b: &Event) -> Ordering
     ensures { result ≡ by_year a.now b.now }
 {
     then_by_event(a.year.cmp(&b.year).then(a.etn.cmp(&b.etn)), a, b)
@@ -138,7 +136,7 @@ pub fn spots_of<'a>(spots: &'a [Spot], e: &Event) -> &'a [Spot]
 }
 
 /// The first row at the spots.
-fn first_on(rows: &Shelves, spots: &[Spot]) -> Option<Row>
+fn first_on(rows: &BoardRows, spots: &[Spot]) -> Option<Row>
     ensures { result ≡ first_of (rows_on rows.now.rows spots.now) }
 {
     for spot in spots {
@@ -151,42 +149,10 @@ fn first_on(rows: &Shelves, spots: &[Spot]) -> Option<Row>
 }
 
 /// The first row of an event, by zone. Only its own rows are looked at.
-pub fn first_row(rows: &Shelves, spots: &[Spot], e: &Event) -> Option<Row>
+pub fn first_row(rows: &BoardRows, spots: &[Spot], e: &Event) -> Option<Row>
     requires order { IsStrictlySortedBy by_key rows.now.rows }
     requires spots { AreSpots rows.now.rows spots.now }
     ensures { result ≡ find (λ r. same_event r.event e.now) rows.now.rows }
 {
     first_on(rows, spots_of(spots, e))
-}
-
-/// Whether there is a row, live and with the same period.
-fn has_same(row: &Option<Row>, t: Minute, p: &Period) -> bool
-    ensures { result ≡ has_same_if p.now t row.now }
-{
-    match row {
-        Some(row) => is_live(row, t) && same_at(t, &row.period, p),
-        None => false,
-    }
-}
-
-/// Whether a row at one of the spots is live and has the same period.
-fn same_on(rows: &Shelves, spots: &[Spot], t: Minute, p: &Period) -> bool
-    ensures { result ≡ list_any (has_same p.now t) (rows_on rows.now.rows spots.now) }
-{
-    for spot in spots {
-        let row = rows.row_at(&spot.event, &spot.zone);
-        if has_same(&row, t, p) {
-            return true;
-        }
-    }
-    false
-}
-
-/// Whether a live row of the event has the same period. Only its own rows are looked at.
-pub fn has_period(rows: &Shelves, spots: &[Spot], t: Minute, e: &Event, p: &Period) -> bool
-    requires order { IsStrictlySortedBy by_key rows.now.rows }
-    requires spots { AreSpots rows.now.rows spots.now }
-    ensures { result ≡ has_period rows.now.rows e.now p.now t }
-{
-    same_on(rows, spots_of(spots, e), t, p)
 }

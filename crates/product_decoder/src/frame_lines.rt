@@ -74,19 +74,20 @@ fn line_in(zone: &Zone, said: &EventPair) -> Line
 }
 
 /// Adds what pairs say in a zone.
-fn put_zone_lines(out: &mut List<Line>, zone: &Zone, said: &[EventPair]) -> Result<(), Oom>
-    ensures { OnOk result (out.new ≡ out.old ++ map (line_in zone.now) said.now) }
+fn put_zone_lines(out: &mut Vec<Line>, zone: &Zone, said: &[EventPair]) -> Result<(), Oom>
+    ensures { OnOk result (out.new.items ≡ out.old.items ++ map (line_in zone.now) said.now) }
 {
     for pair in said {
-        out.extend(&[line_in(zone, pair)])?;
+        out.extend_from_slice(&[line_in(zone, pair)])?;
     }
     Ok(())
 }
 
 /// Adds what pairs say in each of these zones.
-fn put_lines(out: &mut List<Line>, zones: &[Zone], said: &[EventPair]) -> Result<(), Oom>
-    ensures { OnOk result (out.new ≡ out.old ++ lines_in zones.now said.now) }
+fn put_lines(out: &mut Vec<Line>, zones: &[Zone], said: &[EventPair]) -> Result<(), Oom>
+    ensures { OnOk result (out.new.items ≡ out.old.items ++ lines_in zones.now said.now) }
 {
+    out.reserve(zones.len().saturating_mul(said.len()))?;
     for zone in zones {
         put_zone_lines(out, zone, said)?;
     }
@@ -104,13 +105,13 @@ fn lines_in_segments(
 ) -> Result<List<Line>, Oom>
     ensures { IfOk result (λ lines. lines ≡ lines_in_segments office.now class.now rows.now t segments.now) }
 {
-    let mut lines = List::new(alloc);
+    let mut lines = Vec::new(alloc);
     for segment in segments {
         let pairs = segment.pairs.as_slice();
         let said = event_pairs(alloc, office, class, rows, t, pairs)?;
         put_lines(&mut lines, segment.zones.as_slice(), said.as_slice())?;
     }
-    Ok(lines)
+    Ok(List::from_vec(lines))
 }
 
 /// What the lines of an office and class say of their events, by the frame of their product.

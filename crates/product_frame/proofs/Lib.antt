@@ -21,3 +21,4 @@ pub mod HeadingLines
 pub mod SegmentLines
 pub mod EndToEnd
 pub mod ProductLines
+pub mod Listed

@@ -9,7 +9,7 @@ mod walk;
 mod write;
 
 pub use frame::{Frame, FrameFault, FrameSegment, Heading, Pair};
-pub use read::{frame_or_fault, is_heading, read_frame};
+pub use read::{frame_or_fault, is_heading, read_frame, read_frame_with};
 pub use split::{split_products, texts_are_split_apart};
 pub use text::next_start;
 pub use write::{Block, Body, frame_text};

@@ -1,5 +1,5 @@
 //! Frames are read.
-ghost use Rattle.std.specs.Prelude.{◌≡◌, ◌⊎◌, ℕ, List as Seq, ◌≤◌, ◌<◌, ◌^◌, ◌+◌, length, [], ◌∷◌, drop, IfOk, IfSome, is_some, take};
+ghost use Rattle.std.specs.Prelude.{◌≡◌, ◌⊎◌, ℕ, List as Seq, ◌≤◌, ◌<◌, ◌^◌, ◌+◌, length, [], ◌∷◌, drop, IfOk, IfSome, OnOk, is_some, take};
 ghost use Rattle.std.specs.List.{All};
 ghost use Rattle.hazard_types.specs.Given.{Gives};
 ghost use Rattle.product_frame.specs.Text.{starts, starts_from, line_of};
@@ -10,10 +10,10 @@ ghost use Rattle.product_frame.specs.Frame.{FrameOf};
 ghost use Rattle.product_frame.specs.declared.frame.Frame.{Frame as FrameValue};
 ghost use Rattle.product_frame.specs.declared.frame.FrameFault.{FrameFault as FaultValue};
 ghost use Rattle.product_frame.specs.Faults.{FrameFaultOf};
-ghost use Rattle.product_frame.specs.Frames.{line_at, heading_index, first_heading, full_index, issue_in, end_by, product_in, behind, named, frame_in, frame_from, frame_of};
+ghost use Rattle.product_frame.specs.Frames.{line_at, heading_index, first_heading, full_index, issue_in, product_in, behind, named, frame_in, frame_from, frame_of};
 
 use crate::frame::{Frame, FrameFault, Heading};
-use crate::text::{later_starts, line_of, next_start};
+use crate::text::{line_of, next_start};
 use crate::walk::walk_lines;
 use desk_clock::{near, read_local_line};
 use hazard_types::{
@@ -205,16 +205,22 @@ fn issue_in(bytes: &[u8], places: &[usize]) -> Option<Minute>
     None
 }
 
-/// Where the product ends whose heading the bytes begin with.
-#[tactic(auto, using(crate::proofs::HeadingPlaces::end_is))]
-fn end_of(rest: &[u8]) -> usize
-    ensures value { result ≡ end_by rest.now (heading_index rest.now 0 (starts_from 0 rest.now)) }
-    ensures within { result ≤ length rest.now }
+/// Lists where the lines of a product begin behind its heading, which the bytes begin with. Returns where it ends.
+fn list_lines(places: &mut Vec<usize>, rest: &[u8]) -> Result<usize, Oom>
+    requires { places.old.items ≡ [] }
+    ensures listed { OnOk result (places.new.items ≡ starts_from 0 (product_in rest.now)) }
+    ensures product { IfOk result (λ end. take end rest.now ≡ product_in rest.now) }
+    ensures within { IfOk result (λ end. end ≤ length rest.now) }
 {
-    match later_heading(rest) {
-        Some(at) => at,
-        None => rest.len(),
+    let mut at = 0;
+    while let Some(next) = next_start(rest, at) {
+        places.push(next)?;
+        if is_heading_at(rest, next) {
+            return Ok(next);
+        }
+        at = next;
     }
+    Ok(rest.len())
 }
 
 /// What stands behind the identifier.
@@ -249,13 +255,17 @@ fn behind(
     })
 }
 
-/// The frame of one product, whose first line is its heading.
-#[tactic(auto, unfolding(crate::specs::Frames::frame_in))]
-fn frame_in(alloc: Global, product: &[u8], heading: Heading) -> Result<Frame, Or<FrameFault>>
+/// The frame of one product, whose first line is its heading. The lines behind it begin at these places.
+#[tactic(auto, unfolding(crate::specs::Frames::frame_in), using(crate::proofs::Listed::starts_within))]
+fn frame_in(
+    alloc: Global,
+    product: &[u8],
+    heading: Heading,
+    places: &[usize],
+) -> Result<Frame, Or<FrameFault>>
+    requires { places.now ≡ starts_from 0 product.now }
     ensures { Gives result (frame_in product.now heading) }
 {
-    let places = later_starts(alloc, product)?;
-    let places = places.as_slice();
     let Some(k) = full_index(product, places) else {
         return Err(Or::No(FrameFault::NoIdentifier));
     };
@@ -268,24 +278,51 @@ fn frame_in(alloc: Global, product: &[u8], heading: Heading) -> Result<Frame, Or
 }
 
 /// The frame of the product that begins with the bytes' first line.
-#[tactic(auto, unfolding(crate::specs::Frames::frame_from, crate::specs::Frames::product_in))]
-fn frame_from(alloc: Global, rest: &[u8]) -> Result<Frame, Or<FrameFault>>
+#[tactic(auto, unfolding(crate::specs::Frames::frame_from))]
+fn frame_from(alloc: Global, rest: &[u8], places: &mut Vec<usize>) -> Result<Frame, Or<FrameFault>>
     ensures { Gives result (frame_from rest.now) }
 {
     let Some(heading) = heading_of(line_of(rest)) else {
         return Err(Or::No(FrameFault::NoHeading));
     };
-    frame_in(alloc, &rest[..end_of(rest)], heading)
+    places.clear();
+    let end = list_lines(places, rest)?;
+    frame_in(alloc, &rest[..end], heading, places)
 }
 
 /// The frame of the first product.
-fn frame_of(alloc: Global, bytes: &[u8]) -> Result<Frame, Or<FrameFault>>
+fn frame_of(alloc: Global, bytes: &[u8], places: &mut Vec<usize>) -> Result<Frame, Or<FrameFault>>
     ensures { Gives result (frame_of bytes.now) }
 {
     let Some(at) = first_heading(bytes) else {
         return Err(Or::No(FrameFault::NoHeading));
     };
-    frame_from(alloc, &bytes[at..])
+    frame_from(alloc, &bytes[at..], places)
+}
+
+/// The frame of the first product of a text, as `read_frame` reads it. `places` is room for the places of its lines, which frame after
+/// frame may use.
+///
+/// # Errors
+///
+/// The first fault, with its line, which counts from the heading as line 1.
+pub fn read_frame_with(
+    alloc: Global,
+    bytes: &[u8],
+    places: &mut Vec<usize>,
+) -> Result<Frame, Or<FrameFault>>
+    // What is read is the frame of the text.
+    ensures found { IfOk result (FrameOf bytes.now) }
+    // Where the text has a frame it is read, unless memory runs out.
+    ensures only { (f : FrameValue) → FrameOf bytes.now f → Gives result (Ok f) }
+    // What is refused has this fault first, and each first fault is named, unless memory runs out.
+    ensures fault { (x : FaultValue) → result ≡ Err (Or.No x) → FrameFaultOf bytes.now x }
+    ensures fault_only { (x : FaultValue) → FrameFaultOf bytes.now x → Gives result (Err x) }
+
+    // The same as one function of the bytes.
+    ensures exact { Gives result (frame_of bytes.now) }
+{
+    frame_of(alloc, bytes, places)
 }
 
 /// The frame of the first product of a text: what stands before its heading line is skipped, and it
@@ -306,7 +343,8 @@ pub fn read_frame(alloc: Global, bytes: &[u8]) -> Result<Frame, Or<FrameFault>>
     // The same as one function of the bytes.
     ensures exact { Gives result (frame_of bytes.now) }
 {
-    frame_of(alloc, bytes)
+    let mut places = Vec::new(alloc);
+    read_frame_with(alloc, bytes, &mut places)
 }
 
 /// A text has a frame or a fault, never both, and one of each at most.

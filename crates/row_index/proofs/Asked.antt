@@ -1,11 +1,13 @@
 -- A line's breach depends on no more of what stands around it than its action asks for.
-use Rattle.std.proofs.Common.{◌≡◌, ◌∙◌, ◌<◌, ◌+◌, ◌&&◌, not, ℕ, List, [], ◌∷◌, ◌++◌, take, drop, length, get_or, append_assoc, subst, Bool, true, false, cond, Option, Some, None, Result, Ok, Err, refl, ap, sym}
+use Rattle.std.proofs.Common.{◌≡◌, ◌∙◌, ◌<◌, ◌+◌, ◌&&◌, not, ℕ, zero, suc, arith, List, [], ◌∷◌, ◌++◌, take, drop, length, get_or, append_assoc, subst, Bool, true, false, cond, Option, Some, None, Result, Ok, Err, refl, ap, sym}
 use Rattle.std.proofs.lemmas.List.Folds.{list_any_at}
 use Rattle.std.proofs.lemmas.Bool.{and_parts}
-use Rattle.std.specs.List.{list_any}
+use Rattle.std.specs.List.{AllByRecursion, list_any}
 use Rattle.hazard_types.specs.Same.{same_event}
 use Rattle.hazard_types.specs.contracts.codes.ActionPartialEq.TheImpl as action_eq
 use Rattle.hazard_types.proofs.Equality.{action_one, event_one, period_one}
+use Rattle.hazard_types.specs.Hazards.{facts_of}
+use Rattle.event_life.specs.Higher.{family_of}
 use Rattle.event_life.specs.Lives.{opens}
 use Rattle.event_life.specs.Periods.{is_live, same_at}
 use Rattle.std.specs.Option.{is_none}
@@ -17,12 +19,12 @@ use Rattle.event_life.specs.declared.life.Life.{Life}
 use Rattle.event_life.specs.declared.life.Around.{Around}
 use Rattle.event_life.specs.declared.life.Breach.{Breach}
 use Rattle.event_life.specs.declared.life.Breach.TheVariants.{Twice}
-use Rattle.event_life.specs.Products.{has_rows, is_open, is_held, has_same, around_but_higher, life_at, is_routine, is_upgrade, is_second, has_higher, around_of, breach_in, put, row_after, put_but_upgrades, judged_from}
+use Rattle.event_life.specs.Products.{has_rows, is_open, is_held, has_same, around_but_higher, life_at, is_routine, is_upgrade, is_second, has_higher, around_of, breach_in, put, row_at, row_after, put_but_upgrades, judged_from}
 use Rattle.event_life.specs.Seats.{may_count}
 use Rattle.event_life.specs.Table.{opened_period, first_of, on_new, on_joining, on_life, on_nothing, breach_of_line, life_after, unless_breach, step}
 use Rattle.event_life.proofs.HigherLemmas.{breach-higher}
 use Rattle.row_index.specs.Seating.{upgrades}
-use Rattle.row_index.specs.Steps.{asks_alike, asked_around, nothing_around}
+use Rattle.row_index.specs.Steps.{AreHigher, AreOver, asks_alike, asked_around, nothing_around}
 use Rattle.row_index.proofs.Seated.{one_longer, cut_at}
 
 abbrev around : Bool → Bool → Bool → Bool → Bool → Around
@@ -221,3 +223,13 @@ counted_next rows t lines es next all i line second counts row lt is second_is c
 -- one of the lines is a UPG line
 pub any_upgrade : (lines : List Line) (i : ℕ) (line : Line) → i < length lines → line ≡ get_or lines i line → is_upgrade line.action ≡ true → list_any upgrades lines ≡ true
 any_upgrade lines i line lt is h = list_any_at upgrades lines i line lt (subst (λ (l : Line). is_upgrade l.action ≡ true) is h)
+
+all_at : (P : Line → Type 0) (lines : List Line) (i : ℕ) (line : Line) → i < length lines → line ≡ get_or lines i line → AllByRecursion P lines → P line
+all_at P [] i line lt is all = absurd (omega (arith, lt))
+all_at P (l ∷ lines) zero line lt is all = subst P (sym is) all.0
+all_at P (l ∷ lines) (suc i) line lt is all = all_at P lines i line (omega (arith, lt)) is all.1
+
+pub over_at : (rows : List Row) (t : ℕ) (lines : List Line) (higher : List Row) (i : ℕ) (line : Line) → i < length lines → line ≡ get_or lines i line → is_upgrade line.action ≡ true → AreOver rows t lines higher
+    → (own : Row) → row_at rows line.event line.zone ≡ Some own → AreHigher rows t own (family_of (facts_of line.event.hazard)) higher
+over_at rows t lines higher i line lt is up over =
+    all_at (λ (l : Line). upgrades l ≡ true → (own : Row) → row_at rows l.event l.zone ≡ Some own → AreHigher rows t own (family_of (facts_of l.event.hazard)) higher) lines i line lt is over up

@@ -6,7 +6,7 @@ use Rattle.std.specs.List.{filter, list_any}
 use Rattle.std.specs.List.Sorted.{IsStrictlySortedBy}
 use Rattle.std.specs.Option.{is_none, is_some}
 use Rattle.hazard_types.specs.Hazards.{facts_of}
-use Rattle.hazard_types.specs.Places.{Place, by_place}
+use Rattle.hazard_types.specs.Places.{Place}
 use Rattle.hazard_types.specs.Same.{same_zone, same_event}
 use Rattle.hazard_types.specs.declared.codes.Action.{Action}
 use Rattle.hazard_types.specs.declared.codes.Action.TheVariants.{New, Con, Exa, Ext, Exb, Upg, Can, Exp, Cor, Rou}
@@ -19,20 +19,16 @@ use Rattle.event_life.specs.Higher.{family_of, is_above, may_yield, outranks}
 use Rattle.event_life.specs.Periods.{is_live, overlaps}
 use Rattle.event_life.specs.Products.{by_key, put, row_at, row_after, is_routine, is_upgrade, speaks_of, put_but_upgrades, end_upgraded, rows_for_higher, is_overlapped, has_higher}
 use Rattle.event_life.specs.Seats.{may_count, is_upgraded}
-use Rattle.event_life.proofs.Members.{find_in}
+use Rattle.event_life.proofs.Members.{any_in, find_in, in_any, one_way}
 use Rattle.event_life.proofs.Puts.{at_key, at_key-parts, row_at-put, put-sorted}
 use Rattle.row_index.specs.declared.seats.Seat.{Seat}
 use Rattle.row_index.specs.Numbers.{is_in_zone}
 use Rattle.row_index.specs.Seating.{by_seat, seat_of, seat_said, has_seat, upgrades}
-use Rattle.row_index.specs.Listing.{list_at}
-use Rattle.row_index.specs.declared.reach.Reach.{Reach}
-use Rattle.row_index.specs.Reaching.{is_reached, Reaches, lasts, reaches_over}
 use Rattle.row_index.specs.Steps as index
-use Rattle.row_index.specs.Steps.{IsChanged, rises_over, stays_over, is_free, still_over}
+use Rattle.row_index.specs.Steps.{AreHigher, IsChanged, rises_over, stays_over, is_free, still_over}
 use Rattle.row_index.specs.Telling.{Tells}
-use Rattle.row_index.proofs.Reached.{Zones, reached_over}
 use Rattle.row_index.proofs.Seated.{seat_tied}
-use Rattle.row_index.proofs.Tests.{and_true, and_false, any_same, any_filtered, any_put, at_itself, but}
+use Rattle.row_index.proofs.Tests.{and_true, and_false, any_same, any_filtered, any_put, at_itself, but, found_own}
 
 -- rows that are put over others
 
@@ -153,21 +149,32 @@ sorted true true false a = sym (and_false a)
 sorted true true true a = sym (and_true a)
 
 -- what its parts say of a row that rises over another
-pub rises_parts : (t : ℕ) (low : Option (Family × ℕ)) (own r : Row) → rises_over t low own r ≡ true → (is_live t r ≡ true) × (overlaps r.period own.period ≡ true) × (is_above (family_of (facts_of r.event.hazard)) low ≡ true)
+rises_parts : (t : ℕ) (low : Option (Family × ℕ)) (own r : Row) → rises_over t low own r ≡ true → (is_live t r ≡ true) × (overlaps r.period own.period ≡ true) × (is_above (family_of (facts_of r.event.hazard)) low ≡ true)
 rises_parts t low own r h =
     let p = and_parts (is_live t r && overlaps r.period own.period) _ h in
     let q = and_parts (is_live t r) _ p.0 in
     (q.0, q.1, p.1)
 
--- the periods that are kept of a zone tell its rows that are still over one
-pub still_tell : (rows : List Row) (t : ℕ) (low : Option (Family × ℕ)) (counted : List Row) (seats : List Seat) (own : Row) (reach : Zones) (keys : List Reach) (over : Bool)
-    → IsStrictlySortedBy by_key rows → Reaches reach rows → list_at by_place reach own.zone ≡ keys
-    → over ≡ list_any (reaches_over rows (is_free counted seats own.zone) (rises_over t low own) low own) (filter (lasts t) keys)
-    → over ≡ list_any (still_over t low counted seats own) (filter (is_in_zone own.zone) rows)
-still_tell rows t low counted seats own reach keys over up reaches there is =
-    is
-    ∙ reached_over rows (is_free counted seats own.zone) (rises_over t low own) t low own keys up
-    (λ e. subst (λ (all : List Reach). is_reached e all (row_at rows e own.zone) ≡ true) there (reaches e own.zone)) (rises_parts t low own)
+-- the live rows of higher events tell whether one is still over a row of their zone
+pub still-told : (rows : List Row) (t : ℕ) (low : Option (Family × ℕ)) (counted : List Row) (seats : List Seat) (own : Row) (higher : List Row) → IsStrictlySortedBy by_key rows → AreHigher rows t own low higher
+    → list_any (still_over t low counted seats own) (filter (is_in_zone own.zone) higher) ≡ list_any (still_over t low counted seats own) (filter (is_in_zone own.zone) rows)
+still-told rows t low counted seats own higher up are =
+    let p : Row → Bool = still_over t low counted seats own in
+    let both : Row → Bool = λ r. is_in_zone own.zone r && p r in
+    any_filtered p (is_in_zone own.zone) higher
+    ∙ one_way (list_any both higher) (list_any both rows)
+    (λ h.
+    let w = any_in both higher h in
+    let r = w.0 in
+    in_any both rows r (find_in (at_key r.event r.zone) rows r (are.part r.event r.zone r (found_own higher r are.in_order w.1))).0 w.2)
+    (λ h.
+    let w = any_in both rows h in
+    let r = w.0 in
+    let b = and_parts (is_in_zone own.zone r) _ w.2 in
+    let rises = rises_parts t low own r (and_parts (rises_over t low own r) _ b.1).0 in
+    let here : row_at rows r.event own.zone ≡ Some r = subst (λ (z : Place). row_at rows r.event z ≡ Some r) (zone_one r.zone own.zone b.0) (found_own rows r up w.1) in
+    in_any both higher r (find_in (at_key r.event own.zone) higher r (are.all r.event r rises.2 here rises.0 rises.1)).0 w.2)
+    ∙ sym (any_filtered p (is_in_zone own.zone) rows)
 
 -- in its own zone
 free_there : (counted : List Row) (seats : List Seat) (own r : Row) (x : Bool) (b : Bool) → is_in_zone own.zone r ≡ b → (b && (x && is_free counted seats own.zone r.event)) ≡ ((b && (x && not (has_seat seats (seat_of r)))) && in_place counted r)
@@ -213,7 +220,7 @@ module _ (rows : List Row) (t : ℕ) (lines : List Line) (counted : List Row) (s
       ∙ sym (over (kept own))
       ∙ sym (any_ended (overlaps_own t own) lines (put_but_upgrades rows t [] lines rows) (none_ended t own))
 
-  pub higher_own : (line : Line) (own : Row) → row_at rows line.event line.zone ≡ Some own → index.is_overlapped rows t counted seats (rank own) own ≡ has_higher rows t lines line
+  higher_own : (line : Line) (own : Row) → row_at rows line.event line.zone ≡ Some own → index.is_overlapped rows t counted seats (rank own) own ≡ has_higher rows t lines line
   higher_own line own found =
       let own_at = (find_in (at_key line.event line.zone) rows own found).1 in
       let key = at_key-parts line.event line.zone own own_at in
@@ -221,3 +228,12 @@ module _ (rows : List Row) (t : ℕ) (lines : List Line) (counted : List Row) (s
       ∙ ap (λ (b : Bool). is_none (rank own) || b) (over_told own)
       ∙ ap (λ (b : Bool). b || is_overlapped (rows_for_higher rows t lines) t (Some own)) (none_is (rank own) ∙ ap (λ (e : Event). not (may_yield e.hazard)) key.0)
       ∙ ap (λ (o : Option Row). not (may_yield line.event.hazard) || is_overlapped (rows_for_higher rows t lines) t o) (sym found)
+
+  -- the live rows of higher events stand for all rows before
+  pub higher-told : (line : Line) (own : Row) (higher : List Row) → row_at rows line.event line.zone ≡ Some own → AreHigher rows t own (family_of (facts_of line.event.hazard)) higher
+      → index.is_overlapped higher t counted seats (rank own) own ≡ has_higher rows t lines line
+  higher-told line own higher found are =
+      let key = at_key-parts line.event line.zone own (find_in (at_key line.event line.zone) rows own found).1 in
+      let here : AreHigher rows t own (rank own) higher = subst (λ (e : Event). AreHigher rows t own (family_of (facts_of e.hazard)) higher) (sym key.0) are in
+      ap (λ (b : Bool). is_none (rank own) || list_any (stays_over t (rank own) seats own) (filter (is_in_zone own.zone) counted) || b) (still-told rows t (rank own) counted seats own higher up here)
+      ∙ higher_own line own found

@@ -7,6 +7,7 @@ mod Lists
 mod HeldRows
 mod Opened
 mod Reached
+mod Gathering
 mod Stood
 mod EventRows
 mod Runs

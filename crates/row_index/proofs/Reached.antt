@@ -1,69 +1,54 @@
--- The periods of each zone's rows, where a row is put, and the rows that they tell.
-use Rattle.std.proofs.Common.{◌≡◌, ◌∙◌, ◌⊎◌, inl, inr, ℕ, List, [], ◌∷◌, ◌&&◌, ◌||◌, not, Bool, true, false, cond, Ordering, Less, Equal, Greater, Option, Some, None, refl, ap, sym, subst, arith}
-use Rattle.std.specs.Prelude.{nat_le}
+-- How far the rows of each event reach in each area, where rows of one are put, and the events that are found by it.
+use Rattle.std.proofs.Common.{◌≡◌, ◌∙◌, inl, inr, ℕ, List, [], ◌∷◌, ◌&&◌, ◌||◌, ◌==◌, not, Bool, true, false, cond, Ordering, Less, Equal, Greater, Option, Some, None, Result, Ok, Err, OnOk, refl, ap, sym, subst, arith}
+use Rattle.std.specs.Prelude.{nat_le, is_none}
 use Rattle.std.proofs.lemmas.Bool.{and_parts}
 use Rattle.std.proofs.lemmas.Bool.Decides.{nat_tests}
 use Rattle.std.specs.BTreeMap.{insert_entry, is_at}
 use Rattle.std.specs.BTreeSet.{insert_key}
 use Rattle.std.specs.Cmp.{IsTotalOrder}
-use Rattle.std.specs.List.{AllByRecursion, filter, list_any}
-use Rattle.std.specs.List.Sorted.{IsStrictlySortedBy}
-use Rattle.std.specs.Ordering.{ordering_then, is_le, nat_cmp}
-use Rattle.std.specs.Set.{remove_key}
-use Rattle.hazard_types.specs.Hazards.{facts_of}
+use Rattle.std.specs.List.{filter, list_any}
+use Rattle.std.specs.Ordering.{ordering_then, is_eq, is_gt, is_le, is_lt, nat_cmp}
+use Rattle.hazard_types.specs.Orders.{by_event}
 use Rattle.hazard_types.specs.Places.{Place, by_place}
-use Rattle.hazard_types.specs.Same.{same_event, same_zone}
-use Rattle.hazard_types.specs.contracts.period.EndOrd.TheImpl as end_order
-use Rattle.hazard_types.specs.contracts.period.PeriodPartialEq.TheImpl as period_eq
 use Rattle.hazard_types.specs.declared.codes.Family.{Family}
 use Rattle.hazard_types.specs.declared.hazard.Event.{Event}
 use Rattle.hazard_types.specs.declared.line.Row.{Row}
 use Rattle.hazard_types.specs.declared.period.End.{End}
 use Rattle.hazard_types.specs.declared.period.End.TheVariants as end
-use Rattle.hazard_types.specs.declared.period.Period.{Period}
-use Rattle.hazard_types.proofs.Equality.{event_itself, period_one, zone_itself, zone_one}
-use Rattle.hazard_types.proofs.OrderLaws.{by_end_ties, by_place_total, by_place_ties, numbers_tied}
-use Rattle.event_life.specs.Higher.{family_of, is_above}
-use Rattle.event_life.specs.Periods.{ends_after, is_live, overlaps}
-use Rattle.event_life.specs.Products.{by_key, put, row_at}
+use Rattle.std.proofs.lemmas.Cmp.{nat_cmp_total, tied_itself}
+use Rattle.hazard_types.proofs.Equality.{event_itself, event_one}
+use Rattle.hazard_types.proofs.OrderLaws.{by_end_ties, by_event_total, by_event_ties, by_place_total, by_place_ties, numbers_tied}
+use Rattle.event_life.specs.Periods.{ends_after, is_live}
+use Rattle.event_life.specs.Products.{put, row_at}
 use Rattle.event_life.proofs.Keys.{then_parts}
-use Rattle.event_life.proofs.Members.{any_in, in_any, find_in, one_way}
-use Rattle.event_life.proofs.Puts.{at_key, at_key-parts, row_at-put}
+use Rattle.event_life.proofs.Members.{IsIn, any_in, in_any, find_in, of_all}
+use Rattle.event_life.proofs.Puts.{at_key, at_key-parts, put-all}
 use Rattle.row_index.specs.declared.reach.Reach.{Reach}
 use Rattle.row_index.specs.declared.seats.Spot.{Spot}
 use Rattle.row_index.specs.declared.seats.Spot.TheVariants.{Front, At, Back}
 use Rattle.row_index.specs.contracts.reach.ReachOrd.TheImpl.Laws as reach_laws
+use Rattle.row_index.specs.contracts.seats.SpotOrd.TheImpl as spot
+use Rattle.row_index.specs.Holding.{told, AreHeld}
 use Rattle.row_index.specs.Listing.{list_at}
-use Rattle.row_index.specs.Numbers.{is_in_zone}
-use Rattle.row_index.specs.Reaching.{by_reach, reach_at, reach_of, period_of, less_reach, more_reach, reached_with, reached_each, is_reached, Reaches, lasts, is_spot_over, reaches_over}
-use Rattle.row_index.specs.Steps.{stays, put_each, passes}
-use Rattle.row_index.proofs.Lists.{at_same, at_other}
+use Rattle.row_index.specs.Reaching.{by_reach, end_cmp, rank_of, area_of, reach_of, is_spot_of, holds, is_reached, is_last, AreReached, Reaches, ReachedBefore, Grows, IsLast, lasts, is_above_any, is_area, with_spot, with_spots, AreaTold, AreTold, Keeps}
+use Rattle.row_index.proofs.HeldRows.{held-found}
+use Rattle.row_index.proofs.Lists.{at_each, each_put}
 use Rattle.row_index.proofs.Seated.{spot_ties}
-use Rattle.row_index.proofs.Tests.{any_filtered, any_insert, at_one, at_own, found_own}
-
-abbrev pub Zones : Type 0
-Zones = List (Place × List Reach)
-
-abbrev end_cmp : End → End → Ordering
-end_cmp = end_order.cmp-value.it
+use Rattle.row_index.proofs.Tests.{any_insert, at_one, at_own}
 
 by_reach_total : IsTotalOrder by_reach
 by_reach_total = reach_laws.total-law
 
 by_reach_ties : (a b : Reach) → by_reach a b ≡ Equal → a ≡ b
 by_reach_ties a b h =
-    let p = then_parts (end_cmp a.end b.end) _ h in
-    let q = then_parts (nat_cmp a.begin b.begin) _ p.1 in
-    let end_is = by_end_ties a.end b.end p.0 in
-    let begin_is = numbers_tied a.begin b.begin q.0 in
+    let p = then_parts (nat_cmp a.area b.area) _ h in
+    let q = then_parts (end_cmp a.end b.end) _ p.1 in
+    let area_is = numbers_tied a.area b.area p.0 in
+    let end_is = by_end_ties a.end b.end q.0 in
     let spot_is = spot_ties a.spot b.spot q.1 in
-    λ i. record { end = end_is i; begin = begin_is i; spot = spot_is i }
+    λ i. record { area = area_is i; end = end_is i; spot = spot_is i }
 
 -- one of two
-
-either : (a b : Bool) → (a || b) ≡ true → (a ≡ true) ⊎ (b ≡ true)
-either true b h = inl refl
-either false b h = inr h
 
 first_one : (a b : Bool) → a ≡ true → (a || b) ≡ true
 first_one true b h = refl
@@ -73,231 +58,246 @@ second_one : (a b : Bool) → b ≡ true → (a || b) ≡ true
 second_one true b h = refl
 second_one false b h = h
 
-second_true : (a b : Bool) → not a ≡ true → (a || b) ≡ true → b ≡ true
-second_true true b h g = cc
-second_true false b h g = g
-
-first_false : (a b : Bool) → b ≡ true → (a && b) ≡ false → a ≡ false
-first_false true true h g = cc
-first_false true false h g = cc
-first_false false b h g = refl
-
 or_kept : (a b c : Bool) → (b ≡ true → c ≡ true) → (a || b) ≡ true → (a || c) ≡ true
 or_kept true b c up h = refl
 or_kept false b c up h = up h
 
--- periods that come and go
+left_of : (a b c : Bool) → a ≡ false → b ≡ false → ((a || b) || c) ≡ true → c ≡ true
+left_of true b c h g all = cc
+left_of false true c h g all = cc
+left_of false false c h g all = all
 
-abbrev has : List Reach → Reach → Bool
-has keys k = list_any (is_at (by_reach k)) keys
+of_not : (b : Bool) → not b ≡ true → b ≡ false
+of_not true h = cc
+of_not false h = refl
 
--- what passes is left where a key is taken out, or it was that key
-left_or : (q : Reach → Bool) (k : Reach) (keys : List Reach) → list_any q keys ≡ true → (list_any q (remove_key (is_at (by_reach k)) keys) ≡ true) ⊎ (q k ≡ true)
-left_or q k [] h = cc
-left_or q k (x ∷ xs) h = by_place_of (left_or q k xs) (is_at (by_reach k) x) refl (either (q x) (list_any q xs) h)
+-- ends
+
+not_lt : (a b : ℕ) → is_lt (nat_cmp a b) ≡ not (nat_le b a)
+not_lt a b = grind (arith, nat_tests)
+
+not_behind : (e : End) → is_lt (end_cmp e e) ≡ false
+not_behind (end.At n) = ap (λ (o : Ordering). is_lt o) (tied_itself nat_cmp_total n)
+not_behind end.Ufn = refl
+
+one_number : (a b : ℕ) → (a == b) ≡ true → a ≡ b
+one_number a b h = grind (arith, nat_tests)
+
+number_itself : (a : ℕ) → (a == a) ≡ true
+number_itself a = grind (arith, nat_tests)
+
+tied_to : (o : Ordering) → is_eq o ≡ true → o ≡ Equal
+tied_to Less h = cc
+tied_to Equal h = refl
+tied_to Greater h = cc
+
+-- keys are added
+
+added : (k : Reach) (keys new : List Reach) → new ≡ insert_key by_reach keys k → (r : Row) → list_any (holds r) new ≡ (holds r k || list_any (holds r) keys)
+added k keys new is r = ap (λ (ks : List Reach). list_any (holds r) ks) is ∙ any_insert by_reach by_reach_total by_reach_ties (holds r) k keys
+
+pub added-grows : (k : Reach) (keys new : List Reach) → new ≡ insert_key by_reach keys k → Grows keys new
+added-grows k keys new is = λ r h. added k keys new is r ∙ second_one (holds r k) _ h
+
+-- the key that was added last
+pub added-last : (k : Reach) (keys new : List Reach) → new ≡ insert_key by_reach keys k → (r : Row) → holds r k ≡ true → list_any (holds r) new ≡ true
+added-last k keys new is = λ r h. added k keys new is r ∙ first_one (holds r k) _ h
+
+holds-own : (r : Row) → holds r (reach_of r) ≡ true
+holds-own r = rw (number_itself (area_of r.zone), event_itself r.event, not_behind r.period.end) refl
+
+by_holding : (keys : List Reach) (r : Row) → list_any (holds r) keys ≡ true → is_reached keys r ≡ true
+by_holding keys r h = second_one (r.ended || is_none (rank_of r.event)) _ h
+
+pub added-reaches : (r : Row) (k : Reach) (keys new : List Reach) → k ≡ reach_of r → new ≡ insert_key by_reach keys k → is_reached new r ≡ true
+added-reaches r k keys new own is = by_holding new r (added-last k keys new is r (subst (λ (x : Reach). holds r x ≡ true) (sym own) (holds-own r)))
+
+-- a row whose key was added last
+pub last-reaches : (last : Option Reach) (r : Row) (k : Reach) (keys : List Reach) → k ≡ reach_of r → IsLast last keys → is_last last k ≡ true → is_reached keys r ≡ true
+last-reaches None r k keys own is h = cc
+last-reaches (Some other) r k keys own is h =
+    let same : other ≡ reach_of r = by_reach_ties other k (tied_to (by_reach other k) h) ∙ own in
+    by_holding keys r (is r (subst (λ (x : Reach). holds r x ≡ true) (sym same) (holds-own r)))
+
+-- the row before, where one is put
+pub before-reached : (keys : List Reach) (known : List Row) (row : Row) (before : Option Row) → before ≡ row_at known row.event row.zone → AreReached keys known → ReachedBefore keys before row
+before-reached keys known row None is all = tt
+before-reached keys known row (Some old) is all =
+    let own = find_in (at_key row.event row.zone) known old (sym is) in
+    let key = at_key-parts row.event row.zone old own.1 in
+    (key.0, key.1, of_all (λ (y : Row). is_reached keys y ≡ true) known old all own.0)
+
+pub reached-more : (old new : List Reach) → Grows old new → (rows : List Row) → AreReached old rows → AreReached new rows
+reached-more old new grows [] all = tt
+reached-more old new grows (r ∷ rows) all = (or_kept (r.ended || is_none (rank_of r.event)) (list_any (holds r) old) (list_any (holds r) new) (grows r) all.0, reached-more old new grows rows all.1)
+
+pub reaches-more : (old new : List Reach) → Grows old new → (es : List (Event × List Row)) → Reaches old es → Reaches new es
+reaches-more old new grows [] all = tt
+reaches-more old new grows (e ∷ es) all = (reached-more old new grows e.1 all.0, reaches-more old new grows es all.1)
+
+-- rows of an event are put
+pub reaches-put : (e : Event) (rows : List Row) (es : List (Event × List Row)) (old new : List Reach) → Grows old new → AreReached new rows → Reaches old es → Reaches new (insert_entry by_event es e rows)
+reaches-put e rows es old new grows reached all = each_put by_event by_event_total by_event_ties (λ (d : Event) (part : List Row). AreReached new part) e es rows reached (reaches-more old new grows es all)
+
+pub reached-at : (e : Event) (es : List (Event × List Row)) (keys : List Reach) → Reaches keys es → AreReached keys (list_at by_event es e)
+reached-at e es keys all = at_each by_event by_event_total by_event_ties (λ (d : Event) (part : List Row). AreReached keys part) e es all tt
+
+-- a row is put, and reached
+pub reached-put : (keys new : List Reach) (known next : List Row) (row : Row) → Grows keys new → next ≡ put row known → is_reached new row ≡ true → AreReached keys known → AreReached new next
+reached-put keys new known next row grows is own all =
+    subst (λ (rows : List Row). AreReached new rows) (sym is) (put-all (λ (y : Row). is_reached new y ≡ true) row known own (reached-more keys new grows known all))
+
+-- the events of keys
+
+event_kept : (b : Bool) (e d : Event) (events : List Event) → list_any (is_at (by_event e)) events ≡ true → list_any (is_at (by_event e)) (cond b (insert_key by_event events d) events) ≡ true
+event_kept true e d events h = any_insert by_event by_event_total by_event_ties (is_at (by_event e)) d events ∙ second_one (is_at (by_event e) d) _ h
+event_kept false e d events h = h
+
+spot_kept : (ranks : List (Option (Family × ℕ))) (s : Spot) (e : Event) (events : List Event) → list_any (is_at (by_event e)) events ≡ true → list_any (is_at (by_event e)) (with_spot ranks s events) ≡ true
+spot_kept ranks Front e events h = h
+spot_kept ranks (At d) e events h = event_kept (is_above_any ranks d) e d events h
+spot_kept ranks Back e events h = h
+
+spots_kept : (ranks : List (Option (Family × ℕ))) (ks : List Reach) (e : Event) (events : List Event) → list_any (is_at (by_event e)) events ≡ true → list_any (is_at (by_event e)) (with_spots ranks events ks) ≡ true
+spots_kept ranks [] e events h = h
+spots_kept ranks (k ∷ ks) e events h = spots_kept ranks ks e (with_spot ranks k.spot events) (spot_kept ranks k.spot e events h)
+
+spot_added : (ranks : List (Option (Family × ℕ))) (s : Spot) (e : Event) (events : List Event) → is_above_any ranks e ≡ true → is_spot_of e s ≡ true → list_any (is_at (by_event e)) (with_spot ranks s events) ≡ true
+spot_added ranks Front e events above h = cc
+spot_added ranks (At d) e events above h =
+    subst (λ (x : Event). list_any (is_at (by_event e)) (cond (is_above_any ranks x) (insert_key by_event events x) events) ≡ true) (sym (event_one d e h))
+    (rw above (any_insert by_event by_event_total by_event_ties (is_at (by_event e)) e events ∙ first_one _ _ (at_own by_event by_event_total by_event_ties e)))
+spot_added ranks Back e events above h = cc
+
+-- each event above one of the ranks that a key is of is among them
+pub spots-told : (ranks : List (Option (Family × ℕ))) (ks : List Reach) (e : Event) (events : List Event) → is_above_any ranks e ≡ true → (k : Reach) → IsIn k ks → is_spot_of e k.spot ≡ true → list_any (is_at (by_event e)) (with_spots ranks events ks) ≡ true
+spots-told ranks [] e events above k there h = absurd there
+spots-told ranks (x ∷ ks) e events above k (inl is) h =
+    spots_kept ranks ks e (with_spot ranks x.spot events) (spot_added ranks x.spot e events above (subst (λ (y : Reach). is_spot_of e y.spot ≡ true) (sym is) h))
+spots-told ranks (x ∷ ks) e events above k (inr there) h = spots-told ranks ks e (with_spot ranks x.spot events) above k there h
+
+in_filtered : (q : Reach → Bool) (ks : List Reach) (k : Reach) → IsIn k ks → q k ≡ true → IsIn k (filter q ks)
+in_filtered q [] k there h = there
+in_filtered q (x ∷ ks) k (inl is) h = first (q x) (subst (λ (y : Reach). q y ≡ true) (sym is) h)
   where
-    later : (list_any q (remove_key (is_at (by_reach k)) xs) ≡ true) ⊎ (q k ≡ true) → (list_any q (x ∷ remove_key (is_at (by_reach k)) xs) ≡ true) ⊎ (q k ≡ true)
-    later (inl g) = inl (second_one (q x) _ g)
-    later (inr g) = inr g
-
-    by_place_of : (list_any q xs ≡ true → (list_any q (remove_key (is_at (by_reach k)) xs) ≡ true) ⊎ (q k ≡ true)) → (b : Bool) → is_at (by_reach k) x ≡ b → (q x ≡ true) ⊎ (list_any q xs ≡ true) → (list_any q (cond b xs (x ∷ remove_key (is_at (by_reach k)) xs)) ≡ true) ⊎ (q k ≡ true)
-    by_place_of left true at (inl g) = inr (subst (λ (y : Reach). q y ≡ true) (sym (at_one by_reach by_reach_total by_reach_ties k x at)) g)
-    by_place_of left true at (inr g) = inl g
-    by_place_of left false at (inl g) = inl (first_one (q x) _ g)
-    by_place_of left false at (inr g) = later (left g)
-
--- the event that a spot is of, or this one
-abbrev event_in : Event → Spot → Event
-event_in d (At e) = e
-event_in d _ = d
-
--- periods of another event stay
-less_kept : (before : Option Row) (d e : Event) (a : Period) (keys : List Reach) → ((old : Row) → before ≡ Some old → old.event ≡ d) → same_event d e ≡ false → has keys (reach_at e a) ≡ true → has (less_reach before keys) (reach_at e a) ≡ true
-less_kept None d e a keys own apart h = h
-less_kept (Some old) d e a keys own apart h = by_left (left_or (is_at (by_reach (reach_at e a))) (reach_of old) keys h)
+    first : (b : Bool) → b ≡ true → IsIn k (cond b (x ∷ filter q ks) (filter q ks))
+    first true g = inl is
+    first false g = cc
+in_filtered q (x ∷ ks) k (inr there) h = later (q x) (in_filtered q ks k there h)
   where
-    by_left : (has (less_reach (Some old) keys) (reach_at e a) ≡ true) ⊎ (is_at (by_reach (reach_at e a)) (reach_of old) ≡ true) → has (less_reach (Some old) keys) (reach_at e a) ≡ true
-    by_left (inl g) = g
-    by_left (inr g) =
-        let one : reach_at e a ≡ reach_of old = at_one by_reach by_reach_total by_reach_ties (reach_at e a) (reach_of old) g in
-        let event_is : e ≡ d = ap (λ (k : Reach). event_in e k.spot) one ∙ own old refl in
-        let same : same_event d e ≡ true = subst (λ (x : Event). same_event d x ≡ true) (sym event_is) (event_itself d) in
-        let none : true ≡ false = sym same ∙ apart in cc
+    later : (b : Bool) → IsIn k (filter q ks) → IsIn k (cond b (x ∷ filter q ks) (filter q ks))
+    later true g = inr g
+    later false g = g
 
-more_kept : (q : Reach → Bool) (row : Row) (keys : List Reach) → list_any q keys ≡ true → list_any q (more_reach row keys) ≡ true
-more_kept q row keys h = by_ended (not row.ended)
-  where
-    by_ended : (b : Bool) → list_any q (cond b (insert_key by_reach keys (reach_of row)) keys) ≡ true
-    by_ended true = any_insert by_reach by_reach_total by_reach_ties q (reach_of row) keys ∙ second_one (q (reach_of row)) _ h
-    by_ended false = h
-
-more_own : (row : Row) (keys : List Reach) → is_reached row.event (more_reach row keys) (Some row) ≡ true
-more_own row keys = by_ended row.ended
-  where
-    by_ended : (b : Bool) → (b || has (cond (not b) (insert_key by_reach keys (reach_of row)) keys) (reach_of row)) ≡ true
-    by_ended true = refl
-    by_ended false =
-        any_insert by_reach by_reach_total by_reach_ties (is_at (by_reach (reach_of row))) (reach_of row) keys
-        ∙ first_one (is_at (by_reach (reach_of row)) (reach_of row)) _ (at_own by_reach by_reach_total by_reach_ties (reach_of row))
-
-reached_kept : (e : Event) (o : Option Row) (old new : List Reach) → ((a : Period) → has old (reach_at e a) ≡ true → has new (reach_at e a) ≡ true) → is_reached e old o ≡ true → is_reached e new o ≡ true
-reached_kept e None old new up h = refl
-reached_kept e (Some r) old new up h = or_kept r.ended (has old (reach_at e r.period)) (has new (reach_at e r.period)) (up r.period) h
-
-reached_stays : (e : Event) (keys : List Reach) (before : Option Row) (row : Row) → stays before row ≡ true → is_reached e keys before ≡ true → is_reached e keys (Some row) ≡ true
-reached_stays e keys None row h there = cc
-reached_stays e keys (Some old) row h there =
-    let p = and_parts (period_eq.eq-value.it old.period row.period && not old.ended) _ h in
-    let r = and_parts (period_eq.eq-value.it old.period row.period) _ p.0 in
-    second_one row.ended _
-    (subst (λ (x : Period). has keys (reach_at e x) ≡ true) (period_one old.period row.period r.0) (second_true old.ended (has keys (reach_at e old.period)) r.1 there))
-
--- a row is put
-
-module _ (rows : List Row) (reach : Zones) (row : Row) (before : Option Row) (found : before ≡ row_at rows row.event row.zone) (reaches : Reaches reach rows) where
-  abbrev anew : Bool → Zones
-  anew b = cond b reach (insert_entry by_place reach row.zone (more_reach row (less_reach before (list_at by_place reach row.zone))))
-
-  anew_own : (b : Bool) → stays before row ≡ b → is_reached row.event (list_at by_place (anew b) row.zone) (Some row) ≡ true
-  anew_own true h =
-      let there : is_reached row.event (list_at by_place reach row.zone) before ≡ true = ap (is_reached row.event (list_at by_place reach row.zone)) found ∙ reaches row.event row.zone in
-      reached_stays row.event (list_at by_place reach row.zone) before row h there
-  anew_own false h =
-      let keys = less_reach before (list_at by_place reach row.zone) in
-      ap (λ (all : List Reach). is_reached row.event all (Some row)) (at_same by_place by_place_total by_place_ties row.zone reach (more_reach row keys)) ∙ more_own row keys
-
-  own_event : (old : Row) → before ≡ Some old → old.event ≡ row.event
-  own_event old is = (at_key-parts row.event row.zone old (find_in (at_key row.event row.zone) rows old (sym found ∙ is)).1).0
-
-  -- another event's row in the zone
-  anew_beside : (e : Event) → at_key e row.zone row ≡ false → is_reached e (list_at by_place (anew false) row.zone) (row_at rows e row.zone) ≡ true
-  anew_beside e away =
-      let old = list_at by_place reach row.zone in
-      let new = more_reach row (less_reach before old) in
-      let apart : same_event row.event e ≡ false = first_false (same_event row.event e) (same_zone row.zone row.zone) (zone_itself row.zone) away in
-      ap (λ (all : List Reach). is_reached e all (row_at rows e row.zone)) (at_same by_place by_place_total by_place_ties row.zone reach new)
-      ∙ reached_kept e (row_at rows e row.zone) old new
-      (λ a h. more_kept (is_at (by_reach (reach_at e a))) row (less_reach before old) (less_kept before row.event e a old own_event apart h))
-      (reaches e row.zone)
-
-  anew_other : (e : Event) (z : Place) (b : Bool) → at_key e z row ≡ false → is_reached e (list_at by_place (anew b) z) (row_at rows e z) ≡ true
-  anew_other e z true away = reaches e z
-  anew_other e z false away = by_zone (is_at (by_place z) row.zone) refl
-    where
-      by_zone : (b : Bool) → is_at (by_place z) row.zone ≡ b → is_reached e (list_at by_place (anew false) z) (row_at rows e z) ≡ true
-      by_zone true at =
-          let one : z ≡ row.zone = at_one by_place by_place_total by_place_ties z row.zone at in
-          subst (λ (y : Place). is_reached e (list_at by_place (anew false) y) (row_at rows e y) ≡ true) (sym one)
-          (anew_beside e (subst (λ (y : Place). at_key e y row ≡ false) one away))
-      by_zone false at =
-          ap (λ (all : List Reach). is_reached e all (row_at rows e z)) (at_other by_place by_place_total by_place_ties z row.zone reach (more_reach row (less_reach before (list_at by_place reach row.zone))) at)
-          ∙ reaches e z
-
-  reaches-put : Reaches (reached_with before row reach) (put row rows)
-  reaches-put e z = ap (is_reached e (list_at by_place (anew (stays before row)) z)) (row_at-put row rows e z) ∙ by_key_of (at_key e z row) refl
-    where
-      by_key_of : (b : Bool) → at_key e z row ≡ b → is_reached e (list_at by_place (anew (stays before row)) z) (cond b (Some row) (row_at rows e z)) ≡ true
-      by_key_of true at =
-          let k = at_key-parts e z row at in
-          subst (λ (d : Event). is_reached d (list_at by_place (anew (stays before row)) z) (Some row) ≡ true) k.0
-          (subst (λ (y : Place). is_reached row.event (list_at by_place (anew (stays before row)) y) (Some row) ≡ true) k.1 (anew_own (stays before row) refl))
-      by_key_of false at = anew_other e z (stays before row) at
-
--- rows of one event are put
-pub reaches-each : (d : Event) (rows all known : List Row) (reach : Zones) → AllByRecursion (λ (r : Row). r.event ≡ d) rows → ((z : Place) → row_at all d z ≡ row_at known d z) → Reaches reach all → Reaches (reached_each rows known reach) (put_each rows all)
-reaches-each d [] all known reach own same reaches = reaches
-reaches-each d (r ∷ rows) all known reach own same reaches =
-    let before = row_at known r.event r.zone in
-    let found : before ≡ row_at all r.event r.zone = subst (λ (e : Event). row_at known e r.zone ≡ row_at all e r.zone) (sym own.0) (sym (same r.zone)) in
-    reaches-each d rows (put r all) (put r known) (reached_with before r reach) own.1
-    (λ z. row_at-put r all d z ∙ ap (λ (o : Option Row). cond (at_key d z r) (Some r) o) (same z) ∙ sym (row_at-put r known d z))
-    (reaches-put all reach r before found reaches)
-
--- the rows that a zone's periods tell
+-- a live row's event is among those that are found
 
 le_less : (o : Ordering) → is_le (ordering_then o Less) ≡ is_le o
 le_less Less = refl
 le_less Equal = refl
 le_less Greater = refl
 
+le_equal : (o : Ordering) → is_le (ordering_then o Equal) ≡ is_le o
+le_equal Less = refl
+le_equal Equal = refl
+le_equal Greater = refl
+
 le_is : (a b : ℕ) → is_le (nat_cmp a b) ≡ nat_le a b
 le_is a b = grind (arith, nat_tests)
 
-from_at : (t m : ℕ) → ends_after (end.At m) t ≡ true → nat_le t m ≡ true
-from_at t m h = grind (arith, nat_tests)
+from_at : (t m n : ℕ) → ends_after (end.At m) t ≡ true → not (nat_le m n) ≡ false → nat_le t n ≡ true
+from_at t m n h g = grind (arith, nat_tests)
 
-then_less : (o : Ordering) → is_le o ≡ true → ordering_then o Less ≡ Less
-then_less Less h = refl
-then_less Equal h = refl
-then_less Greater h = cc
+from_end : (t : ℕ) (a b : End) → ends_after a t ≡ true → is_lt (end_cmp b a) ≡ false → is_le (end_cmp (end.At t) b) ≡ true
+from_end t (end.At m) (end.At n) h g = le_is t n ∙ from_at t m n h (sym (not_lt n m) ∙ g)
+from_end t a end.Ufn h g = refl
+from_end t end.Ufn (end.At n) h g = cc
 
--- the first minute is behind none
-zero_first : (b : ℕ) → ordering_then (nat_cmp 0 b) Less ≡ Less
-zero_first b = then_less (nat_cmp 0 b) (le_is 0 b ∙ first)
-  where
-    first : nat_le 0 b ≡ true
-    first = grind (arith, nat_tests)
+spot_front : (s : Spot) (d : Event) (o : Ordering) → is_spot_of d s ≡ true → is_le o ≡ true → is_le (ordering_then o (spot.cmp-value.it Front s)) ≡ true
+spot_front Front d o h le = cc
+spot_front (At e) d o h le = le_less o ∙ le
+spot_front Back d o h le = cc
 
-from_end : (t b : ℕ) (a : End) → ends_after a t ≡ true → is_le (ordering_then (end_cmp (end.At t) a) (ordering_then (nat_cmp 0 b) Less)) ≡ true
-from_end t b (end.At m) h = ap (λ (o : Ordering). is_le (ordering_then (nat_cmp t m) o)) (zero_first b) ∙ le_less (nat_cmp t m) ∙ le_is t m ∙ from_at t m h
-from_end t b end.Ufn h = refl
+spot_back : (s : Spot) (d : Event) (a : End) → is_spot_of d s ≡ true → is_le (ordering_then (end_cmp end.Ufn a) (spot.cmp-value.it Back s)) ≡ false
+spot_back Front d a h = cc
+spot_back (At e) d (end.At n) h = refl
+spot_back (At e) d end.Ufn h = refl
+spot_back Back d a h = cc
 
-module _ (rows : List Row) (q : Event → Bool) (p : Row → Bool) (t : ℕ) (low : Option (Family × ℕ)) (own : Row) (keys : List Reach) where
-  abbrev both : Row → Bool
-  both r = p r && q r.event
+between_by : (o x y : Ordering) → o ≡ Equal → is_le x ≡ true → is_le y ≡ false → (is_le (ordering_then o x) && not (is_le (ordering_then o y))) ≡ true
+between_by Less x y h f g = cc
+between_by Equal x y h f g = rw (f, g) refl
+between_by Greater x y h f g = cc
 
-  abbrev in_zone : Row → Bool
-  in_zone r = is_in_zone own.zone r && both r
+-- the first place of an area's keys is not behind the last
+pub area-forward : (area : ℕ) → is_gt (ordering_then (nat_cmp area area) Less) ≡ false
+area-forward area = ap (λ (o : Ordering). is_gt (ordering_then o Less)) (tied_itself nat_cmp_total area)
 
-  abbrev told : Reach → Bool
-  told k = lasts t k && reaches_over rows q p low own k
+-- the key that holds a row is of its event
+held-spot : (r : Row) (k : Reach) → holds r k ≡ true → is_spot_of r.event k.spot ≡ true
+held-spot r k h =
+    let p = and_parts (area_of r.zone == k.area) _ h in
+    (and_parts (is_spot_of r.event k.spot) _ p.1).0
 
-  row_in : (e : Event) (o : Option Row) → row_at rows e own.zone ≡ o → q e ≡ true → passes p o ≡ true → list_any in_zone rows ≡ true
-  row_in e None is free h = cc
-  row_in e (Some r) is free h =
-      let found = find_in (at_key e own.zone) rows r is in
-      let zone_is = (and_parts (same_event r.event e) _ found.1).1 in
-      let event_is = (at_key-parts e own.zone r found.1).0 in
-      let own_free : q r.event ≡ true = subst (λ (d : Event). q d ≡ true) (sym event_is) free in
-      let own_in : in_zone r ≡ true = rw (zone_is, h, own_free) refl in
-      in_any in_zone rows r found.0 own_in
+-- the key that holds a live row lasts
+held-lasts : (t : ℕ) (r : Row) (k : Reach) → is_live t r ≡ true → holds r k ≡ true → lasts (area_of r.zone) t k ≡ true
+held-lasts t r k live h =
+    let p = and_parts (area_of r.zone == k.area) _ h in
+    let q = and_parts (is_spot_of r.event k.spot) _ p.1 in
+    let l = and_parts (not r.ended) _ live in
+    let le = from_end t r.period.end k.end l.1 (of_not _ q.1) in
+    let tied : nat_cmp (area_of r.zone) k.area ≡ Equal = ap (nat_cmp (area_of r.zone)) (sym (one_number (area_of r.zone) k.area p.0)) ∙ tied_itself nat_cmp_total (area_of r.zone) in
+    between_by (nat_cmp (area_of r.zone) k.area) _ _ tied (spot_front k.spot r.event (end_cmp (end.At t) k.end) q.0 le) (spot_back k.spot r.event k.end q.0)
 
-  spot_in : (s : Spot) → is_spot_over rows q p low own s ≡ true → list_any in_zone rows ≡ true
-  spot_in Front h = cc
-  spot_in (At e) h =
-      let first = and_parts (is_above (family_of (facts_of e.hazard)) low && q e) _ h in
-      row_in e (row_at rows e own.zone) refl (and_parts (is_above (family_of (facts_of e.hazard)) low) _ first.0).1 first.1
-  spot_in Back h = cc
+-- the events of an area
 
-  told_own : (r : Row) → row_at rows r.event own.zone ≡ Some r → is_live t r ≡ true → overlaps r.period own.period ≡ true → is_above (family_of (facts_of r.event.hazard)) low ≡ true → p r ≡ true → q r.event ≡ true → told (reach_of r) ≡ true
-  told_own r found live over above h free =
-      let from = from_end t r.period.begin r.period.end (and_parts (not r.ended) _ live).1 in
-      rw (from, over, above, free, found, h) refl
+pub area-told : {E : Type 0} (keys : List Reach) (t : ℕ) (ranks : List (Option (Family × ℕ))) (area : ℕ) (events new : List Event) (result : Result (Unit {0}) E)
+    → OnOk result (new ≡ with_spots ranks events (filter (lasts area t) keys)) → OnOk result (AreaTold keys t ranks new (Some area))
+area-told keys t ranks area events new (Ok u) is = λ e k there last spot above.
+    let own = any_in (is_at (by_reach k)) keys there in
+    let inside : IsIn k keys = subst (λ (x : Reach). IsIn x keys) (sym (at_one by_reach by_reach_total by_reach_ties k own.0 own.2)) own.1 in
+    subst (λ (es : List Event). list_any (is_at (by_event e)) es ≡ true) (sym is) (spots-told ranks (filter (lasts area t) keys) e events above k (in_filtered (lasts area t) keys k inside last) spot)
+area-told keys t ranks area events new (Err x) is = tt
 
-  row_told : (r : Row) → row_at rows r.event own.zone ≡ Some r → is_reached r.event keys (row_at rows r.event own.zone) ≡ true → is_live t r ≡ true → told (reach_of r) ≡ true → list_any told keys ≡ true
-  row_told r found reached live own_told =
-      let there : (r.ended || has keys (reach_of r)) ≡ true = subst (λ (o : Option Row). is_reached r.event keys o ≡ true) found reached in
-      let k = any_in (is_at (by_reach (reach_of r))) keys (second_true r.ended (has keys (reach_of r)) (and_parts (not r.ended) _ live).0 there) in
-      let one : reach_of r ≡ k.0 = at_one by_reach by_reach_total by_reach_ties (reach_of r) k.0 k.2 in
-      in_any told keys k.0 k.1 (subst (λ (x : Reach). told x ≡ true) one own_told)
+pub area-keeps : {E : Type 0} (ranks : List (Option (Family × ℕ))) (ks : List Reach) (events new : List Event) (result : Result (Unit {0}) E) → OnOk result (new ≡ with_spots ranks events ks) → OnOk result (Keeps events new)
+area-keeps ranks ks events new (Ok u) is = λ e h. subst (λ (es : List Event). list_any (is_at (by_event e)) es ≡ true) (sym is) (spots_kept ranks ks e events h)
+area-keeps ranks ks events new (Err x) is = tt
 
-  -- each row that passes is live and above the rank, and overlaps the one: so its period tells it
-  pub reached_over : IsStrictlySortedBy by_key rows → ((e : Event) → is_reached e keys (row_at rows e own.zone) ≡ true)
-      → ((r : Row) → p r ≡ true → (is_live t r ≡ true) × (overlaps r.period own.period ≡ true) × (is_above (family_of (facts_of r.event.hazard)) low ≡ true))
-      → list_any (reaches_over rows q p low own) (filter (lasts t) keys) ≡ list_any both (filter (is_in_zone own.zone) rows)
-  reached_over up reached asks =
-      any_filtered (reaches_over rows q p low own) (lasts t) keys
-      ∙ one_way (list_any told keys) (list_any in_zone rows)
-      (λ g.
-      let k = any_in told keys g in
-      let over = (and_parts (lasts t k.0) _ k.2).1 in
-      spot_in k.0.spot (and_parts (overlaps (period_of k.0) own.period) _ over).1)
-      (λ g.
-      let w = any_in in_zone rows g in
-      let r = w.0 in
-      let h = and_parts (is_in_zone own.zone r) _ w.2 in
-      let pq = and_parts (p r) _ h.1 in
-      let asked = asks r pq.0 in
-      let found : row_at rows r.event own.zone ≡ Some r = subst (λ (z : Place). row_at rows r.event z ≡ Some r) (zone_one r.zone own.zone h.0) (found_own rows r up w.1) in
-      row_told r found (reached r.event) asked.0 (told_own r found asked.0 asked.1 asked.2 pq.0 pq.1))
-      ∙ sym (any_filtered both (is_in_zone own.zone) rows)
+-- the area whose events were added last
+pub last-told : (keys : List Reach) (t : ℕ) (ranks : List (Option (Family × ℕ))) (area : ℕ) (events : List Event) (last : Option ℕ) → AreaTold keys t ranks events last → is_area last area ≡ true → AreaTold keys t ranks events (Some area)
+last-told keys t ranks area events None told h = cc
+last-told keys t ranks area events (Some other) told h = subst (λ (a : ℕ). AreaTold keys t ranks events (Some a)) (one_number other area h) told
+
+-- the events of the areas of zones, of which some are left
+abbrev pub IsTelling : List Reach → List Place → List Place → ℕ → List (Option (Family × ℕ)) → List Event → Type 0
+IsTelling keys zones left t ranks events = (z : Place) → list_any (is_at (by_place z)) zones ≡ true → list_any (is_at (by_place z)) left ≡ false → AreaTold keys t ranks events (Some (area_of z))
+
+module _ (keys : List Reach) (zones : List Place) (t : ℕ) (ranks : List (Option (Family × ℕ))) where
+  pub telling-begun : (left : List Place) (events : List Event) → left ≡ zones → IsTelling keys zones left t ranks events
+  telling-begun left events is = λ z inside none. let both : true ≡ false = sym inside ∙ ap (λ (zs : List Place). list_any (is_at (by_place z)) zs) (sym is) ∙ none in cc
+
+  pub telling-next : (left next : List Place) (zone : Place) (events new : List Event) → left ≡ zone ∷ next → Keeps events new → AreaTold keys t ranks new (Some (area_of zone))
+      → IsTelling keys zones left t ranks events → IsTelling keys zones next t ranks new
+  telling-next left next zone events new is keeps told sofar = λ z inside none. by_zone z inside none (is_at (by_place z) zone) refl
+    where
+      by_zone : (z : Place) → list_any (is_at (by_place z)) zones ≡ true → list_any (is_at (by_place z)) next ≡ false → (b : Bool) → is_at (by_place z) zone ≡ b → AreaTold keys t ranks new (Some (area_of z))
+      by_zone z inside none true h = subst (λ (y : Place). AreaTold keys t ranks new (Some (area_of y))) (sym (at_one by_place by_place_total by_place_ties z zone h)) told
+      by_zone z inside none false h = λ e k there last spot above.
+          keeps e (sofar z inside (ap (λ (zs : List Place). list_any (is_at (by_place z)) zs) is ∙ rw (h, none) refl) e k there last spot above)
+
+  pub telling-done : (events : List Event) → IsTelling keys zones [] t ranks events → AreTold keys zones t ranks events
+  telling-done events sofar = λ z inside. sofar z inside refl
+
+-- a live row's event is among those that are found
+pub found-among : (es : List (Event × List Row)) (keys : List Reach) (zones : List Place) (t : ℕ) (ranks : List (Option (Family × ℕ))) (events : List Event) (e : Event) (z : Place) (r : Row) → AreHeld es → Reaches keys es
+    → AreTold keys zones t ranks events → list_any (is_at (by_place z)) zones ≡ true → row_at (told es) e z ≡ Some r → is_live t r ≡ true → is_above_any ranks e ≡ true → is_none (rank_of e) ≡ false → list_any (is_at (by_event e)) events ≡ true
+found-among es keys zones t ranks events e z r held reaches all inside found live above rank =
+    let part = list_at by_event es e in
+    let own = find_in (at_key e z) part r (sym (held-found es held e z) ∙ found) in
+    let key = at_key-parts e z r own.1 in
+    let reached = of_all (λ (y : Row). is_reached keys y ≡ true) part r (reached-at e es keys reaches) own.0 in
+    let ended = of_not r.ended (and_parts (not r.ended) _ live).0 in
+    let k = any_in (holds r) keys (left_of r.ended (is_none (rank_of r.event)) (list_any (holds r) keys) ended (ap (λ (d : Event). is_none (rank_of d)) key.0 ∙ rank) reached) in
+    let spot : is_spot_of e k.0.spot ≡ true = subst (λ (d : Event). is_spot_of d k.0.spot ≡ true) key.0 (held-spot r k.0 k.2) in
+    let there : list_any (is_at (by_reach k.0)) keys ≡ true = in_any (is_at (by_reach k.0)) keys k.0 k.1 (at_own by_reach by_reach_total by_reach_ties k.0) in
+    let last : lasts (area_of z) t k.0 ≡ true = subst (λ (y : Place). lasts (area_of y) t k.0 ≡ true) key.1 (held-lasts t r k.0 live k.2) in
+    all z inside e k.0 there last spot above

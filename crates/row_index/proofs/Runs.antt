@@ -7,19 +7,20 @@ use Rattle.hazard_types.specs.declared.hazard.Event.{Event}
 use Rattle.hazard_types.specs.declared.line.Row.{Row}
 use Rattle.hazard_types.proofs.Equality.{event_one}
 use Rattle.hazard_types.proofs.OrderLaws.{by_event_total, by_event_ties}
-use Rattle.event_life.specs.Products.{put, row_at, has_rows}
+use Rattle.event_life.specs.Products.{put, has_rows}
 use Rattle.row_index.specs.declared.numbers.Number.{Number}
 use Rattle.row_index.specs.Holding.{told, AreHeld}
 use Rattle.row_index.specs.Listing.{list_at}
 use Rattle.row_index.specs.Indexing.{IsIndex}
 use Rattle.row_index.specs.Numbers.{events_with, AreOpened}
-use Rattle.row_index.specs.Reaching.{reached_with, reached_each, Reaches}
+use Rattle.row_index.specs.Reaching.{AreReached, Grows, Reaches}
 use Rattle.row_index.specs.Runs.{AreOfOne, is_of, held_put}
 use Rattle.row_index.specs.Steps.{put_each}
-use Rattle.row_index.proofs.HeldRows.{held-found, held-with, has_rows-told, told-sorted, told-with}
+use Rattle.row_index.proofs.HeldRows.{held-with, has_rows-told, told-sorted, told-with}
 use Rattle.row_index.proofs.Lists.{at_same, put_twice}
 use Rattle.row_index.proofs.Opened.{opened-with}
-use Rattle.row_index.proofs.Reached.{Zones, reaches-each}
+use Rattle.row_index.specs.declared.reach.Reach.{Reach}
+use Rattle.row_index.proofs.Reached.{reaches-put}
 
 -- the rows of each event are its own, and all of them are the rows with those put
 abbrev pub IsPut : List Row → List (Event × List Row) → List (Event × List Row) → Type 0
@@ -42,10 +43,10 @@ run-put e row (next ∷ rows) is all es held =
     (subst (λ (new : List (Event × List Row)). AreHeld new) twice more.0, ap told (sym twice) ∙ more.1 ∙ told_is)
 
 -- rows that are there, put
-pub rows-put : (e : Event) (rows : List Row) → (length rows == 0) ≡ false → AreOfOne (Some e) rows → (es new : List (Event × List Row)) (events new_events : List (Number × List Event)) (reach new_reach : Zones)
-    → new ≡ held_put e rows es → new_events ≡ events_with (has_rows (list_at by_event es e) e) e events → new_reach ≡ reached_each rows (list_at by_event es e) reach → IsIndex es events reach → IsIndex new new_events new_reach × (told new ≡ put_each rows (told es))
-rows-put e [] some all es new events new_events reach new_reach new_is events_are reach_is index = cc
-rows-put e (row ∷ rows) some all es new events new_events reach new_reach new_is events_are reach_is index =
+pub rows-put : (e : Event) (rows : List Row) → (length rows == 0) ≡ false → AreOfOne (Some e) rows → (es new : List (Event × List Row)) (events new_events : List (Number × List Event)) (reach new_reach : List Reach)
+    → new ≡ held_put e rows es → new_events ≡ events_with (has_rows (list_at by_event es e) e) e events → AreReached new_reach (put_each rows (list_at by_event es e)) → Grows reach new_reach → IsIndex es events reach → IsIndex new new_events new_reach × (told new ≡ put_each rows (told es))
+rows-put e [] some all es new events new_events reach new_reach new_is events_are reached grows index = cc
+rows-put e (row ∷ rows) some all es new events new_events reach new_reach new_is events_are reached grows index =
     let known = has_rows (list_at by_event es e) e in
     let put = subst (λ (x : List (Event × List Row)). IsPut (row ∷ rows) es x) (sym new_is) (run-put e row rows all.0 all.1 es index.held) in
     let opened = opened-with known e row rows (told es) events (told-sorted es) all.0 all.1 (has_rows-told es e index.held) index.opened in (
@@ -53,9 +54,8 @@ rows-put e (row ∷ rows) some all es new events new_events reach new_reach new_
         held = put.0;
         opened = subst (λ (all : List Row). AreOpened new_events all) (sym put.1)
             (subst (λ (x : List (Number × List Event)). AreOpened x (put_each (row ∷ rows) (told es))) (sym events_are) opened);
-        reached = subst (λ (all : List Row). Reaches new_reach all) (sym put.1)
-            (subst (λ (x : Zones). Reaches x (put_each (row ∷ rows) (told es))) (sym reach_is)
-            (reaches-each e (row ∷ rows) (told es) (list_at by_event es e) reach all (held-found es index.held e) index.reached));
+        reached = subst (λ (x : List (Event × List Row)). Reaches new_reach x) (sym new_is)
+            (reaches-put e (put_each (row ∷ rows) (list_at by_event es e)) es reach new_reach grows reached index.reached);
       },
       put.1,
     )
@@ -67,19 +67,6 @@ put_next rows known next all i row within is next_is sofar =
     let cut : drop i rows ≡ row ∷ drop (i + 1) rows =
     drop-cons rows i row within ∙ ap (λ (x : Row). x ∷ drop (suc i) rows) (sym is) ∙ ap (λ (k : ℕ). row ∷ drop k rows) after in
     ap (put_each (drop (i + 1) rows)) next_is ∙ ap (λ (rest : List Row). put_each rest known) (sym cut) ∙ sofar
-
--- the ends of each zone with one row more of a list
-pub reached_next : (rows known next : List Row) (reach after all : Zones) (before : Option Row) (i : ℕ) (row : Row) → i < length rows → row ≡ get_or rows i row → before ≡ row_at known row.event row.zone → next ≡ put row known
-    → after ≡ reached_with before row reach → reached_each (drop i rows) known reach ≡ all → reached_each (drop (i + 1) rows) next after ≡ all
-reached_next rows known next reach after all before i row within is found next_is after_is sofar =
-    let behind : suc i ≡ i + 1 = omega arith in
-    let rest = drop (i + 1) rows in
-    let cut : drop i rows ≡ row ∷ rest =
-    drop-cons rows i row within ∙ ap (λ (x : Row). x ∷ drop (suc i) rows) (sym is) ∙ ap (λ (k : ℕ). row ∷ drop k rows) behind in
-    ap (λ (k : List Row). reached_each rest k after) next_is
-    ∙ ap (λ (x : Zones). reached_each rest (put row known) x) after_is
-    ∙ ap (λ (o : Option Row). reached_each rest (put row known) (reached_with o row reach)) found
-    ∙ ap (λ (more : List Row). reached_each more known reach) (sym cut) ∙ sofar
 
 pub of_at : (e : Event) (i : ℕ) (rows : List Row) (row : Row) → AllByRecursion (λ (r : Row). r.event ≡ e) rows → i < length rows → row ≡ get_or rows i row → row.event ≡ e
 of_at e i [] row all within is = absurd (omega (arith, within))

@@ -1,13 +1,14 @@
 -- The rows of an event that no line has ended, counted by period.
-use Rattle.std.proofs.Common.{◌≡◌, ◌∙◌, ◌≤◌, ◌+◌, ◌-◌, ◌==◌, inl, inr, ℕ, suc, List, [], ◌∷◌, ◌&&◌, ◌||◌, not, Bool, true, false, cond, Ordering, Less, Equal, Greater, Option, Some, None, unwrap_or, refl, ap, sym, subst, arith}
-use Rattle.std.specs.Prelude.{nat_le}
+use Rattle.std.proofs.Common.{◌≡◌, ◌∙◌, ◌≤◌, ◌+◌, ◌-◌, ◌==◌, inl, inr, ℕ, zero, suc, List, [], ◌∷◌, ◌&&◌, ◌||◌, not, Bool, true, false, cond, Ordering, Less, Equal, Greater, Option, Some, None, unwrap_or, refl, ap, sym, subst, arith}
+use Rattle.std.specs.Prelude.{nat_le, slice_get}
+use Rattle.std.proofs.lemmas.List.Elements.{recursion_from_All}
 use Rattle.std.proofs.lemmas.Bool.{and_parts}
 use Rattle.std.proofs.lemmas.Bool.Decides.{nat_tests}
 use Rattle.std.proofs.lemmas.Cmp.{tied_itself}
 use Rattle.std.specs.BTreeMap.{insert_entry, is_at}
 use Rattle.std.specs.BTreeMap.Range.{IsLeBy}
 use Rattle.std.specs.Cmp.{IsTotalOrder}
-use Rattle.std.specs.List.{AllByRecursion, list_any}
+use Rattle.std.specs.List.{All, AllByRecursion, list_any}
 use Rattle.std.specs.List.Sorted.{IsStrictlySortedBy}
 use Rattle.std.specs.Map.{keys_of, lookup, remove_entry}
 use Rattle.std.specs.Ordering.{match_ordering, ordering_then, is_eq, is_le, is_lt, is_gt, nat_cmp}
@@ -506,3 +507,35 @@ with_forward a first last le =
     forward Less h = refl
     forward Equal h = refl
     forward Greater h = cc
+
+-- the last of the periods has the greatest end
+
+lt_first : (o p : Ordering) → is_lt (ordering_then o p) ≡ false → is_lt o ≡ false
+lt_first Less p h = h
+lt_first Equal p h = refl
+lt_first Greater p h = refl
+
+none_beyond : (last : Standing) (ks : List Standing) → AllByRecursion (λ (k : Standing). is_lt (by_standing last k) ≡ false) ks → list_any (λ (k : Standing). is_lt (end_cmp last.end k.end)) ks ≡ false
+none_beyond last [] all = refl
+none_beyond last (k ∷ ks) all = rw (lt_first (end_cmp last.end k.end) (nat_cmp last.begin k.begin) all.0) (none_beyond last ks all.1)
+
+pub end-bound : (es : Counts) (last : Standing) → All (λ (k : Standing). is_lt (by_standing last k) ≡ false) (keys_of es) → list_any (λ (k : Standing). is_lt (end_cmp last.end k.end)) (keys_of es) ≡ false
+end-bound es last all = none_beyond last (keys_of es) (recursion_from_All (λ (k : Standing). is_lt (by_standing last k) ≡ false) (keys_of es) all)
+
+own_end : (a : End) (rest : Bool) → (is_eq (end_cmp a a) || rest) ≡ true
+own_end a rest = ap (λ (o : Ordering). is_eq o || rest) (tied_itself by_end_total a)
+
+later_end : (a b : Bool) → b ≡ true → (a || b) ≡ true
+later_end true b h = refl
+later_end false b h = h
+
+abbrev key_or : Standing → Option (Standing × ℕ) → Standing
+key_or k None = k
+key_or k (Some e) = e.0
+
+pub end-there : (es : Counts) (i : ℕ) (last : Standing) (n : ℕ) → slice_get es i ≡ Some (last, n) → list_any (λ (k : Standing). is_eq (end_cmp last.end k.end)) (keys_of es) ≡ true
+end-there [] i last n h = cc
+end-there (e ∷ es) zero last n h =
+    let one : e.0 ≡ last = ap (λ (o : Option (Standing × ℕ)). key_or last o) h in
+    subst (λ (k : Standing). (is_eq (end_cmp last.end k.end) || list_any (λ (x : Standing). is_eq (end_cmp last.end x.end)) (keys_of es)) ≡ true) (sym one) (own_end last.end _)
+end-there (e ∷ es) (suc i) last n h = later_end (is_eq (end_cmp last.end e.0.end)) _ (end-there es i last n h)

@@ -10,4 +10,5 @@ pub mod Standings
 pub mod Steps
 pub mod Runs
 pub mod Reaching
+pub mod Gathering
 pub mod Indexing

@@ -1,76 +1,118 @@
--- How far the rows of each zone reach: the periods of those that no line has ended.
-use Rattle.std.specs.Prelude.{◌≡◌, ◌&&◌, ◌||◌, not, ℕ, Bool, true, false, List, [], ◌∷◌, if◌then◌else◌, Option, Some, None}
-use Rattle.std.specs.BTreeMap.{insert_entry, is_at}
+-- How far the rows of each event reach in each area: of an event whose hazard has a rank, an end that comes before the end of none of
+-- its rows there that no line has ended.
+use Rattle.std.specs.Prelude.{◌≡◌, ◌==◌, ◌+◌, ◌*◌, ◌/◌, ◌&&◌, ◌||◌, not, ℕ, Bool, true, false, List, [], ◌∷◌, if◌then◌else◌, Option, Some, None, is_none, slice_index}
+use Rattle.std.specs.BTreeMap.{is_at}
 use Rattle.std.specs.BTreeMap.Range.{range_contains}
 use Rattle.std.specs.BTreeSet.{insert_key}
-use Rattle.std.specs.List.{list_any}
-use Rattle.std.specs.Set.{remove_key}
+use Rattle.std.specs.List.{AllByRecursion, list_any}
+use Rattle.std.specs.Ordering.{is_eq, is_lt}
 use Rattle.std.specs.declared.cmp.Ordering.{Ordering}
-use Rattle.std.specs.declared.ops.Bound.TheVariants.{Included, Unbounded}
+use Rattle.std.specs.declared.ops.Bound.TheVariants.{Included, Excluded}
+use Rattle.hazard_types.specs.Hazards.{facts_of}
+use Rattle.hazard_types.specs.Orders.{by_event}
 use Rattle.hazard_types.specs.Places.{Place, by_place}
+use Rattle.hazard_types.specs.Same.{same_event}
 use Rattle.hazard_types.specs.declared.codes.Family.{Family}
 use Rattle.hazard_types.specs.declared.hazard.Event.{Event}
 use Rattle.hazard_types.specs.declared.line.Row.{Row}
+use Rattle.hazard_types.specs.declared.period.End.{End}
 use Rattle.hazard_types.specs.declared.period.End.TheVariants as end
-use Rattle.hazard_types.specs.declared.period.Period.{Period}
-use Rattle.event_life.specs.Periods.{overlaps}
-use Rattle.event_life.specs.Products.{put, row_at}
+use Rattle.hazard_types.specs.contracts.period.EndOrd.TheImpl as end_order
+use Rattle.event_life.specs.Higher.{family_of, is_above}
 use Rattle.row_index.specs.declared.reach.Reach.{Reach}
 use Rattle.row_index.specs.declared.seats.Spot.{Spot}
 use Rattle.row_index.specs.declared.seats.Spot.TheVariants.{Front, At, Back}
 use Rattle.row_index.specs.contracts.reach.ReachOrd.TheImpl as order
-use Rattle.row_index.specs.Listing.{list_at}
-use Rattle.row_index.specs.Steps.{stays, is_over}
 
 abbrev pub by_reach : Reach → Reach → Ordering
 by_reach = order.cmp-value.it
 
-abbrev pub reach_at : Event → Period → Reach
-reach_at e p = record { end = p.end; begin = p.begin; spot = At e }
+abbrev pub end_cmp : End → End → Ordering
+end_cmp = end_order.cmp-value.it
 
+abbrev pub rank_of : Event → Option (Family × ℕ)
+rank_of e = family_of (facts_of e.hazard)
+
+-- sixteen numbers of a state
+unfoldable pub area_of : Place → ℕ
+area_of p = (slice_index p.state 0 * 256 + slice_index p.state 1) * 64 + p.number / 16
+
+-- the end of a row, in its area
 abbrev pub reach_of : Row → Reach
-reach_of r = reach_at r.event r.period
+reach_of r = record { area = area_of r.zone; end = r.period.end; spot = At r.event }
 
-abbrev pub period_of : Reach → Period
-period_of k = record { begin = k.begin; end = k.end }
+-- the spot is an event's
+abbrev pub is_spot_of : Event → Spot → Bool
+is_spot_of e (At d) = same_event d e
+is_spot_of e Front = false
+is_spot_of e Back = false
 
--- without the period of the row before, if there was one
-abbrev pub less_reach : Option Row → List Reach → List Reach
-less_reach None keys = keys
-less_reach (Some old) keys = remove_key (is_at (by_reach (reach_of old))) keys
+-- the key is of the row's area and event, and its end does not come before the row's
+abbrev pub holds : Row → Reach → Bool
+holds r k = (area_of r.zone == k.area) && (is_spot_of r.event k.spot && not (is_lt (end_cmp k.end r.period.end)))
 
--- with the period of a row, unless a line has ended it
-abbrev pub more_reach : Row → List Reach → List Reach
-more_reach row keys = if not row.ended then insert_key by_reach keys (reach_of row) else keys
+-- a line has ended the row, its hazard has no rank, or a key holds it
+abbrev pub is_reached : List Reach → Row → Bool
+is_reached keys r = r.ended || is_none (rank_of r.event) || list_any (holds r) keys
 
--- the periods of each zone, where a row comes into the place of the one before
-abbrev pub reached_with : Option Row → Row → List (Place × List Reach) → List (Place × List Reach)
-reached_with before row reach = if stays before row then reach else insert_entry by_place reach row.zone (more_reach row (less_reach before (list_at by_place reach row.zone)))
+abbrev pub AreReached : List Reach → List Row → Type 0
+AreReached keys rows = AllByRecursion (λ (r : Row). is_reached keys r ≡ true) rows
 
--- and where each of the rows does, which come among others of their event
-abbrev pub reached_each : List Row → List Row → List (Place × List Reach) → List (Place × List Reach)
-reached_each [] known reach = reach
-reached_each (row ∷ rows) known reach = reached_each rows (put row known) (reached_with (row_at known row.event row.zone) row reach)
+-- the rows of each event are reached
+abbrev pub Reaches : List Reach → List (Event × List Row) → Type 0
+Reaches keys es = AllByRecursion (λ (e : Event × List Row). AreReached keys e.1) es
 
--- an event's row has its period among these, unless there is none or a line has ended it
-abbrev pub is_reached : Event → List Reach → Option Row → Bool
-is_reached e keys None = true
-is_reached e keys (Some r) = r.ended || list_any (is_at (by_reach (reach_at e r.period))) keys
+-- what one of the keys holds, one of the others does
+abbrev pub Grows : List Reach → List Reach → Type 0
+Grows old new = (r : Row) → list_any (holds r) old ≡ true → list_any (holds r) new ≡ true
 
--- the period of each row that no line has ended is among those of its zone
-abbrev pub Reaches : List (Place × List Reach) → List Row → Type 0
-Reaches reach rows = (e : Event) (z : Place) → is_reached e (list_at by_place reach z) (row_at rows e z) ≡ true
+-- what the key that was added last holds, if there is one, one of the keys does
+abbrev pub IsLast : Option Reach → List Reach → Type 0
+IsLast None keys = Unit {0}
+IsLast (Some k) keys = (r : Row) → holds r k ≡ true → list_any (holds r) keys ≡ true
 
--- one whose end is not before the minute
-abbrev pub lasts : ℕ → Reach → Bool
-lasts t k = range_contains by_reach (Included (record { end = end.At t; begin = 0; spot = Front })) Unbounded k
+abbrev pub is_last : Option Reach → Reach → Bool
+is_last None k = false
+is_last (Some other) k = is_eq (by_reach other k)
 
--- the spot is of an event that is above a rank and passes one test, and its row in the zone of this one passes another
-abbrev pub is_spot_over : List Row → (Event → Bool) → (Row → Bool) → Option (Family × ℕ) → Row → Spot → Bool
-is_spot_over rows q p low own (At e) = is_over rows q p low own e
-is_spot_over rows q p low own Front = false
-is_spot_over rows q p low own Back = false
+-- the row before is of the event and zone of a row, and is reached
+abbrev pub ReachedBefore : List Reach → Option Row → Row → Type 0
+ReachedBefore keys None row = Unit {0}
+ReachedBefore keys (Some old) row = (old.event ≡ row.event) × (old.zone ≡ row.zone) × (is_reached keys old ≡ true)
 
--- the period overlaps this row, and is of such an event
-abbrev pub reaches_over : List Row → (Event → Bool) → (Row → Bool) → Option (Family × ℕ) → Row → Reach → Bool
-reaches_over rows q p low own k = overlaps (period_of k) own.period && is_spot_over rows q p low own k.spot
+-- one of an area whose end is not before the minute
+abbrev pub lasts : ℕ → ℕ → Reach → Bool
+lasts area t k = range_contains by_reach (Included (record { area = area; end = end.At t; spot = Front })) (Excluded (record { area = area; end = end.Ufn; spot = Back })) k
+
+-- the event is above one of the ranks
+abbrev pub is_above_any : List (Option (Family × ℕ)) → Event → Bool
+is_above_any ranks e = list_any (λ low. is_above (rank_of e) low) ranks
+
+-- the events with that of a spot, if it is above one of the ranks
+abbrev pub with_spot : List (Option (Family × ℕ)) → Spot → List Event → List Event
+with_spot ranks (At e) events = if is_above_any ranks e then insert_key by_event events e else events
+with_spot ranks Front events = events
+with_spot ranks Back events = events
+
+-- and with those of spots, one after another
+abbrev pub with_spots : List (Option (Family × ℕ)) → List Event → List Reach → List Event
+with_spots ranks events [] = events
+with_spots ranks events (k ∷ ks) = with_spots ranks (with_spot ranks k.spot events) ks
+
+-- the events of an area, if there is one, above one of the ranks that may reach to the minute are among these
+abbrev pub AreaTold : List Reach → ℕ → List (Option (Family × ℕ)) → List Event → Option ℕ → Type 0
+AreaTold keys t ranks events None = Unit {0}
+AreaTold keys t ranks events (Some area) = (e : Event) (k : Reach) → list_any (is_at (by_reach k)) keys ≡ true → lasts area t k ≡ true → is_spot_of e k.spot ≡ true → is_above_any ranks e ≡ true → list_any (is_at (by_event e)) events ≡ true
+
+-- the same of the area of each zone
+abbrev pub AreTold : List Reach → List Place → ℕ → List (Option (Family × ℕ)) → List Event → Type 0
+AreTold keys zones t ranks events = (z : Place) → list_any (is_at (by_place z)) zones ≡ true → AreaTold keys t ranks events (Some (area_of z))
+
+-- each event is among the others
+abbrev pub Keeps : List Event → List Event → Type 0
+Keeps old new = (e : Event) → list_any (is_at (by_event e)) old ≡ true → list_any (is_at (by_event e)) new ≡ true
+
+-- the area is that one
+abbrev pub is_area : Option ℕ → ℕ → Bool
+is_area None a = false
+is_area (Some b) a = b == a

@@ -1,6 +1,7 @@
 -- What the code of an index does on the way: the rows that lines leave, and those by which a higher row is looked for in a zone.
 use Rattle.std.specs.Prelude.{◌≡◌, ◌&&◌, ◌||◌, ◌∷◌, not, ℕ, Bool, true, false, List, [], filter, fold, if◌then◌else◌, Option, Some, None, is_none}
-use Rattle.std.specs.List.{list_any}
+use Rattle.std.specs.List.{AllByRecursion, list_any}
+use Rattle.std.specs.List.Sorted.{IsStrictlySortedBy}
 use Rattle.hazard_types.specs.Hazards.{facts_of}
 use Rattle.hazard_types.specs.Places.{Place}
 use Rattle.hazard_types.specs.Same.{same_event}
@@ -17,7 +18,7 @@ use Rattle.event_life.specs.declared.life.Around.{Around}
 use Rattle.event_life.specs.Higher.{family_of, is_above}
 use Rattle.event_life.specs.Periods.{is_live, overlaps}
 use Rattle.event_life.specs.Table.{opened_period}
-use Rattle.event_life.specs.Products.{put, row_at, row_after, put_but_upgrades, has_rows, is_open, is_held, has_same, is_new, later_event, going_in}
+use Rattle.event_life.specs.Products.{by_key, put, row_at, row_after, put_but_upgrades, has_rows, is_open, is_held, has_same, is_new, later_event, going_in}
 use Rattle.row_index.specs.declared.seats.Seat.{Seat}
 use Rattle.row_index.specs.Numbers.{is_in_zone}
 use Rattle.row_index.specs.Seating.{seat_at, seat_of, seat_said, has_seat, upgrades}
@@ -30,10 +31,6 @@ latest_open rows t events = fold (λ (best : Option Event) (e : Event). if is_op
 -- the open event that a line of a text is of, where it opens none
 abbrev pub event_going : List Row → ℕ → Vtec → Option Event
 event_going rows t vtec = if is_new vtec.action then None else going_in rows vtec.hazard vtec.etn t
-
--- the line, of another event
-abbrev pub of_event : Line → Event → Line
-of_event line e = record { action = line.action; event = e; zone = line.zone; begin = line.begin; end = line.end; flood = line.flood }
 
 -- What stands around a line, as far as its action asks for it: a NEW line of an event with rows does not ask for an earlier year's,
 -- and an EXA or EXB line of an event that is not open asks for no period.
@@ -82,6 +79,16 @@ pub record IsChanged (rows : List Row) (t : ℕ) (lines : List Line) (counted : 
   pub put : counted ≡ put_but_upgrades rows t [] lines []
   pub said : Tells upgrades seat_said upgraded lines
 
+-- some of the rows, in order, among which are all that are live and above a rank in the zone of this one, and overlap it
+pub record AreHigher (rows : List Row) (t : ℕ) (own : Row) (low : Option (Family × ℕ)) (higher : List Row) : Type 0 where
+  pub in_order : IsStrictlySortedBy by_key higher
+  pub part : (e : Event) (z : Place) (r : Row) → row_at higher e z ≡ Some r → row_at rows e z ≡ Some r
+  pub all : (e : Event) (r : Row) → is_above (family_of (facts_of e.hazard)) low ≡ true → row_at rows e own.zone ≡ Some r → is_live t r ≡ true → overlaps r.period own.period ≡ true → row_at higher e own.zone ≡ Some r
+
+-- the same of the row of each UPG line of a product
+abbrev pub AreOver : List Row → ℕ → List Line → List Row → Type 0
+AreOver rows t lines higher = AllByRecursion (λ (line : Line). upgrades line ≡ true → (own : Row) → row_at rows line.event line.zone ≡ Some own → AreHigher rows t own (family_of (facts_of line.event.hazard)) higher) lines
+
 -- Rows that are higher than a row and overlap it, after a product.
 
 -- the row is live and above a rank, and overlaps this one
@@ -99,15 +106,6 @@ is_free counted upgraded z e = not (has_seat upgraded (seat_at e z)) && is_none 
 -- the row is live and above a rank, and overlaps this one in its zone, where the product changes nothing of it
 abbrev pub still_over : ℕ → Option (Family × ℕ) → List Row → List Seat → Row → Row → Bool
 still_over t low counted upgraded own r = rises_over t low own r && is_free counted upgraded own.zone r.event
-
--- there is a row, and it passes a test
-abbrev pub passes : (Row → Bool) → Option Row → Bool
-passes p None = false
-passes p (Some r) = p r
-
--- the event is above a rank and passes one test, and its row in the zone of this one passes another
-abbrev pub is_over : List Row → (Event → Bool) → (Row → Bool) → Option (Family × ℕ) → Row → Event → Bool
-is_over rows q p low own e = is_above (family_of (facts_of e.hazard)) low && q e && passes p (row_at rows e own.zone)
 
 -- the row has no rank, or one is over it after the product: of those that its lines leave, or of those that stood before it
 abbrev pub is_overlapped : List Row → ℕ → List Row → List Seat → Option (Family × ℕ) → Row → Bool

@@ -12,16 +12,17 @@ ghost use Rattle.event_life.specs.Shown.{shown_at};
 ghost use Rattle.row_index.specs.Holding.{puts};
 ghost use Rattle.row_index.specs.Listing.{lists_of, list_at};
 ghost use Rattle.row_index.specs.Numbers.{events_with};
-ghost use Rattle.row_index.specs.Reaching.{reached_each};
+ghost use Rattle.row_index.specs.Reaching.{AreReached, Grows};
 ghost use Rattle.row_index.specs.Runs.{held_put};
 ghost use Rattle.row_index.specs.Standings.{restood};
 ghost use Rattle.row_index.specs.Steps.{put_each};
 ghost use Rattle.row_index.specs.Zoning.{AreOf, AreZoned};
 
+use crate::higher::rank_of;
 use crate::lives::row_with;
 use crate::numbers::{Events, put_event_of};
 use crate::parts::EventKey;
-use crate::reach::{Reaches, reach_with};
+use crate::reach::{Reaches, reach_row};
 use crate::seats::{Seated, put_seated};
 use crate::standing::{Standings, has_same_among, is_open_among, restand};
 use crate::zones::{Zoned, put_zoned};
@@ -133,6 +134,11 @@ impl EventRows {
         }
     }
 
+    /// About how many rows there are.
+    fn count(&self) -> usize {
+        self.rows.count()
+    }
+
     /// Whether a row stands whose end is at most half an hour past.
     fn is_open(&self, t: Minute) -> bool
         ensures open { result ≡ list_any (keeps_open t) self.now }
@@ -180,6 +186,24 @@ impl<'a> RowsOf<'a> {
         match self.rows {
             Some(rows) => rows.life_at(near, event, zone),
             None => None,
+        }
+    }
+
+    /// All the rows.
+    pub fn all(&self, alloc: Global) -> Result<Vec<Row>, Oom>
+        ensures { IfOk result (λ rows. rows.items ≡ self.now) }
+    {
+        match self.rows {
+            Some(rows) => rows.all(alloc),
+            None => Ok(Vec::new(alloc)),
+        }
+    }
+
+    /// About how many rows there are.
+    pub fn count(&self) -> usize {
+        match self.rows {
+            Some(rows) => rows.count(),
+            None => 0,
         }
     }
 
@@ -240,7 +264,7 @@ pub fn has_period(held: &Held, t: Minute, event: &Event, period: &Period) -> boo
     }
 }
 
-/// Puts each of the rows, which are of the event. Each comes into the place of the one before in its zone.
+/// Puts each of the rows, which are of the event, and keeps how far its rows reach.
 fn put_rows(
     alloc: Global,
     known: &mut EventRows,
@@ -250,13 +274,17 @@ fn put_rows(
 ) -> Result<(), Oom>
     requires known { AreOf event.now known.old }
     requires rows { AreOf event.now rows.now }
+    requires reached { AreReached reaches.old.keys known.old }
     ensures rows { OnOk result (known.new ≡ put_each rows.now known.old) }
-    ensures reached { OnOk result (reaches.new.entries ≡ reached_each rows.now known.old reaches.old.entries) }
+    ensures reached { OnOk result (AreReached reaches.new.keys known.new) }
+    ensures grows { OnOk result (Grows reaches.old.keys reaches.new.keys) }
 {
+    let ranked = rank_of(&event.hazard).is_some();
     let mut before = None;
+    let mut last = None;
     for row in rows {
         known.put(alloc, row, &mut before)?;
-        reach_with(alloc, reaches, &before, row)?;
+        reach_row(reaches, &mut last, ranked, &before, row)?;
     }
     Ok(())
 }
@@ -272,26 +300,17 @@ pub fn put_held(
 ) -> Result<(), Oom>
     requires known { AreOf event.now (list_at by_event held.old.entries event.now) }
     requires rows { AreOf event.now rows.now }
+    requires reached { AreReached reaches.old.keys (list_at by_event held.old.entries event.now) }
     ensures held { OnOk result (held.new.entries ≡ held_put event.now rows.now held.old.entries) }
     ensures events { OnOk result (lists_of events.new.entries ≡ events_with (has_rows (list_at by_event held.old.entries event.now) event.now) event.now (lists_of events.old.entries)) }
-    ensures reached { OnOk result (reaches.new.entries ≡ reached_each rows.now (list_at by_event held.old.entries event.now) reaches.old.entries) }
+    ensures reached { OnOk result (AreReached reaches.new.keys (put_each rows.now (list_at by_event held.old.entries event.now))) }
+    ensures grows { OnOk result (Grows reaches.old.keys reaches.new.keys) }
 {
     let known = held
         .entry(EventKey { event: *event })?
         .or_insert(EventRows::new(alloc));
     put_event_of(alloc, events, known.has_rows(event), event)?;
     put_rows(alloc, known, reaches, event, rows)
-}
-
-/// The rows of all events, one event after another.
-pub fn all_held(alloc: Global, held: &Held) -> Result<Vec<Row>, Oom>
-    ensures { IfOk result (λ rows. rows.items ≡ flat_map (λ rows. rows) (values_of held.now.entries)) }
-{
-    let mut all = Vec::new(alloc);
-    for rows in held.values() {
-        all.extend_from_slice(&rows.all(alloc)?)?;
-    }
-    Ok(all)
 }
 
 /// The rows of all events that are shown at a minute, one event after another.

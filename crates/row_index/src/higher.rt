@@ -6,7 +6,7 @@ ghost use Rattle.event_life.specs.Higher.{family_of, is_above};
 ghost use Rattle.hazard_types.specs.Hazards.{facts_of};
 ghost use Rattle.row_index.specs.Numbers.{is_in_zone};
 ghost use Rattle.row_index.specs.Seating.{AreSeated, seat_said, upgrades};
-ghost use Rattle.row_index.specs.Steps.{rises_over, stays_over, is_free};
+ghost use Rattle.row_index.specs.Steps.{rises_over, stays_over, still_over, is_free, is_overlapped};
 ghost use Rattle.row_index.specs.Telling.{Tells};
 
 use crate::seats::{Seated, Seats, add_seat, has_seat, row_in, seated_in};
@@ -16,11 +16,16 @@ use hazard_types::{Event, Family, Hazard, Line, Minute, Oom, Row, Zone};
 use std::alloc::Global;
 use std::collections::BTreeSet;
 
-/// The rows that a product's lawful lines other than UPG leave, and the seats that its UPG lines speak of.
+/// A hazard's family and its rank there, if it has one.
+pub type Rank = Option<(Family, u8)>;
+
+/// The rows that a product's lawful lines other than UPG leave, the seats that its UPG lines speak of, and the live rows of events
+/// above theirs in the zones of these.
 #[derive(Drop)]
 pub struct Changed {
     pub counted: Seated,
     pub upgraded: Seats,
+    pub higher: Seated,
 }
 
 /// Whether one of the lines says that a higher row takes a zone over.
@@ -42,7 +47,7 @@ pub fn upgraded_by(alloc: Global, lines: &[Line]) -> Result<Seats, Oom>
 }
 
 /// A hazard's family and its rank there. None where it has none, or the desk does not issue it.
-pub fn rank_of(hazard: &Hazard) -> Option<(Family, u8)>
+pub fn rank_of(hazard: &Hazard) -> Rank
     ensures { result ≡ family_of (facts_of hazard.now) }
 {
     match facts(*hazard) {
@@ -52,7 +57,7 @@ pub fn rank_of(hazard: &Hazard) -> Option<(Family, u8)>
 }
 
 /// Whether the first rank is higher than the second in one family, and so has the greater number.
-pub fn is_above(high: &Option<(Family, u8)>, low: &Option<(Family, u8)>) -> bool
+pub fn is_above(high: &Rank, low: &Rank) -> bool
     ensures { result ≡ is_above high.now low.now }
 {
     let (Some((family, rank)), Some((other, under))) = (high, low) else {
@@ -62,7 +67,7 @@ pub fn is_above(high: &Option<(Family, u8)>, low: &Option<(Family, u8)>) -> bool
 }
 
 /// Whether a row is live and above a rank, and overlaps `own`.
-pub fn rises_over(t: Minute, low: &Option<(Family, u8)>, own: &Row, row: &Row) -> bool
+pub fn rises_over(t: Minute, low: &Rank, own: &Row, row: &Row) -> bool
     ensures { result ≡ rises_over t low.now own.now row.now }
 {
     is_live(row, t)
@@ -71,7 +76,7 @@ pub fn rises_over(t: Minute, low: &Option<(Family, u8)>, own: &Row, row: &Row) -
 }
 
 /// Whether a row is live and above a rank, overlaps `own`, and no UPG line speaks of it.
-fn stays_over(upgraded: &Seats, t: Minute, low: &Option<(Family, u8)>, own: &Row, row: &Row) -> bool
+fn stays_over(upgraded: &Seats, t: Minute, low: &Rank, own: &Row, row: &Row) -> bool
     ensures { result ≡ stays_over t low.now upgraded.now.keys own.now row.now }
 {
     rises_over(t, low, own, row) && !has_seat(upgraded, &row.event, &row.zone)
@@ -79,7 +84,7 @@ fn stays_over(upgraded: &Seats, t: Minute, low: &Option<(Family, u8)>, own: &Row
 
 /// Whether one of the rows that a product leaves in the zone of `own` is live and above a rank, overlaps `own`, and no UPG line
 /// speaks of it.
-pub fn any_counted_over(changed: &Changed, t: Minute, low: &Option<(Family, u8)>, own: &Row) -> bool
+pub fn any_counted_over(changed: &Changed, t: Minute, low: &Rank, own: &Row) -> bool
     requires { AreSeated changed.now.counted.entries }
     ensures { result ≡ list_any (stays_over t low.now changed.now.upgraded.keys own.now) (filter (is_in_zone own.now.zone) (values_of changed.now.counted.entries)) }
 {
@@ -97,4 +102,38 @@ pub fn is_free(changed: &Changed, zone: &Zone, event: &Event) -> bool
     ensures { result ≡ is_free (values_of changed.now.counted.entries) changed.now.upgraded.keys zone.now event.now }
 {
     !has_seat(&changed.upgraded, event, zone) && row_in(&changed.counted, event, zone).is_none()
+}
+
+/// Whether a row is live and above a rank, overlaps `own`, and the product changes nothing of it in the zone of `own`.
+fn is_still_over(changed: &Changed, t: Minute, low: &Rank, own: &Row, row: &Row) -> bool
+    requires { AreSeated changed.now.counted.entries }
+    ensures { result ≡ still_over t low.now (values_of changed.now.counted.entries) changed.now.upgraded.keys own.now row.now }
+{
+    rises_over(t, low, own, row) && is_free(changed, &own.zone, &row.event)
+}
+
+/// Whether one of the live rows of higher events in the zone of `own` overlaps it, and the product changes nothing of it.
+fn any_still_over(changed: &Changed, t: Minute, low: &Rank, own: &Row) -> bool
+    requires counted { AreSeated changed.now.counted.entries }
+    requires higher { AreSeated changed.now.higher.entries }
+    ensures { result ≡ list_any (still_over t low.now (values_of changed.now.counted.entries) changed.now.upgraded.keys own.now) (filter (is_in_zone own.now.zone) (values_of changed.now.higher.entries)) }
+{
+    for (_, row) in seated_in(&changed.higher, &own.zone) {
+        if is_still_over(changed, t, low, own, row) {
+            return true;
+        }
+    }
+    false
+}
+
+/// Whether a row is overlapped by a higher one after the product, or its hazard yields to none.
+pub fn is_overlapped(changed: &Changed, t: Minute, own: &Row) -> bool
+    requires counted { AreSeated changed.now.counted.entries }
+    requires higher { AreSeated changed.now.higher.entries }
+    ensures { result ≡ is_overlapped (values_of changed.now.higher.entries) t (values_of changed.now.counted.entries) changed.now.upgraded.keys (family_of (facts_of own.now.event.hazard)) own.now }
+{
+    let low = rank_of(&own.event.hazard);
+    low.is_none()
+        || any_counted_over(changed, t, &low, own)
+        || any_still_over(changed, t, &low, own)
 }

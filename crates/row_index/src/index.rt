@@ -1,38 +1,34 @@
 //! The rows of an office's class, as the judging of its lines needs them.
-ghost use Rattle.std.specs.Prelude.{◌≡◌, ◌&&◌, not, true, false, nat_lt, [], List as Seq, Some, None, Option, filter, if◌then◌else◌, is_none, IfOk, OnOk};
+ghost use Rattle.std.specs.Prelude.{◌≡◌, ◌&&◌, not, true, false, nat_lt, [], List as Seq, Some, None, Option, filter, if◌then◌else◌, is_none, unwrap_or, IfOk, OnOk};
 ghost use Rattle.std.specs.List.{list_any};
 ghost use Rattle.hazard_types.specs.Hazards.{facts_of};
 ghost use Rattle.hazard_types.specs.declared.line.Line.{Line as LineValue};
+ghost use Rattle.hazard_types.specs.declared.line.Row.{Row as RowValue};
 ghost use Rattle.std.specs.Map.{values_of};
 ghost use Rattle.event_life.specs.declared.life.Breach.TheVariants.{Twice};
 ghost use Rattle.event_life.specs.Higher.{family_of};
-ghost use Rattle.event_life.specs.Products.{put, line_of, row_at, row_after, is_open, going_in, event_of, has_rows, is_held, has_same, is_routine, is_upgrade, is_second, life_at, around_but_higher, has_higher, breach_in, judged, lawful_of, put_all, put_but_upgrades};
+ghost use Rattle.event_life.specs.Products.{put, row_at, row_after, is_open, going_in, event_of, has_rows, is_held, has_same, is_routine, is_upgrade, is_second, life_at, around_but_higher, has_higher, breach_in, judged, lawful_of, put_all, put_but_upgrades};
 ghost use Rattle.event_life.specs.Seats.{may_count};
 ghost use Rattle.event_life.specs.Shown.{shown_at};
 ghost use Rattle.event_life.specs.Table.{breach_of_line};
 ghost use Rattle.row_index.specs.Holding.{AreNear, AreRowsOf};
 ghost use Rattle.row_index.specs.Numbers.{is_in_zone};
-ghost use Rattle.row_index.specs.Reaching.{lasts, reaches_over};
+ghost use Rattle.row_index.specs.Gathering.{AreGathered, least_of};
 ghost use Rattle.row_index.specs.Runs.{AreOfOne};
 ghost use Rattle.row_index.specs.Seating.{AreSeated, upgrades};
-ghost use Rattle.row_index.specs.Steps.{IsAsked, IsChanged, around_new, around_joining, asked_around, latest_open, event_going, rises_over, is_free, still_over, is_over, is_overlapped, rows_left, put_each};
+ghost use Rattle.row_index.specs.Steps.{AreHigher, AreOver, IsAsked, IsChanged, around_new, around_joining, asked_around, latest_open, event_going, rows_left, put_each};
 
-use crate::held::{
-    Held, RowsOf, all_held, all_shown, has_period, is_open, put_held, rows_of, seated,
-};
-use crate::higher::{
-    Changed, any_counted_over, any_upgrades, is_above, is_free, rank_of, rises_over, upgraded_by,
-};
-use crate::look::{asks_alike, is_of, later_event, life_of, nothing_around, of_event, opens};
+use crate::held::{Held, RowsOf, all_shown, has_period, is_open, put_held, rows_of, seated};
+use crate::higher::{Changed, any_upgrades, is_overlapped, upgraded_by};
+use crate::live::{Zones, add_rows, lesser, needed, upgraded_ranks, upgraded_zones};
+use crate::look::{asks_alike, is_of, later_event, life_of, nothing_around, opens};
 use crate::numbers::{Events, Number, events_at, number_of};
-use crate::parts::{HazardKey, ZoneKey};
-use crate::reach::{Reach, Reaches, ZonePeriods, period_of};
-use crate::seats::{Seated, Spot, all_rows, count_row};
+use crate::parts::HazardKey;
+use crate::reach::{Reaches, events_above};
+use crate::seats::{Seated, all_rows, count_row};
 use crate::spoken::Spoken;
-use event_life::{
-    Around, Breach, is_lawful, is_routine, is_upgrade, life_step, opened_period, overlaps,
-};
-use hazard_types::{Action, Event, Family, Flood, Line, List, Minute, Oom, Row, Vtec, Zone};
+use event_life::{Around, Breach, is_lawful, is_routine, is_upgrade, life_step, opened_period};
+use hazard_types::{Action, Event, Line, List, Minute, Oom, Row, Vtec, Zone};
 use std::alloc::Global;
 use std::collections::{BTreeMap, BTreeSet};
 use std::marker::Model;
@@ -56,7 +52,7 @@ impl Model for RowIndex {
 
     ghost view = { λ x. told x.held.entries };
 
-    ghost invariant = { λ x. IsIndex x.held.entries (lists_of x.events.entries) x.reach.entries };
+    ghost invariant = { λ x. IsIndex x.held.entries (lists_of x.events.entries) x.reach.keys };
 }
 
 impl RowIndex {
@@ -67,7 +63,7 @@ impl RowIndex {
         RowIndex {
             held: BTreeMap::new(alloc),
             events: BTreeMap::new(alloc),
-            reach: BTreeMap::new(alloc),
+            reach: BTreeSet::new(alloc),
         }
     }
 
@@ -195,17 +191,6 @@ impl RowIndex {
         match self.event_going(t, vtec) {
             Some(event) => event,
             None => event_life::event_of(&[], t, vtec),
-        }
-    }
-
-    /// What a line of a text says of its event in a zone. The rows are those just before its product, `t` is the product's issue minute.
-    pub fn line_of(&self, t: Minute, zone: &Zone, vtec: &Vtec, flood: &Option<Flood>) -> Line
-        ensures { result ≡ line_of self.now t (record { zone = zone.now; vtec = vtec.now; flood = flood.now }) }
-    {
-        let line = event_life::line_of(&[], t, zone, vtec, flood);
-        match self.event_going(t, vtec) {
-            Some(event) => of_event(&line, &event),
-            None => line,
         }
     }
 
@@ -416,123 +401,100 @@ impl RowIndex {
         Ok(counted)
     }
 
+    /// The live rows of these events in zones.
+    fn live_rows(
+        &self,
+        alloc: Global,
+        t: Minute,
+        zones: &Zones,
+        events: &BTreeSet<Event>,
+    ) -> Result<Seated, Oom>
+        ensures rows { IfOk result (λ higher. AreGathered self.now t zones.now.keys events.now.keys (values_of higher.entries)) }
+        ensures seated { IfOk result (λ higher. AreSeated higher.entries) }
+    {
+        let mut higher = BTreeMap::new(alloc);
+        for event in events {
+            let rows = self.rows_of(event);
+            add_rows(alloc, &mut higher, &rows, zones, t, event)?;
+        }
+        Ok(higher)
+    }
+
+    /// The least minute behind which rows must end that are live and overlap the row of one of the UPG lines, if these have any.
+    fn least_needed(&self, t: Minute, lines: &[Line]) -> Option<Minute>
+        ensures { result ≡ least_of self.now t None lines.now }
+    {
+        let mut least = None;
+        let mut near = None;
+        let mut rows = RowsOf::none();
+        let mut place = 0;
+        for line in lines {
+            rows = self.rows_near(&near, rows, &line.event);
+            near = Some(line.event);
+            let own = self.own_row(&rows, &mut place, line);
+            least = lesser(&least, &needed(t, line, &own));
+        }
+        least
+    }
+
+    /// A minute behind which every row ends that is live and overlaps the row of a UPG line.
+    fn needed_from(&self, t: Minute, lines: &[Line]) -> Minute
+        ensures { result ≡ unwrap_or (least_of self.now t None lines.now) t }
+    {
+        match self.least_needed(t, lines) {
+            Some(least) => least,
+            None => t,
+        }
+    }
+
+    /// The rows of events above those of UPG lines, in the zones of these lines, that may overlap their rows.
+    fn higher(&self, alloc: Global, t: Minute, lines: &[Line]) -> Result<Seated, Oom>
+        ensures rows { IfOk result (λ higher. AreOver self.now t lines.now (values_of higher.entries)) }
+        ensures seated { IfOk result (λ higher. AreSeated higher.entries) }
+    {
+        let from = self.needed_from(t, lines);
+        let zones = upgraded_zones(alloc, lines)?;
+        let ranks = upgraded_ranks(alloc, lines)?;
+        let events = events_above(alloc, &self.reach, &zones, from, &ranks)?;
+        self.live_rows(alloc, from, &zones, &events)
+    }
+
     /// What a product changes where a higher row is looked for, as far as a UPG line asks for it.
     fn change_of(&self, alloc: Global, t: Minute, lines: &[Line]) -> Result<Changed, Oom>
         ensures changed { list_any upgrades lines.now ≡ true → IfOk result (λ c. IsChanged self.now t lines.now (values_of c.counted.entries) c.upgraded.keys) }
-        ensures seated { IfOk result (λ c. AreSeated c.counted.entries) }
+        ensures over { list_any upgrades lines.now ≡ true → IfOk result (λ c. AreOver self.now t lines.now (values_of c.higher.entries)) }
+        ensures counted { IfOk result (λ c. AreSeated c.counted.entries) }
+        ensures higher { IfOk result (λ c. AreSeated c.higher.entries) }
     {
         if !any_upgrades(lines) {
             return Ok(Changed {
                 counted: BTreeMap::new(alloc),
                 upgraded: BTreeSet::new(alloc),
+                higher: BTreeMap::new(alloc),
             });
         }
         let counted = self.counted(alloc, t, lines)?;
         let upgraded = upgraded_by(alloc, lines)?;
-        Ok(Changed { counted, upgraded })
-    }
-
-    /// Whether an event is above a rank, the product changes nothing of it in the zone of `own`, and its row there is live and overlaps
-    /// `own`.
-    fn is_over(
-        &self,
-        changed: &Changed,
-        t: Minute,
-        low: &Option<(Family, u8)>,
-        own: &Row,
-        event: &Event,
-    ) -> bool
-        requires { AreSeated changed.now.counted.entries }
-        ensures { result ≡ is_over self.now (is_free (values_of changed.now.counted.entries) changed.now.upgraded.keys own.now.zone) (rises_over t low.now own.now) low.now own.now event.now }
-    {
-        if !is_above(&rank_of(&event.hazard), low) || !is_free(changed, &own.zone, event) {
-            return false;
-        }
-        match self.row_at(event, &own.zone) {
-            Some(row) => rises_over(t, low, own, &row),
-            None => false,
-        }
-    }
-
-    /// Whether a period that is kept in the zone of `own` overlaps it, and is of such an event. Most periods end the test at once.
-    fn reaches_over(
-        &self,
-        changed: &Changed,
-        t: Minute,
-        low: &Option<(Family, u8)>,
-        own: &Row,
-        reach: &Reach,
-    ) -> bool
-        requires { AreSeated changed.now.counted.entries }
-        ensures { result ≡ reaches_over self.now (is_free (values_of changed.now.counted.entries) changed.now.upgraded.keys own.now.zone) (rises_over t low.now own.now) low.now own.now reach.now }
-    {
-        if !overlaps(&period_of(reach), &own.period) {
-            return false;
-        }
-        match &reach.spot {
-            Spot::At(event) => self.is_over(changed, t, low, own, &event.event),
-            _ => false,
-        }
-    }
-
-    /// Whether one of the periods that are kept in the zone of `own` overlaps it, and is of such an event.
-    fn any_reaches_over(
-        &self,
-        changed: &Changed,
-        t: Minute,
-        low: &Option<(Family, u8)>,
-        own: &Row,
-        periods: &ZonePeriods,
-    ) -> bool
-        requires { AreSeated changed.now.counted.entries }
-        ensures { result ≡ list_any (reaches_over self.now (is_free (values_of changed.now.counted.entries) changed.now.upgraded.keys own.now.zone) (rises_over t low.now own.now) low.now own.now) (filter (lasts t) periods.now) }
-    {
-        for reach in periods.lasting(t) {
-            if self.reaches_over(changed, t, low, own, reach) {
-                return true;
-            }
-        }
-        false
-    }
-
-    /// Whether one of the rows in the zone of `own` is live and above a rank, overlaps `own`, and the product changes nothing of it.
-    fn any_still_over(
-        &self,
-        changed: &Changed,
-        t: Minute,
-        low: &Option<(Family, u8)>,
-        own: &Row,
-    ) -> bool
-        requires { AreSeated changed.now.counted.entries }
-        ensures { result ≡ list_any (still_over t low.now (values_of changed.now.counted.entries) changed.now.upgraded.keys own.now) (filter (is_in_zone own.now.zone) self.now) }
-    {
-        match self.reach.get(&ZoneKey { zone: own.zone }) {
-            Some(periods) => self.any_reaches_over(changed, t, low, own, periods),
-            None => false,
-        }
-    }
-
-    /// Whether a row is overlapped by a higher one after the product, or its hazard yields to none.
-    fn is_overlapped(&self, changed: &Changed, t: Minute, own: &Row) -> bool
-        requires { AreSeated changed.now.counted.entries }
-        ensures { result ≡ is_overlapped self.now t (values_of changed.now.counted.entries) changed.now.upgraded.keys (family_of (facts_of own.now.event.hazard)) own.now }
-    {
-        let low = rank_of(&own.event.hazard);
-        low.is_none()
-            || any_counted_over(changed, t, &low, own)
-            || self.any_still_over(changed, t, &low, own)
+        let higher = self.higher(alloc, t, lines)?;
+        Ok(Changed {
+            counted,
+            upgraded,
+            higher,
+        })
     }
 
     /// Whether the row of a UPG line, its `own` where it has one, is overlapped by a higher one after the product, or its hazard
     /// yields to none.
     fn has_higher(&self, changed: &Changed, t: Minute, line: &Line, own: &Option<Row>) -> bool
-        requires seated { AreSeated changed.now.counted.entries }
+        requires counted { AreSeated changed.now.counted.entries }
+        requires higher { AreSeated changed.now.higher.entries }
         requires own { own.now ≡ row_at self.now line.now.event line.now.zone }
-        ensures { (lines : Seq LineValue) → IsChanged self.now t lines (values_of changed.now.counted.entries) changed.now.upgraded.keys → result ≡ has_higher self.now t lines line.now }
+        ensures { (lines : Seq LineValue) → IsChanged self.now t lines (values_of changed.now.counted.entries) changed.now.upgraded.keys
+            → ((row : RowValue) → own.now ≡ Some row → AreHigher self.now t row (family_of (facts_of line.now.event.hazard)) (values_of changed.now.higher.entries)) → result ≡ has_higher self.now t lines line.now }
     {
         let _ = &self.reach;
         match own {
-            Some(own) => self.is_overlapped(changed, t, own),
+            Some(own) => is_overlapped(changed, t, own),
             None => event_life::has_higher(&[], t, &[], line),
         }
     }
@@ -548,11 +510,12 @@ impl RowIndex {
         second: bool,
         around: Around,
     ) -> Option<Breach>
-        requires seated { AreSeated changed.now.counted.entries }
+        requires counted { AreSeated changed.now.counted.entries }
+        requires higher { AreSeated changed.now.higher.entries }
         requires rows { AreRowsOf self.now line.now.event rows.now }
         requires around { around ≡ asked_around line.now.action self.now t line.now true }
         ensures { (lines earlier : Seq LineValue) → (is_upgrade line.now.action ≡ true → IsChanged self.now t lines (values_of changed.now.counted.entries) changed.now.upgraded.keys)
-            → second ≡ is_second earlier line.now → result ≡ breach_in self.now t lines earlier line.now }
+            → (is_upgrade line.now.action ≡ true → (row : RowValue) → row_at self.now line.now.event line.now.zone ≡ Some row → AreHigher self.now t row (family_of (facts_of line.now.event.hazard)) (values_of changed.now.higher.entries)) → second ≡ is_second earlier line.now → result ≡ breach_in self.now t lines earlier line.now }
     {
         if !is_upgrade(&line.action) {
             return self.breach_but_higher(rows, near, t, line, second, around);
@@ -653,7 +616,7 @@ impl RowIndex {
     ) -> Result<List<Row>, Oom>
         ensures { IfOk result (λ left. left ≡ rows_left self.now t (lawful_of judged.now)) }
     {
-        let mut left = List::new(alloc);
+        let mut left = List::from_vec(Vec::with_capacity(alloc, judged.len())?);
         let mut near = None;
         let mut rows = RowsOf::none();
         let mut place = 0;
@@ -672,7 +635,7 @@ impl RowIndex {
         ensures { IfOk result (λ index. index ≡ put_each rows.now self) }
     {
         let mut index = self;
-        let mut run = Vec::new(alloc);
+        let mut run = Vec::with_capacity(alloc, rows.len())?;
         let mut event = None;
         for row in rows {
             index = index.put_before(alloc, &event, &mut run, row)?;
@@ -693,15 +656,6 @@ impl RowIndex {
     {
         let left = self.rows_left(alloc, t, judged)?;
         self.put_each(alloc, left.as_slice())
-    }
-
-    /// The rows, in order by zone, then event.
-    pub fn rows(&self, alloc: Global) -> Result<List<Row>, Oom>
-        ensures { IfOk result (λ rows. rows ≡ self.now) }
-    {
-        let rows = all_held(alloc, &self.held)?;
-        let rows = all_rows(alloc, &seated(alloc, &rows)?)?;
-        Ok(List::from_vec(rows))
     }
 
     /// The rows that are shown at a minute: those that no line has ended and whose end is until further notice or after it.

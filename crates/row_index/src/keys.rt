@@ -1,11 +1,9 @@
 //! Sets and counts of keys in order.
-ghost use Rattle.std.specs.Prelude.{◌≡◌, OnOk};
-ghost use Rattle.std.specs.BTreeMap.{is_at};
+ghost use Rattle.std.specs.Prelude.{◌≡◌, if◌then◌else◌, OnOk};
 ghost use Rattle.std.specs.BTreeMap.Range.{range_contains, IsLeBy};
 ghost use Rattle.std.specs.BTreeSet.{insert_key};
 ghost use Rattle.std.specs.List.{list_any};
 ghost use Rattle.std.specs.Map.{keys_of};
-ghost use Rattle.std.specs.Set.{remove_key};
 ghost use Rattle.std.specs.declared.ops.Bound.TheVariants.{Included};
 
 use hazard_types::Oom;
@@ -19,11 +17,14 @@ pub fn add_key<K: Ord + Drop>(keys: &mut BTreeSet<K>, key: K) -> Result<(), Oom>
     Ok(())
 }
 
-/// Takes a key out.
-pub fn take_key<K: Ord + Drop>(keys: &mut BTreeSet<K>, key: &K)
-    ensures { keys.new.keys ≡ remove_key (is_at (K.cmp key.now)) keys.old.keys }
+/// Adds a key, where it counts.
+pub fn add_counted<K: Ord + Drop>(keys: &mut BTreeSet<K>, counts: bool, key: K) -> Result<(), Oom>
+    ensures { OnOk result (keys.new.keys ≡ (if counts then insert_key K.cmp keys.old.keys key else keys.old.keys)) }
 {
-    keys.remove(key);
+    if counts {
+        add_key(keys, key)?;
+    }
+    Ok(())
 }
 
 /// Whether a key is counted that stands between two places, or at one of them.

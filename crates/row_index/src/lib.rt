@@ -5,6 +5,7 @@ mod held;
 mod higher;
 mod index;
 mod keys;
+mod live;
 mod lives;
 mod look;
 mod numbers;
@@ -17,4 +18,4 @@ mod standing;
 mod zones;
 
 pub use index::RowIndex;
-pub use parts::{EventKey, ZoneKey};
+pub use parts::EventKey;

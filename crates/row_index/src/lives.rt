@@ -186,6 +186,11 @@ impl LifeMap {
         self.seats.first().is_some()
     }
 
+    /// About how many zones there are.
+    pub fn count(&self) -> usize {
+        self.zones
+    }
+
     /// The rows of an event with these lives, in the order of the zones.
     pub fn rows(&self, alloc: Global, event: &Event) -> Result<Vec<Row>, Oom>
         ensures rows { IfOk result (λ rows. rows.items ≡ values_of (rows_with event.now self.now)) }

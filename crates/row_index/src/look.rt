@@ -3,7 +3,7 @@ ghost use Rattle.std.specs.Prelude.{◌≡◌, option_map};
 ghost use Rattle.event_life.specs.Lives.{opens};
 ghost use Rattle.event_life.specs.Products.{life_of, later_event};
 ghost use Rattle.row_index.specs.Runs.{is_of};
-ghost use Rattle.row_index.specs.Steps.{asks_alike, nothing_around, of_event, stays};
+ghost use Rattle.row_index.specs.Steps.{asks_alike, nothing_around, stays};
 
 use event_life::{Around, Life, opened_period};
 use hazard_types::{Action, Event, Line, Minute, Row};
@@ -63,20 +63,6 @@ pub fn asks_alike(t: Minute, a: &Line, b: &Line) -> bool
     ensures { result ≡ asks_alike t a.now b.now }
 {
     a.action == b.action && a.event == b.event && opened_period(a, t) == opened_period(b, t)
-}
-
-/// The line, of another event.
-pub fn of_event(line: &Line, event: &Event) -> Line
-    ensures { result ≡ of_event line.now event.now }
-{
-    Line {
-        action: line.action,
-        event: *event,
-        zone: line.zone,
-        begin: line.begin,
-        end: line.end,
-        flood: line.flood,
-    }
 }
 
 /// Whether a row stands as the one before did: no line has ended either, and they have one period.

@@ -69,6 +69,11 @@ impl SharedRows {
         }
     }
 
+    /// About how many rows there are.
+    pub fn count(&self) -> usize {
+        self.lives.count()
+    }
+
     /// The rows in the order of their zones.
     pub fn values(&self, alloc: Global) -> Result<Vec<Row>, Oom>
         ensures { IfOk result (λ values. values.items ≡ values_of self.now) }

@@ -1,6 +1,7 @@
 //! A lock over one value that serves its callers in the order of their tickets, and tells each what the value's list was.
 #![tactic(auto)]
 
+mod bells;
 mod lock;
 mod pass;
 mod plays;

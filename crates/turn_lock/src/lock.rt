@@ -3,6 +3,7 @@ ghost use Rattle.std.specs.Prelude.{◌≡◌, ◌≤◌, ℕ, Contains, IfOk, I
 ghost use mathlib.Core.List.{IsPrefix};
 ghost use Rattle.turn_lock.specs.Passes.{first_pass, one_share_fewer, one_share_of, joined, KeepsRights, TakesTurn, Closes};
 
+use crate::bells::Bells;
 use crate::pass::Pass;
 use crate::plays::{Settle, Share, Turns};
 use crate::steps::COUNT;
@@ -19,6 +20,7 @@ use std::sync::Wait;
 #[derive(Drop)]
 pub struct TurnLock<T: Storied> {
     pub(crate) table: Table<Option<T>, View<T::Base, T::Entry>, Snapshot<T>, Turns, Global>,
+    pub(crate) bells: Bells,
 }
 
 impl<T: Storied> Model for TurnLock<T> {
@@ -43,13 +45,16 @@ impl<T: Storied> TurnLock<T> {
     {
         let about = Snapshot::of(&value);
         let count = value.count();
+        let Ok(bells) = Bells::new(alloc) else {
+            return Err(value);
+        };
         let mut slots = match Vec::with_capacity(alloc, 1) {
             Ok(slots) => slots,
             Err(_) => return Err(value),
         };
         slots.push_reserved(Some(value));
         match Table::new(alloc, &[0, 0, count], slots, &about) {
-            Ok((table, seat)) => Ok((TurnLock { table }, Pass { seat })),
+            Ok((table, seat)) => Ok((TurnLock { table, bells }, Pass { seat })),
             Err(Refused { mut slots }) => {
                 let value = slots.pop().unwrap().unwrap();
                 slots.destroy_empty();
@@ -107,7 +112,10 @@ impl<T: Storied> TurnLock<T> {
         requires shares { pass.shares ≡ 1024 }
         ensures { Closes pass (T.base result) (T.story result) }
     {
-        let TurnLock { table } = self;
+        let TurnLock {
+            table,
+            bells: _bells,
+        } = self;
         let Pass { seat } = pass;
         let mut closed = table.close_with(seat);
         let slot = closed.take(0);

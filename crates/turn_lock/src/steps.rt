@@ -11,7 +11,6 @@ use crate::story::Storied;
 use crate::view::View;
 use atomic_table::Seat;
 use std::sync::Wait;
-use std::thread;
 
 /// The word with the next ticket.
 pub(crate) const TICKET: usize = 0;
@@ -21,9 +20,6 @@ pub(crate) const SERVING: usize = 1;
 
 /// The word with the number of entries.
 pub(crate) const COUNT: usize = 2;
-
-/// How often a waiting turn looks again before it sleeps.
-const LOOKS: u32 = 64;
 
 impl<T: Storied> TurnLock<T> {
     /// Draws the next ticket.
@@ -43,7 +39,6 @@ impl<T: Storied> TurnLock<T> {
             {
                 return next;
             }
-            thread::yield_now();
         }
         unreachable!()
     }
@@ -73,19 +68,12 @@ impl<T: Storied> TurnLock<T> {
         unreachable!()
     }
 
-    /// Looks for the ticket for a short while, and then sleeps until a turn is passed on. It may also return before.
+    /// Sleeps until the turn is passed on to the ticket. It may also return before.
     fn wait_for<R: Wait>(&self, rt: &R, ticket: u64) {
-        let shared = &self.table.shared;
-        for _ in 0..LOOKS {
-            if shared.peek(SERVING) == ticket {
-                return;
-            }
-            thread::yield_now();
-        }
-        let served = shared.peek(SERVING);
-        if served != ticket {
-            // Whoever passes the turn on in between changes the word, and then this does not sleep.
-            shared.park(rt, SERVING, (served & 0xffff_ffff) as u32);
+        self.bells.mark(ticket);
+        // Whoever passes the turn on from now on finds the mark.
+        if self.table.shared.peek(SERVING) != ticket {
+            self.bells.sleep(rt, ticket);
         }
     }
 
@@ -111,13 +99,13 @@ impl<T: Storied> TurnLock<T> {
         }
     }
 
-    /// Passes the turn on, and wakes the turns that wait.
+    /// Passes the turn on, and wakes who is next in line, where it sleeps.
     pub(crate) fn pass_on(&self, seat: &mut Seat<Option<T>, View<T::Base, T::Entry>>)
         requires seat { (seat.old.table_id ≡ self.now) × ((ticket : ℕ) × (seat.old.me.0.stage ≡ Learnt ticket)) }
         requires value { (x : T) × (seat.old.me.1 ≡ (0, Some x) ∷ []) × (seat.old.me.0.base ≡ Some (T.base x)) × (T.story x ≡ seat.old.me.0.seen) }
         ensures { (seat.new.table_id ≡ seat.old.table_id) × (seat.new.id ≡ seat.old.id) × (seat.new.me ≡ (staged Idle seat.old.me.0, [])) }
     {
-        self.table.shared.fetch_add::<PassOn>(seat, SERVING, 1);
-        self.table.shared.wake_all(SERVING);
+        let served = self.table.shared.fetch_add::<PassOn>(seat, SERVING, 1);
+        self.bells.ring(served.wrapping_add(1));
     }
 }

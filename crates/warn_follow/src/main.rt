@@ -1,4 +1,4 @@
-//! A subscriber of an office's products: `warn_follow OFFICE CLASS STAMP PORT ROUNDS`.
+//! A follower of an office's products: `warn_follow OFFICE CLASS STAMP PORT ROUNDS`.
 #![tactic(auto)]
 
 use desk_links::TcpDialer;

@@ -1,16 +1,21 @@
 -- Lawful lines in turn leave the rows after their product, and there is memory for the openings.
-use Rattle.std.proofs.Common.{◌≡◌, ◌∙◌, ◌≤◌, ◌+◌, ℕ, List, length, true, sym, ap, subst, cond, arith}
+use Rattle.std.proofs.Common.{◌≡◌, ◌∙◌, ◌≤◌, ◌+◌, ℕ, List, Option, length, true, sym, ap, subst, cond, arith}
+use Rattle.std.specs.Vec.{vec_len, vec_capacity}
 use Rattle.std.specs.List.Sorted.{IsStrictlySortedBy}
 use Rattle.hazard_types.specs.declared.hazard.Event.{Event}
+use Rattle.hazard_types.specs.declared.period.End.{End}
 use Rattle.hazard_types.specs.declared.line.Row.{Row}
 use Rattle.hazard_types.specs.declared.line.Line.{Line}
 use Rattle.event_life.specs.Products.{by_key, rows_after}
 use Rattle.event_life.proofs.Puts.{rows_after-sorted}
 use Rattle.event_life.specs.Reordered.{are_lawful}
 use Rattle.hazard_board.specs.Board.{Posted, openings}
+use Rattle.hazard_board.specs.Periods.{latest_in}
+use Rattle.hazard_board.specs.declared.periods.PeriodCount.{PeriodCount}
 use Rattle.hazard_board.specs.Standing.{latest_end, end_in, touched, newly}
 use Rattle.hazard_board.specs.Taken.{taken_in_turn}
 use Rattle.hazard_board.proofs.LatestLemmas.{few_come, kept_or_set}
+use Rattle.hazard_board.proofs.PeriodLemmas.{latest_is}
 use Rattle.hazard_board.proofs.Turns.{lawful_turns, lawful_grow}
 use Rattle.hazard_board.proofs.Board.apply.Goals as goal
 use Rattle.hazard_board.proofs.Board.apply.Goals.{After-bring_lines}
@@ -33,6 +38,13 @@ bring_lines-requires-clause-places c =
     let spare = ap (λ (p : Posted). p.spare) c.self.view_is in
     omega (arith, long, spare, c.requires.spare, c.self.invariant.2.count, c.self.inside.spots.ok.0, c.self.inside.spots.ok.1)
 
+pub bring_lines-requires-clause-counts : goal.bring_lines-requires-clause-counts
+bring_lines-requires-clause-counts c =
+    let lawful : are_lawful c.self.inside.rows.rows c.args.t c.args.lines.now ≡ true = subst (λ (p : Posted). are_lawful p.rows c.args.t c.args.lines.now ≡ true) (sym c.self.view_is) c.requires.lawful in
+    let long = grows c.args.t c.self.inside.rows.rows c.args.lines.now c.as_slice-lines.result.now c.as_slice-lines.ensures lawful c.self.invariant.0 in
+    let spare = ap (λ (p : Posted). p.spare) c.self.view_is in
+    omega (arith, long, spare, c.requires.spare, c.self.invariant.4, c.self.invariant.2.count, c.self.inside.spots.ok.0, c.self.inside.periods.ok.0, c.self.inside.periods.ok.1)
+
 lawful : (c : After-bring_lines) → are_lawful c.self.inside.rows.rows c.args.t c.args.lines.now ≡ true
 lawful c = subst (λ (p : Posted). are_lawful p.rows c.args.t c.args.lines.now ≡ true) (sym c.self.view_is) c.requires.lawful
 
@@ -45,14 +57,18 @@ come c = few_come c.self.inside.rows.rows c.args.t c.args.lines.now c.self.insid
 ordered : (c : After-bring_lines) → IsStrictlySortedBy by_key c.bring_lines.new.rows.rows
 ordered c = rw (turned c) (rows_after-sorted c.self.inside.rows.rows c.args.t c.args.lines.now c.self.invariant.0)
 
-pub settle-requires-clause-rows : goal.settle-requires-clause-rows
-settle-requires-clause-rows c = ordered (goal.at.settle-requires-clause-rows c).After-bring_lines
-
 pub settle-requires-clause-room : goal.settle-requires-clause-room
 settle-requires-clause-room c =
     let few = come (goal.at.settle-requires-clause-room c).After-bring_lines in
     let spare = ap (λ (p : Posted). p.spare) c.self.view_is in
     rw (c.as_slice-lines.ensures) (omega (arith, few, spare, c.requires.spare, c.self.inside.standing.ok.0, c.self.inside.standing.ok.1))
+
+within : (c : After-bring_lines) → vec_len c.bring_lines.new.spots ≤ vec_capacity c.bring_lines.new.periods
+within c =
+    let long = grows c.args.t c.self.inside.rows.rows c.args.lines.now c.as_slice-lines.result.now c.as_slice-lines.ensures (lawful c) c.self.invariant.0 in
+    let items = ap length c.bring_lines.ensures.rows in
+    let spare = ap (λ (p : Posted). p.spare) c.self.view_is in
+    omega (arith, long, items, spare, c.requires.spare, c.self.invariant.4, c.self.invariant.2.count, c.bring_lines.ensures.spots.count, c.bring_lines.ensures.counts, c.self.inside.spots.ok.0, c.bring_lines.new.spots.ok.0)
 
 pub invariant_of-self : goal.invariant_of-self
 invariant_of-self c =
@@ -62,15 +78,19 @@ invariant_of-self c =
     let turns : now ≡ taken_in_turn c.args.t rows lines = c.bring_lines.ensures.rows ∙ ap (λ (some : List Line). taken_in_turn c.args.t rows some) c.as_slice-lines.ensures in
     let ends : (e : Event) → end_in c.settle.new.standing.items e ≡ latest_end now e = λ e.
     c.settle.ensures.ends e
+    ∙ ap (λ (o : Option End). cond (touched c.as_slice-lines.result.now e) o (end_in c.self.inside.standing.items e)) (ap (λ (xs : List PeriodCount). latest_in xs e) c.deref.ensures.value ∙ latest_is now c.bring_lines.new.periods.items c.bring_lines.ensures.periods e)
     ∙ ap (λ (some : List Line). cond (touched some e) (latest_end now e) (end_in c.self.inside.standing.items e)) c.as_slice-lines.ensures
-    ∙ kept_or_set c.args.t e rows lines now c.self.inside.standing.items turns (c.self.invariant.1.latest e) in (
+    ∙ kept_or_set c.args.t e rows lines now c.self.inside.standing.items turns (c.self.invariant.1.latest e) in
+    rw (c.pass.ensures.rows) (
       ordered (goal.at.invariant_of-self c).After-bring_lines,
       record { order = c.settle.ensures.order; latest = ends },
       c.bring_lines.ensures.spots,
+      c.bring_lines.ensures.periods,
+      within (goal.at.invariant_of-self c).After-bring_lines,
     )
 
 pub returns-clause-rows : goal.returns-clause-rows
-returns-clause-rows c = rw (← c.self.view_is) (turned (goal.at.returns-clause-rows c).After-bring_lines)
+returns-clause-rows c = rw (← c.self.view_is) (c.pass.ensures.rows ∙ turned (goal.at.returns-clause-rows c).After-bring_lines)
 
 pub returns-clause-spare : goal.returns-clause-spare
 returns-clause-spare c =
@@ -81,4 +101,4 @@ returns-clause-spare c =
     let spare = ap (λ (p : Posted). p.spare) c.self.view_is in
     let count = c.bring_lines.ensures.spots.count in
     let counted = ap (newly c.self.inside.standing.items) c.as_slice-lines.ensures in
-    omega (arith, long, few, items, spare, count, counted, c.self.invariant.2.count, c.bring_lines.ensures.capacity, c.bring_lines.ensures.spare, c.settle.ensures.capacity, c.settle.ensures.length, c.self.inside.spots.ok.0, c.bring_lines.new.spots.ok.0)
+    omega (arith, long, few, items, spare, count, counted, c.self.invariant.2.count, c.bring_lines.ensures.capacity, c.bring_lines.ensures.counts, c.bring_lines.ensures.spare, c.settle.ensures.capacity, c.settle.ensures.length, c.self.inside.spots.ok.0, c.bring_lines.new.spots.ok.0)

@@ -1,6 +1,5 @@
--- The live rows among those of one zone, which stand by event.
-use Rattle.std.proofs.Common.{◌≡◌, ◌∙◌, List, ap, filter}
-use Rattle.hazard_types.specs.declared.line.Row.{Row}
+-- The rows of one zone that are live, which stand by event.
+use Rattle.std.proofs.Common.{◌≡◌, ◌∙◌, ap}
 use Rattle.event_life.specs.Periods.{is_live}
 use Rattle.hazard_board.specs.Board.{Posted, live_in}
 use Rattle.hazard_board.proofs.ZoneLemmas.{zone_by_event}
@@ -11,7 +10,7 @@ use Rattle.hazard_board.proofs.Board.rows_of.Goals.{After-from_vec}
 kept : (c : After-from_vec) → c.from_vec.result ≡ live_in c.args.z c.args.t c.self.inside.rows.rows
 kept c =
     c.from_vec.ensures ∙ c.in_ok-live.ensures
-    ∙ ap (λ (rows : List Row). filter (is_live c.args.t) rows) c.slice_of.ensures.rows
+    ∙ c.live_slice.ensures.alike
     ∙ live_in_zone c.args.z c.args.t c.self.inside.rows.rows
 
 pub returns-clause-rows : goal.returns-clause-rows

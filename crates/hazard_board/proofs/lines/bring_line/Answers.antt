@@ -1,14 +1,44 @@
--- The spots grow as the rows do.
-use Rattle.std.proofs.Common.{length, ap, arith}
-use Rattle.hazard_board.specs.Taken.{put_if}
+-- The spots and the periods grow as the rows do.
+use Rattle.std.proofs.Common.{◌≡◌, ◌∙◌, Option, length, ap, arith, option_map, sym}
+use Rattle.hazard_types.specs.declared.line.Row.{Row}
+use Rattle.event_life.specs.Products.{life_of}
+use Rattle.event_life.specs.declared.life.Life.{Life}
+use Rattle.hazard_board.specs.Taken.{left_on, row_left, put_if}
 use Rattle.hazard_board.proofs.SpotLemmas.{spots_with_if}
+use Rattle.hazard_board.proofs.PeriodLemmas.{some_left, room_left, counted_left_by}
 use Rattle.hazard_board.proofs.lines.bring_line.Goals as goal
+use Rattle.hazard_board.proofs.lines.bring_line.Goals.{After-left_on-row}
+
+left : (c : After-left_on-row) → c.left_on-row.result ≡ row_left c.args.rows.now.rows c.args.t c.args.line.now
+left c = c.left_on-row.ensures ∙ ap (λ (life : Option Life). left_on life c.args.t c.args.line.now) (c.life_of.ensures ∙ ap (option_map life_of) c.row_at-old.ensures)
+
+long : (c : After-left_on-row) → length (put_if c.left_on-row.result c.args.rows.now.rows) ≡ length (put_if (row_left c.args.rows.now.rows c.args.t c.args.line.now) c.args.rows.now.rows)
+long c = ap (λ (o : Option Row). length (put_if o c.args.rows.now.rows)) (left c)
+
+pub count_if-requires-clause-some : goal.count_if-requires-clause-some
+count_if-requires-clause-some c q = some_left c.args.rows.now.rows c.args.periods.now.items c.args.line.now c.row_at-old.result c.requires.periods c.row_at-old.ensures q
+
+pub count_if-requires-clause-room : goal.count_if-requires-clause-room
+count_if-requires-clause-room c =
+    let same = long (goal.at.count_if-requires-clause-room c).After-left_on-row in
+    room_left c.args.rows.now.rows c.args.periods.now.items c.args.line.now c.args.t _ c.row_at-old.result c.requires.periods c.requires.order c.row_at-old.ensures c.left_on-row.result _ (sym c.left_on-row.ensures) (omega (arith, same, c.requires.counts))
+
+pub shelve_if-requires : goal.shelve_if-requires
+shelve_if-requires c = let same = long (goal.at.shelve_if-requires c).After-left_on-row in omega (arith, same, c.requires.room)
 
 pub unreachable-requires : goal.unreachable-requires
 unreachable-requires c =
-    let are = spots_with_if c.row_left-row.result c.args.rows.now.rows c.args.spots.now.items c.requires.order c.requires.spots in
-    let same = ap (λ o. length (put_if o c.args.rows.now.rows)) c.row_left-row.ensures in
+    let are = spots_with_if c.left_on-row.result c.args.rows.now.rows c.args.spots.now.items c.requires.order c.requires.spots in
+    let same = long (goal.at.unreachable-requires c).After-left_on-row in
     omega (arith, are.count, same, c.requires.places, c.in-Err.ensures.err)
 
+pub returns-clause-rows : goal.returns-clause-rows
+returns-clause-rows c = c.shelve_if.ensures.rows ∙ ap (λ (o : Option Row). put_if o c.args.rows.now.rows) (left (goal.at.returns-clause-rows c).After-left_on-row)
+
 pub returns-clause-spots : goal.returns-clause-spots
-returns-clause-spots c = rw (c.shelve_if.ensures.rows, c.in-Ok.ensures.ok) (spots_with_if c.row_left-row.result c.args.rows.now.rows c.args.spots.now.items c.requires.order c.requires.spots)
+returns-clause-spots c = rw (c.shelve_if.ensures.rows, c.in-Ok.ensures.ok) (spots_with_if c.left_on-row.result c.args.rows.now.rows c.args.spots.now.items c.requires.order c.requires.spots)
+
+pub returns-clause-periods : goal.returns-clause-periods
+returns-clause-periods c =
+    rw (c.shelve_if.ensures.rows)
+    (counted_left_by c.args.rows.now.rows c.args.periods.now.items c.args.line.now c.args.t _ c.row_at-old.result c.requires.periods c.requires.order c.row_at-old.ensures c.left_on-row.result c.count_if.new.periods.items (sym c.left_on-row.ensures) c.count_if.ensures.stand c.count_if.ensures.told)

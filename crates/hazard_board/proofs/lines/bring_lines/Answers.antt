@@ -15,6 +15,11 @@ bring_line-requires-clause-places c =
     let long = grown_at c.args.t c.args.rows.now.rows c.loop-line.rows.rows c.args.lines.now c.loop-line.line-index c.line-item.result c.loop-line-test.true c.line-item.is c.loop-line.invariant.turns in
     omega (arith, long, c.requires.places, c.loop-line.invariant.capacity)
 
+pub bring_line-requires-clause-counts : goal.bring_line-requires-clause-counts
+bring_line-requires-clause-counts c =
+    let long = grown_at c.args.t c.args.rows.now.rows c.loop-line.rows.rows c.args.lines.now c.loop-line.line-index c.line-item.result c.loop-line-test.true c.line-item.is c.loop-line.invariant.turns in
+    omega (arith, long, c.requires.counts, c.loop-line.invariant.counts)
+
 pub loop-line-preserved : goal.loop-line-preserved
 loop-line-preserved c =
     let now = c.loop-line.rows.rows in
@@ -25,4 +30,6 @@ loop-line-preserved c =
       spots = c.bring_line.ensures.spots;
       spare = omega (arith, c.bring_line.ensures.spare, c.loop-line.invariant.spare);
       capacity = omega (arith, c.bring_line.ensures.capacity, c.loop-line.invariant.capacity);
+      periods = c.bring_line.ensures.periods;
+      counts = omega (arith, c.bring_line.ensures.counts, c.loop-line.invariant.counts);
     }

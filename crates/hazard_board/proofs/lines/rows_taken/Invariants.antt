@@ -1,11 +1,11 @@
--- the lines that are left leave what all of them do, and the rows stand in order
-use Rattle.std.proofs.Common.{◌≡◌, List, fold, drop}
-use Rattle.hazard_types.specs.declared.line.Line.{Line}
-use Rattle.hazard_types.specs.declared.line.Row.{Row}
+-- the lines that are left leave the same live rows as all of them do, and the rows stand in order
+use Rattle.std.proofs.Common.{◌≡◌, drop}
 use Rattle.std.specs.List.Sorted.{IsStrictlySortedBy}
 use Rattle.event_life.specs.Products.{by_key}
-use Rattle.hazard_board.specs.Taken.{put_if, row_left, rows_taken}
+use Rattle.event_life.specs.Shown.{shown_at}
+use Rattle.hazard_board.specs.Taken.{rows_taken}
+use Rattle.hazard_board.proofs.SliceLemmas.{taken_in}
 use Rattle.hazard_board.proofs.lines.rows_taken.Given as goal
 
 abbrev pub invariant-loop-line : goal.invariant-loop-line
-invariant-loop-line l = (fold (λ (after : List Row) (line : Line). put_if (row_left l.rows.rows l.t line) after) l.after.items (drop l.line-index l.lines) ≡ rows_taken l.rows.rows l.t l.lines) × IsStrictlySortedBy by_key l.after.items
+invariant-loop-line l = (shown_at l.t (taken_in l.rows.rows l.t l.after.items (drop l.line-index l.lines)) ≡ shown_at l.t (rows_taken l.rows.rows l.t l.lines)) × IsStrictlySortedBy by_key l.after.items

@@ -9,12 +9,12 @@ use Rattle.hazard_board.proofs.standing.settle.Goals.{then-touches_anew, else-to
 
 pub set_end-requires-clause-room : goal.set_end-requires-clause-room
 set_end-requires-clause-room c some none =
-    room_left c.args.rows.now.rows c.args.lines.now c.args.standing.now.items c.loop-place.standing.items c.loop-place.place c.index-lines-place.result c.loop-place-test.true c.index-lines-place.is c.loop-place.invariant.ends
+    room_left c.args.periods.now c.args.lines.now c.args.standing.now.items c.loop-place.standing.items c.loop-place.place c.index-lines-place.result c.loop-place-test.true c.index-lines-place.is c.loop-place.invariant.ends
     _ _ _ (sym c.touches_anew.ensures ∙ c.if-touches_anew.true) none c.loop-place.invariant.length (omega (arith, c.requires.room, c.loop-place.invariant.capacity))
 
 pub loop-place-preserved : goal.loop-place-preserved
 loop-place-preserved c =
-    let rows = c.args.rows.now.rows in
+    let rows = c.args.periods.now in
     let lines = c.args.lines.now in
     let was = c.args.standing.now.items in
     let now = c.loop-place.standing.items in
@@ -25,7 +25,7 @@ loop-place-preserved c =
           let anew = sym c.touches_anew.ensures ∙ w.if-touches_anew.true in
           record {
             order = rw (w.standing-is) w.set_end.ensures.order;
-            ends = rw (w.standing-is) (settled_anew rows lines was now i line c.loop-place-test.true c.index-lines-place.is c.loop-place.invariant.ends w.set_end.new.standing.items anew (λ d. w.set_end.ensures.ends d ∙ ap (λ (o : Option End). cond (same_event line.event d) o (end_in now d)) w.latest_end-latest.ensures));
+            ends = rw (w.standing-is) (settled_anew rows lines was now i line c.loop-place-test.true c.index-lines-place.is c.loop-place.invariant.ends w.set_end.new.standing.items anew (λ d. w.set_end.ensures.ends d ∙ ap (λ (o : Option End). cond (same_event line.event d) o (end_in now d)) w.latest_in-latest.ensures));
             capacity = rw (w.standing-is) (omega (arith, c.loop-place.invariant.capacity, w.set_end.ensures.capacity));
             length = rw (w.standing-is) (grown_anew rows lines was now i line c.loop-place-test.true c.index-lines-place.is c.loop-place.invariant.ends _ _ _ anew c.loop-place.invariant.length w.set_end.ensures.length);
           }

@@ -4,4 +4,4 @@ use Rattle.product_decoder.proofs.frame_lines.put_lines.Given as goal
 
 -- what is left makes the list whole
 abbrev pub invariant-loop-zone : goal.invariant-loop-zone
-invariant-loop-zone l = l.out ++ lines_in (drop l.zone-index l.zones) l.said ≡ l.initial.out ++ lines_in l.zones l.said
+invariant-loop-zone l = l.out.items ++ lines_in (drop l.zone-index l.zones) l.said ≡ l.initial.out.items ++ lines_in l.zones l.said

@@ -5,8 +5,8 @@ use Rattle.turn_lock.specs.Turns.{KeepsTurns, passed}
 use Rattle.turn_lock.proofs.StepLemmas.{passes}
 use Rattle.turn_lock.proofs.lock.TurnLock.pass_on.Goals as goal
 
-pub fetch_add-requires : goal.fetch_add-requires
-fetch_add-requires g c =
+pub fetch_add-served-requires : goal.fetch_add-served-requires
+fetch_add-served-requires g c =
     let slots : ℕ = c.self.inside.table.shared.table_id.slots in
     let base_of = g.T.Storied.base in
     let story_of = g.T.Storied.story in

@@ -4,8 +4,8 @@ use Rattle.turn_lock.specs.Turns.{starting, KeepsTurns}
 use Rattle.turn_lock.proofs.StepLemmas.{starts}
 use Rattle.turn_lock.proofs.lock.TurnLock.start.Goals as goal
 
-pub new-requires : goal.new-requires
-new-requires g c =
+pub new-requires-2 : goal.new-requires-2
+new-requires-2 g c =
     let base_of = g.T.Storied.base in
     let story_of = g.T.Storied.story in
     let one : c.push_reserved.new.self.items ≡ Some c.args.value ∷ [] = search rules in
