@@ -69,14 +69,14 @@ broken_states at d after lines told taken taken' writes writes' s e is reads h =
 
 pub dry_run : HasOneAnswer → (dry : Dry) (limit : ℕ) (desk after : Trained) (left left' taken taken' : Option (List ℕ)) (reads reads' writes writes' status : ℕ)
     → desk ≡ record { state = first_training dry.office; at = dry.minute } → ReadsAsTheBoard (first_training dry.office)
-    → IsLinesRun Replies Lacks limit desk after left left' taken taken' reads reads' writes writes' status → IsDryRun dry limit left left' taken taken' reads reads' writes writes' status
+    → IsLinesRun Replies Lacks limit desk after left left' taken taken' reads reads' writes writes' status → IsDryRun dry limit (record { input = record { left = left; faults = reads }; output = record { taken = taken; faults = writes } }) (record { input = record { left = left'; faults = reads' }; output = record { taken = taken'; faults = writes' } }) status
 dry_run law dry limit desk after left left' taken taken' reads reads' writes writes' status is first run =
     let at : desk.at ≡ dry.minute = ap (λ (t : Trained). t.at) is in
     let state : desk.state ≡ first_training dry.office = ap (λ (t : Trained). t.state) is in
     let told = told_states dry.minute desk run.run.last run.run.lines run.told at (subst ReadsAsTheBoard (sym state) first) run.run.answered in
     let told_of = subst (λ (s : State). Answered (AnswersLine dry.minute) s run.run.lines run.told run.run.last.state) state told.0 in
     record {
-      after = after.state;
+      office = after.state;
       run = record {
         end = run.end;
         told = run.told;
@@ -123,10 +123,10 @@ takes_none (Some bytes) = refl
 
 -- memory lacked for the office, and no line was read
 pub unbegun : (dry : Dry) (limit : ℕ) (left taken taken' : Option (List ℕ)) (reads writes writes' status : ℕ)
-    → ReadsAsTheBoard (first_training dry.office) → Telling [] writes taken taken' writes' (Some OutOfMemory) status → IsDryRun dry limit left left taken taken' reads reads writes writes' status
+    → ReadsAsTheBoard (first_training dry.office) → Telling [] writes taken taken' writes' (Some OutOfMemory) status → IsDryRun dry limit (record { input = record { left = left; faults = reads }; output = record { taken = taken; faults = writes } }) (record { input = record { left = left; faults = reads }; output = record { taken = taken'; faults = writes' } }) status
 unbegun dry limit left taken taken' reads writes writes' status first telling =
     record {
-      after = first_training dry.office;
+      office = first_training dry.office;
       run = record {
         end = Some OutOfMemory;
         told = [];

@@ -1,6 +1,7 @@
 //! What the words ask for is done.
 ghost use Rattle.std.specs.Prelude.{◌<◌, ◌+◌, ◌^◌};
 ghost use Rattle.desk_program.specs.Runs.{DoesAsAsked};
+ghost use Rattle.desk_program.specs.Worlds.{input_of, output_of, world};
 
 use crate::training::run_training;
 use crate::words::{Command, command_of};
@@ -11,8 +12,8 @@ use hazard_types::{List, Text};
 use program_ends::{End, end_at_once};
 use std::alloc::Global;
 
-/// Does what the words say, with an input of at most `limit` bytes. Returns the status of the program,
-/// and the disk.
+/// Does what the words say, with an input of at most `limit` bytes. Returns the status of the
+/// program, and the disk.
 pub fn desk_within<S: Source, K: Sink, D: Disk, C: Clock>(
     alloc: Global,
     words: &List<Text>,
@@ -23,9 +24,9 @@ pub fn desk_within<S: Source, K: Sink, D: Disk, C: Clock>(
     limit: usize,
 ) -> Ended<D>
     requires { limit + 1 < 2 ^ 64 }
-    ensures { DoesAsAsked D.Disk C.Clock words.now limit disk result.disk clock.old clock.new
-        (S.left input.old) (S.left input.new) (K.taken output.old) (K.taken output.new)
-        (S.faults input.old) (S.faults input.new) (K.faults output.old) (K.faults output.new)
+    ensures { DoesAsAsked D.Disk C.Clock words.now limit
+        (world (input_of S.Source input.old) (output_of K.Sink output.old) disk clock.old)
+        (world (input_of S.Source input.new) (output_of K.Sink output.new) result.disk clock.new)
         result.status }
 {
     match command_of(words) {

@@ -2,6 +2,7 @@
 ghost use Rattle.std.specs.Prelude.{◌+◌, ◌<◌, ◌^◌, IsTrue};
 ghost use Rattle.hazard_types.specs.Characters.{is_office};
 ghost use Rattle.desk_program.specs.Runs.{IsDryRun};
+ghost use Rattle.desk_program.specs.Worlds.{input_of, output_of, streams};
 
 use crate::training_desk::TrainingDesk;
 use crate::words::Dry;
@@ -10,7 +11,8 @@ use office_core::{a_request_has_one_answer, offices_begin_in_agreement};
 use program_ends::{End, end_at_once, run_lines};
 use std::alloc::Global;
 
-/// Answers each line of an input of at most `limit` bytes by a training office, and returns the status of the program.
+/// Answers each line of an input of at most `limit` bytes by a training office, and returns the status
+/// of the program.
 pub fn run_training<S: Source, K: Sink>(
     alloc: Global,
     dry: &Dry,
@@ -20,7 +22,10 @@ pub fn run_training<S: Source, K: Sink>(
 ) -> u8
     requires office { IsTrue (is_office dry.now.office) }
     requires limit { limit + 1 < 2 ^ 64 }
-    ensures { IsDryRun dry.now limit (S.left input.old) (S.left input.new) (K.taken output.old) (K.taken output.new) (S.faults input.old) (S.faults input.new) (K.faults output.old) (K.faults output.new) result }
+    ensures { IsDryRun dry.now limit
+        (streams (input_of S.Source input.old) (output_of K.Sink output.old))
+        (streams (input_of S.Source input.new) (output_of K.Sink output.new))
+        result }
 {
     offices_begin_in_agreement();
     a_request_has_one_answer();

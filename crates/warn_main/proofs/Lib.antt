@@ -1,3 +1,5 @@
+mod Lawful
 mod Portless
+mod Promising
 mod Served
 pub mod Sure

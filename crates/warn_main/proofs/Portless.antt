@@ -9,14 +9,16 @@ use Rattle.office_core.specs.Agreement.{texts_of}
 use Rattle.office_core.specs.State.{State}
 use Rattle.office_journal.specs.Kept.{state_of}
 use Rattle.office_journal.specs.declared.kept.KeptOffice.{KeptOffice}
-use Rattle.program_ends.specs.Ends.{IsUsage, Telling, own_status, status_of}
+use Rattle.program_ends.specs.Ends.{Telling, own_status, status_of}
 use Rattle.program_ends.specs.Runs.{IsLinesRun}
 use Rattle.program_ends.specs.declared.ends.End.{End}
 use Rattle.program_ends.specs.declared.ends.End.TheVariants.{Usage, SettingsRefused, AlreadyKept, NoJournal, Damaged, ReadFault, WriteFault, DiskFault, PortFault, ClockOut, OutOfMemory, InputTooLong, JournalFull}
 use Rattle.desk_commands.specs.Commands.{AreTold, IsInitRun, TellsText, IsWhyUnmade, TellsBoard, UpgradeOutcome, joined}
 use Rattle.desk_commands.specs.Opening.{IsUnopenedRun, IsWhy}
 use Rattle.desk_drill.specs.Runs.{IsDrillRun}
+use Rattle.desk_program.specs.Commands.{IsNoCommand, IsUnopened, SameClock, SameDisk}
 use Rattle.desk_program.specs.Runs.{Does, DoesAsAsked}
+use Rattle.desk_program.specs.Worlds.{World}
 use Rattle.desk_program.specs.Words.{command_of}
 use Rattle.desk_program.specs.declared.words.Command.{Command}
 use Rattle.desk_program.specs.declared.words.Command.TheVariants as command
@@ -109,29 +111,32 @@ module _ {D : Type 0} (d : Disks D) where
   upgraded next opened after writes taken taken' writes' status (inr (inr (inl run))) = told_as [] writes taken taken' writes' status (Some DiskFault) (Some DiskFault) refl (λ ten. omega (arith, ten)) run.3
   upgraded next opened after writes taken taken' writes' status (inr (inr (inr run))) = told_lacking [] writes taken taken' writes' status (Some OutOfMemory) refl run.2
 
-  module _ {C : Type 0} (k : Clocks C) (limit : ℕ) (disk next : D) (clock clock' : C) (left left' taken taken' : Option (List ℕ)) (reads reads' writes writes' status : ℕ) where
-    done : (command : Command) → Does d k command limit disk next clock clock' left left' taken taken' reads reads' writes writes' status → status ≢ 10
-    done command.Init does = made disk next left left' taken taken' reads reads' writes writes' status does.0
-    done command.Script (inl does) = unopened disk next taken taken' writes writes' status does.1
-    done command.Script (inr run) = lined _ _ limit _ _ left left' taken taken' reads reads' writes writes' status run.run
+  module _ {C : Type 0} (k : Clocks C) (limit : ℕ) (before after : World D C) (status : ℕ) where
+    unopened_run : IsUnopened d before after status → status ≢ 10
+    unopened_run run = unopened before.disk after.disk before.output.taken after.output.taken before.output.faults after.output.faults status run
+
+    done : (command : Command) → Does d k limit before after status command → status ≢ 10
+    done command.Init does = made before.disk after.disk before.input.left after.input.left before.output.taken after.output.taken before.input.faults after.input.faults before.output.faults after.output.faults status does.0
+    done command.Script (inl does) = unopened_run does.1
+    done command.Script (inr run) = lined _ _ limit _ _ before.input.left after.input.left before.output.taken after.output.taken before.input.faults after.input.faults before.output.faults after.output.faults status run.run
     done command.Export does = elim does.2 [
-      | inl run ↦ unopened disk next taken taken' writes writes' status run
-      | inr run ↦ exported (texts_of (state_of run.opened)) writes taken taken' writes' status run.told
+      | inl run ↦ unopened_run run
+      | inr run ↦ exported (texts_of (state_of run.opened)) before.output.faults before.output.taken after.output.taken after.output.faults status run.told
     ]
     done command.Upgrade does = elim does.2 [
-      | inl run ↦ unopened disk next taken taken' writes writes' status run
-      | inr run ↦ upgraded next run.opened run.after writes taken taken' writes' status run.outcome
+      | inl run ↦ unopened_run run
+      | inr run ↦ upgraded after.disk run.opened run.after before.output.faults before.output.taken after.output.taken after.output.faults status run.outcome
     ]
     done (command.Board minute) does = elim does.1 [
-      | inl run ↦ unopened disk next taken taken' writes writes' status run.0
-      | inr run ↦ board_told (state_of run.opened) run.at writes taken taken' writes' status run.told
+      | inl run ↦ unopened_run run.0
+      | inr run ↦ board_told (state_of run.opened) run.at before.output.faults before.output.taken after.output.taken after.output.faults status run.told
     ]
-    done (command.Dry dry) does = lined _ _ limit _ _ left left' taken taken' reads reads' writes writes' status does.0.run
-    done (command.Drill drill) does = drilled drill.number drill.count writes taken taken' writes' status does.1
+    done (command.Dry dry) does = lined _ _ limit _ _ before.input.left after.input.left before.output.taken after.output.taken before.input.faults after.input.faults before.output.faults after.output.faults status does.0.run
+    done (command.Drill drill) does = drilled drill.number drill.count before.output.faults before.output.taken after.output.taken after.output.faults status does.1
 
-    done_if : (asked : Option Command) → MatchOption asked (IsUsage left left' taken taken' reads reads' writes writes' status × (next ≡ disk) × (clock' ≡ clock)) (λ command. Does d k command limit disk next clock clock' left left' taken taken' reads reads' writes writes' status) → status ≢ 10
-    done_if None does = told_as [] writes taken taken' writes' status (Some Usage) (Some Usage) refl (λ ten. omega (arith, ten)) does.0.telling
+    done_if : (asked : Option Command) → MatchOption asked (IsNoCommand before after status × SameDisk before after × SameClock before after) (Does d k limit before after status) → status ≢ 10
+    done_if None does = told_as [] before.output.faults before.output.taken after.output.taken after.output.faults status (Some Usage) (Some Usage) refl (λ ten. omega (arith, ten)) does.0.telling
     done_if (Some command) does = done command does
 
-    pub portless : (words : List (List ℕ)) → DoesAsAsked d k words limit disk next clock clock' left left' taken taken' reads reads' writes writes' status → status ≢ 10
+    pub portless : (words : List (List ℕ)) → DoesAsAsked d k words limit before after status → status ≢ 10
     portless words does = done_if (command_of words) does.run

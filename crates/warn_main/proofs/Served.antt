@@ -34,10 +34,6 @@ module _ {A : Type 0} where
   given o is (inl some) = some
   given o is (inr some) = absurd (no_value o is some)
 
--- what a port tells
-abbrev pub state_of : {P L : Type 0} → (P → ℕ) → (P → Option (List L)) → (P → Option (List ℕ)) → (P → ℕ) → P → PortState L
-state_of returned links numbers faults port = record { returned = returned port; links = links port; numbers = numbers port; faults = faults port }
-
 -- each status has its cause: a fault of the output, of the disk or of the port
 pub record HasCauses (disk_failed port_failed : Type 0) (writes writes' status : ℕ) : Type 0 where
   pub unread : status ≢ 7

@@ -1,5 +1,5 @@
 -- Ends whose counts of faults are always zero.
-use Rattle.std.proofs.Common.{◌≡◌, ◌≤◌, ◌+◌, ◌-◌, ◌^◌, ℕ, ℤ, min, arith}
+use Rattle.std.proofs.Common.{◌≡◌, ◌≤◌, ◌+◌, ◌-◌, ◌^◌, ◌∙◌, ℕ, ℤ, min, arith}
 use Rattle.desk_traits.specs.Faults.{Rose}
 use Rattle.desk_traits.specs.declared.clocks.Clock.{Ghosts as Clocks}
 use Rattle.desk_traits.specs.declared.disk.Disk.{Ghosts as Disks}
@@ -14,12 +14,12 @@ none_failed before now count old new few = omega (arith, old, new, few)
 
 module _ {D : Type 0} (d : Disks D) (steady : (x : D) → d.faults x ≡ 0) where
   pub ends : {C L : Type 0} (k : Clocks C) (w : Ways L) → EndsWithoutDiskFault d k w
-  ends k w words limit disk next clock clock' port port' left left' taken taken' reads reads' writes writes' status run is =
-      unmoved (d.faults disk) (d.faults next) (steady disk) (steady next) (run.disk_fault is)
+  ends k w words limit before after status run is =
+      unmoved (d.faults before.disk) (d.faults after.disk) (steady before.disk) (steady after.disk) (run.disk_fault is)
 
   pub says : {C : Type 0} (k : Clocks C) → SaysNoDiskFault d k
-  says k disk next clock clock' limit left left' taken taken' reads reads' writes writes' status run =
-      none_failed (d.faults disk) (d.faults next) _ (steady disk) (steady next) run.faults
+  says k before after limit status run =
+      none_failed (d.faults before.disk) (d.faults after.disk) _ (steady before.disk) (steady after.disk) run.faults
 
   pub serves : {L : Type 0} (w : Ways L) (gives : ℤ → Type 0) → ServesNoDiskFault d w gives
   serves w gives serving disk next port port' taken taken' writes writes' status run =
@@ -27,9 +27,9 @@ module _ {D : Type 0} (d : Disks D) (steady : (x : D) → d.faults x ≡ 0) wher
 
 module _ {D C L : Type 0} (d : Disks D) (k : Clocks C) (w : Ways L) where
   pub reads_well : (before now : ℕ) → before ≡ 0 → now ≡ 0 → EndsWithoutReadFault d k w before now
-  reads_well before now old new words limit disk next clock clock' port port' left left' taken taken' writes writes' status run is =
-      unmoved before now old new (run.read_fault is)
+  reads_well reads reads' old new words limit before after status first last run is =
+      unmoved before.input.faults after.input.faults (first ∙ old) (last ∙ new) (run.read_fault is)
 
   pub writes_well : (before now : ℕ) → before ≡ 0 → now ≡ 0 → EndsWithoutWriteFault d k w before now
-  writes_well before now old new words limit disk next clock clock' port port' left left' taken taken' reads reads' status run is =
-      unmoved before now old new (run.write_fault is)
+  writes_well writes writes' old new words limit before after status first last run is =
+      unmoved before.output.faults after.output.faults (first ∙ old) (last ∙ new) (run.write_fault is)

@@ -1,3 +1,6 @@
 pub mod Places
+pub mod Worlds
 pub mod Runs
+pub mod Offices
+pub mod Promise
 pub mod Sure

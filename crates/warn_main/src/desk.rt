@@ -1,13 +1,15 @@
 //! The top call.
 ghost use Rattle.std.specs.Prelude.{◌≡◌, ◌⊎◌, None};
-ghost use Rattle.program_ends.specs.Ends.{IsUntouched};
 ghost use Rattle.program_ends.specs.Lines.{most_bytes};
 ghost use Rattle.program_ends.specs.Words.{words_behind};
 ghost use Rattle.desk_program.specs.Runs.{DoesAsAsked as DoesAlone};
-ghost use Rattle.warn_serve.specs.Links.{ways};
+ghost use Rattle.desk_program.specs.Worlds.{input_of, output_of, world as world_alone};
 ghost use Rattle.serve_command.specs.Words.{serving_of};
-ghost use Rattle.warn_main.specs.Runs.{DoesAsAsked};
+ghost use Rattle.warn_main.specs.Promise.{Promise};
+ghost use Rattle.warn_main.specs.Runs.{IsUntouched};
+ghost use Rattle.warn_main.specs.Worlds.{port_of, ways_of, world};
 
+use crate::laws::what_was_done_keeps_the_promise;
 use desk_commands::Ended;
 use desk_links::{Gate, Port};
 use desk_program::desk_within;
@@ -19,8 +21,8 @@ use std::alloc::Global;
 use std::sync::Wait;
 use std::thread::Threads;
 
-/// Does what the words say that are no `serve`, with an input of at most 1,073,741,824 bytes. Returns the
-/// status of the program, and the disk.
+/// Does what the words say that are no `serve`, with an input of at most 1,073,741,824 bytes. Returns
+/// the status of the program, and the disk.
 pub fn desk_alone<S: Source, K: Sink, D: Disk, C: Clock>(
     alloc: Global,
     words: &List<Text>,
@@ -30,16 +32,16 @@ pub fn desk_alone<S: Source, K: Sink, D: Disk, C: Clock>(
     clock: &mut C,
 ) -> Ended<D>
     requires { serving_of words.now ≡ None }
-    ensures { DoesAlone D.Disk C.Clock words.now most_bytes disk result.disk clock.old clock.new
-        (S.left input.old) (S.left input.new) (K.taken output.old) (K.taken output.new)
-        (S.faults input.old) (S.faults input.new) (K.faults output.old) (K.faults output.new)
+    ensures { DoesAlone D.Disk C.Clock words.now most_bytes
+        (world_alone (input_of S.Source input.old) (output_of K.Sink output.old) disk clock.old)
+        (world_alone (input_of S.Source input.new) (output_of K.Sink output.new) result.disk clock.new)
         result.status }
 {
     desk_within(alloc, words, input, output, disk, clock, LIMIT)
 }
 
-/// Does what the words say, with an input of at most 1,073,741,824 bytes. Returns the status of the
-/// program, and the disk.
+/// Does what the words say, with an input of at most 1,073,741,824 bytes, and keeps the promise.
+/// Returns the status of the program, and the disk.
 pub fn desk_run<
     R: Threads + Wait + Sync,
     S: Source,
@@ -60,24 +62,25 @@ pub fn desk_run<
     gate: &G,
 ) -> Ended<D>
     requires { P.returned port.old ≡ 0 }
-    ensures done { DoesAsAsked D.Disk C.Clock
-        (ways P.Door.Link.came P.Door.Link.left P.Door.Link.taken P.Door.Link.Source.faults P.Door.Link.Sink.faults)
-        words.now most_bytes disk result.disk clock.old clock.new
-        (record { returned = P.returned port.old; links = P.links port.old; numbers = P.numbers port.old; faults = P.faults port.old })
-        (record { returned = P.returned port.new; links = P.links port.new; numbers = P.numbers port.new; faults = P.faults port.new })
-        (S.left input.old) (S.left input.new) (K.taken output.old) (K.taken output.new)
-        (S.faults input.old) (S.faults input.new) (K.faults output.old) (K.faults output.new)
+    ensures promise { Promise D.Disk C.Clock
+        (ways_of P.Door.Link.came P.Door.Link.Source P.Door.Link.Sink)
+        words.now most_bytes
+        (world (input_of S.Source input.old) (output_of K.Sink output.old) disk clock.old
+        (port_of P.Port port.old))
+        (world (input_of S.Source input.new) (output_of K.Sink output.new) result.disk clock.new
+        (port_of P.Port port.new))
         result.status }
     ensures port { serving_of words.now ≡ None → port.new ≡ port.old }
 {
+    what_was_done_keeps_the_promise::<D, P, C>();
     match serving_of(words) {
         Some(serving) => run_serve(rt, alloc, &serving, output, disk, port, clock, gate),
         None => desk_alone(alloc, words, input, output, disk, clock),
     }
 }
 
-/// Does what a command line says, of which the program's name and the journal's path come first. Out of
-/// memory for the words, the status is 12, and nothing is read or written.
+/// Does what a command line says, of which the program's name and the journal's path come first. Out
+/// of memory for the words, the status is 12, and nothing is read or written.
 pub fn run_program<
     R: Threads + Wait + Sync,
     S: Source,
@@ -98,16 +101,19 @@ pub fn run_program<
     gate: &G,
 ) -> Ended<D>
     requires { P.returned port.old ≡ 0 }
-    ensures { (IsUntouched (S.left input.old) (S.left input.new) (K.taken output.old) (K.taken output.new)
-        (S.faults input.old) (S.faults input.new) (K.faults output.old) (K.faults output.new) result.status
-        × (result.disk ≡ disk) × (clock.new ≡ clock.old) × (port.new ≡ port.old))
-        ⊎ DoesAsAsked D.Disk C.Clock
-        (ways P.Door.Link.came P.Door.Link.left P.Door.Link.taken P.Door.Link.Source.faults P.Door.Link.Sink.faults)
-        (words_behind 2 command_line.now) most_bytes disk result.disk clock.old clock.new
-        (record { returned = P.returned port.old; links = P.links port.old; numbers = P.numbers port.old; faults = P.faults port.old })
-        (record { returned = P.returned port.new; links = P.links port.new; numbers = P.numbers port.new; faults = P.faults port.new })
-        (S.left input.old) (S.left input.new) (K.taken output.old) (K.taken output.new)
-        (S.faults input.old) (S.faults input.new) (K.faults output.old) (K.faults output.new)
+    ensures { (IsUntouched
+        (world (input_of S.Source input.old) (output_of K.Sink output.old) disk clock.old
+        (port_of P.Port port.old))
+        (world (input_of S.Source input.new) (output_of K.Sink output.new) result.disk clock.new
+        (port_of P.Port port.new))
+        result.status × (port.new ≡ port.old))
+        ⊎ Promise D.Disk C.Clock
+        (ways_of P.Door.Link.came P.Door.Link.Source P.Door.Link.Sink)
+        (words_behind 2 command_line.now) most_bytes
+        (world (input_of S.Source input.old) (output_of K.Sink output.old) disk clock.old
+        (port_of P.Port port.old))
+        (world (input_of S.Source input.new) (output_of K.Sink output.new) result.disk clock.new
+        (port_of P.Port port.new))
         result.status }
 {
     match given_words(alloc, command_line, 2) {

@@ -1,22 +1,40 @@
-//! Laws: ends that cannot fail are told no fault.
+//! Laws: what was done keeps the promise; ends that cannot fail are told no fault.
+ghost use Rattle.std.specs.Prelude.{ℕ, List};
+ghost use Rattle.warn_main.specs.Promise.{Promise};
+ghost use Rattle.warn_main.specs.Runs.{DoesAsAsked};
 ghost use Rattle.warn_main.specs.Sure.{EndsWithoutDiskFault, EndsWithoutReadFault, EndsWithoutWriteFault, SaysNoDiskFault, ServesNoDiskFault};
-ghost use Rattle.warn_serve.specs.Links.{ways};
+ghost use Rattle.warn_main.specs.Worlds.{World, ways_of};
 
 use desk_links::Port;
 use desk_traits::{Clock, Disk, Sink, Source, SureDisk, SureSink, SureSource};
+use office_core::requests_stand_once;
 
-/// Over a disk that cannot fail no run ends with 9, and no line of a script and no call of a link is answered that the
-/// disk failed. Over an input that cannot fail none ends with 7, and over such an output none with 8.
+/// A run that has done what its words ask for keeps the promise, over each disk, port and clock.
+pub fn what_was_done_keeps_the_promise<D: Disk, P: Port, C: Clock>()
+    ensures { (words : List (List ℕ)) (limit : ℕ) (before after : World D C P.Door.Link) (status : ℕ)
+        → DoesAsAsked D.Disk C.Clock
+        (ways_of P.Door.Link.came P.Door.Link.Source P.Door.Link.Sink)
+        words limit before after status
+        → Promise D.Disk C.Clock
+        (ways_of P.Door.Link.came P.Door.Link.Source P.Door.Link.Sink)
+        words limit before after status }
+{
+    requests_stand_once();
+}
+
+/// Over a disk that cannot fail no run ends with 9, and no line of a script and no call of a link is
+/// answered that the disk failed. Over an input that cannot fail none ends with 7, and over such an
+/// output none with 8.
 pub fn sure_ends_tell_no_fault<D: Disk, P: Port, C: Clock>()
     ensures disk { EndsWithoutDiskFault ⟦<SureDisk as Disk>⟧ C.Clock
-        (ways P.Door.Link.came P.Door.Link.left P.Door.Link.taken P.Door.Link.Source.faults P.Door.Link.Sink.faults) }
+        (ways_of P.Door.Link.came P.Door.Link.Source P.Door.Link.Sink) }
     ensures lines { SaysNoDiskFault ⟦<SureDisk as Disk>⟧ C.Clock }
     ensures calls { (clock : C) → ServesNoDiskFault ⟦<SureDisk as Disk>⟧
-        (ways P.Door.Link.came P.Door.Link.left P.Door.Link.taken P.Door.Link.Source.faults P.Door.Link.Sink.faults) (C.gives clock) }
+        (ways_of P.Door.Link.came P.Door.Link.Source P.Door.Link.Sink) (C.gives clock) }
     ensures input { (source next : SureSource) → EndsWithoutReadFault D.Disk C.Clock
-        (ways P.Door.Link.came P.Door.Link.left P.Door.Link.taken P.Door.Link.Source.faults P.Door.Link.Sink.faults)
+        (ways_of P.Door.Link.came P.Door.Link.Source P.Door.Link.Sink)
         (⟦<SureSource as Source>⟧.faults source) (⟦<SureSource as Source>⟧.faults next) }
     ensures output { (sink next : SureSink) → EndsWithoutWriteFault D.Disk C.Clock
-        (ways P.Door.Link.came P.Door.Link.left P.Door.Link.taken P.Door.Link.Source.faults P.Door.Link.Sink.faults)
+        (ways_of P.Door.Link.came P.Door.Link.Source P.Door.Link.Sink)
         (⟦<SureSink as Sink>⟧.faults sink) (⟦<SureSink as Sink>⟧.faults next) }
 {}
