@@ -1,0 +1,11 @@
+pub mod Archive
+pub mod Asking
+pub mod Fields
+pub mod Frames
+pub mod Handing
+pub mod Kept
+pub mod OpenReaders
+pub mod Rows
+pub mod Splits
+pub mod Ugc
+pub mod Writing

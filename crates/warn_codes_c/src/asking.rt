@@ -1,0 +1,167 @@
+//! What is asked of the products of a stream.
+ghost use Rattle.std.specs.Prelude.{◌≡◌, ◌++◌, IfOk, OnOk, Some};
+ghost use Rattle.warn_codes_c.specs.Asking.{question_of, rows_for, life_rows, breach_rows, gap_rows, shown_rows, all_rows, answer, Answers};
+
+use crate::archive::Archive;
+use crate::handing::hand_out;
+use crate::rows::{RowFields, put_breaches, put_gaps, put_lives, put_shown};
+use crate::status::{BAD_ARGUMENT, NO_MEMORY, OK, TOO_SMALL};
+use hazard_types::{Class, List, Minute, Oom, is_office};
+use std::alloc::Global;
+
+/// What is asked, and of whose products: 1 is the lives of events, 2 the lines in breach, 3 the gaps in their numbers, 4 the rows that are
+/// shown at a minute, 5 all of these one after another.
+#[repr(C)]
+#[derive(Clone, Copy)]
+pub struct AskedFields {
+    pub question: u32,
+    pub minute: u32,
+    pub office: [u8; 4],
+    pub class: u8,
+}
+
+#[derive(Clone, Copy)]
+pub enum Question {
+    Lives,
+    Breaches,
+    Gaps,
+    Shown(Minute),
+    All(Minute),
+}
+
+/// The question of a number; the minute counts where rows that are shown are asked for.
+pub fn question_of(number: u32, minute: u32) -> Option<Question>
+    ensures { result ≡ question_of number minute }
+{
+    match number {
+        1 => Some(Question::Lives),
+        2 => Some(Question::Breaches),
+        3 => Some(Question::Gaps),
+        4 => match Minute::new(minute) {
+            Some(minute) => Some(Question::Shown(minute)),
+            None => None,
+        },
+        5 => match Minute::new(minute) {
+            Some(minute) => Some(Question::All(minute)),
+            None => None,
+        },
+        _ => None,
+    }
+}
+
+fn put_lives_of(alloc: Global, rows: &mut List<RowFields>, archive: &Archive) -> Result<(), Oom>
+    ensures { OnOk result (rows.new ≡ rows.old ++ life_rows archive.now.reader.products) }
+{
+    let lives = archive.reader.lives(alloc)?;
+    put_lives(rows, lives.as_slice())
+}
+
+fn put_breaches_of(alloc: Global, rows: &mut List<RowFields>, archive: &Archive) -> Result<(), Oom>
+    ensures { OnOk result (rows.new ≡ rows.old ++ breach_rows archive.now.numbers archive.now.reader.products) }
+{
+    let breaches = archive.reader.breaches(alloc)?;
+    put_breaches(rows, archive.numbers.as_slice(), breaches.as_slice())
+}
+
+fn put_gaps_of(alloc: Global, rows: &mut List<RowFields>, archive: &Archive) -> Result<(), Oom>
+    ensures { OnOk result (rows.new ≡ rows.old ++ gap_rows archive.now.reader.products) }
+{
+    let gaps = archive.reader.gaps(alloc)?;
+    put_gaps(rows, gaps.as_slice())
+}
+
+fn put_shown_at(
+    alloc: Global,
+    rows: &mut List<RowFields>,
+    archive: &Archive,
+    minute: &Minute,
+) -> Result<(), Oom>
+    ensures { OnOk result (rows.new ≡ rows.old ++ shown_rows minute.now archive.now.reader.products) }
+{
+    let shown = archive.reader.shown(alloc, *minute)?;
+    put_shown(rows, shown.as_slice())
+}
+
+/// Adds the answers to all questions.
+fn put_all(
+    alloc: Global,
+    rows: &mut List<RowFields>,
+    archive: &Archive,
+    minute: &Minute,
+) -> Result<(), Oom>
+    ensures { OnOk result (rows.new ≡ rows.old ++ all_rows minute.now archive.now.numbers archive.now.reader.products) }
+{
+    put_lives_of(alloc, rows, archive)?;
+    put_breaches_of(alloc, rows, archive)?;
+    put_gaps_of(alloc, rows, archive)?;
+    put_shown_at(alloc, rows, archive, minute)
+}
+
+/// Adds the rows that answer a question.
+fn put_rows(
+    alloc: Global,
+    rows: &mut List<RowFields>,
+    archive: &Archive,
+    question: &Question,
+) -> Result<(), Oom>
+    ensures { OnOk result (rows.new ≡ rows.old ++ rows_for question.now archive.now.numbers archive.now.reader.products) }
+{
+    match question {
+        Question::Lives => put_lives_of(alloc, rows, archive),
+        Question::Breaches => put_breaches_of(alloc, rows, archive),
+        Question::Gaps => put_gaps_of(alloc, rows, archive),
+        Question::Shown(minute) => put_shown_at(alloc, rows, archive, minute),
+        Question::All(minute) => put_all(alloc, rows, archive, minute),
+    }
+}
+
+/// The rows that answer a question.
+pub fn rows_for(
+    alloc: Global,
+    archive: &Archive,
+    question: &Question,
+) -> Result<List<RowFields>, Oom>
+    ensures { IfOk result (λ rows. rows ≡ rows_for question.now archive.now.numbers archive.now.reader.products) }
+{
+    let mut rows = List::new(alloc);
+    put_rows(alloc, &mut rows, archive, question)?;
+    Ok(rows)
+}
+
+/// Writes rows at the front of a buffer, if it has room for all of them, and their count.
+pub fn tell_rows(rows: &[RowFields], out: &mut [RowFields], needed: &mut usize) -> u32
+    ensures { Answers (Some rows.now) result out.old out.new needed.old needed.new }
+{
+    *needed = rows.len();
+    if hand_out(rows, out) { OK } else { TOO_SMALL }
+}
+
+/// Reads the products of a stream, and answers a question about those of an office and class.
+#[unsafe(no_mangle)]
+pub extern "C" fn warn_codes_c_ask(
+    alloc: Global,
+    stream: &[u8],
+    asked: &AskedFields,
+    rows: &mut [RowFields],
+    needed: &mut usize,
+) -> u32
+    ensures exact { Answers (answer asked.now stream.now) result rows.old rows.new needed.old needed.new }
+{
+    let Some(class) = Class::at(&[asked.class]) else {
+        return BAD_ARGUMENT;
+    };
+    let office = asked.office;
+    if !is_office(&office) {
+        return BAD_ARGUMENT;
+    }
+    let Some(question) = question_of(asked.question, asked.minute) else {
+        return BAD_ARGUMENT;
+    };
+    let Ok(archive) = Archive::of(alloc, office, class, stream) else {
+        return NO_MEMORY;
+    };
+    let Ok(found) = rows_for(alloc, &archive, &question) else {
+        return NO_MEMORY;
+    };
+    tell_rows(found.as_slice(), rows, needed)
+}

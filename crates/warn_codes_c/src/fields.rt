@@ -1,0 +1,95 @@
+//! The values of codes in structs of a fixed layout.
+ghost use Rattle.std.specs.Prelude.{◌≡◌};
+ghost use Rattle.warn_codes_c.specs.Fields.{time_number, vtec_fields, flood_fields, zone_fields};
+
+use hazard_types::{Flood, Minute, Vtec, Zone};
+
+/// The values of a P-VTEC text. A time is in minutes since 2000-01-01T00:00Z; 4,294,967,295 stands for zeros.
+#[repr(C)]
+#[derive(Clone, Copy)]
+pub struct VtecFields {
+    pub begin: u32,
+    pub end: u32,
+    pub number: u16,
+    pub phenomenon: [u8; 2],
+    pub office: [u8; 4],
+    pub action: [u8; 3],
+    pub class: u8,
+    pub significance: u8,
+}
+
+/// The values of an H-VTEC text. Times are as in a P-VTEC text.
+#[repr(C)]
+#[derive(Clone, Copy)]
+pub struct FloodFields {
+    pub begin: u32,
+    pub crest: u32,
+    pub end: u32,
+    pub location: [u8; 5],
+    pub severity: u8,
+    pub cause: [u8; 2],
+    pub record_status: [u8; 2],
+}
+
+/// A county (kind `C`) or a public zone (kind `Z`) of a state.
+#[repr(C)]
+#[derive(Clone, Copy)]
+pub struct ZoneFields {
+    pub number: u16,
+    pub state: [u8; 2],
+    pub kind: u8,
+}
+
+/// The number of a time.
+pub fn time_number(time: &Option<Minute>) -> u32
+    ensures { result ≡ time_number time.now }
+{
+    match time {
+        Some(minute) => minute.get(),
+        None => u32::MAX,
+    }
+}
+
+/// The fields of a P-VTEC text's values.
+pub fn vtec_fields(v: &Vtec) -> VtecFields
+    ensures { result ≡ vtec_fields v.now }
+{
+    let office = v.office;
+    VtecFields {
+        begin: time_number(&v.begin),
+        end: time_number(&v.end),
+        number: v.etn,
+        phenomenon: v.hazard.phen.letters(),
+        office,
+        action: v.action.code(),
+        class: v.class.letter(),
+        significance: v.hazard.sig.letter(),
+    }
+}
+
+/// The fields of an H-VTEC text's values.
+pub fn flood_fields(h: &Flood) -> FloodFields
+    ensures { result ≡ flood_fields h.now }
+{
+    let location = h.site;
+    FloodFields {
+        begin: time_number(&h.begin),
+        crest: time_number(&h.crest),
+        end: time_number(&h.end),
+        location,
+        severity: h.severity.letter(),
+        cause: h.cause.letters(),
+        record_status: h.status.code(),
+    }
+}
+
+/// The fields of a zone.
+pub fn zone_fields(zone: &Zone) -> ZoneFields
+    ensures { result ≡ zone_fields zone.now }
+{
+    ZoneFields {
+        number: zone.number(),
+        state: zone.state(),
+        kind: zone.kind().letter(),
+    }
+}

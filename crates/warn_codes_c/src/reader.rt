@@ -1,0 +1,156 @@
+//! Readers that stay open between calls.
+ghost use Rattle.std.specs.Prelude.{◌≡◌, Option, Some, None, IfSome, MatchOption, IsSomeAnd, [], ◌∷◌, false};
+ghost use Rattle.hazard_types.specs.Codes.{value_beside};
+ghost use Rattle.hazard_types.specs.Tables.{class_rows};
+ghost use Rattle.warn_codes_c.specs.Archive.{Pushed, Finished};
+ghost use Rattle.warn_codes_c.specs.Asking.{office_at, question_of, Answers};
+ghost use Rattle.warn_codes_c.specs.OpenReaders.{taken_in, Opens, GoesOn, told_by, IsFresh};
+
+use crate::archive::Archive;
+use crate::asking::{question_of, rows_for, tell_rows};
+use crate::handle::{Handle, ReaderFields};
+use crate::loose::Loose;
+use crate::rows::RowFields;
+use crate::status::{BAD_ARGUMENT, NO_MEMORY, OK};
+use hazard_types::{Class, is_office};
+use std::alloc::Global;
+use std::mem::replace;
+
+fn closed(alloc: Global) -> ReaderFields
+    ensures { taken_in result ≡ None }
+{
+    ReaderFields {
+        handle: Handle::closed(alloc),
+        is_open: 0,
+    }
+}
+
+fn opened(archive: Box<Archive, Global>) -> ReaderFields
+    requires { archive.value.feed.ended ≡ false }
+    ensures { taken_in result ≡ Some archive.value }
+{
+    ReaderFields {
+        handle: Handle::of(Loose::of(archive)),
+        is_open: 1,
+    }
+}
+
+/// What an open reader has taken; the reader is closed.
+#[tactic(auto, using(crate::proofs::OpenLemmas::is_some, crate::proofs::OpenLemmas::is_going_on))]
+fn taken_out(alloc: Global, reader: &mut ReaderFields) -> Option<Box<Archive, Global>>
+    ensures value { MatchOption result (taken_in reader.old ≡ None) (λ b. taken_in reader.old ≡ Some b.value) }
+    ensures going { IfSome result (λ b. b.value.feed.ended ≡ false) }
+    ensures closed { taken_in reader.new ≡ None }
+{
+    let ReaderFields { handle, is_open } = replace(reader, closed(alloc));
+    if is_open != 1 {
+        return None;
+    }
+    Some(handle.into_loose().into_box())
+}
+
+/// A new reader of an office and class.
+fn opened_for(alloc: Global, office: [u8; 4], class: Class) -> Option<ReaderFields>
+    ensures { IfSome result (λ r. IsSomeAnd (taken_in r) (IsFresh office class)) }
+{
+    let archive = Archive::new(alloc, office, class);
+    match Box::new(alloc, archive) {
+        Ok(archive) => Some(opened(archive)),
+        Err(_) => None,
+    }
+}
+
+/// Opens a closed reader for the products of an office, of which it follows a class.
+#[unsafe(no_mangle)]
+pub extern "C" fn warn_codes_c_open(
+    alloc: Global,
+    reader: &mut ReaderFields,
+    office: &[u8; 4],
+    class: u8,
+) -> u32
+    ensures { Opens (taken_in reader.old) (value_beside class_rows (class ∷ [])) (office_at office.now) result (taken_in reader.new) }
+{
+    if reader.is_open == 1 {
+        return BAD_ARGUMENT;
+    }
+    let Some(class) = Class::at(&[class]) else {
+        return BAD_ARGUMENT;
+    };
+    if !is_office(office) {
+        return BAD_ARGUMENT;
+    }
+    match opened_for(alloc, *office, class) {
+        Some(opened) => {
+            *reader = opened;
+            OK
+        }
+        None => NO_MEMORY,
+    }
+}
+
+/// Takes a piece of a stream of products. Out of memory closes the reader.
+#[unsafe(no_mangle)]
+pub extern "C" fn warn_codes_c_take(alloc: Global, reader: &mut ReaderFields, piece: &[u8]) -> u32
+    ensures { GoesOn (λ a b. Pushed a piece.now b) (taken_in reader.old) result (taken_in reader.new) }
+{
+    let Some(mut archive) = taken_out(alloc, reader) else {
+        return BAD_ARGUMENT;
+    };
+    if archive.push(alloc, piece).is_err() {
+        return NO_MEMORY;
+    }
+    *reader = opened(archive);
+    OK
+}
+
+/// Says that the stream has ended; the next piece begins another. Out of memory closes the reader.
+#[unsafe(no_mangle)]
+pub extern "C" fn warn_codes_c_end(alloc: Global, reader: &mut ReaderFields) -> u32
+    ensures { GoesOn Finished (taken_in reader.old) result (taken_in reader.new) }
+{
+    let Some(mut archive) = taken_out(alloc, reader) else {
+        return BAD_ARGUMENT;
+    };
+    if archive.finish(alloc).is_err() {
+        return NO_MEMORY;
+    }
+    *reader = opened(archive);
+    OK
+}
+
+/// Answers a question about the products that have ended.
+#[unsafe(no_mangle)]
+pub extern "C" fn warn_codes_c_tell(
+    alloc: Global,
+    reader: &mut ReaderFields,
+    question: u32,
+    minute: u32,
+    rows: &mut [RowFields],
+    needed: &mut usize,
+) -> u32
+    ensures told { Answers (told_by (taken_in reader.old) (question_of question minute)) result rows.old rows.new needed.old needed.new }
+    ensures kept { taken_in reader.new ≡ taken_in reader.old }
+{
+    let Some(question) = question_of(question, minute) else {
+        return BAD_ARGUMENT;
+    };
+    let Some(archive) = taken_out(alloc, reader) else {
+        return BAD_ARGUMENT;
+    };
+    let found = rows_for(alloc, &archive, &question);
+    *reader = opened(archive);
+    match found {
+        Ok(found) => tell_rows(found.as_slice(), rows, needed),
+        Err(_) => NO_MEMORY,
+    }
+}
+
+/// Closes a reader, and frees what it took.
+#[unsafe(no_mangle)]
+pub extern "C" fn warn_codes_c_close(alloc: Global, reader: &mut ReaderFields) -> u32
+    ensures status { result ≡ 0 }
+    ensures closed { taken_in reader.new ≡ None }
+{
+    drop(taken_out(alloc, reader));
+    OK
+}

@@ -1,0 +1,220 @@
+//! Rows of what is found in the products of a stream.
+ghost use Rattle.std.specs.Prelude.{◌≡◌, ◌-◌, ◌++◌, slice_index, map, flat_map, OnOk, IfOk};
+ghost use Rattle.warn_codes_c.specs.Rows.{event_fields, blank_row, step_row, steps_in, breach_code, number_at, breach_row, gap_row, end_number, shown_row};
+
+use crate::fields::{FloodFields, ZoneFields, zone_fields};
+use crate::frames::flood_or_none;
+use event_life::Breach;
+use hazard_types::{Action, End, Event, List, Minute, Oom, Row};
+use product_decoder::{Found, GapFound, Track};
+
+/// An event: its number, the year in which it was opened, and its hazard.
+#[repr(C)]
+#[derive(Clone, Copy)]
+pub struct EventFields {
+    pub number: u16,
+    pub year: u16,
+    pub phenomenon: [u8; 2],
+    pub significance: u8,
+}
+
+/// A row of an answer, of the kind of its question's number; what that does not ask for is 0. Of lives (1): a lawful line of an event in a zone, its action and the issue
+/// minute of its product. Of breaches (2): the line's event and zone, the number of its product, and the rule. Of gaps (3): the event whose number
+/// was found, and the number that was wanted. Of rows shown (4): event, zone, begin and end, and H-VTEC values if `has_flood` is 1.
+#[repr(C)]
+#[derive(Clone, Copy)]
+pub struct RowFields {
+    pub product: u32,
+    pub issue: u32,
+    pub begin: u32,
+    pub end: u32,
+    pub flood: FloodFields,
+    pub event: EventFields,
+    pub zone: ZoneFields,
+    pub wanted: u16,
+    pub action: [u8; 3],
+    pub breach: u8,
+    pub has_flood: u8,
+    pub kind: u8,
+}
+
+fn event_fields(event: &Event) -> EventFields
+    ensures { result ≡ event_fields event.now }
+{
+    EventFields {
+        number: event.etn,
+        year: event.year,
+        phenomenon: event.hazard.phen.letters(),
+        significance: event.hazard.sig.letter(),
+    }
+}
+
+fn blank_row() -> RowFields
+    ensures { result ≡ blank_row }
+{
+    RowFields {
+        product: 0,
+        issue: 0,
+        begin: 0,
+        end: 0,
+        flood: flood_or_none(&None),
+        event: EventFields {
+            number: 0,
+            year: 0,
+            phenomenon: [0; 2],
+            significance: 0,
+        },
+        zone: ZoneFields {
+            number: 0,
+            state: [0; 2],
+            kind: 0,
+        },
+        wanted: 0,
+        action: [0; 3],
+        breach: 0,
+        has_flood: 0,
+        kind: 0,
+    }
+}
+
+/// The row of a lawful line.
+fn step_row(life: &Track, step: &(Action, Minute)) -> RowFields
+    ensures { result ≡ step_row life.now step.now }
+{
+    let mut row = blank_row();
+    row.kind = 1;
+    row.event = event_fields(&life.event);
+    row.zone = zone_fields(&life.zone);
+    row.action = step.0.code();
+    row.issue = step.1.get();
+    row
+}
+
+fn put_steps(rows: &mut List<RowFields>, life: &Track) -> Result<(), Oom>
+    ensures { OnOk result (rows.new ≡ rows.old ++ steps_in life.now) }
+{
+    for step in life.steps.as_slice() {
+        rows.push(step_row(life, step))?;
+    }
+    Ok(())
+}
+
+pub fn put_lives(rows: &mut List<RowFields>, lives: &[Track]) -> Result<(), Oom>
+    ensures { OnOk result (rows.new ≡ rows.old ++ flat_map steps_in lives.now) }
+{
+    for life in lives {
+        put_steps(rows, life)?;
+    }
+    Ok(())
+}
+
+/// The number of a breach.
+fn breach_code(breach: Breach) -> u8
+    ensures { result ≡ breach_code breach }
+{
+    match breach {
+        Breach::Reopened => 1,
+        Breach::NotOpening => 2,
+        Breach::NumberHeld => 3,
+        Breach::ZeroBegin => 4,
+        Breach::TooEarly => 5,
+        Breach::NoLength => 6,
+        Breach::PeriodMoved => 7,
+        Breach::PeriodSame => 8,
+        Breach::NotLive => 9,
+        Breach::BegunMoved => 10,
+        Breach::TooLate => 11,
+        Breach::NoHigher => 12,
+        Breach::Twice => 13,
+    }
+}
+
+/// The number of a product, which counts from 1 among those without a fault, among all.
+fn number_at(numbers: &[u32], product: u32) -> u32
+    ensures { result ≡ number_at numbers.now product }
+{
+    let at = product.saturating_sub(1) as usize;
+    if at < numbers.len() { numbers[at] } else { 0 }
+}
+
+fn breach_row(numbers: &[u32], found: &Found) -> RowFields
+    ensures { result ≡ breach_row numbers.now found.now }
+{
+    let mut row = blank_row();
+    row.kind = 2;
+    row.event = event_fields(&found.event);
+    row.zone = zone_fields(&found.zone);
+    row.product = number_at(numbers, found.product);
+    row.breach = breach_code(found.breach);
+    row
+}
+
+pub fn put_breaches(
+    rows: &mut List<RowFields>,
+    numbers: &[u32],
+    breaches: &[Found],
+) -> Result<(), Oom>
+    ensures { OnOk result (rows.new ≡ rows.old ++ map (breach_row numbers.now) breaches.now) }
+{
+    for found in breaches {
+        rows.push(breach_row(numbers, found))?;
+    }
+    Ok(())
+}
+
+fn gap_row(gap: &GapFound) -> RowFields
+    ensures { result ≡ gap_row gap.now }
+{
+    let mut row = blank_row();
+    row.kind = 3;
+    row.event = EventFields {
+        number: gap.found,
+        year: gap.year,
+        phenomenon: gap.hazard.phen.letters(),
+        significance: gap.hazard.sig.letter(),
+    };
+    row.wanted = gap.wanted;
+    row
+}
+
+pub fn put_gaps(rows: &mut List<RowFields>, gaps: &[GapFound]) -> Result<(), Oom>
+    ensures { OnOk result (rows.new ≡ rows.old ++ map gap_row gaps.now) }
+{
+    for gap in gaps {
+        rows.push(gap_row(gap))?;
+    }
+    Ok(())
+}
+
+/// The number of an end; until further notice has that of zeros.
+fn end_number(end: &End) -> u32
+    ensures { result ≡ end_number end.now }
+{
+    match end {
+        End::At(minute) => minute.get(),
+        End::Ufn => u32::MAX,
+    }
+}
+
+fn shown_row(shown: &Row) -> RowFields
+    ensures { result ≡ shown_row shown.now }
+{
+    let mut row = blank_row();
+    row.kind = 4;
+    row.event = event_fields(&shown.event);
+    row.zone = zone_fields(&shown.zone);
+    row.begin = shown.period.begin.get();
+    row.end = end_number(&shown.period.end);
+    row.flood = flood_or_none(&shown.flood);
+    row.has_flood = u8::from(shown.flood.is_some());
+    row
+}
+
+pub fn put_shown(rows: &mut List<RowFields>, shown: &[Row]) -> Result<(), Oom>
+    ensures { OnOk result (rows.new ≡ rows.old ++ map shown_row shown.now) }
+{
+    for row in shown {
+        rows.push(shown_row(row))?;
+    }
+    Ok(())
+}

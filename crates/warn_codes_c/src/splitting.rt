@@ -1,0 +1,67 @@
+//! The products of a text, by their places.
+ghost use Rattle.std.specs.Prelude.{◌≡◌, ◌++◌, map, IfOk, OnOk};
+ghost use Rattle.product_frame.specs.Splitting.{spans_of};
+ghost use Rattle.warn_codes_c.specs.Splits.{span_fields, Splits};
+
+use crate::handing::hand_out;
+use crate::status::{NO_MEMORY, OK, TOO_SMALL};
+use hazard_types::{List, Oom, Span};
+use product_decoder::split_products;
+use std::alloc::Global;
+
+/// Bytes from a place up to another, which is not among them.
+#[repr(C)]
+#[derive(Clone, Copy)]
+pub struct SpanFields {
+    pub from: usize,
+    pub to: usize,
+}
+
+fn span_fields(span: &Span) -> SpanFields
+    ensures { result ≡ span_fields span.now }
+{
+    SpanFields {
+        from: span.from,
+        to: span.to,
+    }
+}
+
+fn put_spans(rows: &mut List<SpanFields>, spans: &[Span]) -> Result<(), Oom>
+    ensures { OnOk result (rows.new ≡ rows.old ++ map span_fields spans.now) }
+{
+    for span in spans {
+        rows.push(span_fields(span))?;
+    }
+    Ok(())
+}
+
+/// The places of the products.
+fn spans_in(alloc: Global, text: &[u8]) -> Result<List<SpanFields>, Oom>
+    ensures { IfOk result (λ rows. rows ≡ map span_fields (spans_of text.now)) }
+{
+    let spans = split_products(alloc, text)?;
+    let mut rows = List::new(alloc);
+    put_spans(&mut rows, spans.as_slice())?;
+    Ok(rows)
+}
+
+/// Splits a text into its products: one for each heading line, up to the next one or the end.
+#[unsafe(no_mangle)]
+pub extern "C" fn warn_codes_c_split(
+    alloc: Global,
+    text: &[u8],
+    spans: &mut [SpanFields],
+    needed: &mut usize,
+) -> u32
+    ensures { Splits (map span_fields (spans_of text.now)) result spans.old spans.new needed.old needed.new }
+{
+    let Ok(rows) = spans_in(alloc, text) else {
+        return NO_MEMORY;
+    };
+    *needed = rows.len();
+    if hand_out(rows.as_slice(), spans) {
+        OK
+    } else {
+        TOO_SMALL
+    }
+}

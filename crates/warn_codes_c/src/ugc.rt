@@ -1,0 +1,134 @@
+//! UGC texts.
+ghost use Rattle.std.specs.Prelude.{◌≡◌, ◌++◌, map, Ok, Err, IfOk, OnOk, List as Seq, ℕ};
+ghost use Rattle.hazard_types.specs.Places.{Place};
+ghost use Rattle.hazard_types.specs.declared.calendar.DayStamp.{DayStamp as Expiry};
+ghost use Rattle.ugc_codes.specs.Reading.{ugc_of};
+ghost use Rattle.ugc_codes.specs.Grammar.{IsUgc};
+ghost use Rattle.ugc_codes.specs.Faults.{FirstFault};
+ghost use Rattle.warn_codes_c.specs.Fields.{zone_fields};
+ghost use Rattle.warn_codes_c.specs.Ugc.{ReadsUgc, IsToldUgc, ugc_fault, fault_fields, ugc_fields};
+
+use crate::fields::{ZoneFields, zone_fields};
+use crate::handing::hand_out;
+use crate::status::{NO_MEMORY, OK, TOO_SMALL};
+use hazard_types::{List, Oom, Or, Zone};
+use std::alloc::Global;
+use ugc_codes::{UgcFault, UgcRead, read_ugc};
+
+/// What a UGC text says beside its zones: how many these are, how many bytes the text has, and the day, hour and minute (UTC) at which
+/// it expires. Where it is none, the byte at which the fault begins, counted from 0.
+#[repr(C)]
+#[derive(Clone, Copy)]
+pub struct UgcFields {
+    pub zones: usize,
+    pub used: usize,
+    pub fault_at: usize,
+    pub day: u8,
+    pub hour: u8,
+    pub minute: u8,
+}
+
+/// Adds the fields of zones.
+pub fn put_zones(rows: &mut List<ZoneFields>, zones: &[Zone]) -> Result<(), Oom>
+    ensures { OnOk result (rows.new ≡ rows.old ++ map zone_fields zones.now) }
+{
+    for zone in zones {
+        rows.push(zone_fields(zone))?;
+    }
+    Ok(())
+}
+
+/// The fields of zones.
+fn zone_rows(alloc: Global, zones: &[Zone]) -> Result<List<ZoneFields>, Oom>
+    ensures { IfOk result (λ rows. rows ≡ map zone_fields zones.now) }
+{
+    let mut rows = List::new(alloc);
+    put_zones(&mut rows, zones)?;
+    Ok(rows)
+}
+
+/// The fields of what was read.
+fn ugc_fields(read: &UgcRead) -> UgcFields
+    ensures { result ≡ ugc_fields read.now }
+{
+    UgcFields {
+        zones: read.zones.len(),
+        used: read.used,
+        fault_at: 0,
+        day: read.expiry.day,
+        hour: read.expiry.hour,
+        minute: read.expiry.minute,
+    }
+}
+
+/// The status of a fault, and the byte at which it begins.
+fn fault_parts(fault: UgcFault) -> (u32, usize)
+    ensures { result ≡ ugc_fault fault }
+{
+    match fault {
+        UgcFault::NotACode { at } => (10, at),
+        UgcFault::BadRange { at } => (11, at),
+        UgcFault::CutShort => (12, 0),
+    }
+}
+
+/// The fields of a fault that begins at a byte.
+fn fault_fields(fault_at: usize) -> UgcFields
+    ensures { result ≡ fault_fields fault_at }
+{
+    UgcFields {
+        zones: 0,
+        used: 0,
+        fault_at,
+        day: 0,
+        hour: 0,
+        minute: 0,
+    }
+}
+
+/// Tells what was read: the zones into the buffer, if it has room for all of them, and the fields.
+fn tell_ugc(
+    alloc: Global,
+    answer: Result<UgcRead, Or<UgcFault>>,
+    zones: &mut [ZoneFields],
+    out: &mut UgcFields,
+) -> u32
+    ensures { IsToldUgc answer result zones.old zones.new out.old out.new }
+{
+    let read = match answer {
+        Ok(read) => read,
+        Err(Or::No(fault)) => {
+            let (status, at) = fault_parts(fault);
+            *out = fault_fields(at);
+            return status;
+        }
+        Err(Or::OutOfMemory) => return NO_MEMORY,
+    };
+    let Ok(rows) = zone_rows(alloc, read.zones.as_slice()) else {
+        return NO_MEMORY;
+    };
+    *out = ugc_fields(&read);
+    if hand_out(rows.as_slice(), zones) {
+        OK
+    } else {
+        TOO_SMALL
+    }
+}
+
+/// Reads the UGC text that bytes begin with.
+#[unsafe(no_mangle)]
+pub extern "C" fn warn_codes_c_read_ugc(
+    alloc: Global,
+    text: &[u8],
+    zones: &mut [ZoneFields],
+    out: &mut UgcFields,
+) -> u32
+    // What is in the grammar is told, and so is the first fault of what is not, unless memory runs out.
+    ensures only { (zs : Seq Place) (d : Expiry) (n : ℕ) → IsUgc text.now zs d n → ReadsUgc (Ok (record { zones = zs; expiry = d; used = n })) result zones.old zones.new out.old out.new }
+    ensures fault_only { (f : UgcFault) → FirstFault text.now f → ReadsUgc (Err f) result zones.old zones.new out.old out.new }
+    // The same as one function of the bytes.
+    ensures exact { ReadsUgc (ugc_of text.now) result zones.old zones.new out.old out.new }
+{
+    let answer = read_ugc(alloc, text);
+    tell_ugc(alloc, answer, zones, out)
+}

@@ -1,0 +1,201 @@
+//! P-VTEC and H-VTEC texts are written from fields.
+ghost use Rattle.std.specs.Prelude.{◌≡◌, ◌⊎◌, Some, IfSome, List as Seq, ℕ};
+ghost use Rattle.hazard_types.specs.declared.line.Flood.{Flood as FloodValues};
+ghost use Rattle.hazard_types.specs.declared.line.Vtec.{Vtec as Values};
+ghost use Rattle.hvtec_string.specs.Columns.{IsHvtec};
+ghost use Rattle.vtec_string.specs.Columns.{IsVtec};
+ghost use Rattle.warn_codes_c.specs.Fields.{vtec_fields, flood_fields};
+ghost use Rattle.warn_codes_c.specs.Writing.{vtec_of, vtec_by, flood_of, flood_by, office_at, location_at, number_at, time_of};
+
+use crate::fields::{FloodFields, VtecFields};
+use crate::status::{BAD_VALUE, OK};
+use hazard_types::{
+    Action, Cause, Class, Flood, Hazard, Minute, Phen, Severity, Sig, Status, Vtec, is_location,
+    is_office, significance_in,
+};
+use hvtec_string::hvtec_text;
+use vtec_string::vtec_text;
+
+/// The time of a number. None where no time has it.
+fn time_of(number: u32) -> Option<Option<Minute>>
+    ensures { result ≡ time_of number }
+{
+    if number == u32::MAX {
+        return Some(None);
+    }
+    match Minute::new(number) {
+        Some(minute) => Some(Some(minute)),
+        None => None,
+    }
+}
+
+fn office_of(office: [u8; 4]) -> Option<[u8; 4]>
+    ensures { result ≡ office_at office }
+{
+    if is_office(&office) {
+        Some(office)
+    } else {
+        None
+    }
+}
+
+fn number_of(number: u16) -> Option<u16>
+    ensures { result ≡ number_at number }
+{
+    if number <= 9999 { Some(number) } else { None }
+}
+
+/// The values, where each field has one.
+fn vtec_by(
+    class: Option<Class>,
+    action: Option<Action>,
+    office: Option<[u8; 4]>,
+    phen: Option<Phen>,
+    sig: Option<Sig>,
+    etn: Option<u16>,
+    begin: Option<Option<Minute>>,
+    end: Option<Option<Minute>>,
+) -> Option<Vtec>
+    ensures { result ≡ vtec_by class action office phen sig etn begin end }
+{
+    Some(Vtec {
+        class: class?,
+        action: action?,
+        office: office?,
+        hazard: Hazard {
+            phen: phen?,
+            sig: sig?,
+        },
+        etn: etn?,
+        begin: begin?,
+        end: end?,
+    })
+}
+
+/// The values that have these fields.
+#[tactic(auto, unfolding(crate::specs::Writing::vtec_of))]
+fn vtec_of(fields: &VtecFields) -> Option<Vtec>
+    ensures { result ≡ vtec_of fields.now }
+{
+    let action = fields.action;
+    vtec_by(
+        Class::at(&[fields.class]),
+        Action::at(&action),
+        office_of(fields.office),
+        Phen::new(fields.phenomenon),
+        significance_in(&[fields.significance]),
+        number_of(fields.number),
+        time_of(fields.begin),
+        time_of(fields.end),
+    )
+}
+
+/// The values, where each field has one.
+fn flood_by(
+    site: Option<[u8; 5]>,
+    severity: Option<Severity>,
+    cause: Option<Cause>,
+    begin: Option<Option<Minute>>,
+    crest: Option<Option<Minute>>,
+    end: Option<Option<Minute>>,
+    status: Option<Status>,
+) -> Option<Flood>
+    ensures { result ≡ flood_by site severity cause begin crest end status }
+{
+    Some(Flood {
+        site: site?,
+        severity: severity?,
+        cause: cause?,
+        begin: begin?,
+        crest: crest?,
+        end: end?,
+        status: status?,
+    })
+}
+
+fn location_of(location: [u8; 5]) -> Option<[u8; 5]>
+    ensures { result ≡ location_at location }
+{
+    if is_location(&location) {
+        Some(location)
+    } else {
+        None
+    }
+}
+
+/// The values that have these fields, and that may be written.
+#[tactic(auto, unfolding(crate::specs::Writing::flood_of))]
+fn flood_of(fields: &FloodFields) -> Option<Flood>
+    ensures { result ≡ flood_of fields.now }
+{
+    let status = fields.record_status;
+    flood_by(
+        location_of(fields.location),
+        Severity::at(&[fields.severity]),
+        Cause::new(fields.cause),
+        time_of(fields.begin),
+        time_of(fields.crest),
+        time_of(fields.end),
+        Status::at(&status),
+    )
+}
+
+/// The text of the values that have these fields, if there is one.
+#[tactic(auto, using(crate::proofs::Fitting::vtec_back, crate::proofs::Fitting::vtec_hit, crate::proofs::Fitting::vtec_may))]
+fn vtec_text_of(fields: &VtecFields) -> Option<[u8; 48]>
+    ensures found { IfSome result (λ bytes. (v : Values) × (vtec_fields v ≡ fields.now) × IsVtec bytes v) }
+    ensures only { (bytes : Seq ℕ) (v : Values) → IsVtec bytes v → vtec_fields v ≡ fields.now → result ≡ Some bytes }
+{
+    match vtec_of(fields) {
+        Some(v) => Some(vtec_text(&v)),
+        None => None,
+    }
+}
+
+/// The text of the values that have these fields, if there is one.
+#[tactic(auto, using(crate::proofs::Fitting::flood_back, crate::proofs::Fitting::flood_hit, crate::proofs::Fitting::flood_may))]
+fn hvtec_text_of(fields: &FloodFields) -> Option<[u8; 54]>
+    ensures found { IfSome result (λ bytes. (h : FloodValues) × (flood_fields h ≡ fields.now) × IsHvtec bytes h) }
+    ensures only { (bytes : Seq ℕ) (h : FloodValues) → IsHvtec bytes h → flood_fields h ≡ fields.now → result ≡ Some bytes }
+{
+    match flood_of(fields) {
+        Some(h) => Some(hvtec_text(&h)),
+        None => None,
+    }
+}
+
+/// Writes the P-VTEC text of these fields.
+#[unsafe(no_mangle)]
+pub extern "C" fn warn_codes_c_write_vtec(fields: &VtecFields, out: &mut [u8; 48]) -> u32
+    // What is written is a text whose values have these fields.
+    ensures found { result ≡ 0 → (v : Values) × (vtec_fields v ≡ fields.now) × IsVtec out.new v }
+    // Where there is such a text it is written.
+    ensures only { (bytes : Seq ℕ) (v : Values) → IsVtec bytes v → vtec_fields v ≡ fields.now → (result ≡ 0) × (out.new ≡ bytes) }
+    ensures refused { (result ≡ 0) ⊎ ((result ≡ 6) × (out.new ≡ out.old)) }
+{
+    match vtec_text_of(fields) {
+        Some(text) => {
+            *out = text;
+            OK
+        }
+        None => BAD_VALUE,
+    }
+}
+
+/// Writes the H-VTEC text of these fields.
+#[unsafe(no_mangle)]
+pub extern "C" fn warn_codes_c_write_hvtec(fields: &FloodFields, out: &mut [u8; 54]) -> u32
+    // What is written is a text whose values have these fields.
+    ensures found { result ≡ 0 → (h : FloodValues) × (flood_fields h ≡ fields.now) × IsHvtec out.new h }
+    // Where there is such a text it is written.
+    ensures only { (bytes : Seq ℕ) (h : FloodValues) → IsHvtec bytes h → flood_fields h ≡ fields.now → (result ≡ 0) × (out.new ≡ bytes) }
+    ensures refused { (result ≡ 0) ⊎ ((result ≡ 6) × (out.new ≡ out.old)) }
+{
+    match hvtec_text_of(fields) {
+        Some(text) => {
+            *out = text;
+            OK
+        }
+        None => BAD_VALUE,
+    }
+}
