@@ -9,6 +9,11 @@ use std::alloc::Global;
 use std::io;
 use std::process::ExitCode;
 
+/// The rows that a line begins: `rows of NAME`.
+pub fn rows_named(line: &str) -> Option<&str> {
+    line.strip_prefix("rows of ")
+}
+
 /// What works the lines of a script, one after another.
 pub trait Work {
     /// Works a line, and gives what it is answered.

@@ -1,3 +1,3 @@
+pub mod DayLemmas
 pub mod Expiries
 pub mod SegmentLemmas
-pub mod DayLemmas

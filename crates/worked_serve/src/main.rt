@@ -1,19 +1,14 @@
-//! Worked serving: a script of calls on links, and what a server over a disk in memory does with them: on one link, over
-//! the doors of a port in memory, and over a port of this machine.
+//! Worked serving, following and turns: a script whose lines `rows of NAME` say what the lines behind them are: calls on links
+//! and what a server does with them, answers on links and what a follower does with them, or threads that take turns.
 #![tactic(auto)]
 
-mod answers;
-mod calls;
-mod gate;
-mod given;
-mod links;
-mod ports;
-mod real;
-mod script;
-mod sweeps;
-mod words;
+mod follow;
+mod serve;
+mod turns;
 
-use crate::script::Script;
+use crate::follow::script::Script as Following;
+use crate::serve::script::Script as Serving;
+use crate::turns::line::answer as turns_answer;
 use hazard_types::Oom;
 use std::io;
 use std::net::{Net, TcpListener, TcpStream};
@@ -21,6 +16,7 @@ use std::process::ExitCode;
 use std::sync::Wait;
 use std::thread::Threads;
 use std::time::Clock;
+use worked_lines::{Work, rows_named};
 
 /// Why a script is not worked to its end.
 #[derive(Debug, Drop)]
@@ -41,8 +37,27 @@ impl From<Oom> for Stop {
     }
 }
 
-/// Works each line of the input, and prints what it is answered. What serves over threads is no trait's method, so the
-/// main that other programs of rows share is of no use here.
+/// What the lines of the script are.
+#[derive(Clone, Copy)]
+enum Rows {
+    Serve,
+    Follow,
+    Turns,
+}
+
+impl Rows {
+    fn of(name: &str) -> Option<Self> {
+        match name {
+            "serve" => Some(Rows::Serve),
+            "follow" => Some(Rows::Follow),
+            "turns" => Some(Rows::Turns),
+            _ => None,
+        }
+    }
+}
+
+/// Works each line of the input, and prints what it is answered; a line that names rows is said again. What serves over
+/// threads is no trait's method, so the main that other programs of rows share is of no use here.
 fn run<
     R: AllocGlobal
         + Input
@@ -55,9 +70,21 @@ fn run<
 >(rt: &R) -> Result<(), Stop> {
     let alloc = rt.alloc();
     let text = io::read_to_string(alloc, rt.reader())?;
-    let mut script = Script::new(rt, alloc);
+    let mut serving = Serving::new(rt, alloc);
+    let mut following = Following::new(rt, alloc);
+    let mut rows = Rows::Serve;
     for line in text.lines() {
-        let answer = script.answer(alloc, line)?;
+        if let Some(named) = rows_named(line).and_then(Rows::of) {
+            rows = named;
+            rt.print(line)?;
+            rt.print("\n")?;
+            continue;
+        }
+        let answer = match rows {
+            Rows::Serve => serving.answer(alloc, line)?,
+            Rows::Follow => following.work(alloc, line)?,
+            Rows::Turns => turns_answer(rt, alloc, line)?,
+        };
         rt.print(answer.as_str())?;
     }
     Ok(())

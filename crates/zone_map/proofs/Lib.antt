@@ -1,2 +1,3 @@
 mod Seated
 mod Searched
+pub mod Coded

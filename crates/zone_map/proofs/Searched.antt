@@ -12,7 +12,7 @@ use Rattle.std.proofs.lemmas.Bool.Decides.{nat_tests}
 use Rattle.std.proofs.lemmas.List.{take_more}
 use Rattle.hazard_types.specs.Places.{Place, by_place}
 use Rattle.hazard_types.proofs.OrderLaws.{by_place_total}
-use Rattle.zone_map.specs.Rising.{stands_at}
+use Rattle.zone_map.specs.Rising.{stands_at, is_seat}
 use Rattle.zone_map.proofs.Seated.{IsBehind, put_behind}
 
 -- along an order, what is before comes no later than what is behind
@@ -79,6 +79,17 @@ module _ {V : Type 0} where
   missed z es i up parted =
       let p = parted (λ a b d le lt. rising z es a b d up le lt) in
       no_tie z es (λ k d lt. ⊎_elim (λ (low : nat_lt k i ≡ true). ap is_eq (p.0 k d (omega arith) (lower k i low))) (λ (high : nat_lt k i ≡ false). ap is_eq (p.1 k d (no_lower k i high) lt)) (cases_Bool (nat_lt k i)))
+
+  seat_of_parts : (z : Place) (es : List (Place × V)) (i : ℕ) → i ≤ length es → ((k : ℕ) (d : Place × V) → k < i → by_place (get_or es k d).0 z ≡ Less) → ((k : ℕ) (d : Place × V) → i ≤ k → k < length es → by_place (get_or es k d).0 z ≡ Greater) → is_seat es i z ≡ true
+  seat_of_parts z [] zero le low high = refl
+  seat_of_parts z [] (suc i) le low high = absurd (omega arith)
+  seat_of_parts z (e ∷ es) zero le low high = rw (high 0 e (omega arith) (omega arith)) refl
+  seat_of_parts z (e ∷ es) (suc i) le low high = rw (low 0 e (omega arith)) (seat_of_parts z es i (omega arith) (λ k d lt. low (suc k) d (omega arith)) (λ k d at lt. high (suc k) d (omega arith) (omega arith)))
+
+  pub seat_missed : (z : Place) (es : List (Place × V)) (i : ℕ) → IsStrictlySortedBy by_place (keys_of es) → i ≤ length es → IsBinarySearchResult (λ (e : Place × V). by_place e.0 z) es (Err i) → is_seat es i z ≡ true
+  seat_missed z es i up le parted =
+      let p = parted (λ a b d le lt. rising z es a b d up le lt) in
+      seat_of_parts z es i le (λ k d lt. p.0 k d (omega arith) lt) (λ k d at lt. p.1 k d at lt)
 
   -- entries in order, one after another
 

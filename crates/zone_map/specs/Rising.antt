@@ -1,5 +1,5 @@
 -- Entries in a list, in order by zone.
-use Rattle.std.specs.Prelude.{◌-◌, ℕ, Bool, true, false, List, length, slice_get, Option, Some, None}
+use Rattle.std.specs.Prelude.{◌-◌, ◌&&◌, ℕ, zero, suc, Bool, true, false, not, List, [], ◌∷◌, length, slice_get, Option, Some, None}
 use Rattle.std.specs.BTreeMap.{is_at}
 use Rattle.std.specs.Ordering.{is_lt}
 use Rattle.hazard_types.specs.Places.{Place, by_place}
@@ -21,10 +21,9 @@ module _ {V : Type 0} where
   abbrev pub is_behind : List (Place × V) → Place → Bool
   is_behind es z = is_behind_last (slice_get es (length es - 1)) z
 
-  abbrev pub is_seat_by : Option (Place × V) → List (Place × V) → Place → Bool
-  is_seat_by None es z = is_behind es z
-  is_seat_by (Some e) es z = is_at (by_place z) e.0
-
-  -- a zone stands at a place, or the place is behind the last and so is the zone
+  -- the zone is behind those before a place, and not behind the one there, if there is one
   abbrev pub is_seat : List (Place × V) → ℕ → Place → Bool
-  is_seat es place z = is_seat_by (slice_get es place) es z
+  is_seat [] zero z = true
+  is_seat [] (suc i) z = false
+  is_seat (e ∷ es) zero z = not (is_lt (by_place e.0 z))
+  is_seat (e ∷ es) (suc i) z = is_lt (by_place e.0 z) && is_seat es i z

@@ -2,11 +2,12 @@
 ghost use Rattle.std.specs.Prelude.{◌≡◌, [], None, option_map, slice_get, IfOk, OnOk};
 ghost use Rattle.std.specs.BTreeMap.{insert_entry, is_at};
 ghost use Rattle.std.specs.List.Sorted.{IsStrictlySortedBy};
-ghost use Rattle.std.specs.Map.{keys_of, lookup, values_of};
+ghost use Rattle.std.specs.Map.{keys_of, lookup};
 ghost use Rattle.hazard_types.specs.Places.{by_place};
 ghost use Rattle.zone_map.specs.Kept.{kept_in, AreKept};
 
-use crate::rising::{seat_of, set_at, value_near, values_in};
+use crate::code::ZoneCode;
+use crate::rising::{has_room, seat_of, set_at, value_near};
 use hazard_types::{List, Oom, Zone};
 use std::alloc::Global;
 use std::collections::BTreeMap;
@@ -14,13 +15,13 @@ use std::marker::Model;
 
 /// A value at each of some zones.
 ///
-/// They stand in a list while each new zone is behind the last. From the first one that is not,
-/// they stand in a tree.
+/// They stand in a list while few stand behind the place of each new zone. From the first new zone
+/// behind whose place more stand, they stand in a tree.
 #[derive(Drop)]
 pub struct ZoneMap<V> {
-    rising: Option<Vec<(Zone, V)>>,
+    rising: Option<Vec<(ZoneCode, V)>>,
     near: usize,
-    others: BTreeMap<Zone, V>,
+    others: BTreeMap<ZoneCode, V>,
 }
 
 impl<V> Model for ZoneMap<V> {
@@ -37,8 +38,8 @@ impl<V> Model for ZoneMap<V> {
 
 /// Sets the value of a zone in a tree. `before` becomes the one that was there.
 fn set_among<V: Copy>(
-    others: &mut BTreeMap<Zone, V>,
-    zone: Zone,
+    others: &mut BTreeMap<ZoneCode, V>,
+    zone: ZoneCode,
     value: V,
     before: &mut Option<V>,
 ) -> Result<(), Oom>
@@ -51,7 +52,10 @@ fn set_among<V: Copy>(
 }
 
 /// Entries in order come into a tree that has none.
-fn insert_all<V: Copy>(others: &mut BTreeMap<Zone, V>, list: &[(Zone, V)]) -> Result<(), Oom>
+fn insert_all<V: Copy>(
+    others: &mut BTreeMap<ZoneCode, V>,
+    list: &[(ZoneCode, V)],
+) -> Result<(), Oom>
     requires sorted { IsStrictlySortedBy by_place (keys_of list.now) }
     requires empty { others.old.entries ≡ [] }
     ensures all { OnOk result (others.new.entries ≡ list.now) }
@@ -66,8 +70,8 @@ fn insert_all<V: Copy>(others: &mut BTreeMap<Zone, V>, list: &[(Zone, V)]) -> Re
 
 /// The entries that rose, if there are any, come into the tree.
 fn settle<V: Copy>(
-    rising: &mut Option<Vec<(Zone, V)>>,
-    others: &mut BTreeMap<Zone, V>,
+    rising: &mut Option<Vec<(ZoneCode, V)>>,
+    others: &mut BTreeMap<ZoneCode, V>,
 ) -> Result<(), Oom>
     requires { AreKept rising.old others.old.entries }
     ensures none { rising.new ≡ None }
@@ -80,19 +84,30 @@ fn settle<V: Copy>(
     }
 }
 
+/// The entries of a list.
+fn entries_in<V: Copy>(alloc: Global, list: &[(ZoneCode, V)]) -> Result<List<(Zone, V)>, Oom>
+    ensures { IfOk result (λ entries. entries ≡ list.now) }
+{
+    let mut entries = Vec::with_capacity(alloc, list.len())?;
+    for entry in list {
+        entries.push((entry.0.zone(), entry.1))?;
+    }
+    Ok(List::from_vec(entries))
+}
+
 /// The entries of a tree in order.
-fn listed<V: Copy>(alloc: Global, others: &BTreeMap<Zone, V>) -> Result<List<(Zone, V)>, Oom>
+fn listed<V: Copy>(alloc: Global, others: &BTreeMap<ZoneCode, V>) -> Result<List<(Zone, V)>, Oom>
     ensures { IfOk result (λ list. list ≡ others.now.entries) }
 {
-    let mut list = Vec::new(alloc);
+    let mut list = Vec::with_capacity(alloc, others.len())?;
     for (zone, value) in others {
-        list.push((*zone, *value))?;
+        list.push((zone.zone(), *value))?;
     }
     Ok(List::from_vec(list))
 }
 
 /// The value of the first zone of a tree.
-fn first_among<V: Copy>(others: &BTreeMap<Zone, V>) -> Option<V>
+fn first_among<V: Copy>(others: &BTreeMap<ZoneCode, V>) -> Option<V>
     ensures { result ≡ option_map (λ e. e.1) (slice_get others.now.entries 0) }
 {
     match others.first_key_value() {
@@ -118,9 +133,10 @@ impl<V: Copy> ZoneMap<V> {
         ensures value { result ≡ lookup (is_at (by_place zone.now)) self.now }
         ensures order { IsStrictlySortedBy by_place (keys_of self.now) }
     {
+        let code = ZoneCode::new(zone);
         match &self.rising {
-            Some(list) => value_near(list, near, zone),
-            None => self.others.get(zone).copied(),
+            Some(list) => value_near(list, near, &code),
+            None => self.others.get(&code).copied(),
         }
     }
 
@@ -129,14 +145,16 @@ impl<V: Copy> ZoneMap<V> {
         ensures set { OnOk result (self.new ≡ insert_entry by_place self.old zone value) }
         ensures before { OnOk result (before.new ≡ lookup (is_at (by_place zone)) self.old) }
     {
+        let code = ZoneCode::new(&zone);
         if let Some(list) = &mut self.rising {
-            if let Some(seat) = seat_of(list, self.near, &zone) {
+            let seat = seat_of(list, self.near, &code);
+            if has_room(list, seat, &code) {
                 self.near = seat.saturating_add(1);
-                return set_at(list, seat, &zone, value, before);
+                return set_at(list, seat, &code, value, before);
             }
         }
         settle(&mut self.rising, &mut self.others)?;
-        set_among(&mut self.others, zone, value, before)
+        set_among(&mut self.others, code, value, before)
     }
 
     /// The value at the first zone.
@@ -155,18 +173,8 @@ impl<V: Copy> ZoneMap<V> {
         ensures order { IsStrictlySortedBy by_place (keys_of self.now) }
     {
         match &self.rising {
-            Some(list) => Ok(List::from_vec(Vec::from_slice(alloc, list)?)),
+            Some(list) => entries_in(alloc, list),
             None => listed(alloc, &self.others),
-        }
-    }
-
-    /// The values in the order of their zones.
-    pub fn values(&self, alloc: Global) -> Result<Vec<V>, Oom>
-        ensures { IfOk result (λ values. values.items ≡ values_of self.now) }
-    {
-        match &self.rising {
-            Some(list) => values_in(alloc, list),
-            None => Ok(self.others.values().copied().collect(alloc)?),
         }
     }
 

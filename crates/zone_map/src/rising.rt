@@ -1,16 +1,19 @@
 //! Entries in a list, in order by zone.
-ghost use Rattle.std.specs.Prelude.{◌≡◌, ◌<◌, true, length, IfOk, IfSome, MatchOption, OnOk};
+ghost use Rattle.std.specs.Prelude.{◌≡◌, ◌≤◌, true, length, None, MatchOption, OnOk};
 ghost use Rattle.std.specs.BTreeMap.{insert_entry, is_at};
 ghost use Rattle.std.specs.List.Sorted.{IsStrictlySortedBy};
-ghost use Rattle.std.specs.Map.{keys_of, lookup, values_of};
+ghost use Rattle.std.specs.Map.{keys_of, lookup};
 ghost use Rattle.hazard_types.specs.Places.{by_place};
 ghost use Rattle.zone_map.specs.Rising.{is_behind, is_seat, stands_at};
 
-use hazard_types::{Oom, Zone};
-use std::alloc::Global;
+use crate::code::ZoneCode;
+use hazard_types::Oom;
+
+/// So many entries are moved for one that comes before them.
+const FEW: usize = 64;
 
 /// Whether a zone stands at a place.
-fn stands_at<V: Copy>(list: &[(Zone, V)], place: usize, zone: &Zone) -> bool
+fn stands_at<V: Copy>(list: &[(ZoneCode, V)], place: usize, zone: &ZoneCode) -> bool
     ensures { result ≡ stands_at list.now place zone.now }
 {
     match list.get(place) {
@@ -20,7 +23,7 @@ fn stands_at<V: Copy>(list: &[(Zone, V)], place: usize, zone: &Zone) -> bool
 }
 
 /// The place of a zone, where it stands in the list. `near` is a guess.
-fn place_of<V: Copy>(list: &[(Zone, V)], near: usize, zone: &Zone) -> Option<usize>
+fn place_of<V: Copy>(list: &[(ZoneCode, V)], near: usize, zone: &ZoneCode) -> Option<usize>
     requires { IsStrictlySortedBy by_place (keys_of list.now) }
     ensures { MatchOption result (lookup (is_at (by_place zone.now)) list.now ≡ None) (λ place. stands_at list.now place zone.now ≡ true) }
 {
@@ -34,7 +37,7 @@ fn place_of<V: Copy>(list: &[(Zone, V)], near: usize, zone: &Zone) -> Option<usi
 }
 
 /// The value of a zone, where it stands in the list. `near` is a guess, and becomes the place behind the one found.
-pub fn value_near<V: Copy>(list: &[(Zone, V)], near: &mut usize, zone: &Zone) -> Option<V>
+pub fn value_near<V: Copy>(list: &[(ZoneCode, V)], near: &mut usize, zone: &ZoneCode) -> Option<V>
     requires { IsStrictlySortedBy by_place (keys_of list.now) }
     ensures { result ≡ lookup (is_at (by_place zone.now)) list.now }
 {
@@ -48,7 +51,7 @@ pub fn value_near<V: Copy>(list: &[(Zone, V)], near: &mut usize, zone: &Zone) ->
 }
 
 /// Whether a zone is behind the last of these.
-fn is_behind<V: Copy>(list: &[(Zone, V)], zone: &Zone) -> bool
+fn is_behind<V: Copy>(list: &[(ZoneCode, V)], zone: &ZoneCode) -> bool
     ensures { result ≡ is_behind list.now zone.now }
 {
     match list.last() {
@@ -57,51 +60,52 @@ fn is_behind<V: Copy>(list: &[(Zone, V)], zone: &Zone) -> bool
     }
 }
 
-/// The place where a zone stands, or the one behind the last, where it is behind them all. `near` is a guess.
-pub fn seat_of<V: Copy>(list: &[(Zone, V)], near: usize, zone: &Zone) -> Option<usize>
+/// The place where a zone stands, or where it is to come. `near` is a guess.
+pub fn seat_of<V: Copy>(list: &[(ZoneCode, V)], near: usize, zone: &ZoneCode) -> usize
     requires { IsStrictlySortedBy by_place (keys_of list.now) }
-    ensures { IfSome result (λ seat. is_seat list.now seat zone.now ≡ true) }
+    ensures seat { is_seat list.now result zone.now ≡ true }
+    ensures within { result ≤ length list.now }
 {
     if stands_at(list, near, zone) {
-        return Some(near);
+        return near;
     }
     if is_behind(list, zone) {
-        return Some(list.len());
+        return list.len();
     }
-    place_of(list, near, zone)
+    match list.binary_search_by_key(zone, |entry| entry.0) {
+        Ok(place) => place,
+        Err(place) => place,
+    }
+}
+
+/// Whether a zone stands at its seat, or few of the others stand behind it.
+pub fn has_room<V: Copy>(list: &[(ZoneCode, V)], seat: usize, zone: &ZoneCode) -> bool
+    requires { seat ≤ length list.now }
+{
+    list.len() - seat <= FEW || stands_at(list, seat, zone)
 }
 
 /// Sets the value of a zone at its seat. `before` becomes the one that was there.
 pub fn set_at<V: Copy>(
-    list: &mut Vec<(Zone, V)>,
+    list: &mut Vec<(ZoneCode, V)>,
     seat: usize,
-    zone: &Zone,
+    zone: &ZoneCode,
     value: V,
     before: &mut Option<V>,
 ) -> Result<(), Oom>
     requires sorted { IsStrictlySortedBy by_place (keys_of list.old.items) }
     requires seat { is_seat list.old.items seat zone.now ≡ true }
+    requires within { seat ≤ length list.old.items }
     ensures set { OnOk result (list.new.items ≡ insert_entry by_place list.old.items zone.now value) }
     ensures before { OnOk result (before.new ≡ lookup (is_at (by_place zone.now)) list.old.items) }
     ensures sorted { IsStrictlySortedBy by_place (keys_of list.new.items) }
 {
-    if seat < list.len() {
+    if stands_at(list, seat, zone) {
         *before = Some(list[seat].1);
         list[seat] = (*zone, value);
         return Ok(());
     }
     *before = None;
-    list.push((*zone, value))?;
+    list.insert(seat, (*zone, value))?;
     Ok(())
-}
-
-/// The values of a list.
-pub fn values_in<V: Copy>(alloc: Global, list: &[(Zone, V)]) -> Result<Vec<V>, Oom>
-    ensures { IfOk result (λ values. values.items ≡ values_of list.now) }
-{
-    let mut values = Vec::with_capacity(alloc, list.len())?;
-    for entry in list {
-        values.push(entry.1)?;
-    }
-    Ok(values)
 }

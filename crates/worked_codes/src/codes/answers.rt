@@ -1,0 +1,192 @@
+//! Lines and their answers.
+use crate::codes::clocks::{day_answer, line_answer, read_answer, short_answer};
+use crate::codes::values::{push_flood, push_flood_text, push_vtec, push_vtec_text, text_of};
+use hazard_types::{List, Oom, Or, Text, zone_text};
+use hvtec_string::read_hvtec;
+use product_frame::{Frame, FrameFault, FrameSegment, Pair, read_frame, split_products};
+use std::alloc::{AllocError, Global};
+use ugc_codes::{UgcFault, read_ugc, write_ugc};
+use vtec_string::read_vtec;
+use worked_lines::Work;
+
+/// What a P-VTEC text says, and the same written again.
+fn vtec_answer(alloc: Global, text: &str) -> Result<String, AllocError> {
+    let mut out = String::new(alloc);
+    match read_vtec(text.as_bytes()) {
+        Some(v) => {
+            push_vtec(&mut out, &v)?;
+            push_vtec_text(&mut out, &v)?;
+        }
+        None => out.push_str("no P-VTEC text\n")?,
+    }
+    Ok(out)
+}
+
+/// What an H-VTEC text says, and the same written again.
+fn hvtec_answer(alloc: Global, text: &str) -> Result<String, AllocError> {
+    let mut out = String::new(alloc);
+    match read_hvtec(text.as_bytes()) {
+        Some(h) => {
+            push_flood(&mut out, &h)?;
+            push_flood_text(&mut out, &h)?;
+        }
+        None => out.push_str("no H-VTEC text\n")?,
+    }
+    Ok(out)
+}
+
+/// The bytes of a text in which `\n` stands for LF and `\r` for CR.
+fn bytes_of(alloc: Global, text: &str) -> Result<Text, Oom> {
+    let mut out = List::new(alloc);
+    let mut marked = false;
+    for byte in text.as_bytes() {
+        let byte = *byte;
+        if marked {
+            out.push(match byte {
+                b'n' => b'\n',
+                b'r' => b'\r',
+                other => other,
+            })?;
+            marked = false;
+        } else if byte == b'\\' {
+            marked = true;
+        } else {
+            out.push(byte)?;
+        }
+    }
+    Ok(out)
+}
+
+/// What a UGC text says, with the bytes that it takes, and the zones and expiry written again.
+fn ugc_answer(alloc: Global, text: &str) -> Result<String, Oom> {
+    let bytes = bytes_of(alloc, text)?;
+    let mut out = String::new(alloc);
+    match read_ugc(alloc, bytes.as_slice()) {
+        Ok(read) => {
+            let used = read.used;
+            write!(&mut out, "used {used}")?;
+            for zone in read.zones.as_slice() {
+                let zone = zone_text(zone);
+                let zone = text_of(&zone);
+                write!(&mut out, " {zone}")?;
+            }
+            let again = write_ugc(alloc, &read.zones, read.expiry)?;
+            let again = text_of(again.as_slice());
+            writeln!(&mut out, "\n{again}")?;
+        }
+        Err(Or::No(UgcFault::NotACode { at })) => writeln!(&mut out, "NotACode {at}")?,
+        Err(Or::No(UgcFault::BadRange { at })) => writeln!(&mut out, "BadRange {at}")?,
+        Err(Or::No(UgcFault::CutShort)) => out.push_str("CutShort\n")?,
+        Err(Or::OutOfMemory) => return Err(Oom),
+    }
+    Ok(out)
+}
+
+/// The texts of a pair, a line each.
+fn push_pair(out: &mut String, pair: &Pair) -> Result<(), AllocError> {
+    push_vtec_text(out, &pair.vtec)?;
+    match &pair.flood {
+        Some(flood) => push_flood_text(out, flood),
+        None => Ok(()),
+    }
+}
+
+/// A segment's expiry and zones, on a line, and its pairs.
+fn push_segment(out: &mut String, segment: &FrameSegment) -> Result<(), AllocError> {
+    let day = segment.expiry.day;
+    let hour = segment.expiry.hour;
+    let minute = segment.expiry.minute;
+    write!(out, "segment {day} {hour} {minute}")?;
+    for zone in segment.zones.as_slice() {
+        let zone = zone_text(zone);
+        let zone = text_of(&zone);
+        write!(out, " {zone}")?;
+    }
+    out.push('\n')?;
+    for pair in segment.pairs.as_slice() {
+        push_pair(out, pair)?;
+    }
+    Ok(())
+}
+
+/// A frame's heading, identifier and issue minute, on a line, and its segments.
+fn push_frame(out: &mut String, frame: &Frame) -> Result<(), AllocError> {
+    let ttaaii = text_of(&frame.heading.ttaaii);
+    let office = text_of(&frame.heading.office);
+    let day = frame.heading.day.day;
+    let hour = frame.heading.day.hour;
+    let minute = frame.heading.day.minute;
+    let letters = frame.heading.bbb.unwrap_or(*b" - ");
+    let letters = text_of(&letters).trim();
+    let identifier = text_of(frame.identifier.as_slice());
+    let issue = frame.issue.get();
+    writeln!(
+        out,
+        "frame {ttaaii} {office} {day} {hour} {minute} {letters} {identifier} {issue}"
+    )?;
+    for segment in frame.segments.as_slice() {
+        push_segment(out, segment)?;
+    }
+    Ok(())
+}
+
+fn push_fault(out: &mut String, fault: FrameFault) -> Result<(), AllocError> {
+    match fault {
+        FrameFault::NoHeading => out.push_str("fault NoHeading\n"),
+        FrameFault::NoIdentifier => out.push_str("fault NoIdentifier\n"),
+        FrameFault::NoIssueTime => out.push_str("fault NoIssueTime\n"),
+        FrameFault::IssueDisagrees => out.push_str("fault IssueDisagrees\n"),
+        FrameFault::NoSegmentEnd { line } => writeln!(out, "fault NoSegmentEnd {line}"),
+        FrameFault::BadUgc { line } => writeln!(out, "fault BadUgc {line}"),
+        FrameFault::BadVtec { line } => writeln!(out, "fault BadVtec {line}"),
+    }
+}
+
+/// The frame of a text, or its first fault.
+fn frame_answer(alloc: Global, text: &str) -> Result<String, Oom> {
+    let bytes = bytes_of(alloc, text)?;
+    let mut out = String::new(alloc);
+    match read_frame(alloc, bytes.as_slice()) {
+        Ok(frame) => push_frame(&mut out, &frame)?,
+        Err(Or::No(fault)) => push_fault(&mut out, fault)?,
+        Err(Or::OutOfMemory) => return Err(Oom),
+    }
+    Ok(out)
+}
+
+/// Where the products of a text stand.
+fn split_answer(alloc: Global, text: &str) -> Result<String, Oom> {
+    let bytes = bytes_of(alloc, text)?;
+    let spans = split_products(alloc, bytes.as_slice())?;
+    let mut out = String::from_str(alloc, "products")?;
+    for span in spans.as_slice() {
+        let from = span.from;
+        let to = span.to;
+        write!(out, " {from}-{to}")?;
+    }
+    out.push('\n')?;
+    Ok(out)
+}
+
+/// The readers of codes and frames, which keep nothing from one line to the next.
+#[derive(Drop)]
+pub struct Codes;
+
+impl Work for Codes {
+    /// What the reader that a line names takes from the line's text.
+    fn work(&mut self, alloc: Global, line: &str) -> Result<String, Oom> {
+        let (reader, text) = line.split_once(' ').unwrap_or((line, ""));
+        match reader {
+            "vtec" => Ok(vtec_answer(alloc, text)?),
+            "hvtec" => Ok(hvtec_answer(alloc, text)?),
+            "ugc" => ugc_answer(alloc, text),
+            "line" => line_answer(alloc, text),
+            "short" => short_answer(alloc, text),
+            "read" => Ok(read_answer(alloc, text)?),
+            "day" => Ok(day_answer(alloc, text)?),
+            "frame" => frame_answer(alloc, text),
+            "split" => split_answer(alloc, text),
+            _ => Ok(String::from_str(alloc, "no reader\n")?),
+        }
+    }
+}

@@ -1,0 +1,108 @@
+//! The lines of a script.
+use crate::requests::bytes::{bytes_of, nested};
+use crate::requests::replies::{draft_with, reply_named};
+use hazard_types::{Desk, List, Minute, Oom, Or, Request, Text};
+use request_json::{
+    Asked, disk_fault_text, draft_text, out_of_memory_text, read_request, read_training_issue,
+    refusal_text, reply_text, request_text,
+};
+use std::alloc::Global;
+use worked_lines::{Work, refusal_named};
+
+/// The canonical text of a request, or the text of its refusal.
+fn read(alloc: Global, bytes: &[u8]) -> Result<Text, Oom> {
+    match read_request(alloc, bytes) {
+        Ok(asked) => request_text(alloc, &asked),
+        Err(Or::No(refusal)) => refusal_text(alloc, &refusal),
+        Err(Or::OutOfMemory) => Err(Oom),
+    }
+}
+
+/// A training line's canonical text as an issue of a desk, or the text of its refusal.
+fn train(alloc: Global, bytes: &[u8]) -> Result<Text, Oom> {
+    match read_training_issue(alloc, bytes) {
+        Ok(part) => match Desk::new(b"A") {
+            Some(desk) => {
+                let asked = Asked {
+                    desk,
+                    seq: 1,
+                    request: Request::Issue(part),
+                };
+                request_text(alloc, &asked)
+            }
+            None => Ok(List::new(alloc)),
+        },
+        Err(Or::No(refusal)) => refusal_text(alloc, &refusal),
+        Err(Or::OutOfMemory) => Err(Oom),
+    }
+}
+
+/// The text of a draft into which a request was put.
+fn draft(alloc: Global, bytes: &[u8]) -> Result<Text, Oom> {
+    match read_request(alloc, bytes) {
+        Ok(asked) => {
+            let Some(touched) = Minute::new(9_471_810) else {
+                return Ok(List::new(alloc));
+            };
+            let draft = draft_with(alloc, asked.desk, touched, asked.request)?;
+            draft_text(alloc, &draft)
+        }
+        Err(Or::No(refusal)) => refusal_text(alloc, &refusal),
+        Err(Or::OutOfMemory) => Err(Oom),
+    }
+}
+
+fn refused(alloc: Global, name: &str) -> Result<Text, Oom> {
+    match refusal_named(alloc, name)? {
+        Some(refusal) => refusal_text(alloc, &refusal),
+        None => Ok(List::new(alloc)),
+    }
+}
+
+fn replied(alloc: Global, name: &str) -> Result<Text, Oom> {
+    match reply_named(alloc, name)? {
+        Some(reply) => reply_text(alloc, &reply),
+        None => Ok(List::new(alloc)),
+    }
+}
+
+/// What comes of a line; a line that is none of these is given back.
+fn answer(alloc: Global, line: &str) -> Result<Text, Oom> {
+    match line.split_once(' ') {
+        Some(("read", text)) => {
+            let bytes = bytes_of(alloc, text)?;
+            read(alloc, bytes.as_slice())
+        }
+        Some(("training", text)) => {
+            let bytes = bytes_of(alloc, text)?;
+            train(alloc, bytes.as_slice())
+        }
+        Some(("draft", text)) => {
+            let bytes = bytes_of(alloc, text)?;
+            draft(alloc, bytes.as_slice())
+        }
+        Some(("depth", text)) => {
+            let bytes = nested(alloc, text.parse::<u8>().unwrap_or(0))?;
+            read(alloc, bytes.as_slice())
+        }
+        Some(("refusal", name)) => refused(alloc, name),
+        Some(("reply", name)) => replied(alloc, name),
+        Some(("fault", "disk")) => List::from_slice(alloc, disk_fault_text()),
+        Some(("fault", "memory")) => List::from_slice(alloc, out_of_memory_text()),
+        _ => List::from_slice(alloc, line.as_bytes()),
+    }
+}
+
+/// The script, of which nothing is kept from one line to the next.
+#[derive(Drop)]
+pub struct Script;
+
+impl Work for Script {
+    /// What comes of a line, as a line.
+    fn work(&mut self, alloc: Global, line: &str) -> Result<String, Oom> {
+        let text = answer(alloc, line)?;
+        let mut shown = String::from_utf8_lossy(alloc, text.as_slice())?;
+        shown.push('\n')?;
+        Ok(shown)
+    }
+}

@@ -1,0 +1,106 @@
+//! What a line of the script is answered.
+use crate::texts::lines::{Said, read_line};
+use crate::texts::products::product_answer;
+use crate::texts::settings::{
+    desk_answer, filled, heading_answer, settings_answer, training_answer, unescaped, with_zones,
+    zone_answer,
+};
+use hazard_types::desk_hazards::name_of;
+use hazard_types::{Action, End, Oom, Text};
+use headline_text::{headline, name_lines, when_bullet, wrapped};
+use std::alloc::Global;
+use std::str;
+use worked_lines::Work;
+
+/// The answer to a line that is none of the script's.
+const UNREAD: &str = "unread";
+
+/// Bytes as text, where they are.
+pub fn text_of(bytes: &[u8]) -> &str {
+    str::from_utf8(bytes).unwrap_or("?")
+}
+
+/// What stands before the first blank, and what stands after it.
+pub fn parted(line: &str) -> (&str, &str) {
+    match line.split_once(' ') {
+        Some((front, rest)) => (front, rest),
+        None => (line, ""),
+    }
+}
+
+/// The headline of a line, where it has a name, and an end if it expires.
+fn headline_answer(alloc: Global, said: &Said) -> Result<Option<Text>, Oom> {
+    let hazard = said.line.event.hazard;
+    if name_of(hazard).is_none() {
+        return Ok(None);
+    }
+    if said.line.action == Action::Exp && said.line.end == End::Ufn {
+        return Ok(None);
+    }
+    let text = headline(alloc, &said.line, said.zone, said.t)?;
+    Ok(Some(text))
+}
+
+fn names_answer(alloc: Global, rest: &str) -> Result<Text, Oom> {
+    let mut names = Vec::new(alloc);
+    for name in rest.split(',') {
+        names.push(name.as_bytes())?;
+    }
+    name_lines(alloc, names.as_slice())
+}
+
+/// Adds the answer to a line of texts.
+fn push_text(out: &mut String, alloc: Global, command: &str, rest: &str) -> Result<(), Oom> {
+    let text = match command {
+        "wrap" => Some(wrapped(alloc, rest.as_bytes())?),
+        "names" => Some(names_answer(alloc, rest)?),
+        "headline" => match read_line(rest) {
+            Some(said) => headline_answer(alloc, &said)?,
+            None => None,
+        },
+        "when" => match read_line(rest) {
+            Some(said) => Some(when_bullet(alloc, &said.line, said.zone, said.t)?),
+            None => None,
+        },
+        _ => None,
+    };
+    match text {
+        Some(text) => out.push_str(text_of(text.as_slice()))?,
+        None => out.push_str(UNREAD)?,
+    }
+    Ok(())
+}
+
+/// Adds the answer to a line of settings.
+fn push_settings(out: &mut String, alloc: Global, command: &str, rest: &str) -> Result<bool, Oom> {
+    let (word, more) = parted(rest);
+    match command {
+        "settings" => settings_answer(out, alloc, unescaped(alloc, rest)?.as_str())?,
+        "filled" => settings_answer(out, alloc, filled(alloc, word, more)?.as_str())?,
+        "zones" => settings_answer(out, alloc, with_zones(alloc, word, more)?.as_str())?,
+        "zone" => zone_answer(out, alloc, word, unescaped(alloc, more)?.as_str())?,
+        "desk" => desk_answer(out, alloc, word, unescaped(alloc, more)?.as_str())?,
+        "heading" => heading_answer(out, alloc, word, unescaped(alloc, more)?.as_str())?,
+        "training" => training_answer(out, alloc, word)?,
+        "product" => product_answer(out, alloc, rest)?,
+        _ => return Ok(false),
+    }
+    Ok(true)
+}
+
+/// The writers of texts, which keep nothing from one line to the next.
+#[derive(Drop)]
+pub struct Texts;
+
+impl Work for Texts {
+    /// The answer to a line, with LF behind it.
+    fn work(&mut self, alloc: Global, line: &str) -> Result<String, Oom> {
+        let mut out = String::new(alloc);
+        let (command, rest) = parted(line);
+        if !push_settings(&mut out, alloc, command, rest)? {
+            push_text(&mut out, alloc, command, rest)?;
+        }
+        out.push('\n')?;
+        Ok(out)
+    }
+}

@@ -1,0 +1,160 @@
+//! Plans of one segment with one line, and whether they can be texts.
+ghost use Rattle.std.specs.Prelude.{◌≡◌, ◌≤◌, IsTrue, IsSome, IfOk, false, is_some};
+ghost use Rattle.std.specs.List.{All, list_all};
+ghost use Rattle.std.specs.List.Sorted.{IsStrictlySortedBy};
+ghost use Rattle.std.specs.Map.{keys_of};
+ghost use Rattle.hazard_types.specs.Characters.{is_printable};
+ghost use Rattle.hazard_types.specs.Places.{by_place};
+ghost use Rattle.hazard_types.specs.declared.codes.Action.TheVariants as action;
+ghost use Rattle.desk_settings.specs.Looking.{name_beside};
+ghost use Rattle.headline_text.specs.Headlines.{is_minute};
+ghost use Rattle.product_frame.specs.LineRules.{HasLocation};
+ghost use Rattle.product_template.specs.Bodies.{is_training};
+ghost use Rattle.product_template.specs.Conditions.{CanBeSaid, IsLetter};
+ghost use Rattle.worked_codes.specs.Plans.{plan_of, Fits};
+
+use desk_settings::Settings;
+use hazard_types::desk_hazards::facts;
+use hazard_types::{
+    Action, Category, Class, End, EventTexts, Flood, List, Minute, Oom, Plan, SegLine, Segment,
+    Texts, Zone, is_location, is_printable,
+};
+use std::alloc::Global;
+
+fn has_location(flood: &Option<Flood>) -> bool
+    ensures { IsTrue result → HasLocation flood.now }
+{
+    match flood {
+        Some(flood) => is_location(&flood.site),
+        None => true,
+    }
+}
+
+/// Whether the end of a line that expires is a minute.
+fn has_expiry(line: &SegLine) -> bool
+    ensures { IsTrue result → line.now.action ≡ action.Exp → IsTrue (is_minute line.now.end) }
+{
+    match line.end {
+        End::At(_end) => true,
+        End::Ufn => !matches!(line.action, Action::Exp),
+    }
+}
+
+fn is_sayable(line: &SegLine) -> bool
+    ensures { IsTrue result → CanBeSaid line.now }
+{
+    let known = facts(line.event.hazard).is_some();
+    let placed = has_location(&line.flood);
+    let ending = has_expiry(line);
+    known && placed && ending && line.event.etn <= 9999
+}
+
+fn has_name(settings: &Settings, zone: &Zone) -> bool
+    requires { IsStrictlySortedBy by_place (keys_of settings.now.zones) }
+    ensures { result ≡ is_some (name_beside settings.now.zones zone.now) }
+{
+    settings.zone_name(zone).is_some()
+}
+
+/// Whether each zone has a name.
+fn have_names(settings: &Settings, zones: &[Zone]) -> bool
+    requires { IsStrictlySortedBy by_place (keys_of settings.now.zones) }
+    ensures { result ≡ list_all (λ z. is_some (name_beside settings.now.zones z)) zones.now }
+{
+    for zone in zones {
+        if !has_name(settings, zone) {
+            return false;
+        }
+    }
+    true
+}
+
+/// Whether each zone has a name, or none is written.
+#[tactic(auto, using(crate::proofs::Fitting::all_some))]
+fn are_named(settings: &Settings, class: Class, zones: &[Zone]) -> bool
+    requires { IsStrictlySortedBy by_place (keys_of settings.now.zones) }
+    ensures { IsTrue result → is_training class ≡ false → All (λ z. IsSome (name_beside settings.now.zones z)) zones.now }
+{
+    match class {
+        Class::T => true,
+        Class::O | Class::E | Class::X => have_names(settings, zones),
+    }
+}
+
+fn are_printable(text: &[u8]) -> bool
+    ensures { result ≡ list_all is_printable text.now }
+{
+    text.iter().all(|byte| is_printable(*byte))
+}
+
+fn print(texts: &Texts) -> bool
+    ensures what { IsTrue result → IsTrue (list_all is_printable texts.now.what) }
+    ensures area { IsTrue result → IsTrue (list_all is_printable texts.now.area) }
+    ensures impacts { IsTrue result → IsTrue (list_all is_printable texts.now.impacts) }
+    ensures details { IsTrue result → IsTrue (list_all is_printable texts.now.details) }
+{
+    let what = are_printable(texts.what.as_slice());
+    let area = are_printable(texts.area.as_slice());
+    let impacts = are_printable(texts.impacts.as_slice());
+    let details = are_printable(texts.details.as_slice());
+    what && area && impacts && details
+}
+
+fn is_letter(letter: &Option<u8>) -> bool
+    ensures { IsTrue result → IsLetter letter.now }
+{
+    match letter {
+        Some(letter) => letter.is_ascii_uppercase(),
+        None => true,
+    }
+}
+
+/// Whether a product text can be written of these.
+pub fn fits(
+    settings: &Settings,
+    class: Class,
+    letter: &Option<u8>,
+    zones: &[Zone],
+    line: &SegLine,
+    texts: &Texts,
+    t: Minute,
+) -> bool
+    requires { IsStrictlySortedBy by_place (keys_of settings.now.zones) }
+    ensures { IsTrue result → Fits settings.now class letter.now zones.now line.now texts.now t }
+{
+    let said = is_sayable(line);
+    let named = are_named(settings, class, zones);
+    let printable = print(texts);
+    let capital = is_letter(letter);
+    said && named && printable && capital && t.get() <= 52_000_000
+}
+
+/// The plan of one segment with one line.
+pub fn plan_of(
+    alloc: Global,
+    category: Category,
+    bbb: Option<u8>,
+    zones: List<Zone>,
+    line: &SegLine,
+    texts: Texts,
+) -> Result<Plan, Oom>
+    ensures { IfOk result (λ plan. plan ≡ plan_of category bbb zones line.now texts) }
+{
+    let mut lines = List::new(alloc);
+    lines.extend(&[*line])?;
+    let mut segments = List::new(alloc);
+    segments.push(Segment { zones, lines })?;
+    let mut all_texts = List::new(alloc);
+    all_texts.push(EventTexts {
+        event: line.event,
+        texts,
+    })?;
+    Ok(Plan {
+        category,
+        bbb,
+        lines: List::new(alloc),
+        segments,
+        opened: List::new(alloc),
+        texts: all_texts,
+    })
+}

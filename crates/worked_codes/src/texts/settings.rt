@@ -1,0 +1,161 @@
+//! Settings of a script, and what they are answered.
+use crate::texts::answers::text_of;
+use desk_settings::{Settings, SettingsFault, read_settings, training_settings};
+use hazard_types::{
+    Category, Desk, Kind, Oom, Or, Zone, categories, find, is_office, zone_in, zone_text,
+};
+use std::alloc::{AllocError, Global};
+
+/// The text of a file, of which a script writes LF as `\n`.
+pub fn unescaped(alloc: Global, written: &str) -> Result<String, Oom> {
+    let mut text = String::new(alloc);
+    for (i, line) in written.split("\\n").enumerate() {
+        if i > 0 {
+            text.push('\n')?;
+        }
+        text.push_str(line)?;
+    }
+    Ok(text)
+}
+
+/// The text with a comment behind it, so that it has this many bytes.
+pub fn filled(alloc: Global, count: &str, written: &str) -> Result<String, Oom> {
+    let mut text = unescaped(alloc, written)?;
+    text.push('#')?;
+    let count = count.parse::<usize>().unwrap_or(0);
+    for _ in text.len()..count {
+        text.push('x')?;
+    }
+    Ok(text)
+}
+
+/// The text with this many zones behind it.
+pub fn with_zones(alloc: Global, count: &str, written: &str) -> Result<String, Oom> {
+    let mut text = unescaped(alloc, written)?;
+    text.push_str("[zones]\n")?;
+    let count = count.parse::<u16>().unwrap_or(0);
+    for i in 0..count {
+        let letter = b'A' + (i / 999) as u8;
+        if let Some(zone) = Zone::new([b'A', letter], Kind::Z, i % 999 + 1) {
+            text.push_str(text_of(&zone_text(&zone)))?;
+            text.push_str(" = \"Plain\"\n")?;
+        }
+    }
+    Ok(text)
+}
+
+/// Adds a fault, with its key where it has one.
+fn push_fault(out: &mut String, fault: &SettingsFault) -> Result<(), AllocError> {
+    match fault {
+        SettingsFault::NotToml => out.push_str("NotToml"),
+        SettingsFault::Missing { key } => {
+            out.push_str("Missing ")?;
+            out.push_str(text_of(key.as_slice()))
+        }
+        SettingsFault::BadValue { key } => {
+            out.push_str("BadValue ")?;
+            out.push_str(text_of(key.as_slice()))
+        }
+        SettingsFault::Twice { key } => {
+            out.push_str("Twice ")?;
+            out.push_str(text_of(key.as_slice()))
+        }
+        SettingsFault::TooLong => out.push_str("TooLong"),
+    }
+}
+
+/// Adds `accepted`, or the fault of settings.
+pub fn settings_answer(out: &mut String, alloc: Global, text: &str) -> Result<(), Oom> {
+    match read_settings(alloc, text.as_bytes()) {
+        Ok(_settings) => out.push_str("accepted")?,
+        Err(Or::No(fault)) => push_fault(out, &fault)?,
+        Err(Or::OutOfMemory) => return Err(Oom),
+    }
+    Ok(())
+}
+
+/// Adds the name of a zone of settings, or `none`.
+pub fn zone_answer(out: &mut String, alloc: Global, code: &str, text: &str) -> Result<(), Oom> {
+    match (
+        zone_in(code.as_bytes()),
+        read_settings(alloc, text.as_bytes()),
+    ) {
+        (Some(zone), Ok(settings)) => match settings.zone_name(&zone) {
+            Some(name) => out.push_str(text_of(name.as_slice()))?,
+            None => out.push_str("none")?,
+        },
+        _ => out.push_str("unread")?,
+    }
+    Ok(())
+}
+
+/// Adds whether settings have a desk.
+pub fn desk_answer(out: &mut String, alloc: Global, name: &str, text: &str) -> Result<(), Oom> {
+    match (
+        Desk::new(name.as_bytes()),
+        read_settings(alloc, text.as_bytes()),
+    ) {
+        (Some(desk), Ok(settings)) => {
+            if settings.has_desk(&desk) {
+                out.push_str("yes")?;
+            } else {
+                out.push_str("no")?;
+            }
+        }
+        _ => out.push_str("unread")?,
+    }
+    Ok(())
+}
+
+/// Adds what the headings of a category begin with.
+pub fn heading_answer(out: &mut String, alloc: Global, code: &str, text: &str) -> Result<(), Oom> {
+    match (
+        find(&categories(), code.as_bytes()),
+        read_settings(alloc, text.as_bytes()),
+    ) {
+        (Some(category), Ok(settings)) => out.push_str(text_of(&settings.heading_for(category)))?,
+        _ => out.push_str("unread")?,
+    }
+    Ok(())
+}
+
+fn push_office(out: &mut String, office: [u8; 4]) -> Result<(), AllocError> {
+    out.push_str(text_of(&office))
+}
+
+fn push_site(out: &mut String, site: [u8; 3]) -> Result<(), AllocError> {
+    out.push(' ')?;
+    out.push_str(text_of(&site))
+}
+
+/// Adds the settings of training: office, site, office line, desks, the heading of the first category, and how many zones have names.
+fn push_training(out: &mut String, alloc: Global, settings: &Settings) -> Result<(), Oom> {
+    push_office(out, settings.office)?;
+    push_site(out, settings.site)?;
+    for desk in settings.desks.as_slice() {
+        out.push(' ')?;
+        out.push_str(text_of(desk.bytes()))?;
+    }
+    out.push(' ')?;
+    out.push_str(text_of(&settings.heading_for(Category::Wsw)))?;
+    let zones = format!(in alloc; " {}", settings.zones.len())?;
+    out.push_str(zones.as_str())?;
+    out.push(' ')?;
+    out.push_str(text_of(settings.office_line.as_slice()))?;
+    Ok(())
+}
+
+/// Adds the settings of training of an office.
+pub fn training_answer(out: &mut String, alloc: Global, office: &str) -> Result<(), Oom> {
+    let [a, b, c, d] = office.as_bytes() else {
+        out.push_str("unread")?;
+        return Ok(());
+    };
+    let office = [*a, *b, *c, *d];
+    if !is_office(&office) {
+        out.push_str("unread")?;
+        return Ok(());
+    }
+    let settings = training_settings(alloc, office)?;
+    push_training(out, alloc, &settings)
+}

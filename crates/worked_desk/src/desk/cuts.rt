@@ -1,0 +1,43 @@
+//! What a command says of each beginning of a file, or of settings.
+use crate::desk::answers::cut_answer;
+use crate::desk::runs::{Command, Given, NO_FAULTS, Run, run_command};
+use crate::desk::steps::Cutting;
+use hazard_types::{List, Oom, Text};
+use std::alloc::Global;
+
+/// A run over the first bytes: `export` of a file with them, or `init` with them as its settings.
+fn run_on(alloc: Global, cutting: Cutting, bytes: &[u8]) -> Result<Run, Oom> {
+    let none = Given {
+        input: Text::new(alloc),
+        readings: List::new(alloc),
+    };
+    match cutting {
+        Cutting::File => run_command(alloc, &Command::Export, &none, bytes, &NO_FAULTS),
+        Cutting::Settings => {
+            let given = Given {
+                input: List::from_slice(alloc, bytes)?,
+                readings: none.readings,
+            };
+            run_command(alloc, &Command::Init, &given, b"", &NO_FAULTS)
+        }
+    }
+}
+
+/// A line at each number of first bytes from which on the run says another thing.
+pub fn cuts(alloc: Global, cutting: Cutting, bytes: &[u8]) -> Result<String, Oom> {
+    let mut answer = String::new(alloc);
+    let mut last: Option<Run> = None;
+    for count in 0..=bytes.len() {
+        let run = run_on(alloc, cutting, &bytes[..count])?;
+        let same = match &last {
+            Some(last) => last.status == run.status && last.text.as_slice() == run.text.as_slice(),
+            None => false,
+        };
+        if !same {
+            let line = cut_answer(alloc, count, &run.text, run.status)?;
+            answer.push_str(line.as_str())?;
+        }
+        last = Some(run);
+    }
+    Ok(answer)
+}

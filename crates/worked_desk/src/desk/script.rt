@@ -1,0 +1,211 @@
+//! The script of a kept office's days: each line's step is worked, and answered by text.
+use crate::desk::answers::{run_answer, sweep_answer, unread};
+use crate::desk::cuts::cuts;
+use crate::desk::files::{older_journal, record_text, with_byte, with_record};
+use crate::desk::runs::{Command, Faults, Given, NO_FAULTS, Run, run_command};
+use crate::desk::steps::{Cutting, Ending, Step, Tried, reading_of, step_of};
+use crate::desk::sweeps::sweep;
+use desk_traits::MemDisk;
+use hazard_types::{List, Oom, Text};
+use std::alloc::Global;
+use worked_lines::Work;
+
+/// The settings' text, the file's bytes, the pending input with the readings of the clock, and the faults of the next
+/// run's disk.
+#[derive(Drop)]
+pub struct Script {
+    settings: Text,
+    file: Text,
+    given: Given,
+    faults: Faults,
+}
+
+/// The readings of a line, if each of its words is one.
+fn readings_of(alloc: Global, words: &str) -> Result<Option<List<i64>>, Oom> {
+    let mut readings = List::new(alloc);
+    for word in words.split(' ') {
+        match reading_of(word) {
+            Some(reading) => readings.push(reading)?,
+            None => return Ok(None),
+        }
+    }
+    Ok(Some(readings))
+}
+
+/// What stands behind a line.
+fn ending_bytes(ending: Ending) -> &'static [u8] {
+    match ending {
+        Ending::Feed => b"\n",
+        Ending::ReturnAndFeed => b"\r\n",
+        Ending::Nothing => b"",
+    }
+}
+
+/// Adds a line of so many bytes to a text.
+fn add_long(text: &mut Text, length: u64) -> Result<(), Oom> {
+    for _place in 0..length {
+        text.push(b'x')?;
+    }
+    text.push(b'\n')
+}
+
+/// The file behind a run: what a crash leaves, or what a read gives.
+fn file_behind(disk: MemDisk, crashes: bool) -> Result<Text, Oom> {
+    if crashes {
+        return disk.crashed();
+    }
+    Ok(disk.file().clone()?)
+}
+
+impl Script {
+    pub fn new(alloc: Global) -> Self {
+        Script {
+            settings: List::new(alloc),
+            file: List::new(alloc),
+            given: Given {
+                input: List::new(alloc),
+                readings: List::new(alloc),
+            },
+            faults: NO_FAULTS,
+        }
+    }
+
+    /// Adds a line to the settings.
+    fn add_setting(&mut self, line: &str) -> Result<(), Oom> {
+        self.settings.extend(line.as_bytes())?;
+        self.settings.push(b'\n')
+    }
+
+    /// Adds a line to the next input.
+    fn ask(&mut self, line: &str, ending: Ending) -> Result<(), Oom> {
+        self.given.input.extend(line.as_bytes())?;
+        self.given.input.extend(ending_bytes(ending))
+    }
+
+    /// Sets the readings of the clock.
+    fn set_readings(&mut self, alloc: Global, words: &str) -> Result<bool, Oom> {
+        match readings_of(alloc, words)? {
+            Some(readings) => {
+                self.given.readings = readings;
+                Ok(true)
+            }
+            None => Ok(false),
+        }
+    }
+
+    /// Runs a command over the pending input, or the settings.
+    fn run_over(&self, alloc: Global, command: &Command) -> Result<Run, Oom> {
+        let file = self.file.as_slice();
+        match command {
+            Command::Init => {
+                let given = Given {
+                    input: self.settings.clone()?,
+                    readings: self.given.readings.clone()?,
+                };
+                run_command(alloc, command, &given, file, &self.faults)
+            }
+            Command::Script | Command::Export | Command::Upgrade | Command::Board(_) => {
+                run_command(alloc, command, &self.given, file, &self.faults)
+            }
+        }
+    }
+
+    /// Runs a command, and keeps the file that it leaves. `init` and `script` use the input up.
+    fn run_step(&mut self, alloc: Global, command: &Command) -> Result<String, Oom> {
+        let Run { status, text, disk } = self.run_over(alloc, command)?;
+        let crashes = self.faults.stop.is_some() || self.faults.pick.is_some();
+        self.faults = NO_FAULTS;
+        if matches!(command, Command::Init | Command::Script) {
+            self.given.input = List::new(alloc);
+        }
+        let new = file_behind(disk, crashes)?;
+        let answer = run_answer(alloc, &text, status, self.file.as_slice(), new.as_slice())?;
+        self.file = new;
+        Ok(answer)
+    }
+
+    fn sweep_step(&self, alloc: Global, tried: Tried, calls: u8) -> Result<String, Oom> {
+        let tally = sweep(alloc, tried, &self.given, self.file.as_slice(), calls)?;
+        sweep_answer(alloc, &tally)
+    }
+
+    fn cuts_step(&self, alloc: Global, cutting: Cutting) -> Result<String, Oom> {
+        let bytes = match cutting {
+            Cutting::File => self.file.as_slice(),
+            Cutting::Settings => self.settings.as_slice(),
+        };
+        cuts(alloc, cutting, bytes)
+    }
+
+    /// Makes the file the journal of an office of edition One.
+    fn set_older(&mut self, alloc: Global, entry: &str) -> Result<(), Oom> {
+        self.file = older_journal(alloc, self.settings.as_slice(), entry.as_bytes())?;
+        Ok(())
+    }
+
+    /// Adds a remark of so many bytes, at least one, to the settings.
+    fn add_comment(&mut self, length: u64) -> Result<(), Oom> {
+        self.settings.push(b'#')?;
+        add_long(&mut self.settings, length.saturating_sub(1))
+    }
+
+    /// Works a step that changes the file by hand. Answers whether it was one.
+    fn spoil(&mut self, alloc: Global, step: &Step<'_>) -> Result<bool, Oom> {
+        match step {
+            Step::File(text) => self.file = List::from_slice(alloc, text.as_bytes())?,
+            Step::Older(entry) => self.set_older(alloc, entry)?,
+            Step::Add(body) => {
+                self.file = with_record(alloc, self.file.as_slice(), body.as_bytes())?;
+            }
+            Step::Back(back, byte) => {
+                self.file = with_byte(alloc, self.file.as_slice(), *back, *byte)?;
+            }
+            _ => return Ok(false),
+        }
+        Ok(true)
+    }
+
+    /// Sets a fault of the next run. Answers whether the step was one.
+    fn set_fault(&mut self, step: &Step<'_>) -> bool {
+        match step {
+            Step::Failing(call) => self.faults.failing = Some(*call),
+            Step::Stop(call) => self.faults.stop = Some(*call),
+            Step::Pick(pick) => self.faults.pick = Some(*pick),
+            Step::Unwritten(call) => self.faults.unwritten = Some(*call),
+            _ => return false,
+        }
+        true
+    }
+
+    /// Works a step that is answered by nothing. Answers whether it was one.
+    fn prepare(&mut self, alloc: Global, step: &Step<'_>) -> Result<bool, Oom> {
+        match step {
+            Step::Remark => {}
+            Step::Setting(line) => self.add_setting(line)?,
+            Step::NoSettings => self.settings = List::new(alloc),
+            Step::Comment(length) => self.add_comment(*length)?,
+            Step::Ask(line, ending) => self.ask(line, *ending)?,
+            Step::Long(length) => add_long(&mut self.given.input, *length)?,
+            Step::At(words) => return self.set_readings(alloc, words),
+            _ => return Ok(false),
+        }
+        Ok(true)
+    }
+}
+
+impl Work for Script {
+    /// What a line is answered.
+    fn work(&mut self, alloc: Global, line: &str) -> Result<String, Oom> {
+        let step = step_of(line);
+        if self.prepare(alloc, &step)? || self.spoil(alloc, &step)? || self.set_fault(&step) {
+            return Ok(String::new(alloc));
+        }
+        match &step {
+            Step::Run(command) => self.run_step(alloc, command),
+            Step::Sweep(tried, calls) => self.sweep_step(alloc, *tried, *calls),
+            Step::Cuts(cutting) => self.cuts_step(alloc, *cutting),
+            Step::Record => record_text(alloc, self.file.as_slice()),
+            _ => unread(alloc, line),
+        }
+    }
+}

@@ -1,0 +1,301 @@
+//! Sweeps: each call of a disk fails in turn, and the disk stops behind each, whatever a crash leaves of the writes.
+use crate::desk::files::records_of;
+use crate::desk::runs::{Command, Faults, Given, NO_FAULTS, Run, exported, run_command};
+use crate::desk::steps::Tried;
+use hazard_types::{List, Oom, Text};
+use std::alloc::Global;
+use std::str;
+
+/// What a crash leaves of the writes since the last sync, one case after another.
+const PICKS: [u64; 6] = [0, 1, 2, 3, 5, 15];
+
+/// The status of a run that went well.
+const DONE: u8 = 0;
+
+/// The status of a run that met a fault of its disk.
+const DISK_FAULT: u8 = 9;
+
+/// The line that tells a fault of the disk.
+const FAULT_LINE: &str = "{\"no\":\"D1\",\"rule\":\"DiskFault\"}";
+
+/// How many runs met a fault, and how many of them differ from the run without any.
+#[derive(Clone, Copy, Debug)]
+pub struct Tally {
+    pub runs: u64,
+    pub differ: u64,
+}
+
+impl Tally {
+    /// Counts a run.
+    fn count(&mut self, same: bool) {
+        self.runs = self.runs.saturating_add(1);
+        if !same {
+            self.differ = self.differ.saturating_add(1);
+        }
+    }
+}
+
+/// What an input comes to: how it ends, what it is answered, and the products behind it.
+#[derive(Drop)]
+struct Outcome {
+    status: u8,
+    answers: Text,
+    products: Text,
+}
+
+impl Outcome {
+    fn is_same(&self, other: &Self) -> bool {
+        self.status == other.status
+            && self.answers.as_slice() == other.answers.as_slice()
+            && self.products.as_slice() == other.products.as_slice()
+    }
+}
+
+/// A file, what is run over it, and what comes of it over a disk without faults.
+#[derive(Drop)]
+struct Wanted<'a> {
+    given: &'a Given,
+    file: &'a [u8],
+    outcome: Outcome,
+}
+
+/// What an input comes to over a disk without faults.
+fn outcome_of(alloc: Global, given: &Given, file: &[u8]) -> Result<Outcome, Oom> {
+    let done = run_command(alloc, &Command::Script, given, file, &NO_FAULTS)?;
+    let products = exported(alloc, given, done.disk.file().as_slice())?;
+    Ok(Outcome {
+        status: done.status,
+        answers: done.text,
+        products,
+    })
+}
+
+/// Bytes as text, where they are.
+fn text_of(bytes: &[u8]) -> &str {
+    str::from_utf8(bytes).unwrap_or("?")
+}
+
+/// Whether a run ended well, or by a fault of its disk.
+fn is_fair(status: u8) -> bool {
+    status == DONE || status == DISK_FAULT
+}
+
+/// The lines of answers that tell no fault of the disk, one after another.
+fn without_faults(alloc: Global, answers: &str) -> Result<Text, Oom> {
+    let mut text = Text::new(alloc);
+    for answer in answers.lines() {
+        if answer != FAULT_LINE {
+            text.extend(answer.as_bytes())?;
+            text.push(b'\n')?;
+        }
+    }
+    Ok(text)
+}
+
+/// The lines of an input whose answers tell no fault of the disk, each with its reading. No line of the input is empty.
+fn undisturbed(alloc: Global, given: &Given, answers: &str) -> Result<Given, Oom> {
+    let mut input = Text::new(alloc);
+    let mut readings = List::new(alloc);
+    let mut lines = text_of(given.input.as_slice()).lines();
+    let mut ahead = given.readings.as_slice();
+    for answer in answers.lines() {
+        let reading = ahead.first().copied();
+        if let Some((_first, more)) = ahead.split_first() {
+            if !more.is_empty() {
+                ahead = more;
+            }
+        }
+        let line = lines.next().unwrap_or("");
+        if answer != FAULT_LINE {
+            input.extend(line.as_bytes())?;
+            input.push(b'\n')?;
+            readings.push(reading.unwrap_or(0))?;
+        }
+    }
+    Ok(Given { input, readings })
+}
+
+/// Whether each line that was answered without a fault of the disk was answered as where those with one had not been
+/// sent, and stands so in the file that a crash left.
+fn answers_are_kept(
+    alloc: Global,
+    wanted: &Wanted<'_>,
+    answers: &str,
+    left: &[u8],
+) -> Result<bool, Oom> {
+    let apart = undisturbed(alloc, wanted.given, answers)?;
+    let run = run_command(alloc, &Command::Script, &apart, wanted.file, &NO_FAULTS)?;
+    let told = without_faults(alloc, answers)?;
+    let kept = left.starts_with(records_of(run.disk.file().as_slice()));
+    Ok(told.as_slice() == run.text.as_slice() && kept)
+}
+
+/// What the lines of a run were answered: nothing where the run ended otherwise than well.
+fn answers_of(status: u8, text: &Text) -> &str {
+    if status != DONE {
+        return "";
+    }
+    text_of(text.as_slice())
+}
+
+/// Whether an input that meets these faults, and then a crash, keeps what it was answered, and is answered as without
+/// them when it is sent again.
+fn input_survives(alloc: Global, wanted: &Wanted<'_>, faults: &Faults) -> Result<bool, Oom> {
+    let first = run_command(alloc, &Command::Script, wanted.given, wanted.file, faults)?;
+    let Run { status, text, disk } = first;
+    let fair = is_fair(status);
+    let left = disk.crashed()?;
+    let answers = answers_of(status, &text);
+    let kept = answers_are_kept(alloc, wanted, answers, left.as_slice())?;
+    let again = outcome_of(alloc, wanted.given, left.as_slice())?;
+    Ok(fair && kept && again.is_same(&wanted.outcome))
+}
+
+/// The pending input is sent over a disk that fails or stops at each call.
+fn sweep_input(alloc: Global, given: &Given, file: &[u8], calls: u8) -> Result<Tally, Oom> {
+    let wanted = Wanted {
+        given,
+        file,
+        outcome: outcome_of(alloc, given, file)?,
+    };
+    let mut tally = Tally { runs: 0, differ: 0 };
+    for call in 1..=calls {
+        for pick in PICKS {
+            for stops in [false, true] {
+                let faults = faults_at(u64::from(call), stops, pick);
+                tally.count(input_survives(alloc, &wanted, &faults)?);
+            }
+        }
+    }
+    Ok(tally)
+}
+
+/// A fault at one call, or a stop behind it.
+fn faults_at(call: u64, stops: bool, pick: u64) -> Faults {
+    let (failing, stop) = if stops {
+        (None, Some(call))
+    } else {
+        (Some(call), None)
+    };
+    Faults {
+        failing,
+        stop,
+        pick: Some(pick),
+        unwritten: None,
+    }
+}
+
+/// Whether the products are the same behind an upgrade that meets these faults, and then a crash.
+fn upgrade_survives(alloc: Global, wanted: &Wanted<'_>, faults: &Faults) -> Result<bool, Oom> {
+    let first = run_command(alloc, &Command::Upgrade, wanted.given, wanted.file, faults)?;
+    let fair = is_fair(first.status);
+    let left = first.disk.crashed()?;
+    let products = exported(alloc, wanted.given, left.as_slice())?;
+    Ok(fair && products.as_slice() == wanted.outcome.products.as_slice())
+}
+
+/// The file is upgraded over a disk that stops behind each call.
+fn sweep_upgrade(alloc: Global, given: &Given, file: &[u8], calls: u8) -> Result<Tally, Oom> {
+    let wanted = Wanted {
+        given,
+        file,
+        outcome: Outcome {
+            status: DONE,
+            answers: Text::new(alloc),
+            products: exported(alloc, given, file)?,
+        },
+    };
+    let mut tally = Tally { runs: 0, differ: 0 };
+    for call in 1..=calls {
+        for pick in PICKS {
+            let faults = faults_at(u64::from(call), true, pick);
+            tally.count(upgrade_survives(alloc, &wanted, &faults)?);
+        }
+    }
+    Ok(tally)
+}
+
+/// The input with each line of it twice, each at the reading of the line. No line of the input is empty.
+fn with_lines_twice(alloc: Global, given: &Given) -> Result<Given, Oom> {
+    let mut input = Text::new(alloc);
+    let mut readings = List::new(alloc);
+    let mut ahead = given.readings.as_slice();
+    for line in text_of(given.input.as_slice()).lines() {
+        let reading = ahead.first().copied().unwrap_or(0);
+        if let Some((_first, more)) = ahead.split_first() {
+            if !more.is_empty() {
+                ahead = more;
+            }
+        }
+        for _time in 0..2 {
+            input.extend(line.as_bytes())?;
+            input.push(b'\n')?;
+            readings.push(reading)?;
+        }
+    }
+    Ok(Given { input, readings })
+}
+
+/// Whether each line was answered at its second time as over a disk without faults, and at its first time so too, or that
+/// the disk failed.
+fn second_answers_are_good(answers: &str, wanted: &str) -> bool {
+    let mut answers = answers.lines();
+    for good in wanted.lines() {
+        let first = answers.next().unwrap_or("");
+        let second = answers.next().unwrap_or("");
+        if second != good || (first != good && first != FAULT_LINE) {
+            return false;
+        }
+    }
+    answers.next().is_none()
+}
+
+/// Whether an input of which each line comes twice in one run is answered, and leaves the products, as without a fault,
+/// or the fault ends the opening.
+fn lines_survive(
+    alloc: Global,
+    wanted: &Wanted<'_>,
+    twice: &Given,
+    faults: &Faults,
+) -> Result<bool, Oom> {
+    let run = run_command(alloc, &Command::Script, twice, wanted.file, faults)?;
+    if run.status != DONE {
+        return Ok(run.status == DISK_FAULT);
+    }
+    let outcome = &wanted.outcome;
+    let answers = text_of(run.text.as_slice());
+    let good = second_answers_are_good(answers, text_of(outcome.answers.as_slice()));
+    let products = exported(alloc, twice, run.disk.file().as_slice())?;
+    Ok(good && products.as_slice() == outcome.products.as_slice())
+}
+
+/// The pending input is sent with each line twice over a disk that fails at each call.
+fn sweep_twice(alloc: Global, given: &Given, file: &[u8], calls: u8) -> Result<Tally, Oom> {
+    let wanted = Wanted {
+        given,
+        file,
+        outcome: outcome_of(alloc, given, file)?,
+    };
+    let twice = with_lines_twice(alloc, given)?;
+    let mut tally = Tally { runs: 0, differ: 0 };
+    for call in 1..=calls {
+        let faults = faults_at(u64::from(call), false, 0);
+        tally.count(lines_survive(alloc, &wanted, &twice, &faults)?);
+    }
+    Ok(tally)
+}
+
+/// What a sweep over so many calls of a disk counts.
+pub fn sweep(
+    alloc: Global,
+    tried: Tried,
+    given: &Given,
+    file: &[u8],
+    calls: u8,
+) -> Result<Tally, Oom> {
+    match tried {
+        Tried::Input => sweep_input(alloc, given, file, calls),
+        Tried::Upgrade => sweep_upgrade(alloc, given, file, calls),
+        Tried::Twice => sweep_twice(alloc, given, file, calls),
+    }
+}

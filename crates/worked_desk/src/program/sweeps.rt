@@ -1,0 +1,101 @@
+//! Sweeps: each read of an input, or each write of an output, fails in turn.
+use crate::program::runs::{Given, Run, copy_of, run_words};
+use desk_traits::SureDisk;
+use hazard_types::{List, Oom, Text};
+use program_ends::LIMIT;
+use std::alloc::Global;
+
+/// Which calls fail in turn.
+#[derive(Clone, Copy, Debug)]
+pub enum Failing {
+    Reads,
+    Writes,
+}
+
+/// How many runs a fault ended, and how many wrote anything but a beginning of what a run without faults writes, and the
+/// line of the fault.
+#[derive(Clone, Copy, Debug)]
+pub struct Tally {
+    pub ended: u64,
+    pub differ: u64,
+}
+
+impl Failing {
+    /// The status of a run that such a fault ends.
+    fn status(self) -> u8 {
+        match self {
+            Failing::Reads => 7,
+            Failing::Writes => 8,
+        }
+    }
+
+    /// The line that tells it.
+    fn line(self) -> &'static [u8] {
+        match self {
+            Failing::Reads => b"fault ReadFault\n",
+            Failing::Writes => b"fault WriteFault\n",
+        }
+    }
+
+    /// An input that comes a byte at a time, of which this call fails.
+    fn given(self, alloc: Global, call: u32) -> Result<Given, Oom> {
+        let bad = List::from_slice(alloc, &[u64::from(call)])?;
+        let (bad_reads, bad_writes) = match self {
+            Failing::Reads => (bad, List::new(alloc)),
+            Failing::Writes => (List::new(alloc), bad),
+        };
+        Ok(Given {
+            piece: 1,
+            limit: LIMIT,
+            bad_reads,
+            bad_writes,
+        })
+    }
+}
+
+/// Whether the text is a beginning of the whole one, and a line behind it.
+fn is_beginning(text: &[u8], line: &[u8], whole: &[u8]) -> bool {
+    match text.strip_suffix(line) {
+        Some(front) => whole.starts_with(front),
+        None => false,
+    }
+}
+
+/// Runs the words over copies of a disk, of which each of the first calls fails in turn.
+pub fn sweep(
+    alloc: Global,
+    failing: Failing,
+    calls: u32,
+    words: &str,
+    input: &Text,
+    disk: &mut SureDisk,
+) -> Result<Tally, Oom> {
+    let none = failing.given(alloc, 0)?;
+    let whole = run_words(alloc, words, input, &none, copy_of(alloc, disk)?)?;
+    let mut tally = Tally {
+        ended: 0,
+        differ: 0,
+    };
+    for call in 1..=calls {
+        let given = failing.given(alloc, call)?;
+        let run = run_words(alloc, words, input, &given, copy_of(alloc, disk)?)?;
+        tally.count(failing, &run, &whole);
+    }
+    Ok(tally)
+}
+
+impl Tally {
+    /// Counts a run beside the one without faults.
+    fn count(&mut self, failing: Failing, run: &Run, whole: &Run) {
+        let text = run.text.as_slice();
+        let as_defined = if run.status == failing.status() {
+            self.ended = self.ended.saturating_add(1);
+            is_beginning(text, failing.line(), whole.text.as_slice())
+        } else {
+            run.status == whole.status && text == whole.text.as_slice()
+        };
+        if !as_defined {
+            self.differ = self.differ.saturating_add(1);
+        }
+    }
+}

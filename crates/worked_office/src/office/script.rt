@@ -1,0 +1,156 @@
+//! The script of an office's days: each line's step is worked, and answered by text.
+use crate::office::answers::{look_answer, request_answer, turn_answer};
+use crate::office::steps::{Step, step_of};
+use desk_settings::read_settings;
+use hazard_types::{Class, Edition, List, Minute, Oom, Or, Query, Text, stamp};
+use office_core::Office;
+use std::alloc::Global;
+use std::str;
+use worked_lines::Work;
+
+/// The minutes from one issue of a fill to the next.
+const APART: i64 = 11;
+
+/// For how many minutes an issue of a fill is in effect.
+const LASTING: i64 = 10;
+
+/// What is answered where no office is open.
+const NO_OFFICE: &[u8] = b"no office\n";
+
+/// The settings, and whether an office was opened with them; the office that is open, and the reading of its clock in minutes.
+#[derive(Drop)]
+pub struct Script {
+    settings: String,
+    used: bool,
+    office: Option<Office>,
+    reading: i64,
+}
+
+/// Bytes as text, where they are.
+fn text_of(bytes: &[u8]) -> &str {
+    str::from_utf8(bytes).unwrap_or("?")
+}
+
+fn note(alloc: Global, text: &[u8]) -> Result<Text, Oom> {
+    List::from_slice(alloc, text)
+}
+
+/// The minute of a reading, if it has one.
+fn minute_of(reading: i64) -> Option<Minute> {
+    let count = u32::try_from(reading).ok()?;
+    Minute::new(count)
+}
+
+/// The request of an issue under this number that is in effect until this minute.
+fn issue_until(alloc: Global, seq: u32, end: Minute) -> Result<String, Oom> {
+    let end = stamp(end);
+    let end = text_of(&end);
+    Ok(format!(in alloc;
+        "{{\"desk\":\"A\",\"seq\":{seq},\"do\":\"issue\",\"hazard\":\"FR.Y\",\"zones\":[\"MDZ003\"],\"begin\":\"now\",\"end\":\"{end}\"}}"
+    )?)
+}
+
+impl Script {
+    pub fn new(alloc: Global) -> Self {
+        Script {
+            settings: String::new(alloc),
+            used: false,
+            office: None,
+            reading: 0,
+        }
+    }
+
+    /// Adds a line to the settings. The first one behind an office begins new settings.
+    fn add_setting(&mut self, alloc: Global, line: &str) -> Result<Text, Oom> {
+        if self.used {
+            self.settings = String::new(alloc);
+            self.used = false;
+        }
+        self.settings.push_str(line)?;
+        self.settings.push('\n')?;
+        note(alloc, b"")
+    }
+
+    fn open(&mut self, alloc: Global, edition: Edition) -> Result<Text, Oom> {
+        self.used = true;
+        match read_settings(alloc, self.settings.as_bytes()) {
+            Ok(settings) => {
+                let office = Office::new(alloc, settings, Class::O, edition)?;
+                self.office = Some(office);
+                note(alloc, b"open\n")
+            }
+            Err(Or::No(_fault)) => note(alloc, b"no settings\n"),
+            Err(Or::OutOfMemory) => Err(Oom),
+        }
+    }
+
+    fn turn(&mut self, alloc: Global, edition: Edition) -> Result<Text, Oom> {
+        match &mut self.office {
+            Some(office) => turn_answer(alloc, office, edition),
+            None => note(alloc, NO_OFFICE),
+        }
+    }
+
+    fn request(&mut self, alloc: Global, text: &str) -> Result<Text, Oom> {
+        match &mut self.office {
+            Some(office) => request_answer(alloc, office, text, self.reading),
+            None => note(alloc, NO_OFFICE),
+        }
+    }
+
+    fn look(&self, alloc: Global, q: &Query) -> Result<Text, Oom> {
+        match &self.office {
+            Some(office) => look_answer(alloc, office, q, self.reading),
+            None => note(alloc, NO_OFFICE),
+        }
+    }
+
+    /// Sets the clock on and issues once, under this number.
+    fn issue_later(&mut self, alloc: Global, seq: u32) -> Result<Text, Oom> {
+        self.reading = self.reading.saturating_add(APART);
+        match minute_of(self.reading.saturating_add(LASTING)) {
+            Some(end) => {
+                let text = issue_until(alloc, seq, end)?;
+                self.request(alloc, text.as_str())
+            }
+            None => note(alloc, b"no such minute\n"),
+        }
+    }
+
+    /// So many issues, one after another. The last one's answer is that of all.
+    fn fill(&mut self, alloc: Global, count: u32) -> Result<Text, Oom> {
+        let mut answer = note(alloc, b"")?;
+        for seq in 1..=count {
+            answer = self.issue_later(alloc, seq)?;
+        }
+        Ok(answer)
+    }
+
+    fn step(&mut self, alloc: Global, step: &Step<'_>, line: &str) -> Result<Text, Oom> {
+        match step {
+            Step::Remark => {
+                let mut text = note(alloc, line.as_bytes())?;
+                text.push(b'\n')?;
+                Ok(text)
+            }
+            Step::Setting(setting) => self.add_setting(alloc, setting),
+            Step::Open(edition) => self.open(alloc, *edition),
+            Step::Turn(edition) => self.turn(alloc, *edition),
+            Step::At(reading) => {
+                self.reading = *reading;
+                note(alloc, b"")
+            }
+            Step::Look(q) => self.look(alloc, q),
+            Step::Fill(count) => self.fill(alloc, *count),
+            Step::Request => self.request(alloc, line),
+        }
+    }
+}
+
+impl Work for Script {
+    /// What a line is answered.
+    fn work(&mut self, alloc: Global, line: &str) -> Result<String, Oom> {
+        let text = self.step(alloc, &step_of(line), line)?;
+        Ok(String::from_utf8_lossy(alloc, text.as_slice())?)
+    }
+}

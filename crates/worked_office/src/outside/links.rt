@@ -1,0 +1,62 @@
+//! Links and peers.
+use crate::outside::streams::{read_once, write_word};
+use crate::outside::told::Told;
+use crate::outside::words::{add, add_bytes, add_part};
+use desk_links::{Link, MemLink, MemPeer, Peer};
+use hazard_types::Oom;
+use std::alloc::Global;
+
+/// Calls of a link: `read:ROOM` and `write:BYTES`.
+fn talk<L: Link>(alloc: Global, link: &mut L, calls: &str, answer: &mut String) -> Result<(), Oom> {
+    for call in calls.split_whitespace() {
+        match call.split_once(':') {
+            Some(("read", room)) => read_once(alloc, link, room, answer)?,
+            Some(("write", word)) => write_word(alloc, link, word, answer)?,
+            _ => add(answer, "unread")?,
+        }
+    }
+    Ok(())
+}
+
+/// A link as it was told.
+pub fn link_of(alloc: Global, told: &Told) -> Result<MemLink, Oom> {
+    MemLink::new(alloc, told.bytes.as_slice(), told.piece, &told.failing)
+}
+
+/// Calls of a link, and the bytes written.
+pub fn link_row(alloc: Global, told: &Told, calls: &str) -> Result<String, Oom> {
+    let mut answer = String::new(alloc);
+    let mut link = link_of(alloc, told)?;
+    talk(alloc, &mut link, calls, &mut answer)?;
+    add_part(&mut answer, "written", link.written().as_slice())?;
+    Ok(answer)
+}
+
+fn hear_once<P: Peer>(
+    alloc: Global,
+    peer: &mut P,
+    room: u16,
+    answer: &mut String,
+) -> Result<(), Oom> {
+    let mut buffer = vec![in alloc; 0; room as usize]?;
+    if buffer.is_empty() {
+        return Ok(());
+    }
+    match peer.hear(&mut buffer) {
+        Ok(count) => {
+            add(answer, format!(in alloc; "{count} ")?.as_str())?;
+            add_bytes(answer, &buffer[..count])
+        }
+        Err(_) => add(answer, "failed"),
+    }
+}
+
+/// Calls of a peer, and after them so many more reads by `hear`, of two bytes each.
+pub fn peer_row(alloc: Global, told: &Told, calls: &str) -> Result<String, Oom> {
+    let mut answer = String::new(alloc);
+    let mut peer = MemPeer::new(link_of(alloc, told)?);
+    talk(alloc, &mut peer, calls, &mut answer)?;
+    hear_once(alloc, &mut peer, 2, &mut answer)?;
+    add_part(&mut answer, "written", peer.written().as_slice())?;
+    Ok(answer)
+}

@@ -1,0 +1,193 @@
+//! Ports with doors, and dialers.
+ghost use Rattle.std.specs.Prelude.{◌≡◌, ◌≤◌, ◌<◌, ◌+◌, ◌^◌, [], All, length, IfOk, IfSome, OnOk};
+ghost use Rattle.desk_links.specs.LinkMemory.{IsUntouched, IsIdle, all_links};
+
+use crate::outside::words::{add, add_bytes, bytes_of, numbers_of};
+use desk_links::{Dialer, Door, Link, MemDialer, MemDoor, MemLink, MemPeer, MemPort, Port};
+use desk_traits::write_whole;
+use hazard_types::{List, Oom};
+use std::alloc::Global;
+
+/// Links of the bytes of these words, with commas between them; `-` is none.
+fn links_of(alloc: Global, words: &str) -> Result<List<MemLink>, Oom>
+    ensures { IfOk result (All IsUntouched) }
+{
+    let mut links = List::new(alloc);
+    let none = List::new(alloc);
+    if words == "-" {
+        return Ok(links);
+    }
+    for word in words.split(',') {
+        if let Some(bytes) = bytes_of(alloc, word)? {
+            links.push(MemLink::new(alloc, bytes.as_slice(), 4096, &none)?)?;
+        }
+    }
+    Ok(links)
+}
+
+/// Lists of links, with `/` between them.
+fn lists_of(alloc: Global, words: &str) -> Result<List<List<MemLink>>, Oom>
+    ensures { IfOk result (All (λ list. All IsUntouched list)) }
+{
+    let mut lists = List::new(alloc);
+    for list in words.split('/') {
+        lists.push(links_of(alloc, list)?)?;
+    }
+    Ok(lists)
+}
+
+/// Lists of numbers, with `/` between them.
+fn failing_of(alloc: Global, words: &str) -> Result<List<List<u64>>, Oom> {
+    let mut lists = List::new(alloc);
+    for list in words.split('/') {
+        if let Some(numbers) = numbers_of(alloc, list)? {
+            lists.push(numbers)?;
+        }
+    }
+    Ok(lists)
+}
+
+/// Reads of a link once, at most eight bytes, and writes them on it.
+fn echo<L: Link>(link: &mut L, answer: &mut String) -> Result<(), Oom> {
+    let mut buffer = [0; 8];
+    match link.read(&mut buffer) {
+        Ok(count) => {
+            add(answer, "")?;
+            add_bytes(answer, &buffer[..count])?;
+            let _ = write_whole(link, &buffer[..count]);
+            Ok(())
+        }
+        Err(_) => add(answer, "silent"),
+    }
+}
+
+/// A link that a door gives is echoed, and taken back.
+fn visit(door: &mut MemDoor, answer: &mut String) -> Result<(), Oom>
+    requires none_out { door.old.given ≡ length door.old.back }
+    requires few { length door.old.back < 2 ^ 32 }
+    ensures none_out { OnOk result (door.new.given ≡ length door.new.back) }
+    ensures few { OnOk result (length door.new.back ≤ length door.old.back + 1) }
+{
+    match door.accept() {
+        Ok(mut link) => {
+            echo(&mut link, answer)?;
+            door.back(link);
+            Ok(())
+        }
+        Err(_) => add(answer, "failed"),
+    }
+}
+
+fn visit_all(door: &mut MemDoor, visits: u8, answer: &mut String) -> Result<(), Oom>
+    requires { IsIdle door.old }
+    ensures none_out { OnOk result (door.new.given ≡ length door.new.back) }
+    ensures few { OnOk result (length door.new.back ≤ 255) }
+{
+    for _ in 0..visits {
+        visit(door, answer)?;
+    }
+    Ok(())
+}
+
+/// So many visits of each door, which then goes back to the port.
+fn visit_doors(
+    port: &mut MemPort,
+    doors: List<MemDoor>,
+    visits: u8,
+    answer: &mut String,
+) -> Result<(), Oom>
+    requires idle { All IsIdle doors }
+    requires few { length doors ≤ 255 }
+    requires new { port.old.back ≡ [] }
+{
+    for mut door in doors.into_vec() {
+        visit_all(&mut door, visits, answer)?;
+        port.back(door);
+    }
+    Ok(())
+}
+
+/// What was written on the links, a list for each door that took one back.
+fn add_back(answer: &mut String, port: &MemPort) -> Result<(), Oom> {
+    answer.push_str("; back")?;
+    for links in port.links() {
+        answer.push_str(" /")?;
+        for link in links {
+            answer.push(' ')?;
+            add_bytes(answer, link.written().as_slice())?;
+        }
+    }
+    Ok(())
+}
+
+/// Visits of a port's doors: `port LINKS FAILING DOORS : VISITS`.
+pub fn port_row(alloc: Global, words: &str, visits: &str) -> Result<String, Oom> {
+    let mut answer = String::new(alloc);
+    let (lists, rest) = words.split_once(' ').unwrap_or((words, ""));
+    let (failing, doors) = rest.split_once(' ').unwrap_or((rest, ""));
+    let (Ok(doors), Ok(visits)) = (doors.parse::<u8>(), visits.trim().parse::<u8>()) else {
+        return Ok(String::from_str(alloc, "unread")?);
+    };
+    let mut port = MemPort::new(alloc, lists_of(alloc, lists)?, &failing_of(alloc, failing)?)?;
+    if let Ok(doors) = port.listen(8080, doors as usize) {
+        visit_doors(&mut port, doors, visits, &mut answer)?;
+    }
+    add_back(&mut answer, &port)?;
+    Ok(answer)
+}
+
+/// A link that a dialer gives is echoed, and taken back.
+fn dial_once(dialer: &mut MemDialer, answer: &mut String) -> Result<(), Oom>
+    requires none_out { dialer.old.given ≡ length dialer.old.back }
+    requires few { length dialer.old.back < 2 ^ 32 }
+    ensures none_out { OnOk result (dialer.new.given ≡ length dialer.new.back) }
+    ensures few { OnOk result (length dialer.new.back ≤ length dialer.old.back + 1) }
+{
+    match dialer.dial() {
+        Ok(mut link) => {
+            echo(&mut link, answer)?;
+            dialer.back(link);
+            Ok(())
+        }
+        Err(_) => add(answer, "failed"),
+    }
+}
+
+fn peers_of(alloc: Global, links: List<MemLink>) -> Result<List<MemPeer>, Oom>
+    requires { All IsUntouched links }
+    ensures { IfOk result (All IsUntouched) }
+{
+    let mut peers = List::new(alloc);
+    for link in links.into_vec() {
+        peers.push(MemPeer::new(link))?;
+    }
+    Ok(peers)
+}
+
+fn dial_all(dialer: &mut MemDialer, dials: u8, answer: &mut String) -> Result<(), Oom>
+    requires { IsIdle dialer.old }
+{
+    for _ in 0..dials {
+        dial_once(dialer, answer)?;
+    }
+    Ok(())
+}
+
+/// Dials, and what was written on the links taken back: `dialer LINKS FAILING : DIALS`.
+pub fn dialer_row(alloc: Global, words: &str, dials: &str) -> Result<String, Oom> {
+    let mut answer = String::new(alloc);
+    let (links, failing) = words.split_once(' ').unwrap_or((words, "-"));
+    let (Some(failing), Ok(dials)) = (numbers_of(alloc, failing)?, dials.trim().parse::<u8>())
+    else {
+        return Ok(String::from_str(alloc, "unread")?);
+    };
+    let peers = peers_of(alloc, links_of(alloc, links)?)?;
+    let mut dialer = MemDialer::new(alloc, peers, &failing)?;
+    dial_all(&mut dialer, dials, &mut answer)?;
+    answer.push_str("; back")?;
+    for link in dialer.links() {
+        answer.push(' ')?;
+        add_bytes(&mut answer, link.written().as_slice())?;
+    }
+    Ok(answer)
+}

@@ -1,0 +1,198 @@
+//! The steps of a script, one a line.
+use crate::board::words::{
+    Unread, begin_of, category_of, end_of, event_of, hazard_of, minute_of, number_of, site_of,
+    target_of, zones_of,
+};
+use action_planner::no_texts;
+use hazard_types::{
+    Category, Cause, EventPart, EventTexts, Flood, Hazard, Intent, List, Minute, Or, PutPart,
+    RoutinePart, Severity, Status, Texts,
+};
+use std::alloc::Global;
+use std::str::SplitWhitespace;
+
+/// A step of a script.
+#[derive(Debug, Drop)]
+pub enum Step {
+    /// A new day: no row stands, and no number is drawn.
+    Day,
+    /// A new draft, to be sent at a minute.
+    At(Minute, Category),
+    /// One intent more.
+    Add(Intent),
+    /// The draft is sent: the rows and numbers are those after it, and there is no draft any more.
+    Send,
+    /// What the draft would be, without sending it.
+    Preview,
+    /// The events that the draft would open, and the texts of each event with a line.
+    Plan,
+    /// The correction of a product by its number, at a minute, with texts.
+    Correct(Minute, u16, List<EventTexts>),
+    /// The rows that are shown at a minute.
+    Board(Minute),
+    /// The standing events of a hazard.
+    Standing(Hazard),
+    /// So many events of a hazard, sixty-four a draft and a draft an hour from a minute on, each over at once.
+    Fill(Hazard, u16, Minute),
+}
+
+/// The flood values of a location, without a forecast.
+fn flood_at(site: [u8; 5]) -> Option<Flood> {
+    Some(Flood {
+        site,
+        severity: Severity::Zero,
+        cause: Cause::new(*b"ER")?,
+        begin: None,
+        crest: None,
+        end: None,
+        status: Status::Oo,
+    })
+}
+
+/// What was read, unless it is none of the script's words.
+fn known<T>(found: Option<T>) -> Result<T, Or<Unread>> {
+    found.ok_or(Or::No(Unread))
+}
+
+fn next_word<'a>(words: &mut SplitWhitespace<'a>) -> Result<&'a str, Or<Unread>> {
+    known(words.next())
+}
+
+/// Texts of which `what` is this word.
+fn texts_of(alloc: Global, word: &str) -> Result<Texts, Or<Unread>> {
+    let what = List::from_slice(alloc, word.as_bytes())?;
+    Ok(Texts {
+        what,
+        area: List::new(alloc),
+        impacts: List::new(alloc),
+        details: List::new(alloc),
+    })
+}
+
+/// The texts that `what=WORD` asks for; none without it.
+fn said_of(alloc: Global, word: Option<&str>) -> Result<Texts, Or<Unread>> {
+    let Some(word) = word else {
+        return Ok(no_texts(alloc));
+    };
+    match word.split_once('=') {
+        Some(("what", text)) => texts_of(alloc, text),
+        _ => Err(Or::No(Unread)),
+    }
+}
+
+/// The flood values that `flood` or `flood=SITE` asks for.
+fn flood_of(word: &str) -> Option<Flood> {
+    match word.split_once('=') {
+        None if word == "flood" => flood_at(*b"00000"),
+        Some(("flood", site)) => flood_at(site_of(site)?),
+        _ => None,
+    }
+}
+
+/// `HAZARD-OR-EVENT ZONES BEGIN END`, then `flood` or `flood=SITE` for flood values, then `what=WORD` for a text.
+fn put_of(alloc: Global, words: &mut SplitWhitespace<'_>) -> Result<Intent, Or<Unread>> {
+    let target = known(target_of(next_word(words)?))?;
+    let zones = zones_of(alloc, next_word(words)?)?;
+    let begin = known(begin_of(next_word(words)?))?;
+    let end = known(end_of(next_word(words)?))?;
+    let word = words.next();
+    let flood = word.and_then(flood_of);
+    let said = if flood.is_some() { words.next() } else { word };
+    let texts = said_of(alloc, said)?;
+    Ok(Intent::Put(PutPart {
+        target,
+        zones,
+        begin,
+        end,
+        flood,
+        texts,
+    }))
+}
+
+/// `EVENT ZONES`, then `what=WORD` for a text.
+fn part_of(alloc: Global, words: &mut SplitWhitespace<'_>) -> Result<EventPart, Or<Unread>> {
+    let event = known(event_of(next_word(words)?))?;
+    let zones = zones_of(alloc, next_word(words)?)?;
+    let texts = said_of(alloc, words.next())?;
+    Ok(EventPart {
+        event,
+        zones,
+        texts,
+    })
+}
+
+/// `HAZARD ZONES`, then `what=WORD` for a text.
+fn routine_of(alloc: Global, words: &mut SplitWhitespace<'_>) -> Result<RoutinePart, Or<Unread>> {
+    let hazard = known(hazard_of(next_word(words)?))?;
+    let zones = zones_of(alloc, next_word(words)?)?;
+    let texts = said_of(alloc, words.next())?;
+    Ok(RoutinePart {
+        hazard,
+        zones,
+        texts,
+    })
+}
+
+/// `STAMP CATEGORY`.
+fn at_of(words: &mut SplitWhitespace<'_>) -> Result<Step, Or<Unread>> {
+    let minute = known(minute_of(next_word(words)?))?;
+    let category = known(category_of(next_word(words)?))?;
+    Ok(Step::At(minute, category))
+}
+
+/// `EVENT=WORD`.
+fn told_of(alloc: Global, word: &str) -> Result<EventTexts, Or<Unread>> {
+    let (event, text) = known(word.split_once('='))?;
+    let event = known(event_of(event))?;
+    let texts = texts_of(alloc, text)?;
+    Ok(EventTexts { event, texts })
+}
+
+/// `STAMP NUMBER`, then `EVENT=WORD` for each text.
+fn correct_of(alloc: Global, words: &mut SplitWhitespace<'_>) -> Result<Step, Or<Unread>> {
+    let minute = known(minute_of(next_word(words)?))?;
+    let number = known(number_of(next_word(words)?))?;
+    let mut texts = List::new(alloc);
+    for word in words {
+        texts.push(told_of(alloc, word)?)?;
+    }
+    Ok(Step::Correct(minute, number, texts))
+}
+
+/// `HAZARD COUNT STAMP`.
+fn fill_of(words: &mut SplitWhitespace<'_>) -> Result<Step, Or<Unread>> {
+    let hazard = known(hazard_of(next_word(words)?))?;
+    let count = known(number_of(next_word(words)?))?;
+    let minute = known(minute_of(next_word(words)?))?;
+    Ok(Step::Fill(hazard, count, minute))
+}
+
+/// The step that the first words say.
+fn read_step(alloc: Global, words: &mut SplitWhitespace<'_>) -> Result<Step, Or<Unread>> {
+    match next_word(words)? {
+        "day" => Ok(Step::Day),
+        "at" => at_of(words),
+        "put" => Ok(Step::Add(put_of(alloc, words)?)),
+        "end" => Ok(Step::Add(Intent::Finish(part_of(alloc, words)?))),
+        "restate" => Ok(Step::Add(Intent::Restate(part_of(alloc, words)?))),
+        "routine" => Ok(Step::Add(Intent::Routine(routine_of(alloc, words)?))),
+        "send" => Ok(Step::Send),
+        "preview" => Ok(Step::Preview),
+        "plan" => Ok(Step::Plan),
+        "correct" => correct_of(alloc, words),
+        "board" => Ok(Step::Board(known(minute_of(next_word(words)?))?)),
+        "standing" => Ok(Step::Standing(known(hazard_of(next_word(words)?))?)),
+        "fill" => fill_of(words),
+        _ => Err(Or::No(Unread)),
+    }
+}
+
+/// The step of a line, which has no further words.
+pub fn step_of(alloc: Global, line: &str) -> Result<Step, Or<Unread>> {
+    let mut words = line.split_whitespace();
+    let step = read_step(alloc, &mut words)?;
+    if words.next().is_some() {
+        return Err(Or::No(Unread));
+    }
+    Ok(step)
+}

@@ -1,0 +1,75 @@
+//! The script: rows that stand, and lines that are judged by them.
+ghost use Rattle.std.specs.Prelude.{◌≡◌, Some, None, ◌||◌, not, if◌then◌else◌};
+ghost use Rattle.event_life.specs.Higher.{may_yield};
+ghost use Rattle.event_life.specs.Products.{is_routine, is_overlapped, row_at, life_at, around_but_higher};
+ghost use Rattle.event_life.specs.Table.{step};
+
+use crate::steps::answers::answer_text;
+use crate::steps::words::{Step, step_of};
+use event_life::{Breach, Life, around, has_higher, is_routine, life_at, life_step, put, row_of};
+use hazard_types::{Line, Minute, Oom, Row};
+use std::alloc::Global;
+use worked_lines::Work;
+
+/// Rows by zone, then event, and the minute at which lines are judged.
+#[derive(Drop)]
+pub struct Script {
+    rows: Vec<Row>,
+    minute: Minute,
+}
+
+/// What a line that is alone in its product does to the life of its event in its zone. None for a routine line.
+fn stepped(rows: &[Row], t: Minute, line: &Line) -> Option<Result<Life, Breach>>
+    ensures { result ≡ (if is_routine line.now.action then None else Some (step (life_at rows.now line.now) line.now t (around_but_higher rows.now t line.now (not (may_yield line.now.event.hazard) || is_overlapped rows.now t (row_at rows.now line.now.event line.now.zone))))) }
+{
+    if is_routine(&line.action) {
+        return None;
+    }
+    let higher = has_higher(rows, t, rows, line);
+    Some(life_step(life_at(rows, line), line, t, around(rows, t, line, higher)))
+}
+
+impl Script {
+    pub fn new(alloc: Global) -> Self {
+        Script {
+            rows: Vec::new(alloc),
+            minute: Minute::new(0).unwrap(),
+        }
+    }
+
+    fn judge(&self, alloc: Global, line: &Line) -> Result<String, Oom> {
+        answer_text(alloc, &stepped(&self.rows, self.minute, line))
+    }
+
+    fn take(&mut self, alloc: Global, line: &Line) -> Result<String, Oom> {
+        let found = stepped(&self.rows, self.minute, line);
+        if let Some(Ok(life)) = &found {
+            put(&mut self.rows, &row_of(line, life))?;
+        }
+        answer_text(alloc, &found)
+    }
+
+    fn step(&mut self, alloc: Global, step: &Step) -> Result<String, Oom> {
+        match step {
+            Step::Clear => self.rows.clear(),
+            Step::At(minute) => self.minute = *minute,
+            Step::Stand(row) => put(&mut self.rows, row)?,
+            Step::Judge(line) => return self.judge(alloc, line),
+            Step::Take(line) => return self.take(alloc, line),
+        }
+        Ok(String::new(alloc))
+    }
+}
+
+impl Work for Script {
+    /// What a line is answered. A remark is answered by itself, as is an empty line.
+    fn work(&mut self, alloc: Global, line: &str) -> Result<String, Oom> {
+        if line.is_empty() || line.starts_with('#') {
+            return Ok(format!(in alloc; "{line}\n")?);
+        }
+        match step_of(line) {
+            Ok(step) => self.step(alloc, &step),
+            Err(_unread) => Ok(format!(in alloc; "unread: {line}\n")?),
+        }
+    }
+}

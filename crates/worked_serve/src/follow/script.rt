@@ -1,0 +1,186 @@
+//! The script: each line adds to what is given for the next run, or is a run, which uses that up.
+use crate::follow::answers::add_bytes;
+use crate::follow::given::{Given, LinkGiven, numbers_of, words_of};
+use crate::follow::office::{Office, post_text, questions};
+use crate::follow::runs::{WHOLE, run_follow};
+use crate::follow::schedule::schedule_answer;
+use crate::follow::shown::{run_answer, tally_answer, unread};
+use crate::follow::sweeps::{sweep_cuts, sweep_pieces};
+use hazard_types::{List, Oom, Text, read_stamp};
+use std::alloc::Global;
+use std::mem;
+use std::sync::Wait;
+use worked_lines::Work;
+
+/// The text that is written and those that are kept, the link that is written and what else the
+/// next run stands on, and the office that is served.
+#[derive(Drop)]
+pub struct Script<'a, R> {
+    rt: &'a R,
+    text: Text,
+    kept: List<Text>,
+    link: LinkGiven,
+    given: Given,
+    office: Office,
+}
+
+impl<'a, R: Wait> Script<'a, R> {
+    pub fn new(rt: &'a R, alloc: Global) -> Self {
+        Script {
+            rt,
+            text: List::new(alloc),
+            kept: List::new(alloc),
+            link: LinkGiven::new(alloc),
+            given: Given::new(alloc),
+            office: Office::new(alloc),
+        }
+    }
+
+    /// Sets which calls fail. Answers whether the words say it.
+    fn set_failing(&mut self, alloc: Global, word: &str, rest: &str) -> Result<bool, Oom> {
+        let Some(numbers) = numbers_of(alloc, rest)? else {
+            return Ok(false);
+        };
+        match word {
+            "broken" => self.link.failing = numbers,
+            "dials" => self.given.dials = numbers,
+            "writes" => self.given.writes = numbers,
+            _ => return Ok(false),
+        }
+        Ok(true)
+    }
+
+    /// Sets the reading of the clock. Answers whether the word is a stamp.
+    fn set_clock(&mut self, stamp: &str) -> bool {
+        match read_stamp(stamp.as_bytes()) {
+            Some(minute) => {
+                self.office.reading = i64::from(minute.get());
+                true
+            }
+            None => false,
+        }
+    }
+
+    /// Adds what a line says to what is given. Answers whether it says something to add.
+    fn prepare(&mut self, alloc: Global, line: &str) -> Result<bool, Oom> {
+        let (word, rest) = line.split_once(' ').unwrap_or((line, ""));
+        match word {
+            "text" => {
+                self.text.extend(rest.as_bytes())?;
+                self.text.push(b'\n')?;
+            }
+            "keep" => {
+                let text = mem::replace(&mut self.text, List::new(alloc));
+                self.kept.push(text)?;
+            }
+            "next" => self.given.take_link(alloc, &mut self.link)?,
+            "settings" => {
+                self.office.settings.extend(rest.as_bytes())?;
+                self.office.settings.push(b'\n')?;
+            }
+            "at" => return Ok(self.set_clock(rest)),
+            "broken" | "dials" | "writes" => return self.set_failing(alloc, word, rest),
+            _ => {
+                let kept = self.kept.as_slice();
+                return add_bytes(alloc, &mut self.link.bytes, kept, line);
+            }
+        }
+        Ok(true)
+    }
+
+    fn make_journal(&mut self, alloc: Global) -> Result<String, Oom> {
+        let word = if self.office.make_journal(alloc)? {
+            "ready\n"
+        } else {
+            "refused\n"
+        };
+        Ok(String::from_str(alloc, word)?)
+    }
+
+    /// Posts a request to the served office, and keeps the journal that it leaves.
+    fn post(&mut self, alloc: Global, body: &str) -> Result<String, Oom> {
+        let call = post_text(alloc, body)?;
+        match self.office.serve(self.rt, alloc, call.as_bytes())? {
+            Some(served) => {
+                self.office.journal = served.journal;
+                let line = String::from_utf8_lossy(alloc, served.written.as_slice())?;
+                let status = line.as_str().get(9..12).unwrap_or("");
+                Ok(format!(in alloc; "answered {status}\n")?)
+            }
+            None => unread(alloc, body),
+        }
+    }
+
+    /// Follows the served office: the link gives what that answers to the questions after the
+    /// first places, so many. Says also whether what was asked is what was answered.
+    fn meet(&mut self, alloc: Global, line: &str) -> Result<Option<String>, Oom> {
+        let Some((count, words)) = line.split_once(' ') else {
+            return Ok(None);
+        };
+        let Ok(count) = count.parse::<u32>() else {
+            return Ok(None);
+        };
+        let asked = questions(alloc, count.min(100_000))?;
+        let Some(served) = self.office.serve(self.rt, alloc, asked.as_slice())? else {
+            return Ok(None);
+        };
+        self.link.bytes = served.written;
+        self.given.take_link(alloc, &mut self.link)?;
+        let words = words_of(alloc, words)?;
+        let run = run_follow(alloc, &self.given, &words, WHOLE)?;
+        let mut answer = tally_answer(alloc, &run)?;
+        let same = match run.asked.as_slice().first() {
+            Some(written) => asked.as_slice().starts_with(written.as_slice()),
+            None => true,
+        };
+        answer.push_str(if same {
+            "asked as answered\n"
+        } else {
+            "asked otherwise\n"
+        })?;
+        Ok(Some(answer))
+    }
+
+    /// Follows over the links that are written.
+    fn follow(&mut self, alloc: Global, word: &str, rest: &str) -> Result<String, Oom> {
+        if !self.link.bytes.is_empty() || !self.link.failing.is_empty() {
+            self.given.take_link(alloc, &mut self.link)?;
+        }
+        let words = words_of(alloc, rest)?;
+        match word {
+            "cuts" => sweep_cuts(alloc, &self.given, &words),
+            "pieces" => sweep_pieces(alloc, &self.given, &words),
+            "tally" => tally_answer(alloc, &run_follow(alloc, &self.given, &words, WHOLE)?),
+            _ => run_answer(alloc, &run_follow(alloc, &self.given, &words, WHOLE)?),
+        }
+    }
+
+    /// What a run is answered, where the line is one.
+    fn run(&mut self, alloc: Global, line: &str) -> Result<Option<String>, Oom> {
+        let (word, rest) = line.split_once(' ').unwrap_or((line, ""));
+        match word {
+            "follow" | "tally" | "cuts" | "pieces" => Ok(Some(self.follow(alloc, word, rest)?)),
+            "schedule" => schedule_answer(alloc, self.kept.as_slice(), rest),
+            "init" => Ok(Some(self.make_journal(alloc)?)),
+            "post" => Ok(Some(self.post(alloc, rest)?)),
+            "meet" => self.meet(alloc, rest),
+            _ => Ok(None),
+        }
+    }
+}
+
+impl<'a, R: Wait> Work for Script<'a, R> {
+    /// What a line of the script is answered.
+    fn work(&mut self, alloc: Global, line: &str) -> Result<String, Oom> {
+        if line.is_empty() || line.starts_with('#') || self.prepare(alloc, line)? {
+            return Ok(String::new(alloc));
+        }
+        let answer = match self.run(alloc, line)? {
+            Some(answer) => answer,
+            None => unread(alloc, line)?,
+        };
+        self.link = LinkGiven::new(alloc);
+        self.given = Given::new(alloc);
+        Ok(answer)
+    }
+}

@@ -1,0 +1,61 @@
+//! What came of a run, as text.
+use crate::follow::runs::Run;
+use hazard_types::{Oom, Text};
+use std::alloc::Global;
+
+/// Adds the bytes in one line, in which CR and LF are shown as `\r` and `\n`.
+fn add_line(answer: &mut String, bytes: &[u8]) -> Result<(), Oom> {
+    for byte in bytes {
+        match byte {
+            b'\r' => answer.push_str("\\r")?,
+            b'\n' => answer.push_str("\\n")?,
+            _ => answer.push(char::from(*byte))?,
+        }
+    }
+    answer.push('\n')?;
+    Ok(())
+}
+
+/// Adds a text, and ends its last line.
+fn add_text(answer: &mut String, text: &Text) -> Result<(), Oom> {
+    for byte in text.as_slice() {
+        answer.push(char::from(*byte))?;
+    }
+    if !text.is_empty() && text.as_slice().last() != Some(&b'\n') {
+        answer.push('\n')?;
+    }
+    Ok(())
+}
+
+/// What the program wrote and its status, and a line for each link with what was written on it.
+pub fn run_answer(alloc: Global, run: &Run) -> Result<String, Oom> {
+    let mut answer = String::new(alloc);
+    add_text(&mut answer, &run.told)?;
+    let status = run.status;
+    answer.push_str(format!(in alloc; "status {status}\n")?.as_str())?;
+    for asked in run.asked.as_slice() {
+        answer.push_str("link ")?;
+        add_line(&mut answer, asked.as_slice())?;
+    }
+    Ok(answer)
+}
+
+/// What the program wrote and its status, and how many links and bytes of questions there were.
+pub fn tally_answer(alloc: Global, run: &Run) -> Result<String, Oom> {
+    let mut answer = String::new(alloc);
+    add_text(&mut answer, &run.told)?;
+    let status = run.status;
+    let links = run.asked.len();
+    let mut bytes = 0usize;
+    for asked in run.asked.as_slice() {
+        bytes = bytes.saturating_add(asked.len());
+    }
+    let line = format!(in alloc; "status {status}, links {links}, asked in {bytes} bytes\n")?;
+    answer.push_str(line.as_str())?;
+    Ok(answer)
+}
+
+/// A line that can't be worked.
+pub fn unread(alloc: Global, line: &str) -> Result<String, Oom> {
+    Ok(format!(in alloc; "unread: {line}\n")?)
+}

@@ -1,0 +1,202 @@
+//! A port of this machine, served over the office of a journal.
+ghost use Rattle.std.specs.Prelude.{IfOk, IfSome};
+ghost use Rattle.std.specs.Thread.{IsSync};
+ghost use Rattle.serve_command.specs.Words.{IsServing};
+
+use crate::serve::answers::add_bytes;
+use crate::serve::gate::HoldingGate;
+use crate::serve::given::Given;
+use crate::serve::ports::add_output;
+use crate::serve::words::serving_in;
+use desk_commands::Ended;
+use desk_links::{Dialer, Peer, Port, TcpDialer, TcpDoor, TcpPeer, TcpPort};
+use desk_traits::{MemSink, write_whole};
+use hazard_types::{List, Oom, Text};
+use serve_command::{Serving, run_serve};
+use std::alloc::Global;
+use std::net::{Net, TcpListener, TcpStream};
+use std::sync::Wait;
+use std::thread::{self, Threads, join};
+use std::time::{Clock, SystemTime};
+
+/// The first of the numbers at which a port may be looked for, of which none is given to those that dial.
+const FIRST: u16 = 21_000;
+
+/// How many these are.
+const NUMBERS: u64 = 10_000;
+
+/// The most ports that are tried.
+const MOST_PORTS: u16 = 100;
+
+/// The most dials that are tried, and the most reads.
+const MOST_TRIES: u32 = 200_000;
+
+/// A number to begin with, another one at each moment, so that two programs do not meet.
+fn first_number<R: Clock>(rt: &R) -> u16 {
+    let Ok(now) = SystemTime::now(rt) else {
+        return FIRST;
+    };
+    match now.duration_since(SystemTime::UNIX_EPOCH) {
+        Ok(since) => FIRST.saturating_add((u64::from(since.subsec_nanos()) % NUMBERS) as u16),
+        Err(_) => FIRST,
+    }
+}
+
+/// A number that is free, and a door at which it is taken.
+fn free_port<R: Clock + Sync + Net<Listener = TcpListener, Stream = TcpStream>>(
+    rt: &R,
+    alloc: Global,
+) -> Option<(u16, List<TcpDoor<&R>>)> {
+    let first = first_number(rt);
+    for place in 0..MOST_PORTS {
+        let number = first.saturating_add(place);
+        let mut port = TcpPort::new(alloc, rt);
+        if let Ok(doors) = port.listen(number, 1) {
+            return Some((number, doors));
+        }
+    }
+    None
+}
+
+/// Serves a port of this machine, and adds what the program wrote.
+fn serve_port<R: Clock + Threads + Wait + Sync + Net<Listener = TcpListener, Stream = TcpStream>>(
+    rt: &R,
+    alloc: Global,
+    given: &Given,
+    serving: &Serving,
+) -> Result<String, Oom>
+    requires { IsServing serving.now }
+{
+    let none = List::new(alloc);
+    let mut output = MemSink::new(alloc, &none)?;
+    let mut port = TcpPort::new(alloc, rt);
+    let clock = given.clock(alloc)?;
+    let disk = given.disk(alloc)?;
+    let gate = HoldingGate::new(false);
+    let Ended { status, disk } = run_serve(
+        rt,
+        alloc,
+        serving,
+        &mut output,
+        disk,
+        &mut port,
+        &clock,
+        &gate,
+    );
+    drop(disk);
+    let mut answer = String::new(alloc);
+    add_output(alloc, &mut answer, output.taken(), status)?;
+    Ok(answer)
+}
+
+/// One link of a dialer of its own.
+fn dial_once<R: Clock + Sync + Net<Listener = TcpListener, Stream = TcpStream>>(
+    rt: &R,
+    number: u16,
+) -> Option<TcpPeer<&R>> {
+    let mut dialer = TcpDialer::new(rt, number);
+    dialer.dial().ok()
+}
+
+/// Dials until the other side listens.
+fn dial<R: Clock + Sync + Net<Listener = TcpListener, Stream = TcpStream>>(
+    rt: &R,
+    number: u16,
+) -> Option<TcpPeer<&R>> {
+    for _ in 0..MOST_TRIES {
+        let dialled = dial_once(rt, number);
+        if dialled.is_some() {
+            return dialled;
+        }
+        thread::yield_now();
+    }
+    None
+}
+
+/// Asks on a link, and hears it to its end.
+fn ask<C: Clock>(alloc: Global, peer: &mut TcpPeer<C>, bytes: &[u8]) -> Result<Text, Oom> {
+    let mut heard = List::new(alloc);
+    if write_whole(peer, bytes).is_err() {
+        return Ok(heard);
+    }
+    let mut buffer = [0; 1024];
+    for _ in 0..MOST_TRIES {
+        match peer.hear(&mut buffer) {
+            Ok(count) => heard.extend(&buffer[..count])?,
+            Err(_) => return Ok(heard),
+        }
+    }
+    Ok(heard)
+}
+
+/// What two clients hear that are there at once and ask the same. The one that came last asks first.
+fn ask_both<R: Clock + Sync + Net<Listener = TcpListener, Stream = TcpStream>>(
+    rt: &R,
+    alloc: Global,
+    number: u16,
+    bytes: &[u8],
+) -> Result<String, Oom> {
+    let mut answer = String::new(alloc);
+    let (Some(mut first), Some(mut last)) = (dial(rt, number), dial(rt, number)) else {
+        return Ok(answer);
+    };
+    add_bytes(&mut answer, ask(alloc, &mut last, bytes)?.as_slice())?;
+    add_bytes(&mut answer, ask(alloc, &mut first, bytes)?.as_slice())?;
+    Ok(answer)
+}
+
+/// Serves two clients side by side, each on a worker of its own.
+fn serve_clients<
+    R: Clock + Threads + Wait + Sync + Net<Listener = TcpListener, Stream = TcpStream>,
+>(rt: &R, alloc: Global, given: &Given, serving: &Serving, bytes: &[u8]) -> Result<String, Oom>
+    requires { IsServing serving.now }
+{
+    let number = serving.port;
+    let (served, heard) = join(
+        rt,
+        || -> Result<String, Oom>
+            requires { IsSync R.row × IsServing serving.now }
+        { serve_port(rt, alloc, given, serving) },
+        || -> Result<String, Oom> { ask_both(rt, alloc, number, bytes) },
+    );
+    let mut answer = heard?;
+    answer.push_str(served?.as_str())?;
+    Ok(answer)
+}
+
+/// What is asked to be served by two workers over two connections.
+fn serving_at(alloc: Global, number: u16) -> Result<Option<Serving>, Oom>
+    ensures { IfOk result (λ serving. IfSome serving IsServing) }
+{
+    let words = format!(in alloc; "serve --port {number} --workers 2 --connections 2")?;
+    serving_in(alloc, words.as_str())
+}
+
+/// Serves a port that another one has taken.
+pub fn taken_answer<
+    R: Clock + Threads + Wait + Sync + Net<Listener = TcpListener, Stream = TcpStream>,
+>(rt: &R, alloc: Global, given: &Given) -> Result<String, Oom> {
+    let Some((number, doors)) = free_port(rt, alloc) else {
+        return Ok(String::from_str(alloc, "no port\n")?);
+    };
+    let Some(serving) = serving_at(alloc, number)? else {
+        return Ok(String::from_str(alloc, "no words\n")?);
+    };
+    let answer = serve_port(rt, alloc, given, &serving)?;
+    drop(doors);
+    Ok(answer)
+}
+
+/// Serves two clients that ask these bytes.
+pub fn clients_answer<
+    R: Clock + Threads + Wait + Sync + Net<Listener = TcpListener, Stream = TcpStream>,
+>(rt: &R, alloc: Global, given: &Given, bytes: &[u8]) -> Result<String, Oom> {
+    let Some((number, doors)) = free_port(rt, alloc) else {
+        return Ok(String::from_str(alloc, "no port\n")?);
+    };
+    drop(doors);
+    match serving_at(alloc, number)? {
+        Some(serving) => serve_clients(rt, alloc, given, &serving, bytes),
+        None => Ok(String::from_str(alloc, "no words\n")?),
+    }
+}

@@ -1,0 +1,113 @@
+//! The threads: one holds the turn, and the others wait for theirs.
+ghost use Rattle.std.specs.Prelude.{◌≡◌, ◌+◌, ◌<◌, ◌≤◌, [], length, vec_len, IfOk};
+ghost use Rattle.std.specs.Thread.{IsSync};
+ghost use Rattle.worked_serve.specs.Turns.{Adds};
+
+use crate::turns::entries::{Entries, Entry};
+use crate::turns::jobs::{Add, Hold};
+use hazard_types::Oom;
+use std::alloc::Global;
+use std::sync::Wait;
+use std::thread::{Parker, Threads, join};
+use std::time::{Clock, Duration};
+use turn_lock::{Pass, TurnLock};
+
+/// The most threads that wait. The lock's shares are more.
+pub const MOST_WAITING: u32 = 1000;
+
+/// Holds the turn for that time, and adds an entry.
+fn hold<R: Wait + Clock>(
+    rt: &R,
+    lock: &TurnLock<Entries>,
+    mut pass: Pass<Entries>,
+    begun: &Parker,
+    time: Duration,
+) -> Result<Pass<Entries>, Oom>
+    requires { pass.lock ≡ lock.now }
+    ensures { IfOk result (λ after. Adds 1 pass after) }
+{
+    lock.turn(rt, &mut pass, Hold { rt, begun, time })?;
+    Ok(pass)
+}
+
+/// Waits for a turn, and adds an entry.
+fn wait<R: Wait>(
+    rt: &R,
+    lock: &TurnLock<Entries>,
+    mut pass: Pass<Entries>,
+) -> Result<Pass<Entries>, Oom>
+    requires { pass.lock ≡ lock.now }
+    ensures { IfOk result (λ after. Adds 1 pass after) }
+{
+    lock.turn(rt, &mut pass, Add)?;
+    Ok(pass)
+}
+
+/// So many threads wait, each for a turn of its own, with a share of the pass each.
+fn wait_each<R: Threads + Wait + Sync>(
+    rt: &R,
+    lock: &TurnLock<Entries>,
+    mut pass: Pass<Entries>,
+    waiting: u32,
+) -> Result<Pass<Entries>, Oom>
+    requires lock { pass.lock ≡ lock.now }
+    requires shares { waiting < pass.shares }
+    ensures { IfOk result (λ after. Adds waiting pass after) }
+{
+    if waiting == 0 {
+        return Ok(pass);
+    }
+    let other = lock.split(&mut pass)?;
+    let left = waiting - 1;
+    let (one, others) = join(
+        rt,
+        || -> Result<Pass<Entries>, Oom>
+            requires { other.lock ≡ lock.now }
+            ensures { IfOk result (λ after. Adds 1 other after) }
+        { wait(rt, lock, other) },
+        || -> Result<Pass<Entries>, Oom>
+            requires { IsSync R.row × (pass.lock ≡ lock.now) × (left < pass.shares) }
+            ensures { IfOk result (λ after. Adds left pass after) }
+        { wait_each(rt, lock, pass, left) },
+    );
+    let mut whole = others?;
+    lock.join(&mut whole, one?);
+    Ok(whole)
+}
+
+/// The entries of so many threads that wait while another one holds the turn for that time, and of this one.
+pub fn take_turns<R: Threads + Wait + Clock + Sync>(
+    rt: &R,
+    alloc: Global,
+    waiting: u32,
+    time: Duration,
+) -> Result<Vec<Entry>, Oom>
+    requires { waiting ≤ MOST_WAITING }
+    ensures { IfOk result (λ entries. vec_len entries ≡ waiting + 1) }
+{
+    let Ok((lock, mut pass)) = TurnLock::start(alloc, Entries::new(alloc)) else {
+        return Err(Oom);
+    };
+    let shared = &lock;
+    let begun = Parker::new();
+    let holds = &begun;
+    let other = lock.split(&mut pass)?;
+    let (one, others) = join(
+        rt,
+        || -> Result<Pass<Entries>, Oom>
+            requires { other.lock ≡ shared.now }
+            ensures { IfOk result (λ after. Adds 1 other after) }
+        { hold(rt, shared, other, holds, time) },
+        || -> Result<Pass<Entries>, Oom>
+            requires { IsSync R.row × (pass.lock ≡ shared.now) × (waiting < pass.shares) }
+            ensures { IfOk result (λ after. Adds waiting pass after) }
+        {
+            holds.park(rt);
+            wait_each(rt, shared, pass, waiting)
+        },
+    );
+    let mut whole = others?;
+    lock.join(&mut whole, one?);
+    let Entries { items } = lock.close(whole);
+    Ok(items)
+}
