@@ -1,16 +1,33 @@
 #!/bin/sh
-# Keeps an office in a journal: makes it (`init`), answers the requests of two desks (`script`), writes the texts that
-# were sent (`export`) and the hazards that stand now (`board`). Then the training office answers a sample of its own
-# (`dry`). The requests have a flood warning, the same request again, one that is refused, a follow-up and a correction.
+# Keeps an office in a journal: makes it (`init`), answers the requests of two desks (`script`),
+# writes the texts that were sent (`export`) and the hazards that stand now (`board`). Then the
+# training office answers a sample of its own (`dry`). The requests have a flood warning, the same
+# request again, one that is refused, a follow-up and a correction.
 #
-# It builds the program once, unproved (`rt try`), and runs all steps over it. With the word `proved` it proves and
-# builds the program and the libraries below it first (`rt run`), which takes a while the first time.
+# usage: sh demo.sh [proved]
+#
+# It builds the program once, unproved (`rt try`), and runs all steps over it: some two minutes. With
+# the word `proved` it proves the program and the libraries below it first (`rt run`): hours.
+# docs/MEASURED.md has the figures. WARN_PROGRAMS=FOLDER names a folder with a built one.
+#
+# Its journal is in a scratch folder, and it opens no port.
 top=$(cd "$(dirname "$0")" && pwd)
+fail() {
+  echo "demo.sh: $*" >&2
+  exit 2
+}
 case "${1-}" in
   "") note="not proved in this run: sh demo.sh proved proves it first" ;;
   proved) note="proved" ;;
-  *) echo "usage: sh demo.sh [proved]" >&2; exit 2 ;;
+  *) fail "usage: sh demo.sh [proved]" ;;
 esac
+if [ -n "${WARN_PROGRAMS-}" ]; then
+  [ -x "$WARN_PROGRAMS/warn_main" ] || fail "$WARN_PROGRAMS has no program warn_main"
+  WARN_PROGRAMS=$(cd "$WARN_PROGRAMS" && pwd)
+  note="of $WARN_PROGRAMS"
+elif ! command -v rt > /dev/null; then
+  fail "rt (the Rattle kit) is not there; WARN_PROGRAMS=FOLDER names a folder with built programs"
+fi
 work=$(mktemp -d)
 trap 'rm -rf "$work"' EXIT
 mkdir "$work/steps"
@@ -42,27 +59,34 @@ cat <<'TEXT'
 TEXT
 echo "== the lines of 5_training (samples/training.jsonl, at the office KLWX, at 15:30 UTC on 2018-01-03)"
 cat "$top/samples/training.jsonl"
-cd "$top/crates/warn_main" || exit 1
-status=0
-if [ -z "${1-}" ]; then
-  echo "== building warn_main without its proofs: about a minute, in which nothing is printed"
-  echo "== what warn_main answers ($note)"
-  rt try --cases "$work/steps" 2> "$work/log" || status=$?
-else
-  echo "== proving and building warn_main: a while the first time, in which nothing is printed"
-  echo "== what warn_main answers ($note)"
-  # The first step proves and builds; the others run the program that it leaves.
+[ -n "${WARN_PROGRAMS-}" ] || cd "$top/crates/warn_main" || exit 1
+
+# The steps one by one: `built` runs each, but for the first where it has to be proved and built.
+one_by_one() {
   for file in "$work"/steps/*.args; do
     step=${file%.args}
     echo "== ${step##*/}"
     set --
     while read -r word; do set -- "$@" "$word"; done < "$file"
-    if [ "${step##*/}" = 1_init ]; then
+    if [ "${step##*/}" = 1_init ] && [ -z "${WARN_PROGRAMS-}" ]; then
       rt run -- "$@" < "$step" 2> "$work/log"
     else
-      out/warn_main "$@" < "$step" 2> "$work/log"
-    fi || { status=$?; break; }
+      "${WARN_PROGRAMS-out}/warn_main" "$@" < "$step" 2> "$work/log"
+    fi || return
   done
+}
+status=0
+if [ -n "${WARN_PROGRAMS-}" ]; then
+  echo "== what warn_main answers ($note)"
+  one_by_one || status=$?
+elif [ -z "${1-}" ]; then
+  echo "== building warn_main without its proofs: some two minutes, in which nothing is printed"
+  echo "== what warn_main answers ($note)"
+  rt try --cases "$work/steps" 2> "$work/log" || status=$?
+else
+  echo "== proving and building warn_main: hours the first time, in which nothing is printed"
+  echo "== what warn_main answers ($note)"
+  one_by_one || status=$?
 fi
-[ "$status" = 0 ] || tail -20 "$work/log"
+[ "$status" = 0 ] || tail -20 "$work/log" >&2
 exit "$status"

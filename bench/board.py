@@ -58,7 +58,7 @@ def script(products):
 def main():
     products = int(sys.argv[1]) if len(sys.argv) > 1 else 8192
     work = subprocess.Popen([program("worked_rows")], stdin=subprocess.PIPE, stdout=subprocess.PIPE, text=True)
-    work.stdin.write("\n".join(script(products)) + "\n")
+    work.stdin.write("rows of board\n" + "\n".join(script(products)) + "\n")
     work.stdin.close()
     done, began, times = 0, None, []
     for line in work.stdout:

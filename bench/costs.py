@@ -2,7 +2,7 @@
 
     python3 bench/costs.py [NAMES..] [--beside FOLDER]
 
-NAMES are those of the measurements below (all where none is given): live, random, drill, year, script, long, counties, joins.
+NAMES are those of the measurements below (all where none is given): live, random, drill, year, script, long, counties, joins, single.
 FOLDER has another `warn_main` and `watch_notice`, which are given the same words, and for `year` a program
 `year PRODUCTS ZONES SEED`, which writes a journal.
 Seconds are of processor time, the least of three runs. Growth is the exponent between the two largest sizes.
@@ -195,6 +195,13 @@ def joins(count):
     return lines_of(asked)
 
 
+def single(count):
+    """A watch that single counties join, a line each."""
+    asked = [watch(0, "open", 1, [0], 2000)]
+    asked += [watch(n * 59 // count, "join", 1, [n + 1], 2000) for n in range(count)]
+    return lines_of(asked)
+
+
 def notices(make, sizes, name, folder):
     measured = Measured(program("watch_notice"), os.path.join(folder, "watch_notice") if folder else None)
     for size in sizes:
@@ -216,6 +223,7 @@ def main():
             "long": lambda: long_draft(Measured(mine, other), folder),
             "counties": lambda: notices(counties, (150, 300, 600), "watches in as many counties", there),
             "joins": lambda: notices(joins, (90, 180, 360), "lines that open and join watches", there),
+            "single": lambda: notices(single, (1900, 7600), "counties that join one watch, a line each", there),
         }
         for name in words or kinds:
             kinds[name]()

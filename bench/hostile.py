@@ -1,9 +1,9 @@
 """Measures the archive report, outside the gate, on small inputs that name very much: two products whose UGC names so many states of
 999 zones each; a UGC that names one state's zones again and again; very many products of an event each; one event of very many
 zones of which very many products name one each; one whose zones come in falling order, a segment each; one that very many zones
-join by EXB lines; very many warnings of a zone each, then products that upgrade an advisory of whole states; and very many events
-in one zone, opened in falling order, or upgraded together, under as many higher events or beside them. Seconds are of processor
-time; the exponent is that of the growth of time.
+join by EXB lines; very many warnings of a zone each, then products that upgrade an advisory of whole states, or of a zone each; and
+very many events in one zone, opened in falling order, or upgraded together, under as many higher events or beside them. Seconds are
+of processor time; the exponent is that of the growth of time.
 With `--beside FOLDER` the program of the same name in that folder runs over the same files, and the ratios are printed.
 
     python3 bench/hostile.py [--beside FOLDER]
@@ -80,6 +80,13 @@ def upgraded(count):
     return product(groups, "NEW", "WW.Y", 3) + "".join(warnings) + "".join(product([group], "UPG", "WW.Y", 3) for group in groups)
 
 
+def upgraded_one_by_one(count):
+    zones = [letters(k // 999) + "Z%03d" % (k % 999 + 1) for k in range(count)]
+    groups = [letters(k) + "Z001>999" for k in range((count + 998) // 999)]
+    warnings = [product([zone], "NEW", "WS.W", k + 1) for k, zone in enumerate(zones)]
+    return product(groups, "NEW", "WW.Y", 3) + "".join(warnings) + "".join(product([zone], "UPG", "WW.Y", 3) for zone in zones)
+
+
 def lines_of(action, hazard, numbers, hours="1800-0600"):
     begin, end = hours.split("-")
     days = "180103T%sZ" % begin, "1801%02dT%sZ" % (3 + (end < begin), end)
@@ -131,6 +138,7 @@ with tempfile.TemporaryDirectory() as place:
                               ("states of 999 zones of one event in falling order, a segment each", falling, (4, 16, 64)),
                               ("states of 999 zones of one event, each second one by EXB lines", joined, (16, 64, 676)),
                               ("warnings of a zone each, then an upgrade of each of 20 states of 999 zones", upgraded, (2000, 8000)),
+                              ("warnings of a zone each, then an upgrade of a zone each", upgraded_one_by_one, (2000, 8000)),
                               ("events that one product opens in one zone, in falling order", falling_numbers, (2475, 9900)),
                               ("events of one zone that one product opens and one upgrades", all_upgraded, (2475, 9900)),
                               ("events of one zone that one product upgrades under as many warnings", under_as_many, (1200, 4800)),

@@ -31,7 +31,7 @@ def script(calls, runs):
 def seconds(path, calls, runs):
     """The processor's seconds of a script, and what it is answered."""
     with tempfile.NamedTemporaryFile("w", suffix=".rows", newline="") as rows:
-        rows.write(script(calls, runs))
+        rows.write("rows of serve\n" + script(calls, runs))
         rows.flush()
         taken = min(run([path], rows.name)[0] for _ in range(3))
         answer = subprocess.run([path], stdin=open(rows.name), capture_output=True, check=True).stdout

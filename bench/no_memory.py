@@ -265,8 +265,8 @@ def small_day():
 
 
 def script_of(archive, asked):
-    """Rows of worked_archive: the lines of an archive, and what a reader says of it."""
-    return b"".join(b"line %s\n" % line.rstrip(b"\r") for line in archive.split(b"\n")[:-1]) + b"reader 40 %s\n" % asked
+    """Rows of worked_rows: the lines of an archive, and what a reader says of it."""
+    return b"rows of archive\n" + b"".join(b"line %s\n" % line.rstrip(b"\r") for line in archive.split(b"\n")[:-1]) + b"reader 40 %s\n" % asked
 
 
 def one_issue():
@@ -318,7 +318,7 @@ CASES = {
     "warn_stats over a small archive": lambda folder: (Runs(folder, "warn_stats", ["KLWX", "O", "180103T2200Z"],
                                                             sample("samples", "statistics.txt")), ended),
     "a reader that goes on, over a small archive": lambda folder: (
-        Runs(folder, "worked_archive", [], script_of(sample("samples", "archive.txt"), b"KLWX O 180103T1900Z")), taken),
+        Runs(folder, "worked_rows", [], script_of(sample("samples", "archive.txt"), b"KLWX O 180103T1900Z")), taken),
     "watch_notice over three lines": lambda folder: (
         Runs(folder, "watch_notice", ["KLWX", "Eastern"], b"".join(sample("samples", "notices.jsonl").splitlines(True)[:3])), begun),
     "serve over two links": lambda folder: (Served(folder, one_issue(), journal_with(folder, b"")), served),

@@ -50,7 +50,7 @@ def board(sets):
 
 def seconds(lines):
     with tempfile.NamedTemporaryFile("w", delete=False) as script:
-        script.write("\n".join(lines) + "\n")
+        script.write("rows of board\n" + "\n".join(lines) + "\n")
     try:
         used, _, peak, status = run([program("worked_rows")], script.name)
     finally:

@@ -21,7 +21,7 @@ def script(path, times, zones, size):
                 % (HEADINGS, names))
     texts = "|".join("%d*Heavy snow and wind. " % (size // 21) for _ in range(4))
     with open(path, "w") as out:
-        out.write("product %d Two O WSW - - %s|MDZ001>%03d-032330-|%s|%s\n" % (times, LINE, zones, texts, settings))
+        out.write("rows of texts\nproduct %d Two O WSW - - %s|MDZ001>%03d-032330-|%s|%s\n" % (times, LINE, zones, texts, settings))
 
 
 with tempfile.TemporaryDirectory() as folder:
@@ -29,9 +29,9 @@ with tempfile.TemporaryDirectory() as folder:
     for zones in (6, 600):
         for size in (1024, 4096, 16384):
             script(path, 1, zones, size)
-            once = run([program("worked_texts")], path)[0]
+            once = run([program("worked_codes")], path)[0]
             script(path, count + 1, zones, size)
-            seconds, _, memory, status = run([program("worked_texts")], path)
+            seconds, _, memory, status = run([program("worked_codes")], path)
             each = max(seconds - once, 0.001) / count
             print("%d zones, four bullets of %d bytes: %.0f texts/s, %.2f ms each, peak %s, status %d"
                   % (zones, size, 1 / each, each * 1000, kilobytes(memory), status))

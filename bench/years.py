@@ -1,8 +1,8 @@
-"""Prints rows of crates/worked_archive: two years of an office's products, and an event of 100,000 zones, a product a row; with
+"""Prints rows of crates/worked_rows, behind its line `rows of archive`: two years of an office's products, and an event of 100,000 zones, a product a row; with
 `--beside FOLDER` what these rows must be answered, as the programs `warn_archive` and `warn_stats` of that folder tell it.
 
-    python3 bench/years.py [--seed S]                       the rows, for its stdin (seed 1 where none is given)
-    python3 bench/years.py [--seed S] --beside FOLDER       their answers, for its stdout
+    python3 bench/years.py [--seed S]                       the rows, for that part of its stdin (seed 1 where none is given)
+    python3 bench/years.py [--seed S] --beside FOLDER       their answers, for that part of its stdout
 
 Most lines go on with an event as they may. Some come too late or for zones that the event has not, print another begin or end,
 give a number again or leave numbers out; some products have a fault, come out of order or are another office's.
