@@ -11,3 +11,4 @@ pub mod PutLemmas
 pub mod RisingLemmas
 pub mod ExpiryLemmas
 pub mod SaidLemmas
+pub mod OneGroupLemmas

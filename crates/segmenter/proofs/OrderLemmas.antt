@@ -11,10 +11,10 @@ use Rattle.segmenter.specs.declared.groups.Group.{Group}
 use Rattle.segmenter.specs.Groups.{action_rank, by_line, placed, group_of, without_zone, same_group, lines_of}
 use Rattle.segmenter.specs.Laws.{AreInOrder}
 
-by_line_total : IsTotalOrder by_line
+pub by_line_total : IsTotalOrder by_line
 by_line_total = then_total (on_total (λ (l : SegLine). action_rank l.action) nat_cmp_total) (on_total (λ (l : SegLine). l.event) by_event_total)
 
-less_is : (o : Ordering) → is_lt o ≡ true → o ≡ Less
+pub less_is : (o : Ordering) → is_lt o ≡ true → o ≡ Less
 less_is Less h = refl
 less_is Equal h = cc
 less_is Greater h = cc
@@ -53,7 +53,7 @@ order_by : (b : Bool) (line other : SegLine) (others : List SegLine) → is_lt (
 order_by true line other others is order more = ((after line other is, all_after line other others is order.0), order)
 order_by false line other others is order more = (all_placed (λ (later : SegLine). is_lt (by_line later other) ≡ false) line others is order.0, more)
 
-order_placed : (line : SegLine) (others : List SegLine) → AreInOrder others → AreInOrder (placed line others)
+pub order_placed : (line : SegLine) (others : List SegLine) → AreInOrder others → AreInOrder (placed line others)
 order_placed line [] order = (tt, tt)
 order_placed line (other ∷ others) order = order_by (is_lt (by_line line other)) line other others refl order (order_placed line others order.1)
 

@@ -4,3 +4,4 @@ pub mod Laws
 pub mod Said
 pub mod Segments
 pub mod Steps
+pub mod OneGroup

@@ -62,8 +62,8 @@ abbrev pub segments_of : Classes → List Segment
 segments_of classes = map (λ (c : List SegLine × List Place). record { zones = c.1; lines = c.0 }) classes
 
 -- what the maps of the code hold
-abbrev pub groups_view : List (Group × Vec SegLine Global) → Groups
-groups_view es = map (λ e. (e.0, e.1.items)) es
+abbrev pub groups_view : List (Group × List SegLine) → Groups
+groups_view es = map (λ e. (e.0, e.1)) es
 
 abbrev pub heads_view : List (Head × Vec SegLine Global) → Heads
 heads_view es = map (λ e. (e.0, e.1.items)) es

@@ -1,12 +1,15 @@
 //! The lines of each group, in order.
-ghost use Rattle.std.specs.Prelude.{◌≡◌, ◌≤◌, length, insert, IfOk, OnOk};
+ghost use Rattle.std.specs.Prelude.{◌≡◌, ◌≤◌, not, [], length, insert, IfOk, OnOk};
+ghost use Rattle.std.specs.Ordering.{is_lt};
 ghost use Rattle.segmenter.specs.Groups.{flood_event, group_of, without_zone, same_group, action_rank, by_line, placed};
+ghost use Rattle.segmenter.specs.Laws.{AreInOrder};
 ghost use Rattle.segmenter.specs.Steps.{put, groups_of, groups_view};
 
 use hazard_types::{Action, Event, Line, Oom, SegLine, Zone, is_flood};
 use indexmap::IndexMap;
 use std::alloc::Global;
 use std::cmp::Ordering;
+use std::marker::Model;
 
 /// What sets lines apart: their zone, and their event where its phenomenon is FL.
 #[derive(Clone, Copy, PartialEq, Eq, Hash)]
@@ -22,8 +25,26 @@ pub struct Head {
     pub first: Event,
 }
 
+/// Lines of a segment, in order.
+#[derive(Drop)]
+pub struct Ordered {
+    lines: Vec<SegLine>,
+}
+
+impl Model for Ordered {
+    ghost use Rattle.std.specs.Prelude.{List};
+    ghost use Rattle.hazard_types.specs.declared.line.SegLine.{SegLine as AnyLine};
+    ghost use Rattle.segmenter.specs.Laws.{AreInOrder};
+
+    ghost Value = { List AnyLine };
+
+    ghost view = { λ o. o.lines.items };
+
+    ghost invariant = { λ o. AreInOrder o.lines.items };
+}
+
 /// The lines of each group.
-pub type Groups = IndexMap<Group, Vec<SegLine>>;
+pub type Groups = IndexMap<Group, Ordered>;
 
 /// The event that has a group of its own.
 fn flood_event(event: &Event) -> Option<Event>
@@ -36,7 +57,8 @@ fn flood_event(event: &Event) -> Option<Event>
     }
 }
 
-fn group_of(line: &Line) -> Group
+/// The group of a line.
+pub fn group_of(line: &Line) -> Group
     ensures { result ≡ group_of line.now }
 {
     Group {
@@ -45,7 +67,8 @@ fn group_of(line: &Line) -> Group
     }
 }
 
-fn without_zone(line: &Line) -> SegLine
+/// A line without its zone, as a segment has it.
+pub fn without_zone(line: &Line) -> SegLine
     ensures { result ≡ without_zone line.now }
 {
     SegLine {
@@ -84,34 +107,68 @@ fn by_line(a: &SegLine, b: &SegLine) -> Ordering
         .then(a.event.order(&b.event))
 }
 
-/// The place before the first line that comes after this one.
+/// The place before the first line that comes after this one. Where none does, the last line alone is looked at.
 fn place_of(lines: &[SegLine], line: &SegLine) -> usize
+    requires { AreInOrder lines.now }
     ensures range { result ≤ length lines.now }
     ensures placed { insert lines.now result line.now ≡ placed line.now lines.now }
 {
-    for (place, other) in lines.iter().enumerate() {
-        if by_line(line, other).is_lt() {
-            return place;
-        }
+    if lines.is_empty() {
+        return 0;
     }
-    lines.len()
+    let last = lines.len() - 1;
+    if !by_line(line, &lines[last]).is_lt() {
+        return lines.len();
+    }
+    lines.partition_point(
+        |other: &SegLine| -> bool
+            ensures { result ≡ not (is_lt (by_line line.entry.now other.now)) }
+        { !by_line(line, other).is_lt() },
+    )
 }
 
-/// Puts a line before the first that comes after it.
-fn place(lines: &mut Vec<SegLine>, line: &SegLine) -> Result<(), Oom>
-    ensures { OnOk result (lines.new.items ≡ placed line.now lines.old.items) }
-{
-    let place = place_of(lines, line);
-    lines.insert(place, *line)?;
-    Ok(())
+impl Ordered {
+    /// No lines.
+    fn new(alloc: Global) -> Self
+        ensures { result ≡ [] }
+    {
+        Ordered {
+            lines: Vec::new(alloc),
+        }
+    }
+
+    /// No lines, and memory for some.
+    pub fn with_room(alloc: Global, n: usize) -> Result<Self, Oom>
+        ensures { IfOk result (λ ordered. ordered ≡ []) }
+    {
+        Ok(Ordered {
+            lines: Vec::with_capacity(alloc, n)?,
+        })
+    }
+
+    /// Puts a line before the first that comes after it.
+    pub fn place(&mut self, line: &SegLine) -> Result<(), Oom>
+        ensures { OnOk result (self.new ≡ placed line.now self.old) }
+    {
+        let place = place_of(&self.lines, line);
+        self.lines.insert(place, *line)?;
+        Ok(())
+    }
+
+    /// The lines as a list.
+    pub fn into_vec(self) -> Vec<SegLine>
+        ensures { result.items ≡ self }
+    {
+        self.lines
+    }
 }
 
 /// Puts a line into its group.
 fn add_line(alloc: Global, groups: &mut Groups, line: &Line) -> Result<(), Oom>
     ensures { OnOk result (groups_view groups.new.entries ≡ put same_group placed (groups_view groups.old.entries) (group_of line.now) (without_zone line.now)) }
 {
-    let lines = groups.entry(group_of(line))?.or_insert(Vec::new(alloc));
-    place(lines, &without_zone(line))?;
+    let lines = groups.entry(group_of(line))?.or_insert(Ordered::new(alloc));
+    lines.place(&without_zone(line))?;
     Ok(())
 }
 

@@ -34,7 +34,7 @@ pub fn heads_of(alloc: Global, groups: Groups) -> Result<Heads, Oom>
 {
     let mut heads = BTreeMap::new(alloc);
     for (group, lines) in groups {
-        add_head(&mut heads, &group, lines)?;
+        add_head(&mut heads, &group, lines.into_vec())?;
     }
     Ok(heads)
 }

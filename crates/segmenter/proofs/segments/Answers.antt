@@ -11,6 +11,12 @@ of_steps : (P : List Segment → Type 0) (r : Result (List Segment) Oom) (made :
 of_steps P (Ok segments) made holds is = subst P (sym is) holds
 of_steps P (Err e) made holds is = tt
 
+pub returns-then-are_of_one_group : goal.returns-then-are_of_one_group
+returns-then-are_of_one_group c =
+    let made = segments_of (classes_of (heads_of (groups_of c.args.lines.now))) in
+    let steps : IfOk c.segments_of_one.result (λ segments. segments ≡ made) = search rules in
+    of_steps (AreSegments c.args.lines.now) c.segments_of_one.result made (segments_made c.args.lines.now) steps
+
 pub returns : goal.returns
 returns c =
     let made = segments_of (classes_of (heads_of (groups_of c.args.lines.now))) in
