@@ -13,6 +13,7 @@ pub mod HeldLemmas
 pub mod Runs
 pub mod Places
 pub mod StandingLemmas
+pub mod StaysLemmas
 pub mod SettleLemmas
 pub mod Seats
 pub mod LatestLemmas
@@ -31,3 +32,4 @@ pub mod KeySearch
 pub mod NewClashLemmas
 pub mod PeriodLemmas
 pub mod LiveLemmas
+pub mod LeftLemmas

@@ -20,7 +20,7 @@ use Rattle.event_life.proofs.Puts.{at_key, at_key-parts, none_above, put-sorted,
 use Rattle.hazard_board.specs.Board.{slice_of}
 use Rattle.hazard_board.specs.Clashes.{clash, first_clash, may_clash}
 use Rattle.hazard_board.specs.Live.{AreLive}
-use Rattle.hazard_board.specs.NewClashes.{clash_either, clashes_among, clashes_if, left_clashes}
+use Rattle.hazard_board.specs.NewClashes.{clash_either, clashes_among, clashes_if, left_clashes, row_changed}
 use Rattle.hazard_board.specs.Taken.{row_left, put_if}
 use Rattle.hazard_board.proofs.QuietRows.{clash_live, first_among}
 use Rattle.hazard_board.proofs.SliceLemmas.{taken_in}
@@ -195,7 +195,7 @@ alike_if t xs ys (Some r) alike = alike_among t xs ys r alike
 
 pub alike_left : (t : ℕ) (before xs ys : List Row) (lines : List Line) → shown_at t xs ≡ shown_at t ys → list_any (left_clashes t before xs) lines ≡ list_any (left_clashes t before ys) lines
 alike_left t before xs ys [] alike = refl
-alike_left t before xs ys (line ∷ lines) alike = rw (alike_if t xs ys (row_left before t line) alike, alike_left t before xs ys lines alike) refl
+alike_left t before xs ys (line ∷ lines) alike = rw (alike_if t xs ys (row_changed before t line) alike, alike_left t before xs ys lines alike) refl
 
 -- a row that is put only if a test holds
 

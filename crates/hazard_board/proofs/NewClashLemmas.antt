@@ -1,18 +1,20 @@
 -- Of rows that were apart, only those may clash that are new or not as they were.
-use Rattle.std.proofs.Common.{◌≡◌, ◌∙◌, ◌⊎◌, inl, inr, ◌&&◌, not, ℕ, List, [], ◌∷◌, Bool, true, false, Option, Some, None, Less, refl, sym, ap, subst, filter, find}
+use Rattle.std.proofs.Common.{◌≡◌, ◌∙◌, ◌⊎◌, inl, inr, ◌&&◌, not, ℕ, List, [], ◌∷◌, Bool, true, false, Option, Some, None, Less, refl, sym, ap, subst, cond, filter, find}
 use Rattle.std.specs.List.{AllByRecursion, list_any}
 use Rattle.std.specs.List.Sorted.{IsStrictlySortedBy}
 use Rattle.std.proofs.lemmas.Bool.{false_from_ne_true}
 use Rattle.hazard_types.specs.Places.{Place}
 use Rattle.hazard_types.specs.Same.{same_zone}
+use Rattle.hazard_types.specs.declared.hazard.Event.{Event}
 use Rattle.hazard_types.specs.declared.line.Line.{Line}
 use Rattle.hazard_types.specs.declared.line.Row.{Row}
 use Rattle.hazard_types.proofs.Equality.{row_one, row_itself}
-use Rattle.event_life.specs.Products.{by_key, row_at}
-use Rattle.event_life.proofs.Puts.{at_key, put-all}
+use Rattle.event_life.specs.Products.{by_key, put, row_at}
+use Rattle.event_life.proofs.FreeOrder.{told_by_keys}
+use Rattle.event_life.proofs.Puts.{at_key, at_key-parts, put-all, put-sorted, row_at-put}
 use Rattle.hazard_board.specs.Clashes.{clash, first_clash}
 use Rattle.hazard_board.specs.Consistent.{collide, EachToLater}
-use Rattle.hazard_board.specs.NewClashes.{is_same, stands, clash_either, clashes_among, new_clash, clashes_if, left_clashes}
+use Rattle.hazard_board.specs.NewClashes.{is_same, stands, clash_either, clashes_among, new_clash, clashes_if, left_clashes, unless_same}
 use Rattle.hazard_board.specs.Board.{slice_of}
 use Rattle.hazard_board.specs.Taken.{row_left, put_if}
 use Rattle.hazard_board.proofs.Among.{IsAmong, of_all, all_of, found_at, none_of_them, found_among, of_each, each_of}
@@ -35,8 +37,24 @@ same_found : (o : Option Row) (r : Row) → is_same o r ≡ true → o ≡ Some 
 same_found None r h = cc
 same_found (Some old) r h = ap (λ (x : Row). Some x) (row_one old r h)
 
+first_held : (b : Bool) (r : Row) (o : Option Row) → (b ≡ true → o ≡ Some r) → cond b (Some r) o ≡ o
+first_held true r o h = sym (h refl)
+first_held false r o h = refl
+
 stands_among : (rows : List Row) (r : Row) → stands rows r ≡ true → IsAmong r rows
 stands_among rows r h = found_among (at_key r.event r.zone) rows r (same_found (row_at rows r.event r.zone) r h)
+
+-- so it is where it is found as it is, whatever was asked for
+stands_there : (rows : List Row) → IsStrictlySortedBy by_key rows → (e : Event) (z : Place) (r : Row) → is_same (row_at rows e z) r ≡ true → stands rows r ≡ true
+stands_there rows up e z r h =
+    let here = found_among (at_key e z) rows r (same_found (row_at rows e z) r h) in
+    ap (λ (o : Option Row). is_same o r) (found_at rows r up here) ∙ row_itself r
+
+-- a row that stands is put where it stands
+pub put_same : (rows : List Row) → IsStrictlySortedBy by_key rows → (e : Event) (z : Place) (r : Row) → is_same (row_at rows e z) r ≡ true → put r rows ≡ rows
+put_same rows up e z r h =
+    let here = found_among (at_key e z) rows r (same_found (row_at rows e z) r h) in
+    told_by_keys (put r rows) rows (put-sorted r rows up) up (λ f y. row_at-put r rows f y ∙ first_held (at_key f y r) r (row_at rows f y) (λ own. let key = at_key-parts f y r own in rw (sym key.0, sym key.1) (found_at rows r up here)))
 
 new_apart : (p q : Bool) → p ≡ false → (not p && q) ≡ false → q ≡ false
 new_apart true q is h = cc
@@ -75,15 +93,19 @@ module _ (t : ℕ) (rows target : List Row) where
   abbrev IsQuiet : Row → Type 0
   IsQuiet r = (stands rows r ≡ true) ⊎ (clashes_among t target r ≡ false)
 
-  put_quiet : (o : Option Row) (after : List Row) → clashes_if t target o ≡ false → AllByRecursion IsQuiet after → AllByRecursion IsQuiet (put_if o after)
-  put_quiet None after h all = all
-  put_quiet (Some row) after h all = put-all IsQuiet row after (inr h) all
+  quiet_by : (b : Bool) (held : Option Row) (row : Row) → is_same held row ≡ b → (b ≡ true → stands rows row ≡ true) → clashes_if t target (unless_same held (Some row)) ≡ false → IsQuiet row
+  quiet_by true held row is here h = inl (here refl)
+  quiet_by false held row is here h = inr (rw is at h)
 
-  all_quiet : (lines : List Line) (after : List Row) → list_any (left_clashes t rows target) lines ≡ false → AllByRecursion IsQuiet after → AllByRecursion IsQuiet (taken_in rows t after lines)
-  all_quiet [] after h all = all
-  all_quiet (line ∷ lines) after h all =
+  put_quiet : IsStrictlySortedBy by_key rows → (e : Event) (z : Place) (o : Option Row) (after : List Row) → clashes_if t target (unless_same (row_at rows e z) o) ≡ false → AllByRecursion IsQuiet after → AllByRecursion IsQuiet (put_if o after)
+  put_quiet up e z None after h all = all
+  put_quiet up e z (Some row) after h all = put-all IsQuiet row after (quiet_by (is_same (row_at rows e z) row) (row_at rows e z) row refl (stands_there rows up e z row) h) all
+
+  all_quiet : IsStrictlySortedBy by_key rows → (lines : List Line) (after : List Row) → list_any (left_clashes t rows target) lines ≡ false → AllByRecursion IsQuiet after → AllByRecursion IsQuiet (taken_in rows t after lines)
+  all_quiet up [] after h all = all
+  all_quiet up (line ∷ lines) after h all =
       let p = either_false (left_clashes t rows target line) (list_any (left_clashes t rows target) lines) h in
-      all_quiet lines (put_if (row_left rows t line) after) p.1 (put_quiet (row_left rows t line) after p.0 all)
+      all_quiet up lines (put_if (row_left rows t line) after) p.1 (put_quiet up line.event line.zone (row_left rows t line) after p.0 all)
 
   stand_quiet : IsStrictlySortedBy by_key rows → (r : Row) → IsAmong r rows → IsQuiet r
   stand_quiet up r h = inl (ap (λ (o : Option Row). is_same o r) (found_at rows r up h) ∙ row_itself r)
@@ -96,4 +118,4 @@ module _ (t : ℕ) (rows target : List Row) where
   pub none_left : (z : Place) (own : List Line) → IsStrictlySortedBy by_key rows → list_any (left_clashes t rows target) own ≡ false → target ≡ taken_in rows t (slice_of z rows) own → list_any (new_clash t rows target) target ≡ false
   none_left z own up h is =
       none_new target (subst (λ (some : List Row). AllByRecursion IsQuiet some) (sym is)
-      (all_quiet own (slice_of z rows) h (all_kept IsQuiet (λ r. same_zone r.zone z) rows (all_of IsQuiet rows (stand_quiet up)))))
+      (all_quiet up own (slice_of z rows) h (all_kept IsQuiet (λ r. same_zone r.zone z) rows (all_of IsQuiet rows (stand_quiet up)))))

@@ -1,6 +1,6 @@
 -- Events that lines touch, line by line.
-use Rattle.std.proofs.Common.{◌≡◌, ◌∙◌, ◌||◌, ◌&&◌, not, ℕ, ◌+◌, ◌<◌, ◌≤◌, List, [], ◌∷◌, ◌++◌, Bool, true, false, Option, None, is_none, refl, sym, ap, cond, count_by, length, get_or, take, drop, take-append-drop, arith}
-use Rattle.std.proofs.lemmas.Bool.{and_parts, not-true}
+use Rattle.std.proofs.Common.{◌≡◌, ◌∙◌, ◌||◌, ◌&&◌, not, ℕ, ◌+◌, ◌<◌, ◌≤◌, List, [], ◌∷◌, ◌++◌, Bool, true, false, Option, Some, None, is_none, true≢false, refl, sym, ap, cond, count_by, length, get_or, take, drop, take-append-drop, arith}
+use Rattle.std.proofs.lemmas.Bool.{and_parts, false_from_ne_true, not-true}
 use Rattle.std.proofs.lemmas.List.{take_more}
 use Rattle.std.proofs.lemmas.List.Folds.{list_any-append}
 use Rattle.std.proofs.lemmas.List.Sums.{sum_by-append}
@@ -8,9 +8,9 @@ use Rattle.hazard_types.specs.Same.{same_event}
 use Rattle.hazard_types.specs.declared.hazard.Event.{Event}
 use Rattle.hazard_types.specs.declared.line.Line.{Line}
 use Rattle.hazard_types.specs.declared.period.End.{End}
-use Rattle.hazard_types.proofs.Equality.{event_one}
+use Rattle.hazard_types.proofs.Equality.{event_one, end_one, end_itself}
 use Rattle.event_life.specs.Products.{is_routine}
-use Rattle.hazard_board.specs.Standing.{end_in, touched, touches_anew, newly}
+use Rattle.hazard_board.specs.Standing.{end_in, touched, touches_anew, are_one, moves_end, newly}
 use Rattle.hazard_board.specs.Periods.{latest_in}
 use Rattle.hazard_board.specs.declared.periods.PeriodCount.{PeriodCount}
 use Rattle.hazard_board.specs.declared.standing.Standing.{Standing}
@@ -48,20 +48,36 @@ anew_step own routine true false e d new old was latest r h o = rw r (h refl)
 anew_step own routine false true e d new old was latest r h o = o
 anew_step own routine false false e d new old was latest r h o = rw r o
 
--- the ends behind another line
-still_step : (routine same before : Bool) (old was latest : Option End) → (same ≡ true → routine ≡ false → before ≡ true) →
+-- the ends behind a line whose event has the end that it is to have
+kept_step : (routine same before : Bool) (old was latest : Option End) → (same ≡ true → routine ≡ false → old ≡ latest) →
     old ≡ cond before latest was → old ≡ cond (before || (not routine && same)) latest was
-still_step true same true old was latest h o = o
-still_step true same false old was latest h o = o
-still_step false true true old was latest h o = o
-still_step false true false old was latest h o = let never = h refl refl in cc
-still_step false false true old was latest h o = o
-still_step false false false old was latest h o = o
+kept_step routine same true old was latest h o = o
+kept_step true same false old was latest h o = o
+kept_step false true false old was latest h o = h refl refl
+kept_step false false false old was latest h o = o
 
-not_anew : (a b : Bool) → (not a && not b) ≡ false → a ≡ false → b ≡ true
-not_anew true b h e = cc
-not_anew false true h e = refl
-not_anew false false h e = cc
+one_end : (a b : Option End) → are_one a b ≡ true → a ≡ b
+one_end None None h = refl
+one_end None (Some b) h = cc
+one_end (Some a) None h = cc
+one_end (Some a) (Some b) h = ap (λ (x : End). Some x) (end_one a b h)
+
+itself_one : (a : Option End) → are_one a a ≡ true
+itself_one None = refl
+itself_one (Some a) = end_itself a
+
+moved_parts : (a b : Bool) → (not a && not b) ≡ true → (a ≡ false) × (b ≡ false)
+moved_parts true b h = cc
+moved_parts false true h = cc
+moved_parts false false h = (refl, refl)
+
+unmoved : (a b : Bool) → (not a && not b) ≡ false → a ≡ false → b ≡ true
+unmoved true b h e = cc
+unmoved false true h e = refl
+unmoved false false h e = cc
+
+both_not : (a b : Bool) → a ≡ false → b ≡ false → (not a && not b) ≡ true
+both_not a b p q = rw (p, q) refl
 
 module _ (rows : List PeriodCount) (lines : List Line) (was now : List Standing) (i : ℕ) (line : Line) (within : i < length lines) (is : line ≡ get_or lines i line)
     (so_far : (e : Event) → end_in now e ≡ cond (touched (take i lines) e) (latest_in rows e) (end_in was e)) where
@@ -73,10 +89,23 @@ module _ (rows : List PeriodCount) (lines : List Line) (was now : List Standing)
       (λ h. ap (latest_in rows) (event_one line.event e h)) (so_far e)
       ∙ ap (λ (b : Bool). cond b (latest_in rows e) (end_in was e)) (sym (grown lines i line e within is))
 
-  pub settled_still : touches_anew (take i lines) line ≡ false → (e : Event) → end_in now e ≡ cond (touched (take (i + 1) lines) e) (latest_in rows e) (end_in was e)
-  settled_still other e =
-      still_step (is_routine line.action) (same_event line.event e) (touched (take i lines) e) (end_in now e) (end_in was e) (latest_in rows e)
-      (λ h own. ap (λ (d : Event). touched (take i lines) d) (sym (event_one line.event e h)) ∙ not_anew (is_routine line.action) (touched (take i lines) line.event) other own) (so_far e)
+  -- where the end of its event moves, no line before was of it
+  pub moves_anew : moves_end now line (latest_in rows line.event) ≡ true → touches_anew (take i lines) line ≡ true
+  moves_anew h =
+      let p = moved_parts (is_routine line.action) (are_one (end_in now line.event) (latest_in rows line.event)) h in
+      let first : touched (take i lines) line.event ≡ false = false_from_ne_true _ (λ g.
+      let there : end_in now line.event ≡ latest_in rows line.event = so_far line.event ∙ ap (λ (b : Bool). cond b (latest_in rows line.event) (end_in was line.event)) g in
+      let one : are_one (end_in now line.event) (latest_in rows line.event) ≡ true = ap (λ (o : Option End). are_one o (latest_in rows line.event)) there ∙ itself_one (latest_in rows line.event) in
+      true≢false (sym one ∙ p.1)) in
+      both_not (is_routine line.action) (touched (take i lines) line.event) p.0 first
+
+  pub settled_still : moves_end now line (latest_in rows line.event) ≡ false → (e : Event) → end_in now e ≡ cond (touched (take (i + 1) lines) e) (latest_in rows e) (end_in was e)
+  settled_still h e =
+      kept_step (is_routine line.action) (same_event line.event e) (touched (take i lines) e) (end_in now e) (end_in was e) (latest_in rows e)
+      (λ same own.
+      let one = one_end (end_in now line.event) (latest_in rows line.event) (unmoved (is_routine line.action) (are_one (end_in now line.event) (latest_in rows line.event)) h own) in
+      let key = event_one line.event e same in
+      ap (end_in now) (sym key) ∙ one ∙ ap (latest_in rows) key) (so_far e)
       ∙ ap (λ (b : Bool). cond b (latest_in rows e) (end_in was e)) (sym (grown lines i line e within is))
 
   -- the event of the line has the end of before

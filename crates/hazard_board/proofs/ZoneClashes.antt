@@ -1,11 +1,11 @@
 -- The first clash, told by the zones of some lines.
 use Rattle.std.proofs.Common.{◌≡◌, ◌≢◌, ◌⊎◌, inl, inr, ◌∙◌, ◌||◌, ℕ, ◌+◌, ◌<◌, List, [], ◌∷◌, ◌++◌, Bool, true, false, Option, Some, None, Ordering, Less, Equal, Greater, refl, sym, ap, subst, cond, find, is_lt, length, get_or, take, option_map, if◌then◌else◌}
 use Rattle.std.specs.BTreeMap.{is_at}
-use Rattle.std.specs.List.{AllByRecursion}
+use Rattle.std.specs.List.{AllByRecursion, list_all}
 use Rattle.std.specs.List.Sorted.{IsStrictlySortedBy}
 use Rattle.std.specs.Option.{option_or}
 use Rattle.std.specs.Ordering.{ordering_reverse}
-use Rattle.std.proofs.lemmas.Bool.{false_from_ne_true}
+use Rattle.std.proofs.lemmas.Bool.{and_parts, false_from_ne_true}
 use Rattle.std.proofs.lemmas.Cmp.{tied_itself}
 use Rattle.std.proofs.lemmas.List.{take_more}
 use Rattle.std.proofs.lemmas.List.Folds.{list_any-append}
@@ -18,6 +18,7 @@ use Rattle.hazard_types.proofs.Equality.{zone_one, zone_itself}
 use Rattle.hazard_types.proofs.OrderLaws.{by_place_total, by_place_ties}
 use Rattle.event_life.specs.Products.{by_key}
 use Rattle.hazard_board.specs.Board.{slice_of}
+use Rattle.hazard_board.specs.ByZone.{lines_of}
 use Rattle.hazard_board.specs.Clashes.{clash, clash_of, first_clash, earlier_clash}
 use Rattle.hazard_board.proofs.SliceLemmas.{names_zone}
 use Rattle.hazard_board.proofs.Keyed.{zone_at}
@@ -254,3 +255,32 @@ seen_more lines i line z seen within is before =
     ∙ ap (λ (b : Bool). same_zone line.zone z || b) before
     ∙ either_order (same_zone line.zone z) (names_zone z (take i lines))
     ∙ sym (named_more 0 lines i line z within is)
+
+-- lines that are all of one zone
+
+pub all_own : (z : Place) (lines : List Line) → list_all (λ (line : Line). same_zone line.zone z) lines ≡ true → lines ≡ lines_of z lines
+all_own z [] all = refl
+all_own z (line ∷ lines) all =
+    let p = and_parts (same_zone line.zone z) _ all in
+    rw (p.0) (ap (λ (own : List Line). line ∷ own) (all_own z lines p.1))
+
+either_named : (a b : Bool) → (a || b) ≡ true → (a ≡ true) ⊎ (b ≡ true)
+either_named true b h = inl refl
+either_named false b h = inr h
+
+named_own : (z y : Place) (lines : List Line) → list_all (λ (line : Line). same_zone line.zone z) lines ≡ true → names_zone y lines ≡ true → y ≡ z
+named_own z y [] all h = cc
+named_own z y (line ∷ lines) all h =
+    let p = and_parts (same_zone line.zone z) _ all in
+    elim (either_named (same_zone line.zone y) (names_zone y lines) h) [
+      | inl here ↦ sym (zone_one line.zone y here) ∙ zone_one line.zone z p.0
+      | inr there ↦ named_own z y lines p.1 there
+    ]
+
+pub only_first : (t : ℕ) (after : List Row) (lines : List Line) (z : Place) (found : Option Clash) → list_all (λ (line : Line). same_zone line.zone z) lines ≡ true → found ≡ first_clash t (slice_of z after) → IsFirstIn t after lines found
+only_first t after lines z None all is = λ y named. ap (λ (p : Place). first_clash t (slice_of p after)) (named_own z y lines all named) ∙ sym is
+only_first t after lines z (Some c) all is =
+    let own : c.zone ≡ z = zone_of_first t z (slice_of z after) c (all_of_zone t z after) (sym is) in (
+      ap (λ (p : Place). first_clash t (slice_of p after)) own ∙ sym is,
+      (λ y named less. let tied : by_place y c.zone ≡ Equal = ap (λ (p : Place). by_place p c.zone) (named_own z y lines all named ∙ sym own) ∙ tied_itself by_place_total c.zone in cc),
+    )

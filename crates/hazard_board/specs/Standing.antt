@@ -1,5 +1,5 @@
 -- Standing events: those with a row that no line has ended, each with the greatest end of these rows.
-use Rattle.std.specs.Prelude.{◌≡◌, ◌≤◌, ◌<◌, ◌==◌, ◌&&◌, not, ℕ, Bool, true, List, fold, filter, find, max, count_by, length, insert, remove, slice_set, Option, Some, None, is_some, is_none, option_map, if◌then◌else◌}
+use Rattle.std.specs.Prelude.{◌≡◌, ◌≤◌, ◌<◌, ◌==◌, ◌&&◌, not, ℕ, Bool, true, false, List, fold, filter, find, max, count_by, length, insert, remove, slice_set, Option, Some, None, is_some, is_none, option_map, if◌then◌else◌}
 use Rattle.std.specs.List.{AllByRecursion, list_any}
 use Rattle.std.specs.List.Sorted.{IsStrictlySortedBy}
 use Rattle.std.specs.declared.cmp.Ordering.{Ordering}
@@ -10,6 +10,7 @@ use Rattle.hazard_types.specs.declared.hazard.Event.{Event}
 use Rattle.hazard_types.specs.declared.hazard.Hazard.{Hazard}
 use Rattle.hazard_types.specs.declared.line.Line.{Line}
 use Rattle.hazard_types.specs.declared.line.Row.{Row}
+use Rattle.hazard_types.specs.contracts.period.EndPartialEq.TheImpl as end
 use Rattle.hazard_types.specs.declared.period.End.{End}
 use Rattle.hazard_types.specs.declared.period.End.TheVariants.{At, Ufn}
 use Rattle.event_life.specs.Periods.{ends_within}
@@ -73,6 +74,17 @@ touched lines e = list_any (λ (line : Line). not (is_routine line.action) && sa
 -- the line touches a life, and is the first that does of its event
 abbrev pub touches_anew : List Line → Line → Bool
 touches_anew earlier line = not (is_routine line.action) && not (touched earlier line.event)
+
+-- both are one end, or none
+abbrev pub are_one : Option End → Option End → Bool
+are_one None None = true
+are_one None (Some b) = false
+are_one (Some a) None = false
+are_one (Some a) (Some b) = end.eq-value.it a b
+
+-- the line touches a life of an event that does not stand with this end
+abbrev pub moves_end : List Standing → Line → Option End → Bool
+moves_end standing line latest = not (is_routine line.action) && not (are_one (end_in standing line.event) latest)
 
 -- how many of the lines that touch a life are of events that are not standing
 abbrev pub newly : List Standing → List Line → ℕ

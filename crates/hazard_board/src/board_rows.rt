@@ -85,6 +85,7 @@ impl BoardRows {
     pub fn live_slice(&self, z: &Zone, t: Minute) -> &[Row]
         ensures alike { shown_at t result.now ≡ shown_at t (slice_of z.now self.now.rows) }
         ensures order { IsStrictlySortedBy by_key result.now }
+        ensures by_event { IsStrictlySortedBy by_row_event result.now }
     {
         self.source(t).slice_of(z)
     }

@@ -1,19 +1,21 @@
 //! Clashes of rows.
-ghost use Rattle.std.specs.Prelude.{◌≡◌, ◌∷◌, find, filter, option_map, true, IfOk};
-ghost use Rattle.std.specs.List.{list_any};
+ghost use Rattle.std.specs.Prelude.{◌≡◌, ◌∷◌, find, filter, option_map, true, IfOk, IfSome};
+ghost use Rattle.std.specs.List.{list_any, list_all};
 ghost use Rattle.std.specs.List.Sorted.{IsStrictlySortedBy};
+ghost use Rattle.hazard_types.specs.Same.{same_zone};
+ghost use Rattle.hazard_types.specs.declared.line.Line.{Line as AnyLine};
 ghost use Rattle.event_life.specs.Products.{by_key};
 ghost use Rattle.event_life.specs.Higher.{are_kin, may_yield};
 ghost use Rattle.hazard_board.specs.Board.{slice_of};
 ghost use Rattle.hazard_board.specs.ByZone.{lines_of};
 ghost use Rattle.hazard_board.specs.Clashes.{clash, clash_of, first_clash, earlier_clash, may_clash};
 ghost use Rattle.hazard_board.specs.Consistent.{collide, EachToLater};
-ghost use Rattle.hazard_board.specs.NewClashes.{clash_either, clashes_among, left_clashes};
+ghost use Rattle.hazard_board.specs.NewClashes.{clash_either, clashes_among, clashes_newly};
 ghost use Rattle.hazard_board.specs.Taken.{rows_taken};
 
 use crate::board_rows::BoardRows;
 use crate::by_zone::{lines_by_zone, lines_in};
-use crate::lines::{row_left, rows_taken, zone_taken};
+use crate::lines::{Left, lefts, rows_taken, zone_taken};
 use event_life::{is_live, overlaps};
 use hazard_types::desk_hazards::facts;
 use hazard_types::{Clash, Hazard, Line, Minute, Oom, Row, Zone};
@@ -123,21 +125,18 @@ fn clashes_among(t: Minute, some: &[Row], row: &Row) -> bool
     some.iter().any(|other| clash_either(t, row, other))
 }
 
-/// Whether the row that a line leaves clashes with one of some.
-fn left_clashes(t: Minute, rows: &BoardRows, some: &[Row], line: &Line) -> bool
-    ensures { result ≡ left_clashes t rows.now.rows some.now line.now }
+/// Whether a row that is left is new or not as it was, and clashes with one of some.
+fn clashes_newly(t: Minute, some: &[Row], left: &Left) -> bool
+    ensures { result ≡ clashes_newly t some.now left.now }
 {
-    match row_left(rows, line, t) {
-        Some(row) => clashes_among(t, some, &row),
-        None => false,
-    }
+    left.is_new && clashes_among(t, some, &left.row)
 }
 
-/// Whether a row that one of the lines leaves clashes with one of some.
-fn has_left_clash(t: Minute, rows: &BoardRows, some: &[Row], lines: &[Line]) -> bool
-    ensures { result ≡ list_any (left_clashes t rows.now.rows some.now) lines.now }
+/// Whether one of the rows that are left is new or not as it was, and clashes with one of some.
+fn has_new_clash(t: Minute, some: &[Row], lefts: &[Left]) -> bool
+    ensures { result ≡ list_any (clashes_newly t some.now) lefts.now }
 {
-    lines.iter().any(|line| left_clashes(t, rows, some, line))
+    lefts.iter().any(|left| clashes_newly(t, some, left))
 }
 
 /// Of two clashes the one in the earlier zone.
@@ -159,7 +158,7 @@ fn earlier_clash(best: Option<Clash>, found: Option<Clash>) -> Option<Clash>
     }
 }
 
-/// The first clash in a zone after the lines, of which these are the zone's own. All pairs are gone through only where a row that a line leaves clashes: the others were apart.
+/// The first clash in a zone after the lines, of which these are the zone's own. All pairs are gone through only where a row that is new or not as it was clashes: the others were apart.
 fn clash_in(
     alloc: Global,
     rows: &BoardRows,
@@ -173,12 +172,44 @@ fn clash_in(
     requires own { own.now ≡ lines_of z.now lines.now }
     ensures { IfOk result (λ found. found ≡ first_clash t (slice_of z.now (rows_taken rows.now.rows t lines.now))) }
 {
-    let after = zone_taken(alloc, rows, lines, own, t, z)?;
-    if !has_left_clash(t, rows, &after, own) {
+    let left = lefts(alloc, rows, own, t)?;
+    let after = zone_taken(alloc, rows, &left, t, z)?;
+    if !has_new_clash(t, &after, &left) {
         return Ok(None);
     }
     let some = those_that_may_clash(alloc, &after, t)?;
     Ok(first_clash(&some, t))
+}
+
+/// Whether the line is of the zone.
+fn is_of_zone(line: &Line, zone: &Zone) -> bool
+    ensures { result ≡ same_zone line.now.zone zone.now }
+{
+    line.zone == *zone
+}
+
+/// Whether all lines are of the zone.
+fn are_of_zone(lines: &[Line], zone: &Zone) -> bool
+    ensures { result ≡ list_all (λ (line : AnyLine). same_zone line.zone zone.now) lines.now }
+{
+    lines.iter().all(|line| is_of_zone(line, zone))
+}
+
+/// The zone of the lines, where all are of one.
+fn only_zone(lines: &[Line]) -> Option<Zone>
+    ensures { IfSome result (λ z. list_all (λ (line : AnyLine). same_zone line.zone z) lines.now ≡ true) }
+{
+    match lines {
+        [] => None,
+        [first, ..] => {
+            let zone = first.zone;
+            if are_of_zone(lines, &zone) {
+                Some(zone)
+            } else {
+                None
+            }
+        }
+    }
 }
 
 /// The first clash after the lines, of rows of which no two of one zone and family that no line has ended overlap: only the zones of the lines are looked at.
@@ -192,6 +223,10 @@ pub fn clash_in_zones(
     requires apart { EachToLater (λ a b. collide a b ≡ true → ⊥) rows.now.rows }
     ensures { IfOk result (λ found. found ≡ first_clash t (rows_taken rows.now.rows t lines.now)) }
 {
+    let only = only_zone(lines);
+    if let Some(zone) = &only {
+        return clash_in(alloc, rows, lines, lines, t, zone);
+    }
     let zones = lines_by_zone(alloc, lines)?;
     let mut seen = BTreeSet::new(alloc);
     let mut best = None;

@@ -117,6 +117,15 @@ impl Board {
         self.rows.slice_of(&z)
     }
 
+    /// Rows of a zone among which are all that are live at a minute: fewer than all of its rows, where those that have ended are many.
+    pub fn live_slice(&self, z: Zone, t: Minute) -> &[Row]
+        ensures rows { shown_at t result.now ≡ live_in z t self.now.rows }
+        ensures order { IsStrictlySortedBy by_row_event result.now }
+        ensures all_in_order { IsStrictlySortedBy by_key self.now.rows }
+    {
+        self.rows.live_slice(&z, t)
+    }
+
     /// Whether the event has a row, ended or not.
     pub fn has(&self, e: Event) -> bool
         ensures { result ≡ has_rows self.now.rows e }

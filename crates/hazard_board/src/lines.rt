@@ -1,12 +1,12 @@
 //! The rows that lines leave.
-ghost use Rattle.std.specs.Prelude.{◌≡◌, ◌≤◌, ◌<◌, ◌+◌, length, option_map, IfOk, OnOk, OnErr};
+ghost use Rattle.std.specs.Prelude.{◌≡◌, ◌≤◌, ◌<◌, ◌+◌, ◌++◌, length, option_map, option_to_list, IfOk, OnOk, OnErr};
 ghost use Rattle.std.specs.List.Sorted.{IsStrictlySortedBy};
 ghost use Rattle.std.specs.Vec.{vec_capacity};
 ghost use Rattle.event_life.specs.Products.{by_key, life_of};
 ghost use Rattle.event_life.specs.Lives.{opens};
 ghost use Rattle.event_life.specs.Shown.{shown_at};
 ghost use Rattle.hazard_board.specs.Board.{openings, slice_of};
-ghost use Rattle.hazard_board.specs.ByZone.{lines_of};
+ghost use Rattle.hazard_board.specs.NewClashes.{is_same, stays, left_if, left_by, lefts, put_lefts};
 ghost use Rattle.hazard_board.specs.Periods.{AreCounted};
 ghost use Rattle.hazard_board.specs.Spots.{AreSpots};
 ghost use Rattle.hazard_board.specs.Taken.{wanted, left_on, row_left, put_if, rows_taken, taken_in_turn};
@@ -66,6 +66,79 @@ pub fn row_left(rows: &BoardRows, line: &Line, t: Minute) -> Option<Row>
     left_on(life_of(&rows.row_at(&line.event, &line.zone)), line, t)
 }
 
+/// Whether the row is the one that is held.
+fn is_same(held: &Option<Row>, row: &Row) -> bool
+    ensures { result ≡ is_same held.now row.now }
+{
+    match held {
+        Some(held) => *held == *row,
+        None => false,
+    }
+}
+
+/// Whether a line leaves the row that it meets as it was, or leaves none.
+fn stays(old: &Option<Row>, row: &Option<Row>) -> bool
+    ensures { result ≡ stays old.now row.now }
+{
+    match row {
+        Some(row) => is_same(old, row),
+        None => true,
+    }
+}
+
+/// A row that a line leaves, and whether it is new or not as it was.
+#[derive(Clone, Copy, Debug, PartialEq, Eq)]
+pub struct Left {
+    pub row: Row,
+    pub is_new: bool,
+}
+
+/// What is left of a row that is held, where a row is left.
+fn left_if(held: &Option<Row>, row: Option<Row>) -> Option<Left>
+    ensures { result ≡ left_if held.now row }
+{
+    match row {
+        Some(row) => Some(Left {
+            row,
+            is_new: !is_same(held, &row),
+        }),
+        None => None,
+    }
+}
+
+/// Adds what is left, if there is anything.
+fn add_if(lefts: &mut Vec<Left>, left: &Option<Left>) -> Result<(), Oom>
+    ensures { OnOk result (lefts.new.items ≡ lefts.old.items ++ option_to_list left.now) }
+{
+    match left {
+        Some(left) => {
+            lefts.extend_from_slice(&[*left])?;
+            Ok(())
+        }
+        None => Ok(()),
+    }
+}
+
+/// Adds the row that a line leaves.
+fn add_left(lefts: &mut Vec<Left>, rows: &BoardRows, line: &Line, t: Minute) -> Result<(), Oom>
+    ensures { OnOk result (lefts.new.items ≡ lefts.old.items ++ left_by rows.now.rows t line.now) }
+{
+    let old = rows.row_at(&line.event, &line.zone);
+    let left = left_if(&old, left_on(life_of(&old), line, t));
+    add_if(lefts, &left)
+}
+
+/// The rows that lines leave, each of which meets the rows before them.
+pub fn lefts(alloc: Global, rows: &BoardRows, lines: &[Line], t: Minute) -> Result<Vec<Left>, Oom>
+    ensures { IfOk result (λ some. some.items ≡ lefts rows.now.rows t lines.now) }
+{
+    let mut some = Vec::with_capacity(alloc, lines.len())?;
+    for line in lines {
+        add_left(&mut some, rows, line, t)?;
+    }
+    Ok(some)
+}
+
 /// Puts a row, if there is one.
 fn put_if(rows: &mut Vec<Row>, row: &Option<Row>) -> Result<(), Oom>
     requires { IsStrictlySortedBy by_key rows.old.items }
@@ -92,7 +165,7 @@ fn shelve_if(rows: &mut BoardRows, row: &Option<Row>)
     }
 }
 
-/// Brings the row that a line leaves of the life that it meets among the rows, its spot among the spots, and its period among the periods.
+/// Brings the row that a line leaves of the life that it meets among the rows, its spot among the spots, and its period among the periods. A row that stays as it was is not put again, and one that takes the place of another has its spot.
 fn bring_line(
     rows: &mut BoardRows,
     spots: &mut Vec<Spot>,
@@ -115,8 +188,14 @@ fn bring_line(
 {
     let old = rows.row_at(&line.event, &line.zone);
     let row = left_on(life_of(&old), line, t);
+    if stays(&old, &row) {
+        return;
+    }
     count_if(periods, &old, &row);
     shelve_if(rows, &row);
+    if old.is_some() {
+        return;
+    }
     match put_spot_if(spots, &row) {
         Ok(()) => {}
         Err(_) => unreachable!(),
@@ -168,24 +247,30 @@ pub fn rows_taken(
     Ok(after)
 }
 
-/// Rows of a zone among which are all that are live after the lines, each of which meets the rows before them. Of the lines only the zone's own are looked at.
+/// A copy of rows, with room for some more.
+fn with_room(alloc: Global, rows: &[Row], more: usize) -> Result<Vec<Row>, Oom>
+    ensures { IfOk result (λ copy. copy.items ≡ rows.now) }
+{
+    let mut copy = Vec::with_capacity(alloc, rows.len().saturating_add(more))?;
+    copy.extend_from_slice(rows)?;
+    Ok(copy)
+}
+
+/// Rows of a zone among which are all that are live after lines that have left some rows there.
 pub fn zone_taken(
     alloc: Global,
     rows: &BoardRows,
-    lines: &[Line],
-    own: &[Line],
+    left: &[Left],
     t: Minute,
     z: &Zone,
 ) -> Result<Vec<Row>, Oom>
-    requires order { IsStrictlySortedBy by_key rows.now.rows }
-    requires own { own.now ≡ lines_of z.now lines.now }
-    ensures live { IfOk result (λ after. shown_at t after.items ≡ shown_at t (slice_of z.now (rows_taken rows.now.rows t lines.now))) }
+    requires { IsStrictlySortedBy by_key rows.now.rows }
+    ensures live { IfOk result (λ after. shown_at t after.items ≡ shown_at t (put_lefts (slice_of z.now rows.now.rows) left.now)) }
     ensures order { IfOk result (λ after. IsStrictlySortedBy by_key after.items) }
 {
-    let mut after = Vec::from_slice(alloc, rows.live_slice(z, t))?;
-    for line in own {
-        let row = row_left(rows, line, t);
-        put_if(&mut after, &row)?;
+    let mut after = with_room(alloc, rows.live_slice(z, t), left.len())?;
+    for one in left {
+        put(&mut after, &one.row)?;
     }
     Ok(after)
 }

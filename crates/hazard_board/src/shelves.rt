@@ -17,7 +17,7 @@ use std::alloc::{AllocError, Global};
 use std::marker::Model;
 
 /// A shelf with more rows than these is long.
-const LIMIT: usize = 256;
+const LIMIT: usize = 64;
 
 /// Rows of zones from a first one on, up to the first zone of the next shelf.
 #[derive(Drop)]

@@ -8,7 +8,7 @@ ghost use Rattle.hazard_types.specs.Orders.{by_event};
 ghost use Rattle.hazard_types.specs.Same.{same_event};
 ghost use Rattle.hazard_types.specs.declared.hazard.Event.{Event as AnyEvent};
 ghost use Rattle.hazard_board.specs.Periods.{by_period, latest_in};
-ghost use Rattle.hazard_board.specs.Standing.{by_standing, end_in, put_standing, without, IsPlaceOf, IsGapFor, touched, touches_anew, newly};
+ghost use Rattle.hazard_board.specs.Standing.{by_standing, end_in, put_standing, without, IsPlaceOf, IsGapFor, touched, are_one, moves_end, newly};
 
 use crate::periods::{PeriodCount, latest_in};
 use event_life::is_routine;
@@ -102,23 +102,48 @@ fn set_end(standing: &mut Vec<Standing>, e: &Event, latest: &Option<End>)
     }
 }
 
-/// Whether one of the lines that touch a life is of the event.
-fn touched(lines: &[Line], e: &Event) -> bool
-    ensures { result ≡ touched lines.now e.now }
+/// The end that stands for an event.
+fn end_in(standing: &[Standing], e: &Event) -> Option<End>
+    requires { IsStrictlySortedBy by_standing standing.now }
+    ensures { result ≡ end_in standing.now e.now }
 {
-    lines
-        .iter()
-        .any(|line| !is_routine(&line.action) && line.event == *e)
+    let place = events_before(standing, e);
+    if place >= standing.len() {
+        return None;
+    }
+    let found = &standing[place];
+    if found.event == *e {
+        Some(found.latest)
+    } else {
+        None
+    }
 }
 
-/// Whether the line touches a life, and is the first that does of its event.
-fn touches_anew(earlier: &[Line], line: &Line) -> bool
-    ensures { result ≡ touches_anew earlier.now line.now }
+/// Whether both are one end, or none.
+fn are_one(first: &Option<End>, second: &Option<End>) -> bool
+    ensures { result ≡ are_one first.now second.now }
 {
-    !is_routine(&line.action) && !touched(earlier, &line.event)
+    match first {
+        Some(first) => match second {
+            Some(second) => *first == *second,
+            None => false,
+        },
+        None => match second {
+            Some(_) => false,
+            None => true,
+        },
+    }
 }
 
-/// Sets the ends of the events of the lines as the periods have them.
+/// Whether the line touches a life of an event that does not stand with this end.
+fn moves_end(standing: &[Standing], line: &Line, latest: &Option<End>) -> bool
+    requires { IsStrictlySortedBy by_standing standing.now }
+    ensures { result ≡ moves_end standing.now line.now latest.now }
+{
+    !is_routine(&line.action) && !are_one(&end_in(standing, &line.event), latest)
+}
+
+/// Sets the ends of the events of the lines as the periods have them. Most stand with them already.
 pub fn settle(standing: &mut Vec<Standing>, periods: &[PeriodCount], lines: &[Line])
     requires periods { IsStrictlySortedBy by_period periods.now }
     requires order { IsStrictlySortedBy by_standing standing.old.items }
@@ -128,9 +153,9 @@ pub fn settle(standing: &mut Vec<Standing>, periods: &[PeriodCount], lines: &[Li
     ensures capacity { vec_capacity standing.old ≤ vec_capacity standing.new }
     ensures length { vec_len standing.new ≤ vec_len standing.old + newly standing.old.items lines.now }
 {
-    for (place, line) in lines.iter().enumerate() {
-        if touches_anew(&lines[..place], line) {
-            let latest = latest_in(periods, &line.event);
+    for line in lines {
+        let latest = latest_in(periods, &line.event);
+        if moves_end(standing, line, &latest) {
             set_end(standing, &line.event, &latest);
         }
     }

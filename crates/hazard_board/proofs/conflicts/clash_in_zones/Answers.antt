@@ -1,26 +1,49 @@
 -- Each zone gives its first clash, and the earliest zone with one decides.
-use Rattle.std.proofs.Common.{◌≡◌, ◌∙◌, ◌+◌, not, Bool, true, false, refl, take_all, List, sym, subst, ap, take}
+use Rattle.std.proofs.Common.{◌≡◌, ◌∙◌, ◌+◌, not, Bool, true, false, refl, take_all, List, Option, Result, Ok, Err, IfOk, sym, subst, ap, take, rules}
 use Rattle.std.specs.BTreeMap.{is_at}
 use Rattle.std.specs.List.{list_any}
 use Rattle.hazard_types.specs.Places.{Place, by_place}
+use Rattle.hazard_types.specs.declared.line.Clash.{Clash}
 use Rattle.hazard_types.specs.declared.line.Line.{Line}
+use Rattle.hazard_types.specs.declared.list.Oom.{Oom}
 use Rattle.hazard_types.proofs.OrderLaws.{by_place_total, by_place_ties}
+use Rattle.hazard_board.specs.Board.{slice_of}
 use Rattle.hazard_board.specs.ByZone.{LinesByZone, lines_at}
+use Rattle.hazard_board.specs.Clashes.{first_clash}
 use Rattle.hazard_board.specs.Taken.{rows_taken}
 use Rattle.hazard_board.proofs.ByZoneLemmas.{lines_found}
 use Rattle.hazard_board.proofs.Keyed.{has_after}
 use Rattle.hazard_board.proofs.QuietRows.{quiet_elsewhere}
 use Rattle.hazard_board.proofs.SliceLemmas.{names_zone}
 use Rattle.hazard_board.proofs.Turns.{rows_taken-sorted}
-use Rattle.hazard_board.proofs.ZoneClashes.{IsFirstIn, first_still, first_new, first_in_all, seen_more}
+use Rattle.hazard_board.proofs.ZoneClashes.{IsFirstIn, first_still, first_new, first_in_all, seen_more, all_own, only_first}
 use Rattle.hazard_board.proofs.conflicts.clash_in_zones.Goals as goal
 use Rattle.hazard_board.proofs.conflicts.clash_in_zones.Goals.{then-branch+in_ok-found, else-branch}
 
-pub clash_in-requires-clause-own : goal.clash_in-requires-clause-own
-clash_in-requires-clause-own c =
+pub clash_in-requires-then-branch-clause-own : goal.clash_in-requires-then-branch-clause-own
+clash_in-requires-then-branch-clause-own c =
     c.lines_in-own.ensures
     ∙ ap (λ (zones : LinesByZone). lines_at zones c.line-item.result.zone) c.in_ok-zones.ensures
     ∙ lines_found c.args.lines.now c.line-item.result.zone
+
+pub clash_in-requires-clause-own : goal.clash_in-requires-clause-own
+clash_in-requires-clause-own c = all_own c.in-Some.zone c.args.lines.now (search rules)
+
+-- where all lines are of one zone, its first clash is that of all rows
+by_one : (P : Option Clash → Type 0) (Q : Option Clash → Type 0) (r : Result (Option Clash) Oom) → ((found : Option Clash) → P found → Q found) → IfOk r P → IfOk r Q
+by_one P Q (Ok found) f is = f found is
+by_one P Q (Err e) f is = tt
+
+pub returns-in-Some : goal.returns-in-Some
+returns-in-Some c =
+    let t = c.args.t in
+    let rows = c.args.rows.now.rows in
+    let lines = c.args.lines.now in
+    let after = rows_taken rows t lines in
+    let z = c.in-Some.zone in
+    by_one (λ found. found ≡ first_clash t (slice_of z after)) (λ found. found ≡ first_clash t after) c.clash_in.result
+    (λ found is. first_in_all t after lines found (rows_taken-sorted rows t lines c.requires.order) (λ y h. quiet_elsewhere t rows lines y c.requires.apart h) (only_first t after lines z found (search rules) is))
+    c.clash_in.ensures
 
 not_new : (b : Bool) → not b ≡ false → b ≡ true
 not_new true h = refl

@@ -5,6 +5,7 @@ use Rattle.event_life.specs.Products.{life_of}
 use Rattle.event_life.specs.declared.life.Life.{Life}
 use Rattle.hazard_board.specs.Taken.{left_on, row_left, put_if}
 use Rattle.hazard_board.proofs.SpotLemmas.{spots_with_if}
+use Rattle.hazard_board.proofs.StaysLemmas.{stays_put, spots_held}
 use Rattle.hazard_board.proofs.PeriodLemmas.{some_left, room_left, counted_left_by}
 use Rattle.hazard_board.proofs.lines.bring_line.Goals as goal
 use Rattle.hazard_board.proofs.lines.bring_line.Goals.{After-left_on-row}
@@ -25,6 +26,24 @@ count_if-requires-clause-room c =
 
 pub shelve_if-requires : goal.shelve_if-requires
 shelve_if-requires c = let same = long (goal.at.shelve_if-requires c).After-left_on-row in omega (arith, same, c.requires.room)
+
+pub returns-then-stays-clause-rows : goal.returns-then-stays-clause-rows
+returns-then-stays-clause-rows c =
+    sym (ap (λ (o : Option Row). put_if o c.args.rows.now.rows) (sym (left (goal.at.returns-then-stays-clause-rows c).After-left_on-row))
+    ∙ stays_put c.args.rows.now.rows c.requires.order c.args.line.now.event c.args.line.now.zone c.row_at-old.result c.left_on-row.result c.row_at-old.ensures (sym c.stays.ensures ∙ c.if-stays.true))
+
+pub returns-then-is_some-clause-rows : goal.returns-then-is_some-clause-rows
+returns-then-is_some-clause-rows c = c.shelve_if.ensures.rows ∙ ap (λ (o : Option Row). put_if o c.args.rows.now.rows) (left (goal.at.returns-then-is_some-clause-rows c).After-left_on-row)
+
+pub returns-then-is_some-clause-spots : goal.returns-then-is_some-clause-spots
+returns-then-is_some-clause-spots c =
+    rw (c.shelve_if.ensures.rows)
+    (spots_held c.args.rows.now.rows c.args.spots.now.items c.args.line.now _ c.args.t c.row_at-old.result c.left_on-row.result c.requires.order c.requires.spots c.row_at-old.ensures (sym c.is_some.ensures ∙ c.if-is_some.true) (sym c.left_on-row.ensures))
+
+pub returns-then-is_some-clause-periods : goal.returns-then-is_some-clause-periods
+returns-then-is_some-clause-periods c =
+    rw (c.shelve_if.ensures.rows)
+    (counted_left_by c.args.rows.now.rows c.args.periods.now.items c.args.line.now c.args.t _ c.row_at-old.result c.requires.periods c.requires.order c.row_at-old.ensures c.left_on-row.result c.count_if.new.periods.items (sym c.left_on-row.ensures) c.count_if.ensures.stand c.count_if.ensures.told)
 
 pub unreachable-requires : goal.unreachable-requires
 unreachable-requires c =
