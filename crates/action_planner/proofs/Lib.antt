@@ -33,3 +33,4 @@ pub mod LineLemmas
 pub mod SaidLemmas
 pub mod FittingLemmas
 pub mod OnceLemmas
+pub mod LiveLemmas

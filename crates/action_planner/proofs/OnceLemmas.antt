@@ -50,6 +50,10 @@ unfolding IsStrictlySortedBy IsDistinct
 differ [] up = tt
 differ (z ∷ zones) up = (all_other z zones up.0, differ zones up.1)
 
+-- zones that ascend stand once
+pub once_ascending : (zones : List Place) → ascend zones ≡ true → stand_once zones ≡ true
+once_ascending zones h = (once_Decides zones).1 (differ zones (strictly zones h))
+
 -- sorted zones that differ ascend
 
 next_above : (o : Ordering) (z y : Place) → by_place z y ≡ o → is_lt (by_place y z) ≡ false → same_zone z y ≡ false → is_lt o ≡ true

@@ -5,6 +5,7 @@ ghost use Rattle.std.specs.List.Sorted.{IsStrictlySortedBy};
 ghost use Rattle.hazard_types.specs.Hazards.{facts_of};
 ghost use Rattle.hazard_types.specs.declared.codes.Action.TheVariants.{Con};
 ghost use Rattle.event_life.specs.Products.{by_key};
+ghost use Rattle.hazard_board.specs.Board.{slice_of};
 ghost use Rattle.action_planner.specs.Placed.{zones_of, touches, speaks};
 ghost use Rattle.action_planner.specs.Lines.{line_on, is_near_end, finishing_action, finish_lines, restate_lines, lines_in, lines_in_zones, lines_from, routine_line, follows, goes_on, goes_on_beside, added_in, added_lines, planned_lines};
 ghost use Rattle.action_planner.specs.Sending.{have_finish, is_finish, opening_of};
@@ -203,6 +204,21 @@ fn add_going_on(
     Ok(())
 }
 
+/// Adds CON for each row of a zone that goes on beside the intents. Those that have ended are not looked at.
+fn add_in_zone(
+    lines: &mut List<Line>,
+    sending: &Sending,
+    category: Category,
+    zone: &Zone,
+) -> Result<(), Oom>
+    ensures lines { OnOk result (lines.new ≡ lines.old ++ map (line_on Con sending.now.minute) (filter (goes_on_beside category sending.now.minute sending.now.intents) (slice_of zone.now sending.now.rows))) }
+    ensures order { IsStrictlySortedBy by_key sending.now.rows }
+{
+    let t = sending.minute();
+    let rows = sending.board().live_slice(*zone, t);
+    add_going_on(lines, category, t, sending.spoken(), rows)
+}
+
 /// Adds CON for each row of these zones that goes on beside the intents.
 fn add_in_zones(
     lines: &mut List<Line>,
@@ -213,10 +229,8 @@ fn add_in_zones(
     ensures lines { OnOk result (lines.new ≡ lines.old ++ added_in category sending.now.rows sending.now.minute sending.now.intents zones.now) }
     ensures order { OnOk result (0 < length zones.now → IsStrictlySortedBy by_key sending.now.rows) }
 {
-    let board = sending.board();
-    let t = sending.minute();
     for zone in zones {
-        add_going_on(lines, category, t, sending.spoken(), board.slice_of(*zone))?;
+        add_in_zone(lines, sending, category, zone)?;
     }
     Ok(())
 }

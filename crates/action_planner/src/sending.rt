@@ -249,7 +249,7 @@ impl<'a> Sending<'a> {
         requires { have_finish self.now.intents ≡ true }
         ensures { result ≡ is_overlaid self.now.rows self.now.minute self.now.intents row.now }
     {
-        let stand = self.board.slice_of(row.zone);
+        let stand = self.board.live_slice(row.zone, self.minute);
         let put = rows_in(&self.put, &row.zone);
         is_overlaid_by(self.minute, row, stand, put, self.spoken)
     }
