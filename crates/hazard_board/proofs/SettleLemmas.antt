@@ -1,5 +1,5 @@
 -- Events that lines touch, line by line.
-use Rattle.std.proofs.Common.{◌≡◌, ◌∙◌, ◌||◌, ◌&&◌, not, ℕ, ◌+◌, ◌<◌, ◌≤◌, List, [], ◌∷◌, ◌++◌, Bool, true, false, Option, Some, None, is_none, true≢false, refl, sym, ap, cond, count_by, length, get_or, take, drop, take-append-drop, arith}
+use Rattle.std.proofs.Common.{◌≡◌, ◌∙◌, ◌||◌, ◌&&◌, not, ℕ, zero, suc, ◌+◌, ◌-◌, ◌==◌, ◌<◌, ◌≤◌, List, [], ◌∷◌, ◌++◌, Bool, true, false, Option, Some, None, is_none, true≢false, refl, sym, ap, cond, count_by, length, get_or, take, drop, take-append-drop, arith}
 use Rattle.std.proofs.lemmas.Bool.{and_parts, false_from_ne_true, not-true}
 use Rattle.std.proofs.lemmas.List.{take_more}
 use Rattle.std.proofs.lemmas.List.Folds.{list_any-append}
@@ -10,13 +10,14 @@ use Rattle.hazard_types.specs.declared.line.Line.{Line}
 use Rattle.hazard_types.specs.declared.period.End.{End}
 use Rattle.hazard_types.proofs.Equality.{event_one, end_one, end_itself}
 use Rattle.event_life.specs.Products.{is_routine}
-use Rattle.hazard_board.specs.Standing.{end_in, touched, touches_anew, are_one, moves_end, newly}
+use Rattle.hazard_board.specs.Standing.{end_in, touches, touched, touches_anew, are_one, moves_end, newly}
 use Rattle.hazard_board.specs.Periods.{latest_in}
 use Rattle.hazard_board.specs.declared.periods.PeriodCount.{PeriodCount}
 use Rattle.hazard_board.specs.declared.standing.Standing.{Standing}
 
-touches : Event → Line → Bool
-touches e line = not (is_routine line.action) && same_event line.event e
+or_true : (b : Bool) → (b || true) ≡ true
+or_true true = refl
+or_true false = refl
 
 last : (a b : Bool) → (a || (b || false)) ≡ (a || b)
 last true b = refl
@@ -39,6 +40,16 @@ front_counts : (p : Line → Bool) (lines : List Line) (i : ℕ) → count_by p 
 front_counts p lines i =
     let whole : count_by p lines ≡ count_by p (take i lines) + count_by p (drop i lines) = ap (count_by p) (sym (take-append-drop i lines)) ∙ sum_by-append (λ (l : Line). cond (p l) 1 0) (take i lines) (drop i lines) in
     omega (arith, whole)
+
+-- a line at a place that touches a life of the event
+pub touched_at : (e : Event) (lines : List Line) (i : ℕ) (line : Line) → i < length lines → line ≡ get_or lines i line → touches e line ≡ true → touched lines e ≡ true
+touched_at e [] i line within is h = absurd (omega (arith, within))
+touched_at e (l ∷ lines) zero line within is h = ap (λ (b : Bool). b || touched lines e) (ap (touches e) (sym is) ∙ h)
+touched_at e (l ∷ lines) (suc i) line within is h = ap (λ (b : Bool). touches e l || b) (touched_at e lines i line (omega (arith, within)) is h) ∙ or_true (touches e l)
+
+pub touched_last : (e : Event) (lines : List Line) (line : Line) → (length lines == 0) ≡ false → line ≡ get_or lines (length lines - 1) line → touches e line ≡ true → touched lines e ≡ true
+touched_last e [] line some is h = cc
+touched_last e (l ∷ lines) line some is h = touched_at e (l ∷ lines) (length (l ∷ lines) - 1) line (omega arith) is h
 
 -- the ends after the first line of an event
 anew_step : (own routine same before : Bool) (e d : Event) (new : Option End) (old was latest : Option End) → routine ≡ false → (same ≡ true → new ≡ latest) →
@@ -76,6 +87,11 @@ unmoved true b h e = cc
 unmoved false true h e = refl
 unmoved false false h e = cc
 
+never_moves : (a b : Bool) → b ≡ true → (not a && not b) ≡ false
+never_moves true b h = refl
+never_moves false true h = refl
+never_moves false false h = cc
+
 both_not : (a b : Bool) → a ≡ false → b ≡ false → (not a && not b) ≡ true
 both_not a b p q = rw (p, q) refl
 
@@ -107,6 +123,14 @@ module _ (rows : List PeriodCount) (lines : List Line) (was now : List Standing)
       let key = event_one line.event e same in
       ap (end_in now) (sym key) ∙ one ∙ ap (latest_in rows) key) (so_far e)
       ∙ ap (λ (b : Bool). cond b (latest_in rows e) (end_in was e)) (sym (grown lines i line e within is))
+
+  -- where it is not to be set
+  pub settled_by : (b : Bool) → touched (take i lines) line.event ≡ b → (b ≡ false → moves_end now line (latest_in rows line.event) ≡ false) → (e : Event) → end_in now e ≡ cond (touched (take (i + 1) lines) e) (latest_in rows e) (end_in was e)
+  settled_by false told h = settled_still (h refl)
+  settled_by true told h =
+      let there : end_in now line.event ≡ latest_in rows line.event = so_far line.event ∙ ap (λ (b : Bool). cond b (latest_in rows line.event) (end_in was line.event)) told in
+      let one : are_one (end_in now line.event) (latest_in rows line.event) ≡ true = ap (λ (o : Option End). are_one o (latest_in rows line.event)) there ∙ itself_one (latest_in rows line.event) in
+      settled_still (never_moves (is_routine line.action) (are_one (end_in now line.event) (latest_in rows line.event)) one)
 
   -- the event of the line has the end of before
   end_unset : touches_anew (take i lines) line ≡ true → end_in now line.event ≡ end_in was line.event

@@ -67,6 +67,10 @@ pub record AreStandingOf (h : Hazard) (rows : List Row) (standing : List Standin
   pub hazard : AllByRecursion (λ (s : Standing). s.event.hazard ≡ h) standing
   pub latest : (e : Event) → e.hazard ≡ h → end_in standing e ≡ latest_end rows e
 
+-- the line touches a life of the event
+abbrev pub touches : Event → Line → Bool
+touches e line = not (is_routine line.action) && same_event line.event e
+
 -- one of the lines that touch a life is of the event
 abbrev pub touched : List Line → Event → Bool
 touched lines e = list_any (λ (line : Line). not (is_routine line.action) && same_event line.event e) lines

@@ -1,5 +1,5 @@
 //! The events that stand: those with a row that no line has ended.
-ghost use Rattle.std.specs.Prelude.{◌≡◌, ◌≤◌, ◌<◌, ◌+◌, length, None, is_none, IfOk, IfErr, IsSome, if◌then◌else◌};
+ghost use Rattle.std.specs.Prelude.{◌≡◌, ◌≤◌, ◌<◌, ◌+◌, true, false, length, None, is_none, IfOk, IfErr, IsSome, if◌then◌else◌};
 ghost use Rattle.std.specs.List.{prefix_len};
 ghost use Rattle.std.specs.List.Sorted.{IsStrictlySortedBy};
 ghost use Rattle.std.specs.Ordering.{is_lt};
@@ -8,7 +8,7 @@ ghost use Rattle.hazard_types.specs.Orders.{by_event};
 ghost use Rattle.hazard_types.specs.Same.{same_event};
 ghost use Rattle.hazard_types.specs.declared.hazard.Event.{Event as AnyEvent};
 ghost use Rattle.hazard_board.specs.Periods.{by_period, latest_in};
-ghost use Rattle.hazard_board.specs.Standing.{by_standing, end_in, put_standing, without, IsPlaceOf, IsGapFor, touched, are_one, moves_end, newly};
+ghost use Rattle.hazard_board.specs.Standing.{by_standing, end_in, put_standing, without, IsPlaceOf, IsGapFor, touches, touched, are_one, moves_end, newly};
 
 use crate::periods::{PeriodCount, latest_in};
 use event_life::is_routine;
@@ -135,12 +135,50 @@ fn are_one(first: &Option<End>, second: &Option<End>) -> bool
     }
 }
 
+/// Whether the line touches a life of the event.
+fn touches(line: &Line, e: &Event) -> bool
+    ensures { result ≡ touches e.now line.now }
+{
+    !is_routine(&line.action) && line.event == *e
+}
+
 /// Whether the line touches a life of an event that does not stand with this end.
 fn moves_end(standing: &[Standing], line: &Line, latest: &Option<End>) -> bool
     requires { IsStrictlySortedBy by_standing standing.now }
     ensures { result ≡ moves_end standing.now line.now latest.now }
 {
     !is_routine(&line.action) && !are_one(&end_in(standing, &line.event), latest)
+}
+
+/// Whether the last of the lines touches a life of the event.
+fn touches_last(lines: &[Line], e: &Event) -> bool
+    ensures { result ≡ true → touched lines.now e.now ≡ true }
+{
+    if lines.is_empty() {
+        return false;
+    }
+    let last = lines.len() - 1;
+    let line = &lines[last];
+    touches(line, e)
+}
+
+/// Whether the end of the event of a line is to be set: where it moves. It has been set where the line before is of the event.
+fn is_to_settle(
+    standing: &[Standing],
+    periods: &[PeriodCount],
+    earlier: &[Line],
+    line: &Line,
+) -> bool
+    requires order { IsStrictlySortedBy by_standing standing.now }
+    requires periods { IsStrictlySortedBy by_period periods.now }
+    ensures moves { result ≡ true → moves_end standing.now line.now (latest_in periods.now line.now.event) ≡ true }
+    ensures stays { result ≡ false → touched earlier.now line.now.event ≡ false → moves_end standing.now line.now (latest_in periods.now line.now.event) ≡ false }
+{
+    if touches_last(earlier, &line.event) {
+        return false;
+    }
+    let latest = latest_in(periods, &line.event);
+    moves_end(standing, line, &latest)
 }
 
 /// Sets the ends of the events of the lines as the periods have them. Most stand with them already.
@@ -153,9 +191,9 @@ pub fn settle(standing: &mut Vec<Standing>, periods: &[PeriodCount], lines: &[Li
     ensures capacity { vec_capacity standing.old ≤ vec_capacity standing.new }
     ensures length { vec_len standing.new ≤ vec_len standing.old + newly standing.old.items lines.now }
 {
-    for line in lines {
-        let latest = latest_in(periods, &line.event);
-        if moves_end(standing, line, &latest) {
+    for (place, line) in lines.iter().enumerate() {
+        if is_to_settle(standing, periods, &lines[..place], line) {
+            let latest = latest_in(periods, &line.event);
             set_end(standing, &line.event, &latest);
         }
     }
