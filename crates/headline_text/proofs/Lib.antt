@@ -1,4 +1,5 @@
 pub mod NameLaws
+pub mod Pieces
 pub mod Saying
 pub mod Words
 pub mod WrapLaws
