@@ -88,7 +88,7 @@ fn put_hazard_seq(alloc: Global, out: &mut Text, hazard: &Hazard, seq: u32) -> R
     out.extend(b",\"hazard\":")?;
     put_string(alloc, out, &hazard_text(hazard))?;
     out.extend(b",\"seq\":")?;
-    put_whole(alloc, out, seq)
+    put_whole(out, seq)
 }
 
 /// Adds the texts and the zones.

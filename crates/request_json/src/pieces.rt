@@ -7,7 +7,7 @@ ghost use Rattle.request_json.specs.Pieces.{is_plain, string_text, whole_text, z
 
 use crate::members::text_value;
 use hazard_types::{Event, Oom, Text, Texts, Zone, put_event, zone_text};
-use serde_json::Value;
+use itoa::Buffer;
 use std::alloc::Global;
 
 /// Whether a byte stands for itself in a string.
@@ -64,11 +64,11 @@ fn put_text(alloc: Global, out: &mut Text, text: &Text) -> Result<(), Oom>
 
 /// Adds a whole number.
 #[tactic(auto, unfolding(crate::specs::Pieces::whole_text))]
-pub fn put_whole(alloc: Global, out: &mut Text, number: u32) -> Result<(), Oom>
+pub fn put_whole(out: &mut Text, number: u32) -> Result<(), Oom>
     ensures { OnOk result (out.new ≡ out.old ++ whole_text number) }
 {
-    let text = Value::from(number).to_vec(alloc)?;
-    out.extend(&text)
+    let mut digits = Buffer::new();
+    out.extend(digits.format(number).as_bytes())
 }
 
 /// Adds a comma, where something stands before.

@@ -29,7 +29,7 @@ fn put_draft_ok(alloc: Global, out: &mut Text, draft: u32, word: &str) -> Result
     ensures { OnOk result (out.new ≡ out.old ++ draft_ok draft word.now) }
 {
     out.extend(b"{\"draft\":")?;
-    put_whole(alloc, out, draft)?;
+    put_whole(out, draft)?;
     out.extend(b",\"ok\":")?;
     put_string(alloc, out, word.as_bytes())
 }
@@ -47,11 +47,11 @@ fn draft_text(alloc: Global, word: Word, draft: u32) -> Result<Text, Oom>
 
 /// Adds a place in a draft.
 #[tactic(auto, unfolding(crate::specs::Pieces::place_end))]
-fn put_place_end(alloc: Global, out: &mut Text, place: u32) -> Result<(), Oom>
+fn put_place_end(out: &mut Text, place: u32) -> Result<(), Oom>
     ensures { OnOk result (out.new ≡ out.old ++ place_end place) }
 {
     out.extend(b",\"place\":")?;
-    put_whole(alloc, out, place)?;
+    put_whole(out, place)?;
     out.push(b'}')
 }
 
@@ -62,7 +62,7 @@ fn placed_text(alloc: Global, draft: u32, place: u32) -> Result<Text, Oom>
 {
     let mut text = Text::from_vec(Vec::with_capacity(alloc, ROOM)?);
     put_draft_ok(alloc, &mut text, draft, "put")?;
-    put_place_end(alloc, &mut text, place)?;
+    put_place_end(&mut text, place)?;
     Ok(text)
 }
 
@@ -82,7 +82,7 @@ fn put_product_time(alloc: Global, out: &mut Text, product: u32, time: Minute) -
     ensures { OnOk result (out.new ≡ out.old ++ product_time product time) }
 {
     out.extend(b",\"product\":")?;
-    put_whole(alloc, out, product)?;
+    put_whole(out, product)?;
     out.extend(b",\"time\":")?;
     put_string(alloc, out, &stamp(time))?;
     out.push(b'}')?;
