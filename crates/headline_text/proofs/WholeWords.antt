@@ -57,7 +57,7 @@ behind_within (c ∷ cs) column h =
     let next = behind_within cs (column + 1) (omega (arith, h)) in
     rw (has_room column (omega (arith, h))) (omega (arith, next))
 
-some_column : (column : ℕ) → 0 < column → (column == 0) ≡ false
+pub some_column : (column : ℕ) → 0 < column → (column == 0) ≡ false
 some_column column h = grind (arith, nat_tests)
 
 within_line : (column : ℕ) (word : List ℕ) → length word ≤ 64 → fits_behind column word ≡ true → column + 1 + length word ≤ 66

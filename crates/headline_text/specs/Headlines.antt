@@ -70,3 +70,11 @@ has_when Rou = false
 -- the WHEN bullet of a line in a product of minute t
 unfoldable pub when_of : SegLine → LocalZone → ℕ → List ℕ
 when_of l z t = if has_when l.action then codes "* WHEN..." ++ capital (period_of z t l.begin l.end) ++ codes "." else []
+
+-- the words of a line's period, which its headline and its WHEN bullet say
+abbrev pub said_period : SegLine → LocalZone → ℕ → List ℕ
+said_period l z t = if has_when l.action then period_of z t l.begin l.end else []
+
+-- the WHEN bullet with the words of its period
+abbrev pub when_with : Action → List ℕ → List ℕ
+when_with action period = if has_when action then codes "* WHEN..." ++ capital period ++ codes "." else []

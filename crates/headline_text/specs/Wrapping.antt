@@ -1,5 +1,5 @@
 -- How text is wrapped. A blank is a space.
-use Rattle.std.specs.Prelude.{ℕ, ◌+◌, ◌==◌, nat_le, nat_lt, Bool, List, [], ◌∷◌, ◌++◌, length, if◌then◌else◌}
+use Rattle.std.specs.Prelude.{◌≡◌, ◌≤◌, ℕ, ◌+◌, ◌-◌, ◌==◌, take, drop, nat_le, nat_lt, Bool, List, [], ◌∷◌, ◌++◌, length, if◌then◌else◌}
 
 -- a word before others, unless it is empty
 abbrev pub with_word : List ℕ → List (List ℕ) → List (List ℕ)
@@ -62,3 +62,10 @@ lay column (word ∷ more) = part column word ++ lay (column_behind column word)
 -- lines of at most 66 characters with LF between them; each after the first begins with two blanks
 unfoldable pub wrapped : List ℕ → List ℕ
 wrapped text = lay 0 (words text)
+
+-- the word from one place to another stands in the text behind one blank, and stands so on its line
+pub record Follows (text : List ℕ) (column to start end : ℕ) : Type 0 where
+  pub piece : (from : ℕ) → from ≤ to → take (end - from) (drop from text) ≡ take (to - from) (drop from text) ++ part column (take (end - start) (drop start text))
+  pub moves : column_behind column (take (end - start) (drop start text)) ≡ column + (end - to)
+  pub within : column + (end - to) ≤ 66
+  pub order : to ≤ end

@@ -2,15 +2,17 @@
 ghost use Rattle.std.specs.Prelude.{◌≡◌, ◌++◌, codes, IsSome, IsTrue, IfOk, OnOk};
 ghost use Rattle.hazard_types.specs.Hazards.{name_of};
 ghost use Rattle.headline_text.specs.Wrapping.{wrapped};
-ghost use Rattle.headline_text.specs.Headlines.{name_text, stated, told, expiry_of, headline_of, is_minute, capital, has_when, when_of};
-ghost use Rattle.headline_text.specs.Periods.{period_of};
+ghost use Rattle.headline_text.specs.Headlines.{name_text, stated, told, expiry_of, headline_of, is_minute, capital, has_when, when_of, said_period, when_with};
 
-use crate::periods::period_text;
+use crate::periods::{PERIOD_ROOM, empty_text, period_text};
 use crate::wrapping::wrapped;
 use desk_clock::local_short;
 use hazard_types::desk_hazards::name_of;
 use hazard_types::{Action, End, Hazard, LocalZone, Minute, Oom, SegLine, Text};
 use std::alloc::Global;
+
+/// The room that a headline mostly takes.
+const HEADLINE_ROOM: usize = 128;
 
 /// The name of a hazard that the desk issues.
 fn name_text(hazard: Hazard) -> &'static [u8]
@@ -27,7 +29,8 @@ fn name_text(hazard: Hazard) -> &'static [u8]
 fn stated(alloc: Global, name: &[u8], effect: &[u8], period: &Text) -> Result<Text, Oom>
     ensures { IfOk result (λ text. text ≡ stated name.now effect.now period.now) }
 {
-    let mut text = Text::from_slice(alloc, b"...")?;
+    let mut text = empty_text(alloc, HEADLINE_ROOM)?;
+    text.extend(b"...")?;
     text.extend(name)?;
     text.extend(effect)?;
     text.extend(period.as_slice())?;
@@ -39,7 +42,8 @@ fn stated(alloc: Global, name: &[u8], effect: &[u8], period: &Text) -> Result<Te
 fn told_text(alloc: Global, name: &[u8], what: &[u8]) -> Result<Text, Oom>
     ensures { IfOk result (λ text. text ≡ told name.now what.now) }
 {
-    let mut text = Text::from_slice(alloc, b"...The ")?;
+    let mut text = empty_text(alloc, HEADLINE_ROOM)?;
+    text.extend(b"...The ")?;
     text.extend(name)?;
     text.extend(what)?;
     text.extend(b"...")?;
@@ -53,7 +57,8 @@ fn expiry_text(alloc: Global, end: &End, zone: LocalZone, t: Minute) -> Result<T
     match end {
         End::At(end) => {
             if t.get() < end.get() {
-                let mut text = Text::from_slice(alloc, b" will expire at ")?;
+                let mut text = empty_text(alloc, PERIOD_ROOM)?;
+                text.extend(b" will expire at ")?;
                 text.extend(local_short(alloc, zone, *end)?.as_slice())?;
                 Ok(text)
             } else {
@@ -64,27 +69,52 @@ fn expiry_text(alloc: Global, end: &End, zone: LocalZone, t: Minute) -> Result<T
     }
 }
 
-/// The headline before it is wrapped.
+fn has_when(action: Action) -> bool
+    ensures { result ≡ has_when action }
+{
+    !matches!(
+        action,
+        Action::Can | Action::Exp | Action::Upg | Action::Rou
+    )
+}
+
+/// The words of a line's period, which a headline and a WHEN bullet say. CAN, EXP, UPG and ROU say none, an empty text.
+fn said_period(alloc: Global, l: &SegLine, zone: LocalZone, t: Minute) -> Result<Text, Oom>
+    ensures { IfOk result (λ text. text ≡ said_period l.now zone t) }
+{
+    if has_when(l.action) {
+        period_text(alloc, zone, t, &l.begin, &l.end)
+    } else {
+        Ok(Text::new(alloc))
+    }
+}
+
+/// The headline with the words of its period, before it is wrapped.
 #[tactic(auto, unfolding(crate::specs::Headlines::headline_of))]
-fn headline_of(alloc: Global, l: &SegLine, zone: LocalZone, t: Minute) -> Result<Text, Oom>
-    requires { IsSome (name_of l.now.event.hazard) }
+fn headline_with(
+    alloc: Global,
+    l: &SegLine,
+    zone: LocalZone,
+    t: Minute,
+    period: &Text,
+) -> Result<Text, Oom>
+    requires named { IsSome (name_of l.now.event.hazard) }
+    requires period { period.now ≡ said_period l.now zone t }
     ensures { IfOk result (λ text. text ≡ headline_of l.now zone t) }
 {
     let name = name_text(l.event.hazard);
-    let effect: &[u8] = match l.action {
-        Action::New | Action::Exa | Action::Exb => b" in effect ",
-        Action::Ext => b" now in effect ",
-        Action::Con | Action::Cor => b" remains in effect ",
-        Action::Can => return told_text(alloc, name, b" is cancelled"),
-        Action::Upg => return told_text(alloc, name, b" is upgraded"),
+    match l.action {
+        Action::New | Action::Exa | Action::Exb => stated(alloc, name, b" in effect ", period),
+        Action::Ext => stated(alloc, name, b" now in effect ", period),
+        Action::Con | Action::Cor => stated(alloc, name, b" remains in effect ", period),
+        Action::Can => told_text(alloc, name, b" is cancelled"),
+        Action::Upg => told_text(alloc, name, b" is upgraded"),
         Action::Exp => {
             let what = expiry_text(alloc, &l.end, zone, t)?;
-            return told_text(alloc, name, what.as_slice());
+            told_text(alloc, name, what.as_slice())
         }
-        Action::Rou => return Ok(Text::new(alloc)),
-    };
-    let period = period_text(alloc, zone, t, &l.begin, &l.end)?;
-    stated(alloc, name, effect, &period)
+        Action::Rou => Ok(Text::new(alloc)),
+    }
 }
 
 /// The headline of a line in a product of minute `t`, wrapped, with LF between its lines and none at the end. ROU has none, an empty text.
@@ -93,17 +123,9 @@ pub fn headline(alloc: Global, l: &SegLine, zone: LocalZone, t: Minute) -> Resul
     requires expiry { l.now.action ≡ Action.Exp → IsTrue (is_minute l.now.end) }
     ensures { IfOk result (λ text. text ≡ wrapped (headline_of l.now zone t)) }
 {
-    let text = headline_of(alloc, l, zone, t)?;
+    let period = said_period(alloc, l, zone, t)?;
+    let text = headline_with(alloc, l, zone, t, &period)?;
     wrapped(alloc, text.as_slice())
-}
-
-fn has_when(action: Action) -> bool
-    ensures { result ≡ has_when action }
-{
-    !matches!(
-        action,
-        Action::Can | Action::Exp | Action::Upg | Action::Rou
-    )
 }
 
 /// Adds a text, its first letter in upper case.
@@ -119,25 +141,48 @@ fn push_capital(out: &mut Text, text: &[u8]) -> Result<(), Oom>
     }
 }
 
-/// The WHEN bullet before it is wrapped.
-#[tactic(auto, unfolding(crate::specs::Headlines::when_of))]
-fn when_of(alloc: Global, l: &SegLine, zone: LocalZone, t: Minute) -> Result<Text, Oom>
-    ensures { IfOk result (λ text. text ≡ when_of l.now zone t) }
+/// The WHEN bullet with the words of its period, before it is wrapped.
+fn when_with(alloc: Global, l: &SegLine, period: &Text) -> Result<Text, Oom>
+    ensures { IfOk result (λ text. text ≡ when_with l.now.action period.now) }
 {
     if !has_when(l.action) {
         return Ok(Text::new(alloc));
     }
-    let period = period_text(alloc, zone, t, &l.begin, &l.end)?;
-    let mut text = Text::from_slice(alloc, b"* WHEN...")?;
+    let mut text = empty_text(alloc, PERIOD_ROOM)?;
+    text.extend(b"* WHEN...")?;
     push_capital(&mut text, period.as_slice())?;
     text.extend(b".")?;
     Ok(text)
 }
 
 /// The WHEN bullet of a line in a product of minute `t`, as `* WHEN...Until 600 PM EST Wed Jan 3.`, wrapped. CAN, EXP, UPG and ROU have none, an empty text.
+#[tactic(auto, using(crate::proofs::Saying::when_is))]
 pub fn when_bullet(alloc: Global, l: &SegLine, zone: LocalZone, t: Minute) -> Result<Text, Oom>
     ensures { IfOk result (λ text. text ≡ wrapped (when_of l.now zone t)) }
 {
-    let text = when_of(alloc, l, zone, t)?;
+    let period = said_period(alloc, l, zone, t)?;
+    let text = when_with(alloc, l, &period)?;
     wrapped(alloc, text.as_slice())
+}
+
+/// What is said of a line in a product: its headline and its WHEN bullet, wrapped.
+#[derive(Debug, Drop)]
+pub struct LineTexts {
+    pub headline: Text,
+    pub when: Text,
+}
+
+/// What `headline` and `when_bullet` give of a line, whose period is put into words once.
+#[tactic(auto, using(crate::proofs::Saying::when_is))]
+pub fn line_texts(alloc: Global, l: &SegLine, zone: LocalZone, t: Minute) -> Result<LineTexts, Oom>
+    requires named { IsSome (name_of l.now.event.hazard) }
+    ensures headline { IfOk result (λ texts. texts.headline ≡ wrapped (headline_of l.now zone t)) }
+    ensures when { IfOk result (λ texts. texts.when ≡ wrapped (when_of l.now zone t)) }
+{
+    let period = said_period(alloc, l, zone, t)?;
+    let bare_headline = headline_with(alloc, l, zone, t, &period)?;
+    let bare_when = when_with(alloc, l, &period)?;
+    let headline = wrapped(alloc, bare_headline.as_slice())?;
+    let when = wrapped(alloc, bare_when.as_slice())?;
+    Ok(LineTexts { headline, when })
 }

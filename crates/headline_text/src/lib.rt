@@ -7,7 +7,7 @@ mod names;
 mod periods;
 mod wrapping;
 
-pub use headlines::{headline, when_bullet};
+pub use headlines::{LineTexts, headline, line_texts, when_bullet};
 pub use laws::{names_stay_whole, wrapping_keeps_words};
 pub use names::name_lines;
 pub use periods::period_text;

@@ -1,6 +1,6 @@
 //! Text is wrapped.
-ghost use Rattle.std.specs.Prelude.{◌≡◌, ◌≤◌, [], ◌∷◌, ◌++◌, OnOk, IfOk};
-ghost use Rattle.headline_text.specs.Wrapping.{room, fits_behind, lead, start, fill, behind, part, column_behind, wrapped};
+ghost use Rattle.std.specs.Prelude.{◌≡◌, ◌≤◌, ◌<◌, [], ◌∷◌, ◌++◌, length, true, OnOk, IfOk};
+ghost use Rattle.headline_text.specs.Wrapping.{room, fits_behind, lead, start, fill, behind, part, column_behind, wrapped, Follows};
 
 use hazard_types::{Oom, Text};
 use std::alloc::Global;
@@ -91,6 +91,21 @@ fn put(out: &mut Text, column: usize, word: &[u8]) -> Result<usize, Oom>
     fill(out, first, word)
 }
 
+/// Whether the word that ends at `end` follows on the line of the one that ends at `to`, behind the one blank that parts
+/// them in the text.
+fn follows(text: &[u8], column: usize, to: usize, start: usize, end: usize) -> bool
+    requires column { column ≤ 66 }
+    requires to { to ≤ end }
+    requires start { start ≤ end }
+    requires end { end < length text.now }
+    ensures { result ≡ true → Follows text.now column to start end }
+{
+    if column == 0 || start != to + 1 || start == end || column + (end - to) > WIDTH {
+        return false;
+    }
+    text[to] == b' '
+}
+
 /// The text on lines of at most 66 characters, with LF between them and none at the end. Blanks part words, a run of them is one parting; each line after the first begins with two blanks, and a word of more than 64 characters is cut where the line is full.
 pub fn wrapped(alloc: Global, text: &[u8]) -> Result<Text, Oom>
     ensures { IfOk result (λ lines. lines ≡ wrapped text.now) }
@@ -98,12 +113,22 @@ pub fn wrapped(alloc: Global, text: &[u8]) -> Result<Text, Oom>
     let mut out = Text::from_vec(Vec::with_capacity(alloc, text.len())?);
     let mut column = 0;
     let mut start = 0;
+    let mut from = 0;
+    let mut to = 0;
     for (i, byte) in text.iter().enumerate() {
         if *byte == b' ' {
-            column = put(&mut out, column, &text[start..i])?;
+            if follows(text, column, to, start, i) {
+                column += i - to;
+            } else {
+                out.extend(&text[from..to])?;
+                column = put(&mut out, column, &text[start..i])?;
+                from = i;
+            }
+            to = i;
             start = i + 1;
         }
     }
+    out.extend(&text[from..to])?;
     put(&mut out, column, &text[start..])?;
     Ok(out)
 }

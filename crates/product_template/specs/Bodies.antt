@@ -64,10 +64,14 @@ front_text texts = bullet (codes "* WHAT...") texts.what ++ bullet (codes "* WHE
 abbrev pub back_text : Texts → List ℕ
 back_text texts = bullet (codes "* IMPACTS...") texts.impacts ++ bullet (codes "* ADDITIONAL DETAILS...") texts.details
 
--- the bullets of a line: what and where, when, impacts and details
+-- the bullets of texts around what says when: what and where, when, impacts and details
+abbrev pub bullets_around : List ℕ → Option Texts → List ℕ
+bullets_around when None = when
+bullets_around when (Some texts) = front_text texts ++ (when ++ back_text texts)
+
+-- the bullets of a line
 abbrev pub bullets : Edition → LocalZone → ℕ → SegLine → Option Texts → List ℕ
-bullets edition z t l None = when_text edition z t l
-bullets edition z t l (Some texts) = front_text texts ++ (when_text edition z t l ++ back_text texts)
+bullets edition z t l texts = bullets_around (when_text edition z t l) texts
 
 -- the first texts on an event
 abbrev pub texts_on : List EventTexts → Event → Option Texts

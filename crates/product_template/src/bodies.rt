@@ -5,30 +5,55 @@ ghost use Rattle.std.specs.List.Sorted.{IsStrictlySortedBy};
 ghost use Rattle.std.specs.Map.{keys_of};
 ghost use Rattle.hazard_types.specs.Places.{by_place};
 ghost use Rattle.desk_settings.specs.Looking.{name_beside};
-ghost use Rattle.product_template.specs.Bodies.{is_training, closed, headlines, all_bullets, lines_text, body_of};
+ghost use Rattle.product_template.specs.Bodies.{is_training, closed, paragraph, when_text, lines_text, body_of};
+ghost use Rattle.headline_text.specs.Headlines.{headline_of};
+ghost use Rattle.headline_text.specs.Wrapping.{wrapped};
 ghost use Rattle.product_template.specs.Conditions.{CanBeSaid, CanBeSegment, AreNamed};
 
-use crate::bullets::{put_bullets, put_closed};
+use crate::bullets::{put_bullets, put_closed, texts_on};
 use crate::names::names_of;
 use desk_settings::Settings;
 use hazard_types::{
     Class, Edition, EventTexts, List, LocalZone, Minute, Oom, SegLine, Segment, Text,
 };
-use headline_text::headline;
+use headline_text::{LineTexts, headline, line_texts};
 use product_frame::Body;
 use std::alloc::Global;
 
-/// The headlines of lines.
+/// The room that the headline of a line, or its WHEN bullet, mostly takes.
+const LINE_ROOM: usize = 128;
+
+/// What is said of a line. Edition One has no WHEN bullet.
 #[tactic(auto, using(crate::proofs::Hazards::named))]
-fn headlines(alloc: Global, zone: LocalZone, t: Minute, lines: &[SegLine]) -> Result<Text, Oom>
-    requires { All CanBeSaid lines.now }
-    ensures { IfOk result (λ text. text ≡ headlines zone t lines.now) }
+fn said_of(
+    alloc: Global,
+    edition: Edition,
+    zone: LocalZone,
+    t: Minute,
+    line: &SegLine,
+) -> Result<LineTexts, Oom>
+    requires { CanBeSaid line.now }
+    ensures headline { IfOk result (λ said. said.headline ≡ wrapped (headline_of line.now zone t)) }
+    ensures when { IfOk result (λ said. paragraph said.when ≡ when_text edition zone t line.now) }
 {
-    let mut text = Text::new(alloc);
-    for line in lines {
-        let headline = headline(alloc, line, zone, t)?;
-        put_closed(&mut text, headline.as_slice())?;
+    match edition {
+        Edition::One => {
+            let headline = headline(alloc, line, zone, t)?;
+            let when = Text::new(alloc);
+            Ok(LineTexts { headline, when })
+        }
+        Edition::Two => line_texts(alloc, line, zone, t),
     }
+}
+
+/// The headlines and the bullets, one behind the other.
+fn joined(alloc: Global, headlines: &Text, bullets: &Text) -> Result<Text, Oom>
+    ensures { IfOk result (λ text. text ≡ closed headlines.now ++ bullets.now) }
+{
+    let room = headlines.len().saturating_add(bullets.len());
+    let mut text = Text::from_vec(Vec::with_capacity(alloc, room.saturating_add(1))?);
+    put_closed(&mut text, headlines.as_slice())?;
+    text.extend(bullets.as_slice())?;
     Ok(text)
 }
 
@@ -44,13 +69,20 @@ fn lines_text(
     requires { All CanBeSaid lines.now }
     ensures { IfOk result (λ text. text ≡ lines_text edition zone t texts.now lines.now) }
 {
-    let first = headlines(alloc, zone, t, lines)?;
-    let mut text = Text::new(alloc);
-    put_closed(&mut text, first.as_slice())?;
+    let room = lines.len().saturating_mul(LINE_ROOM);
+    let mut headlines = Text::from_vec(Vec::with_capacity(alloc, room)?);
+    let mut bullets = Text::from_vec(Vec::with_capacity(alloc, room)?);
     for line in lines {
-        put_bullets(alloc, &mut text, edition, zone, t, line, texts)?;
+        let said = said_of(alloc, edition, zone, t, line)?;
+        put_closed(&mut headlines, said.headline.as_slice())?;
+        put_bullets(
+            alloc,
+            &mut bullets,
+            &said.when,
+            texts_on(texts, &line.event),
+        )?;
     }
-    Ok(text)
+    joined(alloc, &headlines, &bullets)
 }
 
 /// The body of a segment.

@@ -2,10 +2,10 @@
 ghost use Rattle.std.specs.Prelude.{◌≡◌, ◌++◌, OnOk, IsTrue, option_map};
 ghost use Rattle.hazard_types.specs.declared.codes.Action.TheVariants as action;
 ghost use Rattle.headline_text.specs.Lines.{has_word};
-ghost use Rattle.product_template.specs.Bodies.{closed, paragraph, bullet, when_text, front_text, back_text, bullets, texts_on};
+ghost use Rattle.product_template.specs.Bodies.{closed, paragraph, bullet, front_text, back_text, bullets_around, texts_on};
 
-use hazard_types::{Edition, Event, EventTexts, LocalZone, Minute, Oom, SegLine, Text, Texts};
-use headline_text::{when_bullet, wrapped};
+use hazard_types::{Event, EventTexts, Oom, Text, Texts};
+use headline_text::wrapped;
 use std::alloc::Global;
 
 /// Whether a text has a character that is no blank.
@@ -44,30 +44,12 @@ fn put_bullet(alloc: Global, out: &mut Text, label: &[u8], text: &Text) -> Resul
     if !has_word(text.as_slice()) {
         return Ok(());
     }
-    let mut whole = Text::from_slice(alloc, label)?;
+    let room = label.len().saturating_add(text.len());
+    let mut whole = Text::from_vec(Vec::with_capacity(alloc, room)?);
+    whole.extend(label)?;
     whole.extend(text.as_slice())?;
     let lines = wrapped(alloc, whole.as_slice())?;
     put_paragraph(out, lines.as_slice())
-}
-
-/// Adds when an event is in effect, in edition Two.
-fn put_when(
-    alloc: Global,
-    out: &mut Text,
-    edition: Edition,
-    zone: LocalZone,
-    t: Minute,
-    line: &SegLine,
-) -> Result<(), Oom>
-    ensures { OnOk result (out.new ≡ out.old ++ when_text edition zone t line.now) }
-{
-    match edition {
-        Edition::One => Ok(()),
-        Edition::Two => {
-            let lines = when_bullet(alloc, line, zone, t)?;
-            put_paragraph(out, lines.as_slice())
-        }
-    }
 }
 
 /// Adds what stands before the time of an event.
@@ -98,24 +80,21 @@ pub fn texts_on<'a>(texts: &'a [EventTexts], event: &Event) -> Option<&'a Texts>
     None
 }
 
-/// Adds the bullets of a line.
+/// Adds the bullets of a line: what and where, when, impacts and details.
 pub fn put_bullets(
     alloc: Global,
     out: &mut Text,
-    edition: Edition,
-    zone: LocalZone,
-    t: Minute,
-    line: &SegLine,
-    texts: &[EventTexts],
+    when: &Text,
+    texts: Option<&Texts>,
 ) -> Result<(), Oom>
-    ensures { OnOk result (out.new ≡ out.old ++ bullets edition zone t line.now (texts_on texts.now line.now.event)) }
+    ensures { OnOk result (out.new ≡ out.old ++ bullets_around (paragraph when.now) (option_map (λ found. found.now) texts.entry)) }
 {
-    match texts_on(texts, &line.event) {
+    match texts {
         Some(texts) => {
             put_front(alloc, out, texts)?;
-            put_when(alloc, out, edition, zone, t, line)?;
+            put_paragraph(out, when.as_slice())?;
             put_back(alloc, out, texts)
         }
-        None => put_when(alloc, out, edition, zone, t, line),
+        None => put_paragraph(out, when.as_slice()),
     }
 }

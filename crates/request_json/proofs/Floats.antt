@@ -4,14 +4,12 @@ use Rattle.std.specs.declared.cmp.Ordering.{Ordering}
 use Rattle.std.specs.declared.cmp.Ordering.TheVariants.{Less, Equal, Greater}
 use Rattle.std.specs.Ordering.{nat_cmp, match_ordering}
 use Rattle.std.specs.Cmp.Lexicographic.{slice_cmp}
-use Rattle.serde_json.specs.Data.{Data, array, Members, no_members, member, put, number, unsigned}
+use Rattle.serde_json.specs.Data.{Data, Members, no_members, member, put, number, unsigned}
 use Rattle.serde_json.specs.Find.{of_integer}
 use Rattle.hazard_types.specs.declared.refusal.Refusal.{Refusal}
 use Rattle.hazard_types.specs.declared.refusal.Refusal.TheVariants as refusal
 use Rattle.request_json.specs.Canonical.{as_text, put_text, put_number}
-use Rattle.request_json.specs.Replies.{label, labelled, put_zone, put_event_zone, put_clash, put_place_in, put_values, word_code, event_data, event_items, put_reply}
-use Rattle.hazard_types.specs.declared.request.Reply.{Reply}
-use Rattle.hazard_types.specs.declared.request.Reply.TheVariants as reply
+use Rattle.request_json.specs.Replies.{label, labelled, put_zone, put_event_zone, put_clash, put_place_in, put_values}
 use Rattle.hazard_types.specs.Calendar.{stamp_of}
 use Rattle.hazard_types.specs.Hazards.{hazard_code}
 use Rattle.hazard_types.specs.Names.{zone_text, event_text}
@@ -122,23 +120,8 @@ labelled_no_float l = put_text_no_float (codes "rule") l.1 (put_text (codes "no"
 pub refusal_no_float : (r : Refusal) → members_have_float (put_values r (labelled (label r))) ≡ false
 refusal_no_float r = values_no_float r (labelled (label r)) (labelled_no_float (label r))
 
--- ---- replies
+-- ---- lists
 
 pub mapped_no_float : {X : Type 0} (f : X → Data) → ((x : X) → has_float (f x) ≡ false) → (xs : List X) → items_have_float (items_of (map f xs)) ≡ false
 mapped_no_float f h [] = refl
 mapped_no_float f h (x ∷ xs) = rw (h x, mapped_no_float f h xs) refl
-
-events_no_float : (es : List Event) → items_have_float (event_items es) ≡ false
-events_no_float es = mapped_no_float event_data (λ (e : Event). text_no_float (event_text e)) es
-
-pub reply_no_float : (r : Reply) → members_have_float (put_reply r no_members) ≡ false
-unfolding put_reply
-reply_no_float (reply.Draft w n) = put_text_no_float (codes "ok") (word_code w) (put_number (codes "draft") n no_members) (put_number_no_float (codes "draft") n no_members refl)
-reply_no_float (reply.Placed n place) =
-    put_text_no_float (codes "ok") (codes "put") (put_number (codes "place") place (put_number (codes "draft") n no_members))
-    (put_number_no_float (codes "place") place (put_number (codes "draft") n no_members) (put_number_no_float (codes "draft") n no_members refl))
-reply_no_float (reply.Sent s) =
-    let one = put_text_no_float (codes "ok") (codes "send") no_members refl in
-    let two = put_number_no_float (codes "product") s.product (put_text (codes "ok") (codes "send") no_members) one in
-    let three = put_text_no_float (codes "time") (stamp_of s.time) (put_number (codes "product") s.product (put_text (codes "ok") (codes "send") no_members)) two in
-    no_float_put (codes "events") (array (event_items s.events)) (put_text (codes "time") (stamp_of s.time) (put_number (codes "product") s.product (put_text (codes "ok") (codes "send") no_members))) (events_no_float s.events) three

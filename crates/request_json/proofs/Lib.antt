@@ -9,6 +9,7 @@ pub mod FieldForms
 pub mod FieldsBack
 pub mod Floats
 pub mod KeysKnown
+pub mod PieceLemmas
 pub mod Putting
 pub mod Reading
 pub mod RequestForms

@@ -4,4 +4,5 @@ pub mod Form
 pub mod Formed
 pub mod Json
 pub mod Keys
+pub mod Pieces
 pub mod Replies

@@ -1,14 +1,17 @@
 //! Canonical texts of requests.
-ghost use Rattle.std.specs.Prelude.{◌≡◌, IfOk, OnOk, map, codes};
+ghost use Rattle.std.specs.Prelude.{◌≡◌, None, IfOk, IfSome, OnOk, map, codes};
+ghost use Rattle.hazard_types.specs.declared.request.Request.TheVariants.{Issue};
+ghost use Rattle.hazard_types.specs.declared.request.Target.TheVariants.{Fresh};
 ghost use Rattle.serde_json.specs.View.{view, members_view};
 ghost use Rattle.request_json.specs.Canonical.{put_text, put_source, put_times, put_begin, put_end, zone_data, texts_data, flood_data, event_texts_data, put_flood, put_target, put_zones_texts, put_put, put_event_part, put_routine, put_put_do, put_event_do, put_routine_do, put_intent, intent_data, intent_text, put_correct, put_draft_do, put_drop, put_open, put_request, asked_members, asked_text};
 
 use crate::asked::Asked;
+use crate::issues::{bare_issue_text, opened_bare};
 use crate::members::{Members, put, put_number, put_text, text_of_members, text_value};
 use crate::refusals::put_event_text;
 use hazard_types::{
-    Begin, Category, Desk, End, EventPart, EventTexts, Flood, Intent, List, Oom, PutPart, Request,
-    RoutinePart, Target, Text, Texts, Zone, hazard_text, stamp, time_text, zone_text,
+    Begin, Category, Desk, End, EventPart, EventTexts, Flood, Hazard, Intent, List, Oom, PutPart,
+    Request, RoutinePart, Target, Text, Texts, Zone, hazard_text, stamp, time_text, zone_text,
 };
 use serde_json::{Map, Value};
 use std::alloc::Global;
@@ -320,14 +323,37 @@ fn asked_members(alloc: Global, desk: &Desk, seq: u32, request: &Request) -> Res
     Ok(members)
 }
 
-/// The canonical text of what a desk asks under a number: compact JSON, keys in byte order, with all four texts, without
-/// flood values that it doesn't have.
+/// The canonical text of what a desk asks, by its members.
 #[tactic(auto, using(crate::proofs::CanonicalFloats::asked_no_float), unfolding(crate::specs::Canonical::asked_text))]
-pub fn text_of_request(alloc: Global, desk: &Desk, seq: u32, request: &Request) -> Result<Text, Oom>
+fn text_by_members(alloc: Global, desk: &Desk, seq: u32, request: &Request) -> Result<Text, Oom>
     ensures { IfOk result (λ text. text ≡ asked_text (record { desk = desk.now; seq = seq; request = request.now })) }
 {
     let members = asked_members(alloc, desk, seq, request)?;
     text_of_members(alloc, members)
+}
+
+/// The hazard of the new event that an issue opens, where it has no flood values.
+fn bare_issue(request: &Request) -> Option<(&PutPart, Hazard)>
+    ensures { IfSome result (λ found. (request.now ≡ Issue found.0.now) × (found.0.now.target ≡ Fresh found.1) × (found.0.now.flood ≡ None)) }
+{
+    match request {
+        Request::Issue(part) => match opened_bare(part) {
+            Some(hazard) => Some((part, hazard)),
+            None => None,
+        },
+        _ => None,
+    }
+}
+
+/// The canonical text of what a desk asks under a number: compact JSON, keys in byte order, with all four texts, without
+/// flood values that it doesn't have.
+pub fn text_of_request(alloc: Global, desk: &Desk, seq: u32, request: &Request) -> Result<Text, Oom>
+    ensures { IfOk result (λ text. text ≡ asked_text (record { desk = desk.now; seq = seq; request = request.now })) }
+{
+    match bare_issue(request) {
+        Some((part, hazard)) => bare_issue_text(alloc, desk, seq, part, hazard),
+        None => text_by_members(alloc, desk, seq, request),
+    }
 }
 
 /// The canonical text of a request.

@@ -1,12 +1,15 @@
 //! The texts of replies.
-ghost use Rattle.std.specs.Prelude.{◌≡◌, IfOk, OnOk, map};
-ghost use Rattle.serde_json.specs.View.{view, members_view};
-ghost use Rattle.request_json.specs.Replies.{word_code, event_data, put_sent, put_reply, reply_text, disk_fault_text, out_of_memory_text};
+ghost use Rattle.std.specs.Prelude.{◌≡◌, ◌++◌, IfOk, OnOk};
+ghost use Rattle.hazard_types.specs.declared.request.Reply.TheVariants.{Draft, Placed, Sent};
+ghost use Rattle.request_json.specs.Pieces.{draft_ok, place_end, events_ok, product_time};
+ghost use Rattle.request_json.specs.Replies.{word_code, reply_text, disk_fault_text, out_of_memory_text};
 
-use crate::members::{Members, put, put_number, put_text, text_of_members, text_value};
-use hazard_types::{Event, List, Oom, Reply, SentReply, Text, Word, put_event, stamp};
-use serde_json::{Map, Value};
+use crate::pieces::{put_events, put_string, put_whole};
+use hazard_types::{Event, Minute, Oom, Reply, SentReply, Text, Word, stamp};
 use std::alloc::Global;
+
+/// The room that the text of a reply mostly takes.
+const ROOM: usize = 96;
 
 /// The word of the request.
 fn word_code(word: Word) -> &'static str
@@ -20,62 +23,92 @@ fn word_code(word: Word) -> &'static str
     }
 }
 
-/// The text of an event.
-pub fn event_value(alloc: Global, event: &Event) -> Result<Value, Oom>
-    ensures { IfOk result (λ value. view value ≡ event_data event.now) }
+/// Adds the number of a draft, and the word of what was done.
+#[tactic(auto, unfolding(crate::specs::Pieces::draft_ok))]
+fn put_draft_ok(alloc: Global, out: &mut Text, draft: u32, word: &str) -> Result<(), Oom>
+    ensures { OnOk result (out.new ≡ out.old ++ draft_ok draft word.now) }
 {
-    let mut text = List::new(alloc);
-    put_event(alloc, &mut text, event)?;
-    text_value(alloc, text.as_slice())
+    out.extend(b"{\"draft\":")?;
+    put_whole(out, draft)?;
+    out.extend(b",\"ok\":")?;
+    put_string(alloc, out, word.as_bytes())
 }
 
-fn event_values(alloc: Global, events: &[Event]) -> Result<Vec<Value>, Oom>
-    ensures { IfOk result (λ values. map view values.items ≡ map event_data events.now) }
+/// The text of a reply to what opened, took or discarded a draft, or dropped something from it.
+#[tactic(auto, using(crate::proofs::PieceLemmas::draft_in_two))]
+fn draft_text(alloc: Global, word: Word, draft: u32) -> Result<Text, Oom>
+    ensures { IfOk result (λ text. text ≡ reply_text (Draft word draft)) }
 {
-    let mut values = Vec::new(alloc);
-    for event in events {
-        let value = event_value(alloc, event)?;
-        values.push(value)?;
-    }
-    Ok(values)
+    let mut text = Text::from_vec(Vec::with_capacity(alloc, ROOM)?);
+    put_draft_ok(alloc, &mut text, draft, word_code(word))?;
+    text.extend(b"}")?;
+    Ok(text)
 }
 
-fn put_sent(alloc: Global, members: &mut Members, sent: &SentReply) -> Result<(), Oom>
-    ensures { OnOk result (members_view members.new.entries ≡ put_sent sent.now (members_view members.old.entries)) }
+/// Adds a place in a draft.
+#[tactic(auto, unfolding(crate::specs::Pieces::place_end))]
+fn put_place_end(out: &mut Text, place: u32) -> Result<(), Oom>
+    ensures { OnOk result (out.new ≡ out.old ++ place_end place) }
 {
-    put_text(alloc, members, "ok", b"send")?;
-    put_number(alloc, members, "product", sent.product)?;
-    put_text(alloc, members, "time", &stamp(sent.time))?;
-    let events = event_values(alloc, sent.events.as_slice())?;
-    put(alloc, members, "events", Value::Array(events))
+    out.extend(b",\"place\":")?;
+    put_whole(out, place)?;
+    out.push(b'}')
 }
 
-#[tactic(auto, unfolding(crate::specs::Replies::put_reply))]
-fn put_reply(alloc: Global, members: &mut Members, reply: &Reply) -> Result<(), Oom>
-    ensures { OnOk result (members_view members.new.entries ≡ put_reply reply.now (members_view members.old.entries)) }
+/// The text of a reply to what was put into a draft.
+#[tactic(auto, using(crate::proofs::PieceLemmas::placed_in_two))]
+fn placed_text(alloc: Global, draft: u32, place: u32) -> Result<Text, Oom>
+    ensures { IfOk result (λ text. text ≡ reply_text (Placed draft place)) }
 {
-    match reply {
-        Reply::Draft(word, draft) => {
-            put_number(alloc, members, "draft", *draft)?;
-            put_text(alloc, members, "ok", word_code(*word).as_bytes())
-        }
-        Reply::Placed(draft, place) => {
-            put_number(alloc, members, "draft", *draft)?;
-            put_number(alloc, members, "place", *place)?;
-            put_text(alloc, members, "ok", b"put")
-        }
-        Reply::Sent(sent) => put_sent(alloc, members, sent),
-    }
+    let mut text = Text::from_vec(Vec::with_capacity(alloc, ROOM)?);
+    put_draft_ok(alloc, &mut text, draft, "put")?;
+    put_place_end(&mut text, place)?;
+    Ok(text)
+}
+
+/// Adds the events of a product.
+#[tactic(auto, unfolding(crate::specs::Pieces::events_ok))]
+fn put_events_ok(alloc: Global, out: &mut Text, events: &[Event]) -> Result<(), Oom>
+    ensures { OnOk result (out.new ≡ out.old ++ events_ok events.now) }
+{
+    out.extend(b"{\"events\":")?;
+    put_events(alloc, out, events)?;
+    out.extend(b",\"ok\":")?;
+    put_string(alloc, out, b"send")
+}
+
+/// Adds the number of a product and its time.
+fn put_product_time(alloc: Global, out: &mut Text, product: u32, time: Minute) -> Result<(), Oom>
+    ensures { OnOk result (out.new ≡ out.old ++ product_time product time) }
+{
+    out.extend(b",\"product\":")?;
+    put_whole(out, product)?;
+    out.extend(b",\"time\":")?;
+    put_string(alloc, out, &stamp(time))?;
+    out.push(b'}')?;
+    Ok(())
+}
+
+/// The text of a reply to a product.
+#[tactic(auto, using(crate::proofs::PieceLemmas::sent_in_two))]
+fn sent_text(alloc: Global, sent: &SentReply) -> Result<Text, Oom>
+    ensures { IfOk result (λ text. text ≡ reply_text (Sent sent.now)) }
+{
+    let mut text = Text::from_vec(Vec::with_capacity(alloc, ROOM)?);
+    put_events_ok(alloc, &mut text, sent.events.as_slice())?;
+    put_product_time(alloc, &mut text, sent.product, sent.time)?;
+    Ok(text)
 }
 
 /// The text of a reply, keys in byte order.
-#[tactic(auto, using(crate::proofs::Floats::reply_no_float), unfolding(crate::specs::Replies::reply_text))]
 pub fn reply_text(alloc: Global, reply: &Reply) -> Result<Text, Oom>
     ensures { IfOk result (λ text. text ≡ reply_text reply.now) }
 {
-    let mut members = Map::new(alloc);
-    put_reply(alloc, &mut members, reply)?;
-    text_of_members(alloc, members)
+    match reply {
+        Reply::Draft(word, draft) => draft_text(alloc, *word, *draft),
+        Reply::Placed(draft, place) => placed_text(alloc, *draft, *place),
+        Reply::Sent(sent) => sent_text(alloc, sent),
+    }
 }
 
 /// What is answered where the disk fails.

@@ -1,0 +1,125 @@
+//! The canonical text of an issue, laid piece by piece where it opens an event without flood values.
+ghost use Rattle.std.specs.Prelude.{◌≡◌, ◌++◌, None, IfOk, IfSome, OnOk};
+ghost use Rattle.hazard_types.specs.declared.request.Request.TheVariants.{Issue};
+ghost use Rattle.hazard_types.specs.declared.request.Target.TheVariants.{Fresh};
+ghost use Rattle.request_json.specs.Canonical.{asked_text};
+ghost use Rattle.request_json.specs.Pieces.{begin_bytes, end_bytes, string_text, begin_desk, do_end, hazard_seq, texts_zones};
+
+use crate::pieces::{put_string, put_texts, put_whole, put_zones};
+use hazard_types::{
+    Begin, Desk, End, Hazard, Oom, PutPart, Target, Text, Texts, Zone, hazard_text, stamp,
+};
+use std::alloc::Global;
+
+/// The room for what is neither zones nor texts.
+const FRAME_ROOM: usize = 192;
+
+/// The room for a zone.
+const ZONE_ROOM: usize = 9;
+
+/// The hazard of the new event that a put opens, where it has no flood values.
+pub(crate) fn opened_bare(part: &PutPart) -> Option<Hazard>
+    ensures { IfSome result (λ h. (part.now.target ≡ Fresh h) × (part.now.flood ≡ None)) }
+{
+    if part.flood.is_some() {
+        return None;
+    }
+    match &part.target {
+        Target::Fresh(hazard) => Some(*hazard),
+        Target::Join(_event) => None,
+    }
+}
+
+/// The room that the text of an issue mostly takes.
+fn room_of(part: &PutPart) -> usize {
+    let texts = &part.texts;
+    let mut room = FRAME_ROOM;
+    for text in [&texts.what, &texts.area, &texts.impacts, &texts.details] {
+        room = room.saturating_add(text.len());
+    }
+    room.saturating_add(part.zones.len().saturating_mul(ZONE_ROOM))
+}
+
+fn put_begin(alloc: Global, out: &mut Text, begin: &Begin) -> Result<(), Oom>
+    ensures { OnOk result (out.new ≡ out.old ++ string_text (begin_bytes begin.now)) }
+{
+    match begin {
+        Begin::Now => put_string(alloc, out, b"now"),
+        Begin::At(minute) => put_string(alloc, out, &stamp(*minute)),
+    }
+}
+
+fn put_end(alloc: Global, out: &mut Text, end: &End) -> Result<(), Oom>
+    ensures { OnOk result (out.new ≡ out.old ++ string_text (end_bytes end.now)) }
+{
+    match end {
+        End::Ufn => put_string(alloc, out, b"ufn"),
+        End::At(minute) => put_string(alloc, out, &stamp(*minute)),
+    }
+}
+
+/// Adds the begin and the desk.
+#[tactic(auto, unfolding(crate::specs::Pieces::begin_desk))]
+fn put_begin_desk(alloc: Global, out: &mut Text, begin: &Begin, desk: &Desk) -> Result<(), Oom>
+    ensures { OnOk result (out.new ≡ out.old ++ begin_desk begin.now desk.now) }
+{
+    out.extend(b"{\"begin\":")?;
+    put_begin(alloc, out, begin)?;
+    out.extend(b",\"desk\":")?;
+    put_string(alloc, out, desk.bytes())
+}
+
+/// Adds what is done, and the end.
+#[tactic(auto, unfolding(crate::specs::Pieces::do_end))]
+fn put_do_end(alloc: Global, out: &mut Text, word: &str, end: &End) -> Result<(), Oom>
+    ensures { OnOk result (out.new ≡ out.old ++ do_end word.now end.now) }
+{
+    out.extend(b",\"do\":")?;
+    put_string(alloc, out, word.as_bytes())?;
+    out.extend(b",\"end\":")?;
+    put_end(alloc, out, end)
+}
+
+/// Adds the hazard and the desk's number.
+#[tactic(auto, unfolding(crate::specs::Pieces::hazard_seq))]
+fn put_hazard_seq(alloc: Global, out: &mut Text, hazard: &Hazard, seq: u32) -> Result<(), Oom>
+    ensures { OnOk result (out.new ≡ out.old ++ hazard_seq hazard.now seq) }
+{
+    out.extend(b",\"hazard\":")?;
+    put_string(alloc, out, &hazard_text(hazard))?;
+    out.extend(b",\"seq\":")?;
+    put_whole(out, seq)
+}
+
+/// Adds the texts and the zones.
+fn put_texts_zones(alloc: Global, out: &mut Text, texts: &Texts, zones: &[Zone]) -> Result<(), Oom>
+    ensures { OnOk result (out.new ≡ out.old ++ texts_zones texts.now zones.now) }
+{
+    out.extend(b",\"texts\":")?;
+    put_texts(alloc, out, texts)?;
+    out.extend(b",\"zones\":")?;
+    put_zones(alloc, out, zones)?;
+    out.push(b'}')?;
+    Ok(())
+}
+
+/// The canonical text of an issue of this hazard without flood values.
+#[tactic(auto, using(crate::proofs::PieceLemmas::issue_in_four))]
+pub(crate) fn bare_issue_text(
+    alloc: Global,
+    desk: &Desk,
+    seq: u32,
+    part: &PutPart,
+    hazard: Hazard,
+) -> Result<Text, Oom>
+    requires target { part.now.target ≡ Fresh hazard }
+    requires flood { part.now.flood ≡ None }
+    ensures { IfOk result (λ text. text ≡ asked_text (record { desk = desk.now; seq = seq; request = Issue part.now })) }
+{
+    let mut text = Text::from_vec(Vec::with_capacity(alloc, room_of(part))?);
+    put_begin_desk(alloc, &mut text, &part.begin, desk)?;
+    put_do_end(alloc, &mut text, "issue", &part.end)?;
+    put_hazard_seq(alloc, &mut text, &hazard, seq)?;
+    put_texts_zones(alloc, &mut text, &part.texts, part.zones.as_slice())?;
+    Ok(text)
+}

@@ -1,0 +1,150 @@
+//! Compact JSON, laid piece by piece.
+ghost use Rattle.std.specs.Prelude.{◌≡◌, ◌++◌, true, OnOk};
+ghost use Rattle.std.specs.List.{list_all};
+ghost use Rattle.serde_json.specs.Written.{comma_if};
+ghost use Rattle.hazard_types.specs.Names.{event_text};
+ghost use Rattle.request_json.specs.Pieces.{is_plain, string_text, whole_text, zones_text, events_text, texts_text, area_details, impacts_what};
+
+use crate::members::text_value;
+use hazard_types::{Event, Oom, Text, Texts, Zone, put_event, zone_text};
+use itoa::Buffer;
+use std::alloc::Global;
+
+/// Whether a byte stands for itself in a string.
+fn is_plain(byte: u8) -> bool
+    ensures { result ≡ is_plain byte }
+{
+    32 <= byte && byte < 127 && byte != b'"' && byte != b'\\'
+}
+
+/// Whether each byte stands for itself in a string.
+fn are_plain(bytes: &[u8]) -> bool
+    ensures { result ≡ list_all is_plain bytes.now }
+{
+    bytes.iter().all(|byte| is_plain(*byte))
+}
+
+/// Adds a string whose bytes stand for themselves.
+fn put_plain(out: &mut Text, bytes: &[u8]) -> Result<(), Oom>
+    requires { list_all is_plain bytes.now ≡ true }
+    ensures { OnOk result (out.new ≡ out.old ++ string_text bytes.now) }
+{
+    out.push(b'"')?;
+    out.extend(bytes)?;
+    out.push(b'"')?;
+    Ok(())
+}
+
+/// Adds a string with its escapes.
+#[tactic(auto, using(crate::proofs::Floats::text_no_float), unfolding(crate::specs::Pieces::string_text))]
+fn put_escaped(alloc: Global, out: &mut Text, bytes: &[u8]) -> Result<(), Oom>
+    ensures { OnOk result (out.new ≡ out.old ++ string_text bytes.now) }
+{
+    let text = text_value(alloc, bytes)?.to_vec(alloc)?;
+    out.extend(&text)
+}
+
+/// Adds a string.
+pub fn put_string(alloc: Global, out: &mut Text, bytes: &[u8]) -> Result<(), Oom>
+    ensures { OnOk result (out.new ≡ out.old ++ string_text bytes.now) }
+{
+    if are_plain(bytes) {
+        put_plain(out, bytes)
+    } else {
+        put_escaped(alloc, out, bytes)
+    }
+}
+
+/// Adds a text as a string.
+fn put_text(alloc: Global, out: &mut Text, text: &Text) -> Result<(), Oom>
+    ensures { OnOk result (out.new ≡ out.old ++ string_text text.now) }
+{
+    put_string(alloc, out, text.as_slice())
+}
+
+/// Adds a whole number.
+#[tactic(auto, unfolding(crate::specs::Pieces::whole_text))]
+pub fn put_whole(out: &mut Text, number: u32) -> Result<(), Oom>
+    ensures { OnOk result (out.new ≡ out.old ++ whole_text number) }
+{
+    let mut digits = Buffer::new();
+    out.extend(digits.format(number).as_bytes())
+}
+
+/// Adds a comma, where something stands before.
+fn put_comma(out: &mut Text, later: bool) -> Result<(), Oom>
+    ensures { OnOk result (out.new ≡ out.old ++ comma_if later) }
+{
+    if later { out.push(b',') } else { Ok(()) }
+}
+
+/// Adds the list of zones.
+#[tactic(auto, unfolding(crate::specs::Pieces::zones_text, crate::specs::Pieces::string_text))]
+pub fn put_zones(alloc: Global, out: &mut Text, zones: &[Zone]) -> Result<(), Oom>
+    ensures { OnOk result (out.new ≡ out.old ++ zones_text zones.now) }
+{
+    out.push(b'[')?;
+    let mut later = false;
+    for zone in zones {
+        put_comma(out, later)?;
+        put_string(alloc, out, &zone_text(zone))?;
+        later = true;
+    }
+    out.push(b']')
+}
+
+/// Adds the text of an event as a string.
+fn put_event_string(alloc: Global, out: &mut Text, event: &Event) -> Result<(), Oom>
+    ensures { OnOk result (out.new ≡ out.old ++ string_text (event_text event.now)) }
+{
+    let mut text = Text::from_vec(Vec::with_capacity(alloc, 14)?);
+    put_event(alloc, &mut text, event)?;
+    put_string(alloc, out, text.as_slice())
+}
+
+/// Adds the list of events.
+#[tactic(auto, unfolding(crate::specs::Pieces::events_text, crate::specs::Pieces::string_text))]
+pub fn put_events(alloc: Global, out: &mut Text, events: &[Event]) -> Result<(), Oom>
+    ensures { OnOk result (out.new ≡ out.old ++ events_text events.now) }
+{
+    out.push(b'[')?;
+    let mut later = false;
+    for event in events {
+        put_comma(out, later)?;
+        put_event_string(alloc, out, event)?;
+        later = true;
+    }
+    out.push(b']')
+}
+
+/// Adds the first two of the four texts.
+fn put_area_details(alloc: Global, out: &mut Text, texts: &Texts) -> Result<(), Oom>
+    ensures { OnOk result (out.new ≡ out.old ++ area_details texts.now) }
+{
+    out.extend(b"{\"area\":")?;
+    put_text(alloc, out, &texts.area)?;
+    out.extend(b",\"details\":")?;
+    put_text(alloc, out, &texts.details)?;
+    Ok(())
+}
+
+/// Adds the last two of the four texts.
+fn put_impacts_what(alloc: Global, out: &mut Text, texts: &Texts) -> Result<(), Oom>
+    ensures { OnOk result (out.new ≡ out.old ++ impacts_what texts.now) }
+{
+    out.extend(b",\"impacts\":")?;
+    put_text(alloc, out, &texts.impacts)?;
+    out.extend(b",\"what\":")?;
+    put_text(alloc, out, &texts.what)?;
+    out.push(b'}')?;
+    Ok(())
+}
+
+/// Adds the four texts, also where they are empty.
+pub fn put_texts(alloc: Global, out: &mut Text, texts: &Texts) -> Result<(), Oom>
+    ensures { OnOk result (out.new ≡ out.old ++ texts_text texts.now) }
+{
+    put_area_details(alloc, out, texts)?;
+    put_impacts_what(alloc, out, texts)?;
+    Ok(())
+}
