@@ -1,16 +1,18 @@
-//! Worked codes, texts, requests and calls: a script whose lines `rows of NAME` say what the lines behind them are, each
-//! answered with what it gives.
+//! Worked codes, texts, requests and calls, and a tour of the libraries: a script whose lines `rows of NAME` say what the
+//! lines behind them are, each answered with what it gives.
 #![tactic(auto)]
 
 mod calls;
 mod codes;
 mod requests;
 mod texts;
+mod tour;
 
 use crate::calls::script::Script as Calls;
 use crate::codes::answers::Codes;
 use crate::requests::script::Script as Requests;
 use crate::texts::answers::Texts;
+use crate::tour::script::Tour;
 use hazard_types::Oom;
 use std::alloc::Global;
 use std::process::ExitCode;
@@ -23,6 +25,7 @@ enum Rows {
     Texts,
     Requests,
     Calls,
+    Tour,
 }
 
 impl Rows {
@@ -32,6 +35,7 @@ impl Rows {
             "texts" => Some(Rows::Texts),
             "requests" => Some(Rows::Requests),
             "calls" => Some(Rows::Calls),
+            "tour" => Some(Rows::Tour),
             _ => None,
         }
     }
@@ -42,6 +46,7 @@ impl Rows {
 struct Script {
     rows: Rows,
     calls: Calls,
+    tour: Tour,
 }
 
 impl Work for Script {
@@ -56,17 +61,20 @@ impl Work for Script {
             Rows::Texts => Texts.work(alloc, line),
             Rows::Requests => Requests.work(alloc, line),
             Rows::Calls => self.calls.work(alloc, line),
+            Rows::Tour => self.tour.work(alloc, line),
         }
     }
 }
 
 fn main(rt: HostRuntime) -> ExitCode {
-    match Calls::new(rt.alloc()) {
+    let alloc = rt.alloc();
+    match Calls::new(alloc) {
         Ok(calls) => work_lines(
             &rt,
             Script {
                 rows: Rows::Codes,
                 calls,
+                tour: Tour::new(alloc),
             },
         ),
         Err(_oom) => ExitCode::FAILURE,

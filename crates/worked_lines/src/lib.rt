@@ -1,13 +1,16 @@
-//! What the programs of rows share: one main, which works the lines of standard input, and the refusals that rows name.
+//! What the programs of rows share: one main, which works the lines of standard input, the
+//! words of a line, and the refusals that rows name.
 #![tactic(auto)]
 
 mod refusals;
+mod words;
 
 use hazard_types::Oom;
 pub use refusals::refusal_named;
 use std::alloc::Global;
 use std::io;
 use std::process::ExitCode;
+pub use words::{numbers_of, shown, text_of, times_of, unread, words_of};
 
 /// The rows that a line begins: `rows of NAME`.
 pub fn rows_named(line: &str) -> Option<&str> {

@@ -24,7 +24,8 @@ fn hex_value(digit: u8) -> u8 {
     }
 }
 
-fn hex_byte(high: u8, low: u8) -> u8 {
+/// The byte of two hex digits.
+pub fn hex_byte(high: u8, low: u8) -> u8 {
     (hex_value(high) << 4) | hex_value(low)
 }
 

@@ -1,13 +1,13 @@
 //! Lines and their answers.
 use crate::codes::clocks::{day_answer, line_answer, read_answer, short_answer};
-use crate::codes::values::{push_flood, push_flood_text, push_vtec, push_vtec_text, text_of};
+use crate::codes::values::{push_flood, push_flood_text, push_vtec, push_vtec_text};
 use hazard_types::{List, Oom, Or, Text, zone_text};
 use hvtec_string::read_hvtec;
 use product_frame::{Frame, FrameFault, FrameSegment, Pair, read_frame, split_products};
 use std::alloc::{AllocError, Global};
 use ugc_codes::{UgcFault, read_ugc, write_ugc};
 use vtec_string::read_vtec;
-use worked_lines::Work;
+use worked_lines::{Work, text_of};
 
 /// What a P-VTEC text says, and the same written again.
 fn vtec_answer(alloc: Global, text: &str) -> Result<String, AllocError> {
@@ -36,7 +36,7 @@ fn hvtec_answer(alloc: Global, text: &str) -> Result<String, AllocError> {
 }
 
 /// The bytes of a text in which `\n` stands for LF and `\r` for CR.
-fn bytes_of(alloc: Global, text: &str) -> Result<Text, Oom> {
+pub fn bytes_of(alloc: Global, text: &str) -> Result<Text, Oom> {
     let mut out = List::new(alloc);
     let mut marked = false;
     for byte in text.as_bytes() {

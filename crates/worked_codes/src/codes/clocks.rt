@@ -1,11 +1,11 @@
 //! Local lines and day stamps.
-use crate::codes::values::text_of;
 use desk_clock::{LocalFault, local_line, local_short, near, read_local_line, resolve_day_stamp};
 use hazard_types::{DayStamp, LocalZone, Minute, Oom, read_stamp, stamp};
 use std::alloc::{AllocError, Global};
+use worked_lines::text_of;
 
 /// The zone of a name.
-fn zone_of(name: &str) -> Option<LocalZone> {
+pub fn zone_of(name: &str) -> Option<LocalZone> {
     match name {
         "Atlantic" => Some(LocalZone::Atlantic),
         "Eastern" => Some(LocalZone::Eastern),

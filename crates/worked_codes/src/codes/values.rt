@@ -2,13 +2,8 @@
 use hazard_types::{Flood, Minute, Vtec, is_location, is_office};
 use hvtec_string::hvtec_text;
 use std::alloc::AllocError;
-use std::str;
 use vtec_string::vtec_text;
-
-/// Bytes as text, where they are.
-pub fn text_of(bytes: &[u8]) -> &str {
-    str::from_utf8(bytes).unwrap_or("?")
-}
+use worked_lines::text_of;
 
 fn push_time(out: &mut String, time: Option<Minute>) -> Result<(), AllocError> {
     match time {

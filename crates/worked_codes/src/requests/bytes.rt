@@ -1,4 +1,5 @@
 //! Bytes as a script writes them: `~` and two hex digits are one byte.
+use crate::calls::bytes::hex_byte;
 use hazard_types::{List, Oom, Text};
 use std::alloc::Global;
 
@@ -8,15 +9,6 @@ enum Escape {
     Outside,
     Begun,
     Behind(u8),
-}
-
-/// The value of a hex digit; 0 where it is none.
-fn hex_value(digit: u8) -> u8 {
-    match digit {
-        b'0'..=b'9' => digit - b'0',
-        b'a'..=b'f' => digit - b'a' + 10,
-        _ => 0,
-    }
 }
 
 /// The bytes that a script's text stands for.
@@ -35,7 +27,7 @@ pub fn bytes_of(alloc: Global, text: &str) -> Result<Text, Oom> {
             }
             Escape::Begun => Escape::Behind(*byte),
             Escape::Behind(high) => {
-                out.push((hex_value(high) << 4) | hex_value(*byte))?;
+                out.push(hex_byte(high, *byte))?;
                 Escape::Outside
             }
         };

@@ -7,7 +7,7 @@ use request_json::{
     refusal_text, reply_text, request_text,
 };
 use std::alloc::Global;
-use worked_lines::{Work, refusal_named};
+use worked_lines::{Work, refusal_named, shown};
 
 /// The canonical text of a request, or the text of its refusal.
 fn read(alloc: Global, bytes: &[u8]) -> Result<Text, Oom> {
@@ -101,8 +101,8 @@ impl Work for Script {
     /// What comes of a line, as a line.
     fn work(&mut self, alloc: Global, line: &str) -> Result<String, Oom> {
         let text = answer(alloc, line)?;
-        let mut shown = String::from_utf8_lossy(alloc, text.as_slice())?;
-        shown.push('\n')?;
-        Ok(shown)
+        let mut told = shown(alloc, text.as_slice())?;
+        told.push('\n')?;
+        Ok(told)
     }
 }

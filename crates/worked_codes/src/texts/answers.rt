@@ -1,24 +1,18 @@
 //! What a line of the script is answered.
+use crate::codes::answers::bytes_of;
 use crate::texts::lines::{Said, read_line};
 use crate::texts::products::product_answer;
 use crate::texts::settings::{
-    desk_answer, filled, heading_answer, settings_answer, training_answer, unescaped, with_zones,
-    zone_answer,
+    desk_answer, filled, heading_answer, settings_answer, training_answer, with_zones, zone_answer,
 };
 use hazard_types::desk_hazards::name_of;
 use hazard_types::{Action, End, Oom, Text};
 use headline_text::{headline, name_lines, when_bullet, wrapped};
 use std::alloc::Global;
-use std::str;
-use worked_lines::Work;
+use worked_lines::{Work, text_of};
 
 /// The answer to a line that is none of the script's.
 const UNREAD: &str = "unread";
-
-/// Bytes as text, where they are.
-pub fn text_of(bytes: &[u8]) -> &str {
-    str::from_utf8(bytes).unwrap_or("?")
-}
 
 /// What stands before the first blank, and what stands after it.
 pub fn parted(line: &str) -> (&str, &str) {
@@ -75,12 +69,12 @@ fn push_text(out: &mut String, alloc: Global, command: &str, rest: &str) -> Resu
 fn push_settings(out: &mut String, alloc: Global, command: &str, rest: &str) -> Result<bool, Oom> {
     let (word, more) = parted(rest);
     match command {
-        "settings" => settings_answer(out, alloc, unescaped(alloc, rest)?.as_str())?,
-        "filled" => settings_answer(out, alloc, filled(alloc, word, more)?.as_str())?,
-        "zones" => settings_answer(out, alloc, with_zones(alloc, word, more)?.as_str())?,
-        "zone" => zone_answer(out, alloc, word, unescaped(alloc, more)?.as_str())?,
-        "desk" => desk_answer(out, alloc, word, unescaped(alloc, more)?.as_str())?,
-        "heading" => heading_answer(out, alloc, word, unescaped(alloc, more)?.as_str())?,
+        "settings" => settings_answer(out, alloc, bytes_of(alloc, rest)?.as_slice())?,
+        "filled" => settings_answer(out, alloc, filled(alloc, word, more)?.as_slice())?,
+        "zones" => settings_answer(out, alloc, with_zones(alloc, word, more)?.as_slice())?,
+        "zone" => zone_answer(out, alloc, word, bytes_of(alloc, more)?.as_slice())?,
+        "desk" => desk_answer(out, alloc, word, bytes_of(alloc, more)?.as_slice())?,
+        "heading" => heading_answer(out, alloc, word, bytes_of(alloc, more)?.as_slice())?,
         "training" => training_answer(out, alloc, word)?,
         "product" => product_answer(out, alloc, rest)?,
         _ => return Ok(false),

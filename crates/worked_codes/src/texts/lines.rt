@@ -1,4 +1,5 @@
 //! The lines of segments that a script says.
+use crate::codes::clocks::zone_of;
 use hazard_types::{
     Action, End, Event, LocalZone, Minute, SegLine, actions, event_in, find, hazard_in, read_stamp,
 };
@@ -30,21 +31,6 @@ fn end_of(word: &str) -> Option<End> {
         return Some(End::Ufn);
     }
     minute_of(word).map(End::At)
-}
-
-fn zone_of(word: &str) -> Option<LocalZone> {
-    match word {
-        "Atlantic" => Some(LocalZone::Atlantic),
-        "Eastern" => Some(LocalZone::Eastern),
-        "Central" => Some(LocalZone::Central),
-        "Mountain" => Some(LocalZone::Mountain),
-        "Arizona" => Some(LocalZone::Arizona),
-        "Pacific" => Some(LocalZone::Pacific),
-        "Alaska" => Some(LocalZone::Alaska),
-        "Hawaii" => Some(LocalZone::Hawaii),
-        "UTC" => Some(LocalZone::Utc),
-        _ => None,
-    }
 }
 
 fn line_of(action: Action, event: Event, begin: Option<Minute>, end: End) -> SegLine {

@@ -5,10 +5,10 @@ ghost use Rattle.hazard_types.specs.Places.{by_place};
 ghost use Rattle.desk_settings.specs.AreSettings.{HasForms};
 ghost use Rattle.product_template.specs.Conditions.{CanBeText};
 
-use crate::texts::answers::{parted, text_of};
+use crate::codes::answers::bytes_of;
+use crate::texts::answers::parted;
 use crate::texts::lines::{Said, read_line};
 use crate::texts::plans::{fits, plan_of};
-use crate::texts::settings::unescaped;
 use desk_settings::{Settings, read_settings, training_settings};
 use hazard_types::{
     Category, Class, Edition, List, Minute, Oom, Or, Plan, Refusal, Text, Texts, Zone, categories,
@@ -18,6 +18,7 @@ use hvtec_string::read_hvtec;
 use product_template::product_text;
 use std::alloc::Global;
 use ugc_codes::read_ugc;
+use worked_lines::text_of;
 
 /// What a script asks of a product: whether its text is written or its length alone, how often it is made before, its edition, class, category and letter, and its line.
 #[derive(Clone, Copy, Debug)]
@@ -63,13 +64,18 @@ fn read_asked(words: &str) -> Option<Asked> {
     })
 }
 
-/// A forecaster's text; `N*words` stands for the words as often.
-fn repeated(alloc: Global, written: &str) -> Result<Text, Oom> {
-    let mut text = Text::new(alloc);
-    let (count, words) = match written.split_once('*') {
+/// How often the words of a forecaster's text stand, and the words: `N*words`, or once.
+fn times_of(written: &str) -> (usize, &str) {
+    match written.split_once('*') {
         Some((count, words)) => (count.parse::<usize>().unwrap_or(0), words),
         None => (1, written),
-    };
+    }
+}
+
+/// A forecaster's text.
+fn repeated(alloc: Global, written: &str) -> Result<Text, Oom> {
+    let mut text = Text::new(alloc);
+    let (count, words) = times_of(written);
     for _ in 0..count {
         text.extend(words.as_bytes())?;
     }
@@ -200,10 +206,10 @@ fn training_of(alloc: Global, office: &str) -> Result<Option<Settings>, Oom>
 }
 
 /// The settings that a text is.
-fn settings_of(alloc: Global, text: &str) -> Result<Option<Settings>, Oom>
+fn settings_of(alloc: Global, text: &[u8]) -> Result<Option<Settings>, Oom>
     ensures { IfOk result (λ found. IfSome found HasForms) }
 {
-    match read_settings(alloc, text.as_bytes()) {
+    match read_settings(alloc, text) {
         Ok(settings) => Ok(Some(settings)),
         Err(Or::No(_fault)) => Ok(None),
         Err(Or::OutOfMemory) => Err(Oom),
@@ -217,8 +223,8 @@ fn settings_for(alloc: Global, class: Class, written: &str) -> Result<Option<Set
     match class {
         Class::T => training_of(alloc, written),
         Class::O | Class::E | Class::X => {
-            let text = unescaped(alloc, written)?;
-            settings_of(alloc, text.as_str())
+            let text = bytes_of(alloc, written)?;
+            settings_of(alloc, text.as_slice())
         }
     }
 }

@@ -1,44 +1,33 @@
 //! Settings of a script, and what they are answered.
-use crate::texts::answers::text_of;
+use crate::codes::answers::bytes_of;
 use desk_settings::{Settings, SettingsFault, read_settings, training_settings};
 use hazard_types::{
-    Category, Desk, Kind, Oom, Or, Zone, categories, find, is_office, zone_in, zone_text,
+    Category, Desk, Kind, Oom, Or, Text, Zone, categories, find, is_office, zone_in, zone_text,
 };
 use std::alloc::{AllocError, Global};
-
-/// The text of a file, of which a script writes LF as `\n`.
-pub fn unescaped(alloc: Global, written: &str) -> Result<String, Oom> {
-    let mut text = String::new(alloc);
-    for (i, line) in written.split("\\n").enumerate() {
-        if i > 0 {
-            text.push('\n')?;
-        }
-        text.push_str(line)?;
-    }
-    Ok(text)
-}
+use worked_lines::text_of;
 
 /// The text with a comment behind it, so that it has this many bytes.
-pub fn filled(alloc: Global, count: &str, written: &str) -> Result<String, Oom> {
-    let mut text = unescaped(alloc, written)?;
-    text.push('#')?;
+pub fn filled(alloc: Global, count: &str, written: &str) -> Result<Text, Oom> {
+    let mut text = bytes_of(alloc, written)?;
+    text.push(b'#')?;
     let count = count.parse::<usize>().unwrap_or(0);
     for _ in text.len()..count {
-        text.push('x')?;
+        text.push(b'x')?;
     }
     Ok(text)
 }
 
 /// The text with this many zones behind it.
-pub fn with_zones(alloc: Global, count: &str, written: &str) -> Result<String, Oom> {
-    let mut text = unescaped(alloc, written)?;
-    text.push_str("[zones]\n")?;
+pub fn with_zones(alloc: Global, count: &str, written: &str) -> Result<Text, Oom> {
+    let mut text = bytes_of(alloc, written)?;
+    text.extend(b"[zones]\n")?;
     let count = count.parse::<u16>().unwrap_or(0);
     for i in 0..count {
         let letter = b'A' + (i / 999) as u8;
         if let Some(zone) = Zone::new([b'A', letter], Kind::Z, i % 999 + 1) {
-            text.push_str(text_of(&zone_text(&zone)))?;
-            text.push_str(" = \"Plain\"\n")?;
+            text.extend(&zone_text(&zone))?;
+            text.extend(b" = \"Plain\"\n")?;
         }
     }
     Ok(text)
@@ -65,8 +54,8 @@ fn push_fault(out: &mut String, fault: &SettingsFault) -> Result<(), AllocError>
 }
 
 /// Adds `accepted`, or the fault of settings.
-pub fn settings_answer(out: &mut String, alloc: Global, text: &str) -> Result<(), Oom> {
-    match read_settings(alloc, text.as_bytes()) {
+pub fn settings_answer(out: &mut String, alloc: Global, text: &[u8]) -> Result<(), Oom> {
+    match read_settings(alloc, text) {
         Ok(_settings) => out.push_str("accepted")?,
         Err(Or::No(fault)) => push_fault(out, &fault)?,
         Err(Or::OutOfMemory) => return Err(Oom),
@@ -75,11 +64,8 @@ pub fn settings_answer(out: &mut String, alloc: Global, text: &str) -> Result<()
 }
 
 /// Adds the name of a zone of settings, or `none`.
-pub fn zone_answer(out: &mut String, alloc: Global, code: &str, text: &str) -> Result<(), Oom> {
-    match (
-        zone_in(code.as_bytes()),
-        read_settings(alloc, text.as_bytes()),
-    ) {
+pub fn zone_answer(out: &mut String, alloc: Global, code: &str, text: &[u8]) -> Result<(), Oom> {
+    match (zone_in(code.as_bytes()), read_settings(alloc, text)) {
         (Some(zone), Ok(settings)) => match settings.zone_name(&zone) {
             Some(name) => out.push_str(text_of(name.as_slice()))?,
             None => out.push_str("none")?,
@@ -90,11 +76,8 @@ pub fn zone_answer(out: &mut String, alloc: Global, code: &str, text: &str) -> R
 }
 
 /// Adds whether settings have a desk.
-pub fn desk_answer(out: &mut String, alloc: Global, name: &str, text: &str) -> Result<(), Oom> {
-    match (
-        Desk::new(name.as_bytes()),
-        read_settings(alloc, text.as_bytes()),
-    ) {
+pub fn desk_answer(out: &mut String, alloc: Global, name: &str, text: &[u8]) -> Result<(), Oom> {
+    match (Desk::new(name.as_bytes()), read_settings(alloc, text)) {
         (Some(desk), Ok(settings)) => {
             if settings.has_desk(&desk) {
                 out.push_str("yes")?;
@@ -108,10 +91,10 @@ pub fn desk_answer(out: &mut String, alloc: Global, name: &str, text: &str) -> R
 }
 
 /// Adds what the headings of a category begin with.
-pub fn heading_answer(out: &mut String, alloc: Global, code: &str, text: &str) -> Result<(), Oom> {
+pub fn heading_answer(out: &mut String, alloc: Global, code: &str, text: &[u8]) -> Result<(), Oom> {
     match (
         find(&categories(), code.as_bytes()),
-        read_settings(alloc, text.as_bytes()),
+        read_settings(alloc, text),
     ) {
         (Some(category), Ok(settings)) => out.push_str(text_of(&settings.heading_for(category)))?,
         _ => out.push_str("unread")?,

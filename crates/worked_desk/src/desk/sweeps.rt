@@ -4,7 +4,7 @@ use crate::desk::runs::{Command, Faults, Given, NO_FAULTS, Run, exported, run_co
 use crate::desk::steps::Tried;
 use hazard_types::{List, Oom, Text};
 use std::alloc::Global;
-use std::str;
+use worked_lines::text_of;
 
 /// What a crash leaves of the writes since the last sync, one case after another.
 const PICKS: [u64; 6] = [0, 1, 2, 3, 5, 15];
@@ -68,11 +68,6 @@ fn outcome_of(alloc: Global, given: &Given, file: &[u8]) -> Result<Outcome, Oom>
         answers: done.text,
         products,
     })
-}
-
-/// Bytes as text, where they are.
-fn text_of(bytes: &[u8]) -> &str {
-    str::from_utf8(bytes).unwrap_or("?")
 }
 
 /// Whether a run ended well, or by a fault of its disk.

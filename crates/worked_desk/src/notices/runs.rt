@@ -4,6 +4,7 @@ use desk_traits::{MemSink, MemSource};
 use hazard_types::{List, Oom, Text};
 use program_ends::LIMIT;
 use std::alloc::Global;
+use worked_lines::words_of;
 
 /// How an input comes, and which calls fail.
 #[derive(Drop)]
@@ -21,15 +22,6 @@ pub struct Given {
 pub struct Run {
     pub status: u8,
     pub text: Text,
-}
-
-/// The words of a line.
-fn words_of(alloc: Global, line: &str) -> Result<List<Text>, Oom> {
-    let mut words = List::new(alloc);
-    for word in line.split_whitespace() {
-        words.push(List::from_slice(alloc, word.as_bytes())?)?;
-    }
-    Ok(words)
 }
 
 /// A run by the words of a line.

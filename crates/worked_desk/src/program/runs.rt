@@ -6,6 +6,7 @@ use desk_traits::{
 use hazard_types::{List, Oom, Text};
 use program_ends::LIMIT;
 use std::alloc::Global;
+use worked_lines::words_of;
 
 /// The bytes that a disk has room for.
 const ROOM: usize = 200_000;
@@ -53,15 +54,6 @@ pub fn copy_of(alloc: Global, disk: &mut SureDisk) -> Result<SureDisk, Oom> {
     let _read = disk.read_at(0, file.as_mut_slice());
     let _written = copy.write_at(0, file.as_slice());
     Ok(copy)
-}
-
-/// The words of a line.
-fn words_of(alloc: Global, line: &str) -> Result<List<Text>, Oom> {
-    let mut words = List::new(alloc);
-    for word in line.split_whitespace() {
-        words.push(List::from_slice(alloc, word.as_bytes())?)?;
-    }
-    Ok(words)
 }
 
 /// Does what the words of a line ask for.

@@ -5,8 +5,7 @@ use desk_settings::read_settings;
 use hazard_types::{Class, Edition, List, Minute, Oom, Or, Query, Text, stamp};
 use office_core::Office;
 use std::alloc::Global;
-use std::str;
-use worked_lines::Work;
+use worked_lines::{Work, text_of};
 
 /// The minutes from one issue of a fill to the next.
 const APART: i64 = 11;
@@ -24,11 +23,6 @@ pub struct Script {
     used: bool,
     office: Option<Office>,
     reading: i64,
-}
-
-/// Bytes as text, where they are.
-fn text_of(bytes: &[u8]) -> &str {
-    str::from_utf8(bytes).unwrap_or("?")
 }
 
 fn note(alloc: Global, text: &[u8]) -> Result<Text, Oom> {

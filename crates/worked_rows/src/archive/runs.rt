@@ -48,15 +48,6 @@ impl Run {
     }
 }
 
-/// The words of a line.
-pub fn words_of(alloc: Global, line: &str) -> Result<List<Text>, Oom> {
-    let mut words = List::new(alloc);
-    for word in line.split_whitespace() {
-        words.push(List::from_slice(alloc, word.as_bytes())?)?;
-    }
-    Ok(words)
-}
-
 /// The report of an input, or its statistics.
 pub fn run_telling(
     alloc: Global,

@@ -1,12 +1,12 @@
 //! The script of reports and statistics: each line's step is worked, and answered by text.
 use crate::archive::reader::told_by_reader;
-use crate::archive::runs::{Given, Run, Telling, run_telling, try_cuts, words_of};
+use crate::archive::runs::{Given, Run, Telling, run_telling, try_cuts};
 use crate::archive::steps::{Step, step_of};
 use archive_report::asked_of;
 use hazard_types::{List, Oom, Text};
 use program_ends::LIMIT;
 use std::alloc::Global;
-use worked_lines::Work;
+use worked_lines::{Work, words_of};
 
 /// How many bytes a read gives where the script does not say.
 const PIECE: usize = 4096;

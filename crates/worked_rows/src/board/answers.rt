@@ -13,9 +13,9 @@ use hazard_types::{
 };
 use segmenter::expiry;
 use std::alloc::{AllocError, Global};
-use std::str;
 use ugc_codes::write_ugc;
 use vtec_string::vtec_text;
+use worked_lines::text_of;
 
 /// The office of the worked days.
 const OFFICE: [u8; 4] = *b"KLWX";
@@ -31,11 +31,6 @@ fn expiry_stamp(minute: Minute) -> DayStamp
         hour: civil.hour,
         minute: civil.minute,
     }
-}
-
-/// Bytes as text, where they are.
-fn text_of(bytes: &[u8]) -> &str {
-    str::from_utf8(bytes).unwrap_or("?")
 }
 
 /// Adds the P-VTEC line of a line, and the location of its flood values behind it.

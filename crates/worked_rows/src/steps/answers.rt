@@ -2,12 +2,7 @@
 use event_life::{Breach, Life};
 use hazard_types::{Oom, end_text, stamp};
 use std::alloc::{AllocError, Global};
-use std::str;
-
-/// Bytes as text, where they are.
-fn text_of(bytes: &[u8]) -> &str {
-    str::from_utf8(bytes).unwrap_or("?")
-}
+use worked_lines::text_of;
 
 /// Adds the period of a life, its flood location, if it has one, and whether a line has ended it.
 fn push_life(out: &mut String, life: &Life) -> Result<(), AllocError> {

@@ -1,9 +1,9 @@
 //! The codes of a product's lines, read and written.
-use crate::values::text_of;
 use hazard_types::{Action, Oom, Or, Text};
 use std::alloc::{AllocError, Global};
 use ugc_codes::{UgcFault, read_ugc, write_ugc};
 use vtec_string::{read_vtec, vtec_text};
+use worked_lines::text_of;
 
 /// The P-VTEC text that says that the event of another one goes on. None for bytes that are no P-VTEC text.
 fn continuation(text: &[u8]) -> Option<[u8; 48]> {

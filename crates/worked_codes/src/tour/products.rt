@@ -1,9 +1,9 @@
 //! Products, read one by one and then together.
-use crate::values::text_of;
 use hazard_types::{Class, Minute, Oom, Or, Text, read_stamp};
 use product_decoder::{Reader, Track, decode};
 use product_frame::FrameFault;
 use std::alloc::{AllocError, Global};
+use worked_lines::text_of;
 
 /// What a product's text says in short, or its first fault.
 fn put_product(alloc: Global, out: &mut String, text: &[u8]) -> Result<(), Oom> {
