@@ -204,7 +204,8 @@ fn add_going_on(
     Ok(())
 }
 
-/// Adds CON for each row of a zone that goes on beside the intents. Those that have ended are not looked at.
+/// Adds CON for each row of a zone that goes on beside the intents. Those that have ended are
+/// not looked at.
 fn add_in_zone(
     lines: &mut List<Line>,
     sending: &Sending,

@@ -158,7 +158,8 @@ fn earlier_clash(best: Option<Clash>, found: Option<Clash>) -> Option<Clash>
     }
 }
 
-/// The first clash in a zone after the lines, of which these are the zone's own. All pairs are gone through only where a row that is new or not as it was clashes: the others were apart.
+/// The first clash in a zone after the lines, of which these are the zone's own. All pairs are
+/// gone through only where a row that is new or not as it was clashes: the others were apart.
 fn clash_in(
     alloc: Global,
     rows: &BoardRows,

@@ -117,7 +117,8 @@ impl Board {
         self.rows.slice_of(&z)
     }
 
-    /// Rows of a zone among which are all that are live at a minute: fewer than all of its rows, where those that have ended are many.
+    /// Rows of a zone among which are all that are live at a minute: fewer than all of its
+    /// rows, where those that have ended are many.
     pub fn live_slice(&self, z: Zone, t: Minute) -> &[Row]
         ensures rows { shown_at t result.now ≡ live_in z t self.now.rows }
         ensures order { IsStrictlySortedBy by_row_event result.now }

@@ -165,7 +165,9 @@ fn shelve_if(rows: &mut BoardRows, row: &Option<Row>)
     }
 }
 
-/// Brings the row that a line leaves of the life that it meets among the rows, its spot among the spots, and its period among the periods. A row that stays as it was is not put again, and one that takes the place of another has its spot.
+/// Brings the row that a line leaves of the life that it meets among the rows, its spot among
+/// the spots, and its period among the periods. A row that stays as it was is not put again,
+/// and one that takes the place of another has its spot.
 fn bring_line(
     rows: &mut BoardRows,
     spots: &mut Vec<Spot>,

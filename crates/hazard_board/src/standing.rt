@@ -162,7 +162,8 @@ fn touches_last(lines: &[Line], e: &Event) -> bool
     touches(line, e)
 }
 
-/// Whether the end of the event of a line is to be set: where it moves. It has been set where the line before is of the event.
+/// Whether the end of the event of a line is to be set: where it moves. It has been set where
+/// the line before is of the event.
 fn is_to_settle(
     standing: &[Standing],
     periods: &[PeriodCount],

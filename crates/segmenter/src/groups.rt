@@ -107,7 +107,8 @@ fn by_line(a: &SegLine, b: &SegLine) -> Ordering
         .then(a.event.order(&b.event))
 }
 
-/// The place before the first line that comes after this one. Where none does, the last line alone is looked at.
+/// The place before the first line that comes after this one. Where none does, the last line
+/// alone is looked at.
 fn place_of(lines: &[SegLine], line: &SegLine) -> usize
     requires { AreInOrder lines.now }
     ensures range { result ≤ length lines.now }

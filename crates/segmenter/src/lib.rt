@@ -27,7 +27,10 @@ use zones::{classes_of, heads_of, segments_of};
 ///
 /// The zones of a segment are in order, each once. Its lines are in order by action (UPG, CAN, EXP, NEW, EXB, EXA, EXT, CON, COR, ROU), then by event; lines that tie in both stand as they were given. No two segments tie: where two have the same least zone, their first events differ, since the groups of a zone have no event in common.
 ///
-/// Any lines may be given. A line that is repeated stands in its segment as often, and no lines give no segments. The work grows as the lines do, times a logarithm, and moves the lines of a zone that come after one that is placed. Lines that are all of one group want no maps. The error is want of memory.
+/// Any lines may be given. A line that is repeated stands in its segment as often, and no lines
+/// give no segments. The work grows as the lines do, times a logarithm, and moves the lines of
+/// a zone that come after one that is placed. Lines that are all of one group want no maps. The
+/// error is want of memory.
 pub fn segments(alloc: Global, lines: &List<Line>) -> Result<List<Segment>, Oom>
     ensures { IfOk result (λ segments. AreSegments lines.now segments) }
 {
