@@ -16,16 +16,13 @@ use Rattle.hazard_types.proofs.Equality.{event_itself}
 use Rattle.event_life.specs.Periods.{is_live, keeps_open, same_at}
 use Rattle.event_life.specs.Products.{by_key, put, row_at, has_rows, is_open, has_same}
 use Rattle.event_life.specs.Table.{opened_period}
-use Rattle.event_life.proofs.Puts.{put-all, put-sorted}
 use Rattle.row_index.specs.declared.standing.Standing.{Standing}
 use Rattle.row_index.specs.Holding.{told, AreHeld}
 use Rattle.row_index.specs.Listing.{list_at}
 use Rattle.row_index.specs.Zoning.{AreOf, AreOfFirst, AreZoned, is_first_of}
-use Rattle.row_index.specs.Standings.{restood, AreCounts, AreEventRows}
-use Rattle.row_index.proofs.Lists.{ascending-put}
-use Rattle.row_index.proofs.Zoned.{zoned-put}
+use Rattle.row_index.specs.Standings.{AreEventRows}
 use Rattle.row_index.proofs.HeldRows.{none-sorted, held-own, held-part, is_open-of, has_same-of}
-use Rattle.row_index.proofs.Stood.{stood-put, stood-none}
+use Rattle.row_index.proofs.Stood.{stood-none}
 use Rattle.row_index.proofs.Tests.{any_same}
 
 no_zones : IsStrictlySortedBy by_place []
@@ -38,23 +35,9 @@ rows-none = record { zoned = tt; zones_ascending = no_zones; in_order = none-sor
 pub rows-emptied : (es : List (Place × Row)) (counts : List (Standing × ℕ)) → es ≡ [] → counts ≡ [] → AreEventRows es counts
 rows-emptied es counts es_are counts_are = rw (es_are, counts_are) rows-none
 
-of-first : (d : Event) (rows : List Row) → AreOf d rows → AreOfFirst rows
+pub of-first : (d : Event) (rows : List Row) → AreOf d rows → AreOfFirst rows
 of-first d [] all = tt
 of-first d (r ∷ rows) all = subst (λ (x : Event). AreOf x rows) (sym all.0) all.1
-
--- one row more
-pub rows-made : (es after : List (Place × Row)) (counts next : List (Standing × ℕ)) (row : Row) (before : Option Row) → before ≡ row_at (values_of es) row.event row.zone → values_of after ≡ put row (values_of es) → after ≡ insert_entry by_place es row.zone row
-    → next ≡ restood before row counts → AreOf row.event (values_of es) → AreEventRows es counts → AreEventRows after next
-rows-made es after counts next row before found after_is entries_are next_is own are =
-    let rows = values_of es in
-    record {
-      zoned = subst (λ (all : List (Place × Row)). AreZoned all) (sym entries_are) (zoned-put row es are.zoned);
-      zones_ascending = subst (λ (all : List (Place × Row)). IsStrictlySortedBy by_place (keys_of all)) (sym entries_are) (ascending-put by_place by_place_total by_place_ties row.zone es row are.zones_ascending);
-      in_order = subst (λ (all : List Row). IsStrictlySortedBy by_key all) (sym after_is) (put-sorted row rows are.in_order);
-      of_first = subst (λ (all : List Row). AreOfFirst all) (sym after_is) (of-first row.event (put row rows) (put-all (λ (r : Row). r.event ≡ row.event) row rows refl own));
-      standing = subst (λ (all : List Row). AreCounts next all) (sym after_is)
-          (subst (λ (all : List (Standing × ℕ)). AreCounts all (put row rows)) (sym next_is) (stood-put rows counts row before are.in_order are.standing found));
-    }
 
 -- what is asked of an event
 

@@ -8,8 +8,10 @@ mod HeldRows
 mod Opened
 mod Reached
 mod Gathering
+mod Tallied
 mod Stood
 mod EventRows
+mod Coming
 mod Runs
 mod Asked
 mod Changing

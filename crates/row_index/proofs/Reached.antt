@@ -1,5 +1,5 @@
 -- How far the rows of each event reach in each area, where rows of one are put, and the events that are found by it.
-use Rattle.std.proofs.Common.{◌≡◌, ◌∙◌, inl, inr, ℕ, List, [], ◌∷◌, ◌&&◌, ◌||◌, ◌==◌, not, Bool, true, false, cond, Ordering, Less, Equal, Greater, Option, Some, None, Result, Ok, Err, OnOk, refl, ap, sym, subst, arith}
+use Rattle.std.proofs.Common.{◌≡◌, ◌∙◌, ◌++◌, ◌<◌, ◌+◌, inl, inr, ℕ, zero, suc, get_or, length, take, List, [], ◌∷◌, ◌&&◌, ◌||◌, ◌==◌, not, Bool, true, false, cond, Ordering, Less, Equal, Greater, Option, Some, None, Result, Ok, Err, OnOk, refl, ap, sym, subst, arith}
 use Rattle.std.specs.Prelude.{nat_le, is_none}
 use Rattle.std.proofs.lemmas.Bool.{and_parts}
 use Rattle.std.proofs.lemmas.Bool.Decides.{nat_tests}
@@ -30,7 +30,11 @@ use Rattle.row_index.specs.contracts.reach.ReachOrd.TheImpl.Laws as reach_laws
 use Rattle.row_index.specs.contracts.seats.SpotOrd.TheImpl as spot
 use Rattle.row_index.specs.Holding.{told, AreHeld}
 use Rattle.row_index.specs.Listing.{list_at}
-use Rattle.row_index.specs.Reaching.{by_reach, end_cmp, rank_of, area_of, reach_of, is_spot_of, holds, is_reached, is_last, AreReached, Reaches, ReachedBefore, Grows, IsLast, lasts, is_above_any, is_area, with_spot, with_spots, AreaTold, AreTold, Keeps}
+use Rattle.row_index.specs.Reaching.{by_reach, end_cmp, rank_of, area_of, reach_in, is_spot_of, holds, is_reached, AreReached, Reaches, Grows, IsLast, lasts, is_above_any, is_area, with_spot, with_spots, AreaTold, AreTold, Keeps}
+use Rattle.event_life.specs.declared.life.Life.{Life}
+use Rattle.row_index.specs.Runs.{rows_along}
+use Rattle.row_index.specs.Sharing.{row_with}
+use Rattle.row_index.specs.Steps.{put_each}
 use Rattle.row_index.proofs.HeldRows.{held-found}
 use Rattle.row_index.proofs.Lists.{at_each, each_put}
 use Rattle.row_index.proofs.Seated.{spot_ties}
@@ -103,29 +107,42 @@ added-grows k keys new is = λ r h. added k keys new is r ∙ second_one (holds 
 pub added-last : (k : Reach) (keys new : List Reach) → new ≡ insert_key by_reach keys k → (r : Row) → holds r k ≡ true → list_any (holds r) new ≡ true
 added-last k keys new is = λ r h. added k keys new is r ∙ first_one (holds r k) _ h
 
-holds-own : (r : Row) → holds r (reach_of r) ≡ true
-holds-own r = rw (number_itself (area_of r.zone), event_itself r.event, not_behind r.period.end) refl
+holds-own : (e : Event) (z : Place) (l : Life) → holds (row_with e z l) (reach_in e l (area_of z)) ≡ true
+holds-own e z l = rw (number_itself (area_of z), event_itself e, not_behind l.period.end) refl
 
 by_holding : (keys : List Reach) (r : Row) → list_any (holds r) keys ≡ true → is_reached keys r ≡ true
 by_holding keys r h = second_one (r.ended || is_none (rank_of r.event)) _ h
 
-pub added-reaches : (r : Row) (k : Reach) (keys new : List Reach) → k ≡ reach_of r → new ≡ insert_key by_reach keys k → is_reached new r ≡ true
-added-reaches r k keys new own is = by_holding new r (added-last k keys new is r (subst (λ (x : Reach). holds r x ≡ true) (sym own) (holds-own r)))
+pub added-reaches : (e : Event) (z : Place) (l : Life) (area : ℕ) (keys new : List Reach) → area ≡ area_of z → new ≡ insert_key by_reach keys (reach_in e l area) → is_reached new (row_with e z l) ≡ true
+added-reaches e z l area keys new own is =
+    by_holding new (row_with e z l) (added-last (reach_in e l area) keys new is (row_with e z l)
+    (subst (λ (a : ℕ). holds (row_with e z l) (reach_in e l a) ≡ true) (sym own) (holds-own e z l)))
 
--- a row whose key was added last
-pub last-reaches : (last : Option Reach) (r : Row) (k : Reach) (keys : List Reach) → k ≡ reach_of r → IsLast last keys → is_last last k ≡ true → is_reached keys r ≡ true
-last-reaches None r k keys own is h = cc
-last-reaches (Some other) r k keys own is h =
-    let same : other ≡ reach_of r = by_reach_ties other k (tied_to (by_reach other k) h) ∙ own in
-    by_holding keys r (is r (subst (λ (x : Reach). holds r x ≡ true) (sym same) (holds-own r)))
+-- a row in the area that was last
+pub last-reaches : (last : Option ℕ) (e : Event) (z : Place) (l : Life) (area : ℕ) (keys : List Reach) → area ≡ area_of z → IsLast e l last keys → is_area last area ≡ true → is_reached keys (row_with e z l) ≡ true
+last-reaches None e z l area keys own is h = cc
+last-reaches (Some other) e z l area keys own is h =
+    let same : other ≡ area_of z = one_number other area h ∙ own in
+    by_holding keys (row_with e z l) (is (row_with e z l) (subst (λ (a : ℕ). holds (row_with e z l) (reach_in e l a) ≡ true) (sym same) (holds-own e z l)))
 
--- the row before, where one is put
-pub before-reached : (keys : List Reach) (known : List Row) (row : Row) (before : Option Row) → before ≡ row_at known row.event row.zone → AreReached keys known → ReachedBefore keys before row
-before-reached keys known row None is all = tt
-before-reached keys known row (Some old) is all =
-    let own = find_in (at_key row.event row.zone) known old (sym is) in
-    let key = at_key-parts row.event row.zone old own.1 in
-    (key.0, key.1, of_all (λ (y : Row). is_reached keys y ≡ true) known old all own.0)
+-- rows that are reached whatever the keys are
+pub idle-reached : (e : Event) (l : Life) (keys : List Reach) (zones : List Place) → (l.ended || is_none (rank_of e)) ≡ true → AreReached keys (rows_along e l zones)
+idle-reached e l keys [] h = tt
+idle-reached e l keys (z ∷ zones) h = (first_one (l.ended || is_none (rank_of e)) _ h, idle-reached e l keys zones h)
+
+-- one row more
+reached_last : (keys : List Reach) (rows : List Row) (row : Row) → AreReached keys rows → is_reached keys row ≡ true → AreReached keys (rows ++ row ∷ [])
+reached_last keys [] row all own = (own, tt)
+reached_last keys (r ∷ rows) row all own = (all.0, reached_last keys rows row all.1 own)
+
+pub along_last : (e : Event) (l : Life) (zones : List Place) (z : Place) → rows_along e l (zones ++ z ∷ []) ≡ rows_along e l zones ++ row_with e z l ∷ []
+along_last e l [] z = refl
+along_last e l (x ∷ zones) z = ap (λ (rows : List Row). row_with e x l ∷ rows) (along_last e l zones z)
+
+one_longer : (zones : List Place) (i : ℕ) (z : Place) → i < length zones → z ≡ get_or zones i z → take (suc i) zones ≡ take i zones ++ z ∷ []
+one_longer [] i z lt is = absurd (omega arith)
+one_longer (x ∷ zones) zero z lt is = ap (λ (y : Place). y ∷ []) (sym is)
+one_longer (x ∷ zones) (suc i) z lt is = ap (λ (zs : List Place). x ∷ zs) (one_longer zones i z (omega arith) is)
 
 pub reached-more : (old new : List Reach) → Grows old new → (rows : List Row) → AreReached old rows → AreReached new rows
 reached-more old new grows [] all = tt
@@ -142,10 +159,22 @@ reaches-put e rows es old new grows reached all = each_put by_event by_event_tot
 pub reached-at : (e : Event) (es : List (Event × List Row)) (keys : List Reach) → Reaches keys es → AreReached keys (list_at by_event es e)
 reached-at e es keys all = at_each by_event by_event_total by_event_ties (λ (d : Event) (part : List Row). AreReached keys part) e es all tt
 
--- a row is put, and reached
-pub reached-put : (keys new : List Reach) (known next : List Row) (row : Row) → Grows keys new → next ≡ put row known → is_reached new row ≡ true → AreReached keys known → AreReached new next
-reached-put keys new known next row grows is own all =
-    subst (λ (rows : List Row). AreReached new rows) (sym is) (put-all (λ (y : Row). is_reached new y ≡ true) row known own (reached-more keys new grows known all))
+-- rows are put, and reached
+reached_each : (keys : List Reach) (rows known : List Row) → AreReached keys rows → AreReached keys known → AreReached keys (put_each rows known)
+reached_each keys [] known all sofar = sofar
+reached_each keys (r ∷ rows) known all sofar = reached_each keys rows (put r known) all.1 (put-all (λ (y : Row). is_reached keys y ≡ true) r known all.0 sofar)
+
+pub reached-put : (keys new : List Reach) (rows known : List Row) → Grows keys new → AreReached new rows → AreReached keys known → AreReached new (put_each rows known)
+reached-put keys new rows known grows own all = reached_each new rows known own (reached-more keys new grows known all)
+
+-- one zone more of a run
+pub reached-next : (e : Event) (l : Life) (zones : List Place) (i : ℕ) (z : Place) (keys new : List Reach) → i < length zones → z ≡ get_or zones i z → Grows keys new → is_reached new (row_with e z l) ≡ true
+    → AreReached keys (rows_along e l (take i zones)) → AreReached new (rows_along e l (take (i + 1) zones))
+reached-next e l zones i z keys new lt is grows own sofar =
+    let next : suc i ≡ i + 1 = omega arith in
+    subst (λ (rows : List Row). AreReached new rows)
+    (sym (along_last e l (take i zones) z) ∙ ap (λ (zs : List Place). rows_along e l zs) (sym (one_longer zones i z lt is) ∙ ap (λ (k : ℕ). take k zones) next))
+    (reached_last new (rows_along e l (take i zones)) (row_with e z l) (reached-more keys new grows (rows_along e l (take i zones)) sofar) own)
 
 -- the events of keys
 

@@ -1,26 +1,37 @@
 -- An index with the rows of one event put in turn.
-use Rattle.std.proofs.Common.{◌≡◌, ◌∙◌, ◌==◌, ◌<◌, ◌+◌, ℕ, zero, suc, arith, drop, drop-cons, get_or, length, false, List, [], ◌∷◌, ◌++◌, true, Option, Some, None, refl, ap, sym, subst}
+use Rattle.std.proofs.Common.{append_assoc, append-nil, ◌≡◌, ◌∙◌, ◌==◌, ◌<◌, ◌+◌, ℕ, zero, suc, arith, drop, drop-cons, get_or, length, Bool, true, false, cond, List, [], ◌∷◌, ◌++◌, Option, Some, None, refl, ap, sym, subst}
 use Rattle.std.specs.BTreeMap.{insert_entry}
 use Rattle.std.specs.List.{AllByRecursion}
 use Rattle.hazard_types.specs.Orders.{by_event}
 use Rattle.hazard_types.specs.declared.hazard.Event.{Event}
 use Rattle.hazard_types.specs.declared.line.Row.{Row}
-use Rattle.hazard_types.proofs.Equality.{event_one}
+use Rattle.hazard_types.proofs.Equality.{line_one}
 use Rattle.hazard_types.proofs.OrderLaws.{by_event_total, by_event_ties}
-use Rattle.event_life.specs.Products.{put, has_rows}
+use Rattle.std.proofs.lemmas.Bool.{and_parts}
+use Rattle.std.proofs.lemmas.Bool.Decides.{nat_tests}
+use Rattle.hazard_types.specs.Places.{Place}
+use Rattle.hazard_types.specs.declared.codes.Action.{Action}
+use Rattle.hazard_types.specs.declared.codes.Action.TheVariants.{New, Con, Exa, Ext, Exb, Upg, Can, Exp, Cor, Rou}
+use Rattle.hazard_types.specs.declared.line.Line.{Line}
+use Rattle.event_life.specs.declared.life.Life.{Life}
+use Rattle.event_life.specs.Products.{put, has_rows, life_at, row_after, row_of}
+use Rattle.event_life.specs.Table.{left_of_life, life_after}
 use Rattle.row_index.specs.declared.numbers.Number.{Number}
 use Rattle.row_index.specs.Holding.{told, AreHeld}
 use Rattle.row_index.specs.Listing.{list_at}
 use Rattle.row_index.specs.Indexing.{IsIndex}
 use Rattle.row_index.specs.Numbers.{events_with, AreOpened}
 use Rattle.row_index.specs.Reaching.{AreReached, Grows, Reaches}
-use Rattle.row_index.specs.Runs.{AreOfOne, is_of, held_put}
+use Rattle.row_index.specs.declared.row_run.RowRun.{RowRun}
+use Rattle.row_index.specs.Runs.{held_put, in_zone, is_alike, is_of_run, rows_along, rows_in, rows_in_last, run_rows, same_life, IsJoined, IsLeft, IsRunWith}
+use Rattle.row_index.specs.Sharing.{row_with}
 use Rattle.row_index.specs.Steps.{put_each}
 use Rattle.row_index.proofs.HeldRows.{held-with, has_rows-told, told-sorted, told-with}
 use Rattle.row_index.proofs.Lists.{at_same, put_twice}
 use Rattle.row_index.proofs.Opened.{opened-with}
 use Rattle.row_index.specs.declared.reach.Reach.{Reach}
-use Rattle.row_index.proofs.Reached.{reaches-put}
+use Rattle.row_index.proofs.Reached.{along_last, reaches-put}
+use Rattle.row_index.proofs.SharedRows.{life_one}
 
 -- the rows of each event are its own, and all of them are the rows with those put
 abbrev pub IsPut : List Row → List (Event × List Row) → List (Event × List Row) → Type 0
@@ -43,7 +54,7 @@ run-put e row (next ∷ rows) is all es held =
     (subst (λ (new : List (Event × List Row)). AreHeld new) twice more.0, ap told (sym twice) ∙ more.1 ∙ told_is)
 
 -- rows that are there, put
-pub rows-put : (e : Event) (rows : List Row) → (length rows == 0) ≡ false → AreOfOne (Some e) rows → (es new : List (Event × List Row)) (events new_events : List (Number × List Event)) (reach new_reach : List Reach)
+pub rows-put : (e : Event) (rows : List Row) → (length rows == 0) ≡ false → AllByRecursion (λ (r : Row). r.event ≡ e) rows → (es new : List (Event × List Row)) (events new_events : List (Number × List Event)) (reach new_reach : List Reach)
     → new ≡ held_put e rows es → new_events ≡ events_with (has_rows (list_at by_event es e) e) e events → AreReached new_reach (put_each rows (list_at by_event es e)) → Grows reach new_reach → IsIndex es events reach → IsIndex new new_events new_reach × (told new ≡ put_each rows (told es))
 rows-put e [] some all es new events new_events reach new_reach new_is events_are reached grows index = cc
 rows-put e (row ∷ rows) some all es new events new_events reach new_reach new_is events_are reached grows index =
@@ -60,30 +71,106 @@ rows-put e (row ∷ rows) some all es new events new_events reach new_reach new_
       put.1,
     )
 
--- one row more of a list
-pub put_next : (rows known next all : List Row) (i : ℕ) (row : Row) → i < length rows → row ≡ get_or rows i row → next ≡ put row known → put_each (drop i rows) known ≡ all → put_each (drop (i + 1) rows) next ≡ all
-put_next rows known next all i row within is next_is sofar =
+-- rows one after another
+pub put_both : (rows more known : List Row) → put_each (rows ++ more) known ≡ put_each more (put_each rows known)
+put_both [] more known = refl
+put_both (r ∷ rows) more known = put_both rows more (put r known)
+
+-- one run more
+pub runs_next : (runs : List RowRun) (i : ℕ) (run : RowRun) (known next all : List Row) → i < length runs → run ≡ get_or runs i run → next ≡ put_each (run_rows run) known → put_each (rows_in (drop i runs)) known ≡ all
+    → put_each (rows_in (drop (i + 1) runs)) next ≡ all
+runs_next runs i run known next all within is next_is sofar =
     let after : suc i ≡ i + 1 = omega arith in
-    let cut : drop i rows ≡ row ∷ drop (i + 1) rows =
-    drop-cons rows i row within ∙ ap (λ (x : Row). x ∷ drop (suc i) rows) (sym is) ∙ ap (λ (k : ℕ). row ∷ drop k rows) after in
-    ap (put_each (drop (i + 1) rows)) next_is ∙ ap (λ (rest : List Row). put_each rest known) (sym cut) ∙ sofar
+    let cut : drop i runs ≡ run ∷ drop (i + 1) runs =
+    drop-cons runs i run within ∙ ap (λ (x : RowRun). x ∷ drop (suc i) runs) (sym is) ∙ ap (λ (k : ℕ). run ∷ drop k runs) after in
+    ap (put_each (rows_in (drop (i + 1) runs))) next_is
+    ∙ sym (put_both (run_rows run) (rows_in (drop (i + 1) runs)) known)
+    ∙ ap (λ (rs : List RowRun). put_each (rows_in rs) known) (sym cut)
+    ∙ sofar
 
-pub of_at : (e : Event) (i : ℕ) (rows : List Row) (row : Row) → AllByRecursion (λ (r : Row). r.event ≡ e) rows → i < length rows → row ≡ get_or rows i row → row.event ≡ e
-of_at e i [] row all within is = absurd (omega (arith, within))
-of_at e zero (r ∷ rows) row all within is = ap (λ (x : Row). x.event) is ∙ all.0
-of_at e (suc i) (r ∷ rows) row all within is = of_at e i rows row all.1 (omega (arith, within)) is
+-- the rows of a run
 
--- one row behind a run
+pub along_own : (e : Event) (l : Life) (zones : List Place) → AllByRecursion (λ (r : Row). r.event ≡ e) (rows_along e l zones)
+along_own e l [] = tt
+along_own e l (z ∷ zones) = (refl, along_own e l zones)
 
-pub put_last : (run : List Row) (row : Row) (rows : List Row) → put_each (run ++ row ∷ []) rows ≡ put row (put_each run rows)
-put_last [] row rows = refl
-put_last (r ∷ run) row rows = put_last run row (put r rows)
+pub along_some : (e : Event) (l : Life) (zones : List Place) → (length zones == 0) ≡ false → (length (rows_along e l zones) == 0) ≡ false
+along_some e l [] h = cc
+along_some e l (z ∷ zones) h = none (length (rows_along e l zones))
+  where
+    none : (n : ℕ) → (suc n == 0) ≡ false
+    none n = grind (arith, nat_tests)
 
-all_last : (e : Event) (run : List Row) (row : Row) → row.event ≡ e → AllByRecursion (λ (r : Row). r.event ≡ e) run → AllByRecursion (λ (r : Row). r.event ≡ e) (run ++ row ∷ [])
-all_last e [] row is all = (is, tt)
-all_last e (r ∷ run) row is all = (all.0, all_last e run row is all.1)
+pub runs_more : (runs : List RowRun) (r : RowRun) → rows_in (runs ++ r ∷ []) ≡ rows_in runs ++ run_rows r
+runs_more [] r = append-nil (run_rows r)
+runs_more (x ∷ runs) r = ap (λ (rows : List Row). run_rows x ++ rows) (runs_more runs r) ∙ sym (append_assoc (run_rows x) (rows_in runs) (run_rows r))
 
-pub of_last : (o : Option Event) (run : List Row) (row : Row) → is_of o row ≡ true → AreOfOne o run → AreOfOne (Some row.event) (run ++ row ∷ [])
-of_last None run row h of = cc
-of_last (Some e) run row h of =
-    all_last row.event run row refl (subst (λ (d : Event). AllByRecursion (λ (r : Row). r.event ≡ d) run) (event_one e row.event h) of)
+-- the run before comes behind the others
+pub begun_behind : (runs more : List RowRun) (r : RowRun) (last : Option RowRun) (run : RowRun) → last ≡ Some r → more ≡ runs ++ r ∷ [] → rows_in more ++ run_rows run ≡ (rows_in runs ++ rows_in_last last) ++ run_rows run
+begun_behind runs more r last run last_is more_is =
+    ap (λ (rows : List Row). rows ++ run_rows run) (ap (λ (rs : List RowRun). rows_in rs) more_is ∙ runs_more runs r ∙ ap (λ (o : Option RowRun). rows_in runs ++ rows_in_last o) (sym last_is))
+
+pub begun_first : (runs : List RowRun) (last next : Option RowRun) (run : RowRun) → last ≡ None → next ≡ Some run → rows_in runs ++ rows_in_last next ≡ (rows_in runs ++ rows_in_last last) ++ run_rows run
+begun_first runs last next run last_is next_is =
+    ap (λ (o : Option RowRun). rows_in runs ++ rows_in_last o) next_is
+    ∙ ap (λ (rows : List Row). rows ++ run_rows run) (sym (append-nil (rows_in runs)) ∙ ap (λ (o : Option RowRun). rows_in runs ++ rows_in_last o) (sym last_is))
+
+-- the row of a line comes behind the rows of runs
+pub put_joined : (runs : List RowRun) (t : ℕ) (joined : Bool) (found : Option Life) (line : Line) (last next : Option RowRun) (rows : List Row) → joined ≡ true → found ≡ life_at rows line → IsJoined t joined found line last next
+    → rows_in runs ++ rows_in_last next ≡ (rows_in runs ++ rows_in_last last) ++ row_after rows t line ∷ []
+put_joined runs t joined found line last next rows so found_is is =
+    ap (λ (more : List Row). rows_in runs ++ more) (is.rows ∙ (λ i. cond (so i) (rows_in_last last ++ row_of line (life_after (found_is i) line t) ∷ []) (rows_in_last last)))
+    ∙ sym (append_assoc (rows_in runs) (rows_in_last last) (row_after rows t line ∷ []))
+
+pub put_begun : (runs new : List RowRun) (t : ℕ) (joined : Bool) (found : Option Life) (line : Line) (last mid next : Option RowRun) (run : RowRun) (row : Row) → joined ≡ false → IsJoined t joined found line last mid → run_rows run ≡ row ∷ []
+    → rows_in new ++ rows_in_last next ≡ (rows_in runs ++ rows_in_last mid) ++ run_rows run → rows_in new ++ rows_in_last next ≡ (rows_in runs ++ rows_in_last last) ++ row ∷ []
+put_begun runs new t joined found line last mid next run row so is run_is h =
+    let same : rows_in_last mid ≡ rows_in_last last = is.rows ∙ (λ i. cond (so i) (rows_in_last last ++ row_of line (life_after found line t) ∷ []) (rows_in_last last)) in
+    h ∙ (λ i. (rows_in runs ++ same i) ++ run_is i)
+
+-- a line that differs from another in its zone alone leaves the same life of the same
+
+left_alike : (a : Action) (life : Life) (l : Line) (z : Place) (t : ℕ) → left_of_life a life l t ≡ left_of_life a life (in_zone l z) t
+left_alike New life l z t = refl
+left_alike Con life l z t = refl
+left_alike Exa life l z t = refl
+left_alike Ext life l z t = refl
+left_alike Exb life l z t = refl
+left_alike Upg life l z t = refl
+left_alike Can life l z t = refl
+left_alike Exp life l z t = refl
+left_alike Cor life l z t = refl
+left_alike Rou life l z t = refl
+
+after_alike : (o : Option Life) (l : Line) (z : Place) (t : ℕ) → life_after o l t ≡ life_after o (in_zone l z) t
+unfolding life_after
+after_alike None l z t = refl
+after_alike (Some life) l z t = left_alike l.action life l z t
+
+lives_one : (a b : Option Life) → same_life a b ≡ true → a ≡ b
+lives_one None None h = refl
+lives_one (Some x) (Some y) h = ap (λ (l : Life). Some l) (life_one x y h)
+lives_one (Some x) None h = cc
+lives_one None (Some y) h = cc
+
+pub joined-row : (r : RowRun) (found : Option Life) (line : Line) (t : ℕ) → is_of_run r found line ≡ true → IsLeft t (Some r) → row_with r.line.event line.zone r.left ≡ row_of line (life_after found line t)
+joined-row r found line t h left =
+    let p = and_parts (same_life found r.found) _ h in
+    let line_is : in_zone r.line line.zone ≡ line = line_one (in_zone r.line line.zone) line p.1 in
+    let found_is = lives_one found r.found p.0 in
+    let life_is : r.left ≡ life_after found line t =
+    left ∙ after_alike r.found r.line line.zone t ∙ (λ i. life_after (sym found_is i) (line_is i) t) in
+    λ i. row_with (line_is i).event line.zone (life_is i)
+
+pub joined-run : (r new : RowRun) (last : Option RowRun) (found : Option Life) (line : Line) (t : ℕ) → last ≡ Some r → is_of_run r found line ≡ true → IsLeft t last
+    → IsRunWith r line.zone new → IsJoined t true found line last (Some new)
+joined-run r new last found line t last_is h left with_zone =
+    let own : IsLeft t (Some r) = subst (λ (o : Option RowRun). IsLeft t o) last_is left in
+    record {
+      rows =
+          (λ i. rows_along (with_zone.line i).event (with_zone.left i) (with_zone.zones i))
+          ∙ along_last r.line.event r.left r.zones line.zone
+          ∙ ap (λ (row : Row). run_rows r ++ row ∷ []) (joined-row r found line t h own)
+          ∙ ap (λ (o : Option RowRun). rows_in_last o ++ row_of line (life_after found line t) ∷ []) (sym last_is);
+      left = with_zone.left ∙ own ∙ (λ i. life_after (sym with_zone.found i) (sym with_zone.line i) t);
+    }

@@ -1,11 +1,12 @@
 -- Lives at zones, and rows of one event with such lives: what is found among them, and what one more leaves.
-use Rattle.std.proofs.Common.{◌≡◌, ◌∙◌, ℕ, zero, suc, ◌+◌, ◌<◌, ◌≤◌, List, [], ◌∷◌, ◌++◌, Bool, true, false, cond, map, length, length-append, get_or, take, Ordering, Less, Equal, Greater, Option, Some, None, refl, ap, sym, subst, arith}
+use Rattle.std.proofs.Common.{◌≡◌, ◌∙◌, ℕ, zero, suc, ◌+◌, ◌==◌, ◌<◌, ◌≤◌, List, [], ◌∷◌, ◌++◌, Bool, true, false, cond, map, length, length-append, get_or, take, Ordering, Less, Equal, Greater, Option, Some, None, refl, ap, sym, subst, arith}
 use Rattle.std.specs.Prelude.{◌&&◌, option_map, slice_get, is_some}
 use Rattle.std.specs.Bool.{beq}
 use Rattle.std.specs.Option.{option_eq}
 use Rattle.std.proofs.Math.Seq.{get_or-append_seam}
 use Rattle.std.proofs.lemmas.List.{get_or_append_left}
 use Rattle.std.proofs.lemmas.Bool.{and_parts}
+use Rattle.std.proofs.lemmas.Bool.Decides.{nat_tests}
 use Rattle.std.proofs.lemmas.Option.{get_or_from_slice_get, slice_get_read}
 use Rattle.std.specs.BTreeMap.{insert_entry, is_at}
 use Rattle.std.specs.List.{AllByRecursion}
@@ -25,7 +26,7 @@ use Rattle.event_life.specs.contracts.life.LifePartialEq.TheImpl as life
 use Rattle.hazard_types.specs.contracts.line.FloodPartialEq.TheImpl as flood
 use Rattle.hazard_types.specs.contracts.period.PeriodPartialEq.TheImpl as period
 use Rattle.hazard_types.specs.declared.line.Flood.{Flood}
-use Rattle.row_index.specs.Sharing.{no_life, life_at, is_life, lives_told, lives_of, row_with, rows_with, rows_told, AreShared, HaveEvent, IsPlaced, IsThere}
+use Rattle.row_index.specs.Sharing.{no_life, life_at, is_life, lives_told, lives_of, row_with, rows_with, rows_told, same_place, AreShared, HaveEvent, IsPlaced, IsThere}
 use Rattle.row_index.specs.Zoning.{AreOf, AreZoned, is_first_of}
 use Rattle.row_index.proofs.Lists.{ascending-put}
 use Rattle.row_index.proofs.Tests.{at_one}
@@ -110,7 +111,7 @@ ended_same false false h = refl
 ended_same true false h = cc
 ended_same false true h = cc
 
-life_one : (a b : Life) → life.eq-value.it a b ≡ true → a ≡ b
+pub life_one : (a b : Life) → life.eq-value.it a b ≡ true → a ≡ b
 life_one a b h =
     let p = and_parts (period.eq-value.it a.period b.period) _ h in
     let r = and_parts (option_eq flood.eq-value.it a.flood b.flood) _ p.1 in
@@ -119,9 +120,20 @@ life_one a b h =
     let ended_is = ended_same a.ended b.ended r.1 in
     λ i. record { period = period_is i; flood = flood_is i; ended = ended_is i }
 
+-- places
+
+pub places_one : (a b : Option ℕ) → same_place a b ≡ true → a ≡ b
+places_one None None h = refl
+places_one (Some i) (Some k) h = ap (λ (n : ℕ). Some n) (number_one i k h)
+  where
+    number_one : (m n : ℕ) → (m == n) ≡ true → m ≡ n
+    number_one m n h = grind (arith, nat_tests)
+places_one (Some i) None h = cc
+places_one None (Some k) h = cc
+
 -- a life at its place
 
-same_length : (lives : List Life) → length lives ≤ length lives
+pub same_length : (lives : List Life) → length lives ≤ length lives
 same_length lives = omega arith
 
 there_at : (lives : List Life) (i : ℕ) (x : Life) → slice_get lives i ≡ Some x → i < length lives
@@ -152,7 +164,7 @@ placed-behind lives l = let longer = length-append lives (l ∷ []) in record {
 -- a life that is set
 
 module _ (before after : List Life) (place : ℕ) (l : Life) (placed : IsPlaced before after place l) where
-  told_stay : (seats : List (Place × ℕ)) → AreWithin (length before) seats → lives_told after seats ≡ lives_told before seats
+  pub told_stay : (seats : List (Place × ℕ)) → AreWithin (length before) seats → lives_told after seats ≡ lives_told before seats
   told_stay [] all = refl
   told_stay (s ∷ seats) all = λ i. (s.0, placed.stay s.1 all.0 i) ∷ told_stay seats all.1 i
 
@@ -206,7 +218,7 @@ told-ascending lives seats are = subst (λ (zs : List Place). IsStrictlySortedBy
 pub there-found : (lives : List Life) (seats : List (Place × ℕ)) (z : Place) (o : Option ℕ) → AreShared lives seats → o ≡ lookup (is_at (by_place z)) seats → IsThere lives o
 there-found lives seats z o are found = subst (λ (p : Option ℕ). IsThere lives p) (sym found) (found-there lives seats z are.there)
 
-found_life : (lives : List Life) (seats : List (Place × ℕ)) (z : Place) (o : Option ℕ) → o ≡ lookup (is_at (by_place z)) seats → option_map (λ (i : ℕ). life_at lives i) o ≡ lookup (is_at (by_place z)) (lives_told lives seats)
+pub found_life : (lives : List Life) (seats : List (Place × ℕ)) (z : Place) (o : Option ℕ) → o ≡ lookup (is_at (by_place z)) seats → option_map (λ (i : ℕ). life_at lives i) o ≡ lookup (is_at (by_place z)) (lives_told lives seats)
 found_life lives seats z o found =
     ap (λ (p : Option ℕ). option_map (λ (i : ℕ). life_at lives i) p) found ∙ sym (made-found (λ (q : Place) (i : ℕ). life_at lives i) z seats)
 

@@ -22,19 +22,20 @@ use Rattle.hazard_types.specs.contracts.period.EndOrd.TheImpl as end_order
 use Rattle.hazard_types.proofs.Equality.{period_one}
 use Rattle.hazard_types.proofs.OrderLaws.{by_end_total, by_end_ties, numbers_tied}
 use Rattle.event_life.specs.Periods.{ends_after, ends_within, same_end, same_at, is_live, keeps_open}
-use Rattle.event_life.specs.Products.{by_key, placed, put, row_at}
 use Rattle.event_life.proofs.Keys.{then_parts}
-use Rattle.event_life.proofs.Members.{IsIn, any_in, in_any, find_in, one_way}
-use Rattle.event_life.proofs.Puts.{at_key}
-use Rattle.event_life.proofs.Puts as puts
+use Rattle.event_life.proofs.Members.{IsIn, any_in, in_any, one_way}
+use Rattle.event_life.specs.declared.life.Life.{Life}
+use Rattle.row_index.specs.declared.standing.Before.{Before}
 use Rattle.row_index.specs.declared.standing.Standing.{Standing}
 use Rattle.row_index.specs.contracts.standing.StandingOrd.TheImpl.Laws as standing_laws
 use Rattle.row_index.specs.Numbers.{stands}
-use Rattle.row_index.specs.Standings.{by_standing, period_at, standing_of, lies, lies_from, open_from, first_same, last_same, same_from, same_to, count_at, with_count, one_less, one_more, restood, tally, stands_with, AreCounts}
+use Rattle.row_index.specs.Standings.{by_standing, period_at, standing_of, life_standing, lies, lies_from, open_from, first_same, last_same, same_from, same_to, count_at, with_count, less_by, some_less, all_less, some_more, all_stay, restood, stands_so, stands_with, AreCounts}
+use Rattle.row_index.specs.Tallies.{tally, one, one_of, times, owed, AreTallied}
 use Rattle.row_index.specs.Steps.{stays}
 use Rattle.row_index.specs.Telling.{Tells}
 use Rattle.row_index.proofs.Lists.{ascending-put}
-use Rattle.row_index.proofs.Tests.{any_same, and_true, and_false, at_apart, at_tied, less_apart, greater_apart, at_one, at_own, remove-sorted}
+use Rattle.row_index.proofs.Tallied.{times-nought, times-one}
+use Rattle.row_index.proofs.Tests.{any_same, and_true, and_false, at_one, at_own, remove-sorted}
 
 by_standing_total : IsTotalOrder by_standing
 by_standing_total = standing_laws.total-law
@@ -57,48 +58,6 @@ own_at = at_own by_standing by_standing_total by_standing_ties
 
 abbrev Counts : Type 0
 Counts = List (Standing × ℕ)
-
--- rows that are counted where one is put
-
-abbrev one : Bool → ℕ
-one true = 1
-one false = 0
-
-abbrev one_of : (Row → Bool) → Option Row → ℕ
-one_of p None = 0
-one_of p (Some r) = one (p r)
-
-tally-first : (p : Row → Bool) (r : Row) (rows : List Row) → tally p (r ∷ rows) ≡ one (p r) + tally p rows
-tally-first p r rows = by_test (p r)
-  where
-    by_test : (b : Bool) → cond b (suc (tally p rows)) (tally p rows) ≡ one b + tally p rows
-    by_test true = omega arith
-    by_test false = omega arith
-
-none_behind : (row : Row) (rows : List Row) → AllByRecursion (λ y. by_key row y ≡ Less) rows → row_at rows row.event row.zone ≡ None
-none_behind row [] all = refl
-none_behind row (r ∷ rows) all = rw (at_apart row r (less_apart row r all.0)) (none_behind row rows all.1)
-
-placed_tally : (p : Row → Bool) (row r : Row) (rows : List Row) (o : Ordering) → by_key row r ≡ o → AllByRecursion (λ y. by_key r y ≡ Less) rows
-    → tally p (put row rows) + one_of p (row_at rows row.event row.zone) ≡ one (p row) + tally p rows
-    → tally p (placed o row r rows (put row rows)) + one_of p (row_at (r ∷ rows) row.event row.zone) ≡ one (p row) + tally p (r ∷ rows)
-placed_tally p row r rows Less h all later =
-    let found : row_at (r ∷ rows) row.event row.zone ≡ None = none_behind row (r ∷ rows) (h, puts.all_above row r rows h all) in
-    rw (found, tally-first p row (r ∷ rows)) (omega arith)
-placed_tally p row r rows Equal h all later =
-    rw (at_tied row r h, tally-first p row rows, tally-first p r rows) (omega arith)
-placed_tally p row r rows Greater h all later =
-    rw (at_apart row r (greater_apart row r h), tally-first p r rows, tally-first p r (put row rows)) (omega (arith, later))
-
-pub tally-put : (p : Row → Bool) (row : Row) (rows : List Row) → IsStrictlySortedBy by_key rows → tally p (put row rows) + one_of p (row_at rows row.event row.zone) ≡ one (p row) + tally p rows
-unfolding IsStrictlySortedBy
-tally-put p row [] up = rw (tally-first p row []) (omega arith)
-tally-put p row (r ∷ rows) up = placed_tally p row r rows (by_key row r) refl up.0 (tally-put p row rows up.1)
-
-found_tally : (p : Row → Bool) (rows : List Row) (r : Row) → IsIn r rows → one (p r) ≤ tally p rows
-found_tally p [] r is = absurd is
-found_tally p (y ∷ rows) r (inl is) = rw (tally-first p y rows, is) (omega arith)
-found_tally p (y ∷ rows) r (inr is) = let later = found_tally p rows r is in rw (tally-first p y rows) (omega (arith, later))
 
 -- a count that is set
 
@@ -215,131 +174,126 @@ set_some k n es all = by_nought (n == 0) refl
     by_nought true h = take_some (is_at (by_standing k)) es all
     by_nought false h = put_some k n es h all
 
--- one row less, and one more
+-- some rows less, and some more
 
-abbrev is_with : Standing → Row → Bool
-is_with k r = is_at (by_standing k) (standing_of r)
+abbrev stands_at : Standing → Life → Bool
+stands_at k l = is_at (by_standing k) (life_standing l)
 
-less_at : (b : Bool) (k c : Standing) (es : Counts) → is_at (by_standing k) c ≡ b → IsStrictlySortedBy by_standing (keys_of es) → count_at (with_count by_standing c (count_at es c - 1) es) k ≡ count_at es k - one b
-less_at true k c es at up =
-    subst (λ (q : Standing). count_at (with_count by_standing c (count_at es c - 1) es) q ≡ count_at es q - 1) (sym (one_at k c at)) (set_own c (count_at es c - 1) es up)
-less_at false k c es at up = set_other k c (count_at es c - 1) es at ∙ same (count_at es k)
+none_less : (n m : ℕ) → n ≡ n - times m 0
+none_less n m = let none = times-nought m in omega (arith, none)
+
+none_more : (n m : ℕ) → n ≡ times m 0 + n
+none_more n m = let none = times-nought m in omega (arith, none)
+
+less_at : (b : Bool) (n : ℕ) (k c : Standing) (es : Counts) → is_at (by_standing k) c ≡ b → IsStrictlySortedBy by_standing (keys_of es) → count_at (with_count by_standing c (count_at es c - n) es) k ≡ count_at es k - times n (one b)
+less_at true n k c es at up =
+    subst (λ (q : Standing). count_at (with_count by_standing c (count_at es c - n) es) q ≡ count_at es q - times n 1) (sym (one_at k c at))
+    (set_own c (count_at es c - n) es up ∙ ap (λ (m : ℕ). count_at es c - m) (sym (times-one n)))
+less_at false n k c es at up = set_other k c (count_at es c - n) es at ∙ none_less (count_at es k) n
+
+more_at : (b : Bool) (n : ℕ) (k c : Standing) (es : Counts) → is_at (by_standing k) c ≡ b → IsStrictlySortedBy by_standing (keys_of es) → count_at (with_count by_standing c (count_at es c + n) es) k ≡ times n (one b) + count_at es k
+more_at true n k c es at up =
+    subst (λ (q : Standing). count_at (with_count by_standing c (count_at es c + n) es) q ≡ times n 1 + count_at es q) (sym (one_at k c at))
+    (set_own c (count_at es c + n) es up ∙ turned (count_at es c))
   where
-    same : (n : ℕ) → n ≡ n - 0
-    same n = omega arith
+    turned : (m : ℕ) → m + n ≡ times n 1 + m
+    turned m = let own = times-one n in omega (arith, own)
+more_at false n k c es at up = set_other k c (count_at es c + n) es at ∙ none_more (count_at es k) n
 
-more_at : (b : Bool) (k c : Standing) (es : Counts) → is_at (by_standing k) c ≡ b → IsStrictlySortedBy by_standing (keys_of es) → count_at (with_count by_standing c (count_at es c + 1) es) k ≡ one b + count_at es k
-more_at true k c es at up =
-    subst (λ (q : Standing). count_at (with_count by_standing c (count_at es c + 1) es) q ≡ 1 + count_at es q) (sym (one_at k c at)) (set_own c (count_at es c + 1) es up ∙ turned (count_at es c))
+less_count : (n : ℕ) (before : Option Life) (k : Standing) (es : Counts) → IsStrictlySortedBy by_standing (keys_of es) → count_at (less_by n before es) k ≡ count_at es k - times n (one_of (stands_so k) before)
+less_count n None k es up = none_less (count_at es k) n
+less_count n (Some old) k es up = by_ended old.ended
   where
-    turned : (n : ℕ) → n + 1 ≡ 1 + n
-    turned n = omega arith
-more_at false k c es at up = set_other k c (count_at es c + 1) es at ∙ same (count_at es k)
+    by_ended : (b : Bool) → count_at (cond b es (with_count by_standing (life_standing old) (count_at es (life_standing old) - n) es)) k ≡ count_at es k - times n (one (not b && stands_at k old))
+    by_ended true = none_less (count_at es k) n
+    by_ended false = less_at (stands_at k old) n k (life_standing old) es refl up
+
+more_count : (n : ℕ) (life : Life) (k : Standing) (es : Counts) → IsStrictlySortedBy by_standing (keys_of es) → count_at (some_more n life es) k ≡ times n (one (stands_so k life)) + count_at es k
+more_count n life k es up = by_ended life.ended
   where
-    same : (n : ℕ) → n ≡ 0 + n
-    same n = omega arith
+    by_ended : (b : Bool) → count_at (cond b es (with_count by_standing (life_standing life) (count_at es (life_standing life) + n) es)) k ≡ times n (one (not b && stands_at k life)) + count_at es k
+    by_ended true = none_more (count_at es k) n
+    by_ended false = more_at (stands_at k life) n k (life_standing life) es refl up
 
-none_less : (n : ℕ) → n ≡ n - 0
-none_less n = omega arith
+-- what is kept of the counts, with another one or without
+abbrev Kept : Counts → Type 0
+Kept es = IsStrictlySortedBy by_standing (keys_of es) × AllByRecursion IsThere es
 
-none_more : (n : ℕ) → n ≡ 0 + n
-none_more n = omega arith
+set_kept : (k : Standing) (n : ℕ) (es : Counts) → Kept es → Kept (with_count by_standing k n es)
+set_kept k n es kept = (set-sorted k n es kept.0, set_some k n es kept.1)
 
-less_count : (before : Option Row) (k : Standing) (es : Counts) → IsStrictlySortedBy by_standing (keys_of es) → count_at (one_less before es) k ≡ count_at es k - one_of (stands_with k) before
-less_count None k es up = none_less (count_at es k)
-less_count (Some old) k es up = by_ended old.ended
+kept_or : (b : Bool) (k : Standing) (n : ℕ) (es : Counts) → Kept es → Kept (cond b es (with_count by_standing k n es))
+kept_or true k n es kept = kept
+kept_or false k n es kept = set_kept k n es kept
+
+less_kept : (n : ℕ) (before : Option Life) (es : Counts) → Kept es → Kept (less_by n before es)
+less_kept n None es kept = kept
+less_kept n (Some old) es kept = kept_or old.ended (life_standing old) (count_at es (life_standing old) - n) es kept
+
+more_kept : (n : ℕ) (life : Life) (es : Counts) → Kept es → Kept (some_more n life es)
+more_kept n life es kept = kept_or life.ended (life_standing life) (count_at es (life_standing life) + n) es kept
+
+all_less_kept : (bs : List Before) (es : Counts) → Kept es → Kept (all_less bs es)
+all_less_kept [] es kept = kept
+all_less_kept (b ∷ bs) es kept = all_less_kept bs (some_less b es) (less_kept b.zones b.life es kept)
+
+-- all that zones had before is taken out of what is there
+all_less_count : (bs : List Before) (k : Standing) (x : ℕ) (es : Counts) → Kept es → count_at es k ≡ x + owed (stands_so k) bs → count_at (all_less bs es) k ≡ x
+all_less_count [] k x es kept h = omega (arith, h)
+all_less_count (b ∷ bs) k x es kept h =
+    let one_less = less_count b.zones b.life k es kept.0 in
+    all_less_count bs k x (some_less b es) (less_kept b.zones b.life es kept) (omega (arith, h, one_less))
+
+-- zones come to a life
+
+stays_alike : (k : Standing) (before : Option Life) (life : Life) → stays before life ≡ true → one_of (stands_so k) before ≡ one (stands_so k life)
+stays_alike k None life h = cc
+stays_alike k (Some old) life h =
+    let p = and_parts (period_eq.eq-value.it old.period life.period && not old.ended) _ h in
+    let r = and_parts (period_eq.eq-value.it old.period life.period) _ p.0 in
+    let same : life_standing old ≡ life_standing life = ap (λ (q : Period). period_at q.end q.begin) (period_one old.period life.period r.0) in
+    let both : not old.ended ≡ not life.ended = r.1 ∙ sym p.1 in
+    λ i. one (both i && is_at (by_standing k) (same i))
+
+all_alike : (k : Standing) (befores : List Before) (n : ℕ) (life : Life) → all_stay befores n life ≡ true → owed (stands_so k) befores ≡ times n (one (stands_so k life))
+all_alike k [] n life h = cc
+all_alike k (b ∷ []) n life h =
+    let p = and_parts (b.zones == n) (stays b.life life) h in
+    let count : b.zones ≡ n = numbers_one b.zones n p.0 in
+    let own = stays_alike k b.life life p.1 in
+    nothing_more (times b.zones (one_of (stands_so k) b.life)) ∙ (λ i. times (count i) (own i))
   where
-    by_ended : (b : Bool) → count_at (cond b es (with_count by_standing (standing_of old) (count_at es (standing_of old) - 1) es)) k ≡ count_at es k - one (not b && is_with k old)
-    by_ended true = none_less (count_at es k)
-    by_ended false = less_at (is_with k old) k (standing_of old) es refl up
+    numbers_one : (a c : ℕ) → (a == c) ≡ true → a ≡ c
+    numbers_one a c h = grind (arith, nat_tests)
 
-more_count : (row : Row) (k : Standing) (es : Counts) → IsStrictlySortedBy by_standing (keys_of es) → count_at (one_more row es) k ≡ one (stands_with k row) + count_at es k
-more_count row k es up = by_ended row.ended
+    nothing_more : (m : ℕ) → m + 0 ≡ m
+    nothing_more m = omega arith
+all_alike k (b ∷ c ∷ bs) n life h = cc
+
+pub stood-put : (rows next : List Row) (es : Counts) (befores : List Before) (n : ℕ) (life : Life) → AreCounts es rows
+    → ((k : Standing) → AreTallied (stands_so k) rows next befores n life) → AreCounts (restood befores n life es) next
+stood-put rows next es befores n life are tallied = by_stay (all_stay befores n life) refl
   where
-    by_ended : (b : Bool) → count_at (cond b es (with_count by_standing (standing_of row) (count_at es (standing_of row) + 1) es)) k ≡ one (not b && is_with k row) + count_at es k
-    by_ended true = none_more (count_at es k)
-    by_ended false = more_at (is_with k row) k (standing_of row) es refl up
-
-less-sorted : (before : Option Row) (es : Counts) → IsStrictlySortedBy by_standing (keys_of es) → IsStrictlySortedBy by_standing (keys_of (one_less before es))
-less-sorted None es up = up
-less-sorted (Some old) es up = by_ended old.ended
-  where
-    by_ended : (b : Bool) → IsStrictlySortedBy by_standing (keys_of (cond b es (with_count by_standing (standing_of old) (count_at es (standing_of old) - 1) es)))
-    by_ended true = up
-    by_ended false = set-sorted (standing_of old) (count_at es (standing_of old) - 1) es up
-
-more-sorted : (row : Row) (es : Counts) → IsStrictlySortedBy by_standing (keys_of es) → IsStrictlySortedBy by_standing (keys_of (one_more row es))
-more-sorted row es up = by_ended row.ended
-  where
-    by_ended : (b : Bool) → IsStrictlySortedBy by_standing (keys_of (cond b es (with_count by_standing (standing_of row) (count_at es (standing_of row) + 1) es)))
-    by_ended true = up
-    by_ended false = set-sorted (standing_of row) (count_at es (standing_of row) + 1) es up
-
-less_some : (before : Option Row) (es : Counts) → AllByRecursion IsThere es → AllByRecursion IsThere (one_less before es)
-less_some None es all = all
-less_some (Some old) es all = by_ended old.ended
-  where
-    by_ended : (b : Bool) → AllByRecursion IsThere (cond b es (with_count by_standing (standing_of old) (count_at es (standing_of old) - 1) es))
-    by_ended true = all
-    by_ended false = set_some (standing_of old) (count_at es (standing_of old) - 1) es all
-
-more_some : (row : Row) (es : Counts) → AllByRecursion IsThere es → AllByRecursion IsThere (one_more row es)
-more_some row es all = by_ended row.ended
-  where
-    by_ended : (b : Bool) → AllByRecursion IsThere (cond b es (with_count by_standing (standing_of row) (count_at es (standing_of row) + 1) es))
-    by_ended true = all
-    by_ended false = set_some (standing_of row) (count_at es (standing_of row) + 1) es all
-
--- a row is put
-
-of_found : (p : Row → Bool) (rows : List Row) (row : Row) (before : Option Row) → row_at rows row.event row.zone ≡ before → one_of p before ≤ tally p rows
-of_found p rows row None found = omega arith
-of_found p rows row (Some old) found = found_tally p rows old (find_in (at_key row.event row.zone) rows old found).0
-
-sum_up : (next before first all less more : ℕ) → next + before ≡ first + all → before ≤ all → less ≡ all - before → more ≡ first + less → more ≡ next
-sum_up next before first all less more h le less_is more_is = omega (arith, h, le, less_is, more_is)
-
-counts_anew : (rows : List Row) (es : Counts) (row : Row) (before : Option Row) → IsStrictlySortedBy by_key rows → AreCounts es rows → before ≡ row_at rows row.event row.zone → AreCounts (one_more row (one_less before es)) (put row rows)
-counts_anew rows es row before up are found = record {
-  ascending = more-sorted row (one_less before es) (less-sorted before es are.ascending);
-  some = more_some row (one_less before es) (less_some before es are.some);
-  counted = λ k.
-      let p = stands_with k in
-      let put_is : tally p (put row rows) + one_of p before ≡ one (p row) + tally p rows = ap (λ (o : Option Row). tally p (put row rows) + one_of p o) found ∙ tally-put p row rows up in
-      let less_is : count_at (one_less before es) k ≡ tally p rows - one_of p before = less_count before k es are.ascending ∙ ap (λ (n : ℕ). n - one_of p before) (are.counted k) in
-      sum_up (tally p (put row rows)) (one_of p before) (one (p row)) (tally p rows) (count_at (one_less before es) k) (count_at (one_more row (one_less before es)) k)
-      put_is (of_found p rows row before (sym found)) less_is (more_count row k (one_less before es) (less-sorted before es are.ascending));
-}
-
-stays_alike : (k : Standing) (row old : Row) → stays (Some old) row ≡ true → stands_with k old ≡ stands_with k row
-stays_alike k row old h =
-    let p = and_parts (period_eq.eq-value.it old.period row.period && not old.ended) _ h in
-    let r = and_parts (period_eq.eq-value.it old.period row.period) _ p.0 in
-    let same : standing_of old ≡ standing_of row = ap (λ (q : Period). period_at q.end q.begin) (period_one old.period row.period r.0) in
-    let both : not old.ended ≡ not row.ended = r.1 ∙ sym p.1 in
-    λ i. both i && is_at (by_standing k) (same i)
-
-counts_same : (rows : List Row) (es : Counts) (row old : Row) → IsStrictlySortedBy by_key rows → AreCounts es rows → Some old ≡ row_at rows row.event row.zone → stays (Some old) row ≡ true → AreCounts es (put row rows)
-counts_same rows es row old up are found h = record {
-  ascending = are.ascending;
-  some = are.some;
-  counted = λ k.
-      let p = stands_with k in
-      let put_is : tally p (put row rows) + one (p old) ≡ one (p row) + tally p rows = ap (λ (o : Option Row). tally p (put row rows) + one_of p o) found ∙ tally-put p row rows up in
-      let one_is : one (p old) ≡ one (p row) = ap one (stays_alike k row old h) in
-      are.counted k ∙ same_sum (tally p (put row rows)) (one (p old)) (one (p row)) (tally p rows) put_is one_is;
-}
-  where
-    same_sum : (next before first all : ℕ) → next + before ≡ first + all → before ≡ first → all ≡ next
-    same_sum next before first all h is = omega (arith, h, is)
-
-pub stood-put : (rows : List Row) (es : Counts) (row : Row) (before : Option Row) → IsStrictlySortedBy by_key rows → AreCounts es rows → before ≡ row_at rows row.event row.zone → AreCounts (restood before row es) (put row rows)
-stood-put rows es row None up are found = counts_anew rows es row None up are found
-stood-put rows es row (Some old) up are found = by_stay (stays (Some old) row) refl
-  where
-    by_stay : (b : Bool) → stays (Some old) row ≡ b → AreCounts (cond b es (one_more row (one_less (Some old) es))) (put row rows)
-    by_stay true h = counts_same rows es row old up are found h
-    by_stay false h = counts_anew rows es row (Some old) up are found
+    by_stay : (b : Bool) → all_stay befores n life ≡ b → AreCounts (cond b es (all_less befores (some_more n life es))) next
+    by_stay true h = record {
+      ascending = are.ascending;
+      some = are.some;
+      counted = λ k. let told = tallied k in let alike = all_alike k befores n life h in let own = are.counted k in omega (arith, told, alike, own);
+    }
+    by_stay false h =
+        let more = some_more n life es in
+        let kept : Kept es = (are.ascending, are.some) in
+        let more_kept_so = more_kept n life es kept in
+        let all_kept = all_less_kept befores more more_kept_so in
+        record {
+          ascending = all_kept.0;
+          some = all_kept.1;
+          counted = λ k.
+              let told = tallied k in
+              let own = are.counted k in
+              let added = more_count n life k es are.ascending in
+              all_less_count befores k (tally (stands_with k) next) more more_kept_so (omega (arith, told, own, added));
+        }
 
 pub stood-none : AreCounts [] []
 unfolding IsStrictlySortedBy

@@ -6,6 +6,7 @@ pub mod Zoning
 pub mod Sharing
 pub mod Risen
 pub mod Numbers
+pub mod Tallies
 pub mod Standings
 pub mod Steps
 pub mod Runs

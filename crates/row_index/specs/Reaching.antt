@@ -19,6 +19,7 @@ use Rattle.hazard_types.specs.declared.period.End.{End}
 use Rattle.hazard_types.specs.declared.period.End.TheVariants as end
 use Rattle.hazard_types.specs.contracts.period.EndOrd.TheImpl as end_order
 use Rattle.event_life.specs.Higher.{family_of, is_above}
+use Rattle.event_life.specs.declared.life.Life.{Life}
 use Rattle.row_index.specs.declared.reach.Reach.{Reach}
 use Rattle.row_index.specs.declared.seats.Spot.{Spot}
 use Rattle.row_index.specs.declared.seats.Spot.TheVariants.{Front, At, Back}
@@ -36,10 +37,6 @@ rank_of e = family_of (facts_of e.hazard)
 -- sixteen numbers of a state
 unfoldable pub area_of : Place → ℕ
 area_of p = (slice_index p.state 0 * 256 + slice_index p.state 1) * 64 + p.number / 16
-
--- the end of a row, in its area
-abbrev pub reach_of : Row → Reach
-reach_of r = record { area = area_of r.zone; end = r.period.end; spot = At r.event }
 
 -- the spot is an event's
 abbrev pub is_spot_of : Event → Spot → Bool
@@ -66,19 +63,14 @@ Reaches keys es = AllByRecursion (λ (e : Event × List Row). AreReached keys e.
 abbrev pub Grows : List Reach → List Reach → Type 0
 Grows old new = (r : Row) → list_any (holds r) old ≡ true → list_any (holds r) new ≡ true
 
--- what the key that was added last holds, if there is one, one of the keys does
-abbrev pub IsLast : Option Reach → List Reach → Type 0
-IsLast None keys = Unit {0}
-IsLast (Some k) keys = (r : Row) → holds r k ≡ true → list_any (holds r) keys ≡ true
+-- the end of a life of an event, in an area
+abbrev pub reach_in : Event → Life → ℕ → Reach
+reach_in e l area = record { area = area; end = l.period.end; spot = At e }
 
-abbrev pub is_last : Option Reach → Reach → Bool
-is_last None k = false
-is_last (Some other) k = is_eq (by_reach other k)
-
--- the row before is of the event and zone of a row, and is reached
-abbrev pub ReachedBefore : List Reach → Option Row → Row → Type 0
-ReachedBefore keys None row = Unit {0}
-ReachedBefore keys (Some old) row = (old.event ≡ row.event) × (old.zone ≡ row.zone) × (is_reached keys old ≡ true)
+-- what the key of a life of an event holds in the area that was last, if there was one, one of the keys does
+abbrev pub IsLast : Event → Life → Option ℕ → List Reach → Type 0
+IsLast e l None keys = Unit {0}
+IsLast e l (Some area) keys = (r : Row) → holds r (reach_in e l area) ≡ true → list_any (holds r) keys ≡ true
 
 -- one of an area whose end is not before the minute
 abbrev pub lasts : ℕ → ℕ → Reach → Bool

@@ -1,5 +1,6 @@
 -- What lives have come to, by zone, where zones share what is the same; and rows of one event with such lives.
-use Rattle.std.specs.Prelude.{◌≡◌, ◌<◌, ◌≤◌, ℕ, Bool, false, List, [], map, length, get_or, Option, Some, None}
+use Rattle.std.specs.Prelude.{◌≡◌, ◌==◌, ◌<◌, ◌≤◌, ℕ, Bool, true, false, ◌∷◌, List, [], map, length, get_or, Option, Some, None}
+use Rattle.std.specs.BTreeMap.{insert_entry}
 use Rattle.std.specs.List.{AllByRecursion}
 use Rattle.std.specs.List.Sorted.{IsStrictlySortedBy}
 use Rattle.std.specs.Map.{keys_of}
@@ -52,6 +53,23 @@ row_with e z l = record { event = e; zone = z; period = l.period; flood = l.floo
 -- the row of an event in each of the zones
 abbrev pub rows_with : Event → List (Place × Life) → List (Place × Row)
 rows_with e lives = map (λ (s : Place × Life). (s.0, row_with e s.0 s.1)) lives
+
+-- the zones come to a life
+abbrev pub lives_put : Life → List Place → List (Place × Life) → List (Place × Life)
+lives_put l [] es = es
+lives_put l (z ∷ zones) es = lives_put l zones (insert_entry by_place es z l)
+
+-- the rows of an event in the zones do
+abbrev pub rows_put : Event → Life → List Place → List (Place × Row) → List (Place × Row)
+rows_put e l [] es = es
+rows_put e l (z ∷ zones) es = rows_put e l zones (insert_entry by_place es z (row_with e z l))
+
+-- two places are one, or there is none of both
+abbrev pub same_place : Option ℕ → Option ℕ → Bool
+same_place None None = true
+same_place None (Some b) = false
+same_place (Some a) None = false
+same_place (Some a) (Some b) = a == b
 
 -- the zones of rows, each with what its life has come to
 abbrev pub lives_of : List Row → List (Place × Life)

@@ -1,5 +1,5 @@
 -- How many rows of an event that no line has ended have each period. Periods are in order by end, then begin.
-use Rattle.std.specs.Prelude.{◌≡◌, ◌==◌, ◌-◌, ◌+◌, ◌&&◌, ℕ, Bool, false, List, [], ◌∷◌, nat_le, suc, if◌then◌else◌, Option, Some, None, unwrap_or}
+use Rattle.std.specs.Prelude.{not, ◌≡◌, ◌==◌, ◌-◌, ◌+◌, ◌&&◌, ℕ, Bool, false, List, [], ◌∷◌, nat_le, suc, if◌then◌else◌, Option, Some, None, unwrap_or}
 use Rattle.std.specs.BTreeMap.{insert_entry, is_at}
 use Rattle.std.specs.BTreeMap.Range.{range_contains}
 use Rattle.std.specs.List.{AllByRecursion}
@@ -8,15 +8,20 @@ use Rattle.std.specs.Map.{keys_of, lookup, remove_entry, values_of}
 use Rattle.std.specs.declared.cmp.Ordering.{Ordering}
 use Rattle.std.specs.declared.ops.Bound.TheVariants.{Included, Unbounded}
 use Rattle.hazard_types.specs.Places.{Place, by_place}
+use Rattle.hazard_types.specs.declared.hazard.Event.{Event}
 use Rattle.hazard_types.specs.declared.line.Row.{Row}
 use Rattle.hazard_types.specs.declared.period.End.{End}
 use Rattle.hazard_types.specs.declared.period.End.TheVariants as end
 use Rattle.hazard_types.specs.declared.period.Period.{Period}
 use Rattle.event_life.specs.Products.{by_key}
+use Rattle.event_life.specs.declared.life.Life.{Life}
+use Rattle.row_index.specs.declared.standing.Before.{Before}
 use Rattle.row_index.specs.declared.standing.Standing.{Standing}
 use Rattle.row_index.specs.contracts.standing.StandingOrd.TheImpl as order
 use Rattle.row_index.specs.Numbers.{stands}
-use Rattle.row_index.specs.Steps.{stays}
+use Rattle.row_index.specs.Runs.{rows_along}
+use Rattle.row_index.specs.Steps.{put_each, stays}
+use Rattle.row_index.specs.Tallies.{tally}
 use Rattle.row_index.specs.Zoning.{AreOfFirst, AreZoned}
 
 abbrev pub by_standing : Standing → Standing → Ordering
@@ -27,6 +32,9 @@ period_at end begin = record { end = end; begin = begin }
 
 abbrev pub standing_of : Row → Standing
 standing_of r = period_at r.period.end r.period.begin
+
+abbrev pub life_standing : Life → Standing
+life_standing l = period_at l.period.end l.period.begin
 
 -- at a place of the order or behind it
 abbrev pub lies_from : Standing → Standing → Bool
@@ -62,22 +70,34 @@ count_at counts k = unwrap_or (lookup (is_at (by_standing k)) counts) 0
 abbrev pub with_count : {K : Type 0} → (K → K → Ordering) → K → ℕ → List (K × ℕ) → List (K × ℕ)
 with_count cmp k n counts = if n == 0 then remove_entry (is_at (cmp k)) counts else insert_entry cmp counts k n
 
--- without the row before, where there was one and no line had ended it
-abbrev pub one_less : Option Row → List (Standing × ℕ) → List (Standing × ℕ)
-one_less None counts = counts
-one_less (Some old) counts = if old.ended then counts else with_count by_standing (standing_of old) (count_at counts (standing_of old) - 1) counts
+-- without so many rows whose life was this one, if there was one and no line had ended it
+abbrev pub less_by : ℕ → Option Life → List (Standing × ℕ) → List (Standing × ℕ)
+less_by n None counts = counts
+less_by n (Some old) counts = if old.ended then counts else with_count by_standing (life_standing old) (count_at counts (life_standing old) - n) counts
 
--- with a row that no line has ended
-abbrev pub one_more : Row → List (Standing × ℕ) → List (Standing × ℕ)
-one_more row counts = if row.ended then counts else with_count by_standing (standing_of row) (count_at counts (standing_of row) + 1) counts
+abbrev pub some_less : Before → List (Standing × ℕ) → List (Standing × ℕ)
+some_less b counts = less_by b.zones b.life counts
 
-abbrev pub restood : Option Row → Row → List (Standing × ℕ) → List (Standing × ℕ)
-restood before row counts = if stays before row then counts else one_more row (one_less before counts)
+abbrev pub all_less : List Before → List (Standing × ℕ) → List (Standing × ℕ)
+all_less [] counts = counts
+all_less (b ∷ bs) counts = all_less bs (some_less b counts)
 
--- how many items pass a test
-abbrev pub tally : {X : Type 0} → (X → Bool) → List X → ℕ
-tally p [] = 0
-tally p (x ∷ xs) = if p x then suc (tally p xs) else tally p xs
+-- with so many rows of a life that no line has ended
+abbrev pub some_more : ℕ → Life → List (Standing × ℕ) → List (Standing × ℕ)
+some_more n life counts = if life.ended then counts else with_count by_standing (life_standing life) (count_at counts (life_standing life) + n) counts
+
+-- so many zones had one life, which stands as this one does
+abbrev pub all_stay : List Before → ℕ → Life → Bool
+all_stay [] n life = false
+all_stay (b ∷ []) n life = (b.zones == n) && stays b.life life
+all_stay (b ∷ c ∷ bs) n life = false
+
+abbrev pub restood : List Before → ℕ → Life → List (Standing × ℕ) → List (Standing × ℕ)
+restood befores n life counts = if all_stay befores n life then counts else all_less befores (some_more n life counts)
+
+-- no line has ended the life, and it has this period
+abbrev pub stands_so : Standing → Life → Bool
+stands_so k l = not l.ended && is_at (by_standing k) (life_standing l)
 
 -- no line has ended the row, and it has this period
 abbrev pub stands_with : Standing → Row → Bool
@@ -96,3 +116,8 @@ pub record AreEventRows (es : List (Place × Row)) (counts : List (Standing × �
   pub in_order : IsStrictlySortedBy by_key (values_of es)
   pub of_first : AreOfFirst (values_of es)
   pub standing : AreCounts counts (values_of es)
+
+-- the rows of an event in zones have come to a life, and are counted
+pub record IsRunPut (e : Event) (life : Life) (zones : List Place) (old new : List (Place × Row)) (counts : List (Standing × ℕ)) : Type 0 where
+  pub rows : values_of new ≡ put_each (rows_along e life zones) (values_of old)
+  pub are : AreEventRows new counts

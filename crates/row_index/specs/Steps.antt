@@ -15,6 +15,7 @@ use Rattle.hazard_types.specs.declared.line.Line.{Line}
 use Rattle.hazard_types.specs.declared.line.Vtec.{Vtec}
 use Rattle.hazard_types.specs.declared.line.Row.{Row}
 use Rattle.event_life.specs.declared.life.Around.{Around}
+use Rattle.event_life.specs.declared.life.Life.{Life}
 use Rattle.event_life.specs.Higher.{family_of, is_above}
 use Rattle.event_life.specs.Periods.{is_live, overlaps}
 use Rattle.event_life.specs.Table.{opened_period}
@@ -68,10 +69,10 @@ rows_left rows t (line ∷ lines) = row_after rows t line ∷ rows_left rows t l
 abbrev pub put_each : List Row → List Row → List Row
 put_each left after = fold (λ (rows : List Row) (row : Row). put row rows) after left
 
--- no line has ended the row or the one before, which had the same period
-abbrev pub stays : Option Row → Row → Bool
-stays None row = false
-stays (Some old) row = period.eq-value.it old.period row.period && not old.ended && not row.ended
+-- no line has ended the life or the one before, which had the same period
+abbrev pub stays : Option Life → Life → Bool
+stays None life = false
+stays (Some old) life = period.eq-value.it old.period life.period && not old.ended && not life.ended
 
 -- What a product changes where a higher row is looked for: the rows that its lawful lines other than UPG leave, each put in turn,
 -- and the seats that its UPG lines speak of.

@@ -1,60 +1,56 @@
 //! The rows of each event, by zone.
 ghost use Rattle.std.specs.Prelude.{◌≡◌, ◌&&◌, [], flat_map, option_map, IfOk, OnOk};
-ghost use Rattle.std.specs.BTreeMap.{insert_entry};
 ghost use Rattle.std.specs.List.{list_any};
 ghost use Rattle.std.specs.List.Sorted.{IsStrictlySortedBy};
 ghost use Rattle.std.specs.Map.{values_of};
 ghost use Rattle.hazard_types.specs.Orders.{by_event};
-ghost use Rattle.hazard_types.specs.Places.{by_place};
 ghost use Rattle.event_life.specs.Periods.{is_live, keeps_open, same_at};
-ghost use Rattle.event_life.specs.Products.{by_key, life_of, put, row_at, has_rows};
+ghost use Rattle.event_life.specs.Products.{by_key, life_of, row_at, has_rows};
 ghost use Rattle.event_life.specs.Shown.{shown_at};
 ghost use Rattle.row_index.specs.Holding.{puts};
 ghost use Rattle.row_index.specs.Listing.{lists_of, list_at};
 ghost use Rattle.row_index.specs.Numbers.{events_with};
 ghost use Rattle.row_index.specs.Reaching.{AreReached, Grows};
-ghost use Rattle.row_index.specs.Runs.{held_put};
-ghost use Rattle.row_index.specs.Standings.{restood};
+ghost use Rattle.row_index.specs.Runs.{held_put, rows_along, run_rows};
+ghost use Rattle.row_index.specs.Standings.{AreEventRows, IsRunPut};
 ghost use Rattle.row_index.specs.Steps.{put_each};
-ghost use Rattle.row_index.specs.Zoning.{AreOf, AreZoned};
+ghost use Rattle.row_index.specs.Zoning.{AreOf};
 
-use crate::higher::rank_of;
 use crate::lives::row_with;
 use crate::numbers::{Events, put_event_of};
 use crate::parts::EventKey;
-use crate::reach::{Reaches, reach_row};
+use crate::reach::{Reaches, reach_each};
+use crate::row_run::RowRun;
 use crate::seats::{Seated, put_seated};
+use crate::shared::SharedRows;
 use crate::standing::{Standings, has_same_among, is_open_among, restand};
-use crate::zones::{Zoned, put_zoned};
 use event_life::Life;
 use hazard_types::{Event, List, Minute, Oom, Period, Row, Zone};
 use std::alloc::Global;
 use std::collections::BTreeMap;
 use std::marker::Model;
 
-/// Puts a row among those of an event, and among those of them that no line has ended.
+/// The rows of an event in these zones come to a life, and are counted where no line has ended them.
 fn put_standing(
     alloc: Global,
-    rows: &mut Zoned,
+    rows: &mut SharedRows,
     standing: &mut Standings,
-    row: &Row,
-    before: &mut Option<Row>,
+    event: &Event,
+    life: &Life,
+    zones: &[Zone],
 ) -> Result<(), Oom>
-    requires zoned { AreZoned rows.old }
-    requires own { AreOf row.now.event (values_of rows.old) }
-    ensures before { OnOk result (before.new ≡ row_at (values_of rows.old) row.now.event row.now.zone) }
-    ensures rows { OnOk result (values_of rows.new ≡ put row.now (values_of rows.old)) }
-    ensures entries { OnOk result (rows.new ≡ insert_entry by_place rows.old row.now.zone row.now) }
-    ensures standing { OnOk result (standing.new.entries ≡ restood before.new row.now standing.old.entries) }
+    requires own { AreOf event.now (values_of rows.old) }
+    requires rows { AreEventRows rows.old standing.old.entries }
+    ensures { OnOk result (IsRunPut event.now life.now zones.now rows.old rows.new standing.new.entries) }
 {
-    put_zoned(alloc, rows, row, before)?;
-    restand(standing, before, row)
+    let befores = rows.set(alloc, event, life, zones)?;
+    restand(standing, &befores, zones.len(), life)
 }
 
 /// The rows of one event, each at its zone, and how many of those that no line has ended have each period.
 #[derive(Drop)]
 pub struct EventRows {
-    rows: Zoned,
+    rows: SharedRows,
     standing: Standings,
 }
 
@@ -76,7 +72,7 @@ impl EventRows {
         ensures { result ≡ [] }
     {
         EventRows {
-            rows: Zoned::new(alloc),
+            rows: SharedRows::new(alloc),
             standing: BTreeMap::new(alloc),
         }
     }
@@ -118,13 +114,20 @@ impl EventRows {
         event_life::shown(alloc, &self.all(alloc)?, t)
     }
 
-    /// Puts a row of the event. `before` becomes the one that was there. When memory runs out, the event has no rows.
-    fn put(&mut self, alloc: Global, row: &Row, before: &mut Option<Row>) -> Result<(), Oom>
-        requires { AreOf row.now.event self.old }
-        ensures before { OnOk result (before.new ≡ row_at self.old row.now.event row.now.zone) }
-        ensures put { OnOk result (self.new ≡ put row.now self.old) }
+    /// The rows of the event in these zones come to a life. When memory runs out, the event has no
+    /// rows.
+    fn put(&mut self, alloc: Global, event: &Event, life: &Life, zones: &[Zone]) -> Result<(), Oom>
+        requires { AreOf event.now self.old }
+        ensures { OnOk result (self.new ≡ put_each (rows_along event.now life.now zones.now) self.old) }
     {
-        match put_standing(alloc, &mut self.rows, &mut self.standing, row, before) {
+        match put_standing(
+            alloc,
+            &mut self.rows,
+            &mut self.standing,
+            event,
+            life,
+            zones,
+        ) {
             Ok(()) => Ok(()),
             Err(oom) => {
                 self.rows.clear();
@@ -180,7 +183,7 @@ impl<'a> RowsOf<'a> {
     }
 
     /// The life of the row of an event in a zone. `near` is a guess of its place.
-    fn life_at(&self, near: &mut usize, event: &Event, zone: &Zone) -> Option<&Life>
+    pub fn life_at(&self, near: &mut usize, event: &Event, zone: &Zone) -> Option<&Life>
         ensures { option_map (λ life. life.now) result ≡ option_map life_of (row_at self.now event.now zone.now) }
     {
         match self.rows {
@@ -264,53 +267,27 @@ pub fn has_period(held: &Held, t: Minute, event: &Event, period: &Period) -> boo
     }
 }
 
-/// Puts each of the rows, which are of the event, and keeps how far its rows reach.
-fn put_rows(
-    alloc: Global,
-    known: &mut EventRows,
-    reaches: &mut Reaches,
-    event: &Event,
-    rows: &[Row],
-) -> Result<(), Oom>
-    requires known { AreOf event.now known.old }
-    requires rows { AreOf event.now rows.now }
-    requires reached { AreReached reaches.old.keys known.old }
-    ensures rows { OnOk result (known.new ≡ put_each rows.now known.old) }
-    ensures reached { OnOk result (AreReached reaches.new.keys known.new) }
-    ensures grows { OnOk result (Grows reaches.old.keys reaches.new.keys) }
-{
-    let ranked = rank_of(&event.hazard).is_some();
-    let mut before = None;
-    let mut last = None;
-    for row in rows {
-        known.put(alloc, row, &mut before)?;
-        reach_row(reaches, &mut last, ranked, &before, row)?;
-    }
-    Ok(())
-}
-
-/// Puts rows of one event.
+/// Puts the rows of a run, and keeps how far they reach.
 pub fn put_held(
     alloc: Global,
     held: &mut Held,
     events: &mut Events,
     reaches: &mut Reaches,
-    event: &Event,
-    rows: &[Row],
+    run: &RowRun,
 ) -> Result<(), Oom>
-    requires known { AreOf event.now (list_at by_event held.old.entries event.now) }
-    requires rows { AreOf event.now rows.now }
-    requires reached { AreReached reaches.old.keys (list_at by_event held.old.entries event.now) }
-    ensures held { OnOk result (held.new.entries ≡ held_put event.now rows.now held.old.entries) }
-    ensures events { OnOk result (lists_of events.new.entries ≡ events_with (has_rows (list_at by_event held.old.entries event.now) event.now) event.now (lists_of events.old.entries)) }
-    ensures reached { OnOk result (AreReached reaches.new.keys (put_each rows.now (list_at by_event held.old.entries event.now))) }
+    requires { AreOf run.now.line.event (list_at by_event held.old.entries run.now.line.event) }
+    ensures held { OnOk result (held.new.entries ≡ held_put run.now.line.event (run_rows run.now) held.old.entries) }
+    ensures events { OnOk result (lists_of events.new.entries ≡ events_with (has_rows (list_at by_event held.old.entries run.now.line.event) run.now.line.event) run.now.line.event (lists_of events.old.entries)) }
+    ensures reached { OnOk result (AreReached reaches.new.keys (run_rows run.now)) }
     ensures grows { OnOk result (Grows reaches.old.keys reaches.new.keys) }
 {
+    let event = &run.line.event;
     let known = held
         .entry(EventKey { event: *event })?
         .or_insert(EventRows::new(alloc));
     put_event_of(alloc, events, known.has_rows(event), event)?;
-    put_rows(alloc, known, reaches, event, rows)
+    known.put(alloc, event, &run.left, run.zones.as_slice())?;
+    reach_each(reaches, event, &run.left, run.zones.as_slice())
 }
 
 /// The rows of all events that are shown at a minute, one event after another.

@@ -1,5 +1,5 @@
 //! The rows of an office's class, as the judging of its lines needs them.
-ghost use Rattle.std.specs.Prelude.{◌≡◌, ◌&&◌, not, true, false, nat_lt, [], List as Seq, Some, None, Option, filter, if◌then◌else◌, is_none, unwrap_or, IfOk, OnOk};
+ghost use Rattle.std.specs.Prelude.{◌≡◌, ◌&&◌, ◌++◌, ◌∷◌, not, true, false, nat_lt, [], List as Seq, Some, None, Option, filter, if◌then◌else◌, is_none, unwrap_or, IfOk, OnOk};
 ghost use Rattle.std.specs.List.{list_any};
 ghost use Rattle.hazard_types.specs.Hazards.{facts_of};
 ghost use Rattle.hazard_types.specs.declared.line.Line.{Line as LineValue};
@@ -14,20 +14,23 @@ ghost use Rattle.event_life.specs.Table.{breach_of_line};
 ghost use Rattle.row_index.specs.Holding.{AreNear, AreRowsOf};
 ghost use Rattle.row_index.specs.Numbers.{is_in_zone};
 ghost use Rattle.row_index.specs.Gathering.{AreGathered, least_of};
-ghost use Rattle.row_index.specs.Runs.{AreOfOne};
+ghost use Rattle.row_index.specs.Runs.{rows_in, rows_in_last, run_rows, IsLeft};
 ghost use Rattle.row_index.specs.Seating.{AreSeated, upgrades};
 ghost use Rattle.row_index.specs.Steps.{AreHigher, AreOver, IsAsked, IsChanged, around_new, around_joining, asked_around, latest_open, event_going, rows_left, put_each};
 
 use crate::held::{Held, RowsOf, all_shown, has_period, is_open, put_held, rows_of, seated};
 use crate::higher::{Changed, any_upgrades, is_overlapped, upgraded_by};
 use crate::live::{Zones, add_rows, lesser, needed, upgraded_ranks, upgraded_zones};
-use crate::look::{asks_alike, is_of, later_event, life_of, nothing_around, opens};
+use crate::look::{asks_alike, later_event, life_of, nothing_around, opens};
 use crate::numbers::{Events, Number, events_at, number_of};
 use crate::parts::HazardKey;
 use crate::reach::{Reaches, events_above};
+use crate::row_run::{RowRun, begin_run, begun, ended, join};
 use crate::seats::{Seated, all_rows, count_row};
 use crate::spoken::Spoken;
-use event_life::{Around, Breach, is_lawful, is_routine, is_upgrade, life_step, opened_period};
+use event_life::{
+    Around, Breach, Life, is_lawful, is_routine, is_upgrade, life_step, opened_period,
+};
 use hazard_types::{Action, Event, Line, List, Minute, Oom, Row, Vtec, Zone};
 use std::alloc::Global;
 use std::collections::{BTreeMap, BTreeSet};
@@ -279,7 +282,7 @@ impl RowIndex {
         requires around { around ≡ asked_around line.now.action self.now t line.now around.higher }
         ensures { result ≡ breach_of_line (life_at self.now line.now) line.now t (around_but_higher self.now t line.now around.higher) }
     {
-        let life = life_of(&self.own_row(rows, near, line));
+        let life = life_of(rows.life_at(near, &line.event, &line.zone));
         match life_step(life, line, t, around) {
             Ok(_life) => None,
             Err(breach) => Some(breach),
@@ -553,58 +556,50 @@ impl RowIndex {
         Ok(List::from_vec(found))
     }
 
-    /// Puts each of the rows, which are of one event.
-    fn put_of(self, alloc: Global, event: &Event, rows: &[Row]) -> Result<Self, Oom>
-        requires { AreOfOne (Some event.now) rows.now }
-        ensures { IfOk result (λ index. index ≡ put_each rows.now self) }
-    {
-        if rows.is_empty() {
-            return Ok(self);
-        }
-        let RowIndex {
-            mut held,
-            mut events,
-            mut reach,
-        } = self;
-        put_held(alloc, &mut held, &mut events, &mut reach, event, rows)?;
-        Ok(RowIndex {
-            held,
-            events,
-            reach,
-        })
-    }
-
-    /// Puts each of the rows, which are of one event if there are any.
-    fn put_run(self, alloc: Global, event: &Option<Event>, rows: &[Row]) -> Result<Self, Oom>
-        requires { AreOfOne event.now rows.now }
-        ensures { IfOk result (λ index. index ≡ put_each rows.now self) }
-    {
-        match event {
-            Some(event) => self.put_of(alloc, event, rows),
-            None => Ok(self),
-        }
-    }
-
-    /// Puts a run of rows of one event, unless a further row is of that event too. The run then has that row.
-    fn put_before(
-        self,
+    /// The run of the row that a lawful line leaves, which found this life. `rows` are its
+    /// event's, and `near` is a guess of the row's place among them.
+    fn run_of(
+        &self,
         alloc: Global,
-        event: &Option<Event>,
-        run: &mut Vec<Row>,
-        row: &Row,
-    ) -> Result<Self, Oom>
-        requires { AreOfOne event.now run.old.items }
-        ensures put { IfOk result (λ index. put_each run.new.items index ≡ put row.now (put_each run.old.items self)) }
-        ensures run { OnOk result (AreOfOne (Some row.now.event) run.new.items) }
+        rows: &RowsOf<'_>,
+        near: &mut usize,
+        t: Minute,
+        line: &Line,
+        found: Option<Life>,
+    ) -> Result<RowRun, Oom>
+        requires rows { AreRowsOf self.now line.now.event rows.now }
+        requires found { found ≡ life_at self.now line.now }
+        ensures rows { IfOk result (λ run. run_rows run ≡ row_after self.now t line.now ∷ []) }
+        ensures left { IfOk result (λ run. IsLeft t (Some run)) }
     {
-        if is_of(event, row) {
-            run.push(*row)?;
-            return Ok(self);
+        let row = self.row_after(rows, near, t, line);
+        begun(alloc, line, found, &row)
+    }
+
+    /// Adds the row that a lawful line leaves to the last run, or begins another. `rows` are the
+    /// line's event's, and `near` is a guess of its place among them.
+    fn put_left(
+        &self,
+        alloc: Global,
+        rows: &RowsOf<'_>,
+        near: &mut usize,
+        t: Minute,
+        line: &Line,
+        runs: &mut List<RowRun>,
+        last: &mut Option<RowRun>,
+    ) -> Result<(), Oom>
+        requires rows { AreRowsOf self.now line.now.event rows.now }
+        requires left { IsLeft t last.old }
+        ensures rows { OnOk result (rows_in runs.new ++ rows_in_last last.new ≡ (rows_in runs.old ++ rows_in_last last.old) ++ row_after self.now t line.now ∷ []) }
+        ensures left { OnOk result (IsLeft t last.new) }
+    {
+        let own = life_of(rows.life_at(near, &line.event, &line.zone));
+        let joined = join(last, &own, line)?;
+        if joined {
+            return Ok(());
         }
-        let index = self.put_run(alloc, event, run)?;
-        run.clear();
-        run.push(*row)?;
-        Ok(index)
+        let run = self.run_of(alloc, rows, near, t, line, own)?;
+        begin_run(runs, last, run)
     }
 
     /// The rows that the lawful lines of a product leave.
@@ -613,10 +608,11 @@ impl RowIndex {
         alloc: Global,
         t: Minute,
         judged: &[(Line, Option<Breach>)],
-    ) -> Result<List<Row>, Oom>
-        ensures { IfOk result (λ left. left ≡ rows_left self.now t (lawful_of judged.now)) }
+    ) -> Result<List<RowRun>, Oom>
+        ensures { IfOk result (λ runs. rows_in runs ≡ rows_left self.now t (lawful_of judged.now)) }
     {
-        let mut left = List::from_vec(Vec::with_capacity(alloc, judged.len())?);
+        let mut runs = List::new(alloc);
+        let mut last = None;
         let mut near = None;
         let mut rows = RowsOf::none();
         let mut place = 0;
@@ -624,24 +620,41 @@ impl RowIndex {
             rows = self.rows_near(&near, rows, &found.0.event);
             near = Some(found.0.event);
             if is_lawful(found) {
-                left.extend(&[self.row_after(&rows, &mut place, t, &found.0)])?;
+                self.put_left(alloc, &rows, &mut place, t, &found.0, &mut runs, &mut last)?;
             }
         }
-        Ok(left)
+        ended(runs, last)
     }
 
-    /// Puts each of the rows.
-    fn put_each(self, alloc: Global, rows: &[Row]) -> Result<Self, Oom>
-        ensures { IfOk result (λ index. index ≡ put_each rows.now self) }
+    /// Puts the rows of a run.
+    fn put_run(self, alloc: Global, run: &RowRun) -> Result<Self, Oom>
+        ensures { IfOk result (λ index. index ≡ put_each (run_rows run.now) self) }
+    {
+        if run.zones.as_slice().is_empty() {
+            return Ok(self);
+        }
+        let RowIndex {
+            mut held,
+            mut events,
+            mut reach,
+        } = self;
+        put_held(alloc, &mut held, &mut events, &mut reach, run)?;
+        Ok(RowIndex {
+            held,
+            events,
+            reach,
+        })
+    }
+
+    /// Puts the rows of each of the runs.
+    fn put_each(self, alloc: Global, runs: &[RowRun]) -> Result<Self, Oom>
+        ensures { IfOk result (λ index. index ≡ put_each (rows_in runs.now) self) }
     {
         let mut index = self;
-        let mut run = Vec::with_capacity(alloc, rows.len())?;
-        let mut event = None;
-        for row in rows {
-            index = index.put_before(alloc, &event, &mut run, row)?;
-            event = Some(row.event);
+        for run in runs {
+            index = index.put_run(alloc, run)?;
         }
-        index.put_run(alloc, &event, &run)
+        Ok(index)
     }
 
     /// The rows after a product whose lines were judged by these: each lawful line leaves its row, and no other line changes any.

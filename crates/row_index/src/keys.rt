@@ -28,7 +28,7 @@ pub fn add_counted<K: Ord + Drop>(keys: &mut BTreeSet<K>, counts: bool, key: K) 
 }
 
 /// Whether a key is counted that stands between two places, or at one of them.
-pub fn any_between<K: Ord + Drop>(counts: &BTreeMap<K, u32>, from: K, to: K) -> bool
+pub fn any_between<K: Ord + Drop>(counts: &BTreeMap<K, usize>, from: K, to: K) -> bool
     requires { IsLeBy K.cmp from to }
     ensures { result ≡ list_any (range_contains K.cmp (Included from) (Included to)) (keys_of counts.now.entries) }
 {

@@ -11,11 +11,11 @@ mod look;
 mod numbers;
 mod parts;
 mod reach;
+mod row_run;
 mod seats;
 mod shared;
 mod spoken;
 mod standing;
-mod zones;
 
 pub use index::RowIndex;
 pub use parts::EventKey;

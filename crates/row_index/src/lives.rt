@@ -1,12 +1,15 @@
 //! What lives have come to, by zone: zones share what is the same.
-ghost use Rattle.std.specs.Prelude.{◌≡◌, [], is_some, option_map, slice_get, IfOk, OnOk};
+ghost use Rattle.std.specs.Prelude.{◌≡◌, ◌<◌, ◌+◌, Bool, [], length, is_some, option_map, slice_get, IfOk, OnOk};
 ghost use Rattle.std.specs.BTreeMap.{insert_entry, is_at};
 ghost use Rattle.std.specs.List.Sorted.{IsStrictlySortedBy};
 ghost use Rattle.std.specs.Map.{keys_of, lookup, values_of};
 ghost use Rattle.hazard_types.specs.Places.{by_place};
 ghost use Rattle.event_life.specs.Products.{life_of};
-ghost use Rattle.row_index.specs.Sharing.{is_life, life_at, lives_of, lives_told, row_with, rows_with, AreShared, IsPlaced, IsThere};
+ghost use Rattle.event_life.specs.declared.life.Life.{Life as LifeValue};
+ghost use Rattle.row_index.specs.Sharing.{is_life, life_at, lives_of, lives_put, lives_told, row_with, rows_with, same_place, AreShared, IsPlaced, IsThere};
+ghost use Rattle.row_index.specs.Tallies.{one_of, owed, times, IsTallied};
 
+use crate::standing::Before;
 use event_life::Life;
 use hazard_types::{Event, List, Oom, Row, Zone};
 use std::alloc::Global;
@@ -43,23 +46,23 @@ fn life_of(row: &Row) -> Life
     }
 }
 
-/// Whether the life at a place, if there is one, is that of a row.
-fn is_life(lives: &[Life], place: u32, row: &Row) -> bool
-    ensures { result ≡ is_life (slice_get lives.now place) (life_of row.now) }
+/// Whether the life at a place, if there is one, is this one.
+fn is_life(lives: &[Life], place: u32, life: &Life) -> bool
+    ensures { result ≡ is_life (slice_get lives.now place) life.now }
 {
     match lives.get(place as usize) {
-        Some(found) => *found == life_of(row),
+        Some(found) => *found == *life,
         None => false,
     }
 }
 
-/// The row of an event in a zone, where the place of its life is known.
-fn row_at_place(event: &Event, zone: &Zone, lives: &[Life], place: &Option<u32>) -> Option<Row>
+/// The life at a place, if there is a place.
+fn life_there(lives: &[Life], place: &Option<u32>) -> Option<Life>
     requires { IsThere lives.now place.now }
-    ensures { result ≡ option_map (λ i. row_with event.now zone.now (life_at lives.now i)) place.now }
+    ensures { result ≡ option_map (life_at lives.now) place.now }
 {
     match place {
-        Some(place) => Some(row_with(event, zone, &lives[*place as usize])),
+        Some(place) => Some(lives[*place as usize]),
         None => None,
     }
 }
@@ -81,52 +84,166 @@ fn rows_at(
     Ok(rows)
 }
 
-/// The place of the life of a row, which comes behind the others unless it stands at `near`.
-fn place_with(lives: &mut Vec<Life>, near: u32, row: &Row) -> Result<u32, Oom>
-    ensures { IfOk result (λ place. IsPlaced lives.old.items lives.new.items place (life_of row.now)) }
+/// The place of a life, which comes behind the others unless it stands at `near`.
+fn place_with(lives: &mut Vec<Life>, near: u32, life: &Life) -> Result<u32, Oom>
+    ensures { IfOk result (λ place. IsPlaced lives.old.items lives.new.items place life.now) }
 {
-    if is_life(lives, near, row) {
+    if is_life(lives, near, life) {
         return Ok(near);
     }
     let Ok(place) = u32::try_from(lives.len()) else {
         return Err(Oom);
     };
-    lives.push(life_of(row))?;
+    lives.push(*life)?;
     Ok(place)
 }
 
-/// The place of the life of a row, which comes behind the others unless it stands at `near` or is the zone's own.
-fn place_for(lives: &mut Vec<Life>, seats: &Seats, near: u32, row: &Row) -> Result<u32, Oom>
-    ensures { IfOk result (λ place. IsPlaced lives.old.items lives.new.items place (life_of row.now)) }
+/// The place of a life, which comes behind the others unless it stands at `near` or is that of the
+/// zone.
+fn place_for(
+    lives: &mut Vec<Life>,
+    seats: &Seats,
+    near: u32,
+    zone: &Zone,
+    life: &Life,
+) -> Result<u32, Oom>
+    ensures { IfOk result (λ place. IsPlaced lives.old.items lives.new.items place life.now) }
 {
-    if is_life(lives, near, row) {
+    if is_life(lives, near, life) {
         return Ok(near);
     }
     let mut seat = 0;
-    match seats.get(&mut seat, &row.zone) {
-        Some(own) => place_with(lives, own, row),
-        None => place_with(lives, near, row),
+    match seats.get(&mut seat, zone) {
+        Some(own) => place_with(lives, own, life),
+        None => place_with(lives, near, life),
     }
 }
 
-/// Puts a row. `before` becomes the one that was there. Returns the place of its life.
-fn put_life(
+/// Adds what the lives of some zones had come to, if there are such zones.
+fn put_before(
+    befores: &mut Vec<Before>,
+    lives: &[Life],
+    place: &Option<u32>,
+    zones: usize,
+) -> Result<(), Oom>
+    requires { IsThere lives.now place.now }
+    ensures { OnOk result ((p : LifeValue → Bool) → owed p befores.new.items ≡ owed p befores.old.items + times zones (one_of p (option_map (life_at lives.now) place.now))) }
+{
+    if zones == 0 {
+        return Ok(());
+    }
+    let life = life_there(lives, place);
+    befores.push(Before { life, zones })?;
+    Ok(())
+}
+
+/// Whether two places are one, or there is none of both.
+fn same_place(a: &Option<u32>, b: &Option<u32>) -> bool
+    ensures { result ≡ same_place a.now b.now }
+{
+    match (a, b) {
+        (Some(a), Some(b)) => *a == *b,
+        (None, None) => true,
+        _ => false,
+    }
+}
+
+/// One zone more, whose life stood at this place, or which had none. `count` zones before it had
+/// the one at `last`.
+fn count_zone(
+    befores: &mut Vec<Before>,
+    lives: &[Life],
+    last: &mut Option<u32>,
+    count: &mut usize,
+    place: &Option<u32>,
+) -> Result<(), Oom>
+    requires last { IsThere lives.now last.old }
+    requires place { IsThere lives.now place.now }
+    ensures last { OnOk result (IsThere lives.now last.new) }
+    ensures counted { OnOk result ((p : LifeValue → Bool) → owed p befores.new.items + times count.new (one_of p (option_map (life_at lives.now) last.new)) ≡ owed p befores.old.items + times count.old (one_of p (option_map (life_at lives.now) last.old)) + one_of p (option_map (life_at lives.now) place.now)) }
+{
+    if same_place(last, place) {
+        let Some(more) = count.checked_add(1) else {
+            return Err(Oom);
+        };
+        *count = more;
+        return Ok(());
+    }
+    put_before(befores, lives, last, *count)?;
+    *last = *place;
+    *count = 1;
+    Ok(())
+}
+
+/// Zones come to name the life at a place. Returns what their lives had come to.
+fn seat_each(
+    alloc: Global,
+    lives: &[Life],
+    seats: &mut Seats,
+    place: u32,
+    zones: &[Zone],
+) -> Result<Vec<Before>, Oom>
+    requires shared { AreShared lives.now seats.old }
+    requires place { place < length lives.now }
+    ensures set { OnOk result (lives_told lives.now seats.new ≡ lives_put (life_at lives.now place) zones.now (lives_told lives.now seats.old)) }
+    ensures shared { OnOk result (AreShared lives.now seats.new) }
+    ensures before { IfOk result (λ befores. (p : LifeValue → Bool) → IsTallied p (values_of (lives_told lives.now seats.old)) (values_of (lives_told lives.now seats.new)) befores.items (length zones.now) (life_at lives.now place)) }
+{
+    let mut befores = Vec::new(alloc);
+    let mut last = None;
+    let mut count = 0;
+    let mut before = None;
+    for zone in zones {
+        seats.set(*zone, place, &mut before)?;
+        count_zone(&mut befores, lives, &mut last, &mut count, &before)?;
+    }
+    put_before(&mut befores, lives, &last, count)?;
+    Ok(befores)
+}
+
+/// A life is put in each of the zones.
+fn put_lives(
+    alloc: Global,
     lives: &mut Vec<Life>,
     seats: &mut Seats,
-    near: u32,
-    row: &Row,
-    before: &mut Option<Row>,
-) -> Result<u32, Oom>
+    near: &mut u32,
+    life: &Life,
+    zones: &[Zone],
+) -> Result<Vec<Before>, Oom>
+    requires { AreShared lives.old.items seats.old }
+    ensures set { OnOk result (lives_told lives.new.items seats.new ≡ lives_put life.now zones.now (lives_told lives.old.items seats.old)) }
+    ensures shared { OnOk result (AreShared lives.new.items seats.new) }
+    ensures before { IfOk result (λ befores. (p : LifeValue → Bool) → IsTallied p (values_of (lives_told lives.old.items seats.old)) (values_of (lives_told lives.new.items seats.new)) befores.items (length zones.now) life.now) }
+{
+    let Some(first) = zones.first() else {
+        return Ok(Vec::new(alloc));
+    };
+    let place = place_for(lives, seats, *near, first, life)?;
+    *near = place;
+    seat_each(alloc, lives, seats, place, zones)
+}
+
+/// Puts the life of a row. Returns its place.
+fn put_life(lives: &mut Vec<Life>, seats: &mut Seats, near: u32, row: &Row) -> Result<u32, Oom>
     requires { AreShared lives.old.items seats.old }
     ensures set { OnOk result (lives_told lives.new.items seats.new ≡ insert_entry by_place (lives_told lives.old.items seats.old) row.now.zone (life_of row.now)) }
-    ensures before { OnOk result (before.new ≡ option_map (row_with row.now.event row.now.zone) (lookup (is_at (by_place row.now.zone)) (lives_told lives.old.items seats.old))) }
     ensures shared { OnOk result (AreShared lives.new.items seats.new) }
 {
-    let place = place_for(lives, seats, near, row)?;
-    let mut old = None;
-    seats.set(row.zone, place, &mut old)?;
-    *before = row_at_place(&row.event, &row.zone, lives, &old);
+    let place = place_for(lives, seats, near, &row.zone, &life_of(row))?;
+    let mut before = None;
+    seats.set(row.zone, place, &mut before)?;
     Ok(place)
+}
+
+/// How many of the zones had no life.
+fn new_zones(befores: &[Before]) -> usize {
+    let mut count: usize = 0;
+    for before in befores {
+        if before.life.is_none() {
+            count = count.saturating_add(before.zones);
+        }
+    }
+    count
 }
 
 /// What lives have come to, by zone.
@@ -147,6 +264,7 @@ impl Model for LifeMap {
     ghost use Rattle.hazard_types.specs.Places.{Place};
     ghost use Rattle.event_life.specs.declared.life.Life.{Life};
     ghost use Rattle.event_life.specs.Products.{life_of};
+    ghost use Rattle.event_life.specs.declared.life.Life.{Life as LifeValue};
     ghost use Rattle.row_index.specs.Sharing.{lives_told, AreShared};
 
     ghost Value = { Seq (Place × Life) };
@@ -213,15 +331,40 @@ impl LifeMap {
         self.zones = 0;
     }
 
-    /// Puts a row. `before` becomes the one that was there. When memory runs out, there are none.
-    fn put(&mut self, row: &Row, before: &mut Option<Row>) -> Result<(), Oom>
-        ensures set { OnOk result (self.new ≡ insert_entry by_place self.old row.now.zone (life_of row.now)) }
-        ensures before { OnOk result (before.new ≡ option_map (row_with row.now.event row.now.zone) (lookup (is_at (by_place row.now.zone)) self.old)) }
+    /// A life is put in each of the zones. Returns what their lives had come to. When memory runs
+    /// out, there are none.
+    fn put_each(&mut self, alloc: Global, life: &Life, zones: &[Zone]) -> Result<Vec<Before>, Oom>
+        ensures set { OnOk result (self.new ≡ lives_put life.now zones.now self.old) }
+        ensures before { IfOk result (λ befores. (p : LifeValue → Bool) → IsTallied p (values_of self.old) (values_of self.new) befores.items (length zones.now) life.now) }
     {
-        match put_life(&mut self.lives, &mut self.seats, self.near, row, before) {
+        match put_lives(
+            alloc,
+            &mut self.lives,
+            &mut self.seats,
+            &mut self.near,
+            life,
+            zones,
+        ) {
+            Ok(befores) => {
+                self.zones = self.zones.saturating_add(new_zones(&befores));
+                Ok(befores)
+            }
+            Err(oom) => {
+                self.seats.clear();
+                self.zones = 0;
+                Err(oom)
+            }
+        }
+    }
+
+    /// Puts the life of a row, where memory that runs out leaves none.
+    fn put(&mut self, row: &Row) -> Result<(), Oom>
+        ensures { OnOk result (self.new ≡ insert_entry by_place self.old row.now.zone (life_of row.now)) }
+    {
+        match put_life(&mut self.lives, &mut self.seats, self.near, row) {
             Ok(place) => {
                 self.near = place;
-                self.zones = self.zones.saturating_add(before.is_none() as usize);
+                self.zones = self.zones.saturating_add(1);
                 Ok(())
             }
             Err(oom) => {
@@ -238,9 +381,8 @@ impl LifeMap {
         requires order { IsStrictlySortedBy by_place (keys_of (lives_of rows.now)) }
         ensures { OnOk result (self.new ≡ lives_of rows.now) }
     {
-        let mut before = None;
         for row in rows {
-            self.put(row, &mut before)?;
+            self.put(row)?;
         }
         Ok(())
     }
@@ -270,12 +412,19 @@ impl LifeMap {
         Ok(())
     }
 
-    /// Puts a row. `before` becomes the one that was there. When memory runs out, lives may be gone.
-    pub fn set(&mut self, alloc: Global, row: &Row, before: &mut Option<Row>) -> Result<(), Oom>
-        ensures set { OnOk result (self.new ≡ insert_entry by_place self.old row.now.zone (life_of row.now)) }
-        ensures before { OnOk result (before.new ≡ option_map (row_with row.now.event row.now.zone) (lookup (is_at (by_place row.now.zone)) self.old)) }
+    /// The lives of an event's zones come to this one. Returns what they had come to. When memory
+    /// runs out, lives may be gone.
+    pub fn set(
+        &mut self,
+        alloc: Global,
+        event: &Event,
+        life: &Life,
+        zones: &[Zone],
+    ) -> Result<Vec<Before>, Oom>
+        ensures set { OnOk result (self.new ≡ lives_put life.now zones.now self.old) }
+        ensures before { IfOk result (λ befores. (p : LifeValue → Bool) → IsTallied p (values_of self.old) (values_of self.new) befores.items (length zones.now) life.now) }
     {
-        self.settle(alloc, &row.event)?;
-        self.put(row, before)
+        self.settle(alloc, event)?;
+        self.put_each(alloc, life, zones)
     }
 }

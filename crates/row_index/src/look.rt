@@ -1,25 +1,49 @@
 //! What is read off a row or two, without a walk.
 ghost use Rattle.std.specs.Prelude.{◌≡◌, option_map};
 ghost use Rattle.event_life.specs.Lives.{opens};
-ghost use Rattle.event_life.specs.Products.{life_of, later_event};
-ghost use Rattle.row_index.specs.Runs.{is_of};
+ghost use Rattle.event_life.specs.Products.{later_event};
+ghost use Rattle.row_index.specs.Runs.{in_zone, is_alike, same_life};
 ghost use Rattle.row_index.specs.Steps.{asks_alike, nothing_around, stays};
 
 use event_life::{Around, Life, opened_period};
-use hazard_types::{Action, Event, Line, Minute, Row};
+use hazard_types::{Action, Event, Line, Minute, Zone};
 
-/// The life of a row.
-pub fn life_of(row: &Option<Row>) -> Option<Life>
-    ensures { result ≡ option_map life_of row.now }
+/// The same line of another zone.
+fn in_zone(line: &Line, zone: &Zone) -> Line
+    ensures { result ≡ in_zone line.now zone.now }
 {
-    match row {
-        Some(row) => Some(Life {
-            period: row.period,
-            flood: row.flood,
-            ended: row.ended,
-        }),
+    Line {
+        action: line.action,
+        event: line.event,
+        zone: *zone,
+        begin: line.begin,
+        end: line.end,
+        flood: line.flood,
+    }
+}
+
+/// Whether two lines differ in their zones alone.
+pub fn is_alike(a: &Line, b: &Line) -> bool
+    ensures { result ≡ is_alike a.now b.now }
+{
+    in_zone(a, &b.zone) == *b
+}
+
+/// A life, if there is one.
+pub fn life_of(life: Option<&Life>) -> Option<Life>
+    ensures { result ≡ option_map (λ l. l.now) life.entry }
+{
+    match life {
+        Some(life) => Some(*life),
         None => None,
     }
+}
+
+/// Whether two lives are one, or there is none of both.
+pub fn same_life(a: &Option<Life>, b: &Option<Life>) -> bool
+    ensures { result ≡ same_life a.now b.now }
+{
+    *a == *b
 }
 
 /// Of two events the one of the later year.
@@ -65,22 +89,12 @@ pub fn asks_alike(t: Minute, a: &Line, b: &Line) -> bool
     a.action == b.action && a.event == b.event && opened_period(a, t) == opened_period(b, t)
 }
 
-/// Whether a row stands as the one before did: no line has ended either, and they have one period.
-pub fn stays(before: &Option<Row>, row: &Row) -> bool
-    ensures { result ≡ stays before.now row.now }
+/// Whether a life stands as the one before did: no line has ended either, and they have one period.
+pub fn stays(before: &Option<Life>, life: &Life) -> bool
+    ensures { result ≡ stays before.now life.now }
 {
     match before {
-        Some(old) => old.period == row.period && !old.ended && !row.ended,
-        None => false,
-    }
-}
-
-/// Whether a row is of this event.
-pub fn is_of(event: &Option<Event>, row: &Row) -> bool
-    ensures { result ≡ is_of event.now row.now }
-{
-    match event {
-        Some(event) => *event == row.event,
+        Some(old) => old.period == life.period && !old.ended && !life.ended,
         None => false,
     }
 }

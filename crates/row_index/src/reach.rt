@@ -1,15 +1,17 @@
 //! How far the rows of each event reach in each area, where its hazard has a rank.
-ghost use Rattle.std.specs.Prelude.{◌≡◌, Some, is_some, filter, true, IfOk, OnOk};
+ghost use Rattle.std.specs.Prelude.{◌≡◌, ◌||◌, Some, is_none, filter, true, IfOk, OnOk};
 ghost use Rattle.std.specs.List.{list_any};
 ghost use Rattle.event_life.specs.Higher.{is_above};
-ghost use Rattle.row_index.specs.Reaching.{area_of, rank_of, reach_of, is_last, is_reached, lasts, is_above_any, is_area, with_spot, with_spots, AreTold, AreaTold, Grows, IsLast, Keeps, ReachedBefore};
+ghost use Rattle.row_index.specs.Reaching.{area_of, rank_of, is_reached, lasts, is_above_any, is_area, with_spot, with_spots, AreReached, AreTold, AreaTold, Grows, IsLast, Keeps};
+ghost use Rattle.row_index.specs.Runs.{rows_along};
+ghost use Rattle.row_index.specs.Sharing.{row_with};
 
 use crate::higher::{Rank, is_above, rank_of};
 use crate::keys::add_key;
-use crate::look::stays;
 use crate::parts::EventKey;
 use crate::seats::Spot;
-use hazard_types::{End, Event, Minute, Oom, Row, Zone};
+use event_life::Life;
+use hazard_types::{End, Event, Minute, Oom, Zone};
 use std::alloc::Global;
 use std::collections::BTreeSet;
 use std::collections::btree_set::Range;
@@ -34,54 +36,65 @@ fn area_of(zone: &Zone) -> u32
     letters * 64 + u32::from(zone.number()) / 16
 }
 
-/// The end of a row, in its area.
-fn reach_of(row: &Row) -> Reach
-    ensures { result ≡ reach_of row.now }
-{
-    let end = row.period.end;
-    let spot = Spot::At(EventKey { event: row.event });
-    Reach {
-        area: area_of(&row.zone),
-        end,
-        spot,
-    }
-}
-
-/// Whether a key is the one that was added last.
-fn is_last(last: &Option<Reach>, key: &Reach) -> bool
-    ensures { result ≡ is_last last.now key.now }
+/// Whether an area is the last.
+fn is_area(last: &Option<u32>, area: u32) -> bool
+    ensures { result ≡ is_area last.now area }
 {
     match last {
-        Some(other) => other.cmp(key).is_eq(),
+        Some(other) => *other == area,
         None => false,
     }
 }
 
-/// A row is put in the place of the one before, and its area reaches to its end, unless that did. `ranked` tells whether its hazard
-/// has a rank, and `last` is the key that was added last.
-pub fn reach_row(
+/// A zone's area reaches to the end of a life of an event, unless it is the one that did last.
+fn reach_zone(
     reaches: &mut Reaches,
-    last: &mut Option<Reach>,
-    ranked: bool,
-    before: &Option<Row>,
-    row: &Row,
+    last: &mut Option<u32>,
+    event: &Event,
+    life: &Life,
+    zone: &Zone,
 ) -> Result<(), Oom>
-    requires ranked { ranked ≡ is_some (rank_of row.now.event) }
-    requires last { IsLast last.old reaches.old.keys }
-    requires before { ReachedBefore reaches.old.keys before.now row.now }
-    ensures last { OnOk result (IsLast last.new reaches.new.keys) }
+    requires { IsLast event.now life.now last.old reaches.old.keys }
+    ensures last { OnOk result (IsLast event.now life.now last.new reaches.new.keys) }
     ensures grows { OnOk result (Grows reaches.old.keys reaches.new.keys) }
-    ensures reached { OnOk result (is_reached reaches.new.keys row.now ≡ true) }
+    ensures reached { OnOk result (is_reached reaches.new.keys (row_with event.now zone.now life.now) ≡ true) }
 {
-    if !ranked || row.ended || stays(before, row) {
+    let area = area_of(zone);
+    if is_area(last, area) {
         return Ok(());
     }
-    let key = reach_of(row);
-    if is_last(last, &key) {
+    let end = life.period.end;
+    let spot = Spot::At(EventKey { event: *event });
+    add_key(reaches, Reach { area, end, spot })?;
+    *last = Some(area);
+    Ok(())
+}
+
+/// Whether a line has ended a life of an event, or the event's hazard has no rank.
+fn is_idle(event: &Event, life: &Life) -> bool
+    ensures { result ≡ (life.now.ended || is_none (rank_of event.now)) }
+{
+    life.ended || rank_of(&event.hazard).is_none()
+}
+
+/// The areas of zones reach to the end of a life of an event, unless a line has ended that or its
+/// hazard has no rank.
+pub fn reach_each(
+    reaches: &mut Reaches,
+    event: &Event,
+    life: &Life,
+    zones: &[Zone],
+) -> Result<(), Oom>
+    ensures grows { OnOk result (Grows reaches.old.keys reaches.new.keys) }
+    ensures reached { OnOk result (AreReached reaches.new.keys (rows_along event.now life.now zones.now)) }
+{
+    if is_idle(event, life) {
         return Ok(());
     }
-    add_key(reaches, key)?;
-    *last = Some(key);
+    let mut last = None;
+    for zone in zones {
+        reach_zone(reaches, &mut last, event, life, zone)?;
+    }
     Ok(())
 }
 
@@ -137,16 +150,6 @@ fn add_events(
         add_event(events, ranks, &reach.spot)?;
     }
     Ok(())
-}
-
-/// Whether an area is the last.
-fn is_area(last: &Option<u32>, area: u32) -> bool
-    ensures { result ≡ is_area last.now area }
-{
-    match last {
-        Some(other) => *other == area,
-        None => false,
-    }
 }
 
 /// The same of an area, unless it is the one whose events were added last.

@@ -1,12 +1,14 @@
 //! The rows of one event, each at its zone, which share what their lives have come to.
-ghost use Rattle.std.specs.Prelude.{◌≡◌, [], option_map, slice_get, IfOk, OnOk};
-ghost use Rattle.std.specs.BTreeMap.{insert_entry, is_at};
-ghost use Rattle.std.specs.Map.{lookup, values_of};
-ghost use Rattle.hazard_types.specs.Places.{by_place};
+ghost use Rattle.std.specs.Prelude.{◌≡◌, Bool, [], length, option_map, slice_get, IfOk, OnOk};
+ghost use Rattle.std.specs.Map.{values_of};
 ghost use Rattle.event_life.specs.Products.{life_of, row_at};
+ghost use Rattle.event_life.specs.declared.life.Life.{Life as LifeValue};
+ghost use Rattle.row_index.specs.Sharing.{rows_put};
+ghost use Rattle.row_index.specs.Tallies.{AreTallied};
 ghost use Rattle.row_index.specs.Zoning.{AreOf, is_first_of};
 
 use crate::lives::LifeMap;
+use crate::standing::Before;
 use event_life::Life;
 use hazard_types::{Event, Oom, Row, Zone};
 use std::alloc::Global;
@@ -84,14 +86,21 @@ impl SharedRows {
         }
     }
 
-    /// Sets the row at its zone. `before` becomes the one that was there. When memory runs out, rows may be gone.
-    pub fn set(&mut self, alloc: Global, row: &Row, before: &mut Option<Row>) -> Result<(), Oom>
-        requires { AreOf row.now.event (values_of self.old) }
-        ensures set { OnOk result (self.new ≡ insert_entry by_place self.old row.now.zone row.now) }
-        ensures before { OnOk result (before.new ≡ lookup (is_at (by_place row.now.zone)) self.old) }
+    /// The rows of the event in these zones come to a life. Returns what their lives had come to.
+    /// When memory runs out, rows may be gone.
+    pub fn set(
+        &mut self,
+        alloc: Global,
+        event: &Event,
+        life: &Life,
+        zones: &[Zone],
+    ) -> Result<Vec<Before>, Oom>
+        requires { AreOf event.now (values_of self.old) }
+        ensures set { OnOk result (self.new ≡ rows_put event.now life.now zones.now self.old) }
+        ensures before { IfOk result (λ befores. (p : LifeValue → Bool) → AreTallied p (values_of self.old) (values_of self.new) befores.items (length zones.now) life.now) }
     {
-        self.event = Some(row.event);
-        self.lives.set(alloc, row, before)
+        self.event = Some(*event);
+        self.lives.set(alloc, event, life, zones)
     }
 
     /// There are no rows any more.

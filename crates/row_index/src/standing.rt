@@ -3,12 +3,12 @@ ghost use Rattle.std.specs.Prelude.{◌≡◌, ◌≤◌, ◌&&◌, ◌-◌, OnO
 ghost use Rattle.std.specs.List.{list_any};
 ghost use Rattle.std.specs.Map.{keys_of};
 ghost use Rattle.event_life.specs.Periods.{ends_after};
-ghost use Rattle.row_index.specs.Standings.{period_at, standing_of, lies, lies_from, open_from, same_from, same_to, count_at, with_count, one_less, one_more, restood};
+ghost use Rattle.row_index.specs.Standings.{period_at, standing_of, lies, lies_from, open_from, same_from, same_to, count_at, with_count, some_less, all_less, some_more, all_stay, restood, life_standing};
 
 use crate::keys::any_between;
 use crate::look::stays;
-use event_life::ends_after;
-use hazard_types::{End, Minute, Oom, Period, Row};
+use event_life::{Life, ends_after};
+use hazard_types::{End, Minute, Oom, Period};
 use std::collections::BTreeMap;
 
 /// A period of rows. Periods are in order by end, then begin.
@@ -19,15 +19,22 @@ pub struct Standing {
 }
 
 /// How many rows of an event that no line has ended have each period. A period that none of them has is not there.
-pub type Standings = BTreeMap<Standing, u32>;
+pub type Standings = BTreeMap<Standing, usize>;
 
-fn standing_of(row: &Row) -> Standing
-    ensures { result ≡ standing_of row.now }
+/// What the lives of zones had come to, or that these had none, and how many zones they are.
+#[derive(Clone, Copy)]
+pub struct Before {
+    pub life: Option<Life>,
+    pub zones: usize,
+}
+
+fn standing_of(life: &Life) -> Standing
+    ensures { result ≡ life_standing life.now }
 {
-    let end = row.period.end;
+    let end = life.period.end;
     Standing {
         end,
-        begin: row.period.begin,
+        begin: life.period.begin,
     }
 }
 
@@ -89,7 +96,7 @@ pub fn has_same_among(standings: &Standings, t: Minute, period: &Period) -> bool
 }
 
 /// How many rows stand with a period.
-fn count_at(standings: &Standings, period: &Standing) -> u32
+fn count_at(standings: &Standings, period: &Standing) -> usize
     ensures { result ≡ count_at standings.now.entries period.now }
 {
     match standings.get(period) {
@@ -99,7 +106,11 @@ fn count_at(standings: &Standings, period: &Standing) -> u32
 }
 
 /// Sets the count at a key, which is taken out where it is nought.
-fn set_count<K: Ord + Drop>(counts: &mut BTreeMap<K, u32>, key: K, count: u32) -> Result<(), Oom>
+fn set_count<K: Ord + Drop>(
+    counts: &mut BTreeMap<K, usize>,
+    key: K,
+    count: usize,
+) -> Result<(), Oom>
     ensures { OnOk result (counts.new.entries ≡ with_count K.cmp key count counts.old.entries) }
 {
     if count == 0 {
@@ -110,17 +121,17 @@ fn set_count<K: Ord + Drop>(counts: &mut BTreeMap<K, u32>, key: K, count: u32) -
     Ok(())
 }
 
-/// The row before stands no more, if there was one and no line had ended it.
-fn stand_less(standings: &mut Standings, before: &Option<Row>) -> Result<(), Oom>
-    ensures { OnOk result (standings.new.entries ≡ one_less before.now standings.old.entries) }
+/// So many rows with the life stand no more, if there is one and no line had ended it.
+fn stand_less(standings: &mut Standings, before: &Before) -> Result<(), Oom>
+    ensures { OnOk result (standings.new.entries ≡ some_less before.now standings.old.entries) }
 {
-    let Some(old) = before else {
+    let Some(old) = &before.life else {
         return Ok(());
     };
     if old.ended {
         return Ok(());
     }
-    let count = count_at(standings, &standing_of(old)).saturating_sub(1);
+    let count = count_at(standings, &standing_of(old)).saturating_sub(before.zones);
     let end = old.period.end;
     let period = Standing {
         end,
@@ -129,31 +140,56 @@ fn stand_less(standings: &mut Standings, before: &Option<Row>) -> Result<(), Oom
     set_count(standings, period, count)
 }
 
-/// A row stands, unless a line has ended it.
-fn stand_more(standings: &mut Standings, row: &Row) -> Result<(), Oom>
-    ensures { OnOk result (standings.new.entries ≡ one_more row.now standings.old.entries) }
+/// So many rows with the lives stand no more.
+fn stand_all_less(standings: &mut Standings, befores: &[Before]) -> Result<(), Oom>
+    ensures { OnOk result (standings.new.entries ≡ all_less befores.now standings.old.entries) }
 {
-    if row.ended {
+    for before in befores {
+        stand_less(standings, before)?;
+    }
+    Ok(())
+}
+
+/// So many rows with the life stand, unless a line has ended it.
+fn stand_more(standings: &mut Standings, zones: usize, life: &Life) -> Result<(), Oom>
+    ensures { OnOk result (standings.new.entries ≡ some_more zones life.now standings.old.entries) }
+{
+    if life.ended {
         return Ok(());
     }
-    let Some(count) = count_at(standings, &standing_of(row)).checked_add(1) else {
+    let Some(count) = count_at(standings, &standing_of(life)).checked_add(zones) else {
         return Err(Oom);
     };
-    let end = row.period.end;
+    let end = life.period.end;
     let period = Standing {
         end,
-        begin: row.period.begin,
+        begin: life.period.begin,
     };
     set_count(standings, period, count)
 }
 
-/// A row stands in the place of the one before, unless a line has ended it.
-pub fn restand(standings: &mut Standings, before: &Option<Row>, row: &Row) -> Result<(), Oom>
-    ensures { OnOk result (standings.new.entries ≡ restood before.now row.now standings.old.entries) }
+/// Whether all of so many zones had one life, which stands as this one does.
+fn all_stay(befores: &[Before], zones: usize, life: &Life) -> bool
+    ensures { result ≡ all_stay befores.now zones life.now }
 {
-    if stays(before, row) {
+    match befores {
+        [before] => before.zones == zones && stays(&before.life, life),
+        _ => false,
+    }
+}
+
+/// So many zones have come to a life, unless a line has ended that, from those that they had.
+pub fn restand(
+    standings: &mut Standings,
+    befores: &[Before],
+    zones: usize,
+    life: &Life,
+) -> Result<(), Oom>
+    ensures { OnOk result (standings.new.entries ≡ restood befores.now zones life.now standings.old.entries) }
+{
+    if all_stay(befores, zones, life) {
         return Ok(());
     }
-    stand_less(standings, before)?;
-    stand_more(standings, row)
+    stand_more(standings, zones, life)?;
+    stand_all_less(standings, befores)
 }

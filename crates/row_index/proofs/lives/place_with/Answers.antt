@@ -1,8 +1,7 @@
 -- The life stands at the place that is guessed.
 use Rattle.std.proofs.Common.{rules}
-use Rattle.event_life.specs.Products.{life_of}
 use Rattle.row_index.proofs.SharedRows.{placed-there}
 use Rattle.row_index.proofs.lives.place_with.Goals as goal
 
 pub returns-then-is_life : goal.returns-then-is_life
-returns-then-is_life c = placed-there c.args.lives.now.items c.args.near (life_of c.args.row.now) (search rules)
+returns-then-is_life c = placed-there c.args.lives.now.items c.args.near c.args.life.now (search rules)
