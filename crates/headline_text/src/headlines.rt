@@ -78,7 +78,8 @@ fn has_when(action: Action) -> bool
     )
 }
 
-/// The words of a line's period, which a headline and a WHEN bullet say. CAN, EXP, UPG and ROU say none, an empty text.
+/// The words of a line's period, which a headline and a WHEN bullet say.
+/// CAN, EXP, UPG and ROU say none, an empty text.
 fn said_period(alloc: Global, l: &SegLine, zone: LocalZone, t: Minute) -> Result<Text, Oom>
     ensures { IfOk result (λ text. text ≡ said_period l.now zone t) }
 {

@@ -91,8 +91,8 @@ fn put(out: &mut Text, column: usize, word: &[u8]) -> Result<usize, Oom>
     fill(out, first, word)
 }
 
-/// Whether the word that ends at `end` follows on the line of the one that ends at `to`, behind the one blank that parts
-/// them in the text.
+/// Whether the word that ends at `end` follows on the line of the one that ends at `to`,
+/// behind the one blank that parts them in the text.
 fn follows(text: &[u8], column: usize, to: usize, start: usize, end: usize) -> bool
     requires column { column ≤ 66 }
     requires to { to ≤ end }
