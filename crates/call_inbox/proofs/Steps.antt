@@ -1,5 +1,6 @@
 -- Reading, step by step, and what is told.
-use Rattle.std.proofs.Common.{◌≡◌, ℕ, List, [], refl, sym, ◌∙◌, append-nil, subst, Option, None, Some, IfNone}
+use Rattle.std.proofs.Common.{◌≡◌, ℕ, List, [], refl, sym, ◌∙◌, append-nil, subst, Option, None, Some}
+use Rattle.desk_links.specs.Links.{LinkState}
 use Rattle.desk_traits.specs.Streams.{Takes}
 use Rattle.call_inbox.specs.Next.{Tells}
 use Rattle.call_inbox.specs.Reading.{HasRead}
@@ -11,11 +12,13 @@ takes_none None = refl
 takes_none (Some rest) = refl
 
 -- nothing was read
-pub read_nothing : (bytes bytes' : List ℕ) (left left' : Option (List ℕ)) → bytes' ≡ bytes → left' ≡ left → HasRead bytes bytes' left left'
-read_nothing bytes bytes' left left' same kept = record {
+pub read_nothing : (bytes bytes' : List ℕ) (old new : LinkState) → bytes' ≡ bytes → new.input.left ≡ old.input.left → new.came ≡ old.came → new.output ≡ old.output → HasRead bytes bytes' old new
+read_nothing bytes bytes' old new same kept came output = record {
   read = [];
   stands = same ∙ sym (append-nil bytes);
-  takes = subst (λ (l : Option (List ℕ)). Takes left l []) (sym kept) (takes_none left);
+  takes = subst (λ (l : Option (List ℕ)). Takes old.input.left l []) (sym kept) (takes_none old.input.left);
+  came = came;
+  output = output;
 }
 
 -- what is told where less was known of the end and of faults
@@ -26,8 +29,3 @@ tells_more bytes ended failed ended' failed' Closed e f t = (t.0, t.1, e t.2)
 tells_more bytes ended failed ended' failed' Cut e f t = (t.0, t.1, e t.2)
 tells_more bytes ended failed ended' failed' LinkFault e f t = f t
 tells_more bytes ended failed ended' failed' OutOfMemory e f t = t
-
--- more follows where there is none
-pub none_more : {T : Type 0} (found : Option T) (P Q : Type 0) → (P → Q) → IfNone found P → IfNone found Q
-none_more None P Q f p = f p
-none_more (Some x) P Q f p = p

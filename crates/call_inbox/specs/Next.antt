@@ -1,5 +1,8 @@
 -- What is told of the next call of a link.
 use Rattle.std.specs.Prelude.{◌≡◌, ◌<◌, ℕ, List, [], length, ⊤}
+use Rattle.desk_links.specs.Links.{LinkState}
+use Rattle.desk_traits.specs.Faults.{Rose}
+use Rattle.desk_traits.specs.Streams.{IsAtEnd}
 use Rattle.warn_http.specs.Calls.{IsCall, IsRefused, IsUnfinished, IsWithin, posted_in}
 use Rattle.warn_http.specs.declared.read.HttpRead.TheVariants as read
 use Rattle.call_inbox.specs.declared.next.NextCall.{NextCall}
@@ -17,6 +20,10 @@ Tells bytes ended failed Closed = (bytes ≡ []) × IsUnfinished bytes × ended
 Tells bytes ended failed Cut = (0 < length bytes) × IsUnfinished bytes × ended
 Tells bytes ended failed LinkFault = failed
 Tells bytes ended failed OutOfMemory = ⊤
+
+-- what is told of the call at the front of the bytes, behind what was read of a link
+abbrev pub TellsOf : LinkState → LinkState → List ℕ → NextCall → Type 0
+TellsOf old new bytes next = Tells bytes (IsAtEnd new.input.left) (Rose old.input.faults new.input.faults) next
 
 -- a count of faults is as it was, but where a fault is told
 abbrev pub IsSteady : ℕ → ℕ → NextCall → Type 0

@@ -1,9 +1,12 @@
 -- What stands in the inbox of a link.
-use Rattle.std.specs.Prelude.{◌≡◌, ℕ, List, ◌++◌, Option}
+use Rattle.std.specs.Prelude.{◌≡◌, ℕ, List, ◌++◌}
+use Rattle.desk_links.specs.Links.{LinkState}
 use Rattle.desk_traits.specs.Streams.{Takes}
 
--- some bytes were taken from the link, where it tells what is left, and stand behind those that were there
-pub record HasRead (old new : List ℕ) (left left' : Option (List ℕ)) : Type 0 where
+-- some bytes were taken from the link, where it tells what is left, and stand behind those that were there; nothing was written on it
+pub record HasRead (bytes bytes' : List ℕ) (old new : LinkState) : Type 0 where
   pub read : List ℕ
-  pub stands : new ≡ old ++ read
-  pub takes : Takes left left' read
+  pub stands : bytes' ≡ bytes ++ read
+  pub takes : Takes old.input.left new.input.left read
+  pub came : new.came ≡ old.came
+  pub output : new.output ≡ old.output

@@ -1,10 +1,11 @@
 //! What was read from a link and not yet used.
 ghost use Rattle.std.specs.Prelude.{◌≡◌, ◌≤◌, ◌<◌, ◌+◌, ◌-◌, [], length, take, drop, IfOk, OnOk};
 ghost use Rattle.desk_traits.specs.Faults.{HasCause};
-ghost use Rattle.desk_traits.specs.Streams.{Reads, IsAtEnd};
+ghost use Rattle.desk_traits.specs.Streams.{IsAtEnd};
+ghost use Rattle.desk_links.specs.Links.{ReadsLink};
 ghost use Rattle.call_inbox.specs.Reading.{HasRead};
 
-use desk_links::Link;
+use desk_links::{Link, read_link};
 use desk_traits::Failed;
 use hazard_types::Oom;
 use std::alloc::Global;
@@ -57,7 +58,7 @@ impl Inbox {
         &self.buffer[self.start..self.end]
     }
 
-    /// Takes so many bytes away, from the front.
+    /// Removes the first `count` bytes.
     pub fn skip(&mut self, count: usize)
         requires { count ≤ length self.old }
         ensures { self.new ≡ drop count self.old }
@@ -73,14 +74,12 @@ impl Inbox {
     /// `Failed` where nothing was read; the link's count of faults rose.
     pub(crate) fn fill<L: Link>(&mut self, link: &mut L) -> Result<usize, Failed>
         requires { length self.old < 73728 }
-        ensures read { HasRead self.old self.new (L.Source.left link.old) (L.Source.left link.new) }
+        ensures read { HasRead self.old self.new (L.state link.old) (L.state link.new) }
         ensures count { IfOk result (λ n. length self.new ≡ length self.old + n) }
-        ensures end { IfOk result (λ n. n ≡ 0 → IsAtEnd (L.Source.left link.new)) }
-        ensures cause { HasCause (L.Source.faults link.old) (L.Source.faults link.new) result }
-        ensures steady { OnOk result (L.Source.faults link.new ≡ L.Source.faults link.old) }
-        ensures unwritten { L.Sink.taken link.new ≡ L.Sink.taken link.old }
-        ensures write_faults { L.Sink.faults link.new ≡ L.Sink.faults link.old }
-        ensures came { L.came link.new ≡ L.came link.old }
+        ensures end { IfOk result (λ n. n ≡ 0 → IsAtEnd (L.state link.new).input.left) }
+        ensures cause { HasCause (L.state link.old).input.faults (L.state link.new).input.faults result }
+        ensures steady { OnOk result
+            ((L.state link.new).input.faults ≡ (L.state link.old).input.faults) }
     {
         let (start, end) = places_with_room(self.buffer.as_mut_slice(), self.start, self.end);
         self.start = start;
@@ -114,10 +113,7 @@ fn read_behind<L: Link>(link: &mut L, buffer: &mut [u8], end: usize) -> Result<u
     requires { end < length buffer.old }
     ensures len { length buffer.new ≡ length buffer.old }
     ensures front { take end buffer.new ≡ take end buffer.old }
-    ensures bytes { Reads (L.Source.left link.old) (L.Source.left link.new) result (drop end buffer.new) }
-    ensures cause { HasCause (L.Source.faults link.old) (L.Source.faults link.new) result }
-    ensures steady { OnOk result (L.Source.faults link.new ≡ L.Source.faults link.old) }
-    ensures beside { L.Source.reads link.old link.new }
+    ensures read { ReadsLink (L.state link.old) (L.state link.new) result (drop end buffer.new) }
 {
-    link.read(&mut buffer[end..])
+    read_link(link, &mut buffer[end..])
 }

@@ -1,9 +1,7 @@
 //! The next call of a link.
 ghost use Rattle.std.specs.Prelude.{◌≡◌, ◌≤◌, ◌<◌, length, IfSome, IfNone, ⊤};
-ghost use Rattle.desk_traits.specs.Faults.{Rose};
-ghost use Rattle.desk_traits.specs.Streams.{IsAtEnd};
 ghost use Rattle.warn_http.specs.Calls.{IsUnfinished};
-ghost use Rattle.call_inbox.specs.Next.{Tells, IsSteady};
+ghost use Rattle.call_inbox.specs.Next.{IsSteady, Tells, TellsOf};
 ghost use Rattle.call_inbox.specs.Reading.{HasRead};
 
 use crate::inbox::Inbox;
@@ -65,15 +63,19 @@ fn next_when_due(
     requires { watch.old.seen ≤ length bytes.now }
     ensures some { IfSome result (Tells bytes.now ⊥ ⊥) }
     ensures room { IfNone result (length bytes.now < 73728) }
-    ensures seen { watch.new.seen ≡ length bytes.now }
+    ensures seen { IfNone result (watch.new.seen ≡ length bytes.now) }
 {
     unfinished_calls_are_short();
-    if watch.is_due(bytes) {
-        *watch = Watch::behind(bytes);
-        next_in(alloc, routes, bytes)
-    } else {
+    if !watch.is_due(bytes) {
         watch.seen = bytes.len();
-        None
+        return None;
+    }
+    match next_in(alloc, routes, bytes) {
+        Some(next) => Some(next),
+        None => {
+            *watch = Watch::behind(bytes);
+            None
+        }
     }
 }
 
@@ -85,13 +87,11 @@ pub fn next_call<L: Link>(
     inbox: &mut Inbox,
     link: &mut L,
 ) -> NextCall
-    ensures read { HasRead inbox.old inbox.new (L.Source.left link.old) (L.Source.left link.new) }
-    ensures next { Tells inbox.new (IsAtEnd (L.Source.left link.new)) (Rose (L.Source.faults link.old) (L.Source.faults link.new)) result }
-    ensures later { L.Source.faults link.old ≤ L.Source.faults link.new }
-    ensures steady { IsSteady (L.Source.faults link.old) (L.Source.faults link.new) result }
-    ensures unwritten { L.Sink.taken link.new ≡ L.Sink.taken link.old }
-    ensures write_faults { L.Sink.faults link.new ≡ L.Sink.faults link.old }
-    ensures came { L.came link.new ≡ L.came link.old }
+    ensures read { HasRead inbox.old inbox.new (L.state link.old) (L.state link.new) }
+    ensures next { TellsOf (L.state link.old) (L.state link.new) inbox.new result }
+    ensures later { (L.state link.old).input.faults ≤ (L.state link.new).input.faults }
+    ensures steady { IsSteady (L.state link.old).input.faults (L.state link.new).input.faults
+        result }
 {
     let mut watch = Watch::new();
     loop {

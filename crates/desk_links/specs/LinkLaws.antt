@@ -1,5 +1,17 @@
 -- The laws of a link that tells nothing of its bytes.
-use Rattle.std.proofs.Common.{◌≡◌, ℕ, List, Option, refl, ◌∙◌}
+use Rattle.std.proofs.Common.{◌≡◌, ℕ, None, refl, ap, ◌∙◌}
+use Rattle.desk_links.specs.Links.{DoorState, KeepsInput, KeepsOutput, LinkState, PortState, inflow, outflow}
+
+-- what it shows: how many of its reads and how many of its writes have failed
+abbrev pub untold : ℕ → ℕ → LinkState
+untold reads writes = record { came = None; input = inflow None reads; output = outflow None writes }
+
+-- a door over such links, and a port
+abbrev pub untold_door : ℕ → ℕ → ℕ → DoorState
+untold_door given returned faults = record { given = given; returned = returned; links = None; faults = faults }
+
+abbrev pub untold_port : ℕ → ℕ → PortState
+untold_port returned faults = record { returned = returned; links = None; numbers = None; faults = faults }
 
 pub count_same : (n : ℕ) → n ≡ n
 count_same n = refl
@@ -7,5 +19,8 @@ count_same n = refl
 pub count_kept : (old mid new : ℕ) → mid ≡ old → new ≡ mid → new ≡ old
 count_kept old mid new first second = second ∙ first
 
-pub untold_alone : (told : Option (List ℕ)) (old new : ℕ) → new ≡ old → (told ≡ told) × (new ≡ old) × (told ≡ told)
-untold_alone told old new kept = (refl, kept, refl)
+pub keeps_output : (reads reads' writes writes' : ℕ) → writes' ≡ writes → KeepsOutput (untold reads writes) (untold reads' writes')
+keeps_output reads reads' writes writes' kept = (ap (outflow None) kept, refl)
+
+pub keeps_input : (reads reads' writes writes' : ℕ) → reads' ≡ reads → KeepsInput (untold reads writes) (untold reads' writes')
+keeps_input reads reads' writes writes' kept = (ap (inflow None) kept, refl)

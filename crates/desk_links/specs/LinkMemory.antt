@@ -1,8 +1,8 @@
 -- What links, doors and ports in memory hold.
-use Rattle.std.proofs.Common.{◌≡◌, ◌⊎◌, ℕ, zero, suc, List, [], ◌∷◌, ◌++◌, length, drop, Bool, Some, refl, ◌∙◌, ap}
+use Rattle.std.proofs.Common.{◌≡◌, ◌⊎◌, ◌↔◌, ◌+◌, ◌-◌, ◌^◌, ℕ, zero, suc, List, [], ◌∷◌, ◌++◌, length, map, min, drop, Bool, Some, Result, IfOk, OnErr, IsErr, refl, ◌∙◌, ap}
 use Rattle.std.specs.Prelude.{Contains}
 use Rattle.desk_traits.specs.Faults.{next_count}
-use Rattle.desk_links.specs.Links.{IsNew, IsUnused, EndsIn}
+use Rattle.desk_links.specs.Links.{DoorState, EndsIn, IsNew, IsUnused, KeepsInput, KeepsOutput, LinkState, PortState, inflow, outflow}
 
 -- a link in memory: the bytes read and those left, the bytes written, the most that it gives at once, the calls that fail, how many were made, how many reads and how many writes failed, and whether memory has lacked for a write
 pub record LinkInMemory : Type 0 where
@@ -16,11 +16,17 @@ pub record LinkInMemory : Type 0 where
   pub write_faults : ℕ
   pub lacked : Bool
 
+-- what it shows
+abbrev pub link_state : LinkInMemory → LinkState
+link_state l =
+    record { came = Some (l.read ++ l.left); input = inflow (Some l.left) l.read_faults; output = outflow (Some l.written) l.write_faults }
+
 -- nothing was read of it or written on it, and it has not failed
 abbrev pub IsUntouched : LinkInMemory → Type 0
-IsUntouched l = IsNew (Some (l.read ++ l.left)) (Some l.left) (Some l.written) l.read_faults l.write_faults
+IsUntouched l = IsNew (link_state l)
 
--- a door in memory: the links that it has still to give, those given back to it, the accepts that fail, how many were made, how many failed, and how many links it gave
+-- a door or a dialer in memory: the links that it has still to give, those returned to it, the calls
+-- that fail, how many were made, how many failed, and how many links it gave
 pub record DoorInMemory : Type 0 where
   pub waiting : List LinkInMemory
   pub back : List LinkInMemory
@@ -33,6 +39,16 @@ pub record DoorInMemory : Type 0 where
 abbrev pub door_with : List LinkInMemory → List ℕ → DoorInMemory
 door_with links failing = record { waiting = links; back = []; failing = failing; calls = 0; faults = 0; given = 0 }
 
+-- a door to which a link was returned
+abbrev pub with_back : DoorInMemory → LinkInMemory → DoorInMemory
+with_back d link =
+    record { waiting = d.waiting; back = d.back ++ link ∷ []; failing = d.failing; calls = d.calls; faults = d.faults; given = d.given }
+
+-- a dialer that has failed so often more
+abbrev pub with_faults : DoorInMemory → ℕ → DoorInMemory
+with_faults d count =
+    record { waiting = d.waiting; back = d.back; failing = d.failing; calls = d.calls; faults = min (d.faults + count) (2 ^ 64 - 1); given = d.given }
+
 -- the first of the lists, or none
 abbrev pub first_list : List (List ℕ) → List ℕ
 first_list [] = []
@@ -43,13 +59,29 @@ abbrev pub doors_with : List (List LinkInMemory) → List (List ℕ) → List Do
 doors_with [] failing = []
 doors_with (links ∷ more) failing = door_with links (first_list failing) ∷ doors_with more (drop 1 failing)
 
+-- what it shows
+abbrev pub door_state : DoorInMemory → DoorState
+door_state d =
+    record { given = d.given; returned = length d.back; links = Some (map link_state d.back); faults = d.faults }
+
 -- a door that has given no link and taken none back, and has not failed
 abbrev pub IsIdle : DoorInMemory → Type 0
-IsIdle d = IsUnused d.given (length d.back) d.faults (Some d.back)
+IsIdle d = IsUnused (door_state d)
 
--- an accept that is to fail: its number is among the failing ones, or no link waits
-abbrev pub AcceptFails : DoorInMemory → Type 0
-AcceptFails d = Contains d.failing (next_count d.calls) ⊎ (d.waiting ≡ [])
+-- a call that is to fail: its number is among the failing ones, or no link waits
+abbrev pub LendFails : DoorInMemory → Type 0
+LendFails d = Contains d.failing (next_count d.calls) ⊎ (d.waiting ≡ [])
+
+-- One call for a link. It fails at exactly the calls that it was told and where no link is left, and
+-- gives the first of those left at the others.
+pub record Lends {E : Type 0} (old new : DoorInMemory) (result : Result LinkInMemory E) : Type 0 where
+  pub failing : IsErr result ↔ LendFails old
+  pub first : IfOk result (λ link. old.waiting ≡ link ∷ new.waiting)
+  pub stay : OnErr result (new.waiting ≡ old.waiting)
+  pub back : new.back ≡ old.back
+  pub counted : OnErr result (new.faults ≡ next_count old.faults)
+  pub called : new.calls ≡ next_count old.calls
+  pub same : new.failing ≡ old.failing
 
 -- a port in memory: the doors that it has still to give, the links taken back, door by door, the numbers at which it has listened, and how often its doors failed
 pub record PortInMemory : Type 0 where
@@ -62,6 +94,11 @@ pub record PortInMemory : Type 0 where
 abbrev pub all_links : List (List LinkInMemory) → List LinkInMemory
 all_links [] = []
 all_links (links ∷ more) = links ++ all_links more
+
+-- what it shows
+abbrev pub port_state : PortInMemory → PortState
+port_state p =
+    record { returned = length (all_links p.back); links = Some (map link_state (all_links p.back)); numbers = Some p.numbers; faults = p.faults }
 
 -- the first of the doors, or one without links
 abbrev pub first_door : List DoorInMemory → DoorInMemory
@@ -91,11 +128,20 @@ keeps_in_none l = record { read = refl; left = refl; faults = refl }
 pub keeps_in_more : (old mid new : LinkInMemory) → KeepsIn old mid → KeepsIn mid new → KeepsIn old new
 keeps_in_more old mid new a b = record { read = b.read ∙ a.read; left = b.left ∙ a.left; faults = b.faults ∙ a.faults }
 
-pub keeps_out : (old new : LinkInMemory) → KeepsOut old new → (Some new.written ≡ Some old.written) × (new.write_faults ≡ old.write_faults) × (Some (new.read ++ new.left) ≡ Some (old.read ++ old.left))
-keeps_out old new k = (ap (λ (l : List ℕ). Some l) k.written, k.faults, ap (λ (l : List ℕ). Some l) k.came)
+outflows : (taken taken' : List ℕ) (faults faults' : ℕ) → taken' ≡ taken → faults' ≡ faults → outflow (Some taken') faults' ≡ outflow (Some taken) faults
+outflows taken taken' faults faults' a b = ap (λ (l : List ℕ). outflow (Some l) faults') a ∙ ap (outflow (Some taken)) b
 
-pub keeps_in : (old new : LinkInMemory) → KeepsIn old new → (Some new.left ≡ Some old.left) × (new.read_faults ≡ old.read_faults) × (Some (new.read ++ new.left) ≡ Some (old.read ++ old.left))
-keeps_in old new k = (ap (λ (l : List ℕ). Some l) k.left, k.faults, ap (λ (l : List ℕ). Some l) (ap (λ (l : List ℕ). l ++ new.left) k.read ∙ ap (λ (l : List ℕ). old.read ++ l) k.left))
+inflows : (left left' : List ℕ) (faults faults' : ℕ) → left' ≡ left → faults' ≡ faults → inflow (Some left') faults' ≡ inflow (Some left) faults
+inflows left left' faults faults' a b = ap (λ (l : List ℕ). inflow (Some l) faults') a ∙ ap (inflow (Some left)) b
+
+pub keeps_output : (old new : LinkInMemory) → KeepsOut old new → KeepsOutput (link_state old) (link_state new)
+keeps_output old new k = (outflows old.written new.written old.write_faults new.write_faults k.written k.faults, ap (λ (l : List ℕ). Some l) k.came)
+
+pub keeps_input : (old new : LinkInMemory) → KeepsIn old new → KeepsInput (link_state old) (link_state new)
+keeps_input old new k = (
+  inflows old.left new.left old.read_faults new.read_faults k.left k.faults,
+  ap (λ (l : List ℕ). Some l) (ap (λ (l : List ℕ). l ++ new.left) k.read ∙ ap (λ (l : List ℕ). old.read ++ l) k.left),
+)
 
 pub ends_in : (l : LinkInMemory) → EndsIn (Some (l.read ++ l.left)) (Some l.left)
 ends_in l = (l.read, l.left, refl, refl)

@@ -1,16 +1,17 @@
 //! A dialer in memory, which gives the links that it was made with.
-ghost use Rattle.std.specs.Prelude.{◌≡◌, ◌⊎◌, ◌≤◌, ◌<◌, ◌+◌, ◌-◌, ◌^◌, ◌↔◌, ◌∷◌, [], All, length, min, Some, Contains, IfOk, OnOk, OnErr, IsErr};
+ghost use Rattle.std.specs.Prelude.{◌≡◌, ◌⊎◌, ◌<◌, ◌+◌, ◌++◌, ◌∷◌, ◌^◌, ◌↔◌, [], All, length, min, Some, Contains, IfOk, OnOk, OnErr, IsErr};
 ghost use Rattle.desk_traits.specs.Faults.{HasCause, next_count};
-ghost use Rattle.desk_traits.specs.Streams.{Reads, Writes};
-ghost use Rattle.desk_links.specs.LinkMemory.{IsUntouched, AcceptFails, KeepsOut, KeepsIn, door_with};
+ghost use Rattle.desk_traits.specs.Streams.{Reads};
+ghost use Rattle.desk_links.specs.Links.{GivesLink, with_count};
+ghost use Rattle.desk_links.specs.LinkMemory.{IsUntouched, KeepsIn, KeepsOut, Lends, door_state, door_with, link_state};
 
 use crate::dialer::{Dialer, Peer};
+use crate::lent::LentLinks;
 use crate::link::Link;
 use crate::link_memory::MemLink;
 use desk_traits::{Failed, Sink, Source};
 use hazard_types::{List, Oom, Text};
 use std::alloc::Global;
-use std::collections::VecDeque;
 use std::marker::Model;
 
 /// A link in memory whose reads fail where its bytes end.
@@ -89,116 +90,87 @@ impl Sink for MemPeer {
 }
 
 impl Link for MemPeer {
-    ghost use Rattle.std.specs.Prelude.{◌++◌, Some};
-    ghost use Rattle.desk_links.specs.LinkMemory.{keeps_out, keeps_in, ends_in};
+    ghost use Rattle.std.specs.Prelude.{refl};
+    ghost use Rattle.desk_links.specs.LinkMemory.{ends_in, keeps_input, keeps_output, link_state};
 
-    ghost came = { λ p. Some (p.read ++ p.left) };
+    ghost state = { link_state };
 
-    ghost reads_alone = { keeps_out };
+    ghost shows_input = { λ _. refl };
 
-    ghost writes_alone = { keeps_in };
+    ghost shows_output = { λ _. refl };
+
+    ghost reads_alone = { keeps_output };
+
+    ghost writes_alone = { keeps_input };
 
     ghost told_whole = { ends_in };
 }
 
 impl Peer for MemPeer {
-    fn hear(&mut self, into: &mut [u8]) -> Result<usize, Failed> {
+    fn read_some(&mut self, into: &mut [u8]) -> Result<usize, Failed> {
         self.read(into)
     }
 }
 
 /// A dialer that gives its links in order. It fails at the dials that it was told, and where it has
-/// no link left. The list in which the links come back has room for all of them.
+/// no link left.
 #[derive(Drop)]
 pub struct MemDialer {
-    waiting: VecDeque<MemPeer>,
-    back: Vec<MemPeer>,
-    failing: List<u64>,
-    calls: u64,
-    faults: u64,
-    given: u64,
+    links: LentLinks,
 }
 
 impl Model for MemDialer {
-    ghost use Rattle.std.specs.Prelude.{◌≤◌, ◌+◌, All, length, vec_capacity};
-    ghost use Rattle.desk_links.specs.LinkMemory.{DoorInMemory, IsUntouched};
+    ghost use Rattle.desk_links.specs.LinkMemory.{DoorInMemory};
 
     ghost Value = { DoorInMemory };
 
-    ghost view = { λ d. record { waiting = d.waiting.items; back = d.back.items; failing = d.failing; calls = d.calls; faults = d.faults; given = d.given } };
-
-    ghost invariant = { λ d. (d.given + length d.waiting.items ≤ vec_capacity d.back) × All IsUntouched d.waiting.items };
+    ghost view = { λ d. d.links };
 }
 
 impl MemDialer {
     /// A dialer of these links. The dials whose numbers, counted from 1, are among the failing ones
     /// answer `Failed`, and each for which no link is left.
-    pub fn new(alloc: Global, links: List<MemPeer>, failing: &List<u64>) -> Result<Self, Oom>
+    pub fn new(alloc: Global, links: List<MemLink>, failing: &List<u64>) -> Result<Self, Oom>
         requires { All IsUntouched links }
         ensures { IfOk result (λ dialer. dialer ≡ door_with links failing.now) }
     {
-        let back = Vec::with_capacity(alloc, links.len())?;
+        let failing = failing.clone()?;
         Ok(MemDialer {
-            waiting: VecDeque::from_vec(links.into_vec()),
-            back,
-            failing: failing.clone()?,
-            calls: 0,
-            faults: 0,
-            given: 0,
+            links: LentLinks::new(alloc, links, failing)?,
         })
     }
 
-    /// The links given back, in order.
-    pub fn links(&self) -> &[MemPeer]
+    /// The links returned, in order.
+    pub fn links(&self) -> &[MemLink]
         ensures { result.now ≡ self.now.back }
     {
-        &self.back
+        self.links.back()
     }
 }
 
 impl Dialer for MemDialer {
     type Link = MemPeer;
 
-    ghost faults = { λ d. d.faults };
-
-    ghost given = { λ d. d.given };
-
-    ghost returned = { λ d. length d.back };
-
-    ghost links = { λ d. Some d.back };
+    ghost state = { door_state };
 
     fn dial(&mut self) -> Result<MemPeer, Failed>
         requires none_out { self.old.given ≡ length self.old.back }
         requires few { length self.old.back < 2 ^ 32 }
-        ensures new { IfOk result IsUntouched }
-        ensures given { OnOk result (self.new.given ≡ self.old.given + 1) }
-        ensures kept { OnErr result (self.new.given ≡ self.old.given) }
-        ensures back { self.new.back ≡ self.old.back }
-        ensures cause { HasCause self.old.faults self.new.faults result }
-        ensures steady { OnOk result (self.new.faults ≡ self.old.faults) }
-        ensures counted { OnErr result (self.new.faults ≡ next_count self.old.faults) }
-
-        // It fails at exactly the listed dials and where no link is left, and gives the first of those left at the others.
-        ensures failing { IsErr result ↔ AcceptFails self.old }
-        ensures first { IfOk result (λ link. self.old.waiting ≡ link ∷ self.new.waiting) }
-        ensures stay { OnErr result (self.new.waiting ≡ self.old.waiting) }
-        ensures called { self.new.calls ≡ next_count self.old.calls }
-        ensures same { self.new.failing ≡ self.old.failing }
+        ensures gives { GivesLink link_state (door_state self.old) (door_state self.new) result }
+        ensures lends { Lends self.old self.new result }
     {
-        self.calls = self.calls.saturating_add(1);
-        if !self.failing.as_slice().contains(&self.calls) {
-            if let Some(link) = self.waiting.pop_front() {
-                self.given += 1;
-                return Ok(link);
-            }
-        }
-        self.faults = self.faults.saturating_add(1);
-        Err(Failed)
+        let link = self.links.lend()?;
+        Ok(MemPeer { link })
     }
 
-    fn back(&mut self, link: MemPeer) {
+    fn return_link(&mut self, link: MemPeer)
+        requires one_out { self.old.given ≡ length self.old.back + 1 }
+        ensures counted { door_state self.new ≡ with_count (door_state self.old) (link_state link) }
+        ensures back { self.new.back ≡ self.old.back ++ link ∷ [] }
+        ensures given { self.new.given ≡ self.old.given }
+    {
         let count = link.link.all_faults();
-        self.faults = self.faults.saturating_add(count);
-        self.back.push_reserved(link);
+        self.links.add_faults(count);
+        self.links.take_back(link.link);
     }
 }

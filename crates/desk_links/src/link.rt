@@ -1,21 +1,55 @@
 //! A link: what comes in and what goes out, each by itself.
-ghost use Rattle.std.specs.Prelude.{◌≡◌, ℕ, List, Option};
-ghost use Rattle.desk_links.specs.Links.{EndsIn};
+ghost use Rattle.std.specs.Prelude.{◌≡◌};
+ghost use Rattle.desk_links.specs.Links.{EndsIn, KeepsInput, KeepsOutput, LinkState, ReadsLink, WritesLink, inflow, outflow};
 
-use desk_traits::{Sink, Source};
+use desk_traits::{Failed, Sink, Source, write_whole};
 
 /// A source and a sink that leave one another alone. Its count of faults is the sum of the two: of
 /// the reads that failed, and of the writes.
 pub trait Link: Source + Sink {
-    /// The bytes that came, those read and those left, where the link tells them.
-    ghost came: { Self → Option (List ℕ) };
+    /// What it shows.
+    ghost state: { Self → LinkState };
 
-    /// A read keeps what was written, the faults of the writes, and what came.
-    ghost reads_alone: { (old new : Self) → Self.Source.reads old new → (Self.Sink.taken new ≡ Self.Sink.taken old) × (Self.Sink.faults new ≡ Self.Sink.faults old) × (came new ≡ came old) };
+    /// It shows what it shows as a source,
+    ghost shows_input: { (link : Self)
+        → (state link).input ≡ inflow (Self.Source.left link) (Self.Source.faults link) };
 
-    /// Writes keep what is left to read, the faults of the reads, and what came.
-    ghost writes_alone: { (old new : Self) → Self.Sink.writes old new → (Self.Source.left new ≡ Self.Source.left old) × (Self.Source.faults new ≡ Self.Source.faults old) × (came new ≡ came old) };
+    /// and what it shows as a sink.
+    ghost shows_output: { (link : Self)
+        → (state link).output ≡ outflow (Self.Sink.taken link) (Self.Sink.faults link) };
+
+    /// A read leaves the sink alone,
+    ghost reads_alone: { (old new : Self)
+        → Self.Source.reads old new → KeepsOutput (state old) (state new) };
+
+    /// and writes the source.
+    ghost writes_alone: { (old new : Self)
+        → Self.Sink.writes old new → KeepsInput (state old) (state new) };
 
     /// What is left is the end of what came.
-    ghost told_whole: { (link : Self) → EndsIn (came link) (Self.Source.left link) };
+    ghost told_whole: { (link : Self) → EndsIn (state link).came (state link).input.left };
+}
+
+/// Reads up to `into.len()` bytes of a link into the start of `into`, and returns how many. 0 for a
+/// buffer that has room means the end of what came.
+///
+/// # Errors
+///
+/// `Failed` where nothing was read; the count of the reads' faults rose.
+pub fn read_link<L: Link>(link: &mut L, into: &mut [u8]) -> Result<usize, Failed>
+    ensures { ReadsLink (L.state link.old) (L.state link.new) result into.new }
+{
+    link.read(into)
+}
+
+/// Writes all of `bytes` on a link.
+///
+/// # Errors
+///
+/// `Failed` where a write failed; the count of the writes' faults rose. A part of `bytes`, from its
+/// start on, may have been written.
+pub fn write_link<L: Link>(link: &mut L, bytes: &[u8]) -> Result<(), Failed>
+    ensures { WritesLink (L.state link.old) (L.state link.new) result bytes.now }
+{
+    write_whole(link, bytes)
 }

@@ -1,5 +1,5 @@
 //! A link in memory, which fails at exactly the calls that it is told.
-ghost use Rattle.std.specs.Prelude.{◌≡◌, ◌≤◌, ◌+◌, ◌-◌, ◌^◌, ◌↔◌, ◌++◌, length, min, Some, IfOk, OnOk, OnErr, IsErr, IsTrue, Contains, [], false};
+ghost use Rattle.std.specs.Prelude.{◌≡◌, ◌≤◌, ◌+◌, ◌-◌, ◌^◌, ◌↔◌, length, min, Some, IfOk, OnOk, OnErr, IsErr, IsTrue, Contains, [], false};
 ghost use Rattle.desk_traits.specs.Faults.{HasCause, next_count};
 ghost use Rattle.desk_traits.specs.Streams.{Reads, Writes};
 ghost use Rattle.desk_traits.specs.StreamMemory.{FailsAsTold};
@@ -163,13 +163,18 @@ impl Sink for MemLink {
 }
 
 impl Link for MemLink {
-    ghost use Rattle.desk_links.specs.LinkMemory.{keeps_out, keeps_in, ends_in};
+    ghost use Rattle.std.specs.Prelude.{refl};
+    ghost use Rattle.desk_links.specs.LinkMemory.{ends_in, keeps_input, keeps_output, link_state};
 
-    ghost came = { λ l. Some (l.read ++ l.left) };
+    ghost state = { link_state };
 
-    ghost reads_alone = { keeps_out };
+    ghost shows_input = { λ _. refl };
 
-    ghost writes_alone = { keeps_in };
+    ghost shows_output = { λ _. refl };
+
+    ghost reads_alone = { keeps_output };
+
+    ghost writes_alone = { keeps_input };
 
     ghost told_whole = { ends_in };
 }

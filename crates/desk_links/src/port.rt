@@ -1,8 +1,7 @@
 //! A port with doors, each of which gives one link at a time.
-ghost use Rattle.std.specs.Prelude.{◌≡◌, ◌≤◌, ◌<◌, ◌+◌, ◌-◌, ◌^◌, ℕ, List as Seq, Option, All, length, min, IfOk, OnOk, OnErr};
-ghost use Rattle.desk_traits.specs.Faults.{HasCause, Rose};
-ghost use Rattle.desk_links.specs.Links.{IsNew, IsUnused, behind, with_one};
-ghost use Rattle.desk_links.specs.Listening.{MayFail};
+ghost use Rattle.std.specs.Prelude.{◌≡◌, ◌<◌, ◌+◌, ◌^◌};
+ghost use Rattle.desk_links.specs.Links.{DoorState, GivesLink, PortState, with_door, with_link};
+ghost use Rattle.desk_links.specs.Listening.{Listens};
 
 use crate::link::Link;
 use desk_traits::Failed;
@@ -12,17 +11,8 @@ use hazard_types::{List, Or};
 pub trait Door {
     type Link: Link + Send;
 
-    /// How many accepts have failed.
-    ghost faults: { Self → ℕ };
-
-    /// How many links it has given,
-    ghost given: { Self → ℕ };
-
-    /// and how many were given back to it.
-    ghost returned: { Self → ℕ };
-
-    /// The links given back, as they then stood, in order, where the door tells them.
-    ghost links: { Self → Option (Seq Self.Link) };
+    /// What it shows: the links given and returned, and how many accepts have failed.
+    ghost state: { Self → DoorState };
 
     /// A link of which nothing was read and on which nothing was written.
     ///
@@ -30,40 +20,23 @@ pub trait Door {
     ///
     /// `Failed` where no link came; the count of faults rose.
     fn accept(&mut self) -> Result<Self::Link, Failed>
-        requires none_out { given self.old ≡ returned self.old }
-        requires few { returned self.old < 2 ^ 32 }
-        ensures new { IfOk result (λ link. IsNew (Self.Link.came link) (Self.Link.left link) (Self.Link.taken link) (Self.Link.Source.faults link) (Self.Link.Sink.faults link)) }
-        ensures given { OnOk result (given self.new ≡ given self.old + 1) }
-        ensures kept { OnErr result (given self.new ≡ given self.old) }
-        ensures returned { returned self.new ≡ returned self.old }
-        ensures links { links self.new ≡ links self.old }
-        ensures cause { HasCause (faults self.old) (faults self.new) result }
-        ensures steady { OnOk result (faults self.new ≡ faults self.old) };
+        requires none_out { (state self.old).given ≡ (state self.old).returned }
+        requires few { (state self.old).returned < 2 ^ 32 }
+        ensures { GivesLink Self.Link.state (state self.old) (state self.new) result };
 
     /// Takes a link back. It takes no memory and can't be refused.
-    fn back(&mut self, link: Self::Link)
-        requires one_out { given self.old ≡ returned self.old + 1 }
-        ensures returned { returned self.new ≡ returned self.old + 1 }
-        ensures links { links self.new ≡ with_one (links self.old) link }
-        ensures given { given self.new ≡ given self.old }
-        ensures faults { faults self.new ≡ faults self.old };
+    fn return_link(&mut self, link: Self::Link)
+        requires one_out { (state self.old).given ≡ (state self.old).returned + 1 }
+        ensures { state self.new ≡ with_link (state self.old) (Self.Link.state link) };
 }
 
 /// Gives doors, and takes each back.
 pub trait Port {
     type Door: Door + Send + Drop;
 
-    /// How often it and the doors that came back have failed.
-    ghost faults: { Self → ℕ };
-
-    /// How many links the doors that came back had taken back,
-    ghost returned: { Self → ℕ };
-
-    /// and these links, door by door, where the port tells them.
-    ghost links: { Self → Option (Seq Self.Door.Link) };
-
-    /// The numbers at which it has listened, in order, where the port tells them.
-    ghost numbers: { Self → Option (Seq ℕ) };
+    /// What it shows: the links that came back with their doors, the numbers at which it has
+    /// listened, and how often it and these doors have failed.
+    ghost state: { Self → PortState };
 
     /// So many doors at the port of this number, none of which was used.
     ///
@@ -71,22 +44,11 @@ pub trait Port {
     ///
     /// `No(Failed)` where the port can't be had; the count of faults rose. `OutOfMemory`.
     fn listen(&mut self, port: u16, doors: usize) -> Result<List<Self::Door>, Or<Failed>>
-        ensures count { IfOk result (λ list. length list ≡ doors) }
-        ensures unused { IfOk result (λ list. All (λ door. IsUnused (Self.Door.given door) (Self.Door.returned door) (Self.Door.faults door) (Self.Door.links door)) list) }
-        ensures later { faults self.old ≤ faults self.new }
-        ensures cause { MayFail (Rose (faults self.old) (faults self.new)) result }
-        ensures steady { OnOk result (faults self.new ≡ faults self.old) }
-        ensures returned { returned self.new ≡ returned self.old }
-        ensures links { links self.new ≡ links self.old }
-        ensures numbers { OnOk result (numbers self.new ≡ with_one (numbers self.old) port) }
-        ensures kept { OnErr result (numbers self.new ≡ numbers self.old) };
+        ensures { Listens Self.Door.state (state self.old) (state self.new) port doors result };
 
     /// Takes a door back, with its count and its links. It takes no memory and can't be refused.
-    fn back(&mut self, door: Self::Door)
-        requires none_out { Self.Door.given door ≡ Self.Door.returned door }
-        requires few { returned self.old + Self.Door.returned door < 2 ^ 32 }
-        ensures faults { faults self.new ≡ min (faults self.old + Self.Door.faults door) (2 ^ 64 - 1) }
-        ensures returned { returned self.new ≡ returned self.old + Self.Door.returned door }
-        ensures links { links self.new ≡ behind (links self.old) (Self.Door.links door) }
-        ensures numbers { numbers self.new ≡ numbers self.old };
+    fn return_door(&mut self, door: Self::Door)
+        requires none_out { (Self.Door.state door).given ≡ (Self.Door.state door).returned }
+        requires few { (state self.old).returned + (Self.Door.state door).returned < 2 ^ 32 }
+        ensures { state self.new ≡ with_door (state self.old) (Self.Door.state door) };
 }

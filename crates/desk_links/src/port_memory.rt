@@ -1,10 +1,11 @@
 //! A port in memory, whose doors give the links that it was made with.
-ghost use Rattle.std.specs.Prelude.{◌≡◌, ◌≤◌, ◌<◌, ◌+◌, ◌-◌, ◌^◌, ◌↔◌, ◌++◌, ◌∷◌, [], ℕ, All, length, drop, min, Some, Contains, IfOk, OnOk, OnErr, IsErr};
-ghost use Rattle.desk_traits.specs.Faults.{HasCause, Rose, next_count};
-ghost use Rattle.desk_links.specs.Links.{IsNew, IsUnused, behind, with_one};
+ghost use Rattle.std.specs.Prelude.{◌≡◌, ◌≤◌, ◌<◌, ◌+◌, ◌-◌, ◌^◌, ◌++◌, ◌∷◌, [], All, length, drop, min, IfOk, OnOk, OnErr};
+ghost use Rattle.desk_traits.specs.Faults.{Rose};
+ghost use Rattle.desk_links.specs.Links.{GivesLink};
 ghost use Rattle.desk_links.specs.Listening.{MayFail};
-ghost use Rattle.desk_links.specs.LinkMemory.{IsUntouched, AcceptFails, all_links, doors_with, door_with, dealt, first_list, first_door, IsIdle};
+ghost use Rattle.desk_links.specs.LinkMemory.{IsIdle, IsUntouched, Lends, all_links, dealt, door_state, door_with, doors_with, first_door, first_list, link_state, port_state, with_back};
 
+use crate::lent::LentLinks;
 use crate::link_memory::MemLink;
 use crate::port::{Door, Port};
 use desk_traits::Failed;
@@ -14,28 +15,22 @@ use std::collections::{LinkedList, VecDeque};
 use std::marker::Model;
 
 /// A door that gives its links in order. It fails at the accepts that it was told, and where it has
-/// no link left. The list in which the links come back has room for all of them, and a node in which
-/// it goes to the port.
+/// no link left. The list in which the links come back has a node in which it goes to the port.
 #[derive(Drop)]
 pub struct MemDoor {
-    waiting: VecDeque<MemLink>,
-    back: Vec<MemLink>,
+    links: LentLinks,
     node: LinkedList<List<MemLink>>,
-    failing: List<u64>,
-    calls: u64,
-    faults: u64,
-    given: u64,
 }
 
 impl Model for MemDoor {
-    ghost use Rattle.std.specs.Prelude.{◌≡◌, ◌≤◌, ◌+◌, [], ◌∷◌, All, length, vec_capacity};
-    ghost use Rattle.desk_links.specs.LinkMemory.{DoorInMemory, IsUntouched};
+    ghost use Rattle.std.specs.Prelude.{◌≡◌, [], ◌∷◌};
+    ghost use Rattle.desk_links.specs.LinkMemory.{DoorInMemory};
 
     ghost Value = { DoorInMemory };
 
-    ghost view = { λ d. record { waiting = d.waiting.items; back = d.back.items; failing = d.failing; calls = d.calls; faults = d.faults; given = d.given } };
+    ghost view = { λ d. d.links };
 
-    ghost invariant = { λ d. (d.given + length d.waiting.items ≤ vec_capacity d.back) × (d.node ≡ [] ∷ []) × All IsUntouched d.waiting.items };
+    ghost invariant = { λ d. d.node ≡ [] ∷ [] };
 }
 
 impl MemDoor {
@@ -44,27 +39,19 @@ impl MemDoor {
         requires { All IsUntouched links }
         ensures { IfOk result (λ door. door ≡ door_with links failing) }
     {
-        let back = Vec::with_capacity(alloc, links.len())?;
+        let links = LentLinks::new(alloc, links, failing)?;
         let mut node = LinkedList::new(alloc);
         node.push_back(List::new(alloc))?;
-        Ok(MemDoor {
-            waiting: VecDeque::from_vec(links.into_vec()),
-            back,
-            node,
-            failing,
-            calls: 0,
-            faults: 0,
-            given: 0,
-        })
+        Ok(MemDoor { links, node })
     }
 
     // Its links, in the node that was kept for them.
     fn into_node(self) -> LinkedList<List<MemLink>>
         ensures { result ≡ self.back ∷ [] }
     {
-        let MemDoor { back, mut node, .. } = self;
+        let MemDoor { links, mut node } = self;
         if let Some(list) = node.front_mut() {
-            *list = List::from_vec(back);
+            *list = List::from_vec(links.into_back());
         }
         node
     }
@@ -73,45 +60,22 @@ impl MemDoor {
 impl Door for MemDoor {
     type Link = MemLink;
 
-    ghost faults = { λ d. d.faults };
-
-    ghost given = { λ d. d.given };
-
-    ghost returned = { λ d. length d.back };
-
-    ghost links = { λ d. Some d.back };
+    ghost state = { door_state };
 
     fn accept(&mut self) -> Result<MemLink, Failed>
         requires none_out { self.old.given ≡ length self.old.back }
         requires few { length self.old.back < 2 ^ 32 }
-        ensures new { IfOk result IsUntouched }
-        ensures given { OnOk result (self.new.given ≡ self.old.given + 1) }
-        ensures kept { OnErr result (self.new.given ≡ self.old.given) }
-        ensures back { self.new.back ≡ self.old.back }
-        ensures cause { HasCause self.old.faults self.new.faults result }
-        ensures steady { OnOk result (self.new.faults ≡ self.old.faults) }
-        ensures counted { OnErr result (self.new.faults ≡ next_count self.old.faults) }
-
-        // It fails at exactly the listed accepts and where no link is left, and gives the first of those left at the others.
-        ensures failing { IsErr result ↔ AcceptFails self.old }
-        ensures first { IfOk result (λ link. self.old.waiting ≡ link ∷ self.new.waiting) }
-        ensures stay { OnErr result (self.new.waiting ≡ self.old.waiting) }
-        ensures called { self.new.calls ≡ next_count self.old.calls }
-        ensures same { self.new.failing ≡ self.old.failing }
+        ensures gives { GivesLink link_state (door_state self.old) (door_state self.new) result }
+        ensures lends { Lends self.old self.new result }
     {
-        self.calls = self.calls.saturating_add(1);
-        if !self.failing.as_slice().contains(&self.calls) {
-            if let Some(link) = self.waiting.pop_front() {
-                self.given += 1;
-                return Ok(link);
-            }
-        }
-        self.faults = self.faults.saturating_add(1);
-        Err(Failed)
+        self.links.lend()
     }
 
-    fn back(&mut self, link: MemLink) {
-        self.back.push_reserved(link);
+    fn return_link(&mut self, link: MemLink)
+        requires one_out { self.old.given ≡ length self.old.back + 1 }
+        ensures { self.new ≡ with_back self.old link }
+    {
+        self.links.take_back(link);
     }
 }
 
@@ -205,13 +169,7 @@ impl MemPort {
 impl Port for MemPort {
     type Door = MemDoor;
 
-    ghost faults = { λ p. p.faults };
-
-    ghost returned = { λ p. length (all_links p.back) };
-
-    ghost links = { λ p. Some (all_links p.back) };
-
-    ghost numbers = { λ p. Some p.numbers };
+    ghost state = { port_state };
 
     fn listen(&mut self, port: u16, doors: usize) -> Result<List<MemDoor>, Or<Failed>>
         ensures count { IfOk result (λ list. length list ≡ doors) }
@@ -236,9 +194,16 @@ impl Port for MemPort {
         Ok(List::from_vec(list))
     }
 
-    fn back(&mut self, door: MemDoor) {
-        self.faults = self.faults.saturating_add(door.faults);
-        if door.back.is_empty() {
+    fn return_door(&mut self, door: MemDoor)
+        requires none_out { door.given ≡ length door.back }
+        requires few { length (all_links self.old.back) + length door.back < 2 ^ 32 }
+        ensures returned { length (all_links self.new.back) ≡ length (all_links self.old.back) + length door.back }
+        ensures links { all_links self.new.back ≡ all_links self.old.back ++ door.back }
+        ensures numbers { self.new.numbers ≡ self.old.numbers }
+        ensures faults { self.new.faults ≡ min (self.old.faults + door.faults) (2 ^ 64 - 1) }
+    {
+        self.faults = self.faults.saturating_add(door.links.faults());
+        if door.links.back().is_empty() {
             return;
         }
         let mut node = door.into_node();

@@ -1,7 +1,6 @@
 //! The port and doors of the system, over TCP on this machine's own address. They tell nothing of the
 //! links, and are trusted.
-ghost use Rattle.std.specs.Prelude.{◌≡◌, ◌≤◌, ◌+◌, ◌^◌, All, None, length, min, IfOk, OnOk};
-ghost use Rattle.desk_links.specs.Links.{IsUnused};
+ghost use Rattle.std.specs.Prelude.{◌≡◌, All, length, IfOk};
 
 use crate::port::{Door, Port};
 use crate::tcp_link::{Side, TcpLink};
@@ -59,15 +58,11 @@ pub struct TcpDoor<C> {
 }
 
 impl<C: Clock + Copy + Send + Drop> Door for TcpDoor<C> {
+    ghost use Rattle.desk_links.specs.LinkLaws.{untold_door};
+
     type Link = TcpLink<C>;
 
-    ghost faults = { λ d. d.faults };
-
-    ghost given = { λ d. d.given };
-
-    ghost returned = { λ d. d.returned };
-
-    ghost links = { λ _. None };
+    ghost state = { λ d. untold_door d.given d.returned d.faults };
 
     fn accept(&mut self) -> Result<TcpLink<C>, Failed> {
         match next_stream(&self.clock, &self.listener) {
@@ -82,7 +77,7 @@ impl<C: Clock + Copy + Send + Drop> Door for TcpDoor<C> {
         }
     }
 
-    fn back(&mut self, link: TcpLink<C>) {
+    fn return_link(&mut self, link: TcpLink<C>) {
         link.close();
         self.returned += 1;
     }
@@ -138,15 +133,11 @@ fn doors_over<C: Clock + Copy>(
 
 impl<R: Net<Listener = TcpListener, Stream = TcpStream> + Clock + Copy + Send + Drop> Port
     for TcpPort<R> {
+    ghost use Rattle.desk_links.specs.LinkLaws.{untold_port};
+
     type Door = TcpDoor<R>;
 
-    ghost faults = { λ p. p.faults };
-
-    ghost returned = { λ p. p.returned };
-
-    ghost links = { λ _. None };
-
-    ghost numbers = { λ _. None };
+    ghost state = { λ p. untold_port p.returned p.faults };
 
     fn listen(&mut self, port: u16, doors: usize) -> Result<List<TcpDoor<R>>, Or<Failed>> {
         let address = SocketAddr::V4(SocketAddrV4::new(Ipv4Addr::LOCALHOST, port));
@@ -159,7 +150,7 @@ impl<R: Net<Listener = TcpListener, Stream = TcpStream> + Clock + Copy + Send + 
         }
     }
 
-    fn back(&mut self, door: TcpDoor<R>) {
+    fn return_door(&mut self, door: TcpDoor<R>) {
         self.faults = self.faults.saturating_add(door.faults);
         self.returned += door.returned;
     }

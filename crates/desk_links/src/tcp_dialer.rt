@@ -1,5 +1,5 @@
 //! The dialer of the system, over TCP on this machine's own address. It is trusted.
-ghost use Rattle.std.specs.Prelude.{◌≡◌, ◌≢◌, ◌<◌, ◌-◌, ◌^◌, ◌+◌, ◌++◌, [], take, min, None, length, IfOk, OnOk};
+ghost use Rattle.std.specs.Prelude.{◌≡◌, ◌≢◌, ◌<◌, ◌++◌, [], take, None, length, IfOk, OnOk};
 ghost use Rattle.desk_traits.specs.Faults.{HasCause};
 ghost use Rattle.desk_traits.specs.Streams.{Reads};
 
@@ -66,20 +66,26 @@ impl<C: Clock> Sink for TcpPeer<C> {
 }
 
 impl<C: Clock> Link for TcpPeer<C> {
-    ghost use Rattle.std.specs.Prelude.{None};
-    ghost use Rattle.desk_links.specs.LinkLaws.{untold_alone};
+    ghost use Rattle.std.specs.Prelude.{refl};
+    ghost use Rattle.desk_links.specs.LinkLaws.{keeps_input, keeps_output, untold};
 
-    ghost came = { λ _. None };
+    ghost state = { λ p. untold p.link.read_faults p.link.write_faults };
 
-    ghost reads_alone = { λ old new kept. untold_alone None old.link.write_faults new.link.write_faults kept };
+    ghost shows_input = { λ _. refl };
 
-    ghost writes_alone = { λ old new kept. untold_alone None old.link.read_faults new.link.read_faults kept };
+    ghost shows_output = { λ _. refl };
+
+    ghost reads_alone = { λ old new kept.
+        keeps_output old.link.read_faults new.link.read_faults old.link.write_faults new.link.write_faults kept };
+
+    ghost writes_alone = { λ old new kept.
+        keeps_input old.link.read_faults new.link.read_faults old.link.write_faults new.link.write_faults kept };
 
     ghost told_whole = { λ _. tt };
 }
 
 impl<C: Clock> Peer for TcpPeer<C> {
-    fn hear(&mut self, into: &mut [u8]) -> Result<usize, Failed> {
+    fn read_some(&mut self, into: &mut [u8]) -> Result<usize, Failed> {
         self.read(into)
     }
 }
@@ -113,15 +119,11 @@ impl<R: Net<Listener = TcpListener, Stream = TcpStream>> TcpDialer<R> {
 
 impl<R: Net<Listener = TcpListener, Stream = TcpStream> + Clock + Copy + Send + Drop> Dialer
     for TcpDialer<R> {
+    ghost use Rattle.desk_links.specs.LinkLaws.{untold_door};
+
     type Link = TcpPeer<R>;
 
-    ghost faults = { λ d. d.faults };
-
-    ghost given = { λ d. d.given };
-
-    ghost returned = { λ d. d.returned };
-
-    ghost links = { λ _. None };
+    ghost state = { λ d. untold_door d.given d.returned d.faults };
 
     fn dial(&mut self) -> Result<TcpPeer<R>, Failed> {
         let address = SocketAddr::V4(SocketAddrV4::new(Ipv4Addr::LOCALHOST, self.port));
@@ -140,7 +142,7 @@ impl<R: Net<Listener = TcpListener, Stream = TcpStream> + Clock + Copy + Send + 
         }
     }
 
-    fn back(&mut self, link: TcpPeer<R>) {
+    fn return_link(&mut self, link: TcpPeer<R>) {
         let count = link.link.read_faults.saturating_add(link.link.write_faults);
         self.faults = self.faults.saturating_add(count);
         self.returned += 1;

@@ -381,14 +381,20 @@ impl<C: Clock> Sink for TcpLink<C> {
 }
 
 impl<C: Clock> Link for TcpLink<C> {
-    ghost use Rattle.std.specs.Prelude.{None};
-    ghost use Rattle.desk_links.specs.LinkLaws.{untold_alone};
+    ghost use Rattle.std.specs.Prelude.{refl};
+    ghost use Rattle.desk_links.specs.LinkLaws.{keeps_input, keeps_output, untold};
 
-    ghost came = { λ _. None };
+    ghost state = { λ l. untold l.read_faults l.write_faults };
 
-    ghost reads_alone = { λ old new kept. untold_alone None old.write_faults new.write_faults kept };
+    ghost shows_input = { λ _. refl };
 
-    ghost writes_alone = { λ old new kept. untold_alone None old.read_faults new.read_faults kept };
+    ghost shows_output = { λ _. refl };
+
+    ghost reads_alone = { λ old new kept.
+        keeps_output old.read_faults new.read_faults old.write_faults new.write_faults kept };
+
+    ghost writes_alone = { λ old new kept.
+        keeps_input old.read_faults new.read_faults old.write_faults new.write_faults kept };
 
     ghost told_whole = { λ _. tt };
 }

@@ -1,5 +1,6 @@
 -- A whole run.
 use Rattle.std.proofs.Common.{◌≡◌, ◌∙◌, ℕ, List, [], Option, ap, arith, subst}
+use Rattle.desk_links.specs.Links.{DialerState}
 use Rattle.hazard_types.specs.declared.codes.Class.{Class}
 use Rattle.hazard_types.specs.declared.line.Row.{Row}
 use Rattle.event_life.specs.Products.{Product, rows_of}
@@ -19,13 +20,13 @@ first_is f asked o c p =
     ∙ (ap (λ (class : Class). record { office = asked.office; class = class; products = f.products }) c
     ∙ ap (λ (products : List Product). record { office = asked.office; class = asked.class; products = products }) p)
 
-pub followed : {L : Type 0} (came left taken : L → Option (List ℕ)) (asked : Asked) (back back' : Option (List L)) (faults faults' : ℕ) (told told' : Option (List ℕ)) (before now status : ℕ) (f new : Reading) (stop : Stop)
-    → f ≡ first_of asked → Courses came left taken back back' faults faults' f new asked.rounds stop
+pub followed : (asked : Asked) (first last : DialerState) (told told' : Option (List ℕ)) (before now status : ℕ) (f new : Reading) (stop : Stop)
+    → f ≡ first_of asked → Courses first last f new asked.rounds stop
     → IsToldAt stop (place_of new) asked.minute (shown_at asked.minute (rows_of new.products)) told told' before now status
-    → IsFollowed came left taken asked back back' faults faults' told told' before now status
-followed came left taken asked back back' faults faults' told told' before now status f new stop is course h =
-    let whole : Courses came left taken back back' faults faults' (first_of asked) new asked.rounds stop =
-    subst (λ (g : Reading). Courses came left taken back back' faults faults' g new asked.rounds stop) is course in
+    → IsFollowed asked first last told told' before now status
+followed asked first last told told' before now status f new stop is course h =
+    let whole : Courses first last (first_of asked) new asked.rounds stop =
+    subst (λ (g : Reading). Courses first last g new asked.rounds stop) is course in
     let texts = texts_in whole.turns in
     let rows : shown_at asked.minute (rows_of new.products) ≡ rows_shown asked texts =
     ap (λ (ps : List Product). shown_at asked.minute (rows_of ps)) (ap (λ (r : Reading). r.products) whole.follower ∙ after_products (first_of asked) texts) in

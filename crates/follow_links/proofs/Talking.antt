@@ -1,5 +1,5 @@
 -- Talks on a link, one after another.
-use Rattle.std.proofs.Common.{◌≡◌, ◌≢◌, ◌∙◌, ◌+◌, ◌≤◌, ◌⊎◌, inl, inr, Option, Ok, Err, ℕ, Bool, true, false, List, [], ◌∷◌, ◌++◌, length, refl, sym, ap, arith, subst, append_assoc, append-nil, length-append}
+use Rattle.std.proofs.Common.{◌≡◌, ◌≢◌, ◌∙◌, ◌+◌, ◌≤◌, ◌⊎◌, inl, inr, Ok, Err, ℕ, Bool, true, false, List, [], ◌∷◌, ◌++◌, length, refl, sym, ap, arith, subst, append_assoc, append-nil, length-append}
 use Rattle.std.specs.Prelude.{IsErrOf}
 use Rattle.std.proofs.lemmas.List.{map-append}
 use Rattle.product_decoder.specs.ReaderModel.{Reading}
@@ -7,9 +7,9 @@ use Rattle.follow_core.specs.Hearing.{place_of, having_heard}
 use Rattle.follow_links.specs.Answers.{Answer}
 use Rattle.follow_links.specs.Talks.{IsText, Onward, IsClosed, IsTalk, ask, bodies, after_all}
 use Rattle.follow_links.specs.declared.talk.LinkEnd.{LinkEnd}
-use Rattle.desk_traits.specs.Faults.{Rose}
+use Rattle.desk_links.specs.Links.{LinkState}
 use Rattle.desk_traits.specs.Streams.{Takes, Adds}
-use Rattle.follow_links.specs.Rounding.{IsAsk, RoseIfFailed, Talks}
+use Rattle.follow_links.specs.Rounding.{HasFailed, IsAsk, IsLater, RoseIfFailed, Talks}
 use Rattle.follow_links.specs.Talks.{Leaves, asks_in}
 use Rattle.follow_links.specs.declared.talk.LinkEnd.TheVariants.{Spent, Closed, Failed, Ended, Bad, OutOfMemory}
 use Rattle.follow_links.proofs.Placing.{heard_place, after_more}
@@ -70,25 +70,25 @@ place_after place read written (a ∷ answers) end f h is =
     omega (arith, rest)
 
 -- Texts were taken so far, and the link is open.
-pub record Going (came came' left left' taken taken' : Option (List ℕ)) (reads reads' writes writes' : ℕ) (old new : Reading) (rounds rounds' : ℕ) : Type 0 where
+pub record Going (first last : LinkState) (old new : Reading) (rounds rounds' : ℕ) : Type 0 where
   pub answers : List Answer
   pub read : List ℕ
   pub written : List ℕ
-  pub takes : Takes left left' read
-  pub adds : Adds taken taken' written
+  pub takes : Takes first.input.left last.input.left read
+  pub adds : Adds first.output.taken last.output.taken written
   pub talk : IsTalk (place_of old) read written answers Spent
   pub follower : new ≡ after_all old (bodies answers)
   pub counted : length answers + rounds' ≡ rounds
-  pub later : (reads ≤ reads') × (writes ≤ writes')
-  pub same : came' ≡ came
+  pub later : IsLater first last
+  pub same : last.came ≡ first.came
 
-pub going_none : (came left taken : Option (List ℕ)) (reads writes : ℕ) (f : Reading) (rounds : ℕ) → Going came came left left taken taken reads reads writes writes f f rounds rounds
-going_none came left taken reads writes f rounds = record {
+pub going_none : (link : LinkState) (f : Reading) (rounds : ℕ) → Going link link f f rounds rounds
+going_none link f rounds = record {
   answers = [];
   read = [];
   written = [];
-  takes = takes_none left;
-  adds = adds_none taken;
+  takes = takes_none link.input.left;
+  adds = adds_none link.output.taken;
   talk = (refl, refl);
   follower = refl;
   counted = omega arith;
@@ -102,13 +102,13 @@ push_body old mid answers a is =
     ∙ (sym (after_more old (bodies answers) (a.body ∷ []))
     ∙ ap (after_all old) (sym (map-append (λ (b : Answer). b.body) answers (a ∷ []))))
 
-module _ (came mid_came end_came left mid_left end_left taken mid_taken end_taken : Option (List ℕ)) (reads mid_reads end_reads writes mid_writes end_writes : ℕ) (old mid new : Reading) (rounds mid_rounds end_rounds : ℕ) where
-  mid_place : (g : Going came mid_came left mid_left taken mid_taken reads mid_reads writes mid_writes old mid rounds mid_rounds) → place_of mid ≡ place_of old + length g.answers
+module _ (first middle last : LinkState) (old mid new : Reading) (rounds mid_rounds end_rounds : ℕ) where
+  mid_place : (g : Going first middle old mid rounds mid_rounds) → place_of mid ≡ place_of old + length g.answers
   mid_place g = ap place_of g.follower ∙ place_after (place_of old) g.read g.written g.answers Spent old g.talk refl
 
-  pub going_text : Going came mid_came left mid_left taken mid_taken reads mid_reads writes mid_writes old mid rounds mid_rounds
-      → (a : IsAsk mid_left end_left mid_taken end_taken mid new (Ok false)) → RoseIfFailed {T = Bool} mid_reads end_reads mid_writes end_writes (Ok false) → end_came ≡ mid_came → end_rounds + 1 ≡ mid_rounds
-      → Going came end_came left end_left taken end_taken reads end_reads writes end_writes old new rounds end_rounds
+  pub going_text : Going first middle old mid rounds mid_rounds
+      → (a : IsAsk middle last mid new (Ok false)) → RoseIfFailed {T = Bool} middle last (Ok false) → last.came ≡ middle.came → end_rounds + 1 ≡ mid_rounds
+      → Going first last old new rounds end_rounds
   going_text g a r same one =
       let body = a.gives.1.0 in
       let answer : Answer = record { status = 200; body = body; closes = false } in
@@ -116,8 +116,8 @@ module _ (came mid_came end_came left mid_left end_left taken mid_taken end_take
         answers = g.answers ++ answer ∷ [];
         read = g.read ++ a.read;
         written = g.written ++ a.written;
-        takes = takes_more left mid_left end_left g.read a.read g.takes a.takes;
-        adds = adds_more taken mid_taken end_taken g.written a.written g.adds a.adds;
+        takes = takes_more first.input.left middle.input.left last.input.left g.read a.read g.takes a.takes;
+        adds = adds_more first.output.taken middle.output.taken last.output.taken g.written a.written g.adds a.adds;
         talk = talk_more (place_of old) (place_of mid) g.read g.written g.answers a.read a.written (answer ∷ []) Spent (mid_place g) g.talk (one_open (place_of mid) a.read a.written body a.gives.0 a.gives.1.1);
         follower = a.gives.1.2 ∙ push_body old mid g.answers answer g.follower;
         counted = omega (arith, g.counted, one, length-append g.answers (answer ∷ []));
@@ -125,9 +125,9 @@ module _ (came mid_came end_came left mid_left end_left taken mid_taken end_take
         same = same ∙ g.same;
       }
 
-  pub going_closed : Going came mid_came left mid_left taken mid_taken reads mid_reads writes mid_writes old mid rounds mid_rounds
-      → (a : IsAsk mid_left end_left mid_taken end_taken mid new (Ok true)) → end_came ≡ mid_came → end_rounds + 1 ≡ mid_rounds
-      → Talks came end_came left end_left taken end_taken reads end_reads writes end_writes old new rounds end_rounds Closed
+  pub going_closed : Going first middle old mid rounds mid_rounds
+      → (a : IsAsk middle last mid new (Ok true)) → last.came ≡ middle.came → end_rounds + 1 ≡ mid_rounds
+      → Talks first last old new rounds end_rounds Closed
   going_closed g a same one =
       let body = a.gives.1.0 in
       let answer : Answer = record { status = 200; body = body; closes = true } in
@@ -135,8 +135,8 @@ module _ (came mid_came end_came left mid_left end_left taken mid_taken end_take
         answers = g.answers ++ answer ∷ [];
         read = g.read ++ a.read;
         written = g.written ++ a.written;
-        takes = takes_more left mid_left end_left g.read a.read g.takes a.takes;
-        adds = adds_more taken mid_taken end_taken g.written a.written g.adds a.adds;
+        takes = takes_more first.input.left middle.input.left last.input.left g.read a.read g.takes a.takes;
+        adds = adds_more first.output.taken middle.output.taken last.output.taken g.written a.written g.adds a.adds;
         talk = talk_more (place_of old) (place_of mid) g.read g.written g.answers a.read a.written (answer ∷ []) Closed (mid_place g) g.talk (one_closed (place_of mid) a.read a.written body a.gives.0 a.gives.1.1);
         follower = a.gives.1.2 ∙ push_body old mid g.answers answer g.follower;
         counted = omega (arith, g.counted, one, length-append g.answers (answer ∷ []));
@@ -151,8 +151,8 @@ module _ (came mid_came end_came left mid_left end_left taken mid_taken end_take
       not_failed : Closed ≡ Failed → ⊥
       not_failed h = cc
 
-  pub going_spent : Going came mid_came left mid_left taken mid_taken reads mid_reads writes mid_writes old mid rounds mid_rounds → mid_rounds ≡ 0
-      → Talks came mid_came left mid_left taken mid_taken reads mid_reads writes mid_writes old mid rounds mid_rounds Spent
+  pub going_spent : Going first middle old mid rounds mid_rounds → mid_rounds ≡ 0
+      → Talks first middle old mid rounds mid_rounds Spent
   going_spent g none = record {
     answers = g.answers;
     read = g.read;
@@ -170,15 +170,15 @@ module _ (came mid_came end_came left mid_left end_left taken mid_taken end_take
       open_still : Spent ≡ Failed → ⊥
       open_still h = cc
 
-  pub going_ended : (end : LinkEnd) → Going came mid_came left mid_left taken mid_taken reads mid_reads writes mid_writes old mid rounds mid_rounds
-      → (a : IsAsk mid_left end_left mid_taken end_taken mid new (Err end)) → RoseIfFailed {T = Bool} mid_reads end_reads mid_writes end_writes (Err end) → end_came ≡ mid_came → end_rounds + 1 ≡ mid_rounds
-      → Talks came end_came left end_left taken end_taken reads end_reads writes end_writes old new rounds end_rounds end
+  pub going_ended : (end : LinkEnd) → Going first middle old mid rounds mid_rounds
+      → (a : IsAsk middle last mid new (Err end)) → RoseIfFailed {T = Bool} middle last (Err end) → last.came ≡ middle.came → end_rounds + 1 ≡ mid_rounds
+      → Talks first last old new rounds end_rounds end
   going_ended end g a r same one = record {
     answers = g.answers ++ [];
     read = g.read ++ a.read;
     written = g.written ++ a.written;
-    takes = takes_more left mid_left end_left g.read a.read g.takes a.takes;
-    adds = adds_more taken mid_taken end_taken g.written a.written g.adds a.adds;
+    takes = takes_more first.input.left middle.input.left last.input.left g.read a.read g.takes a.takes;
+    adds = adds_more first.output.taken middle.output.taken last.output.taken g.written a.written g.adds a.adds;
     talk = talk_more (place_of old) (place_of mid) g.read g.written g.answers a.read a.written [] end (mid_place g) g.talk a.gives.0;
     follower = a.gives.1 ∙ (g.follower ∙ ap (λ (list : List Answer). after_all old (bodies list)) (sym (append-nil g.answers)));
     counted = omega (arith, g.counted, one, ap length (append-nil g.answers), asks_one end a.gives.0 a.gives.2);
@@ -198,19 +198,19 @@ module _ (came mid_came end_came left mid_left end_left taken mid_taken end_take
       failed_is : end ≡ Failed → IsErrOf {T = Bool} (Err end) Failed
       failed_is h = ap (λ (e : LinkEnd). Err e) h
 
-      rose_back : Rose mid_reads end_reads ⊎ Rose mid_writes end_writes → Rose reads end_reads ⊎ Rose writes end_writes
-      rose_back (inl x) = inl (rose_later reads mid_reads end_reads g.later.0 x)
-      rose_back (inr x) = inr (rose_later writes mid_writes end_writes g.later.1 x)
+      rose_back : HasFailed middle last → HasFailed first last
+      rose_back (inl x) = inl (rose_later first.input.faults middle.input.faults last.input.faults g.later.0 x)
+      rose_back (inr x) = inr (rose_later first.output.faults middle.output.faults last.output.faults g.later.1 x)
 
   -- the same, by what the ask answered
 
-  pub going_step : (closes : Bool) → closes ≡ false → Going came mid_came left mid_left taken mid_taken reads mid_reads writes mid_writes old mid rounds mid_rounds
-      → IsAsk mid_left end_left mid_taken end_taken mid new (Ok closes) → RoseIfFailed {T = Bool} mid_reads end_reads mid_writes end_writes (Ok closes) → end_came ≡ mid_came → end_rounds + 1 ≡ mid_rounds
-      → Going came end_came left end_left taken end_taken reads end_reads writes end_writes old new rounds end_rounds
+  pub going_step : (closes : Bool) → closes ≡ false → Going first middle old mid rounds mid_rounds
+      → IsAsk middle last mid new (Ok closes) → RoseIfFailed {T = Bool} middle last (Ok closes) → last.came ≡ middle.came → end_rounds + 1 ≡ mid_rounds
+      → Going first last old new rounds end_rounds
   going_step closes is g a r same one =
-      going_text g (subst (λ (b : Bool). IsAsk mid_left end_left mid_taken end_taken mid new (Ok b)) is a) (subst (λ (b : Bool). RoseIfFailed {T = Bool} mid_reads end_reads mid_writes end_writes (Ok b)) is r) same one
+      going_text g (subst (λ (b : Bool). IsAsk middle last mid new (Ok b)) is a) (subst (λ (b : Bool). RoseIfFailed {T = Bool} middle last (Ok b)) is r) same one
 
-  pub closed_step : (closes : Bool) → closes ≡ true → Going came mid_came left mid_left taken mid_taken reads mid_reads writes mid_writes old mid rounds mid_rounds
-      → IsAsk mid_left end_left mid_taken end_taken mid new (Ok closes) → end_came ≡ mid_came → end_rounds + 1 ≡ mid_rounds
-      → Talks came end_came left end_left taken end_taken reads end_reads writes end_writes old new rounds end_rounds Closed
-  closed_step closes is g a same one = going_closed g (subst (λ (b : Bool). IsAsk mid_left end_left mid_taken end_taken mid new (Ok b)) is a) same one
+  pub closed_step : (closes : Bool) → closes ≡ true → Going first middle old mid rounds mid_rounds
+      → IsAsk middle last mid new (Ok closes) → last.came ≡ middle.came → end_rounds + 1 ≡ mid_rounds
+      → Talks first last old new rounds end_rounds Closed
+  closed_step closes is g a same one = going_closed g (subst (λ (b : Bool). IsAsk middle last mid new (Ok b)) is a) same one

@@ -5,11 +5,11 @@ use Rattle.std.specs.List.{AllByRecursion}
 use Rattle.std.proofs.lemmas.List.{length-map, length-take}
 use Rattle.desk_traits.specs.Faults.{Rose}
 use Rattle.desk_traits.specs.Streams.{Takes}
-use Rattle.desk_links.specs.Links.{IsNew, with_one, both_counts}
+use Rattle.desk_links.specs.Links.{DialerState, IsNew, LinkState, faults_of, with_count, with_one}
 use Rattle.product_decoder.specs.ReaderModel.{Reading}
 use Rattle.follow_core.specs.Hearing.{place_of}
 use Rattle.follow_links.specs.Answers.{Answer}
-use Rattle.follow_links.specs.Rounding.{Talks}
+use Rattle.follow_links.specs.Rounding.{HasFailed, Talks}
 use Rattle.follow_links.specs.Talks.{IsTalk, bodies, after_all, asks_in, fails_in}
 use Rattle.follow_links.specs.Rounds.{Turn, NotDialed, Talked, rounds_in, fails, texts_in, IsTalkTold, AreTold, IsGivenUp, IsLast, EndsAs, RoseBy, Courses}
 use Rattle.follow_links.specs.declared.talk.LinkEnd.{LinkEnd}
@@ -22,61 +22,61 @@ use Rattle.follow_links.proofs.Talking.{place_after}
 use Rattle.follow_links.proofs.Turning.{rounds_more, fails_more, texts_more, ends_more, up_more, told_more}
 
 -- Each turn so far was given up.
-pub record Turns {L : Type 0} (came left taken : L → Option (List ℕ)) (back back' : Option (List L)) (faults faults' : ℕ) (old new : Reading) (rounds rounds' : ℕ) : Type 0 where
+pub record Turns (first last : DialerState) (old new : Reading) (rounds rounds' : ℕ) : Type 0 where
   pub turns : List Turn
-  pub links : List L
-  pub told : AreTold came left taken (place_of old) turns links
-  pub returned : back' ≡ option_map (λ before. before ++ links) back
+  pub links : List LinkState
+  pub told : AreTold (place_of old) turns links
+  pub returned : last.links ≡ option_map (λ before. before ++ links) first.links
   pub up : AllByRecursion IsGivenUp turns
   pub counted : rounds_in turns + rounds' ≡ rounds
-  pub rose : RoseBy (fails turns) faults faults'
+  pub rose : RoseBy (fails turns) first.faults last.faults
   pub follower : new ≡ after_all old (texts_in turns)
   pub place : place_of new ≡ place_of old + length (texts_in turns)
 
-none_returned : {L : Type 0} (b : Option (List L)) → b ≡ option_map (λ before. before ++ []) b
-none_returned {L} None = refl
-none_returned {L} (Some ls) = ap (λ (l : List L). Some l) (sym (append-nil ls))
+none_returned : (b : Option (List LinkState)) → b ≡ option_map (λ before. before ++ []) b
+none_returned None = refl
+none_returned (Some ls) = ap (λ (l : List LinkState). Some l) (sym (append-nil ls))
 
-pub turns_none : {L : Type 0} (came left taken : L → Option (List ℕ)) (back : Option (List L)) (faults : ℕ) (f : Reading) (rounds : ℕ) → Turns came left taken back back faults faults f f rounds rounds
-turns_none came left taken back faults f rounds = record {
+pub turns_none : (dialer : DialerState) (f : Reading) (rounds : ℕ) → Turns dialer dialer f f rounds rounds
+turns_none dialer f rounds = record {
   turns = [];
   links = [];
   told = tt;
-  returned = none_returned back;
+  returned = none_returned dialer.links;
   up = tt;
   counted = omega arith;
-  rose = rose_none faults;
+  rose = rose_none dialer.faults;
   follower = refl;
   place = omega arith;
 }
 
-returned_more : {L : Type 0} (back mid end : Option (List L)) (links : List L) (l : L) → mid ≡ option_map (λ before. before ++ links) back → end ≡ with_one mid l → end ≡ option_map (λ before. before ++ (links ++ l ∷ [])) back
-returned_more {L} None mid end links l h k = k ∙ ap (λ (m : Option (List L)). with_one m l) h
-returned_more {L} (Some b) mid end links l h k = k ∙ (ap (λ (m : Option (List L)). with_one m l) h ∙ ap (λ (ls : List L). Some ls) (append_assoc b links (l ∷ [])))
+returned_more : (back mid end : Option (List LinkState)) (links : List LinkState) (l : LinkState) → mid ≡ option_map (λ before. before ++ links) back → end ≡ with_one mid l → end ≡ option_map (λ before. before ++ (links ++ l ∷ [])) back
+returned_more None mid end links l h k = k ∙ ap (λ (m : Option (List LinkState)). with_one m l) h
+returned_more (Some b) mid end links l h k = k ∙ (ap (λ (m : Option (List LinkState)). with_one m l) h ∙ ap (λ (ls : List LinkState). Some ls) (append_assoc b links (l ∷ [])))
 
 -- the count of a link that failed is added to the dialer's
-pub link_rose : (end : LinkEnd) (mid new reads reads' writes writes' : ℕ) → reads ≡ 0 → writes ≡ 0 → (end ≡ link.Failed → Rose reads reads' ⊎ Rose writes writes')
-    → new ≡ min (mid + both_counts reads' writes') (2 ^ 64 - 1) → RoseBy (fails_in end) mid new
-link_rose link.Failed mid new reads reads' writes writes' r w rose is = one (rose refl)
+pub link_rose : (end : LinkEnd) (mid new : ℕ) (fresh left : LinkState) → IsNew fresh → (end ≡ link.Failed → HasFailed fresh left)
+    → new ≡ min (mid + faults_of left) (2 ^ 64 - 1) → RoseBy (fails_in end) mid new
+link_rose link.Failed mid new fresh left n rose is = one (rose refl)
   where
-    one : Rose reads reads' ⊎ Rose writes writes' → RoseBy 1 mid new
-    one (inl x) = omega (arith, x, r, w, is)
-    one (inr x) = omega (arith, x, r, w, is)
-link_rose link.Spent mid new reads reads' writes writes' r w rose is = omega (arith, is)
-link_rose link.Closed mid new reads reads' writes writes' r w rose is = omega (arith, is)
-link_rose link.Ended mid new reads reads' writes writes' r w rose is = omega (arith, is)
-link_rose link.Bad mid new reads reads' writes writes' r w rose is = omega (arith, is)
-link_rose link.OutOfMemory mid new reads reads' writes writes' r w rose is = omega (arith, is)
+    one : HasFailed fresh left → RoseBy 1 mid new
+    one (inl x) = omega (arith, x, n.no_read_fault, n.no_write_fault, is)
+    one (inr x) = omega (arith, x, n.no_read_fault, n.no_write_fault, is)
+link_rose link.Spent mid new fresh left n rose is = omega (arith, is)
+link_rose link.Closed mid new fresh left n rose is = omega (arith, is)
+link_rose link.Ended mid new fresh left n rose is = omega (arith, is)
+link_rose link.Bad mid new fresh left n rose is = omega (arith, is)
+link_rose link.OutOfMemory mid new fresh left n rose is = omega (arith, is)
 
 -- what was read and written on a link that was new
-pub told_link : (place : ℕ) (came came' left left' taken taken' : Option (List ℕ)) (reads reads' writes writes' : ℕ) (old new : Reading) (rounds rounds' : ℕ) (end : LinkEnd)
-    → place ≡ place_of old → IsNew came left taken reads writes → (t : Talks came came' left left' taken taken' reads reads' writes writes' old new rounds rounds' end)
-    → IsTalkTold place came' left' taken' t.answers end
-told_link place came came' left left' taken taken' reads reads' writes writes' old new rounds rounds' end is n t = record {
+pub told_link : (place : ℕ) (fresh left : LinkState) (old new : Reading) (rounds rounds' : ℕ) (end : LinkEnd)
+    → place ≡ place_of old → IsNew fresh → (t : Talks fresh left old new rounds rounds' end)
+    → IsTalkTold place left t.answers end
+told_link place fresh left old new rounds rounds' end is n t = record {
   read = t.read;
   written = t.written;
-  reads = subst (λ (c : Option (List ℕ)). Takes c left' t.read) (n.unread ∙ sym t.same) t.takes;
-  writes = written_alone taken taken' t.written n.unwritten t.adds;
+  reads = subst (λ (c : Option (List ℕ)). Takes c left.input.left t.read) (n.unread ∙ sym t.same) t.takes;
+  writes = written_alone fresh.output.taken left.output.taken t.written n.unwritten t.adds;
   talk = subst (λ (p : ℕ). IsTalk p t.read t.written t.answers end) (sym is) t.talk;
 }
 
@@ -90,33 +90,33 @@ takes_round place read written [] link.Ended talk up = absurd up
 takes_round place read written [] link.Bad talk up = absurd up
 takes_round place read written [] link.OutOfMemory talk up = absurd up
 
-module _ {L : Type 0} (came left taken : L → Option (List ℕ)) (back mid_back : Option (List L)) (faults mid_faults : ℕ) (old mid : Reading) (rounds mid_rounds : ℕ) (t : Turns came left taken back mid_back faults mid_faults old mid rounds mid_rounds) where
+module _ (first middle : DialerState) (old mid : Reading) (rounds mid_rounds : ℕ) (t : Turns first middle old mid rounds mid_rounds) where
   next_place : place_of mid ≡ place_of old + length (texts_in t.turns)
   next_place = t.place
 
   -- a dial failed
-  pub turns_failed : (end_back : Option (List L)) (end_faults end_rounds : ℕ) → end_back ≡ mid_back → Rose mid_faults end_faults → end_rounds + 1 ≡ mid_rounds
-      → Turns came left taken back end_back faults end_faults old mid rounds end_rounds
-  turns_failed end_back end_faults end_rounds same rose one =
-      let more = told_more came left taken (place_of old) (place_of mid) t.turns t.links (NotDialed ∷ []) [] t.place t.told tt in
+  pub turns_failed : (last : DialerState) (end_rounds : ℕ) → last.links ≡ middle.links → Rose middle.faults last.faults → end_rounds + 1 ≡ mid_rounds
+      → Turns first last old mid rounds end_rounds
+  turns_failed last end_rounds same rose one =
+      let more = told_more (place_of old) (place_of mid) t.turns t.links (NotDialed ∷ []) [] t.place t.told tt in
       let texts = texts_more t.turns (NotDialed ∷ []) ∙ append-nil (texts_in t.turns) in
       record {
         turns = t.turns ++ NotDialed ∷ [];
         links = t.links ++ [];
         told = more;
-        returned = same ∙ (t.returned ∙ ap (λ (ls : List L). option_map (λ before. before ++ ls) back) (sym (append-nil t.links)));
+        returned = same ∙ (t.returned ∙ ap (λ (ls : List LinkState). option_map (λ before. before ++ ls) first.links) (sym (append-nil t.links)));
         up = up_more t.turns NotDialed t.up tt;
         counted = omega (arith, t.counted, one, rounds_more t.turns (NotDialed ∷ []));
-        rose = subst (λ (n : ℕ). RoseBy n faults end_faults) (sym (fails_more t.turns (NotDialed ∷ []))) (rose_more (fails t.turns) (fails (NotDialed ∷ [])) faults mid_faults end_faults t.rose (omega (arith, rose)));
+        rose = subst (λ (n : ℕ). RoseBy n first.faults last.faults) (sym (fails_more t.turns (NotDialed ∷ []))) (rose_more (fails t.turns) (fails (NotDialed ∷ [])) first.faults middle.faults last.faults t.rose (omega (arith, rose)));
         follower = t.follower ∙ ap (after_all old) (sym texts);
         place = t.place ∙ ap (λ (ts : List (List ℕ)). place_of old + length ts) (sym texts);
       }
 
   -- the link of a turn came back
-  module _ (l : L) (answers : List Answer) (end : LinkEnd) (new : Reading) (end_back : Option (List L)) (end_faults end_rounds : ℕ)
-      (told : IsTalkTold (place_of mid) (came l) (left l) (taken l) answers end)
-      (kept : end_back ≡ with_one mid_back l)
-      (rose : RoseBy (fails_in end) mid_faults end_faults)
+  module _ (l : LinkState) (answers : List Answer) (end : LinkEnd) (new : Reading) (last : DialerState) (end_rounds : ℕ)
+      (told : IsTalkTold (place_of mid) l answers end)
+      (kept : last.links ≡ with_one middle.links l)
+      (rose : RoseBy (fails_in end) middle.faults last.faults)
       (heard : new ≡ after_all mid (bodies answers))
       (counted : length answers + asks_in end + end_rounds ≡ mid_rounds) where
     abbrev turn : Turn
@@ -125,11 +125,11 @@ module _ {L : Type 0} (came left taken : L → Option (List ℕ)) (back mid_back
     texts_then : texts_in (t.turns ++ turn ∷ []) ≡ texts_in t.turns ++ bodies answers
     texts_then = texts_more t.turns (turn ∷ []) ∙ ap (λ (ts : List (List ℕ)). texts_in t.turns ++ ts) (append-nil (bodies answers))
 
-    told_then : AreTold came left taken (place_of old) (t.turns ++ turn ∷ []) (t.links ++ l ∷ [])
-    told_then = told_more came left taken (place_of old) (place_of mid) t.turns t.links (turn ∷ []) (l ∷ []) t.place t.told (told, tt)
+    told_then : AreTold (place_of old) (t.turns ++ turn ∷ []) (t.links ++ l ∷ [])
+    told_then = told_more (place_of old) (place_of mid) t.turns t.links (turn ∷ []) (l ∷ []) t.place t.told (told, tt)
 
-    rose_then : RoseBy (fails (t.turns ++ turn ∷ [])) faults end_faults
-    rose_then = subst (λ (n : ℕ). RoseBy n faults end_faults) (sym (fails_more t.turns (turn ∷ []))) (rose_more (fails t.turns) (fails (turn ∷ [])) faults mid_faults end_faults t.rose (omega (arith, rose)))
+    rose_then : RoseBy (fails (t.turns ++ turn ∷ [])) first.faults last.faults
+    rose_then = subst (λ (n : ℕ). RoseBy n first.faults last.faults) (sym (fails_more t.turns (turn ∷ []))) (rose_more (fails t.turns) (fails (turn ∷ [])) first.faults middle.faults last.faults t.rose (omega (arith, rose)))
 
     counted_then : rounds_in (t.turns ++ turn ∷ []) + end_rounds ≡ rounds
     counted_then = omega (arith, t.counted, counted, rounds_more t.turns (turn ∷ []))
@@ -142,12 +142,12 @@ module _ {L : Type 0} (came left taken : L → Option (List ℕ)) (back mid_back
         let after = ap place_of heard ∙ place_after (place_of mid) told.read told.written answers end mid told.talk refl in
         omega (arith, after, t.place, ap length texts_then, length-append (texts_in t.turns) (bodies answers), length-map answers (λ (a : Answer). a.body))
 
-    pub turns_talked : IsGivenUp (Talked answers end) → Turns came left taken back end_back faults end_faults old new rounds end_rounds
+    pub turns_talked : IsGivenUp (Talked answers end) → Turns first last old new rounds end_rounds
     turns_talked up = record {
       turns = t.turns ++ turn ∷ [];
       links = t.links ++ l ∷ [];
       told = told_then;
-      returned = returned_more back mid_back end_back t.links l t.returned kept;
+      returned = returned_more first.links middle.links last.links t.links l t.returned kept;
       up = up_more t.turns turn t.up up;
       counted = counted_then;
       rose = rose_then;
@@ -155,13 +155,13 @@ module _ {L : Type 0} (came left taken : L → Option (List ℕ)) (back mid_back
       place = place_then;
     }
 
-    pub course_last : (stop : Stop) → IsLast (Talked answers end) stop → (stop ≡ Spent → end_rounds ≡ 0) → Courses came left taken back end_back faults end_faults old new rounds stop
-    course_last stop last spent = record {
+    pub course_last : (stop : Stop) → IsLast (Talked answers end) stop → (stop ≡ Spent → end_rounds ≡ 0) → Courses first last old new rounds stop
+    course_last stop ends spent = record {
       turns = t.turns ++ turn ∷ [];
       links = t.links ++ l ∷ [];
       told = told_then;
-      returned = returned_more back mid_back end_back t.links l t.returned kept;
-      ends = ends_more t.turns (turn ∷ []) stop t.up (inr (refl, last));
+      returned = returned_more first.links middle.links last.links t.links l t.returned kept;
+      ends = ends_more t.turns (turn ∷ []) stop t.up (inr (refl, ends));
       within = omega (arith, counted_then);
       spent = λ h. omega (arith, counted_then, spent h);
       rose = rose_then;
@@ -170,7 +170,7 @@ module _ {L : Type 0} (came left taken : L → Option (List ℕ)) (back mid_back
     }
 
   -- no round is left
-  pub course_spent : mid_rounds ≡ 0 → Courses came left taken back mid_back faults mid_faults old mid rounds Spent
+  pub course_spent : mid_rounds ≡ 0 → Courses first middle old mid rounds Spent
   course_spent none = record {
     turns = t.turns;
     links = t.links;
@@ -198,24 +198,23 @@ pub room_kept : {A : Type 0} (n room : ℕ) (new items : List A) → length new 
 room_kept n room new items a b c =
     omega (arith, a, b, c, length-take n (new ++ drop (length new) items), length-append new (drop (length new) items), length-drop (length new) items)
 
--- A link came, a talk was held on it, and it was given back.
-module _ {L : Type 0} (came left taken : L → Option (List ℕ)) (reads writes : L → ℕ) (back loop_back mid_back end_back : Option (List L)) (faults loop_faults mid_faults end_faults : ℕ) (old mid new : Reading) (rounds mid_rounds end_rounds : ℕ) (link_old link_new : L) (end : LinkEnd)
-    (t : Turns came left taken back loop_back faults loop_faults old mid rounds mid_rounds)
-    (same : mid_back ≡ loop_back)
-    (steady : mid_faults ≡ loop_faults)
-    (n : IsNew (came link_old) (left link_old) (taken link_old) (reads link_old) (writes link_old))
-    (k : Talks (came link_old) (came link_new) (left link_old) (left link_new) (taken link_old) (taken link_new) (reads link_old) (reads link_new) (writes link_old) (writes link_new) mid new mid_rounds end_rounds end)
-    (kept : end_back ≡ with_one mid_back link_new)
-    (counts : end_faults ≡ min (mid_faults + both_counts (reads link_new) (writes link_new)) (2 ^ 64 - 1)) where
-  told_on : IsTalkTold (place_of mid) (came link_new) (left link_new) (taken link_new) k.answers end
-  told_on = told_link (place_of mid) (came link_old) (came link_new) (left link_old) (left link_new) (taken link_old) (taken link_new) (reads link_old) (reads link_new) (writes link_old) (writes link_new) mid new mid_rounds end_rounds end refl n k
+-- A link came, a talk was held on it, and it was returned.
+module _ (first before dialed last : DialerState) (old mid new : Reading) (rounds mid_rounds end_rounds : ℕ) (fresh left : LinkState) (end : LinkEnd)
+    (t : Turns first before old mid rounds mid_rounds)
+    (same : dialed.links ≡ before.links)
+    (steady : dialed.faults ≡ before.faults)
+    (n : IsNew fresh)
+    (k : Talks fresh left mid new mid_rounds end_rounds end)
+    (put : last ≡ with_count dialed left) where
+  told_on : IsTalkTold (place_of mid) left k.answers end
+  told_on = told_link (place_of mid) fresh left mid new mid_rounds end_rounds end refl n k
 
-  rose_on : RoseBy (fails_in end) loop_faults end_faults
-  rose_on = link_rose end loop_faults end_faults (reads link_old) (reads link_new) (writes link_old) (writes link_new) n.no_read_fault n.no_write_fault k.rose
-      (counts ∙ ap (λ (m : ℕ). min (m + both_counts (reads link_new) (writes link_new)) (2 ^ 64 - 1)) steady)
+  rose_on : RoseBy (fails_in end) before.faults last.faults
+  rose_on = link_rose end before.faults last.faults fresh left n k.rose
+      (ap (λ (d : DialerState). d.faults) put ∙ ap (λ (m : ℕ). min (m + faults_of left) (2 ^ 64 - 1)) steady)
 
-  kept_on : end_back ≡ with_one loop_back link_new
-  kept_on = kept ∙ ap (λ (b : Option (List L)). with_one b link_new) same
+  kept_on : last.links ≡ with_one before.links left
+  kept_on = ap (λ (d : DialerState). d.links) put ∙ ap (λ (b : Option (List LinkState)). with_one b left) same
 
   up_on : (end ≡ link.Closed) ⊎ (end ≡ link.Failed) → IsGivenUp (Talked k.answers end)
   up_on (inl is) = subst (λ (e : LinkEnd). IsGivenUp (Talked k.answers e)) (sym is) tt
@@ -224,37 +223,37 @@ module _ {L : Type 0} (came left taken : L → Option (List ℕ)) (reads writes 
   pub one_round : (end ≡ link.Closed) ⊎ (end ≡ link.Failed) → end_rounds + 1 ≤ mid_rounds
   one_round is = omega (arith, k.counted, takes_round (place_of mid) k.read k.written k.answers end k.talk (up_on is))
 
-  pub turns_on : (end ≡ link.Closed) ⊎ (end ≡ link.Failed) → Turns came left taken back end_back faults end_faults old new rounds end_rounds
-  turns_on is = turns_talked came left taken back loop_back faults loop_faults old mid rounds mid_rounds t link_new k.answers end new end_back end_faults end_rounds told_on kept_on rose_on k.follower k.counted (up_on is)
+  pub turns_on : (end ≡ link.Closed) ⊎ (end ≡ link.Failed) → Turns first last old new rounds end_rounds
+  turns_on is = turns_talked first before old mid rounds mid_rounds t left k.answers end new last end_rounds told_on kept_on rose_on k.follower k.counted (up_on is)
 
-  course_on : (e : LinkEnd) (stop : Stop) → end ≡ e → IsLast (Talked k.answers e) stop → (stop ≡ Spent → end ≡ link.Spent) → Courses came left taken back end_back faults end_faults old new rounds stop
-  course_on e stop is last spent =
-      course_last came left taken back loop_back faults loop_faults old mid rounds mid_rounds t link_new k.answers end new end_back end_faults end_rounds told_on kept_on rose_on k.follower k.counted stop
-      (subst (λ (x : LinkEnd). IsLast (Talked k.answers x) stop) (sym is) last) (λ h. k.spent (spent h))
+  course_on : (e : LinkEnd) (stop : Stop) → end ≡ e → IsLast (Talked k.answers e) stop → (stop ≡ Spent → end ≡ link.Spent) → Courses first last old new rounds stop
+  course_on e stop is ends spent =
+      course_last first before old mid rounds mid_rounds t left k.answers end new last end_rounds told_on kept_on rose_on k.follower k.counted stop
+      (subst (λ (x : LinkEnd). IsLast (Talked k.answers x) stop) (sym is) ends) (λ h. k.spent (spent h))
 
-  pub course_spends : end ≡ link.Spent → Courses came left taken back end_back faults end_faults old new rounds Spent
+  pub course_spends : end ≡ link.Spent → Courses first last old new rounds Spent
   course_spends is = course_on link.Spent Spent is tt (λ h. is)
 
-  pub course_ends : end ≡ link.Ended → Courses came left taken back end_back faults end_faults old new rounds Ended
+  pub course_ends : end ≡ link.Ended → Courses first last old new rounds Ended
   course_ends is = course_on link.Ended Ended is tt (λ h. absurd (ended_unspent h))
 
-  pub course_bad : end ≡ link.Bad → Courses came left taken back end_back faults end_faults old new rounds Bad
+  pub course_bad : end ≡ link.Bad → Courses first last old new rounds Bad
   course_bad is = course_on link.Bad Bad is tt (λ h. absurd (bad_unspent h))
 
-  pub course_memory : end ≡ link.OutOfMemory → Courses came left taken back end_back faults end_faults old new rounds OutOfMemory
+  pub course_memory : end ≡ link.OutOfMemory → Courses first last old new rounds OutOfMemory
   course_memory is = course_on link.OutOfMemory OutOfMemory is tt (λ h. absurd (memory_unspent h))
 
 -- memory lacked before the first turn
-pub course_none : {L : Type 0} (came left taken : L → Option (List ℕ)) (back : Option (List L)) (faults : ℕ) (f : Reading) (rounds : ℕ) → Courses came left taken back back faults faults f f rounds OutOfMemory
-course_none came left taken back faults f rounds = record {
+pub course_none : (dialer : DialerState) (f : Reading) (rounds : ℕ) → Courses dialer dialer f f rounds OutOfMemory
+course_none dialer f rounds = record {
   turns = [];
   links = [];
   told = tt;
-  returned = none_returned back;
+  returned = none_returned dialer.links;
   ends = tt;
   within = omega arith;
   spent = λ h. absurd (memory_unspent h);
-  rose = rose_none faults;
+  rose = rose_none dialer.faults;
   follower = refl;
   place = omega arith;
 }

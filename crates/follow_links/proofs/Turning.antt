@@ -1,7 +1,8 @@
 -- Turns of a run, one after another.
-use Rattle.std.proofs.Common.{◌≡◌, ◌∙◌, ◌+◌, ◌≤◌, inl, inr, ℕ, List, [], ◌∷◌, ◌++◌, length, Option, refl, sym, ap, arith, subst, append_assoc, length-append}
+use Rattle.std.proofs.Common.{◌≡◌, ◌∙◌, ◌+◌, ◌≤◌, inl, inr, ℕ, List, [], ◌∷◌, ◌++◌, length, refl, sym, ap, arith, subst, append_assoc, length-append}
 use Rattle.std.proofs.lemmas.List.{length-map}
 use Rattle.std.specs.List.{AllByRecursion}
+use Rattle.desk_links.specs.Links.{LinkState}
 use Rattle.follow_links.specs.Answers.{Answer}
 use Rattle.follow_links.specs.Talks.{bodies}
 use Rattle.follow_links.specs.Rounds.{Turn, NotDialed, Talked, rounds_of, rounds_in, fails_of, fails, texts_of, texts_in, AreTold, IsGivenUp, IsLast, EndsAs}
@@ -29,18 +30,17 @@ pub up_more : (xs : List Turn) (x : Turn) → AllByRecursion IsGivenUp xs → Is
 up_more [] x a b = (b, tt)
 up_more (y ∷ ys) x a b = (a.0, up_more ys x a.1 b)
 
-module _ {L : Type 0} (came left taken : L → Option (List ℕ)) where
-  pub told_more : (place next : ℕ) (turns : List Turn) (links : List L) (turns' : List Turn) (links' : List L)
-      → next ≡ place + length (texts_in turns) → AreTold came left taken place turns links → AreTold came left taken next turns' links'
-      → AreTold came left taken place (turns ++ turns') (links ++ links')
-  told_more place next [] [] turns' links' is h more = subst (λ (n : ℕ). AreTold came left taken n turns' links') (omega (arith, is)) more
-  told_more place next [] (l ∷ links) turns' links' is h more = absurd h
-  told_more place next (NotDialed ∷ turns) links turns' links' is h more = told_more place next turns links turns' links' is h more
-  told_more place next (Talked answers end ∷ turns) [] turns' links' is h more = absurd h
-  told_more place next (Talked answers end ∷ turns) (l ∷ links) turns' links' is h more =
-      let size = length-append (bodies answers) (texts_in turns) in
-      let same = length-map answers (λ (a : Answer). a.body) in
-      (h.0, told_more (place + length answers) next turns links turns' links' (omega (arith, is, size, same)) h.1 more)
+pub told_more : (place next : ℕ) (turns : List Turn) (links : List LinkState) (turns' : List Turn) (links' : List LinkState)
+    → next ≡ place + length (texts_in turns) → AreTold place turns links → AreTold next turns' links'
+    → AreTold place (turns ++ turns') (links ++ links')
+told_more place next [] [] turns' links' is h more = subst (λ (n : ℕ). AreTold n turns' links') (omega (arith, is)) more
+told_more place next [] (l ∷ links) turns' links' is h more = absurd h
+told_more place next (NotDialed ∷ turns) links turns' links' is h more = told_more place next turns links turns' links' is h more
+told_more place next (Talked answers end ∷ turns) [] turns' links' is h more = absurd h
+told_more place next (Talked answers end ∷ turns) (l ∷ links) turns' links' is h more =
+    let size = length-append (bodies answers) (texts_in turns) in
+    let same = length-map answers (λ (a : Answer). a.body) in
+    (h.0, told_more (place + length answers) next turns links turns' links' (omega (arith, is, size, same)) h.1 more)
 
 up_spends : (turn : Turn) → IsGivenUp turn → rounds_of turn ≤ length (texts_of turn) + fails_of turn
 up_spends NotDialed up = omega arith

@@ -57,12 +57,6 @@ pub record IsCause {T : Type 0} (before now : ℕ) (result : Result T Miss) : Ty
   pub steady : (IsErrOf result miss.Failed → ⊥) → now ≡ before
   pub later : before ≤ now
 
--- reads left alone what was written, the faults of the writes, and what came
-pub record IsBeside (taken taken' : Option (List ℕ)) (writes writes' : ℕ) (came came' : Option (List ℕ)) : Type 0 where
-  pub unwritten : taken' ≡ taken
-  pub steady : writes' ≡ writes
-  pub same : came' ≡ came
-
 -- so many bytes are there, or fewer where the link failed
 abbrev pub ReadsBody : Option (List ℕ) → Option (List ℕ) → List ℕ → List ℕ → ℕ → Result (Unit {0}) Miss → Type 0
 ReadsBody left left' old new wanted (Ok u) = (piece : List ℕ) × Takes left left' piece × (new ≡ old ++ piece) × (length new ≡ wanted)

@@ -1,5 +1,6 @@
 -- What the parts of a talk do.
-use Rattle.std.specs.Prelude.{◌≡◌, ◌≢◌, ◌≤◌, ◌⊎◌, ◌+◌, ℕ, Bool, List, length, Option, Result, Ok, Err, IsErrOf}
+use Rattle.std.specs.Prelude.{◌≡◌, ◌≢◌, ◌≤◌, ◌⊎◌, ◌+◌, ℕ, Bool, List, length, Result, Ok, Err, IsErrOf}
+use Rattle.desk_links.specs.Links.{LinkState}
 use Rattle.desk_traits.specs.Faults.{Rose}
 use Rattle.desk_traits.specs.Streams.{Takes, Adds}
 use Rattle.product_decoder.specs.ReaderModel.{Reading}
@@ -29,28 +30,36 @@ abbrev pub AskGives : Reading → Reading → List ℕ → List ℕ → Result B
 AskGives old new read written (Ok closes) = (written ≡ ask (place_of old)) × ((body : List ℕ) × IsText (place_of old) read (record { status = 200; body = body; closes = closes }) × (new ≡ having_heard old (place_of old) body))
 AskGives old new read written (Err end) = Leaves (place_of old) read written end × (new ≡ old) × (end ≢ Spent)
 
-pub record IsAsk (left left' taken taken' : Option (List ℕ)) (old new : Reading) (result : Result Bool LinkEnd) : Type 0 where
+pub record IsAsk (first last : LinkState) (old new : Reading) (result : Result Bool LinkEnd) : Type 0 where
   pub read : List ℕ
   pub written : List ℕ
-  pub takes : Takes left left' read
-  pub adds : Adds taken taken' written
+  pub takes : Takes first.input.left last.input.left read
+  pub adds : Adds first.output.taken last.output.taken written
   pub gives : AskGives old new read written result
 
+-- a link has failed: the count of its reads rose, or that of its writes
+abbrev pub HasFailed : LinkState → LinkState → Type 0
+HasFailed first last = Rose first.input.faults last.input.faults ⊎ Rose first.output.faults last.output.faults
+
+-- neither count fell
+abbrev pub IsLater : LinkState → LinkState → Type 0
+IsLater first last = (first.input.faults ≤ last.input.faults) × (first.output.faults ≤ last.output.faults)
+
 -- a link that failed has a count that rose
-pub record RoseIfFailed {T : Type 0} (reads reads' writes writes' : ℕ) (result : Result T LinkEnd) : Type 0 where
-  pub rose : IsErrOf result Failed → Rose reads reads' ⊎ Rose writes writes'
-  pub later : (reads ≤ reads') × (writes ≤ writes')
+pub record RoseIfFailed {T : Type 0} (first last : LinkState) (result : Result T LinkEnd) : Type 0 where
+  pub rose : IsErrOf result Failed → HasFailed first last
+  pub later : IsLater first last
 
 -- texts were taken on a link until it was left, and each ask took a round; the count of a link that failed rose
-pub record Talks (came came' left left' taken taken' : Option (List ℕ)) (reads reads' writes writes' : ℕ) (old new : Reading) (rounds rounds' : ℕ) (end : LinkEnd) : Type 0 where
+pub record Talks (first last : LinkState) (old new : Reading) (rounds rounds' : ℕ) (end : LinkEnd) : Type 0 where
   pub answers : List Answer
   pub read : List ℕ
   pub written : List ℕ
-  pub takes : Takes left left' read
-  pub adds : Adds taken taken' written
+  pub takes : Takes first.input.left last.input.left read
+  pub adds : Adds first.output.taken last.output.taken written
   pub talk : IsTalk (place_of old) read written answers end
   pub follower : new ≡ after_all old (bodies answers)
   pub counted : length answers + asks_in end + rounds' ≡ rounds
   pub spent : end ≡ Spent → rounds' ≡ 0
-  pub rose : end ≡ Failed → Rose reads reads' ⊎ Rose writes writes'
-  pub same : came' ≡ came
+  pub rose : end ≡ Failed → HasFailed first last
+  pub same : last.came ≡ first.came

@@ -1,5 +1,6 @@
 -- The rounds of a run, over one link after another.
 use Rattle.std.specs.Prelude.{◌≡◌, ◌≤◌, ◌⊎◌, ◌++◌, ◌+◌, ◌-◌, ◌^◌, min, ℕ, List, [], ◌∷◌, length, Option, Some, None, option_map}
+use Rattle.desk_links.specs.Links.{DialerState, LinkState}
 use Rattle.desk_traits.specs.Streams.{Takes}
 use Rattle.product_decoder.specs.ReaderModel.{Reading}
 use Rattle.follow_core.specs.Hearing.{place_of}
@@ -48,21 +49,21 @@ IsWritten None written = Unit {0}
 IsWritten (Some told) written = told ≡ written
 
 -- what was read of a link and written on it is a talk from this place on
-pub record IsTalkTold (place : ℕ) (came left taken : Option (List ℕ)) (answers : List Answer) (end : LinkEnd) : Type 0 where
+pub record IsTalkTold (place : ℕ) (link : LinkState) (answers : List Answer) (end : LinkEnd) : Type 0 where
   pub read : List ℕ
   pub written : List ℕ
-  pub reads : Takes came left read
-  pub writes : IsWritten taken written
+  pub reads : Takes link.came link.input.left read
+  pub writes : IsWritten link.output.taken written
   pub talk : IsTalk place read written answers end
 
 -- the links are those of the turns, in order, each from the place after the texts before
-abbrev pub AreTold : {L : Type 0} → (L → Option (List ℕ)) → (L → Option (List ℕ)) → (L → Option (List ℕ)) → ℕ → List Turn → List L → Type 0
-AreTold came left taken place [] [] = Unit {0}
-AreTold came left taken place [] (l ∷ links) = ⊥
-AreTold came left taken place (NotDialed ∷ turns) links = AreTold came left taken place turns links
-AreTold came left taken place (Talked answers end ∷ turns) [] = ⊥
-AreTold came left taken place (Talked answers end ∷ turns) (l ∷ links) =
-    IsTalkTold place (came l) (left l) (taken l) answers end × AreTold came left taken (place + length answers) turns links
+abbrev pub AreTold : ℕ → List Turn → List LinkState → Type 0
+AreTold place [] [] = Unit {0}
+AreTold place [] (l ∷ links) = ⊥
+AreTold place (NotDialed ∷ turns) links = AreTold place turns links
+AreTold place (Talked answers end ∷ turns) [] = ⊥
+AreTold place (Talked answers end ∷ turns) (l ∷ links) =
+    IsTalkTold place l answers end × AreTold (place + length answers) turns links
 
 -- a turn behind which the next round dials: the dial failed, or the link closed or failed
 abbrev pub IsGivenUp : Turn → Type 0
@@ -94,16 +95,16 @@ EndsAs (turn ∷ turns) stop = (IsGivenUp turn × EndsAs turns stop) ⊎ ((turns
 abbrev pub RoseBy : ℕ → ℕ → ℕ → Type 0
 RoseBy much before now = min (before + much) (2 ^ 64 - 1) ≤ now
 
--- The turns of a run of at most so many rounds, and the links that came back.
-pub record Courses {L : Type 0} (came left taken : L → Option (List ℕ)) (back back' : Option (List L)) (faults faults' : ℕ) (old new : Reading) (rounds : ℕ) (stop : Stop) : Type 0 where
+-- The turns of a run of at most so many rounds, and the links that were returned.
+pub record Courses (first last : DialerState) (old new : Reading) (rounds : ℕ) (stop : Stop) : Type 0 where
   pub turns : List Turn
-  pub links : List L
-  pub told : AreTold came left taken (place_of old) turns links
-  pub returned : back' ≡ option_map (λ before. before ++ links) back
+  pub links : List LinkState
+  pub told : AreTold (place_of old) turns links
+  pub returned : last.links ≡ option_map (λ before. before ++ links) first.links
   pub ends : EndsAs turns stop
   pub within : rounds_in turns ≤ rounds
   pub spent : stop ≡ Spent → rounds_in turns ≡ rounds
-  pub rose : RoseBy (fails turns) faults faults'
+  pub rose : RoseBy (fails turns) first.faults last.faults
   pub follower : new ≡ after_all old (texts_in turns)
   -- each text that was taken makes the place one more
   pub place : place_of new ≡ place_of old + length (texts_in turns)

@@ -1,6 +1,7 @@
 -- What a run does as its words ask.
 use Rattle.std.specs.Prelude.{◌≡◌, ◌≤◌, ◌⊎◌, ◌++◌, ◌+◌, ℕ, List, [], length, Option, Some, None}
 use Rattle.hazard_types.specs.declared.line.Row.{Row}
+use Rattle.desk_links.specs.Links.{DialerState}
 use Rattle.event_life.specs.Products.{rows_of}
 use Rattle.event_life.specs.Shown.{shown_at}
 use Rattle.product_decoder.specs.ReaderModel.{Reading}
@@ -39,29 +40,33 @@ first_of asked = record { office = asked.office; class = asked.class; products =
 abbrev pub rows_shown : Asked → List (List ℕ) → List Row
 rows_shown asked texts = shown_at asked.minute (rows_of (products_in asked.office asked.class texts))
 
--- The rounds that the words ask for, the links that came back from them, and what was told.
-pub record IsFollowed {L : Type 0} (came left taken : L → Option (List ℕ)) (asked : Asked) (back back' : Option (List L)) (faults faults' : ℕ) (told told' : Option (List ℕ)) (before now status : ℕ) : Type 0 where
+-- The rounds that the words ask for, the links that were returned from them, and what was told.
+pub record IsFollowed (asked : Asked) (first last : DialerState) (told told' : Option (List ℕ)) (before now status : ℕ) : Type 0 where
   pub stop : Stop
   pub follower : Reading
-  pub course : Courses came left taken back back' faults faults' (first_of asked) follower asked.rounds stop
+  pub course : Courses first last (first_of asked) follower asked.rounds stop
   -- the texts that were taken are as many as the place, and what is shown is what a reader of them shows
   pub ends : IsToldAt stop (length (texts_in course.turns)) asked.minute (rows_shown asked (texts_in course.turns)) told told' before now status
   -- rounds are spent only by texts that were taken, and by dials and links that failed
   pub spent : stop ≡ Spent → asked.rounds ≤ length (texts_in course.turns) + fails course.turns
 
--- what was asked for, by the words: other words dial nothing
-abbrev pub FollowsAs : {L : Type 0} → (L → Option (List ℕ)) → (L → Option (List ℕ)) → (L → Option (List ℕ)) → Option Asked → Option (List L) → Option (List L) → ℕ → ℕ → Option (List ℕ) → Option (List ℕ) → ℕ → ℕ → ℕ → Type 0
-FollowsAs came left taken None back back' faults faults' told told' before now status =
-    (back' ≡ back) × (faults' ≡ faults) × IsToldAs usage_line 2 told told' before now status
-FollowsAs came left taken (Some asked) back back' faults faults' told told' before now status =
-    IsFollowed came left taken asked back back' faults faults' told told' before now status
+-- nothing was dialed
+abbrev pub IsUndialed : DialerState → DialerState → Type 0
+IsUndialed first last = (last.links ≡ first.links) × (last.faults ≡ first.faults)
 
-abbrev pub Follows : {L : Type 0} → (L → Option (List ℕ)) → (L → Option (List ℕ)) → (L → Option (List ℕ)) → List (List ℕ) → Option (List L) → Option (List L) → ℕ → ℕ → Option (List ℕ) → Option (List ℕ) → ℕ → ℕ → ℕ → Type 0
-Follows came left taken words back back' faults faults' told told' before now status =
-    FollowsAs came left taken (asked_of words) back back' faults faults' told told' before now status
+-- what was asked for, by the words: other words dial nothing
+abbrev pub FollowsAs : Option Asked → DialerState → DialerState → Option (List ℕ) → Option (List ℕ) → ℕ → ℕ → ℕ → Type 0
+FollowsAs None first last told told' before now status =
+    IsUndialed first last × IsToldAs usage_line 2 told told' before now status
+FollowsAs (Some asked) first last told told' before now status =
+    IsFollowed asked first last told told' before now status
+
+abbrev pub Follows : List (List ℕ) → DialerState → DialerState → Option (List ℕ) → Option (List ℕ) → ℕ → ℕ → ℕ → Type 0
+Follows words first last told told' before now status =
+    FollowsAs (asked_of words) first last told told' before now status
 
 -- memory lacked for the words: nothing was dialed or written
-pub record IsUnbegun {L : Type 0} (back back' : Option (List L)) (faults faults' : ℕ) (told told' : Option (List ℕ)) (before now status : ℕ) : Type 0 where
+pub record IsUnbegun (first last : DialerState) (told told' : Option (List ℕ)) (before now status : ℕ) : Type 0 where
   pub no_memory : status ≡ 12
-  pub undialed : (back' ≡ back) × (faults' ≡ faults)
+  pub undialed : IsUndialed first last
   pub unwritten : (told' ≡ told) × (now ≡ before)

@@ -2,7 +2,8 @@
 ghost use Rattle.std.specs.Prelude.{◌≡◌, ◌≤◌, ◌<◌, [], length, take, IfOk, OnOk, OnErr};
 ghost use Rattle.desk_traits.specs.Faults.{HasCause};
 ghost use Rattle.desk_traits.specs.Streams.{Takes};
-ghost use Rattle.follow_links.specs.Readings.{ReadsMore, ReadsBody, ReadsHead, ReadsAnswer, IsCause, IsBeside};
+ghost use Rattle.desk_links.specs.Links.{KeepsOutput};
+ghost use Rattle.follow_links.specs.Readings.{ReadsMore, ReadsBody, ReadsHead, ReadsAnswer, IsCause};
 
 use crate::answers::{Head, MOST_BYTES, Shape, head_of};
 use desk_links::Peer;
@@ -29,30 +30,34 @@ impl From<Oom> for Miss {
     }
 }
 
-/// Reads at most `room` bytes into the front of the buffer.
-fn hear_front<L: Peer>(link: &mut L, buffer: &mut [u8], room: usize) -> Result<usize, Failed>
+/// Reads at most `room` bytes into the start of the buffer.
+fn read_up_to<L: Peer>(link: &mut L, buffer: &mut [u8], room: usize) -> Result<usize, Failed>
     requires some { 1 ≤ room }
     requires within { room ≤ length buffer.old }
-    ensures taken { IfOk result (λ count. (1 ≤ count) × (count ≤ room) × (count ≤ length buffer.new) × Takes (L.Source.left link.old) (L.Source.left link.new) (take count buffer.new)) }
-    ensures failed { OnErr result (L.Source.left link.new ≡ L.Source.left link.old) }
-    ensures cause { HasCause (L.Source.faults link.old) (L.Source.faults link.new) result }
-    ensures steady { OnOk result (L.Source.faults link.new ≡ L.Source.faults link.old) }
-    ensures beside { L.Source.reads link.old link.new }
+    ensures taken { IfOk result (λ count. (1 ≤ count) × (count ≤ room) × (count ≤ length buffer.new)
+        × Takes (L.state link.old).input.left (L.state link.new).input.left
+        (take count buffer.new)) }
+    ensures failed { OnErr result ((L.state link.new).input.left ≡ (L.state link.old).input.left) }
+    ensures cause { HasCause (L.state link.old).input.faults (L.state link.new).input.faults result }
+    ensures steady { OnOk result
+        ((L.state link.new).input.faults ≡ (L.state link.old).input.faults) }
+    ensures beside { KeepsOutput (L.state link.old) (L.state link.new) }
 {
-    let count = link.hear(&mut buffer[..room])?;
+    let count = link.read_some(&mut buffer[..room])?;
     Ok(count)
 }
 
 /// Reads at least one byte and at most so many.
 fn read_more<L: Peer>(link: &mut L, bytes: &mut Text, most: usize) -> Result<(), Miss>
     requires { 1 ≤ most }
-    ensures read { ReadsMore (L.Source.left link.old) (L.Source.left link.new) bytes.old bytes.new most result }
-    ensures cause { IsCause (L.Source.faults link.old) (L.Source.faults link.new) result }
-    ensures beside { IsBeside (L.Sink.taken link.old) (L.Sink.taken link.new) (L.Sink.faults link.old) (L.Sink.faults link.new) (L.came link.old) (L.came link.new) }
+    ensures read { ReadsMore (L.state link.old).input.left (L.state link.new).input.left
+        bytes.old bytes.new most result }
+    ensures cause { IsCause (L.state link.old).input.faults (L.state link.new).input.faults result }
+    ensures beside { KeepsOutput (L.state link.old) (L.state link.new) }
 {
     let mut buffer = [0u8; 4096];
     let room = most.min(4096);
-    match hear_front(link, &mut buffer, room) {
+    match read_up_to(link, &mut buffer, room) {
         Ok(count) => bytes.extend(&buffer[..count])?,
         Err(Failed) => return Err(Miss::Failed),
     }
@@ -67,10 +72,11 @@ fn read_head<L: Peer>(
 ) -> Result<Shape, Miss>
     requires none { bytes.old ≡ [] }
     requires room { length fields.old ≡ 2731 }
-    ensures read { ReadsHead (L.Source.left link.old) (L.Source.left link.new) bytes.new result }
+    ensures read { ReadsHead (L.state link.old).input.left (L.state link.new).input.left bytes.new
+        result }
     ensures kept { length fields.new ≡ 2731 }
-    ensures cause { IsCause (L.Source.faults link.old) (L.Source.faults link.new) result }
-    ensures beside { IsBeside (L.Sink.taken link.old) (L.Sink.taken link.new) (L.Sink.faults link.old) (L.Sink.faults link.new) (L.came link.old) (L.came link.new) }
+    ensures cause { IsCause (L.state link.old).input.faults (L.state link.new).input.faults result }
+    ensures beside { KeepsOutput (L.state link.old) (L.state link.new) }
 {
     while bytes.len() < MOST_BYTES {
         if let Err(miss) = read_more(link, bytes, 1) {
@@ -88,9 +94,10 @@ fn read_head<L: Peer>(
 /// Reads until there are so many bytes.
 fn read_body<L: Peer>(link: &mut L, bytes: &mut Text, wanted: usize) -> Result<(), Miss>
     requires { length bytes.old ≤ wanted }
-    ensures read { ReadsBody (L.Source.left link.old) (L.Source.left link.new) bytes.old bytes.new wanted result }
-    ensures cause { IsCause (L.Source.faults link.old) (L.Source.faults link.new) result }
-    ensures beside { IsBeside (L.Sink.taken link.old) (L.Sink.taken link.new) (L.Sink.faults link.old) (L.Sink.faults link.new) (L.came link.old) (L.came link.new) }
+    ensures read { ReadsBody (L.state link.old).input.left (L.state link.new).input.left
+        bytes.old bytes.new wanted result }
+    ensures cause { IsCause (L.state link.old).input.faults (L.state link.new).input.faults result }
+    ensures beside { KeepsOutput (L.state link.old) (L.state link.new) }
 {
     while bytes.len() < wanted {
         let most = wanted - bytes.len();
@@ -105,7 +112,8 @@ fn read_body<L: Peer>(link: &mut L, bytes: &mut Text, wanted: usize) -> Result<(
 ///
 /// # Errors
 ///
-/// A link that failed or ended before the answer was whole, an answer whose head is bad, and out of memory.
+/// A link that failed or ended before the answer was whole, an answer whose head is bad, and out of
+/// memory.
 pub fn read_answer<L: Peer>(
     link: &mut L,
     fields: &mut [HeaderSpan],
@@ -113,10 +121,11 @@ pub fn read_answer<L: Peer>(
 ) -> Result<Shape, Miss>
     requires none { bytes.old ≡ [] }
     requires room { length fields.old ≡ 2731 }
-    ensures read { ReadsAnswer (L.Source.left link.old) (L.Source.left link.new) bytes.new result }
+    ensures read { ReadsAnswer (L.state link.old).input.left (L.state link.new).input.left
+        bytes.new result }
     ensures kept { length fields.new ≡ 2731 }
-    ensures cause { IsCause (L.Source.faults link.old) (L.Source.faults link.new) result }
-    ensures beside { IsBeside (L.Sink.taken link.old) (L.Sink.taken link.new) (L.Sink.faults link.old) (L.Sink.faults link.new) (L.came link.old) (L.came link.new) }
+    ensures cause { IsCause (L.state link.old).input.faults (L.state link.new).input.faults result }
+    ensures beside { KeepsOutput (L.state link.old) (L.state link.new) }
 {
     let shape = read_head(link, fields, bytes)?;
     match read_body(link, bytes, shape.from + shape.body as usize) {

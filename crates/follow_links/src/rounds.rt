@@ -22,18 +22,19 @@ pub enum Stop {
     OutOfMemory,
 }
 
-/// Asks for the products behind those that the follower has, in at most so many rounds. A round is a dial that
-/// failed, or a question on a link.
+/// Asks for the products behind those that the follower has, in at most so many rounds. A round is
+/// a dial that failed, or a question on a link.
 pub fn follow_rounds<D: Dialer>(
     alloc: Global,
     dialer: &mut D,
     follower: &mut Follower,
     rounds: u32,
 ) -> Stop
-    requires none_out { D.given dialer.old ≡ D.returned dialer.old }
-    requires few { D.returned dialer.old + rounds < 2 ^ 32 }
-    ensures back { D.given dialer.new ≡ D.returned dialer.new }
-    ensures course { Courses D.Link.came D.Link.Source.left D.Link.Sink.taken (D.links dialer.old) (D.links dialer.new) (D.faults dialer.old) (D.faults dialer.new) follower.old follower.new rounds result }
+    requires none_out { (D.state dialer.old).given ≡ (D.state dialer.old).returned }
+    requires few { (D.state dialer.old).returned + rounds < 2 ^ 32 }
+    ensures back { (D.state dialer.new).given ≡ (D.state dialer.new).returned }
+    ensures course { Courses (D.state dialer.old) (D.state dialer.new)
+        follower.old follower.new rounds result }
 {
     let Ok(mut fields) = Vec::from_elem(alloc, EMPTY_HEADER_SPAN, ROOM) else {
         return Stop::OutOfMemory;
@@ -44,7 +45,7 @@ pub fn follow_rounds<D: Dialer>(
             Err(Failed) => left -= 1,
             Ok(mut link) => {
                 let end = talk(alloc, &mut link, follower, fields.as_mut_slice(), &mut left);
-                dialer.back(link);
+                dialer.return_link(link);
                 match end {
                     LinkEnd::Closed | LinkEnd::Failed => {}
                     LinkEnd::Spent => return Stop::Spent,

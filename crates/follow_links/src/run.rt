@@ -68,11 +68,11 @@ fn tell_stop<K: Sink>(
 
 /// Follows as asked.
 fn follow<D: Dialer, K: Sink>(alloc: Global, asked: &Asked, dialer: &mut D, output: &mut K) -> u8
-    requires none_out { D.given dialer.old ≡ D.returned dialer.old }
-    requires few { D.returned dialer.old + asked.now.rounds < 2 ^ 32 }
-    ensures back { D.given dialer.new ≡ D.returned dialer.new }
-    ensures followed { IsFollowed D.Link.came D.Link.Source.left D.Link.Sink.taken asked.now (D.links dialer.old) (D.links dialer.new)
-        (D.faults dialer.old) (D.faults dialer.new) (K.taken output.old) (K.taken output.new) (K.faults output.old) (K.faults output.new) result }
+    requires none_out { (D.state dialer.old).given ≡ (D.state dialer.old).returned }
+    requires few { (D.state dialer.old).returned + asked.now.rounds < 2 ^ 32 }
+    ensures back { (D.state dialer.new).given ≡ (D.state dialer.new).returned }
+    ensures followed { IsFollowed asked.now (D.state dialer.old) (D.state dialer.new)
+        (K.taken output.old) (K.taken output.new) (K.faults output.old) (K.faults output.new) result }
 {
     let mut follower = Follower::new(alloc, asked.office, asked.class);
     let stop = follow_rounds(alloc, dialer, &mut follower, asked.rounds);
@@ -86,11 +86,11 @@ pub fn follow_run<D: Dialer, K: Sink>(
     dialer: &mut D,
     output: &mut K,
 ) -> u8
-    requires none_out { D.given dialer.old ≡ D.returned dialer.old }
-    requires few { D.returned dialer.old + 100000 < 2 ^ 32 }
-    ensures back { D.given dialer.new ≡ D.returned dialer.new }
-    ensures follows { Follows D.Link.came D.Link.Source.left D.Link.Sink.taken words.now (D.links dialer.old) (D.links dialer.new)
-        (D.faults dialer.old) (D.faults dialer.new) (K.taken output.old) (K.taken output.new) (K.faults output.old) (K.faults output.new) result }
+    requires none_out { (D.state dialer.old).given ≡ (D.state dialer.old).returned }
+    requires few { (D.state dialer.old).returned + 100000 < 2 ^ 32 }
+    ensures back { (D.state dialer.new).given ≡ (D.state dialer.new).returned }
+    ensures follows { Follows words.now (D.state dialer.old) (D.state dialer.new)
+        (K.taken output.old) (K.taken output.new) (K.faults output.old) (K.faults output.new) result }
 {
     let Some(asked) = asked_of(words) else {
         return tell(output, b"fault Usage\n", USAGE);
@@ -106,13 +106,13 @@ pub fn run_program<D: Dialer, K: Sink>(
     dialer: &mut D,
     output: &mut K,
 ) -> u8
-    requires none_out { D.given dialer.old ≡ D.returned dialer.old }
-    requires few { D.returned dialer.old + 100000 < 2 ^ 32 }
-    ensures back { D.given dialer.new ≡ D.returned dialer.new }
-    ensures follows { IsUnbegun (D.links dialer.old) (D.links dialer.new) (D.faults dialer.old) (D.faults dialer.new)
+    requires none_out { (D.state dialer.old).given ≡ (D.state dialer.old).returned }
+    requires few { (D.state dialer.old).returned + 100000 < 2 ^ 32 }
+    ensures back { (D.state dialer.new).given ≡ (D.state dialer.new).returned }
+    ensures follows { IsUnbegun (D.state dialer.old) (D.state dialer.new)
         (K.taken output.old) (K.taken output.new) (K.faults output.old) (K.faults output.new) result
-        ⊎ Follows D.Link.came D.Link.Source.left D.Link.Sink.taken (words_behind 1 command_line.now) (D.links dialer.old) (D.links dialer.new)
-        (D.faults dialer.old) (D.faults dialer.new) (K.taken output.old) (K.taken output.new) (K.faults output.old) (K.faults output.new) result }
+        ⊎ Follows (words_behind 1 command_line.now) (D.state dialer.old) (D.state dialer.new)
+        (K.taken output.old) (K.taken output.new) (K.faults output.old) (K.faults output.new) result }
 {
     match given_words(alloc, command_line, 1) {
         Ok(words) => follow_run(alloc, &words, dialer, output),

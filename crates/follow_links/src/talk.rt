@@ -7,8 +7,7 @@ ghost use Rattle.follow_links.specs.Readings.{IsShaped};
 use crate::answers::Shape;
 use crate::asks::ask_text;
 use crate::reading::{Miss, read_answer};
-use desk_links::Peer;
-use desk_traits::write_whole;
+use desk_links::{Peer, write_link};
 use follow_core::Follower;
 use hazard_types::{Or, Text};
 use httparse::spans::HeaderSpan;
@@ -90,15 +89,15 @@ fn ask_once<L: Peer>(
     fields: &mut [HeaderSpan],
 ) -> Result<bool, LinkEnd>
     requires room { length fields.old ≡ 2731 }
-    ensures asked { IsAsk (L.Source.left link.old) (L.Source.left link.new) (L.Sink.taken link.old) (L.Sink.taken link.new) follower.old follower.new result }
+    ensures asked { IsAsk (L.state link.old) (L.state link.new) follower.old follower.new result }
     ensures kept { length fields.new ≡ 2731 }
-    ensures cause { RoseIfFailed (L.Source.faults link.old) (L.Source.faults link.new) (L.Sink.faults link.old) (L.Sink.faults link.new) result }
-    ensures came { L.came link.new ≡ L.came link.old }
+    ensures cause { RoseIfFailed (L.state link.old) (L.state link.new) result }
+    ensures came { (L.state link.new).came ≡ (L.state link.old).came }
 {
     let Ok(ask) = ask_text(alloc, follower.place()) else {
         return Err(LinkEnd::OutOfMemory);
     };
-    if write_whole(link, ask.as_slice()).is_err() {
+    if write_link(link, ask.as_slice()).is_err() {
         return Err(LinkEnd::Failed);
     }
     let mut bytes = Text::new(alloc);
@@ -117,8 +116,8 @@ pub fn talk<L: Peer>(
     left: &mut u32,
 ) -> LinkEnd
     requires room { length fields.old ≡ 2731 }
-    ensures talks { Talks (L.came link.old) (L.came link.new) (L.Source.left link.old) (L.Source.left link.new) (L.Sink.taken link.old) (L.Sink.taken link.new)
-        (L.Source.faults link.old) (L.Source.faults link.new) (L.Sink.faults link.old) (L.Sink.faults link.new) follower.old follower.new left.old left.new result }
+    ensures talks { Talks (L.state link.old) (L.state link.new) follower.old follower.new
+        left.old left.new result }
     ensures kept { length fields.new ≡ 2731 }
 {
     while *left > 0 {

@@ -1,5 +1,6 @@
 -- What `serve` does: the office of a journal is served over the links of a port, and what the journal and the port are then.
 use Rattle.std.specs.Prelude.{◌≡◌, ◌≤◌, ◌⊎◌, ◌++◌, ℕ, ℤ, List, [], length, Option, Some, codes, decimal}
+use Rattle.desk_links.specs.Links.{PortState}
 use Rattle.desk_traits.specs.declared.disk.Disk.{Ghosts as Disks}
 use Rattle.office_journal.specs.Kept.{disk_of, entries_of, state_of}
 use Rattle.office_journal.specs.declared.kept.KeptOffice.{KeptOffice}
@@ -7,8 +8,7 @@ use Rattle.program_ends.specs.Ends.{Telling}
 use Rattle.program_ends.specs.declared.ends.End.TheVariants.{OutOfMemory, PortFault}
 use Rattle.desk_commands.specs.Commands.{TellsText}
 use Rattle.desk_commands.specs.Opening.{IsOpened, IsUnopenedRun}
-use Rattle.warn_serve.specs.Links.{Ways}
-use Rattle.warn_serve.specs.Served.{IsServed, PortState}
+use Rattle.warn_serve.specs.Served.{IsServed}
 use Rattle.warn_serve.specs.declared.serving.ServeEnd.{ServeEnd}
 use Rattle.warn_serve.specs.declared.serving.ServeEnd.TheVariants as serve
 use Rattle.serve_command.specs.Growing.{HasGrown}
@@ -24,15 +24,15 @@ TellsServed serve.Done line writes taken taken' writes' status = TellsText line 
 TellsServed serve.PortFault line writes taken taken' writes' status = Telling [] writes taken taken' writes' (Some PortFault) status
 TellsServed serve.OutOfMemory line writes taken taken' writes' status = Telling [] writes taken taken' writes' (Some OutOfMemory) status
 
-module _ {D L : Type 0} (d : Disks D) (w : Ways L) (gives : ℤ → Type 0) where
+module _ {D : Type 0} (d : Disks D) (gives : ℤ → Type 0) where
   -- the office that the disk holds was opened and served
-  pub record IsServeRun (serving : Serving) (disk next : D) (port port' : PortState L) (taken taken' : Option (List ℕ)) (writes writes' status : ℕ) : Type 0 where
+  pub record IsServeRun (serving : Serving) (disk next : D) (port port' : PortState) (taken taken' : Option (List ℕ)) (writes writes' status : ℕ) : Type 0 where
     pub opened : KeptOffice D d
     pub first : IsOpened d disk opened
     -- the office when all its workers had ended
     pub closed : KeptOffice D d
     pub end : ServeEnd
-    pub served : IsServed d w gives opened closed serving.port serving.connections port port' end
+    pub served : IsServed d gives opened closed serving.port serving.connections port port' end
     pub told : TellsServed end (summary (entries_of closed) (length (state_of closed).products)) writes taken taken' writes' status
     pub handed : next ≡ disk_of closed
     -- one legal history, which holds the requests that were accepted on the links behind what was found, and the disk
@@ -40,6 +40,6 @@ module _ {D L : Type 0} (d : Disks D) (w : Ways L) (gives : ℤ → Type 0) wher
     pub later : d.faults disk ≤ d.faults next
 
   -- it was; or no office was opened, and the port is as it was
-  abbrev pub Serves : Serving → D → D → PortState L → PortState L → Option (List ℕ) → Option (List ℕ) → ℕ → ℕ → ℕ → Type 0
+  abbrev pub Serves : Serving → D → D → PortState → PortState → Option (List ℕ) → Option (List ℕ) → ℕ → ℕ → ℕ → Type 0
   Serves serving disk next port port' taken taken' writes writes' status =
       (IsUnopenedRun d disk next taken taken' writes writes' status × (port' ≡ port)) ⊎ IsServeRun serving disk next port port' taken taken' writes writes' status

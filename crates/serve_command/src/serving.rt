@@ -2,7 +2,6 @@
 ghost use Rattle.std.specs.Prelude.{◌≡◌, IfOk, length};
 ghost use Rattle.office_journal.specs.Kept.{entries_of, state_of};
 ghost use Rattle.desk_commands.specs.Opening.{IsOpened};
-ghost use Rattle.warn_serve.specs.Links.{ways};
 ghost use Rattle.serve_command.specs.Serving.{IsServeRun, Serves, TellsServed, summary};
 ghost use Rattle.serve_command.specs.Words.{IsServing};
 
@@ -72,14 +71,11 @@ fn serve_office<
     gate: &G,
 ) -> Ended<D>
     requires form { IsServing serving.now }
-    requires unused { P.returned port.old ≡ 0 }
+    requires unused { (P.state port.old).returned ≡ 0 }
     ensures { (disk : D) → IsOpened D.Disk disk kept →
-        IsServeRun D.Disk
-        (ways P.Door.Link.came P.Door.Link.left P.Door.Link.taken P.Door.Link.Source.faults P.Door.Link.Sink.faults)
-        (C.gives clock.now) serving.now disk result.disk
-        (record { returned = P.returned port.old; links = P.links port.old; numbers = P.numbers port.old; faults = P.faults port.old })
-        (record { returned = P.returned port.new; links = P.links port.new; numbers = P.numbers port.new; faults = P.faults port.new })
-        (K.taken output.old) (K.taken output.new) (K.faults output.old) (K.faults output.new) result.status }
+        IsServeRun D.Disk (C.gives clock.now) serving.now disk result.disk
+        (P.state port.old) (P.state port.new) (K.taken output.old) (K.taken output.new)
+        (K.faults output.old) (K.faults output.new) result.status }
 {
     let (kept, end) = serve(
         rt,
@@ -100,8 +96,8 @@ fn serve_office<
     }
 }
 
-/// Serves the office whose journal the disk holds over the links of a port, and then writes how many requests and products
-/// it has.
+/// Serves the office whose journal the disk holds over the links of a port, and then writes how
+/// many requests and products it has.
 pub fn run_serve<
     R: Threads + Wait + Sync,
     K: Sink,
@@ -120,13 +116,10 @@ pub fn run_serve<
     gate: &G,
 ) -> Ended<D>
     requires form { IsServing serving.now }
-    requires unused { P.returned port.old ≡ 0 }
-    ensures { Serves D.Disk
-        (ways P.Door.Link.came P.Door.Link.left P.Door.Link.taken P.Door.Link.Source.faults P.Door.Link.Sink.faults)
-        (C.gives clock.now) serving.now disk result.disk
-        (record { returned = P.returned port.old; links = P.links port.old; numbers = P.numbers port.old; faults = P.faults port.old })
-        (record { returned = P.returned port.new; links = P.links port.new; numbers = P.numbers port.new; faults = P.faults port.new })
-        (K.taken output.old) (K.taken output.new) (K.faults output.old) (K.faults output.new) result.status }
+    requires unused { (P.state port.old).returned ≡ 0 }
+    ensures { Serves D.Disk (C.gives clock.now) serving.now disk result.disk
+        (P.state port.old) (P.state port.new) (K.taken output.old) (K.taken output.new)
+        (K.faults output.old) (K.faults output.new) result.status }
 {
     match open(alloc, disk) {
         Ok(kept) => serve_office(rt, alloc, serving, output, kept, port, clock, gate),

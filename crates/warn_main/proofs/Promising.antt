@@ -27,7 +27,6 @@ use Rattle.desk_program.specs.declared.words.Command.{Command}
 use Rattle.desk_program.specs.declared.words.Command.TheVariants as command
 use Rattle.serve_command.specs.Words.{serving_of}
 use Rattle.serve_command.specs.declared.words.Serving.{Serving}
-use Rattle.warn_serve.specs.Links.{Ways}
 use Rattle.office_journal.proofs.Between.{grown_none}
 use Rattle.warn_main.specs.Offices.{Office, office_by, office_exported, office_if, office_in, office_served, office_shown, office_upgraded, unchanged}
 use Rattle.warn_main.specs.Promise.{IsOneHistory, OutlastsCrashes, Promise}
@@ -54,7 +53,7 @@ one_history office file found last accepted legal once reads = record {
   board = reads.rows;
 }
 
-module _ {D C L : Type 0} (d : Disks D) (before after : World D C L) where
+module _ {D C : Type 0} (d : Disks D) (before after : World D C) where
   -- what crashes leave, by what is kept of a history
   phrases : (bytes file : List ℕ) (found last : History) (may : Change → Type 0) (office : Office d) → IsOpened d before.disk office.opened → d.seen before.disk ≡ Some bytes
       → KeepsHistory d before.disk (disk_of office.opened) after.disk bytes file found last may office.state → last.entries ≡ found.entries ++ office.accepted
@@ -120,9 +119,9 @@ module _ {D C L : Type 0} (d : Disks D) (before after : World D C L) where
     kept_if None does = tt
     kept_if (Some command) does = kept_by command does
 
-    module _ (w : Ways L) (words : List (List ℕ)) where
-      kept_served : (serving : Serving) (does : DoesServe d k w before after status serving)
-          → IfSome (office_served d k w before after status serving does) Phrases
+    module _ (words : List (List ℕ)) where
+      kept_served : (serving : Serving) (does : DoesServe d k before after status serving)
+          → IfSome (office_served d k before after status serving does) Phrases
       kept_served serving (unread, same, inl unopened) = tt
       kept_served serving (unread, same, inr run) = λ bytes seen.
           let held = run.history bytes seen in
@@ -132,8 +131,8 @@ module _ {D C L : Type 0} (d : Disks D) (before after : World D C L) where
           phrases bytes held.0 held.1 last may (record { opened = run.opened; accepted = turns.entries_in happenings; state = state_of run.closed }) run.first seen
           (subst (λ (x : D). KeepsHistory d before.disk (disk_of run.opened) x bytes held.0 held.1 last may (state_of run.closed)) (sym run.handed) held.2) refl
 
-      kept_in : (asked : Option Serving) (does : MatchOption asked (alone.DoesAsAsked d k words limit (without_port before) (without_port after) status × SamePort before after) (DoesServe d k w before after status))
-          → IfSome (office_in d k w before after status words limit asked does) Phrases
+      kept_in : (asked : Option Serving) (does : MatchOption asked (alone.DoesAsAsked d k words limit (without_port before) (without_port after) status × SamePort before after) (DoesServe d k before after status))
+          → IfSome (office_in d k before after status words limit asked does) Phrases
       kept_in None does = kept_if (command_of words) does.0.run
       kept_in (Some serving) does = kept_served serving does
 
@@ -190,9 +189,9 @@ module _ {D C L : Type 0} (d : Disks D) (before after : World D C L) where
       lawful_if None other does = tt
       lawful_if (Some one) other does = lawful_by one (λ is. other (ap (λ (c : Command). Some c) is)) does
 
-      module _ (w : Ways L) (words : List (List ℕ)) (other : command_of words ≢ Some command.Upgrade) where
-        lawful_served : (serving : Serving) (does : DoesServe d k w before after status serving)
-            → IfSome (office_served d k w before after status serving does) Lawful
+      module _ (words : List (List ℕ)) (other : command_of words ≢ Some command.Upgrade) where
+        lawful_served : (serving : Serving) (does : DoesServe d k before after status serving)
+            → IfSome (office_served d k before after status serving does) Lawful
         lawful_served serving (unread, same, inl unopened) = tt
         lawful_served serving (unread, same, inr run) =
             let first = run.first in
@@ -200,8 +199,8 @@ module _ {D C L : Type 0} (d : Disks D) (before after : World D C L) where
             carried (record { opened = run.opened; accepted = turns.entries_in run.served.happenings; state = state_of run.closed }) run.closed first.legal.0 first.legal.1 first.legal.2
             (since.legal first.legal.0 first.legal.1 first.legal.2, since.reads first.reads) refl
 
-        lawful_in : (asked : Option Serving) (does : MatchOption asked (alone.DoesAsAsked d k words limit (without_port before) (without_port after) status × SamePort before after) (DoesServe d k w before after status))
-            → IfSome (office_in d k w before after status words limit asked does) Lawful
+        lawful_in : (asked : Option Serving) (does : MatchOption asked (alone.DoesAsAsked d k words limit (without_port before) (without_port after) status × SamePort before after) (DoesServe d k before after status))
+            → IfSome (office_in d k before after status words limit asked does) Lawful
         lawful_in None does = lawful_if (command_of words) other does.0.run
         lawful_in (Some serving) does = lawful_served serving does
 
@@ -262,21 +261,20 @@ module _ {D C L : Type 0} (d : Disks D) (before after : World D C L) where
     untouched_if None is does none = same_disk does.1
     untouched_if (Some command) is does none = untouched_by command is does none
 
-    module _ (w : Ways L) where
-      untouched_served : (serving : Serving) (does : DoesServe d k w before after status serving)
-          → office_served d k w before after status serving does ≡ None → Untouched
-      untouched_served serving (unread, same, inl unopened) none = not_opened unopened.0
-      untouched_served serving (unread, same, inr run) none = absurd (cc)
+    untouched_served : (serving : Serving) (does : DoesServe d k before after status serving)
+        → office_served d k before after status serving does ≡ None → Untouched
+    untouched_served serving (unread, same, inl unopened) none = not_opened unopened.0
+    untouched_served serving (unread, same, inr run) none = absurd (cc)
 
-      untouched_in : (asked : Option Serving) (does : MatchOption asked (alone.DoesAsAsked d k words limit (without_port before) (without_port after) status × SamePort before after) (DoesServe d k w before after status))
-          → office_in d k w before after status words limit asked does ≡ None → Untouched
-      untouched_in None does none = untouched_if (command_of words) refl does.0.run none
-      untouched_in (Some serving) does none = untouched_served serving does none
+    untouched_in : (asked : Option Serving) (does : MatchOption asked (alone.DoesAsAsked d k words limit (without_port before) (without_port after) status × SamePort before after) (DoesServe d k before after status))
+        → office_in d k before after status words limit asked does ≡ None → Untouched
+    untouched_in None does none = untouched_if (command_of words) refl does.0.run none
+    untouched_in (Some serving) does none = untouched_served serving does none
 
-      pub promised : RequestsStandOnce → DoesAsAsked d k w words limit before after status → Promise d k w words limit before after status
-      promised stand_once done = record {
-        done = done;
-        lawful = λ other. lawful_in stand_once k limit status w words other (serving_of words) done.run;
-        kept = kept_in k limit status w words (serving_of words) done.run;
-        unopened = λ none. untouched_in (serving_of words) done.run none;
-      }
+    pub promised : RequestsStandOnce → DoesAsAsked d k words limit before after status → Promise d k words limit before after status
+    promised stand_once done = record {
+      done = done;
+      lawful = λ other. lawful_in stand_once k limit status words other (serving_of words) done.run;
+      kept = kept_in k limit status words (serving_of words) done.run;
+      unopened = λ none. untouched_in (serving_of words) done.run none;
+    }

@@ -1,6 +1,7 @@
 -- How a run of `serve` ends.
 use Rattle.std.proofs.Common.{ℕ, ℤ, ◌≡◌, ◌≢◌, ◌⊎◌, inl, inr, IsSome, List, [], Option, None, Some, length, refl, sym, ◌∙◌, subst, arith}
 use Rattle.std.specs.Prelude.{MatchOption}
+use Rattle.desk_links.specs.Links.{PortState}
 use Rattle.desk_traits.specs.Faults.{Rose}
 use Rattle.desk_traits.specs.declared.disk.Disk.{Ghosts as Disks}
 use Rattle.office_journal.specs.Kept as kept
@@ -10,8 +11,7 @@ use Rattle.program_ends.specs.declared.ends.End.TheVariants.{Usage, SettingsRefu
 use Rattle.desk_commands.specs.Commands.{TellsText}
 use Rattle.desk_commands.specs.Opening.{IsUnopenedRun, IsWhy}
 use Rattle.desk_program.specs.Runs.{IsEndOfItsOwn}
-use Rattle.warn_serve.specs.Links.{Ways}
-use Rattle.warn_serve.specs.Served.{EndsAs, PortState, visits_of}
+use Rattle.warn_serve.specs.Served.{EndsAs, visits_of}
 use Rattle.warn_serve.specs.declared.serving.ServeEnd.{ServeEnd}
 use Rattle.warn_serve.specs.declared.serving.ServeEnd.TheVariants as serve
 use Rattle.serve_command.specs.Serving.{IsServeRun, Serves, TellsServed, summary}
@@ -125,14 +125,14 @@ module _ {D : Type 0} (d : Disks D) (disk next : D) (port_failed : Type 0) where
     unopened : IsUnopenedRun d disk next taken taken' writes writes' status → HasCauses DiskFailed port_failed writes writes' status
     unopened run = told DiskFailed port_failed writes taken taken' writes' status [] (Some run.end) (why_ends run.end run.unopened.why) run.telling
 
-module _ {D L : Type 0} (d : Disks D) (w : Ways L) (gives : ℤ → Type 0) (serving : Serving) (disk next : D) (port port' : PortState L) (taken taken' : Option (List ℕ)) (writes writes' status : ℕ) where
+module _ {D : Type 0} (d : Disks D) (gives : ℤ → Type 0) (serving : Serving) (disk next : D) (port port' : PortState) (taken taken' : Option (List ℕ)) (writes writes' status : ℕ) where
   abbrev PortFailed : Type 0
   PortFailed = Rose port.faults port'.faults
 
-  ran : IsServeRun d w gives serving disk next port port' taken taken' writes writes' status → HasCauses (Rose (d.faults disk) (d.faults next)) PortFailed writes writes' status
+  ran : IsServeRun d gives serving disk next port port' taken taken' writes writes' status → HasCauses (Rose (d.faults disk) (d.faults next)) PortFailed writes writes' status
   ran run = told_served (Rose (d.faults disk) (d.faults next)) PortFailed writes taken taken' writes' status run.end (summary (kept.entries_of run.closed) (length (kept.state_of run.closed).products))
       (λ same. (subst (λ (e : ServeEnd). EndsAs port port' serving.connections (visits_of run.served.parts) e) same run.served.ends).1) run.told
 
-  pub ends : Serves d w gives serving disk next port port' taken taken' writes writes' status → HasCauses (Rose (d.faults disk) (d.faults next)) PortFailed writes writes' status
+  pub ends : Serves d gives serving disk next port port' taken taken' writes writes' status → HasCauses (Rose (d.faults disk) (d.faults next)) PortFailed writes writes' status
   ends (inl run) = unopened d disk next PortFailed taken taken' writes writes' status run.0
   ends (inr run) = ran run

@@ -20,7 +20,6 @@ use Rattle.serve_command.specs.Words.{serving_of}
 use Rattle.serve_command.specs.declared.words.Serving.{Serving}
 use Rattle.warn_main.specs.Runs.{DoesAsAsked, DoesServe, SamePort}
 use Rattle.warn_main.specs.Worlds.{World, without_port}
-use Rattle.warn_serve.specs.Links.{Ways}
 
 -- an office as it was opened, the requests that were accepted since, in order, and its state at the
 -- end
@@ -79,9 +78,9 @@ module _ {D C : Type 0} (d : Disks D) (before after : alone_worlds.World D C) (s
       office_if None does = None
       office_if (Some command) does = office_by command does
 
-module _ {D C L : Type 0} (d : Disks D) (k : Clocks C) (w : Ways L) (before after : World D C L) (status : ℕ) where
+module _ {D C : Type 0} (d : Disks D) (k : Clocks C) (before after : World D C) (status : ℕ) where
   -- that of `serve`
-  abbrev pub office_served : (serving : Serving) → DoesServe d k w before after status serving
+  abbrev pub office_served : (serving : Serving) → DoesServe d k before after status serving
       → Option (Office d)
   office_served serving (unread, same, inl unopened) = None
   office_served serving (unread, same, inr run) =
@@ -96,7 +95,7 @@ module _ {D C L : Type 0} (d : Disks D) (k : Clocks C) (w : Ways L) (before afte
         → MatchOption asked
         (alone.DoesAsAsked d k words limit (without_port before) (without_port after) status
         × SamePort before after)
-        (DoesServe d k w before after status)
+        (DoesServe d k before after status)
         → Option (Office d)
     office_in None does =
         office_if d (without_port before) (without_port after) status k limit (command_of words)
@@ -104,5 +103,5 @@ module _ {D C L : Type 0} (d : Disks D) (k : Clocks C) (w : Ways L) (before afte
     office_in (Some serving) does = office_served serving does
 
     -- the office that the run opened from its disk's journal, if it opened one
-    abbrev pub office_of : DoesAsAsked d k w words limit before after status → Option (Office d)
+    abbrev pub office_of : DoesAsAsked d k words limit before after status → Option (Office d)
     office_of done = office_in (serving_of words) done.run

@@ -28,7 +28,6 @@ use Rattle.desk_program.specs.declared.words.Command.TheVariants.{Init, Upgrade}
 use Rattle.warn_main.specs.Offices.{Office, office_of}
 use Rattle.warn_main.specs.Runs.{DoesAsAsked}
 use Rattle.warn_main.specs.Worlds.{World}
-use Rattle.warn_serve.specs.Links.{Ways}
 
 -- Of an office that a run opened, whose journal has this settings' file, held one history when it was
 -- found, and has another at the end.
@@ -50,7 +49,7 @@ pub record IsOneHistory {D : Type 0} {d : Disks D} (office : Office d) (file : L
   pub board : rows_of (products_read office.state) ≡ office.state.rows
 
 -- The same, where the disk told the bytes of the journal, and what crashes leave of it.
-pub record OutlastsCrashes {D C L : Type 0} (d : Disks D) (before after : World D C L) (office : Office d) (bytes : List ℕ) : Type 0 where
+pub record OutlastsCrashes {D C : Type 0} (d : Disks D) (before after : World D C) (office : Office d) (bytes : List ℕ) : Type 0 where
   pub file : List ℕ
   pub found : History
   pub last : History
@@ -72,25 +71,25 @@ pub record OutlastsCrashes {D C L : Type 0} (d : Disks D) (before after : World 
   pub held : (c : List ℕ) → d.may_leave after.disk c
       → Leaves file last (λ change. Rose (d.faults before.disk) (d.faults after.disk)) c
 
-module _ {D C L : Type 0} (d : Disks D) (k : Clocks C) (w : Ways L) where
+module _ {D C : Type 0} (d : Disks D) (k : Clocks C) where
   -- Of one run of the program.
-  pub record Promise (words : List (List ℕ)) (limit : ℕ) (before after : World D C L) (status : ℕ) : Type 0 where
+  pub record Promise (words : List (List ℕ)) (limit : ℕ) (before after : World D C) (status : ℕ) : Type 0 where
     -- "Whatever requests the desks send, interleaved and repeated": whatever the words, the bytes of
     -- the input and those of all links, what the words ask for was done.
-    pub done : DoesAsAsked d k w words limit before after status
+    pub done : DoesAsAsked d k words limit before after status
     -- Of the office that the run opened, if it opened one, at the history that was found: the phrases
     -- up to the board, whatever the disk tells, and so over a file; but under `upgrade`,
     pub lawful : command_of words ≢ Some Upgrade
-        → IfSome (office_of d k w before after status words limit done)
+        → IfSome (office_of d k before after status words limit done)
         (λ office. (file : List ℕ) × (found : History) × (last : History)
         × HasHistory office.opened file found × IsOneHistory office file found last)
     -- and all phrases, under each command, where the disk tells the bytes of its journal.
-    pub kept : IfSome (office_of d k w before after status words limit done)
+    pub kept : IfSome (office_of d k before after status words limit done)
         (λ office. (bytes : List ℕ) → d.seen before.disk ≡ Some bytes
         → OutlastsCrashes d before after office bytes)
     -- If the run opened none it accepted nothing: a crash at any moment leaves what one at the start
     -- might have left, or, under `init`, a journal that is being made.
-    pub unopened : office_of d k w before after status words limit done ≡ None
+    pub unopened : office_of d k before after status words limit done ≡ None
         → (bytes : List ℕ) → d.seen before.disk ≡ Some bytes
         → LeavesOnly d.moment d.left_since before.disk after.disk
         (λ c. d.may_leave before.disk c

@@ -11,10 +11,9 @@ use Rattle.desk_program.specs.Words.{command_of}
 use Rattle.serve_command.specs.Serving.{Serves}
 use Rattle.serve_command.specs.Words.{serving_of}
 use Rattle.serve_command.specs.declared.words.Serving.{Serving}
-use Rattle.warn_serve.specs.Links.{Ways}
 use Rattle.warn_main.specs.Worlds.{World, without_port}
 
-module _ {D C L : Type 0} (before after : World D C L) where
+module _ {D C : Type 0} (before after : World D C) where
   -- the port is as it was
   abbrev pub SamePort : Type 0
   SamePort = after.port ≡ before.port
@@ -27,17 +26,17 @@ module _ {D C L : Type 0} (before after : World D C L) where
       × SameDisk (without_port before) (without_port after)
       × SameClock (without_port before) (without_port after)
 
-module _ {D C L : Type 0} (d : Disks D) (k : Clocks C) (w : Ways L) where
+module _ {D C : Type 0} (d : Disks D) (k : Clocks C) where
   -- `serve` was done: it reads nothing of the input and leaves the clock as it is
-  abbrev pub DoesServe : World D C L → World D C L → ℕ → Serving → Type 0
+  abbrev pub DoesServe : World D C → World D C → ℕ → Serving → Type 0
   DoesServe before after status serving =
       IsUnread (without_port before) (without_port after)
       × SameClock (without_port before) (without_port after)
-      × Serves d w (k.gives before.clock) serving before.disk after.disk before.port after.port
+      × Serves d (k.gives before.clock) serving before.disk after.disk before.port after.port
       before.output.taken after.output.taken before.output.faults after.output.faults status
 
   -- The words were done, with an input of at most so many bytes, or are no command.
-  pub record DoesAsAsked (words : List (List ℕ)) (limit : ℕ) (before after : World D C L) (status : ℕ) : Type 0 where
+  pub record DoesAsAsked (words : List (List ℕ)) (limit : ℕ) (before after : World D C) (status : ℕ) : Type 0 where
     -- each other command than `serve` leaves the port as it is
     pub run : MatchOption (serving_of words)
         (alone.DoesAsAsked d k words limit (without_port before) (without_port after) status

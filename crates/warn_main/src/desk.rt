@@ -7,7 +7,7 @@ ghost use Rattle.desk_program.specs.Worlds.{input_of, output_of, world as world_
 ghost use Rattle.serve_command.specs.Words.{serving_of};
 ghost use Rattle.warn_main.specs.Promise.{Promise};
 ghost use Rattle.warn_main.specs.Runs.{IsUntouched};
-ghost use Rattle.warn_main.specs.Worlds.{port_of, ways_of, world};
+ghost use Rattle.warn_main.specs.Worlds.{world};
 
 use crate::laws::what_was_done_keeps_the_promise;
 use desk_commands::Ended;
@@ -61,18 +61,16 @@ pub fn desk_run<
     clock: &mut C,
     gate: &G,
 ) -> Ended<D>
-    requires { P.returned port.old ≡ 0 }
-    ensures promise { Promise D.Disk C.Clock
-        (ways_of P.Door.Link.came P.Door.Link.Source P.Door.Link.Sink)
-        words.now most_bytes
+    requires { (P.state port.old).returned ≡ 0 }
+    ensures promise { Promise D.Disk C.Clock words.now most_bytes
         (world (input_of S.Source input.old) (output_of K.Sink output.old) disk clock.old
-        (port_of P.Port port.old))
+        (P.state port.old))
         (world (input_of S.Source input.new) (output_of K.Sink output.new) result.disk clock.new
-        (port_of P.Port port.new))
+        (P.state port.new))
         result.status }
     ensures port { serving_of words.now ≡ None → port.new ≡ port.old }
 {
-    what_was_done_keeps_the_promise::<D, P, C>();
+    what_was_done_keeps_the_promise::<D, C>();
     match serving_of(words) {
         Some(serving) => run_serve(rt, alloc, &serving, output, disk, port, clock, gate),
         None => desk_alone(alloc, words, input, output, disk, clock),
@@ -100,20 +98,18 @@ pub fn run_program<
     clock: &mut C,
     gate: &G,
 ) -> Ended<D>
-    requires { P.returned port.old ≡ 0 }
+    requires { (P.state port.old).returned ≡ 0 }
     ensures { (IsUntouched
         (world (input_of S.Source input.old) (output_of K.Sink output.old) disk clock.old
-        (port_of P.Port port.old))
+        (P.state port.old))
         (world (input_of S.Source input.new) (output_of K.Sink output.new) result.disk clock.new
-        (port_of P.Port port.new))
+        (P.state port.new))
         result.status × (port.new ≡ port.old))
-        ⊎ Promise D.Disk C.Clock
-        (ways_of P.Door.Link.came P.Door.Link.Source P.Door.Link.Sink)
-        (words_behind 2 command_line.now) most_bytes
+        ⊎ Promise D.Disk C.Clock (words_behind 2 command_line.now) most_bytes
         (world (input_of S.Source input.old) (output_of K.Sink output.old) disk clock.old
-        (port_of P.Port port.old))
+        (P.state port.old))
         (world (input_of S.Source input.new) (output_of K.Sink output.new) result.disk clock.new
-        (port_of P.Port port.new))
+        (P.state port.new))
         result.status }
 {
     match given_words(alloc, command_line, 2) {

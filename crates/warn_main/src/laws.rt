@@ -3,20 +3,17 @@ ghost use Rattle.std.specs.Prelude.{ℕ, List};
 ghost use Rattle.warn_main.specs.Promise.{Promise};
 ghost use Rattle.warn_main.specs.Runs.{DoesAsAsked};
 ghost use Rattle.warn_main.specs.Sure.{EndsWithoutDiskFault, EndsWithoutReadFault, EndsWithoutWriteFault, SaysNoDiskFault, ServesNoDiskFault};
-ghost use Rattle.warn_main.specs.Worlds.{World, ways_of};
+ghost use Rattle.warn_main.specs.Worlds.{World};
 
-use desk_links::Port;
 use desk_traits::{Clock, Disk, Sink, Source, SureDisk, SureSink, SureSource};
 use office_core::requests_stand_once;
 
-/// A run that has done what its words ask for keeps the promise, over each disk, port and clock.
-pub fn what_was_done_keeps_the_promise<D: Disk, P: Port, C: Clock>()
-    ensures { (words : List (List ℕ)) (limit : ℕ) (before after : World D C P.Door.Link) (status : ℕ)
+/// A run that has done what its words ask for keeps the promise, over each disk and clock.
+pub fn what_was_done_keeps_the_promise<D: Disk, C: Clock>()
+    ensures { (words : List (List ℕ)) (limit : ℕ) (before after : World D C) (status : ℕ)
         → DoesAsAsked D.Disk C.Clock
-        (ways_of P.Door.Link.came P.Door.Link.Source P.Door.Link.Sink)
         words limit before after status
         → Promise D.Disk C.Clock
-        (ways_of P.Door.Link.came P.Door.Link.Source P.Door.Link.Sink)
         words limit before after status }
 {
     requests_stand_once();
@@ -25,16 +22,12 @@ pub fn what_was_done_keeps_the_promise<D: Disk, P: Port, C: Clock>()
 /// Over a disk that cannot fail no run ends with 9, and no line of a script and no call of a link is
 /// answered that the disk failed. Over an input that cannot fail none ends with 7, and over such an
 /// output none with 8.
-pub fn sure_ends_tell_no_fault<D: Disk, P: Port, C: Clock>()
-    ensures disk { EndsWithoutDiskFault ⟦<SureDisk as Disk>⟧ C.Clock
-        (ways_of P.Door.Link.came P.Door.Link.Source P.Door.Link.Sink) }
+pub fn sure_ends_tell_no_fault<D: Disk, C: Clock>()
+    ensures disk { EndsWithoutDiskFault ⟦<SureDisk as Disk>⟧ C.Clock }
     ensures lines { SaysNoDiskFault ⟦<SureDisk as Disk>⟧ C.Clock }
-    ensures calls { (clock : C) → ServesNoDiskFault ⟦<SureDisk as Disk>⟧
-        (ways_of P.Door.Link.came P.Door.Link.Source P.Door.Link.Sink) (C.gives clock) }
+    ensures calls { (clock : C) → ServesNoDiskFault ⟦<SureDisk as Disk>⟧ (C.gives clock) }
     ensures input { (source next : SureSource) → EndsWithoutReadFault D.Disk C.Clock
-        (ways_of P.Door.Link.came P.Door.Link.Source P.Door.Link.Sink)
         (⟦<SureSource as Source>⟧.faults source) (⟦<SureSource as Source>⟧.faults next) }
     ensures output { (sink next : SureSink) → EndsWithoutWriteFault D.Disk C.Clock
-        (ways_of P.Door.Link.came P.Door.Link.Source P.Door.Link.Sink)
         (⟦<SureSink as Sink>⟧.faults sink) (⟦<SureSink as Sink>⟧.faults next) }
 {}

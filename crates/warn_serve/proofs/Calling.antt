@@ -1,7 +1,8 @@
 -- A link that did not fail answers the calls of what was read.
 use Rattle.std.proofs.Common.{ℕ, ◌≡◌, ◌<◌, inl, inr, List, [], ◌∷◌, ◌++◌, length, refl, ap, sym, ◌∙◌, subst, arith, append-nil}
 use Rattle.warn_http.specs.Calls.{Called, IsCut, IsUnfinished, most_calls, refused, closed, spent, left}
-use Rattle.warn_serve.specs.Links.{Answered, IsClosing, IsLinkRun, IsRefusing, IsServedLink, LinkState, Said, answers_of, calls_of}
+use Rattle.desk_links.specs.Links.{LinkState}
+use Rattle.warn_serve.specs.Links.{Answered, IsClosing, IsLinkRun, IsRefusing, IsServedLink, Said, answers_of, calls_of}
 use Rattle.warn_serve.specs.Wholes.{AnswersCalls, AnswersLink, IsWhole}
 use Rattle.warn_serve.specs.declared.links.LinkEnd.{LinkEnd}
 use Rattle.warn_serve.specs.declared.links.LinkEnd.TheVariants.{Closed, Cut, Spent, LinkFault, OutOfMemory}

@@ -3,7 +3,8 @@ use Rattle.std.proofs.Common.{ℕ, ◌≡◌, ◌∙◌, ◌<◌, inl, inr, List
 use Rattle.warn_http.specs.Calls.{AreAlike, AreCalls, Called, IsCut, IsUnfinished, Stop, most_calls, refused, closed, spent, left}
 use Rattle.warn_http.proofs.Streams.{one_stream}
 use Rattle.warn_serve.specs.Causes.{EndAlike, EndsInBadTarget, HasCause, IsOver}
-use Rattle.warn_serve.specs.Links.{IsServedLink, LinkState, Said, calls_of}
+use Rattle.desk_links.specs.Links.{LinkState}
+use Rattle.warn_serve.specs.Links.{IsServedLink, Said, calls_of}
 use Rattle.warn_serve.specs.Wholes.{IsWhole}
 use Rattle.warn_serve.specs.declared.links.LinkEnd.{LinkEnd}
 use Rattle.warn_serve.specs.declared.links.LinkEnd.TheVariants.{Closed, Cut, Spent, LinkFault, OutOfMemory}

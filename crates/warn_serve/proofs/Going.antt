@@ -1,14 +1,14 @@
 -- How a link goes on by one call, and how it ends.
 use Rattle.std.proofs.Common.{ℕ, ◌≡◌, ◌+◌, ◌<◌, inl, List, [], ◌∷◌, ◌++◌, drop, length, refl, ap, sym, ◌∙◌, subst, arith, append_assoc, append-nil, length-append, Option, None, Some}
 use Rattle.std.proofs.lemmas.List.{map-append}
-use Rattle.desk_links.specs.Links.{both_counts}
+use Rattle.desk_links.specs.Links.{LinkState, faults_of}
 use Rattle.desk_traits.specs.Faults.{Rose}
 use Rattle.desk_traits.specs.Streams.{Adds, Takes}
 use Rattle.desk_traits.proofs.Pieces.{adds_both, takes_both}
 use Rattle.turn_lock.specs.Passes.{KeepsRights, PassRecord}
 use Rattle.warn_http.specs.Calls.{Called, IsCut, most_calls}
 use Rattle.warn_http.proofs.Streams.{cut_more, cut_stays}
-use Rattle.warn_serve.specs.Links.{Answered, EndsSo, HasCount, HasEnded, IsLater, IsServedLink, LinkState, Said, answers_of, calls_of}
+use Rattle.warn_serve.specs.Links.{Answered, EndsSo, HasCount, HasEnded, IsLater, IsServedLink, Said, answers_of, calls_of}
 use Rattle.warn_serve.specs.Steps.{GoesOn, HasGone, IsSteady, StopsSo}
 use Rattle.warn_serve.specs.declared.links.LinkEnd.{LinkEnd}
 use Rattle.warn_serve.specs.declared.links.LinkEnd.TheVariants.{Closed, Cut, Spent, LinkFault, OutOfMemory}
@@ -40,7 +40,7 @@ later_on old mid new a b = record { came = b.came ∙ a.came; reads = (let r = b
 later_if_steady : (old new : LinkState) → IsSteady old new → IsLater old new
 later_if_steady old new a = record { came = a.came; reads = (let r = a.reads in omega arith); writes = (let w = a.writes in omega arith) }
 
-count_same : (old mid : LinkState) → IsSteady old mid → both_counts mid.reads mid.writes ≡ both_counts old.reads old.writes
+count_same : (old mid : LinkState) → IsSteady old mid → faults_of mid ≡ faults_of old
 count_same old mid a = let r = a.reads in let w = a.writes in omega arith
 
 pub keeps_none : {B E : Type 0} (p : PassRecord B E) → KeepsRights p p
@@ -66,10 +66,10 @@ module _ {P : Type 0} (answers : Called → P → P → List ℕ → Type 0) whe
   gone_none link pass = record {
     read = [];
     said = [];
-    takes = takes_none link.left;
+    takes = takes_none link.input.left;
     cut = refl;
     answered = refl;
-    adds = adds_none link.taken;
+    adds = adds_none link.output.taken;
     counted = refl;
     steady = steady_none link;
   }
@@ -83,10 +83,10 @@ module _ {P : Type 0} (answers : Called → P → P → List ℕ → Type 0) whe
       record {
         read = g.read ++ o.read;
         said = g.said ++ s ∷ [];
-        takes = takes_both old.left mid.left new.left g.read o.read (g.read ++ o.read) g.takes o.takes refl;
+        takes = takes_both old.input.left mid.input.left new.input.left g.read o.read (g.read ++ o.read) g.takes o.takes refl;
         cut = subst (λ (h : List ℕ). IsCut (g.read ++ o.read) (calls_of (g.said ++ s ∷ [])) h) (sym o.behind) (subst (λ (l : List Called). IsCut (g.read ++ o.read) l (drop o.one.called.used (held ++ o.read))) (sym (calls_append g.said s)) on);
         answered = answered_on pass pass' pass'' g.said s g.answered o.one.judged;
-        adds = adds_both old.taken mid.taken new.taken (answers_of g.said) o.answer (answers_of (g.said ++ s ∷ [])) g.adds o.adds (sym (answers_append g.said s));
+        adds = adds_both old.output.taken mid.output.taken new.output.taken (answers_of g.said) o.answer (answers_of (g.said ++ s ∷ [])) g.adds o.adds (sym (answers_append g.said s));
         counted = (let c = g.counted in let l = length-append g.said (s ∷ []) in omega arith);
         steady = steady_on old mid new g.steady o.steady;
       }
@@ -96,8 +96,8 @@ module _ {P : Type 0} (answers : Called → P → P → List ℕ → Type 0) whe
   stops_at old mid new pass pass' pass'' held n end g few s = record {
     read = g.read ++ s.read;
     written = answers_of g.said ++ s.tail;
-    takes = takes_both old.left mid.left new.left g.read s.read (g.read ++ s.read) g.takes s.takes refl;
-    adds = adds_both old.taken mid.taken new.taken (answers_of g.said) s.tail (answers_of g.said ++ s.tail) g.adds s.adds refl;
+    takes = takes_both old.input.left mid.input.left new.input.left g.read s.read (g.read ++ s.read) g.takes s.takes refl;
+    adds = adds_both old.output.taken mid.output.taken new.output.taken (answers_of g.said) s.tail (answers_of g.said ++ s.tail) g.adds s.adds refl;
     run = record {
       said = g.said;
       rest = held ++ s.read;
@@ -107,7 +107,7 @@ module _ {P : Type 0} (answers : Called → P → P → List ℕ → Type 0) whe
       answered = g.answered;
       told = refl;
       count = count_of end (length g.said) s.early (let c = g.counted in omega (arith, few));
-      ends = subst (λ (m : ℕ). EndsSo answers (HasEnded new) (Rose m (both_counts new.reads new.writes)) (held ++ s.read) pass' pass'' s.tail end) (count_same old mid g.steady) s.ends;
+      ends = subst (λ (m : ℕ). EndsSo answers (HasEnded new) (Rose m (faults_of new)) (held ++ s.read) pass' pass'' s.tail end) (count_same old mid g.steady) s.ends;
     };
     later = later_on old mid new g.steady s.later;
   }
@@ -138,8 +138,8 @@ module _ {P : Type 0} (answers : Called → P → P → List ℕ → Type 0) whe
   not_begun link pass = record {
     read = [];
     written = [];
-    takes = takes_none link.left;
-    adds = adds_none link.taken;
+    takes = takes_none link.input.left;
+    adds = adds_none link.output.taken;
     run = record {
       said = [];
       rest = [];

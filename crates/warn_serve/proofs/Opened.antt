@@ -1,5 +1,6 @@
 -- What was gathered, of an office from its opening on.
 use Rattle.std.proofs.Common.{ℕ, ℤ, ◌≡◌, ◌<◌, List, [], length, inl, inr, refl, ◌∙◌, ap, subst, arith}
+use Rattle.desk_links.specs.Links.{PortState}
 use Rattle.desk_traits.specs.declared.disk.Disk.{Ghosts as Disks}
 use Rattle.office_journal.specs.declared.kept.KeptOffice.{KeptOffice}
 use Rattle.office_turns.specs.Since.{IsSince}
@@ -7,20 +8,19 @@ use Rattle.office_turns.specs.declared.happening.Happening.{Happening}
 use Rattle.turn_lock.specs.Passes.{Closes, PassRecord}
 use Rattle.warn_serve.specs.Calls.{AnswersCall}
 use Rattle.warn_serve.specs.Gathered.{IsGathered, IsPartOf}
-use Rattle.warn_serve.specs.Links.{Ways}
-use Rattle.warn_serve.specs.Served.{HasListened, HasPart, IsServed, Part, PortState, passes_of}
+use Rattle.warn_serve.specs.Served.{HasListened, HasPart, IsServed, Part, passes_of}
 use Rattle.warn_serve.specs.Sharing.{IsShared}
 use Rattle.warn_serve.specs.declared.serving.ServeEnd.{ServeEnd}
 use Rattle.warn_serve.specs.declared.serving.ServeEnd.TheVariants.{OutOfMemory}
 use Rattle.warn_serve.proofs.Gathering.{is_shared}
 use Rattle.warn_serve.proofs.Returning.{takes_none}
 
-module _ {D L : Type 0} (d : Disks D) (w : Ways L) (gives : ℤ → Type 0) (opened kept : KeptOffice D d) where
-  part_since : (old : PassRecord (KeptOffice D d) Happening) (p : Part (PassRecord (KeptOffice D d) Happening) L) → old.base ≡ opened → old.seen ≡ [] → IsPartOf w (AnswersCall gives) old p → HasPart d w gives opened p
+module _ {D : Type 0} (d : Disks D) (gives : ℤ → Type 0) (opened kept : KeptOffice D d) where
+  part_since : (old : PassRecord (KeptOffice D d) Happening) (p : Part (PassRecord (KeptOffice D d) Happening)) → old.base ≡ opened → old.seen ≡ [] → IsPartOf (AnswersCall gives) old p → HasPart d gives opened p
   part_since old p base none h = record { start = h.start; base = h.is_share.base ∙ base; unseen = h.is_share.seen ∙ none; none_added = h.is_share.mine; visits = h.visits }
 
   -- nobody could be had
-  pub served_none : (number connections : ℕ) (port : PortState L) (happenings : List Happening) → happenings ≡ [] → 0 < connections → IsSince d opened kept happenings → IsServed d w gives opened kept number connections port port OutOfMemory
+  pub served_none : (number connections : ℕ) (port : PortState) (happenings : List Happening) → happenings ≡ [] → 0 < connections → IsSince d opened kept happenings → IsServed d gives opened kept number connections port port OutOfMemory
   served_none number connections port happenings none some since = record {
     happenings = happenings;
     since = since;
@@ -39,9 +39,9 @@ module _ {D L : Type 0} (d : Disks D) (w : Ways L) (gives : ℤ → Type 0) (ope
     ends = inl some;
   }
 
-  pub served_all : (base : KeptOffice D d) (number connections : ℕ) (first last : PortState L) (end : ServeEnd) (old new : PassRecord (KeptOffice D d) Happening) (happenings : List Happening)
+  pub served_all : (base : KeptOffice D d) (number connections : ℕ) (first last : PortState) (end : ServeEnd) (old new : PassRecord (KeptOffice D d) Happening) (happenings : List Happening)
       → old.base ≡ opened → old.seen ≡ [] → old.first ≡ 0 → old.mine ≡ []
-      → HasListened number first last → IsGathered w (AnswersCall gives) connections first last old new end → Closes new base happenings → IsSince d opened kept happenings → IsServed d w gives opened kept number connections first last end
+      → HasListened number first last → IsGathered (AnswersCall gives) connections first last old new end → Closes new base happenings → IsSince d opened kept happenings → IsServed d gives opened kept number connections first last end
   served_all base number connections first last end old new happenings b s f m listened g closes since = record {
     happenings = happenings;
     since = since;

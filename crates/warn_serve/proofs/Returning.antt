@@ -1,15 +1,14 @@
 -- Doors that go back to their port, and how serving ends by them.
 use Rattle.std.proofs.Common.{ℕ, zero, suc, ◌≡◌, ◌+◌, ◌-◌, ◌^◌, ◌≤◌, inl, inr, min, List, [], ◌∷◌, ◌++◌, length, map, refl, ap, sym, ◌∙◌, subst, arith, append_assoc, append-nil, length-append, Option, None, Some, IfSome, option_map, Result, Err}
 use Rattle.std.proofs.lemmas.List.{map-append}
-use Rattle.desk_links.specs.Links.{IsNone, IsUnused, behind}
+use Rattle.desk_links.specs.Links.{DoorState, IsNone, IsUnused, LinkState, PortState, behind, with_door}
 use Rattle.desk_links.specs.Listening.{MayFail}
 use Rattle.hazard_types.specs.declared.or.Or.{Or}
 use Rattle.hazard_types.specs.declared.or.Or.TheVariants.{No}
 use Rattle.warn_http.specs.Calls.{Called}
-use Rattle.warn_serve.specs.Links.{Ways}
 use Rattle.warn_serve.specs.Gathered.{TakesBack, end_after, short_of, total_of}
-use Rattle.warn_serve.specs.Served.{EndsAs, PortState, TellsBehind}
-use Rattle.warn_serve.specs.Workers.{DoorState, EndsWith, Visit, lacks_of, links_of}
+use Rattle.warn_serve.specs.Served.{EndsAs, TellsBehind}
+use Rattle.warn_serve.specs.Workers.{EndsWith, Visit, lacks_of, links_of}
 use Rattle.warn_serve.specs.declared.serving.ServeEnd.{ServeEnd}
 use Rattle.warn_serve.specs.declared.serving.ServeEnd.TheVariants.{Done, PortFault, OutOfMemory}
 use Rattle.warn_serve.specs.declared.workers.WorkerEnd.{WorkerEnd}
@@ -23,79 +22,78 @@ pub total_on : {W : Type 0} (share : W → ℕ) (ws : List W) (w : W) → total_
 total_on share [] w = omega arith
 total_on share (x ∷ ws) w = let h = total_on share ws w in omega arith
 
-module _ {L : Type 0} where
-  tells_none : (first : Option (List L)) → TellsBehind first first []
-  tells_none None = tt
-  tells_none (Some links) = (links, refl, sym (append-nil links))
+tells_none : (first : Option (List LinkState)) → TellsBehind first first []
+tells_none None = tt
+tells_none (Some links) = (links, refl, sym (append-nil links))
 
-  tells_on : (first mid last : Option (List L)) (xs ys : List L) → TellsBehind first mid xs → TellsBehind mid last ys → TellsBehind first last (xs ++ ys)
-  tells_on first mid None xs ys a b = tt
-  tells_on first mid (Some last) xs ys a b =
-      let h : TellsBehind first (Some b.0) xs = subst (λ (o : Option (List L)). TellsBehind first o xs) b.1 a in
-      (h.0, h.1, b.2 ∙ (ap (λ (l : List L). l ++ ys) h.2 ∙ append_assoc h.0 xs ys))
+tells_on : (first mid last : Option (List LinkState)) (xs ys : List LinkState) → TellsBehind first mid xs → TellsBehind mid last ys → TellsBehind first last (xs ++ ys)
+tells_on first mid None xs ys a b = tt
+tells_on first mid (Some last) xs ys a b =
+    let h : TellsBehind first (Some b.0) xs = subst (λ (o : Option (List LinkState)). TellsBehind first o xs) b.1 a in
+    (h.0, h.1, b.2 ∙ (ap (λ (l : List LinkState). l ++ ys) h.2 ∙ append_assoc h.0 xs ys))
 
-  -- what a door told
-  tells_door : (before told : Option (List L)) (xs : List L) → IfSome told (λ links. links ≡ xs) → TellsBehind before (behind before told) xs
-  tells_door None told xs is = tt
-  tells_door (Some links) None xs is = tt
-  tells_door (Some links) (Some more) xs is = (links, refl, ap (λ (l : List L). links ++ l) is)
+-- what a door told
+tells_door : (before told : Option (List LinkState)) (xs : List LinkState) → IfSome told (λ links. links ≡ xs) → TellsBehind before (behind before told) xs
+tells_door None told xs is = tt
+tells_door (Some links) None xs is = tt
+tells_door (Some links) (Some more) xs is = (links, refl, ap (λ (l : List LinkState). links ++ l) is)
 
-  none_told : (told : Option (List L)) → IsNone told → IfSome told (λ links. links ≡ [])
-  none_told None none = tt
-  none_told (Some links) none = none
+none_told : (told : Option (List LinkState)) → IsNone told → IfSome told (λ links. links ≡ [])
+none_told None none = tt
+none_told (Some links) none = none
 
-  pub door_told : (old new : Option (List L)) (xs : List L) → new ≡ option_map (λ before. before ++ xs) old → IsNone old → IfSome new (λ links. links ≡ xs)
-  door_told None new xs is none = subst (λ (o : Option (List L)). IfSome o (λ links. links ≡ xs)) (sym is) tt
-  door_told (Some links) new xs is none = subst (λ (o : Option (List L)). IfSome o (λ l. l ≡ xs)) (sym is) (ap (λ (l : List L). l ++ xs) none)
+pub door_told : (old new : Option (List LinkState)) (xs : List LinkState) → new ≡ option_map (λ before. before ++ xs) old → IsNone old → IfSome new (λ links. links ≡ xs)
+door_told None new xs is none = subst (λ (o : Option (List LinkState)). IfSome o (λ links. links ≡ xs)) (sym is) tt
+door_told (Some links) new xs is none = subst (λ (o : Option (List LinkState)). IfSome o (λ l. l ≡ xs)) (sym is) (ap (λ (l : List LinkState). l ++ xs) none)
 
-  pub takes_none : (port : PortState L) → TakesBack port port []
-  takes_none port = record { returned = omega arith; links = tells_none port.links; later = omega arith }
+pub takes_none : (port : PortState) → TakesBack port port []
+takes_none port = record { returned = omega arith; links = tells_none port.links; later = omega arith }
 
-  pub takes_on : (first mid last : PortState L) (xs ys : List (Visit L)) → TakesBack first mid xs → TakesBack mid last ys → TakesBack first last (xs ++ ys)
-  takes_on first mid last xs ys a b = record {
-    returned = (let x = a.returned in let y = b.returned in let n = length-append xs ys in omega arith);
-    links = subst (λ (l : List L). TellsBehind first.links last.links l) (sym (map-append (λ (v : Visit L). v.link) xs ys)) (tells_on first.links mid.links last.links (links_of xs) (links_of ys) a.links b.links);
-    later = (let x = a.later in let y = b.later in omega arith);
-  }
+pub takes_on : (first mid last : PortState) (xs ys : List Visit) → TakesBack first mid xs → TakesBack mid last ys → TakesBack first last (xs ++ ys)
+takes_on first mid last xs ys a b = record {
+  returned = (let x = a.returned in let y = b.returned in let n = length-append xs ys in omega arith);
+  links = subst (λ (l : List LinkState). TellsBehind first.links last.links l) (sym (map-append (λ (v : Visit). v.link) xs ys)) (tells_on first.links mid.links last.links (links_of xs) (links_of ys) a.links b.links);
+  later = (let x = a.later in let y = b.later in omega arith);
+}
 
-  pub takes_door : (first last : PortState L) (door : DoorState L) (visits : List (Visit L)) → last.faults ≡ min (first.faults + door.faults) (2 ^ 64 - 1) → last.returned ≡ first.returned + door.returned → last.links ≡ behind first.links door.links → door.returned ≡ length visits → IfSome door.links (λ links. links ≡ links_of visits) → TakesBack first last visits
-  takes_door first last door visits faults returned links count told = record {
-    returned = omega arith;
-    links = subst (λ (o : Option (List L)). TellsBehind first.links o (links_of visits)) (sym links) (tells_door first.links door.links (links_of visits) told);
-    later = omega arith;
-  }
+pub takes_door : (first last : PortState) (door : DoorState) (visits : List Visit) → last ≡ with_door first door → door.returned ≡ length visits → IfSome door.links (λ links. links ≡ links_of visits) → TakesBack first last visits
+takes_door first last door visits is count told = record {
+  returned = omega (arith, ap (λ (p : PortState). p.returned) is, count);
+  links = subst (λ (o : Option (List LinkState)). TellsBehind first.links o (links_of visits)) (sym (ap (λ (p : PortState). p.links) is)) (tells_door first.links door.links (links_of visits) told);
+  later = omega (arith, ap (λ (p : PortState). p.faults) is);
+}
 
-  -- a door that was not used adds nothing
-  pub takes_unused : (first mid last : PortState L) (door : DoorState L) → TakesBack first mid [] → IsUnused door.given door.returned door.faults door.links → last.faults ≡ min (mid.faults + door.faults) (2 ^ 64 - 1) → last.returned ≡ mid.returned + door.returned → last.links ≡ behind mid.links door.links → TakesBack first last []
-  takes_unused first mid last door was unused faults returned links = takes_on first mid last [] [] was (takes_door mid last door [] faults returned links unused.none_returned (none_told door.links unused.no_link))
+-- a door that was not used adds nothing
+pub takes_unused : (first mid last : PortState) (door : DoorState) → TakesBack first mid [] → IsUnused door → last ≡ with_door mid door → TakesBack first last []
+takes_unused first mid last door was unused is = takes_on first mid last [] [] was (takes_door mid last door [] is unused.none_returned (none_told door.links unused.no_link))
 
-  lacks_both : (xs ys : List (Visit L)) → lacks_of (xs ++ ys) ≡ lacks_of xs + lacks_of ys
-  lacks_both [] ys = omega arith
-  lacks_both (x ∷ xs) ys = let h = lacks_both xs ys in omega arith
+lacks_both : (xs ys : List Visit) → lacks_of (xs ++ ys) ≡ lacks_of xs + lacks_of ys
+lacks_both [] ys = omega arith
+lacks_both (x ∷ xs) ys = let h = lacks_both xs ys in omega arith
 
-  -- the end where for so many links no worker could be had
-  pub ends_short : (first last : PortState L) (shares left connections : ℕ) (visits : List (Visit L)) (end : ServeEnd) → shares + left ≡ connections → length visits ≤ shares → EndsAs first last shares visits end → EndsAs first last connections visits (short_of end left)
-  ends_short first last shares zero connections visits Done all within e = (omega (arith, all, e.0), e.1)
-  ends_short first last shares (suc left) connections visits Done all within e = inl (omega (arith, all, e.0))
-  ends_short first last shares left connections visits PortFault all within e = (omega (arith, all, e.0), e.1)
-  ends_short first last shares left connections visits OutOfMemory all within (inl less) = inl (omega (arith, all, less))
-  ends_short first last shares left connections visits OutOfMemory all within (inr lacks) = inr lacks
+-- the end where for so many links no worker could be had
+pub ends_short : (first last : PortState) (shares left connections : ℕ) (visits : List Visit) (end : ServeEnd) → shares + left ≡ connections → length visits ≤ shares → EndsAs first last shares visits end → EndsAs first last connections visits (short_of end left)
+ends_short first last shares zero connections visits Done all within e = (omega (arith, all, e.0), e.1)
+ends_short first last shares (suc left) connections visits Done all within e = inl (omega (arith, all, e.0))
+ends_short first last shares left connections visits PortFault all within e = (omega (arith, all, e.0), e.1)
+ends_short first last shares left connections visits OutOfMemory all within (inl less) = inl (omega (arith, all, less))
+ends_short first last shares left connections visits OutOfMemory all within (inr lacks) = inr lacks
 
-  module _ {P : Type 0} (w : Ways L) (answers : Called → P → P → List ℕ → Type 0) (first mid last : PortState L) (old new : DoorState L) (shares share : ℕ) (xs ys : List (Visit L)) (sound : old.faults ≡ 0) (faults : last.faults ≡ min (mid.faults + new.faults) (2 ^ 64 - 1)) (later : min first.faults (2 ^ 64 - 1) ≤ mid.faults) (within : length xs ≤ shares) where
-    long : length (xs ++ ys) ≡ length xs + length ys
-    long = length-append xs ys
+module _ {P : Type 0} (answers : Called → P → P → List ℕ → Type 0) (first mid last : PortState) (old new : DoorState) (shares share : ℕ) (xs ys : List Visit) (sound : old.faults ≡ 0) (faults : last.faults ≡ min (mid.faults + new.faults) (2 ^ 64 - 1)) (later : min first.faults (2 ^ 64 - 1) ≤ mid.faults) (within : length xs ≤ shares) where
+  long : length (xs ++ ys) ≡ length xs + length ys
+  long = length-append xs ys
 
-    -- the end after one worker more
-    pub ends_on : (end : ServeEnd) (worked : WorkerEnd) → EndsAs first mid shares xs end → EndsWith w answers old new share ys worked → EndsAs first last (shares + share) (xs ++ ys) (end_after end worked)
-    ends_on Done (Worked zero) e h = (omega (arith, long, e.0, h.0), omega (arith, lacks_both xs ys, e.1, h.1))
-    ends_on Done (Worked (suc lacks)) e h = inr (omega (arith, lacks_both xs ys, e.1, h.1))
-    ends_on PortFault (Worked lacks) e h = (omega (arith, long, e.0, h.0), omega (arith, e.1, faults))
-    ends_on OutOfMemory (Worked lacks) (inl less) h = inl (omega (arith, long, less, h.0))
-    ends_on OutOfMemory (Worked lacks) (inr some) h = inr (omega (arith, lacks_both xs ys, some))
-    ends_on Done Failed e h = (omega (arith, long, within, h.0), omega (arith, h.1, sound, faults, later))
-    ends_on PortFault Failed e h = (omega (arith, long, within, h.0), omega (arith, h.1, sound, faults, later))
-    ends_on OutOfMemory Failed e h = (omega (arith, long, within, h.0), omega (arith, h.1, sound, faults, later))
+  -- the end after one worker more
+  pub ends_on : (end : ServeEnd) (worked : WorkerEnd) → EndsAs first mid shares xs end → EndsWith answers old new share ys worked → EndsAs first last (shares + share) (xs ++ ys) (end_after end worked)
+  ends_on Done (Worked zero) e h = (omega (arith, long, e.0, h.0), omega (arith, lacks_both xs ys, e.1, h.1))
+  ends_on Done (Worked (suc lacks)) e h = inr (omega (arith, lacks_both xs ys, e.1, h.1))
+  ends_on PortFault (Worked lacks) e h = (omega (arith, long, e.0, h.0), omega (arith, e.1, faults))
+  ends_on OutOfMemory (Worked lacks) (inl less) h = inl (omega (arith, long, less, h.0))
+  ends_on OutOfMemory (Worked lacks) (inr some) h = inr (omega (arith, lacks_both xs ys, some))
+  ends_on Done Failed e h = (omega (arith, long, within, h.0), omega (arith, h.1, sound, faults, later))
+  ends_on PortFault Failed e h = (omega (arith, long, within, h.0), omega (arith, h.1, sound, faults, later))
+  ends_on OutOfMemory Failed e h = (omega (arith, long, within, h.0), omega (arith, h.1, sound, faults, later))
 
-    pub within_on : (worked : WorkerEnd) → EndsWith w answers old new share ys worked → length (xs ++ ys) ≤ shares + share
-    within_on (Worked lacks) h = omega (arith, long, within, h.0)
-    within_on Failed h = omega (arith, long, within, h.0)
+  pub within_on : (worked : WorkerEnd) → EndsWith answers old new share ys worked → length (xs ++ ys) ≤ shares + share
+  within_on (Worked lacks) h = omega (arith, long, within, h.0)
+  within_on Failed h = omega (arith, long, within, h.0)

@@ -1,6 +1,7 @@
 -- What one call makes of a link: it goes on, or it ends.
 use Rattle.std.proofs.Common.{ℕ, ◌≡◌, ◌≤◌, inl, inr, true, List, [], ◌++◌, drop, refl, ap, sym, ◌∙◌, subst, arith, Option, None, Some}
 use Rattle.std.proofs.lemmas.Bool.{false≢true}
+use Rattle.desk_links.specs.Links.{Inflow, LinkState, Outflow}
 use Rattle.desk_traits.specs.Faults.{Rose}
 use Rattle.desk_traits.specs.Streams.{Adds, Takes}
 use Rattle.hazard_types.specs.declared.refusal.Refusal.{Refusal}
@@ -8,7 +9,7 @@ use Rattle.warn_http.specs.Calls.{Called, IsCall, IsRefused, LiesIn}
 use Rattle.warn_http.specs.declared.read.Call.{Call}
 use Rattle.warn_http.specs.declared.read.Call.TheVariants.{Post, Look}
 use Rattle.warn_serve.specs.Answers.{refused_answer}
-use Rattle.warn_serve.specs.Links.{EndsSo, HasCount, HasEnded, HasFailed, IsLater, LinkState}
+use Rattle.warn_serve.specs.Links.{EndsSo, HasCount, HasEnded, HasFailed, IsLater}
 use Rattle.warn_serve.specs.Steps.{IsUnwritten, Sends, ServesNext, StopsSo, WritesAlone}
 use Rattle.warn_serve.specs.declared.links.LinkEnd.{LinkEnd}
 use Rattle.warn_serve.specs.declared.links.LinkEnd.TheVariants.{Closed, Cut, Spent, LinkFault, OutOfMemory}
@@ -19,48 +20,60 @@ pub lies_in : (used size : ℕ) (call : Call) → used ≤ size → LiesIn used 
 lies_in used size (Post span) within lies = (lies.0, (let l = lies.1 in omega arith))
 lies_in used size (Look query) within lies = tt
 
-taken_alone : (old mid new : LinkState) (written : List ℕ) → IsUnwritten old mid → WritesAlone mid new written → Adds old.taken new.taken written
-taken_alone old mid new written a b = subst (λ (t : Option (List ℕ)). Adds t new.taken written) a.taken b.adds
+taken_kept : (old new : LinkState) → IsUnwritten old new → new.output.taken ≡ old.output.taken
+taken_kept old new a = ap (λ (o : Outflow). o.taken) a.output
 
-left_alone : (old mid new : LinkState) (read written : List ℕ) → Takes old.left mid.left read → WritesAlone mid new written → Takes old.left new.left read
-left_alone old mid new read written t b = subst (λ (l : Option (List ℕ)). Takes old.left l read) (sym b.left) t
+writes_kept : (old new : LinkState) → IsUnwritten old new → new.output.faults ≡ old.output.faults
+writes_kept old new a = ap (λ (o : Outflow). o.faults) a.output
+
+left_kept : (old new : LinkState) (written : List ℕ) → WritesAlone old new written → new.input.left ≡ old.input.left
+left_kept old new written b = ap (λ (i : Inflow). i.left) b.input
+
+reads_kept : (old new : LinkState) (written : List ℕ) → WritesAlone old new written → new.input.faults ≡ old.input.faults
+reads_kept old new written b = ap (λ (i : Inflow). i.faults) b.input
+
+taken_alone : (old mid new : LinkState) (written : List ℕ) → IsUnwritten old mid → WritesAlone mid new written → Adds old.output.taken new.output.taken written
+taken_alone old mid new written a b = subst (λ (t : Option (List ℕ)). Adds t new.output.taken written) (taken_kept old mid a) b.adds
+
+left_alone : (old mid new : LinkState) (read written : List ℕ) → Takes old.input.left mid.input.left read → WritesAlone mid new written → Takes old.input.left new.input.left read
+left_alone old mid new read written t b = subst (λ (l : Option (List ℕ)). Takes old.input.left l read) (sym (left_kept mid new written b)) t
 
 later_alone : (old mid new : LinkState) (written : List ℕ) → IsUnwritten old mid → WritesAlone mid new written → IsLater old new
 later_alone old mid new written a b = record {
   came = b.came ∙ a.came;
-  reads = (let r = a.later in let s = b.reads in omega arith);
-  writes = (let w = a.writes in let l = b.later in omega arith);
+  reads = (let r = a.later in let s = reads_kept mid new written b in omega arith);
+  writes = (let w = writes_kept old mid a in let l = b.later in omega arith);
 }
 
 failed_alone : (old mid new : LinkState) → IsUnwritten old mid → HasFailed mid new → HasFailed old new
-failed_alone old mid new a failed = let r = a.later in let w = a.writes in omega arith
+failed_alone old mid new a failed = let r = a.later in let w = writes_kept old mid a in omega arith
 
 -- a read failed
-pub failed_read : (old new : LinkState) → IsUnwritten old new → Rose old.reads new.reads → HasFailed old new
-failed_read old new a rose = let w = a.writes in omega arith
+pub failed_read : (old new : LinkState) → IsUnwritten old new → Rose old.input.faults new.input.faults → HasFailed old new
+failed_read old new a rose = let w = writes_kept old new a in omega arith
 
 -- a write failed
-pub failed_write : (old new : LinkState) → new.reads ≡ old.reads → Rose old.writes new.writes → HasFailed old new
-failed_write old new reads rose = omega arith
+pub failed_write : (old new : LinkState) → new.input ≡ old.input → Rose old.output.faults new.output.faults → HasFailed old new
+failed_write old new kept rose = let reads = ap (λ (i : Inflow). i.faults) kept in omega arith
 
 module _ {P : Type 0} (answers : Called → P → P → List ℕ → Type 0) where
   -- the link ended, and nothing more was judged or written
   pub ends_at : (old new : LinkState) (pass : P) (held inbox read : List ℕ) (end : LinkEnd)
-      → inbox ≡ held ++ read → Takes old.left new.left read → IsUnwritten old new → HasCount end 0
+      → inbox ≡ held ++ read → Takes old.input.left new.input.left read → IsUnwritten old new → HasCount end 0
       → EndsSo answers (HasEnded new) (HasFailed old new) inbox pass pass [] end → StopsSo answers old new pass pass held end
   ends_at old new pass held inbox read end stands takes quiet early ends = record {
     read = read;
     takes = takes;
     tail = [];
-    adds = subst (λ (t : Option (List ℕ)). Adds t new.taken []) quiet.taken (adds_none new.taken);
+    adds = subst (λ (t : Option (List ℕ)). Adds t new.output.taken []) (taken_kept old new quiet) (adds_none new.output.taken);
     early = early;
     ends = subst (λ (b : List ℕ). EndsSo answers (HasEnded new) (HasFailed old new) b pass pass [] end) stands ends;
-    later = record { came = quiet.came; reads = quiet.later; writes = (let w = quiet.writes in omega arith) };
+    later = record { came = quiet.came; reads = quiet.later; writes = (let w = writes_kept old new quiet in omega arith) };
   }
 
   -- an answer was sent to a call
   pub call_sent : (old mid new : LinkState) (pass pass' : P) (held inbox held' read : List ℕ) (c : Called) (answer : List ℕ) (result : Option LinkEnd)
-      → inbox ≡ held ++ read → Takes old.left mid.left read → IsUnwritten old mid → mid.reads ≡ old.reads
+      → inbox ≡ held ++ read → Takes old.input.left mid.input.left read → IsUnwritten old mid → mid.input.faults ≡ old.input.faults
       → IsCall inbox c → answers c pass pass' answer → held' ≡ drop c.used inbox
       → Sends mid new answer c.last result → ServesNext answers old new pass pass' held held' result
   call_sent old mid new pass pass' held inbox held' read c answer None stands takes quiet steady call judged behind sent = record {
@@ -71,7 +84,7 @@ module _ {P : Type 0} (answers : Called → P → P → List ℕ → Type 0) whe
     stays_open = sent.0;
     adds = taken_alone old mid new answer quiet sent.1;
     behind = behind ∙ ap (drop c.used) stands;
-    steady = record { came = sent.1.came ∙ quiet.came; reads = sent.1.reads ∙ steady; writes = sent.2 ∙ quiet.writes };
+    steady = record { came = sent.1.came ∙ quiet.came; reads = reads_kept mid new answer sent.1 ∙ steady; writes = sent.2 ∙ writes_kept old mid quiet };
   }
   call_sent old mid new pass pass' held inbox held' read c answer (Some Closed) stands takes quiet steady call judged behind sent = record {
     read = read;
@@ -105,7 +118,7 @@ module _ {P : Type 0} (answers : Called → P → P → List ℕ → Type 0) whe
 
   -- a refusal was sent
   pub refusal_sent : (old mid new : LinkState) (pass : P) (held inbox held' read : List ℕ) (broken : Refusal) (result : Option LinkEnd)
-      → inbox ≡ held ++ read → Takes old.left mid.left read → IsUnwritten old mid → IsRefused inbox broken
+      → inbox ≡ held ++ read → Takes old.input.left mid.input.left read → IsUnwritten old mid → IsRefused inbox broken
       → Sends mid new (refused_answer broken true) true result → ServesNext answers old new pass pass held held' result
   refusal_sent old mid new pass held inbox held' read broken None stands takes quiet refused sent = absurd (false≢true (sym sent.0))
   refusal_sent old mid new pass held inbox held' read broken (Some Closed) stands takes quiet refused sent = record {

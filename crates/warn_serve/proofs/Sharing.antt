@@ -3,14 +3,13 @@ use Rattle.std.proofs.Common.{ℕ, ◌≡◌, ◌+◌, ◌-◌, ◌^◌, ◌≤�
 use Rattle.std.proofs.lemmas.List.{map-append}
 use Rattle.std.proofs.lemmas.List.Elements.{All-push}
 use mathlib.Core.List.{IsPrefix}
-use Rattle.desk_links.specs.Links.{behind}
+use Rattle.desk_links.specs.Links.{DoorState, PortState, with_door}
 use Rattle.turn_lock.specs.Passes.{PassRecord, joined}
 use Rattle.warn_http.specs.Calls.{Called}
 use Rattle.warn_serve.specs.Gathered.{DoesShare, HasDone, IsFresh, IsGathered, IsPartOf, KeepsWhole, TakesBack, end_after, short_of}
-use Rattle.warn_serve.specs.Links.{Ways}
-use Rattle.warn_serve.specs.Served.{EndsAs, Part, PortState, TellsBehind, passes_of, visits_of}
+use Rattle.warn_serve.specs.Served.{EndsAs, Part, TellsBehind, passes_of, visits_of}
 use Rattle.warn_serve.specs.Sharing.{Gathers}
-use Rattle.warn_serve.specs.Workers.{DoorState, EndsWith, Visit}
+use Rattle.warn_serve.specs.Workers.{EndsWith, Visit}
 use Rattle.warn_serve.specs.declared.serving.ServeEnd.{ServeEnd}
 use Rattle.warn_serve.specs.declared.serving.ServeEnd.TheVariants.{Done, PortFault, OutOfMemory}
 use Rattle.warn_serve.specs.declared.workers.WorkerEnd.{WorkerEnd}
@@ -18,80 +17,80 @@ use Rattle.warn_serve.specs.declared.workers.WorkerEnd.TheVariants.{Done as Work
 use Rattle.warn_serve.proofs.Gathering.{first_share, gathers_from, gathers_none, gathers_on}
 use Rattle.warn_serve.proofs.Returning.{door_told, ends_on, ends_short, takes_door, takes_none, takes_on, within_on}
 
-visits_on : {P L : Type 0} (parts : List (Part P L)) (p : Part P L) → visits_of (parts ++ p ∷ []) ≡ visits_of parts ++ p.visits
+visits_on : {P : Type 0} (parts : List (Part P)) (p : Part P) → visits_of (parts ++ p ∷ []) ≡ visits_of parts ++ p.visits
 visits_on [] p = append-nil p.visits
-visits_on {L = L} (q ∷ parts) p = ap (λ (l : List (Visit L)). q.visits ++ l) (visits_on parts p) ∙ sym (append_assoc q.visits (visits_of parts) p.visits)
+visits_on (q ∷ parts) p = ap (λ (l : List Visit). q.visits ++ l) (visits_on parts p) ∙ sym (append_assoc q.visits (visits_of parts) p.visits)
 
 -- the end, of a port that had failed no more before
-ends_from : {L : Type 0} (first mid last : PortState L) (shares : ℕ) (visits : List (Visit L)) (end : ServeEnd) → min first.faults (2 ^ 64 - 1) ≤ mid.faults → EndsAs mid last shares visits end → EndsAs first last shares visits end
+ends_from : (first mid last : PortState) (shares : ℕ) (visits : List Visit) (end : ServeEnd) → min first.faults (2 ^ 64 - 1) ≤ mid.faults → EndsAs mid last shares visits end → EndsAs first last shares visits end
 ends_from first mid last shares visits Done later e = e
 ends_from first mid last shares visits PortFault later e = (e.0, omega (arith, later, e.1))
 ends_from first mid last shares visits OutOfMemory later e = e
 
-pub takes_same : {L : Type 0} (first last : PortState L) → last.returned ≡ first.returned → last.links ≡ first.links → first.faults ≤ last.faults → TakesBack first last []
+pub takes_same : (first last : PortState) → last.returned ≡ first.returned → last.links ≡ first.links → first.faults ≤ last.faults → TakesBack first last []
 takes_same first last returned links later = record {
   returned = omega arith;
   links = subst (λ (o : _). TellsBehind first.links o []) (sym links) (takes_none first).links;
   later = omega arith;
 }
 
-module _ {B E L : Type 0} (w : Ways L) (answers : Called → PassRecord B E → PassRecord B E → List ℕ → Type 0) where
-  few_returned : (old new : DoorState L) (share : ℕ) (visits : List (Visit L)) (worked : WorkerEnd) → EndsWith w answers old new share visits worked → length visits ≤ share
+module _ {B E : Type 0} (answers : Called → PassRecord B E → PassRecord B E → List ℕ → Type 0) where
+  few_returned : (old new : DoorState) (share : ℕ) (visits : List Visit) (worked : WorkerEnd) → EndsWith answers old new share visits worked → length visits ≤ share
   few_returned old new share visits (Worked lacks) h = omega (arith, h.0)
   few_returned old new share visits Failed h = omega (arith, h.0)
 
-  pub done_by : (whole start pass : PassRecord B E) (first door : DoorState L) (share share' most : ℕ) (end : WorkerEnd) → IsFresh whole start first share most → DoesShare w answers share first door start pass end → share' ≡ share → HasDone w answers whole share' door pass end
+  pub done_by : (whole start pass : PassRecord B E) (first door : DoorState) (share share' most : ℕ) (end : WorkerEnd) → IsFresh whole start first share most → DoesShare answers share first door start pass end → share' ≡ share → HasDone answers whole share' door pass end
   done_by whole start pass first door share share' most end fresh does same = record {
     start = start;
     is_share = fresh.is_share;
     first = first;
     unused = fresh.unused;
-    does = subst (λ (n : ℕ). DoesShare w answers n first door start pass end) (sym same) does;
+    does = subst (λ (n : ℕ). DoesShare answers n first door start pass end) (sym same) does;
   }
 
   -- what a worker's door took back
-  pub done_returned : (whole pass : PassRecord B E) (share : ℕ) (door : DoorState L) (end : WorkerEnd) → HasDone w answers whole share door pass end → door.returned ≤ share
+  pub done_returned : (whole pass : PassRecord B E) (share : ℕ) (door : DoorState) (end : WorkerEnd) → HasDone answers whole share door pass end → door.returned ≤ share
   done_returned whole pass share door end h =
       let work = h.does.worked in
       omega (arith, few_returned h.first door share work.visits end work.ends, work.gives_back.returned, h.unused.none_returned)
 
-  pub gathered_none : (port : PortState L) (pass : PassRecord B E) → IsGathered w answers 0 port port pass pass Done
+  pub gathered_none : (port : PortState) (pass : PassRecord B E) → IsGathered answers 0 port port pass pass Done
   gathered_none port pass = record { parts = []; passes = gathers_none pass; served = λ k d less. absurd (omega (arith, less)); back = takes_none port; within = omega arith; ends = (refl, refl) }
 
   -- nobody served a link
-  pub gathered_not : (shares : ℕ) (first last : PortState L) (pass : PassRecord B E) (end : ServeEnd) → TakesBack first last [] → EndsAs first last shares [] end → IsGathered w answers shares first last pass pass end
+  pub gathered_not : (shares : ℕ) (first last : PortState) (pass : PassRecord B E) (end : ServeEnd) → TakesBack first last [] → EndsAs first last shares [] end → IsGathered answers shares first last pass pass end
   gathered_not shares first last pass end back ends = record { parts = []; passes = gathers_none pass; served = λ k d less. absurd (omega (arith, less)); back = back; within = omega arith; ends = ends }
 
-  pub gathered_on : (shares share total : ℕ) (first mid last : PortState L) (old pass new part : PassRecord B E) (door : DoorState L) (end next : ServeEnd) (worked : WorkerEnd)
-      → IsGathered w answers shares first mid old pass end → HasDone w answers old share door part worked
+  pub gathered_on : (shares share total : ℕ) (first mid last : PortState) (old pass new part : PassRecord B E) (door : DoorState) (end next : ServeEnd) (worked : WorkerEnd)
+      → IsGathered answers shares first mid old pass end → HasDone answers old share door part worked
       → total ≡ shares + share → next ≡ end_after end worked
       → new ≡ joined pass part → IsPrefix pass.seen new.seen → IsPrefix part.seen new.seen
-      → last.faults ≡ min (mid.faults + door.faults) (2 ^ 64 - 1) → last.returned ≡ mid.returned + door.returned → last.links ≡ behind mid.links door.links
-      → IsGathered w answers total first last old new next
-  gathered_on shares share total first mid last old pass new part door end next worked g h sum is both begins theirs faults returned links =
+      → last ≡ with_door mid door
+      → IsGathered answers total first last old new next
+  gathered_on shares share total first mid last old pass new part door end next worked g h sum is both begins theirs put =
       let work = h.does.worked in
-      let p : Part (PassRecord B E) L = record { pass = part; visits = work.visits } in
+      let p : Part (PassRecord B E) = record { pass = part; visits = work.visits } in
       let all : visits_of (g.parts ++ p ∷ []) ≡ visits_of g.parts ++ work.visits = visits_on g.parts p in
       let count : door.returned ≡ length work.visits = (let r = work.gives_back.returned in let n = h.unused.none_returned in omega arith) in
       let told = door_told h.first.links door.links _ work.gives_back.links h.unused.no_link in
       record {
         parts = g.parts ++ p ∷ [];
-        passes = subst (λ (l : List (PassRecord B E)). Gathers old new l) (sym (map-append (λ (q : Part (PassRecord B E) L). q.pass) g.parts (p ∷ []))) (gathers_on old pass new part (passes_of g.parts) g.passes both begins theirs);
-        served = All-push (IsPartOf w answers old) g.parts p g.served (record { start = h.start; is_share = h.is_share; visits = work.served });
-        back = subst (λ (l : List (Visit L)). TakesBack first last l) (sym all) (takes_on first mid last (visits_of g.parts) work.visits g.back (takes_door mid last door work.visits faults returned links count told));
-        within = subst (λ (l : List (Visit L)). length l ≤ total) (sym all) (subst (λ (n : ℕ). length (visits_of g.parts ++ work.visits) ≤ n) (sym sum) (within_on w answers first mid last h.first door shares share (visits_of g.parts) work.visits h.unused.no_fault faults g.back.later g.within worked work.ends));
+        passes = subst (λ (l : List (PassRecord B E)). Gathers old new l) (sym (map-append (λ (q : Part (PassRecord B E)). q.pass) g.parts (p ∷ []))) (gathers_on old pass new part (passes_of g.parts) g.passes both begins theirs);
+        served = All-push (IsPartOf answers old) g.parts p g.served (record { start = h.start; is_share = h.is_share; visits = work.served });
+        back = subst (λ (l : List Visit). TakesBack first last l) (sym all) (takes_on first mid last (visits_of g.parts) work.visits g.back (takes_door mid last door work.visits put count told));
+        within = subst (λ (l : List Visit). length l ≤ total) (sym all) (subst (λ (n : ℕ). length (visits_of g.parts ++ work.visits) ≤ n) (sym sum) (within_on answers first mid last h.first door shares share (visits_of g.parts) work.visits h.unused.no_fault (ap (λ (p : PortState). p.faults) put) g.back.later g.within worked work.ends));
         ends =
-            subst (λ (l : List (Visit L)). EndsAs first last total l next) (sym all)
+            subst (λ (l : List Visit). EndsAs first last total l next) (sym all)
             (subst (λ (n : ℕ). EndsAs first last n (visits_of g.parts ++ work.visits) next) (sym sum)
             (subst (λ (e : ServeEnd). EndsAs first last (shares + share) (visits_of g.parts ++ work.visits) e) (sym is)
-            (ends_on w answers first mid last h.first door shares share (visits_of g.parts) work.visits h.unused.no_fault faults g.back.later g.within end worked g.ends work.ends)));
+            (ends_on answers first mid last h.first door shares share (visits_of g.parts) work.visits h.unused.no_fault (ap (λ (p : PortState). p.faults) put) g.back.later g.within end worked g.ends work.ends)));
       }
 
-  part_before : (old pass : PassRecord B E) (p : Part (PassRecord B E) L) → KeepsWhole old pass → IsPartOf w answers pass p → IsPartOf w answers old p
+  part_before : (old pass : PassRecord B E) (p : Part (PassRecord B E)) → KeepsWhole old pass → IsPartOf answers pass p → IsPartOf answers old p
   part_before old pass p kept h = record { start = h.start; is_share = first_share old pass h.start kept h.is_share; visits = h.visits }
 
   -- the same with the pass and the port before workers were hired, and with the links that none had to serve
-  pub gathered_short : (shares left connections : ℕ) (first mid last : PortState L) (old pass new : PassRecord B E) (end next : ServeEnd) → IsGathered w answers shares mid last pass new end → KeepsWhole old pass → TakesBack first mid [] → shares + left ≡ connections → next ≡ short_of end left → IsGathered w answers connections first last old new next
+  pub gathered_short : (shares left connections : ℕ) (first mid last : PortState) (old pass new : PassRecord B E) (end next : ServeEnd) → IsGathered answers shares mid last pass new end → KeepsWhole old pass → TakesBack first mid [] → shares + left ≡ connections → next ≡ short_of end left → IsGathered answers connections first last old new next
   gathered_short shares left connections first mid last old pass new end next g kept back all is = record {
     parts = g.parts;
     passes = gathers_from old pass new (passes_of g.parts) kept g.passes;

@@ -2,60 +2,50 @@
 use Rattle.std.proofs.Common.{ℕ, ◌≡◌, ◌+◌, ◌<◌, List, [], ◌∷◌, ◌++◌, refl, ap, sym, ◌∙◌, subst, arith, append_assoc, append-nil, length-append, Option, None, Some, option_map}
 use Rattle.std.proofs.lemmas.List.{map-append}
 use Rattle.desk_traits.specs.Faults.{Rose}
-use Rattle.desk_links.specs.Links.{with_one}
+use Rattle.desk_links.specs.Links.{DoorState, LinkState}
 use Rattle.warn_http.specs.Calls.{Called}
-use Rattle.warn_serve.specs.Links.{Ways}
-use Rattle.warn_serve.specs.Workers.{AreVisits, DoorState, GivesBack, HasNone, HasServed, HasWorked, IsVisit, ServesOne, Visit, lack_of, lacks_of, links_of}
+use Rattle.warn_serve.specs.Workers.{AreVisits, GivesBack, HasNone, HasServed, HasWorked, IsVisit, ServesOne, Visit, lack_of, lacks_of, links_of}
 use Rattle.warn_serve.specs.declared.links.LinkEnd.{LinkEnd}
 use Rattle.warn_serve.specs.declared.workers.WorkerEnd.TheVariants.{Done, PortFault}
 
-module _ {L : Type 0} where
-  lacks_append : (visits : List (Visit L)) (v : Visit L) → lacks_of (visits ++ v ∷ []) ≡ lacks_of visits + lack_of v.end
-  lacks_append [] v = omega arith
-  lacks_append (x ∷ visits) v = let h = lacks_append visits v in omega arith
+lacks_append : (visits : List Visit) (v : Visit) → lacks_of (visits ++ v ∷ []) ≡ lacks_of visits + lack_of v.end
+lacks_append [] v = omega arith
+lacks_append (x ∷ visits) v = let h = lacks_append visits v in omega arith
 
-  links_append : (visits : List (Visit L)) (v : Visit L) → links_of (visits ++ v ∷ []) ≡ links_of visits ++ v.link ∷ []
-  links_append visits v = map-append (λ (x : Visit L). x.link) visits (v ∷ [])
+links_append : (visits : List Visit) (v : Visit) → links_of (visits ++ v ∷ []) ≡ links_of visits ++ v.link ∷ []
+links_append visits v = map-append (λ (x : Visit). x.link) visits (v ∷ [])
 
-  -- lists behind lists
-  behind_both : (old mid new : Option (List L)) (xs ys zs : List L) → mid ≡ option_map (λ before. before ++ xs) old → new ≡ option_map (λ before. before ++ ys) mid → xs ++ ys ≡ zs → new ≡ option_map (λ before. before ++ zs) old
-  behind_both None mid new xs ys zs p q e = q ∙ ap (option_map (λ (before : List L). before ++ ys)) p
-  behind_both (Some was) mid new xs ys zs p q e =
-      q ∙ ap (option_map (λ (before : List L). before ++ ys)) p ∙ ap (λ (l : List L). Some l) (append_assoc was xs ys ∙ ap (λ (l : List L). was ++ l) e)
+-- lists behind lists
+behind_both : (old mid new : Option (List LinkState)) (xs ys zs : List LinkState) → mid ≡ option_map (λ before. before ++ xs) old → new ≡ option_map (λ before. before ++ ys) mid → xs ++ ys ≡ zs → new ≡ option_map (λ before. before ++ zs) old
+behind_both None mid new xs ys zs p q e = q ∙ ap (option_map (λ (before : List LinkState). before ++ ys)) p
+behind_both (Some was) mid new xs ys zs p q e =
+    q ∙ ap (option_map (λ (before : List LinkState). before ++ ys)) p ∙ ap (λ (l : List LinkState). Some l) (append_assoc was xs ys ∙ ap (λ (l : List LinkState). was ++ l) e)
 
-  behind_none : (old : Option (List L)) → old ≡ option_map (λ before. before ++ []) old
-  behind_none None = refl
-  behind_none (Some was) = ap (λ (l : List L). Some l) (sym (append-nil was))
+behind_none : (old : Option (List LinkState)) → old ≡ option_map (λ before. before ++ []) old
+behind_none None = refl
+behind_none (Some was) = ap (λ (l : List LinkState). Some l) (sym (append-nil was))
 
-  gives_none : (d : DoorState L) → GivesBack d d []
-  gives_none d = record { given = omega arith; returned = omega arith; links = behind_none d.links }
+gives_none : (d : DoorState) → GivesBack d d []
+gives_none d = record { given = omega arith; returned = omega arith; links = behind_none d.links }
 
-  gives_on : (first mid last : DoorState L) (visits : List (Visit L)) (v : Visit L) → GivesBack first mid visits → GivesBack mid last (v ∷ []) → GivesBack first last (visits ++ v ∷ [])
-  gives_on first mid last visits v a b = record {
-    given = (let x = a.given in let y = b.given in let n = length-append visits (v ∷ []) in omega arith);
-    returned = (let x = a.returned in let y = b.returned in let n = length-append visits (v ∷ []) in omega arith);
-    links = behind_both first.links mid.links last.links (links_of visits) (v.link ∷ []) (links_of (visits ++ v ∷ [])) a.links b.links (sym (links_append visits v));
-  }
+gives_on : (first mid last : DoorState) (visits : List Visit) (v : Visit) → GivesBack first mid visits → GivesBack mid last (v ∷ []) → GivesBack first last (visits ++ v ∷ [])
+gives_on first mid last visits v a b = record {
+  given = (let x = a.given in let y = b.given in let n = length-append visits (v ∷ []) in omega arith);
+  returned = (let x = a.returned in let y = b.returned in let n = length-append visits (v ∷ []) in omega arith);
+  links = behind_both first.links mid.links last.links (links_of visits) (v.link ∷ []) (links_of (visits ++ v ∷ [])) a.links b.links (sym (links_append visits v));
+}
 
-  -- a door that gave a link and took it back
-  pub gave_one : (first mid last : DoorState L) (v : Visit L) → mid.given ≡ first.given + 1 → mid.returned ≡ first.returned → mid.links ≡ first.links → last.given ≡ mid.given → last.returned ≡ mid.returned + 1 → last.links ≡ with_one mid.links v.link → GivesBack first last (v ∷ [])
-  gave_one first mid last v g r l g' r' l' = record {
-    given = omega arith;
-    returned = omega arith;
-    links = l' ∙ ap (λ (o : Option (List L)). with_one o v.link) l;
-  }
-
-module _ {P L : Type 0} (w : Ways L) (answers : Called → P → P → List ℕ → Type 0) where
-  visits_on : (old mid new : P) (visits : List (Visit L)) (v : Visit L) → AreVisits w answers old visits mid → IsVisit w answers mid new v → AreVisits w answers old (visits ++ v ∷ []) new
-  visits_on old mid new [] v is h = (new, subst (λ (z : P). IsVisit w answers z new v) is h, refl)
+module _ {P : Type 0} (answers : Called → P → P → List ℕ → Type 0) where
+  visits_on : (old mid new : P) (visits : List Visit) (v : Visit) → AreVisits answers old visits mid → IsVisit answers mid new v → AreVisits answers old (visits ++ v ∷ []) new
+  visits_on old mid new [] v is h = (new, subst (λ (z : P). IsVisit answers z new v) is h, refl)
   visits_on old mid new (x ∷ visits) v a h = (a.0, a.1, visits_on a.0 mid new visits v a.2 h)
 
-  pub served_none : (door : DoorState L) (pass : P) → HasServed w answers 0 0 door door pass pass
+  pub served_none : (door : DoorState) (pass : P) → HasServed answers 0 0 door door pass pass
   served_none door pass = record { visits = []; served = refl; gives_back = gives_none door; counted = refl; lacked = refl; steady = refl }
 
-  pub served_on : (count lacks more : ℕ) (first mid last : DoorState L) (old pass new : P) (end : LinkEnd) → more ≡ lack_of end → HasServed w answers count lacks first mid old pass → ServesOne w answers mid last pass new end → HasServed w answers (count + 1) (lacks + more) first last old new
+  pub served_on : (count lacks more : ℕ) (first mid last : DoorState) (old pass new : P) (end : LinkEnd) → more ≡ lack_of end → HasServed answers count lacks first mid old pass → ServesOne answers mid last pass new end → HasServed answers (count + 1) (lacks + more) first last old new
   served_on count lacks more first mid last old pass new end is h o =
-      let v : Visit L = record { link = o.link; end = end } in
+      let v : Visit = record { link = o.link; end = end } in
       record {
         visits = h.visits ++ v ∷ [];
         served = visits_on old pass new h.visits v h.served o.visit;
@@ -65,13 +55,13 @@ module _ {P L : Type 0} (w : Ways L) (answers : Called → P → P → List ℕ 
         steady = o.steady ∙ h.steady;
       }
 
-  pub worked_all : (share count lacks : ℕ) (first last : DoorState L) (old new : P) → HasServed w answers count lacks first last old new → count ≡ share → HasWorked w answers share first last old new (Done lacks)
+  pub worked_all : (share count lacks : ℕ) (first last : DoorState) (old new : P) → HasServed answers count lacks first last old new → count ≡ share → HasWorked answers share first last old new (Done lacks)
   worked_all share count lacks first last old new h all = record { visits = h.visits; served = h.served; gives_back = h.gives_back; ends = (h.counted ∙ all, sym h.lacked, h.steady) }
 
-  pub worked_part : (share count lacks : ℕ) (first mid last : DoorState L) (old pass new : P) → HasServed w answers count lacks first mid old pass → count < share → HasNone mid last pass new → HasWorked w answers share first last old new PortFault
+  pub worked_part : (share count lacks : ℕ) (first mid last : DoorState) (old pass new : P) → HasServed answers count lacks first mid old pass → count < share → HasNone mid last pass new → HasWorked answers share first last old new PortFault
   worked_part share count lacks first mid last old pass new h few none = record {
     visits = h.visits;
-    served = subst (λ (z : P). AreVisits w answers old h.visits z) (sym none.unused) h.served;
+    served = subst (λ (z : P). AreVisits answers old h.visits z) (sym none.unused) h.served;
     gives_back = record {
       given = none.given ∙ h.gives_back.given;
       returned = none.returned ∙ h.gives_back.returned;

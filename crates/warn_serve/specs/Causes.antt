@@ -3,7 +3,8 @@ use Rattle.std.specs.Prelude.{◌≡◌, ◌<◌, ◌⊎◌, ℕ, List, [], leng
 use Rattle.hazard_types.specs.declared.refusal.Refusal.TheVariants.{BadHead}
 use Rattle.httparse.specs.Grammar.{EndsInTarget}
 use Rattle.warn_http.specs.Calls.{AreCalls, Called, Stop, refused, closed, spent, left}
-use Rattle.warn_serve.specs.Links.{HasEnded, HasFailed, LinkState}
+use Rattle.desk_links.specs.Links.{LinkState}
+use Rattle.warn_serve.specs.Links.{HasEnded, HasFailed}
 use Rattle.warn_serve.specs.declared.links.LinkEnd.{LinkEnd}
 use Rattle.warn_serve.specs.declared.links.LinkEnd.TheVariants.{Closed, Cut, Spent, LinkFault, OutOfMemory}
 

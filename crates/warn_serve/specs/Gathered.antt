@@ -1,12 +1,11 @@
 -- What workers have done by shares of one pass, and what becomes of these and of their doors.
 use Rattle.std.specs.Prelude.{◌≡◌, ◌+◌, ◌-◌, ◌^◌, ◌≤◌, ℕ, zero, suc, All, List, [], ◌∷◌, length, min}
-use Rattle.desk_links.specs.Links.{IsUnused}
+use Rattle.desk_links.specs.Links.{DoorState, IsUnused, PortState}
 use Rattle.turn_lock.specs.Passes.{KeepsRights, PassRecord}
 use Rattle.warn_http.specs.Calls.{Called}
-use Rattle.warn_serve.specs.Links.{Ways}
-use Rattle.warn_serve.specs.Served.{EndsAs, Part, PortState, TellsBehind, passes_of, visits_of}
+use Rattle.warn_serve.specs.Served.{EndsAs, Part, TellsBehind, passes_of, visits_of}
 use Rattle.warn_serve.specs.Sharing.{Gathers, IsShareOf}
-use Rattle.warn_serve.specs.Workers.{AreVisits, DoorState, HasWorked, Visit, links_of}
+use Rattle.warn_serve.specs.Workers.{AreVisits, HasWorked, Visit, links_of}
 use Rattle.warn_serve.specs.declared.serving.ServeEnd.{ServeEnd}
 use Rattle.warn_serve.specs.declared.serving.ServeEnd.TheVariants.{Done, PortFault, OutOfMemory}
 use Rattle.warn_serve.specs.declared.workers.WorkerEnd.{WorkerEnd}
@@ -30,15 +29,15 @@ end_after end (Worked lacks) = short_of end lacks
 end_after end Failed = PortFault
 
 -- these links went back to the port, with their doors
-pub record TakesBack {L : Type 0} (first last : PortState L) (visits : List (Visit L)) : Type 0 where
+pub record TakesBack (first last : PortState) (visits : List Visit) : Type 0 where
   pub returned : last.returned ≡ first.returned + length visits
   pub links : TellsBehind first.links last.links (links_of visits)
   pub later : min first.faults (2 ^ 64 - 1) ≤ last.faults
 
 -- a pass is a share of another one, and a door was not used
-pub record IsFresh {B E L : Type 0} (whole pass : PassRecord B E) (door : DoorState L) (share most : ℕ) : Type 0 where
+pub record IsFresh {B E : Type 0} (whole pass : PassRecord B E) (door : DoorState) (share most : ℕ) : Type 0 where
   pub is_share : IsShareOf whole pass
-  pub unused : IsUnused door.given door.returned door.faults door.links
+  pub unused : IsUnused door
   pub few : share ≤ most
 
 -- what a pass keeps of which shares are split off
@@ -49,30 +48,30 @@ pub record KeepsWhole {B E : Type 0} (old new : PassRecord B E) : Type 0 where
   pub seen : new.seen ≡ old.seen
   pub mine : new.mine ≡ old.mine
 
-module _ {B E L : Type 0} (w : Ways L) (answers : Called → PassRecord B E → PassRecord B E → List ℕ → Type 0) where
+module _ {B E : Type 0} (answers : Called → PassRecord B E → PassRecord B E → List ℕ → Type 0) where
   -- a worker has done its share, and all its links went back to its door
-  pub record DoesShare (share : ℕ) (first last : DoorState L) (old new : PassRecord B E) (end : WorkerEnd) : Type 0 where
+  pub record DoesShare (share : ℕ) (first last : DoorState) (old new : PassRecord B E) (end : WorkerEnd) : Type 0 where
     pub rights : KeepsRights old new
     pub none_out : last.given ≡ last.returned
-    pub worked : HasWorked w answers share first last old new end
+    pub worked : HasWorked answers share first last old new end
 
   -- the same with a share of this pass, from an unused door on
-  pub record HasDone (whole : PassRecord B E) (share : ℕ) (door : DoorState L) (pass : PassRecord B E) (end : WorkerEnd) : Type 0 where
+  pub record HasDone (whole : PassRecord B E) (share : ℕ) (door : DoorState) (pass : PassRecord B E) (end : WorkerEnd) : Type 0 where
     pub start : PassRecord B E
     pub is_share : IsShareOf whole start
-    pub first : DoorState L
-    pub unused : IsUnused first.given first.returned first.faults first.links
+    pub first : DoorState
+    pub unused : IsUnused first
     pub does : DoesShare share first door start pass end
 
   -- a worker made its visits with a share of this pass
-  pub record IsPartOf (whole : PassRecord B E) (p : Part (PassRecord B E) L) : Type 0 where
+  pub record IsPartOf (whole : PassRecord B E) (p : Part (PassRecord B E)) : Type 0 where
     pub start : PassRecord B E
     pub is_share : IsShareOf whole start
-    pub visits : AreVisits w answers start p.visits p.pass
+    pub visits : AreVisits answers start p.visits p.pass
 
   -- the passes of workers that had so many links to serve were taken in, and their doors went back to the port
-  pub record IsGathered (shares : ℕ) (first last : PortState L) (old new : PassRecord B E) (end : ServeEnd) : Type 0 where
-    pub parts : List (Part (PassRecord B E) L)
+  pub record IsGathered (shares : ℕ) (first last : PortState) (old new : PassRecord B E) (end : ServeEnd) : Type 0 where
+    pub parts : List (Part (PassRecord B E))
     pub passes : Gathers old new (passes_of parts)
     pub served : All (IsPartOf old) parts
     pub back : TakesBack first last (visits_of parts)

@@ -1,8 +1,8 @@
 -- What is done over a link, whatever answers its calls and whatever that makes of a pass.
-use Rattle.std.specs.Prelude.{◌≡◌, ◌≤◌, ◌<◌, ◌⊎◌, ℕ, true, List, [], ◌∷◌, ◌++◌, length, map, Option}
+use Rattle.std.specs.Prelude.{◌≡◌, ◌≤◌, ◌<◌, ◌⊎◌, ℕ, true, List, [], ◌∷◌, ◌++◌, length, map}
 use Rattle.hazard_types.specs.declared.refusal.Refusal.{Refusal}
 use mathlib.Core.List.{IsPrefix}
-use Rattle.desk_links.specs.Links.{both_counts}
+use Rattle.desk_links.specs.Links.{LinkState, faults_of}
 use Rattle.desk_traits.specs.Faults.{Rose}
 use Rattle.desk_traits.specs.Streams.{Adds, IsAtEnd, Takes}
 use Rattle.warn_http.specs.Calls.{Called, IsCall, IsCut, IsRefused, IsUnfinished, most_calls}
@@ -10,42 +10,19 @@ use Rattle.warn_serve.specs.Answers.{refused_answer}
 use Rattle.warn_serve.specs.declared.links.LinkEnd.{LinkEnd}
 use Rattle.warn_serve.specs.declared.links.LinkEnd.TheVariants.{Closed, Cut, Spent, LinkFault, OutOfMemory}
 
--- what a link tells of its bytes, and how many of its reads and of its writes have failed
-pub record LinkState : Type 0 where
-  -- the bytes that came, those read and those left
-  pub came : Option (List ℕ)
-  pub left : Option (List ℕ)
-  pub taken : Option (List ℕ)
-  pub reads : ℕ
-  pub writes : ℕ
-
--- what a kind of links tells so
-pub record Ways (L : Type 0) : Type 0 where
-  pub came : L → Option (List ℕ)
-  pub left : L → Option (List ℕ)
-  pub taken : L → Option (List ℕ)
-  pub reads : L → ℕ
-  pub writes : L → ℕ
-
-abbrev pub ways : {L : Type 0} → (L → Option (List ℕ)) → (L → Option (List ℕ)) → (L → Option (List ℕ)) → (L → ℕ) → (L → ℕ) → Ways L
-ways came left taken reads writes = record { came = came; left = left; taken = taken; reads = reads; writes = writes }
-
-abbrev pub state_of : {L : Type 0} → Ways L → L → LinkState
-state_of w link = record { came = w.came link; left = w.left link; taken = w.taken link; reads = w.reads link; writes = w.writes link }
-
 -- its input has ended
 abbrev pub HasEnded : LinkState → Type 0
-HasEnded link = IsAtEnd link.left
+HasEnded link = IsAtEnd link.input.left
 
 -- its count of faults has risen
 abbrev pub HasFailed : LinkState → LinkState → Type 0
-HasFailed old new = Rose (both_counts old.reads old.writes) (both_counts new.reads new.writes)
+HasFailed old new = Rose (faults_of old) (faults_of new)
 
 -- nothing else came, and no count has fallen
 pub record IsLater (old new : LinkState) : Type 0 where
   pub came : new.came ≡ old.came
-  pub reads : old.reads ≤ new.reads
-  pub writes : old.writes ≤ new.writes
+  pub reads : old.input.faults ≤ new.input.faults
+  pub writes : old.output.faults ≤ new.output.faults
 
 -- a call, and the answer that was written to it
 pub record Said : Type 0 where
@@ -135,7 +112,7 @@ module _ {P : Type 0} (answers : Called → P → P → List ℕ → Type 0) whe
   pub record IsServedLink (old new : LinkState) (pass pass' : P) (end : LinkEnd) : Type 0 where
     pub read : List ℕ
     pub written : List ℕ
-    pub takes : Takes old.left new.left read
-    pub adds : Adds old.taken new.taken written
+    pub takes : Takes old.input.left new.input.left read
+    pub adds : Adds old.output.taken new.output.taken written
     pub run : IsLinkRun (HasEnded new) (HasFailed old new) read written pass pass' end
     pub later : IsLater old new

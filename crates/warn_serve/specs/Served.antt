@@ -2,71 +2,60 @@
 use Rattle.std.specs.Prelude.{◌≡◌, ◌⊎◌, ◌≤◌, ◌<◌, ◌+◌, ◌-◌, ◌^◌, ◌++◌, ℕ, ℤ, All, List, [], ◌∷◌, length, map, min, Option, None, Some}
 use Rattle.desk_traits.specs.Faults.{Rose}
 use Rattle.desk_traits.specs.declared.disk.Disk.{Ghosts as Disks}
-use Rattle.desk_links.specs.Links.{with_one}
+use Rattle.desk_links.specs.Links.{LinkState, PortState, with_one}
 use Rattle.office_journal.specs.declared.kept.KeptOffice.{KeptOffice}
 use Rattle.turn_lock.specs.Passes.{PassRecord}
 use Rattle.office_turns.specs.Since.{IsSince}
 use Rattle.office_turns.specs.declared.happening.Happening.{Happening}
 use Rattle.warn_serve.specs.Calls.{AnswersCall}
-use Rattle.warn_serve.specs.Links.{Ways}
 use Rattle.warn_serve.specs.Sharing.{IsShared}
 use Rattle.warn_serve.specs.Workers.{AreVisits, Visit, lacks_of, links_of}
 use Rattle.warn_serve.specs.declared.serving.ServeEnd.{ServeEnd}
 use Rattle.warn_serve.specs.declared.serving.ServeEnd.TheVariants.{Done, PortFault, OutOfMemory}
 
--- what a port tells: how many links went back to it, these as they then stood, the numbers at which it has listened, and how often it and its doors have failed
-pub record PortState (L : Type 0) : Type 0 where
-  pub returned : ℕ
-  pub links : Option (List L)
-  pub numbers : Option (List ℕ)
-  pub faults : ℕ
-
-abbrev pub port_of : {Port L : Type 0} → (Port → ℕ) → (Port → Option (List L)) → (Port → Option (List ℕ)) → (Port → ℕ) → Port → PortState L
-port_of returned links numbers faults port = record { returned = returned port; links = links port; numbers = numbers port; faults = faults port }
-
 -- The port listened at this number, once; or it gave no doors, and no link.
-abbrev pub HasListened : {L : Type 0} → ℕ → PortState L → PortState L → Type 0
+abbrev pub HasListened : ℕ → PortState → PortState → Type 0
 HasListened number first last = (last.numbers ≡ with_one first.numbers number) ⊎ ((last.numbers ≡ first.numbers) × (last.returned ≡ first.returned))
 
 -- a worker's pass at its end, and the links that it served
-pub record Part (P L : Type 0) : Type 0 where
+pub record Part (P : Type 0) : Type 0 where
   pub pass : P
-  pub visits : List (Visit L)
+  pub visits : List Visit
 
-module _ {P L : Type 0} where
-  abbrev pub passes_of : List (Part P L) → List P
+module _ {P : Type 0} where
+  abbrev pub passes_of : List (Part P) → List P
   passes_of parts = map (λ p. p.pass) parts
 
   -- the links that all workers served, worker by worker
-  abbrev pub visits_of : List (Part P L) → List (Visit L)
+  abbrev pub visits_of : List (Part P) → List Visit
   visits_of [] = []
   visits_of (p ∷ parts) = p.visits ++ visits_of parts
 
 -- where links are told at the end, they are those told before, and these behind them
-abbrev pub TellsBehind : {L : Type 0} → Option (List L) → Option (List L) → List L → Type 0
+abbrev pub TellsBehind : Option (List LinkState) → Option (List LinkState) → List LinkState → Type 0
 TellsBehind first None more = Unit {0}
-TellsBehind first (Some last) more = (before : List _) × (first ≡ Some before) × (last ≡ before ++ more)
+TellsBehind first (Some last) more = (before : List LinkState) × (first ≡ Some before) × (last ≡ before ++ more)
 
 -- All links were served, and none of them ended for want of memory; or the port or a door failed, and links are missing; or links are missing, or one ended for want of memory.
-abbrev pub EndsAs : {L : Type 0} → PortState L → PortState L → ℕ → List (Visit L) → ServeEnd → Type 0
+abbrev pub EndsAs : PortState → PortState → ℕ → List Visit → ServeEnd → Type 0
 EndsAs first last connections visits Done = (length visits ≡ connections) × (lacks_of visits ≡ 0)
 EndsAs first last connections visits PortFault = (length visits < connections) × Rose first.faults last.faults
 EndsAs first last connections visits OutOfMemory = (length visits < connections) ⊎ (0 < lacks_of visits)
 
-module _ {D L : Type 0} (d : Disks D) (w : Ways L) (gives : ℤ → Type 0) (opened : KeptOffice D d) where
+module _ {D : Type 0} (d : Disks D) (gives : ℤ → Type 0) (opened : KeptOffice D d) where
   -- a worker that had seen nothing since the opening made its visits
-  pub record HasPart (p : Part (PassRecord (KeptOffice D d) Happening) L) : Type 0 where
+  pub record HasPart (p : Part (PassRecord (KeptOffice D d) Happening)) : Type 0 where
     pub start : PassRecord (KeptOffice D d) Happening
     pub base : start.base ≡ opened
     pub unseen : start.seen ≡ []
     pub none_added : start.mine ≡ []
-    pub visits : AreVisits w (AnswersCall gives) start p.visits p.pass
+    pub visits : AreVisits (AnswersCall gives) start p.visits p.pass
 
   -- There is one list of happenings since the opening, those of the calls on these links, each once; and the links went back to the port, which had listened at the number.
-  pub record IsServed (kept : KeptOffice D d) (number connections : ℕ) (first last : PortState L) (end : ServeEnd) : Type 0 where
+  pub record IsServed (kept : KeptOffice D d) (number connections : ℕ) (first last : PortState) (end : ServeEnd) : Type 0 where
     pub happenings : List Happening
     pub since : IsSince d opened kept happenings
-    pub parts : List (Part (PassRecord (KeptOffice D d) Happening) L)
+    pub parts : List (Part (PassRecord (KeptOffice D d) Happening))
     pub shared : IsShared 0 happenings (passes_of parts)
     pub served : All HasPart parts
     pub listened : HasListened number first last

@@ -2,35 +2,34 @@
 use Rattle.std.specs.Prelude.{◌≡◌, ◌≤◌, ℕ, Bool, List, [], true, false, ◌++◌, length, drop, Option, None, Some}
 use mathlib.Core.List.{IsPrefix}
 use Rattle.desk_traits.specs.Streams.{Adds, Takes}
+use Rattle.desk_links.specs.Links.{LinkState}
 use Rattle.warn_http.specs.Calls.{Called, IsCut}
-use Rattle.warn_serve.specs.Links.{Answered, EndsSo, HasCount, HasEnded, HasFailed, IsJudged, IsLater, LinkState, Said, answers_of, calls_of}
+use Rattle.warn_serve.specs.Links.{Answered, EndsSo, HasCount, HasEnded, HasFailed, IsJudged, IsLater, Said, answers_of, calls_of}
 use Rattle.warn_serve.specs.declared.links.LinkEnd.{LinkEnd}
 use Rattle.warn_serve.specs.declared.links.LinkEnd.TheVariants.{Closed, Cut, Spent, LinkFault, OutOfMemory}
 
 -- nothing else came, and no count has risen
 pub record IsSteady (old new : LinkState) : Type 0 where
   pub came : new.came ≡ old.came
-  pub reads : new.reads ≡ old.reads
-  pub writes : new.writes ≡ old.writes
+  pub reads : new.input.faults ≡ old.input.faults
+  pub writes : new.output.faults ≡ old.output.faults
 
 -- nothing was written, and no write failed
 pub record IsUnwritten (old new : LinkState) : Type 0 where
   pub came : new.came ≡ old.came
-  pub taken : new.taken ≡ old.taken
-  pub writes : new.writes ≡ old.writes
-  pub later : old.reads ≤ new.reads
+  pub output : new.output ≡ old.output
+  pub later : old.input.faults ≤ new.input.faults
 
 -- this alone was written, and nothing read
 pub record WritesAlone (old new : LinkState) (written : List ℕ) : Type 0 where
   pub came : new.came ≡ old.came
-  pub left : new.left ≡ old.left
-  pub adds : Adds old.taken new.taken written
-  pub reads : new.reads ≡ old.reads
-  pub later : old.writes ≤ new.writes
+  pub input : new.input ≡ old.input
+  pub adds : Adds old.output.taken new.output.taken written
+  pub later : old.output.faults ≤ new.output.faults
 
 -- An answer was written, after which the link closes or stays open; or a front of it, before a fault; or none, for want of memory.
 abbrev pub Sends : LinkState → LinkState → List ℕ → Bool → Option LinkEnd → Type 0
-Sends old new answer last None = (last ≡ false) × WritesAlone old new answer × (new.writes ≡ old.writes)
+Sends old new answer last None = (last ≡ false) × WritesAlone old new answer × (new.output.faults ≡ old.output.faults)
 Sends old new answer last (Some Closed) = (last ≡ true) × WritesAlone old new answer
 Sends old new answer last (Some Cut) = ⊥
 Sends old new answer last (Some Spent) = ⊥
@@ -41,20 +40,20 @@ module _ {P : Type 0} (answers : Called → P → P → List ℕ → Type 0) whe
   -- one call more was answered, and the link stays open
   pub record GoesOn (old new : LinkState) (pass pass' : P) (held held' : List ℕ) : Type 0 where
     pub read : List ℕ
-    pub takes : Takes old.left new.left read
+    pub takes : Takes old.input.left new.input.left read
     pub answer : List ℕ
     pub one : IsJudged answers (held ++ read) pass pass' answer
     pub stays_open : one.called.last ≡ false
-    pub adds : Adds old.taken new.taken answer
+    pub adds : Adds old.output.taken new.output.taken answer
     pub behind : held' ≡ drop one.called.used (held ++ read)
     pub steady : IsSteady old new
 
   -- the link ended
   pub record StopsSo (old new : LinkState) (pass pass' : P) (held : List ℕ) (end : LinkEnd) : Type 0 where
     pub read : List ℕ
-    pub takes : Takes old.left new.left read
+    pub takes : Takes old.input.left new.input.left read
     pub tail : List ℕ
-    pub adds : Adds old.taken new.taken tail
+    pub adds : Adds old.output.taken new.output.taken tail
     -- not for the number of its calls
     pub early : HasCount end 0
     pub ends : EndsSo answers (HasEnded new) (HasFailed old new) (held ++ read) pass pass' tail end
@@ -69,9 +68,9 @@ module _ {P : Type 0} (answers : Called → P → P → List ℕ → Type 0) whe
   pub record HasGone (old new : LinkState) (pass pass' : P) (held : List ℕ) (count : ℕ) : Type 0 where
     pub read : List ℕ
     pub said : List Said
-    pub takes : Takes old.left new.left read
+    pub takes : Takes old.input.left new.input.left read
     pub cut : IsCut read (calls_of said) held
     pub answered : Answered answers pass said pass'
-    pub adds : Adds old.taken new.taken (answers_of said)
+    pub adds : Adds old.output.taken new.output.taken (answers_of said)
     pub counted : length said ≡ count
     pub steady : IsSteady old new

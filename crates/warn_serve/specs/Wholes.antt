@@ -3,7 +3,8 @@ use Rattle.std.specs.Prelude.{◌≡◌, ℕ, true, List, [], ◌++◌, ⊤}
 use Rattle.warn_http.specs.Calls.{AreCalls, Called, Stop, refused, closed, spent, left}
 use Rattle.warn_serve.specs.Answers.{refused_answer}
 use Rattle.desk_traits.specs.Streams.{Adds, Takes}
-use Rattle.warn_serve.specs.Links.{Answered, LinkState, Said, answers_of, calls_of}
+use Rattle.desk_links.specs.Links.{LinkState}
+use Rattle.warn_serve.specs.Links.{Answered, Said, answers_of, calls_of}
 use Rattle.warn_serve.specs.declared.links.LinkEnd.{LinkEnd}
 use Rattle.warn_serve.specs.declared.links.LinkEnd.TheVariants.{Closed, Cut, Spent, LinkFault, OutOfMemory}
 
@@ -34,6 +35,6 @@ pub record AnswersCalls {P : Type 0} (answers : Called → P → P → List ℕ 
 pub record AnswersLink {P : Type 0} (answers : Called → P → P → List ℕ → Type 0) (old new : LinkState) (pass pass' : P) : Type 0 where
   pub read : List ℕ
   pub written : List ℕ
-  pub takes : Takes old.left new.left read
-  pub adds : Adds old.taken new.taken written
+  pub takes : Takes old.input.left new.input.left read
+  pub adds : Adds old.output.taken new.output.taken written
   pub calls : AnswersCalls answers read written pass pass'

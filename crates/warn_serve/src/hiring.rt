@@ -2,9 +2,6 @@
 ghost use Rattle.std.specs.Prelude.{◌≡◌, ◌≤◌, ◌<◌, ◌+◌, [], ℕ, All, length, map, slice_index_or, vec_len};
 ghost use Rattle.warn_serve.specs.Calls.{AnswersCall};
 ghost use Rattle.warn_serve.specs.Gathered.{DoesShare, IsFresh, KeepsWhole, TakesBack, total_of};
-ghost use Rattle.warn_serve.specs.Links.{ways};
-ghost use Rattle.warn_serve.specs.Served.{port_of};
-ghost use Rattle.warn_serve.specs.Workers.{door_of};
 ghost use Rattle.desk_links.specs.Links.{IsUnused};
 
 use crate::workers::{WorkerEnd, worker};
@@ -49,14 +46,15 @@ pub(crate) fn hire<D: Disk, P: Port>(
 ) -> (Vec<Worker<SharedOffice<D>, P::Door>>, u64)
     requires lock { pass.old.lock ≡ lock.now }
     requires shares { vec_len doors < pass.old.shares }
-    requires unused { All (λ door. IsUnused (P.Door.given door) (P.Door.returned door) (P.Door.faults door) (P.Door.links door)) doors.items }
-    requires few { P.returned port.old ≤ 1000000 }
+    requires unused { All (λ door. IsUnused (P.Door.state door)) doors.items }
+    requires few { (P.state port.old).returned ≤ 1000000 }
     ensures kept { KeepsWhole pass.old pass.new }
     ensures shares { pass.new.shares + vec_len result.0 ≡ pass.old.shares }
-    ensures fresh { All (λ w. IsFresh pass.old w.pass (door_of P.Door.given P.Door.returned P.Door.links P.Door.faults w.door) w.share connections) result.0.items }
+    ensures fresh { All (λ w. IsFresh pass.old w.pass (P.Door.state w.door) w.share connections)
+        result.0.items }
     ensures total { total_of (map (λ w. w.share) result.0.items) + result.1 ≡ connections }
-    ensures port { TakesBack (port_of P.returned P.links P.numbers P.faults port.old) (port_of P.returned P.links P.numbers P.faults port.new) [] }
-    ensures numbers { P.numbers port.new ≡ P.numbers port.old }
+    ensures port { TakesBack (P.state port.old) (P.state port.new) [] }
+    ensures numbers { (P.state port.new).numbers ≡ (P.state port.old).numbers }
 {
     let mut workers = Vec::new(alloc);
     let mut left = connections;
@@ -65,11 +63,11 @@ pub(crate) fn hire<D: Disk, P: Port>(
         let share = share_of(left, waiting);
         waiting -= 1;
         if workers.reserve(1).is_err() {
-            port.back(door);
+            port.return_door(door);
             continue;
         }
         let Ok(part) = lock.split(pass) else {
-            port.back(door);
+            port.return_door(door);
             continue;
         };
         left -= share;
@@ -94,12 +92,12 @@ fn work<R: Wait, D: Disk, Dr: Door, C: Clock, G: Gate>(
 )
     requires lock { one.old.pass.lock ≡ lock.now }
     requires few { one.old.share ≤ 1000000 }
-    requires none_given { Dr.given one.old.door ≡ 0 }
-    requires none_returned { Dr.returned one.old.door ≡ 0 }
+    requires none_given { (Dr.state one.old.door).given ≡ 0 }
+    requires none_returned { (Dr.state one.old.door).returned ≡ 0 }
     ensures share { one.new.share ≡ one.old.share }
-    ensures does { DoesShare (ways Dr.Link.came Dr.Link.left Dr.Link.taken Dr.Link.Source.faults Dr.Link.Sink.faults) (AnswersCall (C.gives clock.now)) one.old.share
-        (door_of Dr.given Dr.returned Dr.links Dr.faults one.old.door)
-        (door_of Dr.given Dr.returned Dr.links Dr.faults one.new.door) one.old.pass one.new.pass one.new.end }
+    ensures does { DoesShare (AnswersCall (C.gives clock.now)) one.old.share
+        (Dr.state one.old.door)
+        (Dr.state one.new.door) one.old.pass one.new.pass one.new.end }
 {
     let share = one.share;
     one.end = worker(
@@ -131,25 +129,29 @@ pub(crate) fn work_all<
 )
     requires lock { All (λ w. w.pass.lock ≡ lock.now) workers.old }
     requires few { All (λ w. w.share ≤ 1000000) workers.old }
-    requires none_given { All (λ w. Dr.given w.door ≡ 0) workers.old }
-    requires none_returned { All (λ w. Dr.returned w.door ≡ 0) workers.old }
+    requires none_given { All (λ w. (Dr.state w.door).given ≡ 0) workers.old }
+    requires none_returned { All (λ w. (Dr.state w.door).returned ≡ 0) workers.old }
     ensures count { length workers.new ≡ length workers.old }
-    ensures share { (i : ℕ) (w : _) → i < length workers.old → (slice_index_or workers.new i w).share ≡ (slice_index_or workers.old i w).share }
-    ensures does { (i : ℕ) (w : _) → i < length workers.old → DoesShare (ways Dr.Link.came Dr.Link.left Dr.Link.taken Dr.Link.Source.faults Dr.Link.Sink.faults) (AnswersCall (C.gives clock.now)) (slice_index_or workers.old i w).share
-        (door_of Dr.given Dr.returned Dr.links Dr.faults (slice_index_or workers.old i w).door)
-        (door_of Dr.given Dr.returned Dr.links Dr.faults (slice_index_or workers.new i w).door)
-        (slice_index_or workers.old i w).pass (slice_index_or workers.new i w).pass (slice_index_or workers.new i w).end }
+    ensures share { (i : ℕ) (w : _) → i < length workers.old
+        → (slice_index_or workers.new i w).share ≡ (slice_index_or workers.old i w).share }
+    ensures does { (i : ℕ) (w : _) → i < length workers.old
+        → DoesShare (AnswersCall (C.gives clock.now)) (slice_index_or workers.old i w).share
+        (Dr.state (slice_index_or workers.old i w).door)
+        (Dr.state (slice_index_or workers.new i w).door)
+        (slice_index_or workers.old i w).pass (slice_index_or workers.new i w).pass
+        (slice_index_or workers.new i w).end }
 {
     thread::for_each_mut(
         rt,
         workers,
         16,
         &|_: usize, one: &mut Worker<SharedOffice<D>, Dr>|
-            requires { (one.old.pass.lock ≡ lock.now) × (one.old.share ≤ 1000000) × (Dr.given one.old.door ≡ 0) × (Dr.returned one.old.door ≡ 0) }
+            requires { (one.old.pass.lock ≡ lock.now) × (one.old.share ≤ 1000000)
+                × ((Dr.state one.old.door).given ≡ 0) × ((Dr.state one.old.door).returned ≡ 0) }
             ensures share { one.new.share ≡ one.old.share }
-            ensures does { DoesShare (ways Dr.Link.came Dr.Link.left Dr.Link.taken Dr.Link.Source.faults Dr.Link.Sink.faults) (AnswersCall (C.gives clock.entry.now)) one.old.share
-                (door_of Dr.given Dr.returned Dr.links Dr.faults one.old.door)
-                (door_of Dr.given Dr.returned Dr.links Dr.faults one.new.door) one.old.pass one.new.pass one.new.end }
+            ensures does { DoesShare (AnswersCall (C.gives clock.entry.now)) one.old.share
+                (Dr.state one.old.door)
+                (Dr.state one.new.door) one.old.pass one.new.pass one.new.end }
         { work(rt, alloc, lock, one, clock, gate) },
     );
 }

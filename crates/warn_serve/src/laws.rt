@@ -1,11 +1,12 @@
 //! Laws: a link ends as the bytes that were read of it have it. They have no code.
 ghost use Rattle.std.specs.Prelude.{◌≡◌, ℕ, List};
+ghost use Rattle.desk_links.specs.Links.{LinkState};
 ghost use Rattle.office_journal.specs.declared.kept.KeptOffice.{KeptOffice};
 ghost use Rattle.office_turns.specs.declared.happening.Happening.{Happening};
 ghost use Rattle.turn_lock.specs.Passes.{PassRecord};
 ghost use Rattle.warn_serve.specs.Calls.{AnswersCall};
 ghost use Rattle.warn_serve.specs.Causes.{EndAlike, HasCause};
-ghost use Rattle.warn_serve.specs.Links.{IsServedLink, LinkState};
+ghost use Rattle.warn_serve.specs.Links.{IsServedLink};
 ghost use Rattle.warn_serve.specs.Wholes.{IsWhole};
 ghost use Rattle.warn_serve.specs.declared.links.LinkEnd.{LinkEnd};
 

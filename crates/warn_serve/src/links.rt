@@ -1,20 +1,19 @@
 //! The calls of one link.
-ghost use Rattle.std.specs.Prelude.{◌≡◌, ◌≤◌, ℕ, List, [], OnOk, length, take, true};
-ghost use Rattle.desk_traits.specs.Faults.{HasCause};
-ghost use Rattle.desk_traits.specs.Streams.{Adds};
+ghost use Rattle.std.specs.Prelude.{◌≡◌, ℕ, List, [], length, true};
+ghost use Rattle.desk_links.specs.Links.{WritesLink};
 ghost use Rattle.turn_lock.specs.Passes.{KeepsRights};
 ghost use Rattle.warn_http.specs.Calls.{LiesIn, posted_in};
 ghost use Rattle.warn_serve.specs.Answers.{bytes_of, refused_answer};
 ghost use Rattle.warn_serve.specs.Calls.{AnswersAsked, AnswersCall};
-ghost use Rattle.warn_serve.specs.Links.{IsServedLink, state_of, ways};
+ghost use Rattle.warn_serve.specs.Links.{IsServedLink};
 ghost use Rattle.warn_serve.specs.Steps.{Sends, ServesNext};
 ghost use Rattle.warn_serve.specs.Wholes.{AnswersLink, IsWhole};
 
 use crate::answers::{AnswerBytes, refused_answer};
 use crate::calls::answer_call;
 use call_inbox::{Inbox, NextCall, next_call};
-use desk_links::{Gate, Link};
-use desk_traits::{Clock, Disk, Failed, write_whole};
+use desk_links::{Gate, Link, write_link};
+use desk_traits::{Clock, Disk, Failed};
 use hazard_types::{Oom, Refusal};
 use office_turns::SharedOffice;
 use std::alloc::Global;
@@ -41,20 +40,14 @@ pub enum LinkEnd {
 
 /// Writes an answer, or its beginning before a fault.
 fn send<L: Link>(link: &mut L, answer: &AnswerBytes) -> Result<(), Failed>
-    ensures whole { OnOk result (Adds (L.Sink.taken link.old) (L.Sink.taken link.new) (bytes_of answer.now)) }
-    ensures front { (n : ℕ) × (n ≤ length (bytes_of answer.now)) × Adds (L.Sink.taken link.old) (L.Sink.taken link.new) (take n (bytes_of answer.now)) }
-    ensures cause { HasCause (L.Sink.faults link.old) (L.Sink.faults link.new) result }
-    ensures steady { OnOk result (L.Sink.faults link.new ≡ L.Sink.faults link.old) }
-    ensures unread { L.Source.left link.new ≡ L.Source.left link.old }
-    ensures reads { L.Source.faults link.new ≡ L.Source.faults link.old }
-    ensures came { L.came link.new ≡ L.came link.old }
+    ensures { WritesLink (L.state link.old) (L.state link.new) result (bytes_of answer.now) }
 {
-    write_whole(link, answer.as_slice())
+    write_link(link, answer.as_slice())
 }
 
 /// Writes an answer, after which the link closes or stays open.
 fn finish<L: Link>(link: &mut L, answer: &AnswerBytes, last: bool) -> Option<LinkEnd>
-    ensures { Sends (state_of (ways L.came L.left L.taken L.Source.faults L.Sink.faults) link.old) (state_of (ways L.came L.left L.taken L.Source.faults L.Sink.faults) link.new) (bytes_of answer.now) last result }
+    ensures { Sends (L.state link.old) (L.state link.new) (bytes_of answer.now) last result }
 {
     match send(link, answer) {
         Ok(()) if last => Some(LinkEnd::Closed),
@@ -65,7 +58,8 @@ fn finish<L: Link>(link: &mut L, answer: &AnswerBytes, last: bool) -> Option<Lin
 
 /// Writes that the first call is refused, after which the link closes.
 fn refuse<L: Link>(alloc: Global, link: &mut L, refusal: Refusal) -> Option<LinkEnd>
-    ensures { Sends (state_of (ways L.came L.left L.taken L.Source.faults L.Sink.faults) link.old) (state_of (ways L.came L.left L.taken L.Source.faults L.Sink.faults) link.new) (refused_answer refusal true) true result }
+    ensures { Sends (L.state link.old) (L.state link.new) (refused_answer refusal true) true
+        result }
 {
     match refused_answer(alloc, refusal, true) {
         Ok(answer) => finish(link, &answer, true),
@@ -88,8 +82,10 @@ fn serve_call<R: Wait, D: Disk, L: Link, C: Clock>(
     requires pass { pass.old.lock ≡ lock.now }
     requires within { LiesIn (length bytes.now) call }
     ensures kept { KeepsRights pass.old pass.new }
-    ensures sent { (answer : List ℕ) × AnswersAsked last pass.old pass.new answer (C.gives clock.now) call (posted_in bytes.now call)
-        × Sends (state_of (ways L.came L.left L.taken L.Source.faults L.Sink.faults) link.old) (state_of (ways L.came L.left L.taken L.Source.faults L.Sink.faults) link.new) answer last result }
+    ensures sent { (answer : List ℕ)
+        × AnswersAsked last pass.old pass.new answer (C.gives clock.now) call
+        (posted_in bytes.now call)
+        × Sends (L.state link.old) (L.state link.new) answer last result }
 {
     match answer_call(rt, alloc, lock, pass, clock, bytes, call, last) {
         Ok(answer) => finish(link, &answer, last),
@@ -113,7 +109,8 @@ fn serve_next<R: Wait, D: Disk, L: Link, C: Clock, G: Gate>(
 ) -> Option<LinkEnd>
     requires pass { pass.old.lock ≡ lock.now }
     ensures kept { KeepsRights pass.old pass.new }
-    ensures served { ServesNext (AnswersCall (C.gives clock.now)) (state_of (ways L.came L.left L.taken L.Source.faults L.Sink.faults) link.old) (state_of (ways L.came L.left L.taken L.Source.faults L.Sink.faults) link.new) pass.old pass.new inbox.old inbox.new result }
+    ensures served { ServesNext (AnswersCall (C.gives clock.now)) (L.state link.old)
+        (L.state link.new) pass.old pass.new inbox.old inbox.new result }
 {
     match next_call(alloc, routes, inbox, link) {
         NextCall::Call { call, used, last } => {
@@ -147,7 +144,8 @@ fn serve_calls<R: Wait, D: Disk, L: Link, C: Clock, G: Gate>(
     requires pass { pass.old.lock ≡ lock.now }
     requires empty { inbox.old ≡ [] }
     ensures kept { KeepsRights pass.old pass.new }
-    ensures served { IsServedLink (AnswersCall (C.gives clock.now)) (state_of (ways L.came L.left L.taken L.Source.faults L.Sink.faults) link.old) (state_of (ways L.came L.left L.taken L.Source.faults L.Sink.faults) link.new) pass.old pass.new result }
+    ensures served { IsServedLink (AnswersCall (C.gives clock.now)) (L.state link.old)
+        (L.state link.new) pass.old pass.new result }
 {
     for index in 0..MOST_CALLS {
         let number = index + 1;
@@ -175,8 +173,10 @@ pub fn serve_link<R: Wait, D: Disk, L: Link, C: Clock, G: Gate>(
 ) -> LinkEnd
     requires pass { pass.old.lock ≡ lock.now }
     ensures kept { KeepsRights pass.old pass.new }
-    ensures whole { IsWhole result → AnswersLink (AnswersCall (C.gives clock.now)) (state_of (ways L.came L.left L.taken L.Source.faults L.Sink.faults) link.old) (state_of (ways L.came L.left L.taken L.Source.faults L.Sink.faults) link.new) pass.old pass.new }
-    ensures served { IsServedLink (AnswersCall (C.gives clock.now)) (state_of (ways L.came L.left L.taken L.Source.faults L.Sink.faults) link.old) (state_of (ways L.came L.left L.taken L.Source.faults L.Sink.faults) link.new) pass.old pass.new result }
+    ensures whole { IsWhole result → AnswersLink (AnswersCall (C.gives clock.now))
+        (L.state link.old) (L.state link.new) pass.old pass.new }
+    ensures served { IsServedLink (AnswersCall (C.gives clock.now)) (L.state link.old)
+        (L.state link.new) pass.old pass.new result }
 {
     let Ok(mut inbox) = Inbox::new(alloc) else {
         return LinkEnd::OutOfMemory;

@@ -2,9 +2,7 @@
 ghost use Rattle.std.specs.Prelude.{◌≡◌, ◌≤◌, ◌<◌, ◌+◌, All, map, vec_len};
 ghost use Rattle.warn_serve.specs.Calls.{AnswersCall};
 ghost use Rattle.warn_serve.specs.Gathered.{HasDone, IsFresh, IsGathered, end_after, short_of, total_of};
-ghost use Rattle.warn_serve.specs.Links.{ways};
-ghost use Rattle.warn_serve.specs.Served.{HasListened, IsServed, port_of};
-ghost use Rattle.warn_serve.specs.Workers.{door_of};
+ghost use Rattle.warn_serve.specs.Served.{HasListened, IsServed};
 
 use crate::hiring::{Worker, hire, work_all};
 use crate::workers::WorkerEnd;
@@ -64,13 +62,15 @@ fn gather<D: Disk, P: Port, C: Clock>(
     clock: &C,
 ) -> ServeEnd
     requires lock { pass.old.lock ≡ lock.now }
-    requires done { All (λ w. HasDone (ways P.Door.Link.came P.Door.Link.left P.Door.Link.taken P.Door.Link.Source.faults P.Door.Link.Sink.faults) (AnswersCall (C.gives clock.now))
-        pass.old w.share (door_of P.Door.given P.Door.returned P.Door.links P.Door.faults w.door) w.pass w.end) workers.items }
-    requires few { P.returned port.old + total_of (map (λ w. w.share) workers.items) ≤ 1000000 }
+    requires done { All (λ w. HasDone (AnswersCall (C.gives clock.now))
+        pass.old w.share (P.Door.state w.door) w.pass w.end) workers.items }
+    requires few { (P.state port.old).returned + total_of (map (λ w. w.share) workers.items)
+        ≤ 1000000 }
     ensures shares { pass.new.shares ≡ pass.old.shares + vec_len workers }
-    ensures numbers { P.numbers port.new ≡ P.numbers port.old }
-    ensures gathered { IsGathered (ways P.Door.Link.came P.Door.Link.left P.Door.Link.taken P.Door.Link.Source.faults P.Door.Link.Sink.faults) (AnswersCall (C.gives clock.now))
-        (total_of (map (λ w. w.share) workers.items)) (port_of P.returned P.links P.numbers P.faults port.old) (port_of P.returned P.links P.numbers P.faults port.new) pass.old pass.new result }
+    ensures numbers { (P.state port.new).numbers ≡ (P.state port.old).numbers }
+    ensures gathered { IsGathered (AnswersCall (C.gives clock.now))
+        (total_of (map (λ w. w.share) workers.items)) (P.state port.old) (P.state port.new)
+        pass.old pass.new result }
 {
     let mut end = ServeEnd::Done;
     for worker in workers {
@@ -81,7 +81,7 @@ fn gather<D: Disk, P: Port, C: Clock>(
             ..
         } = worker;
         lock.join(pass, part);
-        port.back(door);
+        port.return_door(door);
         end = end_after(end, worked);
     }
     end
@@ -99,12 +99,15 @@ fn serve_shares<R: Threads + Wait + Sync, D: Disk + Send, P: Port, C: Clock + Sy
     gate: &G,
 ) -> ServeEnd
     requires lock { pass.old.lock ≡ lock.now }
-    requires fresh { All (λ w. IsFresh pass.old w.pass (door_of P.Door.given P.Door.returned P.Door.links P.Door.faults w.door) w.share 1000000) workers.items }
-    requires few { P.returned port.old + total_of (map (λ w. w.share) workers.items) ≤ 1000000 }
+    requires fresh { All (λ w. IsFresh pass.old w.pass (P.Door.state w.door) w.share 1000000)
+        workers.items }
+    requires few { (P.state port.old).returned + total_of (map (λ w. w.share) workers.items)
+        ≤ 1000000 }
     ensures shares { pass.new.shares ≡ pass.old.shares + vec_len workers }
-    ensures numbers { P.numbers port.new ≡ P.numbers port.old }
-    ensures gathered { IsGathered (ways P.Door.Link.came P.Door.Link.left P.Door.Link.taken P.Door.Link.Source.faults P.Door.Link.Sink.faults) (AnswersCall (C.gives clock.now))
-        (total_of (map (λ w. w.share) workers.items)) (port_of P.returned P.links P.numbers P.faults port.old) (port_of P.returned P.links P.numbers P.faults port.new) pass.old pass.new result }
+    ensures numbers { (P.state port.new).numbers ≡ (P.state port.old).numbers }
+    ensures gathered { IsGathered (AnswersCall (C.gives clock.now))
+        (total_of (map (λ w. w.share) workers.items)) (P.state port.old) (P.state port.new)
+        pass.old pass.new result }
 {
     work_all(rt, alloc, lock, workers.as_mut_slice(), clock, gate);
     gather(lock, pass, port, workers, clock)
@@ -127,11 +130,11 @@ fn serve_port<R: Threads + Wait + Sync, D: Disk + Send, P: Port, C: Clock + Sync
     requires shares { pass.old.shares ≡ 1024 }
     requires workers { workers ≤ 16 }
     requires connections { (1 ≤ connections) × (connections ≤ 1000000) }
-    requires unused { P.returned port.old ≡ 0 }
+    requires unused { (P.state port.old).returned ≡ 0 }
     ensures shares { pass.new.shares ≡ 1024 }
-    ensures listened { HasListened number (port_of P.returned P.links P.numbers P.faults port.old) (port_of P.returned P.links P.numbers P.faults port.new) }
-    ensures gathered { IsGathered (ways P.Door.Link.came P.Door.Link.left P.Door.Link.taken P.Door.Link.Source.faults P.Door.Link.Sink.faults) (AnswersCall (C.gives clock.now))
-        connections (port_of P.returned P.links P.numbers P.faults port.old) (port_of P.returned P.links P.numbers P.faults port.new) pass.old pass.new result }
+    ensures listened { HasListened number (P.state port.old) (P.state port.new) }
+    ensures gathered { IsGathered (AnswersCall (C.gives clock.now))
+        connections (P.state port.old) (P.state port.new) pass.old pass.new result }
 {
     let doors = match port.listen(number, workers) {
         Ok(doors) => doors.into_vec(),
@@ -143,9 +146,10 @@ fn serve_port<R: Threads + Wait + Sync, D: Disk + Send, P: Port, C: Clock + Sync
     short_of(end, left)
 }
 
-/// Serves so many links of the doors of a port, 1 to 1,000,000, which listens at the number, over one
-/// kept office, by 1 to 16 workers, and returns how that ended. The office comes back, after all that happened to it. Where
-/// memory runs out for a worker the others serve fewer links, or all of them.
+/// Serves so many links of the doors of a port, 1 to 1,000,000, which listens at the number, over
+/// one kept office, by 1 to 16 workers, and returns how that ended. The office comes back, after
+/// all that happened to it. Where memory runs out for a worker the others serve fewer links, or all of
+/// them.
 pub fn serve<R: Threads + Wait + Sync, D: Disk + Send, P: Port, C: Clock + Sync, G: Gate + Sync>(
     rt: &R,
     alloc: Global,
@@ -159,9 +163,9 @@ pub fn serve<R: Threads + Wait + Sync, D: Disk + Send, P: Port, C: Clock + Sync,
 ) -> (KeptOffice<D>, ServeEnd)
     requires workers { (1 ≤ workers) × (workers ≤ 16) }
     requires connections { (1 ≤ connections) × (connections ≤ 1000000) }
-    requires unused { P.returned port.old ≡ 0 }
-    ensures { IsServed D.Disk (ways P.Door.Link.came P.Door.Link.left P.Door.Link.taken P.Door.Link.Source.faults P.Door.Link.Sink.faults) (C.gives clock.now) kept result.0 number connections
-        (port_of P.returned P.links P.numbers P.faults port.old) (port_of P.returned P.links P.numbers P.faults port.new) result.1 }
+    requires unused { (P.state port.old).returned ≡ 0 }
+    ensures { IsServed D.Disk (C.gives clock.now) kept result.0 number connections
+        (P.state port.old) (P.state port.new) result.1 }
 {
     let shared = SharedOffice::open(alloc, kept);
     let (lock, mut pass) = match TurnLock::start(alloc, shared) {

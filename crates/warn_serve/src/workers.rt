@@ -2,8 +2,7 @@
 ghost use Rattle.std.specs.Prelude.{◌≡◌, ◌≤◌, ◌<◌, ◌^◌, IfOk, OnErr};
 ghost use Rattle.turn_lock.specs.Passes.{KeepsRights};
 ghost use Rattle.warn_serve.specs.Calls.{AnswersCall};
-ghost use Rattle.warn_serve.specs.Links.{ways};
-ghost use Rattle.warn_serve.specs.Workers.{HasNone, HasWorked, ServesOne, door_of, lack_of};
+ghost use Rattle.warn_serve.specs.Workers.{HasNone, HasWorked, ServesOne, lack_of};
 
 use crate::links::{LinkEnd, serve_link};
 use desk_links::{Door, Gate};
@@ -44,18 +43,18 @@ fn serve_one<R: Wait, D: Disk, Dr: Door, C: Clock, G: Gate>(
     gate: &G,
 ) -> Result<LinkEnd, Failed>
     requires pass { pass.old.lock ≡ lock.now }
-    requires none_out { Dr.given door.old ≡ Dr.returned door.old }
-    requires few { Dr.returned door.old < 2 ^ 32 }
+    requires none_out { (Dr.state door.old).given ≡ (Dr.state door.old).returned }
+    requires few { (Dr.state door.old).returned < 2 ^ 32 }
     ensures kept { KeepsRights pass.old pass.new }
-    ensures served { IfOk result (λ end. ServesOne (ways Dr.Link.came Dr.Link.left Dr.Link.taken Dr.Link.Source.faults Dr.Link.Sink.faults) (AnswersCall (C.gives clock.now))
-        (door_of Dr.given Dr.returned Dr.links Dr.faults door.old)
-        (door_of Dr.given Dr.returned Dr.links Dr.faults door.new) pass.old pass.new end) }
-    ensures failed { OnErr result (HasNone (door_of Dr.given Dr.returned Dr.links Dr.faults door.old)
-        (door_of Dr.given Dr.returned Dr.links Dr.faults door.new) pass.old pass.new) }
+    ensures served { IfOk result (λ end. ServesOne (AnswersCall (C.gives clock.now))
+        (Dr.state door.old)
+        (Dr.state door.new) pass.old pass.new end) }
+    ensures failed { OnErr result (HasNone (Dr.state door.old)
+        (Dr.state door.new) pass.old pass.new) }
 {
     let mut link = door.accept()?;
     let end = serve_link(rt, alloc, lock, pass, &mut link, clock, gate);
-    door.back(link);
+    door.return_link(link);
     Ok(end)
 }
 
@@ -72,14 +71,14 @@ pub fn worker<R: Wait, D: Disk, Dr: Door, C: Clock, G: Gate>(
 ) -> WorkerEnd
     requires pass { pass.old.lock ≡ lock.now }
     requires share { share ≤ 1000000 }
-    requires none_given { Dr.given door.old ≡ 0 }
-    requires none_returned { Dr.returned door.old ≡ 0 }
+    requires none_given { (Dr.state door.old).given ≡ 0 }
+    requires none_returned { (Dr.state door.old).returned ≡ 0 }
     ensures kept { KeepsRights pass.old pass.new }
-    ensures none_out { Dr.given door.new ≡ Dr.returned door.new }
-    ensures few { Dr.returned door.new ≤ share }
-    ensures worked { HasWorked (ways Dr.Link.came Dr.Link.left Dr.Link.taken Dr.Link.Source.faults Dr.Link.Sink.faults) (AnswersCall (C.gives clock.now)) share
-        (door_of Dr.given Dr.returned Dr.links Dr.faults door.old)
-        (door_of Dr.given Dr.returned Dr.links Dr.faults door.new) pass.old pass.new result }
+    ensures none_out { (Dr.state door.new).given ≡ (Dr.state door.new).returned }
+    ensures few { (Dr.state door.new).returned ≤ share }
+    ensures worked { HasWorked (AnswersCall (C.gives clock.now)) share
+        (Dr.state door.old)
+        (Dr.state door.new) pass.old pass.new result }
 {
     let mut lacks = 0;
     for _served in 0..share {

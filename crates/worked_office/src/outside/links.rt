@@ -42,7 +42,7 @@ fn hear_once<P: Peer>(
     if buffer.is_empty() {
         return Ok(());
     }
-    match peer.hear(&mut buffer) {
+    match peer.read_some(&mut buffer) {
         Ok(count) => {
             add(answer, format!(in alloc; "{count} ")?.as_str())?;
             add_bytes(answer, &buffer[..count])
@@ -51,7 +51,7 @@ fn hear_once<P: Peer>(
     }
 }
 
-/// Calls of a peer, and after them so many more reads by `hear`, of two bytes each.
+/// Calls of a peer, and after them so many more reads by `read_some`, of two bytes each.
 pub fn peer_row(alloc: Global, told: &Told, calls: &str) -> Result<String, Oom> {
     let mut answer = String::new(alloc);
     let mut peer = MemPeer::new(link_of(alloc, told)?);

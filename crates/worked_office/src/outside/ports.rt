@@ -3,7 +3,7 @@ ghost use Rattle.std.specs.Prelude.{◌≡◌, ◌≤◌, ◌<◌, ◌+◌, ◌^
 ghost use Rattle.desk_links.specs.LinkMemory.{IsUntouched, IsIdle, all_links};
 
 use crate::outside::words::{add, add_bytes, bytes_of, numbers_of};
-use desk_links::{Dialer, Door, Link, MemDialer, MemDoor, MemLink, MemPeer, MemPort, Port};
+use desk_links::{Dialer, Door, Link, MemDialer, MemDoor, MemLink, MemPort, Port};
 use desk_traits::write_whole;
 use hazard_types::{List, Oom};
 use std::alloc::Global;
@@ -71,7 +71,7 @@ fn visit(door: &mut MemDoor, answer: &mut String) -> Result<(), Oom>
     match door.accept() {
         Ok(mut link) => {
             echo(&mut link, answer)?;
-            door.back(link);
+            door.return_link(link);
             Ok(())
         }
         Err(_) => add(answer, "failed"),
@@ -102,7 +102,7 @@ fn visit_doors(
 {
     for mut door in doors.into_vec() {
         visit_all(&mut door, visits, answer)?;
-        port.back(door);
+        port.return_door(door);
     }
     Ok(())
 }
@@ -146,22 +146,11 @@ fn dial_once(dialer: &mut MemDialer, answer: &mut String) -> Result<(), Oom>
     match dialer.dial() {
         Ok(mut link) => {
             echo(&mut link, answer)?;
-            dialer.back(link);
+            dialer.return_link(link);
             Ok(())
         }
         Err(_) => add(answer, "failed"),
     }
-}
-
-fn peers_of(alloc: Global, links: List<MemLink>) -> Result<List<MemPeer>, Oom>
-    requires { All IsUntouched links }
-    ensures { IfOk result (All IsUntouched) }
-{
-    let mut peers = List::new(alloc);
-    for link in links.into_vec() {
-        peers.push(MemPeer::new(link))?;
-    }
-    Ok(peers)
 }
 
 fn dial_all(dialer: &mut MemDialer, dials: u8, answer: &mut String) -> Result<(), Oom>
@@ -181,8 +170,7 @@ pub fn dialer_row(alloc: Global, words: &str, dials: &str) -> Result<String, Oom
     else {
         return Ok(String::from_str(alloc, "unread")?);
     };
-    let peers = peers_of(alloc, links_of(alloc, links)?)?;
-    let mut dialer = MemDialer::new(alloc, peers, &failing)?;
+    let mut dialer = MemDialer::new(alloc, links_of(alloc, links)?, &failing)?;
     dial_all(&mut dialer, dials, &mut answer)?;
     answer.push_str("; back")?;
     for link in dialer.links() {

@@ -121,7 +121,7 @@ fn hear_all(
     let mut buffer = [0; 16];
     for _ in 0..count {
         if heard.len() < count {
-            match peer.hear(&mut buffer) {
+            match peer.read_some(&mut buffer) {
                 Ok(more) => heard.extend(&buffer[..more])?,
                 Err(_) => return Ok(heard),
             }
@@ -156,11 +156,11 @@ fn try_link(
         add_bytes(answer, &buffer[..count])?;
     }
     add(answer, said(write_whole(&mut link, b"answer").is_ok()))?;
-    door.back(link);
+    door.return_link(link);
     add(answer, "")?;
     add_bytes(answer, hear_all(alloc, &mut peer, 6)?.as_slice())?;
-    add(answer, said(peer.hear(&mut buffer).is_ok()))?;
-    dialer.back(peer);
+    add(answer, said(peer.read_some(&mut buffer).is_ok()))?;
+    dialer.return_link(peer);
     Ok(())
 }
 

@@ -3,7 +3,7 @@ ghost use Rattle.std.specs.Prelude.{◌≤◌, All, IfOk};
 ghost use Rattle.desk_links.specs.LinkMemory.{IsUntouched};
 
 use crate::follow::given::Given;
-use desk_links::{MemDialer, MemLink, MemPeer};
+use desk_links::{MemDialer, MemLink};
 use desk_traits::MemSink;
 use follow_links::follow_run;
 use hazard_types::{List, Oom, Text};
@@ -31,16 +31,16 @@ pub struct Run {
 }
 
 /// A link that gives these bytes in pieces, and on which these calls fail.
-fn peer_of(alloc: Global, bytes: &[u8], piece: usize, failing: &List<u64>) -> Result<MemPeer, Oom>
+fn link_of(alloc: Global, bytes: &[u8], piece: usize, failing: &List<u64>) -> Result<MemLink, Oom>
     requires { 1 ≤ piece }
     ensures { IfOk result IsUntouched }
 {
     let link = MemLink::new(alloc, bytes, piece, failing)?;
-    Ok(MemPeer::new(link))
+    Ok(link)
 }
 
 /// The links of a dialer.
-fn links_of(alloc: Global, given: &Given, cut: Cut) -> Result<List<MemPeer>, Oom>
+fn links_of(alloc: Global, given: &Given, cut: Cut) -> Result<List<MemLink>, Oom>
     ensures { IfOk result (All IsUntouched) }
 {
     let piece = cut.piece.max(1);
@@ -49,7 +49,7 @@ fn links_of(alloc: Global, given: &Given, cut: Cut) -> Result<List<MemPeer>, Oom
     for shape in given.links.as_slice() {
         let bytes = shape.bytes.as_slice();
         let count = bytes.len().min(most);
-        links.push(peer_of(alloc, &bytes[..count], piece, &shape.failing)?)?;
+        links.push(link_of(alloc, &bytes[..count], piece, &shape.failing)?)?;
         most = usize::MAX;
     }
     Ok(links)

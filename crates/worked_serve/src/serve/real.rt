@@ -121,7 +121,7 @@ fn ask<C: Clock>(alloc: Global, peer: &mut TcpPeer<C>, bytes: &[u8]) -> Result<T
     }
     let mut buffer = [0; 1024];
     for _ in 0..MOST_TRIES {
-        match peer.hear(&mut buffer) {
+        match peer.read_some(&mut buffer) {
             Ok(count) => heard.extend(&buffer[..count])?,
             Err(_) => return Ok(heard),
         }

@@ -10,19 +10,19 @@ pub loop-link-init : goal.loop-link-init
 loop-link-init g c = record {
   few = omega (arith, ap length c.requires.none);
   room = c.requires.room;
-  takes = subst (Takes (g.L.Source.left c.args.link.now) (g.L.Source.left c.args.link.now)) (sym c.requires.none) (takes_none (g.L.Source.left c.args.link.now));
+  takes = subst (Takes (g.L.Link.state c.args.link.now).input.left (g.L.Link.state c.args.link.now).input.left) (sym c.requires.none) (takes_none (g.L.Link.state c.args.link.now).input.left);
   headless = subst HasNoResponse (sym c.requires.none) none_in_nothing;
   may = inl c.requires.none;
   before = inl c.requires.none;
   steady = refl;
-  beside = record { unwritten = refl; steady = refl; same = refl };
+  beside = (refl, refl);
 }
 
 pub loop-link-preserved : goal.loop-link-preserved
 loop-link-preserved g c =
-    let first = g.L.Source.left c.args.link.now in
-    let mid = g.L.Source.left c.loop-link.link in
-    let last = g.L.Source.left c.read_more.new.link in
+    let first = (g.L.Link.state c.args.link.now).input.left in
+    let mid = (g.L.Link.state c.loop-link.link).input.left in
+    let last = (g.L.Link.state c.read_more.new.link).input.left in
     let old = c.loop-link.invariant in
     let now = c.loop-link.bytes in
     let new = c.read_more.new.bytes in
@@ -39,23 +39,23 @@ loop-link-preserved g c =
 
 pub returns-in-Bad-clause-read : goal.returns-in-Bad-clause-read
 returns-in-Bad-clause-read g c =
-    let first = g.L.Source.left c.args.link.now in
-    let mid = g.L.Source.left c.loop-link.link in
-    let last = g.L.Source.left c.read_more.new.link in (
+    let first = (g.L.Link.state c.args.link.now).input.left in
+    let mid = (g.L.Link.state c.loop-link.link).input.left in
+    let last = (g.L.Link.state c.read_more.new.link).input.left in (
       byte_taken first mid last c.loop-link.bytes c.read_more.new.bytes c.loop-link.invariant.takes (search rules),
       bad_head first mid last c.loop-link.bytes c.read_more.new.bytes c.loop-link.invariant.headless (omega arith) c.loop-link.invariant.may (search rules) (search rules),
     )
 
 pub returns-in-Whole-clause-read : goal.returns-in-Whole-clause-read
 returns-in-Whole-clause-read g c =
-    let first = g.L.Source.left c.args.link.now in
-    let mid = g.L.Source.left c.loop-link.link in
-    let last = g.L.Source.left c.read_more.new.link in (
+    let first = (g.L.Link.state c.args.link.now).input.left in
+    let mid = (g.L.Link.state c.loop-link.link).input.left in
+    let last = (g.L.Link.state c.read_more.new.link).input.left in (
       byte_taken first mid last c.loop-link.bytes c.read_more.new.bytes c.loop-link.invariant.takes (search rules),
       whole_head first mid last c.loop-link.bytes c.read_more.new.bytes c.loop-link.invariant.headless (omega arith) (search rules) c.in-Whole.shape (search rules),
     )
 
 pub returns-in-Err-clause-read : goal.returns-in-Err-clause-read
 returns-in-Err-clause-read g c =
-    head_stops (g.L.Source.left c.args.link.now) (g.L.Source.left c.loop-link.link) (g.L.Source.left c.read_more.new.link) c.loop-link.bytes c.read_more.new.bytes 1 c.in-Err.miss
+    head_stops (g.L.Link.state c.args.link.now).input.left (g.L.Link.state c.loop-link.link).input.left (g.L.Link.state c.read_more.new.link).input.left c.loop-link.bytes c.read_more.new.bytes 1 c.in-Err.miss
     c.loop-link.invariant.takes c.loop-link.invariant.headless c.loop-link.invariant.may (search rules) c.in-Err.ensures.read

@@ -2,7 +2,7 @@ use Rattle.std.proofs.Common.{◌≡◌, ◌≤◌, ◌⊎◌, ◌-◌, [], leng
 use Rattle.desk_traits.specs.Streams.{Takes}
 use Rattle.httparse.specs.Grammar.{HasNoResponse, MayBecomeResponse}
 use Rattle.follow_links.specs.Answers.{WasCutHead}
-use Rattle.follow_links.specs.Readings.{IsBeside}
+use Rattle.desk_links.specs.Links.{KeepsOutput}
 use Rattle.follow_links.proofs.reading.read_head.Given as goal
 
 -- no head stands in the bytes that were read
@@ -10,12 +10,12 @@ abbrev pub invariant-loop-link : goal.invariant-loop-link
 invariant-loop-link g l = record {
   few : length l.bytes ≤ 8192;
   room : length l.fields ≡ 2731;
-  takes : Takes (g.L.Source.left l.fn.link) (g.L.Source.left l.link) l.bytes;
+  takes : Takes (g.L.Link.state l.fn.link).input.left (g.L.Link.state l.link).input.left l.bytes;
   headless : HasNoResponse l.bytes;
   may : (l.bytes ≡ []) ⊎ MayBecomeResponse l.bytes;
   before : (l.bytes ≡ []) ⊎ WasCutHead l.bytes;
-  steady : g.L.Source.faults l.link ≡ g.L.Source.faults l.fn.link;
-  beside : IsBeside (g.L.Sink.taken l.fn.link) (g.L.Sink.taken l.link) (g.L.Sink.faults l.fn.link) (g.L.Sink.faults l.link) (g.L.Link.came l.fn.link) (g.L.Link.came l.link);
+  steady : (g.L.Link.state l.link).input.faults ≡ (g.L.Link.state l.fn.link).input.faults;
+  beside : KeepsOutput (g.L.Link.state l.fn.link) (g.L.Link.state l.link);
 }
 
 abbrev pub decreases-loop-link : goal.decreases-loop-link

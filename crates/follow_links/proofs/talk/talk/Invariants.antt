@@ -5,8 +5,7 @@ use Rattle.follow_links.proofs.talk.talk.Given as goal
 abbrev pub invariant-loop-left : goal.invariant-loop-left
 invariant-loop-left g l = record {
   room : length l.fields ≡ 2731;
-  going : Going (g.L.Link.came l.fn.link) (g.L.Link.came l.link) (g.L.Source.left l.fn.link) (g.L.Source.left l.link) (g.L.Sink.taken l.fn.link) (g.L.Sink.taken l.link)
-      (g.L.Source.faults l.fn.link) (g.L.Source.faults l.link) (g.L.Sink.faults l.fn.link) (g.L.Sink.faults l.link) l.fn.follower l.follower l.fn.left l.left;
+  going : Going (g.L.Link.state l.fn.link) (g.L.Link.state l.link) l.fn.follower l.follower l.fn.left l.left;
 }
 
 abbrev pub decreases-loop-left : goal.decreases-loop-left

@@ -1,17 +1,15 @@
 use Rattle.std.proofs.Common.{ℕ, ◌≤◌, arith, sym, subst}
-use Rattle.warn_serve.specs.Links.{ways}
-use Rattle.warn_serve.specs.Served.{IsServed, PortState}
+use Rattle.warn_serve.specs.Served.{IsServed}
 use Rattle.serve_command.proofs.serving.serve_office.Goals as goal
 
 pub returns : goal.returns
 returns g c disk opened =
     let d = g.D.Disk in
-    let p = g.P.Port in
-    let link = g.P.Door.Link in
-    let first : PortState _ = record { returned = p.returned c.args.port.now; links = p.links c.args.port.now; numbers = p.numbers c.args.port.now; faults = p.faults c.args.port.now } in
-    let last : PortState _ = record { returned = p.returned c.serve-kept.new.port; links = p.links c.serve-kept.new.port; numbers = p.numbers c.serve-kept.new.port; faults = p.faults c.serve-kept.new.port } in
+    let port = g.P.Port.state in
+    let first = port c.args.port.now in
+    let last = port c.serve-kept.new.port in
     let closed = c.serve-kept.result.0 in
-    let served = subst (λ (n : ℕ). IsServed d (ways link.Link.came link.Source.left link.Sink.taken link.Source.faults link.Sink.faults) (g.C.Clock.gives c.args.clock.now) c.args.kept closed c.args.serving.now.port n first last c.serve-kept.result.1) c.from-2.ensures c.serve-kept.ensures in
+    let served = subst (λ (n : ℕ). IsServed d (g.C.Clock.gives c.args.clock.now) c.args.kept closed c.args.serving.now.port n first last c.serve-kept.result.1) c.from-2.ensures c.serve-kept.ensures in
     record {
       opened = c.args.kept;
       first = opened;

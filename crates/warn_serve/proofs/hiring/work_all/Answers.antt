@@ -1,7 +1,5 @@
 use Rattle.warn_serve.specs.Calls.{AnswersCall}
 use Rattle.warn_serve.specs.Gathered.{DoesShare}
-use Rattle.warn_serve.specs.Links.{ways}
-use Rattle.warn_serve.specs.Workers.{door_of}
 use Rattle.std.proofs.Common.{◌≡◌}
 use Rattle.warn_serve.proofs.Listing.{moved}
 use Rattle.warn_serve.proofs.hiring.work_all.Goals as goal
@@ -14,7 +12,6 @@ returns-clause-share g c = λ i d less.
 pub returns-clause-does : goal.returns-clause-does
 returns-clause-does g c = λ i d less.
     let door = g.Dr.Door in
-    let state = door_of door.given door.returned door.links door.faults in
-    let way = ways g.Dr.Link.Link.came g.Dr.Link.Source.left g.Dr.Link.Sink.taken g.Dr.Link.Source.faults g.Dr.Link.Sink.faults in
+    let state = door.state in
     let t = (c.for_each_mut.ensures i d less).1 in
-    moved _ _ _ _ t.argument_is t.left (λ a b. DoesShare way (AnswersCall (g.C.Clock.gives c.args.clock.now)) a.share (state a.door) (state b.door) a.pass b.pass b.end) t.call.1
+    moved _ _ _ _ t.argument_is t.left (λ a b. DoesShare (AnswersCall (g.C.Clock.gives c.args.clock.now)) a.share (state a.door) (state b.door) a.pass b.pass b.end) t.call.1

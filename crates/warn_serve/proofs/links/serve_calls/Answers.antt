@@ -1,6 +1,5 @@
 use Rattle.std.proofs.Common.{ℕ, List, sym, ◌∙◌, subst, arith}
 use Rattle.warn_serve.specs.Calls.{AnswersCall}
-use Rattle.warn_serve.specs.Links.{state_of, ways}
 use Rattle.warn_serve.specs.Steps.{HasGone}
 use Rattle.warn_serve.proofs.Going.{goes_on, gone_none, keeps_none, keeps_on, spent_at, stops_at}
 use Rattle.warn_serve.proofs.links.serve_calls.Goals as goal
@@ -8,7 +7,7 @@ use Rattle.warn_serve.proofs.links.serve_calls.Goals as goal
 pub loop-index-init : goal.loop-index-init
 loop-index-init g c =
     let answers = AnswersCall (g.C.Clock.gives c.args.clock.now) in
-    let link = state_of (ways g.L.Link.came g.L.Source.left g.L.Sink.taken g.L.Source.faults g.L.Sink.faults) c.args.link.now in
+    let link = g.L.Link.state c.args.link.now in
     record {
       within = omega arith;
       kept = keeps_none c.args.pass.now;
@@ -23,13 +22,13 @@ returns-in-Some-clause-kept g c = keeps_on c.args.pass.now c.loop-index.pass c.s
 
 pub returns-in-Some-clause-served : goal.returns-in-Some-clause-served
 returns-in-Some-clause-served g c =
-    let state = state_of (ways g.L.Link.came g.L.Source.left g.L.Sink.taken g.L.Source.faults g.L.Sink.faults) in
+    let state = g.L.Link.state in
     stops_at (AnswersCall (g.C.Clock.gives c.args.clock.now)) (state c.args.link.now) (state c.loop-index.link) (state c.serve_next.new.link) c.args.pass.now c.loop-index.pass c.serve_next.new.pass c.loop-index.inbox c.loop-index.index c.in-Some.end
     c.loop-index.invariant.gone (omega (arith, c.loop-index-test.true)) c.in-Some.ensures.served
 
 pub loop-index-preserved : goal.loop-index-preserved
 loop-index-preserved g c =
-    let state = state_of (ways g.L.Link.came g.L.Source.left g.L.Sink.taken g.L.Source.faults g.L.Sink.faults) in
+    let state = g.L.Link.state in
     record {
       within = omega (arith, c.loop-index-test.true);
       kept = keeps_on c.args.pass.now c.loop-index.pass c.serve_next.new.pass c.loop-index.invariant.kept c.in-None.ensures.kept;
@@ -42,6 +41,6 @@ returns-clause-kept g c = c.loop-index.invariant.kept
 
 pub returns-clause-served : goal.returns-clause-served
 returns-clause-served g c =
-    let state = state_of (ways g.L.Link.came g.L.Source.left g.L.Sink.taken g.L.Source.faults g.L.Sink.faults) in
+    let state = g.L.Link.state in
     spent_at (AnswersCall (g.C.Clock.gives c.args.clock.now)) (state c.args.link.now) (state c.loop-index.link) c.args.pass.now c.loop-index.pass c.loop-index.inbox c.loop-index.index
     c.loop-index.invariant.gone (omega (arith, c.loop-index-test.false, c.loop-index.invariant.within))

@@ -1,14 +1,13 @@
 use Rattle.std.proofs.Common.{◌≤◌}
 use Rattle.turn_lock.specs.Passes.{KeepsRights}
 use Rattle.warn_serve.specs.Calls.{AnswersCall}
-use Rattle.warn_serve.specs.Links.{state_of, ways}
 use Rattle.warn_serve.specs.Steps.{HasGone}
 use Rattle.warn_serve.proofs.links.serve_calls.Given as goal
 
 -- so many calls were answered, and the link is open
 abbrev pub invariant-loop-index : goal.invariant-loop-index
 invariant-loop-index g l =
-    let state = state_of (ways g.L.Link.came g.L.Source.left g.L.Sink.taken g.L.Source.faults g.L.Sink.faults) in
+    let state = g.L.Link.state in
     record {
       within : l.index ≤ 10000;
       kept : KeepsRights l.fn.pass l.pass;

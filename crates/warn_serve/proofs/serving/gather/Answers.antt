@@ -1,9 +1,7 @@
 use Rattle.std.proofs.Common.{[], ◌∷◌, ◌++◌, ℕ, refl, sym, ◌∙◌, ap, arith, append_assoc, map, rules, subst, length, length-append}
+use Rattle.desk_links.specs.Links.{PortState}
 use Rattle.warn_serve.specs.Calls.{AnswersCall}
 use Rattle.warn_serve.specs.Gathered.{HasDone, IsGathered, total_of}
-use Rattle.warn_serve.specs.Links.{ways}
-use Rattle.warn_serve.specs.Served.{port_of}
-use Rattle.warn_serve.specs.Workers.{door_of}
 use Rattle.warn_serve.proofs.Gathering.{all_given}
 use Rattle.warn_serve.proofs.Listing.{all_here, total_here, total_same}
 use Rattle.warn_serve.proofs.Returning.{total_on}
@@ -12,13 +10,12 @@ use Rattle.warn_serve.proofs.serving.gather.Goals as goal
 
 pub loop-worker-init : goal.loop-worker-init
 loop-worker-init g c =
-    let way = ways g.P.Door.Link.Link.came g.P.Door.Link.Source.left g.P.Door.Link.Sink.taken g.P.Door.Link.Source.faults g.P.Door.Link.Sink.faults in
     record {
       can = tt;
       ends = tt;
       items = search rules;
       shares = omega arith;
-      gathered = gathered_none way (AnswersCall (g.C.Clock.gives c.args.clock.now)) (port_of g.P.Port.returned g.P.Port.links g.P.Port.numbers g.P.Port.faults c.args.port.now) c.args.pass.now;
+      gathered = gathered_none (AnswersCall (g.C.Clock.gives c.args.clock.now)) (g.P.Port.state c.args.port.now) c.args.pass.now;
       numbers = refl;
     }
 
@@ -28,28 +25,25 @@ join-requires-clause-pass g c = c.loop-worker.invariant.gathered.passes.lock ∙
 pub join-requires-clause-other : goal.join-requires-clause-other
 join-requires-clause-other g c =
     let door = g.P.Door.Door in
-    let way = ways g.P.Door.Link.Link.came g.P.Door.Link.Source.left g.P.Door.Link.Sink.taken g.P.Door.Link.Source.faults g.P.Door.Link.Sink.faults in
     let step = c.loop-worker.invariant.items ∙ ap (λ l. c.loop-worker.yielded ++ l) c.in-Some.ensures.steps.0 in
-    let done = all_here c.loop-worker.yielded c.in-Some.worker c.next.new.self.rest.items c.args.workers.items step (λ w. HasDone way (AnswersCall (g.C.Clock.gives c.args.clock.now)) c.args.pass.now w.share (door_of door.given door.returned door.links door.faults w.door) w.pass w.end) c.requires.done in
+    let done = all_here c.loop-worker.yielded c.in-Some.worker c.next.new.self.rest.items c.args.workers.items step (λ w. HasDone (AnswersCall (g.C.Clock.gives c.args.clock.now)) c.args.pass.now w.share (door.state w.door) w.pass w.end) c.requires.done in
     done.does.rights.lock ∙ (done.is_share.lock ∙ c.requires.lock)
 
-pub back-requires-clause-none_out : goal.back-requires-clause-none_out
-back-requires-clause-none_out g c =
+pub return_door-requires-clause-none_out : goal.return_door-requires-clause-none_out
+return_door-requires-clause-none_out g c =
     let door = g.P.Door.Door in
-    let way = ways g.P.Door.Link.Link.came g.P.Door.Link.Source.left g.P.Door.Link.Sink.taken g.P.Door.Link.Source.faults g.P.Door.Link.Sink.faults in
     let step = c.loop-worker.invariant.items ∙ ap (λ l. c.loop-worker.yielded ++ l) c.in-Some.ensures.steps.0 in
-    let done = all_here c.loop-worker.yielded c.in-Some.worker c.next.new.self.rest.items c.args.workers.items step (λ w. HasDone way (AnswersCall (g.C.Clock.gives c.args.clock.now)) c.args.pass.now w.share (door_of door.given door.returned door.links door.faults w.door) w.pass w.end) c.requires.done in
+    let done = all_here c.loop-worker.yielded c.in-Some.worker c.next.new.self.rest.items c.args.workers.items step (λ w. HasDone (AnswersCall (g.C.Clock.gives c.args.clock.now)) c.args.pass.now w.share (door.state w.door) w.pass w.end) c.requires.done in
     done.does.none_out
 
-pub back-requires-clause-few : goal.back-requires-clause-few
-back-requires-clause-few g c =
+pub return_door-requires-clause-few : goal.return_door-requires-clause-few
+return_door-requires-clause-few g c =
     let door = g.P.Door.Door in
-    let way = ways g.P.Door.Link.Link.came g.P.Door.Link.Source.left g.P.Door.Link.Sink.taken g.P.Door.Link.Source.faults g.P.Door.Link.Sink.faults in
     let answers = AnswersCall (g.C.Clock.gives c.args.clock.now) in
-    let state = door_of door.given door.returned door.links door.faults in
+    let state = door.state in
     let step = c.loop-worker.invariant.items ∙ ap (λ l. c.loop-worker.yielded ++ l) c.in-Some.ensures.steps.0 in
-    let done = all_here c.loop-worker.yielded c.in-Some.worker c.next.new.self.rest.items c.args.workers.items step (λ w. HasDone way answers c.args.pass.now w.share (state w.door) w.pass w.end) c.requires.done in
-    let few = done_returned way answers c.args.pass.now c.in-Some.worker.pass c.in-Some.worker.share (state c.in-Some.worker.door) c.in-Some.worker.end done in
+    let done = all_here c.loop-worker.yielded c.in-Some.worker c.next.new.self.rest.items c.args.workers.items step (λ w. HasDone answers c.args.pass.now w.share (state w.door) w.pass w.end) c.requires.done in
+    let few = done_returned answers c.args.pass.now c.in-Some.worker.pass c.in-Some.worker.share (state c.in-Some.worker.door) c.in-Some.worker.end done in
     let sum = total_here c.loop-worker.yielded c.in-Some.worker c.next.new.self.rest.items c.args.workers.items step (λ w. w.share) in
     let was = c.loop-worker.invariant.gathered in
     omega (arith, few, sum, was.back.returned, was.within, c.requires.few)
@@ -57,14 +51,13 @@ back-requires-clause-few g c =
 pub loop-worker-preserved : goal.loop-worker-preserved
 loop-worker-preserved g c =
     let door = g.P.Door.Door in
-    let port = port_of g.P.Port.returned g.P.Port.links g.P.Port.numbers g.P.Port.faults in
-    let way = ways g.P.Door.Link.Link.came g.P.Door.Link.Source.left g.P.Door.Link.Sink.taken g.P.Door.Link.Source.faults g.P.Door.Link.Sink.faults in
+    let port = g.P.Port.state in
     let answers = AnswersCall (g.C.Clock.gives c.args.clock.now) in
-    let state = door_of door.given door.returned door.links door.faults in
+    let state = door.state in
     let yielded = c.loop-worker.yielded in
     let one = c.in-Some.worker in
     let step = c.loop-worker.invariant.items ∙ ap (λ l. yielded ++ l) c.in-Some.ensures.steps.0 in
-    let done = all_here yielded one c.next.new.self.rest.items c.args.workers.items step (λ w. HasDone way answers c.args.pass.now w.share (state w.door) w.pass w.end) c.requires.done in
+    let done = all_here yielded one c.next.new.self.rest.items c.args.workers.items step (λ w. HasDone answers c.args.pass.now w.share (state w.door) w.pass w.end) c.requires.done in
     record {
       can = tt;
       ends = tt;
@@ -75,11 +68,11 @@ loop-worker-preserved g c =
           let t = done.is_share.shares in
           let n = length-append yielded (one ∷ []) in
           omega (arith, c.loop-worker.invariant.shares));
-      gathered = gathered_on way answers (total_of (map (λ w. w.share) yielded)) one.share (total_of (map (λ w. w.share) (yielded ++ one ∷ [])))
-          (port c.args.port.now) (port c.loop-worker.port) (port c.back.new.self) c.args.pass.now c.loop-worker.pass c.join.new.pass one.pass (state one.door) c.loop-worker.end c.end_after-end.result one.end
+      gathered = gathered_on answers (total_of (map (λ w. w.share) yielded)) one.share (total_of (map (λ w. w.share) (yielded ++ one ∷ [])))
+          (port c.args.port.now) (port c.loop-worker.port) (port c.return_door.new.self) c.args.pass.now c.loop-worker.pass c.join.new.pass one.pass (state one.door) c.loop-worker.end c.end_after-end.result one.end
           c.loop-worker.invariant.gathered done (total_on (λ w. w.share) yielded one) c.end_after-end.ensures
-          c.join.ensures.both c.join.ensures.begins.0 c.join.ensures.begins.1 c.back.ensures.faults c.back.ensures.returned c.back.ensures.links;
-      numbers = c.back.ensures.numbers ∙ c.loop-worker.invariant.numbers;
+          c.join.ensures.both c.join.ensures.begins.0 c.join.ensures.begins.1 c.return_door.ensures;
+      numbers = ap (λ (p : PortState). p.numbers) c.return_door.ensures ∙ c.loop-worker.invariant.numbers;
     }
 
 pub returns-clause-shares : goal.returns-clause-shares
@@ -91,8 +84,7 @@ returns-clause-shares g c =
 
 pub returns-clause-gathered : goal.returns-clause-gathered
 returns-clause-gathered g c =
-    let port = port_of g.P.Port.returned g.P.Port.links g.P.Port.numbers g.P.Port.faults in
-    let way = ways g.P.Door.Link.Link.came g.P.Door.Link.Source.left g.P.Door.Link.Sink.taken g.P.Door.Link.Source.faults g.P.Door.Link.Sink.faults in
+    let port = g.P.Port.state in
     let rest = c.loop-worker.worker-iterator.rest in
     let all = all_given c.args.workers.items c.loop-worker.yielded rest.items rest.len c.loop-worker.invariant.items rest.ok.0 c.in-None.ensures.steps.0 in
-    subst (λ (n : ℕ). IsGathered way (AnswersCall (g.C.Clock.gives c.args.clock.now)) n (port c.args.port.now) (port c.loop-worker.port) c.args.pass.now c.loop-worker.pass c.loop-worker.end) (total_same c.args.workers.items c.loop-worker.yielded all (λ w. w.share)) c.loop-worker.invariant.gathered
+    subst (λ (n : ℕ). IsGathered (AnswersCall (g.C.Clock.gives c.args.clock.now)) n (port c.args.port.now) (port c.loop-worker.port) c.args.pass.now c.loop-worker.pass c.loop-worker.end) (total_same c.args.workers.items c.loop-worker.yielded all (λ w. w.share)) c.loop-worker.invariant.gathered

@@ -16,7 +16,7 @@ returns-in_err-count-clause-read g c =
     let filled_is = with_items_is (with_items first moved) filled (search (rules, places)) in
     let stood = c.places_with_room-start.ensures.same ∙ ap (λ (b : List ℕ). between b c.self.inside.start c.self.inside.end) c.as_mut_slice.ensures.value ∙ c.self.view_is in
     let front = c.read_behind.ensures.front ∙ ap (take end) (c.as_mut_slice-2.ensures.value ∙ moved_is) in
-    read_nothing _ _ _ _ (ap (λ (b : List ℕ). between b start end) filled_is ∙ between_same moved filled start end c.places_with_room-start.ensures.order front ∙ stood) c.in_err-count.ensures.bytes
+    read_nothing _ _ _ _ (ap (λ (b : List ℕ). between b start end) filled_is ∙ between_same moved filled start end c.places_with_room-start.ensures.order front ∙ stood) c.in_err-count.ensures.read.bytes c.in_err-count.ensures.read.came c.in_err-count.ensures.read.output
 
 pub returns-clause-read : goal.returns-clause-read
 returns-clause-read g c =
@@ -33,5 +33,7 @@ returns-clause-read g c =
     record {
       read = take n (drop end filled);
       stands = ap (λ (b : List ℕ). between b start (end + n)) filled_is ∙ between_more moved filled start end n c.places_with_room-start.ensures.order front ∙ ap (λ (b : List ℕ). b ++ take n (drop end filled)) stood;
-      takes = c.in_ok-count.ensures.bytes.1;
+      takes = c.in_ok-count.ensures.read.bytes.1;
+      came = c.in_ok-count.ensures.read.came;
+      output = c.in_ok-count.ensures.read.output;
     }

@@ -10,5 +10,5 @@ loop-door-preserved c =
       can = tt;
       ends = tt;
       idle = rest_of IsIdle c.in-Some.door c.next.new.self.rest.items (subst (λ (l : List DoorInMemory). All IsIdle l) step c.loop-door.invariant.idle);
-      few = omega (arith, c.loop-door.invariant.few, ap length step, c.back.ensures.returned, c.in_ok-visit_all.ensures.few);
+      few = omega (arith, c.loop-door.invariant.few, ap length step, c.return_door.ensures.returned, c.in_ok-visit_all.ensures.few);
     }

@@ -7,5 +7,5 @@ pub loop-shape-preserved : goal.loop-shape-preserved
 loop-shape-preserved c = record {
   some = (search rules);
   untouched = subst (λ (l : List LinkInMemory). All IsUntouched l) (sym c.in_ok-push.ensures.ok)
-      (All-push IsUntouched c.loop-shape.links c.in_ok-peer_of.field-0 c.loop-shape.invariant.untouched c.in_ok-peer_of.ensures);
+      (All-push IsUntouched c.loop-shape.links c.in_ok-link_of.field-0 c.loop-shape.invariant.untouched c.in_ok-link_of.ensures);
 }

@@ -1,7 +1,7 @@
-use Rattle.std.proofs.Common.{rules, ◌≡◌, ◌∙◌, ◌++◌, ◌∷◌, [], ◌≤◌, ◌+◌, List, Some, length, sym, ap, arith, length-append}
+use Rattle.std.proofs.Common.{rules, ◌≡◌, ◌∙◌, ◌++◌, ◌∷◌, [], ◌≤◌, ◌+◌, List, length, sym, ap, arith, length-append}
 use Rattle.desk_links.specs.LinkMemory.{LinkInMemory, PortInMemory, all_links}
 use Rattle.desk_links.proofs.Dealing.{put_behind, all_links_on}
-use Rattle.desk_links.proofs.port_memory.MemPortPort.back.Goals as goal
+use Rattle.desk_links.proofs.port_memory.MemPortPort.return_door.Goals as goal
 
 abbrev back_is : goal.After-drop-node → Type 0
 back_is c = c.append.new.self ≡ c.args.self.now.back ++ c.args.door.back ∷ []
@@ -34,4 +34,4 @@ pub returns-clause-returned : goal.returns-clause-returned
 returns-clause-returned c = ap length (all_is c) ∙ length-append (all_links c.args.self.now.back) c.args.door.back
 
 pub returns-clause-links : goal.returns-clause-links
-returns-clause-links c = ap (λ (l : List LinkInMemory). Some l) (all_is c)
+returns-clause-links c = all_is c

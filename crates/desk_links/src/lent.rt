@@ -1,0 +1,120 @@
+//! The links of a door or of a dialer in memory: those that it has still to give, and those
+//! returned.
+ghost use Rattle.std.specs.Prelude.{◌≡◌, ◌<◌, ◌+◌, ◌^◌, All, length, IfOk};
+ghost use Rattle.desk_links.specs.Links.{GivesLink};
+ghost use Rattle.desk_links.specs.LinkMemory.{IsUntouched, Lends, door_state, door_with, link_state, with_back, with_faults};
+
+use crate::link_memory::MemLink;
+use desk_traits::Failed;
+use hazard_types::{List, Oom};
+use std::alloc::Global;
+use std::collections::VecDeque;
+use std::marker::Model;
+
+/// Links that are given in order. A call for one fails at the numbers that it was told, and where
+/// no link is left. The list in which the links come back has room for all of them.
+#[derive(Drop)]
+pub struct LentLinks {
+    waiting: VecDeque<MemLink>,
+    back: Vec<MemLink>,
+    failing: List<u64>,
+    calls: u64,
+    faults: u64,
+    given: u64,
+}
+
+impl Model for LentLinks {
+    ghost use Rattle.std.specs.Prelude.{◌≤◌, ◌+◌, All, length, vec_capacity};
+    ghost use Rattle.desk_links.specs.LinkMemory.{DoorInMemory, IsUntouched};
+
+    ghost Value = { DoorInMemory };
+
+    ghost view = { λ d. record {
+      waiting = d.waiting.items;
+      back = d.back.items;
+      failing = d.failing;
+      calls = d.calls;
+      faults = d.faults;
+      given = d.given;
+    } };
+
+    ghost invariant = { λ d. (d.given + length d.waiting.items ≤ vec_capacity d.back)
+        × All IsUntouched d.waiting.items };
+}
+
+impl LentLinks {
+    /// These links, of which none was given. The calls whose numbers, counted from 1, are among the
+    /// failing ones fail, and each for which no link is left.
+    pub fn new(alloc: Global, links: List<MemLink>, failing: List<u64>) -> Result<Self, Oom>
+        requires { All IsUntouched links }
+        ensures { IfOk result (λ lent. lent ≡ door_with links failing) }
+    {
+        let back = Vec::with_capacity(alloc, links.len())?;
+        Ok(LentLinks {
+            waiting: VecDeque::from_vec(links.into_vec()),
+            back,
+            failing,
+            calls: 0,
+            faults: 0,
+            given: 0,
+        })
+    }
+
+    /// The next link.
+    ///
+    /// # Errors
+    ///
+    /// `Failed` where the call was told to fail, or no link is left; the count of faults rose.
+    pub fn lend(&mut self) -> Result<MemLink, Failed>
+        requires none_out { self.old.given ≡ length self.old.back }
+        requires few { length self.old.back < 2 ^ 32 }
+        ensures gives { GivesLink link_state (door_state self.old) (door_state self.new) result }
+        ensures lends { Lends self.old self.new result }
+    {
+        self.calls = self.calls.saturating_add(1);
+        if !self.failing.as_slice().contains(&self.calls) {
+            if let Some(link) = self.waiting.pop_front() {
+                self.given += 1;
+                return Ok(link);
+            }
+        }
+        self.faults = self.faults.saturating_add(1);
+        Err(Failed)
+    }
+
+    /// Takes a link back.
+    pub fn take_back(&mut self, link: MemLink)
+        requires one_out { self.old.given ≡ length self.old.back + 1 }
+        ensures { self.new ≡ with_back self.old link }
+    {
+        self.back.push_reserved(link);
+    }
+
+    /// Counts so many faults more.
+    pub fn add_faults(&mut self, count: u64)
+        ensures { self.new ≡ with_faults self.old count }
+    {
+        self.faults = self.faults.saturating_add(count);
+    }
+
+    /// The links returned, in order.
+    pub fn back(&self) -> &[MemLink]
+        ensures { result.now ≡ self.now.back }
+    {
+        &self.back
+    }
+
+    /// How many calls have failed.
+    pub fn faults(&self) -> u64
+        ensures { result ≡ self.now.faults }
+    {
+        self.faults
+    }
+
+    /// The links returned, in order.
+    pub fn into_back(self) -> Vec<MemLink>
+        ensures { result.items ≡ self.back }
+    {
+        self.back
+    }
+}
