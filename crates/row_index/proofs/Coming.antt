@@ -1,15 +1,14 @@
 -- Zones that come to a life: their lives, the rows of an event there, and how many of these stand.
-use Rattle.std.proofs.Common.{◌≡◌, ◌∙◌, ◌==◌, ◌<◌, ◌+◌, ℕ, zero, suc, List, [], ◌∷◌, ◌++◌, Bool, true, false, ◌||◌, drop, drop-cons, get_or, length, Option, Some, None, refl, ap, sym, subst, arith}
-use Rattle.std.specs.Prelude.{option_map, take}
+use Rattle.std.proofs.Common.{◌≡◌, ◌∙◌, ◌<◌, ◌+◌, ℕ, suc, List, [], ◌∷◌, Bool, drop, drop-cons, get_or, length, Option, refl, ap, sym, subst, arith}
+use Rattle.std.specs.Prelude.{option_map}
 use Rattle.std.specs.BTreeMap.{insert_entry, is_at}
-use Rattle.std.specs.List.{AllByRecursion}
 use Rattle.std.specs.List.Sorted.{IsStrictlySortedBy}
 use Rattle.std.specs.Map.{keys_of, lookup, values_of}
 use Rattle.hazard_types.specs.Places.{Place, by_place}
 use Rattle.hazard_types.specs.declared.hazard.Event.{Event}
 use Rattle.hazard_types.specs.declared.line.Row.{Row}
 use Rattle.hazard_types.proofs.OrderLaws.{by_place_total, by_place_ties}
-use Rattle.event_life.specs.Products.{by_key, put}
+use Rattle.event_life.specs.Products.{by_key}
 use Rattle.event_life.specs.declared.life.Life.{Life}
 use Rattle.event_life.proofs.Puts.{put-all, put-sorted}
 use Rattle.row_index.specs.declared.standing.Before.{Before}

@@ -1,25 +1,23 @@
 -- Rows of an event with one more stay in order, and those that no line has ended are counted; they tell what is asked of the event.
-use Rattle.std.proofs.Common.{◌≡◌, ◌∙◌, ℕ, List, [], ◌∷◌, ◌&&◌, ◌||◌, Bool, true, false, Option, refl, ap, sym, subst}
+use Rattle.std.proofs.Common.{◌≡◌, ◌∙◌, ℕ, List, [], ◌∷◌, ◌&&◌, ◌||◌, Bool, true, false, refl, ap, sym, subst}
 use Rattle.std.specs.Prelude.{option_map, slice_get}
 use Rattle.std.specs.List.{AllByRecursion, list_any}
 use Rattle.std.specs.List.Sorted.{IsStrictlySortedBy}
-use Rattle.std.specs.BTreeMap.{insert_entry}
-use Rattle.std.specs.Map.{keys_of, values_of}
+use Rattle.std.specs.Map.{values_of}
 use Rattle.hazard_types.specs.Orders.{by_event}
 use Rattle.hazard_types.specs.Places.{Place, by_place}
-use Rattle.hazard_types.proofs.OrderLaws.{by_place_total, by_place_ties}
 use Rattle.hazard_types.specs.Same.{same_event}
 use Rattle.hazard_types.specs.declared.hazard.Event.{Event}
 use Rattle.hazard_types.specs.declared.line.Line.{Line}
 use Rattle.hazard_types.specs.declared.line.Row.{Row}
 use Rattle.hazard_types.proofs.Equality.{event_itself}
 use Rattle.event_life.specs.Periods.{is_live, keeps_open, same_at}
-use Rattle.event_life.specs.Products.{by_key, put, row_at, has_rows, is_open, has_same}
+use Rattle.event_life.specs.Products.{by_key, has_rows, is_open, has_same}
 use Rattle.event_life.specs.Table.{opened_period}
 use Rattle.row_index.specs.declared.standing.Standing.{Standing}
 use Rattle.row_index.specs.Holding.{told, AreHeld}
 use Rattle.row_index.specs.Listing.{list_at}
-use Rattle.row_index.specs.Zoning.{AreOf, AreOfFirst, AreZoned, is_first_of}
+use Rattle.row_index.specs.Zoning.{AreOf, AreOfFirst, is_first_of}
 use Rattle.row_index.specs.Standings.{AreEventRows}
 use Rattle.row_index.proofs.HeldRows.{none-sorted, held-own, held-part, is_open-of, has_same-of}
 use Rattle.row_index.proofs.Stood.{stood-none}

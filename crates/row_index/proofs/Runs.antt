@@ -1,5 +1,5 @@
 -- An index with the rows of one event put in turn.
-use Rattle.std.proofs.Common.{append_assoc, append-nil, ◌≡◌, ◌∙◌, ◌==◌, ◌<◌, ◌+◌, ℕ, zero, suc, arith, drop, drop-cons, get_or, length, Bool, true, false, cond, List, [], ◌∷◌, ◌++◌, Option, Some, None, refl, ap, sym, subst}
+use Rattle.std.proofs.Common.{append_assoc, append-nil, ◌≡◌, ◌∙◌, ◌==◌, ◌<◌, ◌+◌, ℕ, suc, arith, drop, drop-cons, get_or, length, Bool, true, false, cond, List, [], ◌∷◌, ◌++◌, Option, Some, None, refl, ap, sym, subst}
 use Rattle.std.specs.BTreeMap.{insert_entry}
 use Rattle.std.specs.List.{AllByRecursion}
 use Rattle.hazard_types.specs.Orders.{by_event}
@@ -23,7 +23,7 @@ use Rattle.row_index.specs.Indexing.{IsIndex}
 use Rattle.row_index.specs.Numbers.{events_with, AreOpened}
 use Rattle.row_index.specs.Reaching.{AreReached, Grows, Reaches}
 use Rattle.row_index.specs.declared.row_run.RowRun.{RowRun}
-use Rattle.row_index.specs.Runs.{held_put, in_zone, is_alike, is_of_run, rows_along, rows_in, rows_in_last, run_rows, same_life, IsJoined, IsLeft, IsRunWith}
+use Rattle.row_index.specs.Runs.{held_put, in_zone, is_of_run, rows_along, rows_in, rows_in_last, run_rows, same_life, IsJoined, IsLeft, IsRunWith}
 use Rattle.row_index.specs.Sharing.{row_with}
 use Rattle.row_index.specs.Steps.{put_each}
 use Rattle.row_index.proofs.HeldRows.{held-with, has_rows-told, told-sorted, told-with}

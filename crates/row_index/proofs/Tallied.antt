@@ -1,5 +1,5 @@
 -- How many lives pass a test, where zones come to one.
-use Rattle.std.proofs.Common.{◌≡◌, ◌∙◌, ◌+◌, ℕ, zero, suc, List, [], ◌∷◌, ◌++◌, Bool, true, false, cond, Ordering, Less, Equal, Greater, Option, Some, None, refl, ap, sym, subst, arith}
+use Rattle.std.proofs.Common.{◌≡◌, ◌∙◌, ◌+◌, ℕ, zero, suc, List, [], ◌∷◌, ◌++◌, Bool, true, false, cond, Ordering, Less, Equal, Greater, None, refl, ap, subst, arith}
 use Rattle.std.specs.BTreeMap.{insert_entry, is_at}
 use Rattle.std.specs.List.{AllByRecursion}
 use Rattle.std.specs.List.Sorted.{IsStrictlySortedBy}
@@ -7,10 +7,10 @@ use Rattle.std.specs.Map.{keys_of, lookup, values_of}
 use Rattle.std.specs.Ordering.{match_ordering}
 use Rattle.hazard_types.specs.Places.{Place, by_place}
 use Rattle.hazard_types.specs.declared.hazard.Event.{Event}
-use Rattle.hazard_types.proofs.OrderLaws.{by_place_total, by_place_ties}
+use Rattle.hazard_types.proofs.OrderLaws.{by_place_total}
 use Rattle.event_life.specs.declared.life.Life.{Life}
 use Rattle.row_index.specs.declared.standing.Before.{Before}
-use Rattle.row_index.specs.Sharing.{rows_with, rows_told}
+use Rattle.row_index.specs.Sharing.{rows_with}
 use Rattle.row_index.specs.Tallies.{tally, one, one_of, times, owed, passes}
 
 -- so many times a number

@@ -1,5 +1,5 @@
 -- How many rows of an event that no line has ended have each period. Periods are in order by end, then begin.
-use Rattle.std.specs.Prelude.{not, ◌≡◌, ◌==◌, ◌-◌, ◌+◌, ◌&&◌, ℕ, Bool, false, List, [], ◌∷◌, nat_le, suc, if◌then◌else◌, Option, Some, None, unwrap_or}
+use Rattle.std.specs.Prelude.{not, ◌≡◌, ◌==◌, ◌-◌, ◌+◌, ◌&&◌, ℕ, Bool, false, List, [], ◌∷◌, nat_le, if◌then◌else◌, Option, Some, None, unwrap_or}
 use Rattle.std.specs.BTreeMap.{insert_entry, is_at}
 use Rattle.std.specs.BTreeMap.Range.{range_contains}
 use Rattle.std.specs.List.{AllByRecursion}

@@ -1,9 +1,8 @@
 -- One zone more comes to the life.
-use Rattle.std.proofs.Common.{◌+◌, ℕ, Option, subst, sym}
+use Rattle.std.proofs.Common.{◌+◌}
 use Rattle.std.specs.Prelude.{option_map}
-use Rattle.std.specs.Map.{values_of}
-use Rattle.row_index.specs.Sharing.{life_at, lives_put, lives_told, IsThere}
-use Rattle.row_index.specs.Tallies.{one_of, owed, tally, times}
+use Rattle.row_index.specs.Sharing.{life_at}
+use Rattle.row_index.specs.Tallies.{one_of, owed, times}
 use Rattle.row_index.proofs.Coming.{seat-shared, seat-told, seat-tallied}
 use Rattle.row_index.proofs.SharedRows.{there-found}
 use Rattle.row_index.proofs.lives.seat_each.Goals as goal

@@ -1,11 +1,9 @@
 -- The row of the line comes behind the others, in the last run or in one more.
-use Rattle.std.proofs.Common.{◌∙◌, Option, ap, subst, sym}
+use Rattle.std.proofs.Common.{◌∙◌, Option, ap, sym}
 use Rattle.std.specs.Prelude.{option_map}
 use Rattle.std.proofs.lemmas.Result.{on_ok_weaker}
 use Rattle.hazard_types.specs.declared.line.Row.{Row}
-use Rattle.event_life.specs.Products.{life_of, row_after}
-use Rattle.row_index.specs.declared.row_run.RowRun.{RowRun}
-use Rattle.row_index.specs.Runs.{IsLeft}
+use Rattle.event_life.specs.Products.{life_of}
 use Rattle.row_index.proofs.Runs.{put_joined, put_begun}
 use Rattle.row_index.proofs.index.RowIndex.put_left.Goals as goal
 
@@ -25,5 +23,5 @@ run_of-requires-clause-found c =
 pub returns-clause-rows : goal.returns-clause-rows
 returns-clause-rows c =
     on_ok_weaker c.begin_run.result
-    (λ is. put_begun c.args.runs.now _ c.args.t _ c.life_of-own.result c.args.line.now c.args.last.now _ _ c.in_ok-run.run' _ c.if-joined.false (c.in_ok-joined.ensures c.args.t c.requires.left) c.in_ok-run.ensures.rows is)
+    (λ is. put_begun c.args.runs.now c.begin_run.new.runs c.args.t _ c.life_of-own.result c.args.line.now c.args.last.now _ c.begin_run.new.last c.in_ok-run.run' _ c.if-joined.false (c.in_ok-joined.ensures c.args.t c.requires.left) c.in_ok-run.ensures.rows is)
     c.begin_run.ensures.rows

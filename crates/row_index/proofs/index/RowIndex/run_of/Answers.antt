@@ -1,7 +1,6 @@
 -- The run has the row that the line leaves.
-use Rattle.std.proofs.Common.{ℕ, Some, ◌≡◌, ◌∙◌, ◌∷◌, [], IfOk, List, Option, ap, subst, sym}
+use Rattle.std.proofs.Common.{ℕ, Some, ◌≡◌, ◌∙◌, ◌∷◌, [], IfOk, Option, ap, subst, sym}
 use Rattle.std.proofs.lemmas.Result.{IfOk-weaker}
-use Rattle.hazard_types.specs.declared.hazard.Event.{Event}
 use Rattle.hazard_types.specs.declared.line.Row.{Row}
 use Rattle.event_life.specs.declared.life.Life.{Life}
 use Rattle.event_life.specs.Products.{life_of}
