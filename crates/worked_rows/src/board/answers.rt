@@ -8,8 +8,8 @@ ghost use Rattle.worked_rows.specs.Written.{CanBeWritten};
 
 use hazard_board::Standing;
 use hazard_types::{
-    Class, DayStamp, End, Event, Hazard, Minute, Oom, Plan, Refusal, Row, SegLine, Segment, Vtec,
-    Zone, civil_of, end_text, hazard_text, stamp, zone_text,
+    Clash, Class, DayStamp, End, Event, Hazard, Minute, Oom, Plan, Refusal, Row, SegLine, Segment,
+    Vtec, Zone, civil_of, end_text, hazard_text, stamp, zone_text,
 };
 use segmenter::expiry;
 use std::alloc::{AllocError, Global};
@@ -244,6 +244,14 @@ pub fn board_text(alloc: Global, rows: &[Row]) -> Result<String, AllocError> {
         push_row(alloc, &mut out, row)?;
     }
     Ok(out)
+}
+
+/// The least clash, as a draft with it is refused, or that there is none.
+pub fn clash_text(alloc: Global, found: &Option<Clash>) -> Result<String, AllocError> {
+    match found {
+        Some(clash) => conflict(alloc, &clash.zone, &clash.first, &clash.second),
+        None => String::from_str(alloc, "no clash\n"),
+    }
 }
 
 /// The line of a standing event, with its latest end.

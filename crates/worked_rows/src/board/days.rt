@@ -6,7 +6,10 @@ ghost use Rattle.hazard_types.specs.declared.refusal.Refusal.{Refusal as Refused
 ghost use Rattle.event_life.specs.Products.{rows_after};
 ghost use Rattle.event_life.specs.Shown.{shown_at};
 ghost use Rattle.event_numbers.specs.Counts.{DrawsAll};
+ghost use Rattle.hazard_board.specs.Board.{live_in};
+ghost use Rattle.hazard_board.specs.Clashes.{least_clash};
 ghost use Rattle.hazard_board.specs.Standing.{AreStandingOf};
+ghost use Rattle.hazard_board.specs.Taken.{rows_taken};
 ghost use Rattle.action_planner.specs.Offences.{broken};
 ghost use Rattle.action_planner.specs.Placed.{placed, opened};
 ghost use Rattle.action_planner.specs.Plans.{IsPlan};
@@ -24,7 +27,9 @@ use action_planner::{
 use event_life::rows_stay_in_order;
 use event_numbers::Numbers;
 use hazard_board::{Board, Standing, openings};
-use hazard_types::{Draft, EventTexts, Hazard, List, Minute, Oom, Or, Plan, Refusal, Row, Sent};
+use hazard_types::{
+    Clash, Draft, EventTexts, Hazard, Line, List, Minute, Oom, Or, Plan, Refusal, Row, Sent, Zone,
+};
 use std::alloc::Global;
 use std::marker::Model;
 
@@ -205,6 +210,27 @@ impl Day {
         ensures { IfOk result (λ rows. rows ≡ shown_at t self.now.rows) }
     {
         self.board.shown(alloc, t)
+    }
+
+    /// The rows of a zone that are shown at a minute, by event.
+    pub fn rows_of(&self, alloc: Global, z: Zone, t: Minute) -> Result<List<Row>, Oom>
+        ensures { IfOk result (λ rows. rows ≡ live_in z t self.now.rows) }
+    {
+        self.board.rows_of(alloc, z, t)
+    }
+
+    /// The least clash of the rows after lines, each of which leaves its row where the life that it
+    /// meets allows it.
+    pub fn conflict(
+        &self,
+        alloc: Global,
+        lines: &List<Line>,
+        t: Minute,
+    ) -> Result<Option<Clash>, Oom>
+        ensures { IfOk result (λ found.
+            found ≡ least_clash t (rows_taken self.now.rows t lines.now)) }
+    {
+        self.board.conflict(alloc, lines, t)
     }
 
     /// The standing events of a hazard, by number, then year.

@@ -2,15 +2,17 @@
 ghost use Rattle.std.specs.Prelude.{◌↔◌, IsTrue};
 ghost use Rattle.worked_rows.specs.Days.{MaySend};
 
-use crate::board::answers::{board_text, plan_text, refusal_text, standing_text, told_text};
+use crate::board::answers::{
+    board_text, clash_text, plan_text, refusal_text, standing_text, told_text,
+};
 use crate::board::days::Day;
 use crate::board::steps::{Step, step_of};
 use crate::board::words::Unread;
 use action_planner::{MOST_INTENTS, may_be_planned, no_texts};
 use hazard_types::desk_hazards::facts;
 use hazard_types::{
-    Begin, Category, Desk, Draft, End, EventTexts, Hazard, Intent, Kind, List, Minute, Oom, Or,
-    PutPart, Refusal, Target, Zone,
+    Begin, Category, Desk, Draft, End, EventTexts, Hazard, Intent, Kind, Line, List, Minute, Oom,
+    Or, PutPart, Refusal, Target, Zone,
 };
 use std::alloc::Global;
 use worked_lines::Work;
@@ -243,6 +245,16 @@ impl Script {
         Ok(board_text(alloc, rows.as_slice())?)
     }
 
+    fn zone(&self, alloc: Global, zone: Zone, minute: Minute) -> Result<String, Oom> {
+        let rows = self.day.rows_of(alloc, zone, minute)?;
+        Ok(board_text(alloc, rows.as_slice())?)
+    }
+
+    fn clash(&self, alloc: Global, lines: &List<Line>, minute: Minute) -> Result<String, Oom> {
+        let found = self.day.conflict(alloc, lines, minute)?;
+        Ok(clash_text(alloc, &found)?)
+    }
+
     fn fill(
         &mut self,
         alloc: Global,
@@ -266,6 +278,8 @@ impl Script {
                 corrected(alloc, &mut self.day, number, &texts, minute)
             }
             Step::Board(minute) => self.board(alloc, minute),
+            Step::Zone(zone, minute) => self.zone(alloc, zone, minute),
+            Step::Clash(lines, minute) => self.clash(alloc, &lines, minute),
             Step::Standing(hazard) => Ok(standing_text(alloc, self.day.standing(hazard))?),
             Step::Fill(hazard, count, from) => self.fill(alloc, &hazard, count, from),
         }

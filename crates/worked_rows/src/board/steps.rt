@@ -1,12 +1,12 @@
 //! The steps of a script, one a line.
 use crate::board::words::{
-    Unread, begin_of, category_of, end_of, event_of, hazard_of, minute_of, number_of, site_of,
-    target_of, zones_of,
+    Unread, action_of, begin_of, category_of, end_of, event_of, hazard_of, minute_of, number_of,
+    site_of, target_of, zone_of, zones_of,
 };
 use action_planner::no_texts;
 use hazard_types::{
-    Category, Cause, EventPart, EventTexts, Flood, Hazard, Intent, List, Minute, Or, PutPart,
-    RoutinePart, Severity, Status, Texts,
+    Category, Cause, EventPart, EventTexts, Flood, Hazard, Intent, Line, List, Minute, Or, PutPart,
+    RoutinePart, Severity, Status, Texts, Zone,
 };
 use std::alloc::Global;
 use std::str::SplitWhitespace;
@@ -30,6 +30,10 @@ pub enum Step {
     Correct(Minute, u16, List<EventTexts>),
     /// The rows that are shown at a minute.
     Board(Minute),
+    /// The rows of one zone that are shown at a minute.
+    Zone(Zone, Minute),
+    /// The least clash of the rows after lines at a minute.
+    Clash(List<Line>, Minute),
     /// The standing events of a hazard.
     Standing(Hazard),
     /// So many events of a hazard, sixty-four a draft and a draft an hour from a minute on, each over at once.
@@ -167,6 +171,35 @@ fn fill_of(words: &mut SplitWhitespace<'_>) -> Result<Step, Or<Unread>> {
     Ok(Step::Fill(hazard, count, minute))
 }
 
+/// `ZONE STAMP`.
+fn zone_step(words: &mut SplitWhitespace<'_>) -> Result<Step, Or<Unread>> {
+    let zone = known(zone_of(next_word(words)?))?;
+    let minute = known(minute_of(next_word(words)?))?;
+    Ok(Step::Zone(zone, minute))
+}
+
+/// `STAMP ACTION EVENT ZONES BEGIN END`: a line in each of the zones.
+fn clash_of(alloc: Global, words: &mut SplitWhitespace<'_>) -> Result<Step, Or<Unread>> {
+    let minute = known(minute_of(next_word(words)?))?;
+    let action = known(action_of(next_word(words)?))?;
+    let event = known(event_of(next_word(words)?))?;
+    let zones = zones_of(alloc, next_word(words)?)?;
+    let begin = Some(known(minute_of(next_word(words)?))?);
+    let end = known(end_of(next_word(words)?))?;
+    let mut lines = List::new(alloc);
+    for zone in zones.as_slice() {
+        lines.push(Line {
+            action,
+            event,
+            zone: *zone,
+            begin,
+            end,
+            flood: None,
+        })?;
+    }
+    Ok(Step::Clash(lines, minute))
+}
+
 /// The step that the first words say.
 fn read_step(alloc: Global, words: &mut SplitWhitespace<'_>) -> Result<Step, Or<Unread>> {
     match next_word(words)? {
@@ -181,6 +214,8 @@ fn read_step(alloc: Global, words: &mut SplitWhitespace<'_>) -> Result<Step, Or<
         "plan" => Ok(Step::Plan),
         "correct" => correct_of(alloc, words),
         "board" => Ok(Step::Board(known(minute_of(next_word(words)?))?)),
+        "zone" => zone_step(words),
+        "clash" => clash_of(alloc, words),
         "standing" => Ok(Step::Standing(known(hazard_of(next_word(words)?))?)),
         "fill" => fill_of(words),
         _ => Err(Or::No(Unread)),

@@ -1,7 +1,7 @@
 //! The words of a script's lines.
 use hazard_types::{
-    Begin, Category, End, Event, Hazard, List, Minute, Or, Target, Zone, categories, event_in,
-    find, hazard_in, read_stamp, zone_in,
+    Action, Begin, Category, End, Event, Hazard, List, Minute, Or, Target, Zone, actions,
+    categories, event_in, find, hazard_in, read_stamp, zone_in,
 };
 use std::alloc::Global;
 
@@ -28,6 +28,16 @@ pub fn end_of(word: &str) -> Option<End> {
         return Some(End::Ufn);
     }
     minute_of(word).map(End::At)
+}
+
+/// An action, as `NEW`.
+pub fn action_of(word: &str) -> Option<Action> {
+    find(&actions(), word.as_bytes())
+}
+
+/// A zone, as `MDZ003`.
+pub fn zone_of(word: &str) -> Option<Zone> {
+    zone_in(word.as_bytes())
 }
 
 pub fn category_of(word: &str) -> Option<Category> {
