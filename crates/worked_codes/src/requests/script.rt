@@ -59,6 +59,17 @@ fn refused(alloc: Global, name: &str) -> Result<Text, Oom> {
     }
 }
 
+/// The words for people of the refusal of a name.
+fn worded(alloc: Global, name: &str) -> Result<Text, Oom> {
+    match refusal_named(alloc, name)? {
+        Some(refusal) => {
+            let words = format!(in alloc; "{refusal}")?;
+            List::from_slice(alloc, words.as_bytes())
+        }
+        None => Ok(List::new(alloc)),
+    }
+}
+
 fn replied(alloc: Global, name: &str) -> Result<Text, Oom> {
     match reply_named(alloc, name)? {
         Some(reply) => reply_text(alloc, &reply),
@@ -86,6 +97,7 @@ fn answer(alloc: Global, line: &str) -> Result<Text, Oom> {
             read(alloc, bytes.as_slice())
         }
         Some(("refusal", name)) => refused(alloc, name),
+        Some(("words", name)) => worded(alloc, name),
         Some(("reply", name)) => replied(alloc, name),
         Some(("fault", "disk")) => List::from_slice(alloc, disk_fault_text()),
         Some(("fault", "memory")) => List::from_slice(alloc, out_of_memory_text()),
