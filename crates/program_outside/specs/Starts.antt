@@ -1,8 +1,10 @@
 -- What a program does with the words that it was started with.
-use Rattle.std.specs.Prelude.{◌≡◌, ◌≢◌, ◌≤◌, ◌⊎◌, ℕ, List, Option, Result, IsOkAnd, Vec, String, length, take}
+use Rattle.std.specs.Prelude.{◌≡◌, ◌≢◌, ◌≤◌, ◌⊎◌, ℕ, List, Option, Result, IsOkAnd, Vec, String,
+    length, take}
 use Rattle.std.specs.declared.alloc.Global.{Global}
 use Rattle.hazard_types.specs.declared.list.Oom.{Oom}
-use Rattle.desk_traits.specs.Streams.{Adds}
+use Rattle.byte_streams.specs.Flows.{Adds, Outflow, Streams}
+use Rattle.program_ends.specs.Ends.{IsUntouched}
 use Rattle.program_ends.specs.Words.{words_behind}
 
 -- the words of a command line, or that memory lacked for them
@@ -19,7 +21,15 @@ abbrev pub Starts : Words → ℕ → Type 0 → (List (List ℕ) → Type 0) �
 Starts words skipped untouched does =
     untouched ⊎ IsOkAnd words (λ read. does (words_behind skipped read.items))
 
--- With status 2 a front of the usage was added to what was shown, with another one nothing.
-pub record IsUsageShown (usage : List ℕ) (status : ℕ) (shown shown' : Option (List ℕ)) : Type 0 where
-  pub usage_alone : status ≡ 2 → (n : ℕ) × (n ≤ length usage) × Adds shown shown' (take n usage)
+-- The same of a run from an input to an output, with its status: the words are those behind the
+-- program's name.
+abbrev pub Runs : Words → (List (List ℕ) → Streams → Streams → ℕ → Type 0)
+    → Streams → Streams → ℕ → Type 0
+Runs words does before after status =
+    Starts words 1 (IsUntouched before after status) (λ given. does given before after status)
+
+-- With status 2 the usage, or a front of it, was shown; with another one nothing.
+pub record IsUsageShown (usage : List ℕ) (status : ℕ) (shown shown' : Outflow) : Type 0 where
+  pub usage_alone : status ≡ 2
+      → (n : ℕ) × (n ≤ length usage) × Adds shown.taken shown'.taken (take n usage)
   pub others : status ≢ 2 → shown' ≡ shown

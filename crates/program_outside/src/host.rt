@@ -2,7 +2,8 @@
 use crate::files::{Access, Files};
 use crate::outside::Outside;
 use crate::words::words_of;
-use desk_traits::{FileDisk, StdSink, StdSource};
+use byte_streams::{StdSink, StdSource};
+use desk_traits::FileDisk;
 use std::env;
 use std::fs::File;
 use std::io::{self, Printer, Stderr, StdinLock};

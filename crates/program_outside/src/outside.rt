@@ -2,7 +2,7 @@
 ghost use Rattle.std.specs.Prelude.{◌≡◌, ◌≢◌, IfOk};
 ghost use Rattle.program_outside.specs.Starts.{words_given, IsUsageShown};
 
-use desk_traits::{Sink, Source, write_whole};
+use byte_streams::{Sink, write_whole};
 use hazard_types::{List, Oom, Text};
 use program_ends::{End, given_words};
 use std::alloc::Global;
@@ -18,7 +18,7 @@ pub struct Outside<S, K, M> {
     pub messages: M,
 }
 
-impl<S: Source, K: Sink, M: Sink> Outside<S, K, M> {
+impl<S, K, M> Outside<S, K, M> {
     /// The words after the first `skipped`, as bytes.
     ///
     /// # Errors
@@ -32,11 +32,14 @@ impl<S: Source, K: Sink, M: Sink> Outside<S, K, M> {
             Err(_) => Err(Oom),
         }
     }
+}
 
-    /// Shows the usage where the status is that of words that are none of the program's. What can't be
-    /// written there is left out.
+impl<S, K, M: Sink> Outside<S, K, M> {
+    /// Shows the usage where the status is that of words that are none of the program's. What can't
+    /// be written there is left out.
     pub fn show_usage(&mut self, status: u8, usage: &str)
-        ensures shown { IsUsageShown usage.now status (M.taken self.old.messages) (M.taken self.new.messages) }
+        ensures shown { IsUsageShown usage.now status (M.outflow self.old.messages)
+            (M.outflow self.new.messages) }
         ensures input { self.new.input ≡ self.old.input }
         ensures output { self.new.output ≡ self.old.output }
     {
