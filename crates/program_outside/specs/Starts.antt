@@ -1,6 +1,19 @@
 -- What a program does with the words that it was started with.
-use Rattle.std.specs.Prelude.{◌≡◌, ◌≢◌, ◌≤◌, ◌⊎◌, ℕ, List, Option, Result, IsOkAnd, Vec, String,
-    length, take}
+use Rattle.std.specs.Prelude.{
+  ◌≡◌,
+  ◌≢◌,
+  ◌≤◌,
+  ◌⊎◌,
+  ℕ,
+  List,
+  Option,
+  Result,
+  IsOkAnd,
+  Vec,
+  String,
+  length,
+  take,
+}
 use Rattle.std.specs.declared.alloc.Global.{Global}
 use Rattle.hazard_types.specs.declared.list.Oom.{Oom}
 use Rattle.byte_streams.specs.Flows.{Adds, Outflow, Streams}

@@ -15,13 +15,13 @@ pub enum Access {
 
 /// Opens the files of journals.
 pub trait Files {
-    type Disk: Disk + Send + Drop;
+    type File: Disk + Send + Drop;
 
     /// Opening the file of a path so gave this disk, and left this.
-    ghost opens: { Self → List ℕ → Access → Self.Disk → Self → Type 0 };
+    ghost opens: { Self → List ℕ → Access → Self.File → Self → Type 0 };
 
     /// The file of a path, which is made empty if it is not there. Where it can't be opened, each call
     /// of the disk fails.
-    fn open(&mut self, path: &str, access: Access) -> Self::Disk
+    fn open(&mut self, path: &str, access: Access) -> Self::File
         ensures { opens self.old path.now access result self.new };
 }

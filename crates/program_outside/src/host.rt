@@ -27,6 +27,7 @@ pub fn outside_of(rt: &HostRuntime) -> HostOutside<'_> {
 }
 
 /// The files of the system.
+#[derive(Drop)]
 pub struct HostFiles<'a> {
     rt: &'a HostRuntime,
 }
@@ -55,7 +56,7 @@ impl<'a> HostFiles<'a> {
 }
 
 impl Files for HostFiles<'_> {
-    type Disk = FileDisk;
+    type File = FileDisk;
 
     ghost opens = { λ _ _ _ _ _. Unit {0} };
 

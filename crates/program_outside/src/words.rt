@@ -14,9 +14,12 @@ use std::io::{self, ErrorKind};
 ///
 /// Out of memory, for the reading or here.
 pub fn words_of(alloc: Global, read: io::Result<Args>) -> Result<Vec<String>, Oom>
-    ensures read { IfOk read (λ args. IfOk result (λ words. words.items ≡ into_iter_items args)) }
-    ensures unreadable { IfErr read (λ e. error_kind e ≢ ErrorKind.OutOfMemory → IsOkAnd result (λ words. words.items ≡ [])) }
-    ensures out_of_memory { IfErr read (λ e. error_kind e ≡ ErrorKind.OutOfMemory → IsErr result) }
+    ensures read { IfOk read (λ args.
+        IfOk result (λ words. words.items ≡ into_iter_items args)) }
+    ensures unreadable { IfErr read (λ e. error_kind e ≢ ErrorKind.OutOfMemory
+        → IsOkAnd result (λ words. words.items ≡ [])) }
+    ensures out_of_memory { IfErr read (λ e. error_kind e ≡ ErrorKind.OutOfMemory
+        → IsErr result) }
 {
     let mut words = Vec::new(alloc);
     match read {
