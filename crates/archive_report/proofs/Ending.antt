@@ -3,8 +3,8 @@ use Rattle.std.proofs.Common.{◌≡◌, ◌≢◌, ◌∙◌, ◌⊎◌, inl, i
 use Rattle.std.proofs.lemmas.Bool.{cases_Bool}
 use Rattle.std.proofs.lemmas.Bool.Decides.{nat_tests}
 use Rattle.desk_traits.specs.Faults.{Rose}
-use Rattle.desk_traits.specs.Streams.{Adds}
-use Rattle.desk_traits.proofs.Pieces.{adds_both}
+use Rattle.byte_streams.specs.Flows.{Adds, Outflow, Streams, streams}
+use Rattle.byte_streams.proofs.Pieces.{adds_both}
 use Rattle.product_decoder.specs.Feeding.{products_in}
 use Rattle.program_ends.specs.Ends.{fault_line, Begins, HasWritten, Telling}
 use Rattle.program_ends.specs.Runs.{end_of}
@@ -92,16 +92,18 @@ module _ (asked : Asked) (limit : ℕ) (tally : Tally) (left left' taken mid : O
   ends_rest taken' (Ok n) adds is halted = ends_reported n taken' adds is
   ends_rest taken' (Err why) adds is halted = ends_halted why taken' halted
 
-module _ (asked : Asked) (limit : ℕ) (left left' taken mid : Option (List ℕ)) (reads reads' writes between : ℕ) where
+module _ (asked : Asked) (limit : ℕ) (before after : Streams) where
   -- what a run has written when it halts
-  pub has_told : (why : Stop) → (t : TellsTo asked limit left left' taken mid (Reports asked) (Err why)) → IsCauseOf {T = ℕ} stop.Write writes between (Err why) → HasWritten t.text t.written writes between (Some (end_of why))
-  has_told stop.Read t cause = record { whole = λ _. (cause.steady (λ e. absurd (cc)), t.whole (λ e. absurd (cc))); cut = λ e. absurd (cc) }
-  has_told stop.Write t cause = record { whole = λ no. absurd (no refl); cut = λ _. (cause.rose refl, t.begins) }
-  has_told stop.TooLong t cause = record { whole = λ _. (cause.steady (λ e. absurd (cc)), t.whole (λ e. absurd (cc))); cut = λ e. absurd (cc) }
-  has_told stop.OutOfMemory t cause = record { whole = λ _. (cause.steady (λ e. absurd (cc)), t.whole (λ e. absurd (cc))); cut = λ e. absurd (cc) }
+  pub has_told : (why : Stop) → (t : TellsTo asked limit before.input.left after.input.left before.output.taken after.output.taken (Reports asked) (Err why)) → IsCauseOf {T = ℕ} stop.Write before.output.faults after.output.faults (Err why)
+      → HasWritten t.text t.written before.output after.output (Some (end_of why))
+  has_told stop.Read t cause = record { adds = t.adds; whole = λ _. (cause.steady (λ e. absurd (cc)), t.whole (λ e. absurd (cc))); cut = λ e. absurd (cc) }
+  has_told stop.Write t cause = record { adds = t.adds; whole = λ no. absurd (no refl); cut = λ _. (cause.rose refl, t.begins) }
+  has_told stop.TooLong t cause = record { adds = t.adds; whole = λ _. (cause.steady (λ e. absurd (cc)), t.whole (λ e. absurd (cc))); cut = λ e. absurd (cc) }
+  has_told stop.OutOfMemory t cause = record { adds = t.adds; whole = λ _. (cause.steady (λ e. absurd (cc)), t.whole (λ e. absurd (cc))); cut = λ e. absurd (cc) }
 
   -- a run that told the whole report
-  pub run_whole : (n status : ℕ) → TellsTo asked limit left left' taken mid (Reports asked) (Ok n) → reads' ≡ reads → between ≡ writes → ((status ≡ 0) × (n ≡ 0)) ⊎ ((status ≡ 3) × (n ≢ 0)) → IsArchiveRun asked limit left left' taken mid reads reads' writes between status
+  pub run_whole : (n status : ℕ) → TellsTo asked limit before.input.left after.input.left before.output.taken after.output.taken (Reports asked) (Ok n) → after.input.faults ≡ before.input.faults → after.output.faults ≡ before.output.faults
+      → ((status ≡ 0) × (n ≡ 0)) ⊎ ((status ≡ 3) × (n ≢ 0)) → IsArchiveRun asked limit before after status
   run_whole n status t read_steady write_steady which =
       let done : Reports asked t.read t.text n = t.ended.2 in
       record {
@@ -110,7 +112,7 @@ module _ (asked : Asked) (limit : ℕ) (left left' taken mid : Option (List ℕ)
         takes = t.takes;
         adds = t.adds;
         within = t.within;
-        reported = λ _. (t.ended.0, t.ended.1, t.whole (λ e. absurd (cc)) ∙ done.0, read_steady, write_steady);
+        reported = λ _. (t.ended.0, t.ended.1, t.whole (λ e. absurd (cc)) ∙ done.0, (read_steady, write_steady));
         clean = λ e. nothing which e done.1;
         against = λ e. something which e done.1;
         read_fault = λ e. absurd (neither which 7 e (λ q. omega (arith, q)) (λ q. omega (arith, q)));
@@ -143,10 +145,10 @@ no_good status own told p q (inr e) = q (sym (told (λ h. omega (arith, e, h))) 
 no_other : (status own k : ℕ) → (status ≢ 8 → status ≡ own) → own ≢ k → k ≢ 8 → status ≡ k → ⊥
 no_other status own k told p q e = p (sym (told (λ h. q (sym e ∙ h))) ∙ e)
 
-module _ (asked : Asked) (limit : ℕ) (left left' taken mid taken' : Option (List ℕ)) (reads reads' writes writes' status : ℕ) where
+module _ (asked : Asked) (limit : ℕ) (before after : Streams) (mid : Outflow) (status : ℕ) where
   -- a run that ended early, for each reason
 
-  read_failed : (t : TellsTo asked limit left left' taken mid (Reports asked) (Err stop.Read)) → Rose reads reads' → Telling t.text writes taken taken' writes' (Some ReadFault) status → IsArchiveRun asked limit left left' taken taken' reads reads' writes writes' status
+  read_failed : (t : TellsTo asked limit before.input.left after.input.left before.output.taken mid.taken (Reports asked) (Err stop.Read)) → Rose before.input.faults after.input.faults → Telling t.text before.output after.output (Some ReadFault) status → IsArchiveRun asked limit before after status
   read_failed t rose telling =
       let own : status ≢ 8 → status ≡ 7 = λ no. (telling.told.others no).0 in
       record {
@@ -165,7 +167,7 @@ module _ (asked : Asked) (limit : ℕ) (left left' taken mid taken' : Option (Li
         others = elim (eight status) [ inl h ↦ inr (inr (inr (inl h))) | inr h ↦ inr (inr (inl (own h))) ];
       }
 
-  too_long : (t : TellsTo asked limit left left' taken mid (Reports asked) (Err stop.TooLong)) → reads' ≡ reads → Telling t.text writes taken taken' writes' (Some InputTooLong) status → IsArchiveRun asked limit left left' taken taken' reads reads' writes writes' status
+  too_long : (t : TellsTo asked limit before.input.left after.input.left before.output.taken mid.taken (Reports asked) (Err stop.TooLong)) → after.input.faults ≡ before.input.faults → Telling t.text before.output after.output (Some InputTooLong) status → IsArchiveRun asked limit before after status
   too_long t steady telling =
       let own : status ≢ 8 → status ≡ 13 = λ no. (telling.told.others no).0 in
       record {
@@ -178,13 +180,13 @@ module _ (asked : Asked) (limit : ℕ) (left left' taken mid taken' : Option (Li
         clean = λ e. absurd (no_good status 13 own (λ q. omega (arith, q)) (λ q. omega (arith, q)) (inl e));
         against = λ e. absurd (no_good status 13 own (λ q. omega (arith, q)) (λ q. omega (arith, q)) (inr e));
         read_fault = λ e. absurd (no_other status 13 7 own (λ q. omega (arith, q)) (λ q. omega (arith, q)) e);
-        too_long = λ e. let told = telling.told.others (λ h. omega (arith, e, h)) in (steady, told.1, (t.too_long refl).0, (t.text, (t.too_long refl).1, told.2));
+        too_long = λ e. let told = telling.told.others (λ h. omega (arith, e, h)) in ((steady, told.1), (t.too_long refl).0, (t.text, (t.too_long refl).1, told.2));
         no_memory = λ e. absurd (no_other status 13 12 own (λ q. omega (arith, q)) (λ q. omega (arith, q)) e);
         write_fault = λ e. ((telling.told.cut e).0, (t.text, fault_line InputTooLong, t.front, inr (inr (inl (refl, steady, (t.too_long refl).0))), (telling.told.cut e).1));
         others = elim (eight status) [ inl h ↦ inr (inr (inr (inl h))) | inr h ↦ inr (inr (inr (inr (inr (own h))))) ];
       }
 
-  no_memory : (t : TellsTo asked limit left left' taken mid (Reports asked) (Err stop.OutOfMemory)) → reads' ≡ reads → Telling t.text writes taken taken' writes' (Some OutOfMemory) status → IsArchiveRun asked limit left left' taken taken' reads reads' writes writes' status
+  no_memory : (t : TellsTo asked limit before.input.left after.input.left before.output.taken mid.taken (Reports asked) (Err stop.OutOfMemory)) → after.input.faults ≡ before.input.faults → Telling t.text before.output after.output (Some OutOfMemory) status → IsArchiveRun asked limit before after status
   no_memory t steady telling =
       let own : status ≢ 8 → status ≡ 12 = λ no. (telling.told.others no).0 in
       record {
@@ -198,12 +200,12 @@ module _ (asked : Asked) (limit : ℕ) (left left' taken mid taken' : Option (Li
         against = λ e. absurd (no_good status 12 own (λ q. omega (arith, q)) (λ q. omega (arith, q)) (inr e));
         read_fault = λ e. absurd (no_other status 12 7 own (λ q. omega (arith, q)) (λ q. omega (arith, q)) e);
         too_long = λ e. absurd (no_other status 12 13 own (λ q. omega (arith, q)) (λ q. omega (arith, q)) e);
-        no_memory = λ e. let told = telling.told.others (λ h. omega (arith, e, h)) in (steady, told.1, (t.text, t.front, told.2));
+        no_memory = λ e. let told = telling.told.others (λ h. omega (arith, e, h)) in ((steady, told.1), (t.text, t.front, told.2));
         write_fault = λ e. ((telling.told.cut e).0, (t.text, fault_line OutOfMemory, t.front, inr (inr (inr (refl, steady))), (telling.told.cut e).1));
         others = elim (eight status) [ inl h ↦ inr (inr (inr (inl h))) | inr h ↦ inr (inr (inr (inr (inl (own h))))) ];
       }
 
-  write_failed : (t : TellsTo asked limit left left' taken mid (Reports asked) (Err stop.Write)) → reads' ≡ reads → Telling t.text writes taken taken' writes' (Some WriteFault) status → IsArchiveRun asked limit left left' taken taken' reads reads' writes writes' status
+  write_failed : (t : TellsTo asked limit before.input.left after.input.left before.output.taken mid.taken (Reports asked) (Err stop.Write)) → after.input.faults ≡ before.input.faults → Telling t.text before.output after.output (Some WriteFault) status → IsArchiveRun asked limit before after status
   write_failed t steady telling =
       let own : status ≢ 8 → status ≡ 8 = λ no. (telling.told.others no).0 in
       let is : status ≡ 8 = elim (eight status) [ inl h ↦ h | inr h ↦ own h ] in
@@ -223,8 +225,8 @@ module _ (asked : Asked) (limit : ℕ) (left left' taken mid taken' : Option (Li
         others = inr (inr (inr (inl is)));
       }
 
-  pub run_halted : (why : Stop) (t : TellsTo asked limit left left' taken mid (Reports asked) (Err why)) → IsCauseOf {T = ℕ} stop.Read reads reads' (Err why) → Telling t.text writes taken taken' writes' (Some (end_of why)) status
-      → IsArchiveRun asked limit left left' taken taken' reads reads' writes writes' status
+  pub run_halted : (why : Stop) (t : TellsTo asked limit before.input.left after.input.left before.output.taken mid.taken (Reports asked) (Err why)) → IsCauseOf {T = ℕ} stop.Read before.input.faults after.input.faults (Err why) → Telling t.text before.output after.output (Some (end_of why)) status
+      → IsArchiveRun asked limit before after status
   run_halted stop.Read t cause telling = read_failed t (cause.rose refl) telling
   run_halted stop.Write t cause telling = write_failed t (cause.steady (λ e. absurd (cc))) telling
   run_halted stop.TooLong t cause telling = too_long t (cause.steady (λ e. absurd (cc))) telling
@@ -232,7 +234,7 @@ module _ (asked : Asked) (limit : ℕ) (left left' taken mid taken' : Option (Li
 
 -- what the statuses of a run say by themselves
 
-module _ (asked : Asked) (limit : ℕ) (left left' taken taken' : Option (List ℕ)) (reads reads' writes writes' status : ℕ) (run : IsArchiveRun asked limit left left' taken taken' reads reads' writes writes' status) where
+module _ (asked : Asked) (limit : ℕ) (before after : Streams) (status : ℕ) (run : IsArchiveRun asked limit before after status) where
   pub not_two : status ≡ 2 → ⊥
   not_two e = none run.others
     where
@@ -244,7 +246,7 @@ module _ (asked : Asked) (limit : ℕ) (left left' taken taken' : Option (List �
       none (inr (inr (inr (inr (inl h))))) = omega (arith, e, h)
       none (inr (inr (inr (inr (inr h))))) = omega (arith, e, h)
 
-  pub run_complete : ¬ Rose reads reads' → ¬ Rose writes writes' → (status ≡ 0) ⊎ (status ≡ 3) ⊎ (status ≡ 12) ⊎ (status ≡ 13)
+  pub run_complete : ¬ Rose before.input.faults after.input.faults → ¬ Rose before.output.faults after.output.faults → (status ≡ 0) ⊎ (status ≡ 3) ⊎ (status ≡ 12) ⊎ (status ≡ 13)
   run_complete no_read no_write = some run.others
     where
       some : (status ≡ 0) ⊎ (status ≡ 3) ⊎ (status ≡ 7) ⊎ (status ≡ 8) ⊎ (status ≡ 12) ⊎ (status ≡ 13) → (status ≡ 0) ⊎ (status ≡ 3) ⊎ (status ≡ 12) ⊎ (status ≡ 13)
@@ -256,11 +258,11 @@ module _ (asked : Asked) (limit : ℕ) (left left' taken taken' : Option (List �
       some (inr (inr (inr (inr (inr h))))) = inr (inr (inr h))
 
 -- a run that halted, once its end was told
-pub run_ended : (asked : Asked) (limit : ℕ) (left left' taken mid taken' : Option (List ℕ)) (reads reads' writes between writes' status : ℕ) (why : Stop) (end : End) → TellsTo asked limit left left' taken mid (Reports asked) (Err why) → IsCauseOf {T = ℕ} stop.Read reads reads' (Err why) → IsCauseOf {T = ℕ} stop.Write writes between (Err why)
+pub run_ended : (asked : Asked) (limit : ℕ) (before after : Streams) (mid : Outflow) (status : ℕ) (why : Stop) (end : End) → TellsTo asked limit before.input.left after.input.left before.output.taken mid.taken (Reports asked) (Err why) → IsCauseOf {T = ℕ} stop.Read before.input.faults after.input.faults (Err why) → IsCauseOf {T = ℕ} stop.Write before.output.faults mid.faults (Err why)
     → end ≡ end_of why
-    → ((past : Option (List ℕ)) (before : ℕ) (defined written : List ℕ) → Adds past mid written → HasWritten defined written before between (Some end) → Telling defined before past taken' writes' (Some end) status)
-    → IsArchiveRun asked limit left left' taken taken' reads reads' writes writes' status
-run_ended asked limit left left' taken mid taken' reads reads' writes between writes' status why end t read write is tells =
-    let has = has_told asked limit left left' taken mid reads reads' writes between why t write in
-    let told = tells taken writes t.text t.written t.adds (subst (λ (e : End). HasWritten t.text t.written writes between (Some e)) (sym is) has) in
-    run_halted asked limit left left' taken mid taken' reads reads' writes writes' status why t read (subst (λ (e : End). Telling t.text writes taken taken' writes' (Some e) status) is told)
+    → ((begun : Outflow) (defined written : List ℕ) → HasWritten defined written begun mid (Some end) → Telling defined begun after.output (Some end) status)
+    → IsArchiveRun asked limit before after status
+run_ended asked limit before after mid status why end t read write is tells =
+    let has = has_told asked limit before (streams after.input mid) why t write in
+    let told = tells before.output t.text t.written (subst (λ (e : End). HasWritten t.text t.written before.output mid (Some e)) (sym is) has) in
+    run_halted asked limit before after mid status why t read (subst (λ (e : End). Telling t.text before.output after.output (Some e) status) is told)

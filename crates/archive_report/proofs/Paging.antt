@@ -2,8 +2,8 @@
 use Rattle.std.proofs.Common.{◌≡◌, ◌∙◌, inl, inr, ℕ, zero, suc, ◌+◌, ◌<◌, ◌≤◌, List, [], ◌∷◌, ◌++◌, length, take, drop, get_or, flat_map, arith, refl, ap, sym, append_assoc, append-nil, Option, Result, Ok, Err, IfErr, OnOk}
 use Rattle.std.proofs.lemmas.Grind.{flat_map-append}
 use Rattle.std.proofs.lemmas.List.{take-append-drop}
-use Rattle.desk_traits.specs.Streams.{Adds}
-use Rattle.desk_traits.proofs.Pieces.{adds_both}
+use Rattle.byte_streams.specs.Flows.{Adds}
+use Rattle.byte_streams.proofs.Pieces.{adds_both}
 use Rattle.program_ends.specs.Ends.{AddsFront}
 use Rattle.program_ends.proofs.Answering.{adds_none}
 use Rattle.program_ends.specs.declared.reading.Stop.{Stop}

@@ -1,8 +1,8 @@
 -- Pieces that are read one after another, and how a run ends.
 use Rattle.std.proofs.Common.{◌≡◌, ◌∙◌, ◌⊎◌, inl, inr, ℕ, ◌+◌, ◌≤◌, List, [], ◌++◌, length, map, take, drop, refl, ap, sym, subst, append_assoc, append-nil, length-append, arith, true, false, Option, None, Some, Result, Ok, Err, IsErrAnd, IfErr, OnOk}
 use Rattle.std.proofs.lemmas.List.{length-take, map-append, take-append-drop, take-append-le, take_all}
-use Rattle.desk_traits.specs.Streams.{Takes, Adds, IsAtEnd}
-use Rattle.desk_traits.proofs.Pieces.{adds_both, takes_both}
+use Rattle.byte_streams.specs.Flows.{Takes, Adds, IsAtEnd}
+use Rattle.byte_streams.proofs.Pieces.{adds_both, takes_both}
 use Rattle.product_decoder.specs.Decoded.{decode}
 use Rattle.product_decoder.specs.Feeding.{Fed, products_in}
 use Rattle.program_ends.specs.Ends.{Begins, AddsFront}

@@ -1,6 +1,6 @@
 -- How a report is told piece by piece.
 use Rattle.std.specs.Prelude.{◌≡◌, ◌≤◌, ◌⊎◌, ℕ, ◌+◌, ◌++◌, true, false, List, [], length, map, take, Option, Result, IfOk, IsErrOf}
-use Rattle.desk_traits.specs.Streams.{Takes, Adds, IsAtEnd}
+use Rattle.byte_streams.specs.Flows.{Takes, Adds, IsAtEnd}
 use Rattle.event_life.specs.Products.{rows_of}
 use Rattle.event_life.specs.Shown.{shown_at}
 use Rattle.product_decoder.specs.Decoded.{decode}

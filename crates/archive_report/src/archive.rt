@@ -1,11 +1,12 @@
 //! A report by the words of a command.
 ghost use Rattle.std.specs.Prelude.{◌≤◌};
+ghost use Rattle.byte_streams.specs.Flows.{streams};
 ghost use Rattle.program_ends.specs.Lines.{most_bytes};
 ghost use Rattle.archive_report.specs.Runs.{DoesAsAsked};
 
 use crate::report::tell_report;
 use crate::words::asked_of;
-use desk_traits::{Sink, Source};
+use byte_streams::{Sink, Source};
 use hazard_types::{List, Text};
 use program_ends::{End, end_at_once, end_run};
 use std::alloc::Global;
@@ -22,9 +23,9 @@ pub fn archive_within<S: Source, K: Sink>(
     limit: usize,
 ) -> u8
     requires { limit ≤ most_bytes }
-    ensures { DoesAsAsked words.now limit (S.left input.old) (S.left input.new)
-        (K.taken output.old) (K.taken output.new) (S.faults input.old) (S.faults input.new)
-        (K.faults output.old) (K.faults output.new) result }
+    ensures { DoesAsAsked words.now limit
+        (streams (S.inflow input.old) (K.outflow output.old))
+        (streams (S.inflow input.new) (K.outflow output.new)) result }
 {
     let Some(asked) = asked_of(words) else {
         return end_at_once(output, End::Usage);

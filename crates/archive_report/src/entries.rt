@@ -6,7 +6,7 @@ ghost use Rattle.archive_report.specs.Pieces.{Halts, Pages};
 use crate::lines::put_gap;
 use crate::page::turn;
 use board_text::put_row;
-use desk_traits::Sink;
+use byte_streams::Sink;
 use hazard_types::{Oom, Row, Text};
 use product_decoder::GapFound;
 use program_ends::Stop;
@@ -53,9 +53,9 @@ pub fn tell_entries<E: Entry, K: Sink>(
     output: &mut K,
     entries: &[E],
 ) -> Result<(), Stop>
-    ensures told { OnOk result (Pages (K.taken output.old) (K.taken output.new) out.old out.new (flat_map E.line entries.now)) }
-    ensures halted { IfErr result (Halts (K.taken output.old) (K.taken output.new) (out.old ++ flat_map E.line entries.now)) }
-    ensures cause { IsCauseOf Stop.Write (K.faults output.old) (K.faults output.new) result }
+    ensures told { OnOk result (Pages (K.outflow output.old).taken (K.outflow output.new).taken out.old out.new (flat_map E.line entries.now)) }
+    ensures halted { IfErr result (Halts (K.outflow output.old).taken (K.outflow output.new).taken (out.old ++ flat_map E.line entries.now)) }
+    ensures cause { IsCauseOf Stop.Write (K.outflow output.old).faults (K.outflow output.new).faults result }
 {
     for entry in entries {
         entry.put(alloc, out)?;

@@ -3,7 +3,7 @@ ghost use Rattle.std.specs.Prelude.{◌≡◌, ◌≤◌, ◌++◌, ◌+◌, len
 ghost use Rattle.std.specs.List.{All};
 ghost use Rattle.event_life.specs.Products.{rows_of};
 ghost use Rattle.event_life.specs.Shown.{shown_at};
-ghost use Rattle.desk_traits.specs.Streams.{Adds};
+ghost use Rattle.byte_streams.specs.Flows.{Adds};
 ghost use Rattle.product_decoder.specs.ReaderModel.{lives_of, found_of};
 ghost use Rattle.program_ends.specs.Steps.{IsCauseOf};
 ghost use Rattle.archive_report.specs.Pieces.{Halts, Pages, count_listed, end_text, rest_text};
@@ -16,7 +16,7 @@ use crate::lives::LastLife;
 use crate::page::{flush, turn};
 use crate::tally::Tally;
 use crate::words::Asked;
-use desk_traits::Sink;
+use byte_streams::Sink;
 use hazard_types::{List, Text};
 use product_decoder::{EventLives, Found, GapFound, Reader, Track};
 use program_ends::Stop;
@@ -30,9 +30,9 @@ fn tell_life<K: Sink>(
     last: &mut LastLife,
     life: &Track,
 ) -> Result<(), Stop>
-    ensures told { OnOk result (Pages (K.taken output.old) (K.taken output.new) out.old out.new (life_line life.now)) }
-    ensures halted { IfErr result (Halts (K.taken output.old) (K.taken output.new) (out.old ++ life_line life.now)) }
-    ensures cause { IsCauseOf Stop.Write (K.faults output.old) (K.faults output.new) result }
+    ensures told { OnOk result (Pages (K.outflow output.old).taken (K.outflow output.new).taken out.old out.new (life_line life.now)) }
+    ensures halted { IfErr result (Halts (K.outflow output.old).taken (K.outflow output.new).taken (out.old ++ life_line life.now)) }
+    ensures cause { IsCauseOf Stop.Write (K.outflow output.old).faults (K.outflow output.new).faults result }
 {
     last.put(alloc, out, life)?;
     turn(alloc, out, output)
@@ -45,9 +45,9 @@ fn tell_event<K: Sink>(
     output: &mut K,
     event: &EventLives,
 ) -> Result<(), Stop>
-    ensures told { OnOk result (Pages (K.taken output.old) (K.taken output.new) out.old out.new (lives_text event.now)) }
-    ensures halted { IfErr result (Halts (K.taken output.old) (K.taken output.new) (out.old ++ lives_text event.now)) }
-    ensures cause { IsCauseOf Stop.Write (K.faults output.old) (K.faults output.new) result }
+    ensures told { OnOk result (Pages (K.outflow output.old).taken (K.outflow output.new).taken out.old out.new (lives_text event.now)) }
+    ensures halted { IfErr result (Halts (K.outflow output.old).taken (K.outflow output.new).taken (out.old ++ lives_text event.now)) }
+    ensures cause { IsCauseOf Stop.Write (K.outflow output.old).faults (K.outflow output.new).faults result }
 {
     let lives = event.tracks(alloc)?;
     let mut last = LastLife::none(alloc);
@@ -64,9 +64,9 @@ fn tell_events<K: Sink>(
     output: &mut K,
     events: &[EventLives],
 ) -> Result<(), Stop>
-    ensures told { OnOk result (Pages (K.taken output.old) (K.taken output.new) out.old out.new (flat_map lives_text events.now)) }
-    ensures halted { IfErr result (Halts (K.taken output.old) (K.taken output.new) (out.old ++ flat_map lives_text events.now)) }
-    ensures cause { IsCauseOf Stop.Write (K.faults output.old) (K.faults output.new) result }
+    ensures told { OnOk result (Pages (K.outflow output.old).taken (K.outflow output.new).taken out.old out.new (flat_map lives_text events.now)) }
+    ensures halted { IfErr result (Halts (K.outflow output.old).taken (K.outflow output.new).taken (out.old ++ flat_map lives_text events.now)) }
+    ensures cause { IsCauseOf Stop.Write (K.outflow output.old).faults (K.outflow output.new).faults result }
 {
     for event in events {
         tell_event(alloc, out, output, event)?;
@@ -81,9 +81,9 @@ fn tell_lives<K: Sink>(
     output: &mut K,
     reader: &Reader,
 ) -> Result<(), Stop>
-    ensures told { OnOk result (Pages (K.taken output.old) (K.taken output.new) out.old out.new (flat_map life_line (lives_of reader.now.products))) }
-    ensures halted { IfErr result (Halts (K.taken output.old) (K.taken output.new) (out.old ++ flat_map life_line (lives_of reader.now.products))) }
-    ensures cause { IsCauseOf Stop.Write (K.faults output.old) (K.faults output.new) result }
+    ensures told { OnOk result (Pages (K.outflow output.old).taken (K.outflow output.new).taken out.old out.new (flat_map life_line (lives_of reader.now.products))) }
+    ensures halted { IfErr result (Halts (K.outflow output.old).taken (K.outflow output.new).taken (out.old ++ flat_map life_line (lives_of reader.now.products))) }
+    ensures cause { IsCauseOf Stop.Write (K.outflow output.old).faults (K.outflow output.new).faults result }
 {
     let events = reader.lives_by_event(alloc)?;
     tell_events(alloc, out, output, events.as_slice())
@@ -98,9 +98,9 @@ fn tell_breaches<K: Sink>(
     breaches: &[Found],
 ) -> Result<(), Stop>
     requires { All (IsNumbered (length numbers.now)) breaches.now }
-    ensures told { OnOk result (Pages (K.taken output.old) (K.taken output.new) out.old out.new (flat_map (breach_line numbers.now) breaches.now)) }
-    ensures halted { IfErr result (Halts (K.taken output.old) (K.taken output.new) (out.old ++ flat_map (breach_line numbers.now) breaches.now)) }
-    ensures cause { IsCauseOf Stop.Write (K.faults output.old) (K.faults output.new) result }
+    ensures told { OnOk result (Pages (K.outflow output.old).taken (K.outflow output.new).taken out.old out.new (flat_map (breach_line numbers.now) breaches.now)) }
+    ensures halted { IfErr result (Halts (K.outflow output.old).taken (K.outflow output.new).taken (out.old ++ flat_map (breach_line numbers.now) breaches.now)) }
+    ensures cause { IsCauseOf Stop.Write (K.outflow output.old).faults (K.outflow output.new).faults result }
 {
     for found in breaches {
         put_breach(alloc, out, numbers, found)?;
@@ -126,10 +126,10 @@ fn tell_findings<K: Sink>(
 ) -> Result<usize, Stop>
     requires numbered { All (IsNumbered (length tally.now.numbers)) (found_of tally.now.reader.products) }
     requires few { tally.now.faults ≤ 2000000000 }
-    ensures told { OnOk result (Pages (K.taken output.old) (K.taken output.new) out.old out.new (findings_text tally.now.numbers tally.now.reader.products)) }
+    ensures told { OnOk result (Pages (K.outflow output.old).taken (K.outflow output.new).taken out.old out.new (findings_text tally.now.numbers tally.now.reader.products)) }
     ensures count { IfOk result (λ n. n ≡ count_listed tally.now) }
-    ensures halted { IfErr result (Halts (K.taken output.old) (K.taken output.new) (out.old ++ findings_text tally.now.numbers tally.now.reader.products)) }
-    ensures cause { IsCauseOf Stop.Write (K.faults output.old) (K.faults output.new) result }
+    ensures halted { IfErr result (Halts (K.outflow output.old).taken (K.outflow output.new).taken (out.old ++ findings_text tally.now.numbers tally.now.reader.products)) }
+    ensures cause { IsCauseOf Stop.Write (K.outflow output.old).faults (K.outflow output.new).faults result }
 {
     tell_lives(alloc, out, output, &tally.reader)?;
     let breaches = tally.reader.breaches(alloc)?;
@@ -153,9 +153,9 @@ fn tell_shown<K: Sink>(
     asked: &Asked,
     reader: &Reader,
 ) -> Result<(), Stop>
-    ensures told { OnOk result (Pages (K.taken output.old) (K.taken output.new) out.old out.new (shown_text asked.now.minute (shown_at asked.now.minute (rows_of reader.now.products)))) }
-    ensures halted { IfErr result (Halts (K.taken output.old) (K.taken output.new) (out.old ++ shown_text asked.now.minute (shown_at asked.now.minute (rows_of reader.now.products)))) }
-    ensures cause { IsCauseOf Stop.Write (K.faults output.old) (K.faults output.new) result }
+    ensures told { OnOk result (Pages (K.outflow output.old).taken (K.outflow output.new).taken out.old out.new (shown_text asked.now.minute (shown_at asked.now.minute (rows_of reader.now.products)))) }
+    ensures halted { IfErr result (Halts (K.outflow output.old).taken (K.outflow output.new).taken (out.old ++ shown_text asked.now.minute (shown_at asked.now.minute (rows_of reader.now.products)))) }
+    ensures cause { IsCauseOf Stop.Write (K.outflow output.old).faults (K.outflow output.new).faults result }
 {
     let rows = reader.shown(alloc, asked.minute)?;
     put_shown(alloc, out, asked.minute, rows.len())?;
@@ -169,9 +169,9 @@ fn tell_last<K: Sink>(
     output: &mut K,
     listed: usize,
 ) -> Result<(), Stop>
-    ensures told { OnOk result (Adds (K.taken output.old) (K.taken output.new) (out.old ++ last_line listed)) }
-    ensures halted { IfErr result (Halts (K.taken output.old) (K.taken output.new) (out.old ++ last_line listed)) }
-    ensures cause { IsCauseOf Stop.Write (K.faults output.old) (K.faults output.new) result }
+    ensures told { OnOk result (Adds (K.outflow output.old).taken (K.outflow output.new).taken (out.old ++ last_line listed)) }
+    ensures halted { IfErr result (Halts (K.outflow output.old).taken (K.outflow output.new).taken (out.old ++ last_line listed)) }
+    ensures cause { IsCauseOf Stop.Write (K.outflow output.old).faults (K.outflow output.new).faults result }
 {
     put_last(alloc, out, listed)?;
     flush(alloc, out, output)
@@ -187,9 +187,9 @@ fn tell_end<K: Sink>(
     listed: usize,
 ) -> Result<(), Stop>
     requires { listed ≡ count_listed tally.now }
-    ensures told { OnOk result (Adds (K.taken output.old) (K.taken output.new) (out.old ++ end_text asked.now tally.now)) }
-    ensures halted { IfErr result (Halts (K.taken output.old) (K.taken output.new) (out.old ++ end_text asked.now tally.now)) }
-    ensures cause { IsCauseOf Stop.Write (K.faults output.old) (K.faults output.new) result }
+    ensures told { OnOk result (Adds (K.outflow output.old).taken (K.outflow output.new).taken (out.old ++ end_text asked.now tally.now)) }
+    ensures halted { IfErr result (Halts (K.outflow output.old).taken (K.outflow output.new).taken (out.old ++ end_text asked.now tally.now)) }
+    ensures cause { IsCauseOf Stop.Write (K.outflow output.old).faults (K.outflow output.new).faults result }
 {
     tell_shown(alloc, out, output, asked, &tally.reader)?;
     tell_last(alloc, out, output, listed)
@@ -204,10 +204,10 @@ pub fn tell_rest<K: Sink>(
 ) -> Result<usize, Stop>
     requires numbered { All (IsNumbered (length tally.now.numbers)) (found_of tally.now.reader.products) }
     requires few { tally.now.faults ≤ 2000000000 }
-    ensures told { OnOk result (Adds (K.taken output.old) (K.taken output.new) (rest_text asked.now tally.now)) }
+    ensures told { OnOk result (Adds (K.outflow output.old).taken (K.outflow output.new).taken (rest_text asked.now tally.now)) }
     ensures count { IfOk result (λ n. n ≡ count_listed tally.now) }
-    ensures halted { IfErr result (Halts (K.taken output.old) (K.taken output.new) (rest_text asked.now tally.now)) }
-    ensures cause { IsCauseOf Stop.Write (K.faults output.old) (K.faults output.new) result }
+    ensures halted { IfErr result (Halts (K.outflow output.old).taken (K.outflow output.new).taken (rest_text asked.now tally.now)) }
+    ensures cause { IsCauseOf Stop.Write (K.outflow output.old).faults (K.outflow output.new).faults result }
 {
     let mut out = List::new(alloc);
     let listed = tell_findings(alloc, &mut out, output, tally)?;

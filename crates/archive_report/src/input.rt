@@ -7,7 +7,8 @@ ghost use Rattle.archive_report.specs.Pieces.{IsTally, IsFresh, TellsTo, ReadsAl
 use crate::products::tell_products;
 use crate::tally::Tally;
 use crate::words::Asked;
-use desk_traits::{Failed, Sink, Source};
+use byte_streams::{Sink, Source};
+use desk_traits::Failed;
 use product_decoder::Feed;
 use program_ends::{Stop, read_front};
 use std::alloc::Global;
@@ -25,9 +26,9 @@ pub fn tell_input<S: Source, K: Sink>(
     requires limit { limit ≤ most_bytes }
     requires tally { IsTally asked.now tally.old }
     requires fresh { IsFresh tally.old }
-    ensures run { TellsTo asked.now limit (S.left input.old) (S.left input.new) (K.taken output.old) (K.taken output.new) (ReadsAll asked.now tally.new) result }
-    ensures read { IsCauseOf Stop.Read (S.faults input.old) (S.faults input.new) result }
-    ensures write { IsCauseOf Stop.Write (K.faults output.old) (K.faults output.new) result }
+    ensures run { TellsTo asked.now limit (S.inflow input.old).left (S.inflow input.new).left (K.outflow output.old).taken (K.outflow output.new).taken (ReadsAll asked.now tally.new) result }
+    ensures read { IsCauseOf Stop.Read (S.inflow input.old).faults (S.inflow input.new).faults result }
+    ensures write { IsCauseOf Stop.Write (K.outflow output.old).faults (K.outflow output.new).faults result }
 {
     let mut feed = Feed::new(alloc);
     let mut buffer = [0u8; 65_536];

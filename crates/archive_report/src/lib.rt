@@ -13,10 +13,12 @@ mod lives;
 mod page;
 mod products;
 mod report;
+mod run;
 mod tally;
 mod texts;
 mod words;
 
 pub use archive::archive_within;
 pub use laws::what_is_told_begins_the_report;
+pub use run::{archive_run, run_program};
 pub use words::{Asked, asked_of};

@@ -3,7 +3,8 @@ ghost use Rattle.std.specs.Prelude.{◌≡◌, [], OnOk, IfErr};
 ghost use Rattle.program_ends.specs.Steps.{IsCauseOf};
 ghost use Rattle.archive_report.specs.Pieces.{Halts, Pages};
 
-use desk_traits::{Failed, Sink, write_whole};
+use byte_streams::{Sink, write_whole};
+use desk_traits::Failed;
 use hazard_types::{List, Text};
 use program_ends::Stop;
 use std::alloc::Global;
@@ -13,10 +14,10 @@ const ENOUGH: usize = 65_536;
 
 /// Writes what waits.
 pub fn flush<K: Sink>(alloc: Global, out: &mut Text, output: &mut K) -> Result<(), Stop>
-    ensures told { OnOk result (Pages (K.taken output.old) (K.taken output.new) out.old out.new []) }
+    ensures told { OnOk result (Pages (K.outflow output.old).taken (K.outflow output.new).taken out.old out.new []) }
     ensures none { OnOk result (out.new ≡ []) }
-    ensures halted { IfErr result (Halts (K.taken output.old) (K.taken output.new) out.old) }
-    ensures cause { IsCauseOf Stop.Write (K.faults output.old) (K.faults output.new) result }
+    ensures halted { IfErr result (Halts (K.outflow output.old).taken (K.outflow output.new).taken out.old) }
+    ensures cause { IsCauseOf Stop.Write (K.outflow output.old).faults (K.outflow output.new).faults result }
 {
     match write_whole(output, out.as_slice()) {
         Ok(()) => {
@@ -29,9 +30,9 @@ pub fn flush<K: Sink>(alloc: Global, out: &mut Text, output: &mut K) -> Result<(
 
 /// Writes what waits where it is enough.
 pub fn turn<K: Sink>(alloc: Global, out: &mut Text, output: &mut K) -> Result<(), Stop>
-    ensures told { OnOk result (Pages (K.taken output.old) (K.taken output.new) out.old out.new []) }
-    ensures halted { IfErr result (Halts (K.taken output.old) (K.taken output.new) out.old) }
-    ensures cause { IsCauseOf Stop.Write (K.faults output.old) (K.faults output.new) result }
+    ensures told { OnOk result (Pages (K.outflow output.old).taken (K.outflow output.new).taken out.old out.new []) }
+    ensures halted { IfErr result (Halts (K.outflow output.old).taken (K.outflow output.new).taken out.old) }
+    ensures cause { IsCauseOf Stop.Write (K.outflow output.old).faults (K.outflow output.new).faults result }
 {
     if out.len() < ENOUGH {
         return Ok(());

@@ -9,7 +9,8 @@ ghost use Rattle.archive_report.specs.Readings.{said_of};
 use crate::lines::put_product;
 use crate::tally::{Reading, Tally};
 use crate::words::Asked;
-use desk_traits::{Failed, Sink, write_whole};
+use byte_streams::{Sink, write_whole};
+use desk_traits::Failed;
 use hazard_types::{List, Oom, Or, Text};
 use product_decoder::Feed;
 use product_frame::read_frame;
@@ -81,9 +82,9 @@ pub fn tell_products<K: Sink>(
 ) -> Result<(), Stop>
     requires tally { IsTally asked.now tally.old }
     requires few { tally.old.count + length feed.old.rest < 2000000000 }
-    ensures told { OnOk result (TellsPiece asked.now feed.old feed.new tally.old tally.new (K.taken output.old) (K.taken output.new)) }
-    ensures halted { IfErr result (λ why. HaltsPiece asked.now feed.old tally.old (K.taken output.old) (K.taken output.new) why) }
-    ensures cause { IsCauseOf Stop.Write (K.faults output.old) (K.faults output.new) result }
+    ensures told { OnOk result (TellsPiece asked.now feed.old feed.new tally.old tally.new (K.outflow output.old).taken (K.outflow output.new).taken) }
+    ensures halted { IfErr result (λ why. HaltsPiece asked.now feed.old tally.old (K.outflow output.old).taken (K.outflow output.new).taken why) }
+    ensures cause { IsCauseOf Stop.Write (K.outflow output.old).faults (K.outflow output.new).faults result }
 {
     let mut lines = List::new(alloc);
     tell_each(alloc, asked, feed, tally, &mut lines)?;

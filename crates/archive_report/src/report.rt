@@ -8,7 +8,7 @@ use crate::findings::tell_rest;
 use crate::input::tell_input;
 use crate::tally::Tally;
 use crate::words::Asked;
-use desk_traits::{Sink, Source};
+use byte_streams::{Sink, Source};
 use program_ends::Stop;
 use std::alloc::Global;
 
@@ -21,9 +21,9 @@ pub fn tell_report<S: Source, K: Sink>(
     output: &mut K,
 ) -> Result<usize, Stop>
     requires { limit ≤ most_bytes }
-    ensures run { TellsTo asked.now limit (S.left input.old) (S.left input.new) (K.taken output.old) (K.taken output.new) (Reports asked.now) result }
-    ensures read { IsCauseOf Stop.Read (S.faults input.old) (S.faults input.new) result }
-    ensures write { IsCauseOf Stop.Write (K.faults output.old) (K.faults output.new) result }
+    ensures run { TellsTo asked.now limit (S.inflow input.old).left (S.inflow input.new).left (K.outflow output.old).taken (K.outflow output.new).taken (Reports asked.now) result }
+    ensures read { IsCauseOf Stop.Read (S.inflow input.old).faults (S.inflow input.new).faults result }
+    ensures write { IsCauseOf Stop.Write (K.outflow output.old).faults (K.outflow output.new).faults result }
 {
     let mut tally = Tally::new(alloc, asked);
     tell_input(alloc, asked, limit, &mut tally, input, output)?;

@@ -3,6 +3,7 @@ use Rattle.std.proofs.Common.{◌≡◌, ◌∙◌, ◌⊎◌, true, false, inl,
 use Rattle.std.specs.Prelude.{IsTrue}
 use Rattle.std.specs.Option.{is_some}
 use Rattle.std.specs.List.Sorted.{IsStrictlySortedBy}
+use Rattle.byte_streams.specs.Flows.{Streams}
 use Rattle.hazard_types.specs.Characters.{is_office}
 use Rattle.hazard_types.specs.declared.line.Line.{Line}
 use Rattle.segmenter.proofs.LawLemmas.{segments_alike}
@@ -22,10 +23,11 @@ use Rattle.county_notices.specs.Commands.{Noticed, broken}
 use Rattle.county_notices.specs.NoticeHistory.{IsAccepted, IsRefused, IsTooLong, after, first}
 use Rattle.county_notices.specs.NoticeRuns.{AreTold, DoesAsAsked, IsNoticeRun, Tells}
 use Rattle.county_notices.specs.Notices.{IsNotice, text_of}
-use Rattle.county_notices.specs.Reading.{IsHistory, Noted}
+use Rattle.county_notices.specs.Reading.{IsHistory, Noted, products_read}
 use Rattle.county_notices.specs.Standing.{IsStanding}
 use Rattle.county_notices.specs.Words.{issuer_of}
 use Rattle.county_notices.specs.declared.issuer.Issuer.{Issuer}
+use Rattle.county_notices.proofs.ApartProducts.{merged}
 use Rattle.county_notices.proofs.HistoryLemmas.{history_read}
 
 -- ---- a line has one answer
@@ -141,19 +143,21 @@ begins_standing by office = record {
   minute = omega arith;
 }
 
-pub runs : (by : Issuer) (limit : ℕ) (z : Noticed) (left left' taken taken' : Option (List ℕ)) (reads reads' writes writes' status : ℕ) → IsTrue (is_office by.office) →
-    IsLinesRun AnswersLine LacksLine limit (first by) z left left' taken taken' reads reads' writes writes' status → IsNoticeRun by limit left left' taken taken' reads reads' writes writes' status
-runs by limit z left left' taken taken' reads reads' writes writes' status office run =
+pub runs : (by : Issuer) (limit : ℕ) (z : Noticed) (before after : Streams) (status : ℕ) → IsTrue (is_office by.office) →
+    IsLinesRun AnswersLine LacksLine limit (first by) z before after status → IsNoticeRun by limit before after status
+runs by limit z before after status office run =
     let answered = run.run.answered in
     let tell = lines_tell (first by) run.run.lines run.told run.run.last answered in
+    let read = history_read (first by) tell.notes run.run.last (begins_standing by office) refl tell.history in
     record {
-      after = z;
+      left = z;
       run = run;
       only = λ told last other. answered_once (first by) run.run.lines told run.told last run.run.last other answered;
       notes = tell.notes;
       told = tell.told;
       history = tell.history;
-      read_back = history_read (first by) tell.notes run.run.last (begins_standing by office) refl tell.history;
+      read_back = read;
+      desks_numbers = λ desk all own m. merged desk (products_read by.office tell.notes) all own read.others m;
     }
 
 not_two : (end : Option End) → ((end ≡ None) ⊎ (end ≡ Some ReadFault) ⊎ (end ≡ Some WriteFault) ⊎ (end ≡ Some InputTooLong) ⊎ (end ≡ Some OutOfMemory)) → 2 ≡ own_status end → ⊥
@@ -163,9 +167,9 @@ not_two end (inr (inr (inl e))) own = omega (arith, own, ap own_status e)
 not_two end (inr (inr (inr (inl e)))) own = omega (arith, own, ap own_status e)
 not_two end (inr (inr (inr (inr e)))) own = omega (arith, own, ap own_status e)
 
-pub does_notices : (words : List (List ℕ)) (by : Issuer) (limit : ℕ) (left left' taken taken' : Option (List ℕ)) (reads reads' writes writes' status : ℕ) → issuer_of words ≡ Some by →
-    IsNoticeRun by limit left left' taken taken' reads reads' writes writes' status → DoesAsAsked words limit left left' taken taken' reads reads' writes writes' status
-does_notices words by limit left left' taken taken' reads reads' writes writes' status is run = record {
+pub does_notices : (words : List (List ℕ)) (by : Issuer) (limit : ℕ) (before after : Streams) (status : ℕ) → issuer_of words ≡ Some by →
+    IsNoticeRun by limit before after status → DoesAsAsked words limit before after status
+does_notices words by limit before after status is run = record {
   run = rw is run;
   usage = λ two. absurd (not_two run.run.end run.run.run.reasons (sym two ∙ (run.run.telling.told.others (λ eight. omega (arith, two, eight))).0));
   read_fault = run.run.read_fault;
@@ -173,9 +177,9 @@ does_notices words by limit left left' taken taken' reads reads' writes writes' 
   complete = λ some none quiet. run.run.complete none quiet;
 }
 
-pub does_usage : (words : List (List ℕ)) (limit : ℕ) (left left' taken taken' : Option (List ℕ)) (reads reads' writes writes' status : ℕ) → issuer_of words ≡ None →
-    IsUsage left left' taken taken' reads reads' writes writes' status → DoesAsAsked words limit left left' taken taken' reads reads' writes writes' status
-does_usage words limit left left' taken taken' reads reads' writes writes' status is run = record {
+pub does_usage : (words : List (List ℕ)) (limit : ℕ) (before after : Streams) (status : ℕ) → issuer_of words ≡ None →
+    IsUsage before after status → DoesAsAsked words limit before after status
+does_usage words limit before after status is run = record {
   run = rw is run;
   usage = λ two. ap (λ (o : Option Issuer). is_some o) is;
   read_fault = λ seven. let own = run.telling.told.others (λ eight. omega (arith, seven, eight)) in let two : status ≡ 2 = own.0 in absurd (omega (arith, seven, two));

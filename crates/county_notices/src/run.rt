@@ -1,17 +1,24 @@
-//! The top call.
-ghost use Rattle.std.specs.Prelude.{◌⊎◌, ◌≤◌, ◌<◌, ◌+◌, ◌^◌, IsTrue};
+//! The program `watch_notice`.
+ghost use Rattle.std.specs.Prelude.{◌≡◌, ◌≤◌, ◌<◌, ◌+◌, ◌^◌, IsTrue};
+ghost use Rattle.std.specs.Process.{exit_status};
 ghost use Rattle.hazard_types.specs.Characters.{is_office};
-ghost use Rattle.program_ends.specs.Words.{words_behind};
+ghost use Rattle.byte_streams.specs.Flows.{streams};
+ghost use Rattle.program_ends.specs.Lines.{most_bytes};
+ghost use Rattle.program_outside.specs.Starts.{IsUsageShown, Runs};
 ghost use Rattle.county_notices.specs.NoticeRuns.{DoesAsAsked, IsNoticeRun};
-ghost use Rattle.program_ends.specs.Ends.{IsUntouched};
 
 use crate::issuer::Issuer;
 use crate::notices::Notices;
 use crate::words::issuer_of;
-use desk_traits::{Sink, Source};
+use byte_streams::{Sink, Source};
 use hazard_types::{List, Text};
-use program_ends::{End, LIMIT, end_at_once, given_words, run_lines};
+use program_ends::{End, LIMIT, end_at_once, run_lines};
+use program_outside::Outside;
 use std::alloc::Global;
+use std::process::ExitCode;
+
+/// The words that the program takes.
+const USAGE: &str = "watch_notice OFFICE ZONE\n";
 
 /// Answers each line of an input of at most `limit` bytes by its notice or its refusal.
 fn answer_lines<S: Source, K: Sink>(
@@ -23,15 +30,16 @@ fn answer_lines<S: Source, K: Sink>(
 ) -> u8
     requires office { IsTrue (is_office issuer.office) }
     requires limit { limit + 1 < 2 ^ 64 }
-    ensures { IsNoticeRun issuer limit (S.left input.old) (S.left input.new)
-        (K.taken output.old) (K.taken output.new) (S.faults input.old) (S.faults input.new)
-        (K.faults output.old) (K.faults output.new) result }
+    ensures { IsNoticeRun issuer limit
+        (streams (S.inflow input.old) (K.outflow output.old))
+        (streams (S.inflow input.new) (K.outflow output.new)) result }
 {
     let mut notices = Notices::new(alloc, issuer);
     run_lines(alloc, limit, &mut notices, input, output)
 }
 
-/// Does what the words say, with an input of at most `limit` bytes, and returns the status of the program.
+/// Does what the words say, with an input of at most `limit` bytes, and returns the status of the
+/// program.
 pub fn notice_within<S: Source, K: Sink>(
     alloc: Global,
     words: &List<Text>,
@@ -39,10 +47,10 @@ pub fn notice_within<S: Source, K: Sink>(
     output: &mut K,
     limit: usize,
 ) -> u8
-    requires { limit ≤ 1073741824 }
-    ensures { DoesAsAsked words.now limit (S.left input.old) (S.left input.new)
-        (K.taken output.old) (K.taken output.new) (S.faults input.old) (S.faults input.new)
-        (K.faults output.old) (K.faults output.new) result }
+    requires { limit ≤ most_bytes }
+    ensures { DoesAsAsked words.now limit
+        (streams (S.inflow input.old) (K.outflow output.old))
+        (streams (S.inflow input.new) (K.outflow output.new)) result }
 {
     match issuer_of(words) {
         Some(issuer) => answer_lines(alloc, issuer, input, output, limit),
@@ -50,38 +58,51 @@ pub fn notice_within<S: Source, K: Sink>(
     }
 }
 
-/// Does what the words say: answers each line of an input of at most 1,073,741,824 bytes by its notice or
-/// its refusal, for an office and a zone. Returns the status of the program.
+/// Does what the words say: answers each line of an input of at most 1,073,741,824 bytes by its
+/// notice or its refusal, for an office and a zone. Returns the status of the program.
 pub fn notice_run<S: Source, K: Sink>(
     alloc: Global,
     words: &List<Text>,
     input: &mut S,
     output: &mut K,
 ) -> u8
-    ensures { DoesAsAsked words.now 1073741824 (S.left input.old) (S.left input.new)
-        (K.taken output.old) (K.taken output.new) (S.faults input.old) (S.faults input.new)
-        (K.faults output.old) (K.faults output.new) result }
+    ensures { DoesAsAsked words.now most_bytes
+        (streams (S.inflow input.old) (K.outflow output.old))
+        (streams (S.inflow input.new) (K.outflow output.new)) result }
 {
     notice_within(alloc, words, input, output, LIMIT)
 }
 
-/// Does what a command line says, of which the program's name comes first. When memory runs out for the
-/// words the status is 12, and nothing is read or written.
-pub fn run_program<S: Source, K: Sink>(
-    alloc: Global,
-    command_line: &[String],
-    input: &mut S,
-    output: &mut K,
-) -> u8
-    ensures { IsUntouched (S.left input.old) (S.left input.new) (K.taken output.old)
-        (K.taken output.new) (S.faults input.old) (S.faults input.new) (K.faults output.old)
-        (K.faults output.new) result
-        ⊎ DoesAsAsked (words_behind 1 command_line.now) 1073741824 (S.left input.old)
-        (S.left input.new) (K.taken output.old) (K.taken output.new) (S.faults input.old)
-        (S.faults input.new) (K.faults output.old) (K.faults output.new) result }
+/// Does what the words behind the program's name say. Where memory ran out for them, the status is
+/// 12, and nothing is read or written.
+fn run_words<S: Source, K: Sink, M>(outside: &mut Outside<S, K, M>) -> u8
+    ensures ran { Runs outside.old.words (λ words. DoesAsAsked words most_bytes)
+        (streams (S.inflow outside.old.input) (K.outflow outside.old.output))
+        (streams (S.inflow outside.new.input) (K.outflow outside.new.output)) result }
+    ensures silent { outside.new.messages ≡ outside.old.messages }
 {
-    match given_words(alloc, command_line, 1) {
-        Ok(words) => notice_run(alloc, &words, input, output),
+    match outside.given(1) {
+        Ok(words) => notice_run(
+            outside.alloc,
+            &words,
+            &mut outside.input,
+            &mut outside.output,
+        ),
         Err(_) => End::OutOfMemory.status(),
     }
+}
+
+/// The whole program: does what its command line says with its input and its output, and ends with
+/// the status of that run.
+pub fn run_program<S: Source, K: Sink, M: Sink>(outside: &mut Outside<S, K, M>) -> ExitCode
+    ensures ran { Runs outside.old.words (λ words. DoesAsAsked words most_bytes)
+        (streams (S.inflow outside.old.input) (K.outflow outside.old.output))
+        (streams (S.inflow outside.new.input) (K.outflow outside.new.output))
+        (exit_status result) }
+    ensures usage { IsUsageShown USAGE.now (exit_status result) (M.outflow outside.old.messages)
+        (M.outflow outside.new.messages) }
+{
+    let status = run_words(outside);
+    outside.show_usage(status, USAGE);
+    ExitCode::from(status)
 }

@@ -1,22 +1,10 @@
 //! The archive's report: `warn_archive OFFICE CLASS STAMP`.
 #![tactic(auto)]
 
-mod archive;
-
-use desk_traits::{StdSink, StdSource};
-use program_ends::{End, command_line, show_usage};
-use std::io;
+use archive_report::run_program;
+use program_outside::outside_of;
 use std::process::ExitCode;
 
-const USAGE: &str = "warn_archive OFFICE CLASS STAMP\n";
-
 fn main(rt: HostRuntime) -> ExitCode {
-    let Ok(words) = command_line(&rt) else {
-        return ExitCode::from(End::OutOfMemory.status());
-    };
-    let mut input = StdSource::new(rt.reader());
-    let mut output = StdSink::new(io::writer(&rt));
-    let status = archive::run_program(rt.alloc(), &words, &mut input, &mut output);
-    show_usage(&rt, status, USAGE);
-    ExitCode::from(status)
+    run_program(&mut outside_of(&rt))
 }

@@ -10,11 +10,11 @@ pub returns-in_err-tell_shown-clause-halted : goal.returns-in_err-tell_shown-cla
 returns-in_err-tell_shown-clause-halted g c =
     let minute = c.args.asked.now.minute in
     rw (stops_by c.from_residual.result c.in_err-tell_shown.field-0.0 c.from_residual.ensures.1)
-    (halts_longer (g.K.Sink.taken c.args.output.now) (g.K.Sink.taken c.tell_shown.new.output) c.args.out.now (shown_text minute (shown_at minute (rows_of c.args.tally.now.reader.products))) (last_line (count_listed c.args.tally.now))
+    (halts_longer (g.K.Sink.outflow c.args.output.now).taken (g.K.Sink.outflow c.tell_shown.new.output).taken c.args.out.now (shown_text minute (shown_at minute (rows_of c.args.tally.now.reader.products))) (last_line (count_listed c.args.tally.now))
     c.in_err-tell_shown.field-0.0 c.in_err-tell_shown.ensures.halted)
 
 pub returns-clause-halted : goal.returns-clause-halted
 returns-clause-halted g c =
     let minute = c.args.asked.now.minute in
-    if_err_weaker c.tell_last.result _ _ (λ why h. halts_then (g.K.Sink.taken c.args.output.now) (g.K.Sink.taken c.tell_shown.new.output) (g.K.Sink.taken c.tell_last.new.output) c.args.out.now c.tell_shown.new.out
+    if_err_weaker c.tell_last.result _ _ (λ why h. halts_then (g.K.Sink.outflow c.args.output.now).taken (g.K.Sink.outflow c.tell_shown.new.output).taken (g.K.Sink.outflow c.tell_last.new.output).taken c.args.out.now c.tell_shown.new.out
     (shown_text minute (shown_at minute (rows_of c.args.tally.now.reader.products))) (last_line (count_listed c.args.tally.now)) why c.in_ok-tell_shown.ensures.told (rw c.requires at h)) c.tell_last.ensures.halted

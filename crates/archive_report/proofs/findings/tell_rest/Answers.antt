@@ -10,5 +10,5 @@ returns-in_err-tell_end-clause-halted g c =
     let tally = c.args.tally.now in
     let why = c.in_err-tell_end.field-0.0 in
     rw (stops_by c.from_residual-in_err-tell_end.result why c.from_residual-in_err-tell_end.ensures.1)
-    (halts_then (g.K.Sink.taken c.args.output.now) (g.K.Sink.taken c.tell_findings.new.output) (g.K.Sink.taken c.tell_end.new.output) [] c.tell_findings.new.out (findings_text tally.numbers tally.reader.products) (end_text c.args.asked.now tally) why
+    (halts_then (g.K.Sink.outflow c.args.output.now).taken (g.K.Sink.outflow c.tell_findings.new.output).taken (g.K.Sink.outflow c.tell_end.new.output).taken [] c.tell_findings.new.out (findings_text tally.numbers tally.reader.products) (end_text c.args.asked.now tally) why
     (rw c.new-out.ensures at c.in_ok-listed.ensures.told) c.in_err-tell_end.ensures.halted)

@@ -5,7 +5,7 @@ use Rattle.archive_report.proofs.products.tell_products.Goals as goal
 pub returns-clause-halted : goal.returns-clause-halted
 returns-clause-halted g c =
     let text = c.as_slice.result.now in
-    let part = c.in-Err.ensures.part in
+    let part = c.in-Err.ensures.written.part in
     record {
       no_memory = λ e. absurd (cc);
       write_fault = λ _. (

@@ -12,5 +12,5 @@ tell_rest-requires-clause-numbered g c =
 
 pub returns-clause-run : goal.returns-clause-run
 returns-clause-run g c =
-    ends_rest c.args.asked.now c.args.limit c.tell_input.new.tally (g.S.Source.left c.args.input.now) (g.S.Source.left c.tell_input.new.input) (g.K.Sink.taken c.args.output.now) (g.K.Sink.taken c.tell_input.new.output) _ c.in_ok-tell_input.ensures.run
-    (g.K.Sink.taken c.tell_rest.new.output) c.tell_rest.result c.tell_rest.ensures.told c.tell_rest.ensures.count c.tell_rest.ensures.halted
+    ends_rest c.args.asked.now c.args.limit c.tell_input.new.tally (g.S.Source.inflow c.args.input.now).left (g.S.Source.inflow c.tell_input.new.input).left (g.K.Sink.outflow c.args.output.now).taken (g.K.Sink.outflow c.tell_input.new.output).taken _ c.in_ok-tell_input.ensures.run
+    (g.K.Sink.outflow c.tell_rest.new.output).taken c.tell_rest.result c.tell_rest.ensures.told c.tell_rest.ensures.count c.tell_rest.ensures.halted

@@ -1,0 +1,160 @@
+//! Sources and sinks in memory, which fail at exactly the calls that they are told, and a sink where
+//! memory lacks.
+ghost use Rattle.std.specs.Prelude.{◌≡◌, ◌≤◌, ◌↔◌, length, min, IfOk, OnErr, IsErr, Contains, [], false};
+ghost use Rattle.desk_traits.specs.Faults.{next_count};
+ghost use Rattle.byte_streams.specs.Flows.{Reads, Writes};
+ghost use Rattle.byte_streams.specs.StreamMemory.{FailsAsTold, inflow_of, outflow_of};
+
+use crate::streams::{Sink, Source};
+use desk_traits::Failed;
+use hazard_types::{List, Oom, Text};
+use std::alloc::Global;
+use std::marker::Model;
+
+/// Bytes in memory, given in pieces.
+#[derive(Debug, Drop)]
+pub struct MemSource {
+    bytes: Text,
+    at: usize,
+    piece: usize,
+    failing: List<u64>,
+    calls: u64,
+    faults: u64,
+}
+
+impl Model for MemSource {
+    ghost use Rattle.std.specs.Prelude.{◌≤◌, length, drop};
+    ghost use Rattle.byte_streams.specs.StreamMemory.{SourceInMemory};
+
+    ghost Value = { SourceInMemory };
+
+    ghost view = { λ s. record { left = drop s.at s.bytes; piece = s.piece; failing = s.failing; calls = s.calls; faults = s.faults } };
+
+    ghost invariant = { λ s. (s.at ≤ length s.bytes) × (1 ≤ s.piece) };
+}
+
+impl MemSource {
+    /// A source of these bytes that gives at most `piece` of them at once.
+    /// The calls whose numbers, counted from 1, are among the failing ones answer `Failed`.
+    pub fn new(alloc: Global, bytes: &[u8], piece: usize, failing: &List<u64>) -> Result<Self, Oom>
+        requires { 1 ≤ piece }
+        ensures { IfOk result (λ s. s ≡ record { left = bytes.now; piece = piece; failing = failing.now; calls = 0; faults = 0 }) }
+    {
+        Ok(MemSource {
+            bytes: List::from_slice(alloc, bytes)?,
+            at: 0,
+            piece,
+            failing: failing.clone()?,
+            calls: 0,
+            faults: 0,
+        })
+    }
+}
+
+impl Source for MemSource {
+    ghost inflow = { inflow_of };
+
+    ghost reads = { λ _ _. Unit {0} };
+
+    fn read(&mut self, into: &mut [u8]) -> Result<usize, Failed>
+        ensures read { Reads (inflow_of self.old) (inflow_of self.new) result into.new }
+        ensures counted { OnErr result (self.new.faults ≡ next_count self.old.faults) }
+        ensures beside { Unit {0} }
+
+        // It fails at exactly the listed calls, and gives all that a piece and the buffer may hold at
+        // the others.
+        ensures failing { IsErr result ↔ Contains self.old.failing (next_count self.old.calls) }
+        ensures amount { IfOk result (λ n. n ≡ min (min (length self.old.left) self.old.piece) (length into.old)) }
+        ensures called { self.new.calls ≡ next_count self.old.calls }
+        ensures kept { (self.new.failing ≡ self.old.failing) × (self.new.piece ≡ self.old.piece) }
+    {
+        self.calls = self.calls.saturating_add(1);
+        if self.failing.as_slice().contains(&self.calls) {
+            self.faults = self.faults.saturating_add(1);
+            return Err(Failed);
+        }
+        let rest = &self.bytes.as_slice()[self.at..];
+        let count = rest.len().min(self.piece).min(into.len());
+        into[..count].copy_from_slice(&rest[..count]);
+        self.at += count;
+        Ok(count)
+    }
+}
+
+/// Keeps what it takes.
+#[derive(Debug, Drop)]
+pub struct MemSink {
+    taken: Text,
+    failing: List<u64>,
+    calls: u64,
+    faults: u64,
+    lacked: bool,
+}
+
+impl Model for MemSink {
+    ghost use Rattle.byte_streams.specs.StreamMemory.{SinkInMemory};
+
+    ghost Value = { SinkInMemory };
+
+    ghost view = { λ s. record { taken = s.taken; failing = s.failing; calls = s.calls; faults = s.faults; lacked = s.lacked } };
+}
+
+impl MemSink {
+    /// A sink that has taken nothing.
+    /// The calls whose numbers, counted from 1, are among the failing ones answer `Failed`, and each for which
+    /// memory lacks.
+    pub fn new(alloc: Global, failing: &List<u64>) -> Result<Self, Oom>
+        ensures { IfOk result (λ s. s ≡ record { taken = []; failing = failing.now; calls = 0; faults = 0; lacked = false }) }
+    {
+        Ok(MemSink {
+            taken: List::new(alloc),
+            failing: failing.clone()?,
+            calls: 0,
+            faults: 0,
+            lacked: false,
+        })
+    }
+
+    /// The bytes that were taken.
+    pub fn taken(&self) -> &Text
+        ensures { result.now ≡ self.now.taken }
+    {
+        &self.taken
+    }
+}
+
+impl Sink for MemSink {
+    ghost outflow = { outflow_of };
+
+    ghost writes = { λ _ _. Unit {0} };
+
+    ghost no_writes = { λ _. tt };
+
+    ghost more_writes = { λ _ _ _ _ _. tt };
+
+    /// Takes the whole piece. A growth of its memory that is refused is a counted fault.
+    fn write(&mut self, bytes: &[u8]) -> Result<usize, Failed>
+        ensures written { Writes (outflow_of self.old) (outflow_of self.new) result bytes.now }
+        ensures counted { OnErr result (self.new.faults ≡ next_count self.old.faults) }
+        ensures beside { Unit {0} }
+
+        // It fails at exactly the listed calls, and where memory lacks, and takes the whole piece at
+        // the others.
+        ensures failing { FailsAsTold (Contains self.old.failing (next_count self.old.calls)) self.old.lacked self.new.lacked result }
+        ensures amount { IfOk result (λ n. n ≡ length bytes.now) }
+        ensures called { self.new.calls ≡ next_count self.old.calls }
+        ensures kept { self.new.failing ≡ self.old.failing }
+    {
+        self.calls = self.calls.saturating_add(1);
+        if self.failing.as_slice().contains(&self.calls) {
+            self.faults = self.faults.saturating_add(1);
+            return Err(Failed);
+        }
+        if self.taken.extend(bytes).is_err() {
+            self.faults = self.faults.saturating_add(1);
+            self.lacked = true;
+            return Err(Failed);
+        }
+        Ok(bytes.len())
+    }
+}

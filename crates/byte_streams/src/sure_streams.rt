@@ -1,0 +1,60 @@
+//! A source and a sink whose counts of faults can't rise.
+ghost use Rattle.std.specs.Prelude.{◌≡◌, ◌≤◌, None, Some, drop, length, IfOk};
+ghost use Rattle.byte_streams.specs.Flows.{inflow, outflow};
+
+use crate::streams::{Sink, Source};
+use desk_traits::Failed;
+use hazard_types::{List, Oom, Text};
+use std::alloc::Global;
+
+/// Bytes in memory. It tells them, and no read fails.
+#[derive(Debug, Drop)]
+pub struct SureSource {
+    bytes: Text,
+    at: usize,
+    ghost within: { at ≤ length bytes },
+}
+
+impl SureSource {
+    /// A source of these bytes.
+    pub fn new(alloc: Global, bytes: &[u8]) -> Result<Self, Oom>
+        ensures { IfOk result (λ source. ⟦<SureSource as Source>⟧.inflow source ≡ inflow (Some bytes.now) 0) }
+    {
+        Ok(SureSource {
+            bytes: List::from_slice(alloc, bytes)?,
+            at: 0,
+        })
+    }
+}
+
+impl Source for SureSource {
+    ghost inflow = { λ s. record { left = Some (drop s.at s.bytes); faults = 0 } };
+
+    ghost reads = { λ _ _. Unit {0} };
+
+    fn read(&mut self, into: &mut [u8]) -> Result<usize, Failed> {
+        let rest = &self.bytes.as_slice()[self.at..];
+        let count = rest.len().min(into.len());
+        into[..count].copy_from_slice(&rest[..count]);
+        self.at += count;
+        Ok(count)
+    }
+}
+
+/// Takes all and keeps nothing. It tells nothing, and no write fails.
+#[derive(Debug, Drop)]
+pub struct SureSink;
+
+impl Sink for SureSink {
+    ghost outflow = { λ _. record { taken = None; faults = 0 } };
+
+    ghost writes = { λ _ _. Unit {0} };
+
+    ghost no_writes = { λ _. tt };
+
+    ghost more_writes = { λ _ _ _ _ _. tt };
+
+    fn write(&mut self, bytes: &[u8]) -> Result<usize, Failed> {
+        Ok(bytes.len())
+    }
+}

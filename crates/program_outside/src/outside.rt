@@ -1,0 +1,50 @@
+//! What a program is started with.
+ghost use Rattle.std.specs.Prelude.{◌≡◌, ◌≢◌, IfOk};
+ghost use Rattle.program_outside.specs.Starts.{words_given, IsUsageShown};
+
+use byte_streams::{Sink, write_whole};
+use hazard_types::{List, Oom, Text};
+use program_ends::{End, given_words};
+use std::alloc::Global;
+
+/// What a program is started with: the words of its command line, of which its name comes first, or
+/// that memory ran out for them; its input; its output; and where messages to people go.
+#[derive(Drop)]
+pub struct Outside<S, K, M> {
+    pub alloc: Global,
+    pub words: Result<Vec<String>, Oom>,
+    pub input: S,
+    pub output: K,
+    pub messages: M,
+}
+
+impl<S, K, M> Outside<S, K, M> {
+    /// The words after the first `skipped`, as bytes.
+    ///
+    /// # Errors
+    ///
+    /// Out of memory, when the command line was read or here.
+    pub fn given(&self, skipped: usize) -> Result<List<Text>, Oom>
+        ensures { IfOk result (λ given. words_given self.now.words skipped given) }
+    {
+        match &self.words {
+            Ok(words) => given_words(self.alloc, words, skipped),
+            Err(_) => Err(Oom),
+        }
+    }
+}
+
+impl<S, K, M: Sink> Outside<S, K, M> {
+    /// Shows the usage where the status is that of words that are none of the program's. What can't
+    /// be written there is left out.
+    pub fn show_usage(&mut self, status: u8, usage: &str)
+        ensures shown { IsUsageShown usage.now status (M.outflow self.old.messages)
+            (M.outflow self.new.messages) }
+        ensures input { self.new.input ≡ self.old.input }
+        ensures output { self.new.output ≡ self.old.output }
+    {
+        if status == End::Usage.status() {
+            let _ = write_whole(&mut self.messages, usage.as_bytes());
+        }
+    }
+}
