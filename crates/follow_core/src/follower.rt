@@ -7,8 +7,8 @@ ghost use Rattle.follow_core.specs.Hearing.{place_of, answer_to, having_heard};
 ghost use Rattle.follow_core.specs.Schedule.{Event, Delivered, run, begun, answer_at, HasLostNothing};
 
 use hazard_types::{Class, List, Minute, Oom, Or, Row};
-use product_decoder::{Reader, decode};
-use product_frame::FrameFault;
+use product_decoder::Reader;
+use product_frame::{FrameFault, read_frame};
 use std::alloc::Global;
 use std::marker::Model;
 
@@ -82,8 +82,8 @@ impl Follower {
         if after != self.place {
             return Ok(Heard::Old);
         }
-        let decoded = decode(alloc, text)?;
-        self.reader.take(alloc, &decoded)?;
+        let frame = read_frame(alloc, text)?;
+        self.reader.take_frame(alloc, &frame)?;
         self.place += 1;
         Ok(Heard::New)
     }

@@ -6,4 +6,4 @@ pub returns-then-after-self-clause-scheduled : goal.returns-then-after-self-clau
 returns-then-after-self-clause-scheduled c = goes_on c.args.self.now c.args.self.now c.args.after c.args.text.now (search rules)
 
 pub returns-clause-scheduled : goal.returns-clause-scheduled
-returns-clause-scheduled c = goes_on c.args.self.now c.take.new.self c.args.after c.args.text.now (search rules)
+returns-clause-scheduled c = goes_on c.args.self.now c.take_frame.new.self c.args.after c.args.text.now (search rules)
