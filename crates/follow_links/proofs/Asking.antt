@@ -1,9 +1,9 @@
 -- One ask, by what became of it.
 use Rattle.std.proofs.Common.{◌≡◌, ◌∙◌, ◌≤◌, inl, inr, ℕ, Bool, List, [], take, drop, Option, Result, Ok, Err, refl, sym, ap, arith, subst, append-nil}
 use Rattle.std.proofs.lemmas.List.{take-append-drop}
-use Rattle.desk_links.specs.Links.{Inflow, LinkState, Outflow}
+use Rattle.desk_links.specs.Links.{LinkState}
 use Rattle.desk_traits.specs.Faults.{Rose}
-use Rattle.desk_traits.specs.Streams.{Takes, Adds}
+use Rattle.byte_streams.specs.Flows.{Takes, Adds, Inflow, Outflow}
 use Rattle.product_decoder.specs.ReaderModel.{Reading}
 use Rattle.follow_core.specs.Hearing.{place_of}
 use Rattle.follow_links.specs.Readings.{ReadsAnswer, IsCause}

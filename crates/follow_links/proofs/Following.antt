@@ -1,5 +1,6 @@
 -- A whole run.
-use Rattle.std.proofs.Common.{◌≡◌, ◌∙◌, ℕ, List, [], Option, ap, arith, subst}
+use Rattle.std.proofs.Common.{◌≡◌, ◌∙◌, ℕ, List, [], ap, arith, subst}
+use Rattle.byte_streams.specs.Flows.{Outflow}
 use Rattle.desk_links.specs.Links.{DialerState}
 use Rattle.hazard_types.specs.declared.codes.Class.{Class}
 use Rattle.hazard_types.specs.declared.line.Row.{Row}
@@ -20,11 +21,11 @@ first_is f asked o c p =
     ∙ (ap (λ (class : Class). record { office = asked.office; class = class; products = f.products }) c
     ∙ ap (λ (products : List Product). record { office = asked.office; class = asked.class; products = products }) p)
 
-pub followed : (asked : Asked) (first last : DialerState) (told told' : Option (List ℕ)) (before now status : ℕ) (f new : Reading) (stop : Stop)
+pub followed : (asked : Asked) (first last : DialerState) (before after : Outflow) (status : ℕ) (f new : Reading) (stop : Stop)
     → f ≡ first_of asked → Courses first last f new asked.rounds stop
-    → IsToldAt stop (place_of new) asked.minute (shown_at asked.minute (rows_of new.products)) told told' before now status
-    → IsFollowed asked first last told told' before now status
-followed asked first last told told' before now status f new stop is course h =
+    → IsToldAt stop (place_of new) asked.minute (shown_at asked.minute (rows_of new.products)) before after status
+    → IsFollowed asked first last before after status
+followed asked first last before after status f new stop is course h =
     let whole : Courses first last (first_of asked) new asked.rounds stop =
     subst (λ (g : Reading). Courses first last g new asked.rounds stop) is course in
     let texts = texts_in whole.turns in
@@ -34,7 +35,7 @@ followed asked first last told told' before now status f new stop is course h =
       stop = stop;
       follower = new;
       course = whole;
-      ends = subst (λ (n : ℕ). IsToldAt stop n asked.minute (rows_shown asked texts) told told' before now status) (omega (arith, whole.place))
-          (subst (λ (rs : List Row). IsToldAt stop (place_of new) asked.minute rs told told' before now status) rows h);
+      ends = subst (λ (n : ℕ). IsToldAt stop n asked.minute (rows_shown asked texts) before after status) (omega (arith, whole.place))
+          (subst (λ (rs : List Row). IsToldAt stop (place_of new) asked.minute rs before after status) rows h);
       spent = λ s. omega (arith, whole.spent s, spends whole.turns (subst (EndsAs whole.turns) s whole.ends));
     }

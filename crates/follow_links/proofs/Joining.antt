@@ -2,7 +2,7 @@
 use Rattle.std.proofs.Common.{◌≡◌, ◌∙◌, ◌≤◌, ◌+◌, ℕ, List, [], ◌++◌, Option, Some, None, refl, sym, ap, arith, append_assoc, append-nil}
 use Rattle.std.specs.Prelude.{option_map}
 use Rattle.desk_traits.specs.Faults.{Rose}
-use Rattle.desk_traits.specs.Streams.{Takes, Adds}
+use Rattle.byte_streams.specs.Flows.{Takes, Adds}
 use Rattle.desk_links.specs.Links.{IsNone}
 use Rattle.follow_links.specs.Rounds.{IsWritten, RoseBy}
 

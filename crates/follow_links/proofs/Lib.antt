@@ -1,4 +1,3 @@
-mod Ports
 mod Sizes
 mod Lasts
 mod Joining

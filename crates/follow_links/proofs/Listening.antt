@@ -1,11 +1,7 @@
 -- What is read of an answer, step by step.
 use Rattle.std.proofs.Common.{◌≡◌, ◌∙◌, ◌≤◌, ◌<◌, ◌+◌, ◌⊎◌, inl, inr, true, ℕ, List, [], ◌∷◌, ◌++◌, length, take, drop, Option, Some, Ok, Err, refl, sym, ap, arith, subst, append-nil, length-append}
-use Rattle.std.proofs.lemmas.List.{take-append-drop}
-use Rattle.desk_traits.specs.Faults.{Rose}
-use Rattle.desk_traits.specs.Streams.{Takes}
+use Rattle.byte_streams.specs.Flows.{Takes}
 use Rattle.httparse.specs.Grammar.{ResponseHead, print_response, ReadsResponse, HasNoResponse, MayBecomeResponse}
-use Rattle.program_ends.specs.declared.ends.End.TheVariants.{WriteFault}
-use Rattle.program_ends.specs.Ends.{HasWritten}
 use Rattle.follow_links.specs.Answers.{HasBadHead, WasCutHead, IsFront, is_known}
 use Rattle.follow_links.specs.Readings.{HasShape, Says, Gains, ReadsMore, ReadsBody, ReadsHead, ReadsAnswer}
 use Rattle.follow_links.specs.declared.answers.Head.TheVariants.{Bad, Whole}
@@ -87,9 +83,3 @@ answer_stops left mid end bytes new s miss.Failed head h =
     )
 answer_stops left mid end bytes new s miss.Bad head h = absurd h
 answer_stops left mid end bytes new s miss.OutOfMemory head h = (bytes ++ h.0, takes_more left mid end bytes h.0 head.0 h.1)
-
-pub front_written : (text : List ℕ) (n before now : ℕ) → Rose before now → HasWritten text (take n text) before now (Some WriteFault)
-front_written text n before now rose = record {
-  whole = λ h. absurd (h refl);
-  cut = λ h. (rose, (drop n text, sym (take-append-drop n text)));
-}

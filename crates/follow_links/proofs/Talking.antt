@@ -8,7 +8,7 @@ use Rattle.follow_links.specs.Answers.{Answer}
 use Rattle.follow_links.specs.Talks.{IsText, Onward, IsClosed, IsTalk, ask, bodies, after_all}
 use Rattle.follow_links.specs.declared.talk.LinkEnd.{LinkEnd}
 use Rattle.desk_links.specs.Links.{LinkState}
-use Rattle.desk_traits.specs.Streams.{Takes, Adds}
+use Rattle.byte_streams.specs.Flows.{Takes, Adds}
 use Rattle.follow_links.specs.Rounding.{HasFailed, IsAsk, IsLater, RoseIfFailed, Talks}
 use Rattle.follow_links.specs.Talks.{Leaves, asks_in}
 use Rattle.follow_links.specs.declared.talk.LinkEnd.TheVariants.{Spent, Closed, Failed, Ended, Bad, OutOfMemory}

@@ -4,7 +4,7 @@ use Rattle.std.specs.Prelude.{option_map}
 use Rattle.std.specs.List.{AllByRecursion}
 use Rattle.std.proofs.lemmas.List.{length-map, length-take}
 use Rattle.desk_traits.specs.Faults.{Rose}
-use Rattle.desk_traits.specs.Streams.{Takes}
+use Rattle.byte_streams.specs.Flows.{Takes}
 use Rattle.desk_links.specs.Links.{DialerState, IsNew, LinkState, faults_of, with_count, with_one}
 use Rattle.product_decoder.specs.ReaderModel.{Reading}
 use Rattle.follow_core.specs.Hearing.{place_of}

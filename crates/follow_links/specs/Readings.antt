@@ -1,7 +1,7 @@
 -- What the parts of a reading say of the bytes that were read.
 use Rattle.std.specs.Prelude.{◌≡◌, ◌≤◌, ◌<◌, ◌⊎◌, ◌++◌, ℕ, true, List, [], length, Option, Some, Result, Ok, Err, IsErrOf}
 use Rattle.desk_traits.specs.Faults.{Rose}
-use Rattle.desk_traits.specs.Streams.{Takes}
+use Rattle.byte_streams.specs.Flows.{Takes}
 use Rattle.httparse.specs.Grammar.{ResponseHead, print_response, ReadsResponse, HasNoResponse, NeverHasResponse, MayBecomeResponse, status_code}
 use Rattle.follow_links.specs.Answers.{fields_of, length_in, is_known, closes, IsBadlyHeaded, HasBadHead, IsFront, IsAnswer}
 use Rattle.follow_links.specs.declared.answers.Head.{Head}

@@ -2,7 +2,7 @@
 use Rattle.std.specs.Prelude.{◌≡◌, ◌≢◌, ◌≤◌, ◌⊎◌, ◌+◌, ℕ, Bool, List, length, Result, Ok, Err, IsErrOf}
 use Rattle.desk_links.specs.Links.{LinkState}
 use Rattle.desk_traits.specs.Faults.{Rose}
-use Rattle.desk_traits.specs.Streams.{Takes, Adds}
+use Rattle.byte_streams.specs.Flows.{Takes, Adds}
 use Rattle.product_decoder.specs.ReaderModel.{Reading}
 use Rattle.follow_core.specs.Hearing.{place_of, having_heard}
 use Rattle.follow_links.specs.Answers.{Answer}

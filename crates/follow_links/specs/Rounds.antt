@@ -1,7 +1,7 @@
 -- The rounds of a run, over one link after another.
 use Rattle.std.specs.Prelude.{◌≡◌, ◌≤◌, ◌⊎◌, ◌++◌, ◌+◌, ◌-◌, ◌^◌, min, ℕ, List, [], ◌∷◌, length, Option, Some, None, option_map}
 use Rattle.desk_links.specs.Links.{DialerState, LinkState}
-use Rattle.desk_traits.specs.Streams.{Takes}
+use Rattle.byte_streams.specs.Flows.{Takes}
 use Rattle.product_decoder.specs.ReaderModel.{Reading}
 use Rattle.follow_core.specs.Hearing.{place_of}
 use Rattle.follow_links.specs.Answers.{Answer}

@@ -1,7 +1,7 @@
 -- What a run tells, and its status.
 use Rattle.std.specs.Prelude.{◌≡◌, ◌≢◌, ◌++◌, ℕ, List, length, codes, decimal, Option}
 use Rattle.desk_traits.specs.Faults.{Rose}
-use Rattle.desk_traits.specs.Streams.{Adds}
+use Rattle.byte_streams.specs.Flows.{Adds, Outflow}
 use Rattle.hazard_types.specs.Calendar.{stamp_of}
 use Rattle.hazard_types.specs.declared.line.Row.{Row}
 use Rattle.board_text.specs.Rows.{board_text}
@@ -31,9 +31,12 @@ memory_line = codes "fault OutOfMemory\n"
 abbrev pub usage_line : List ℕ
 usage_line = codes "fault Usage\n"
 
--- This text was told, and the status is its own. With status 8 the output's count rose, and what was written is cut somewhere, with the line of the write fault behind it.
-pub record IsToldAs (text : List ℕ) (own : ℕ) (taken taken' : Option (List ℕ)) (before now status : ℕ) : Type 0 where
+-- This text was told, and the status is its own. With status 8 the output's count rose, and what was
+-- written is cut somewhere, with the line of the write fault behind it.
+pub record IsToldAs (text : List ℕ) (own : ℕ) (before after : Outflow) (status : ℕ) : Type 0 where
   pub written : List ℕ
-  pub adds : Adds taken taken' written
-  pub whole : status ≢ 8 → (status ≡ own) × (now ≡ before) × (written ≡ text)
-  pub cut : status ≡ 8 → Rose before now × IsCut text written before now
+  pub adds : Adds before.taken after.taken written
+  pub whole : status ≢ 8
+      → (status ≡ own) × (after.faults ≡ before.faults) × (written ≡ text)
+  pub cut : status ≡ 8
+      → Rose before.faults after.faults × IsCut text written before.faults after.faults

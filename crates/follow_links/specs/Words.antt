@@ -1,6 +1,5 @@
 -- The words of a command line.
-use Rattle.std.specs.Prelude.{ℕ, List, [], ◌∷◌, if◌then◌else◌, Option, Some, None, option_map, slice_get, String, string_bytes}
-use Rattle.std.specs.declared.alloc.Global.{Global}
+use Rattle.std.specs.Prelude.{ℕ, List, [], ◌∷◌, if◌then◌else◌, Option, Some, None}
 use Rattle.hazard_types.specs.Calendar.{stamp_at}
 use Rattle.hazard_types.specs.Codes.{value_beside}
 use Rattle.hazard_types.specs.Tables.{class_rows}
@@ -21,17 +20,3 @@ asked_by office (Some c) (Some m) (Some p) (Some r) = Some (record { office = of
 unfoldable pub asked_of : List (List ℕ) → Option Asked
 asked_of (a ∷ b ∷ c ∷ d ∷ e ∷ []) = if is_office a then asked_by a (value_beside class_rows b) (stamp_at c) (count_in 65535 d) (count_in 100000 e) else None
 asked_of _ = None
-
--- the number, or 0 where there is none
-abbrev pub or_zero : Option ℕ → ℕ
-or_zero None = 0
-or_zero (Some n) = n
-
--- the port that a word names, or 0
-abbrev pub port_named : Option (List ℕ) → ℕ
-port_named None = 0
-port_named (Some word) = or_zero (count_in 65535 word)
-
--- the port that a command line names, of which the program's name comes first
-abbrev pub port_in : List (String Global) → ℕ
-port_in words = port_named (option_map string_bytes (slice_get words 4))

@@ -4,6 +4,7 @@
 mod answers;
 mod asks;
 mod fields;
+mod network;
 mod reading;
 mod rounds;
 mod run;
@@ -11,5 +12,5 @@ mod talk;
 mod telling;
 mod words;
 
+pub use network::{HostNetwork, Network};
 pub use run::{follow_run, run_program};
-pub use words::port_in;

@@ -1,7 +1,7 @@
 //! One answer is read off a link, and nothing behind it.
 ghost use Rattle.std.specs.Prelude.{◌≡◌, ◌≤◌, ◌<◌, [], length, take, IfOk, OnOk, OnErr};
 ghost use Rattle.desk_traits.specs.Faults.{HasCause};
-ghost use Rattle.desk_traits.specs.Streams.{Takes};
+ghost use Rattle.byte_streams.specs.Flows.{Takes};
 ghost use Rattle.desk_links.specs.Links.{KeepsOutput};
 ghost use Rattle.follow_links.specs.Readings.{ReadsMore, ReadsBody, ReadsHead, ReadsAnswer, IsCause};
 

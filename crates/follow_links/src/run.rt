@@ -1,22 +1,30 @@
-//! The top call.
-ghost use Rattle.std.specs.Prelude.{◌≡◌, ◌⊎◌, ◌<◌, ◌+◌, ◌^◌, IfOk};
+//! The program `warn_follow`.
+ghost use Rattle.std.specs.Prelude.{◌≡◌, ◌<◌, ◌+◌, ◌^◌, IfOk};
 ghost use Rattle.event_life.specs.Products.{rows_of};
 ghost use Rattle.event_life.specs.Shown.{shown_at};
 ghost use Rattle.follow_core.specs.Hearing.{place_of};
-ghost use Rattle.program_ends.specs.Words.{words_behind};
-ghost use Rattle.follow_links.specs.Runs.{IsToldAt, Follows, IsFollowed, IsUnbegun, text_of, status_of};
+ghost use Rattle.std.specs.Process.{exit_status};
+ghost use Rattle.program_outside.specs.Starts.{IsUsageShown, Starts};
+ghost use Rattle.follow_links.specs.Words.{asked_of};
+ghost use Rattle.follow_links.specs.Runs.{Follows, FollowsOver, IsFollowed, IsToldAt, IsUnbegun, text_of, status_of};
 
+use crate::network::Network;
 use crate::rounds::{Stop, follow_rounds};
 use crate::telling::{bad_line, report, tell};
 use crate::words::{Asked, asked_of};
+use byte_streams::Sink;
 use desk_links::Dialer;
-use desk_traits::Sink;
 use follow_core::Follower;
 use hazard_types::{List, Minute, Oom, Text};
-use program_ends::{End, given_words};
+use program_ends::End;
+use program_outside::Outside;
 use std::alloc::Global;
+use std::process::ExitCode;
 
-const USAGE: u8 = 2;
+/// The words that the program takes.
+const USAGE: &str = "warn_follow OFFICE CLASS STAMP PORT ROUNDS\n";
+
+const USAGE_STATUS: u8 = 2;
 
 const OUT_OF_MEMORY: u8 = 12;
 
@@ -58,7 +66,9 @@ fn tell_stop<K: Sink>(
     stop: Stop,
     output: &mut K,
 ) -> u8
-    ensures { IsToldAt stop (place_of follower.now) minute (shown_at minute (rows_of follower.now.products)) (K.taken output.old) (K.taken output.new) (K.faults output.old) (K.faults output.new) result }
+    ensures { IsToldAt stop (place_of follower.now) minute
+        (shown_at minute (rows_of follower.now.products))
+        (K.outflow output.old) (K.outflow output.new) result }
 {
     match text_at(alloc, follower, minute, stop) {
         Ok(text) => tell(output, text.as_slice(), stop.status()),
@@ -72,14 +82,15 @@ fn follow<D: Dialer, K: Sink>(alloc: Global, asked: &Asked, dialer: &mut D, outp
     requires few { (D.state dialer.old).returned + asked.now.rounds < 2 ^ 32 }
     ensures back { (D.state dialer.new).given ≡ (D.state dialer.new).returned }
     ensures followed { IsFollowed asked.now (D.state dialer.old) (D.state dialer.new)
-        (K.taken output.old) (K.taken output.new) (K.faults output.old) (K.faults output.new) result }
+        (K.outflow output.old) (K.outflow output.new) result }
 {
     let mut follower = Follower::new(alloc, asked.office, asked.class);
     let stop = follow_rounds(alloc, dialer, &mut follower, asked.rounds);
     tell_stop(alloc, &follower, asked.minute, stop, output)
 }
 
-/// Does what the words `OFFICE CLASS STAMP PORT ROUNDS` say over a dialer, and returns the status of the program.
+/// Does what the words `OFFICE CLASS STAMP PORT ROUNDS` say over a dialer, and returns the status of
+/// the program.
 pub fn follow_run<D: Dialer, K: Sink>(
     alloc: Global,
     words: &List<Text>,
@@ -90,32 +101,65 @@ pub fn follow_run<D: Dialer, K: Sink>(
     requires few { (D.state dialer.old).returned + 100000 < 2 ^ 32 }
     ensures back { (D.state dialer.new).given ≡ (D.state dialer.new).returned }
     ensures follows { Follows words.now (D.state dialer.old) (D.state dialer.new)
-        (K.taken output.old) (K.taken output.new) (K.faults output.old) (K.faults output.new) result }
+        (K.outflow output.old) (K.outflow output.new) result }
 {
     let Some(asked) = asked_of(words) else {
-        return tell(output, b"fault Usage\n", USAGE);
+        return tell(output, b"fault Usage\n", USAGE_STATUS);
     };
     follow(alloc, &asked, dialer, output)
 }
 
-/// Does what a command line says, of which the program's name comes first. Out of memory for the words,
-/// the status is 12, and nothing is dialed or written.
-pub fn run_program<D: Dialer, K: Sink>(
+/// Does what the words say, over a dialer of the port that they name. Other words make no dialer.
+fn follow_words<N: Network, K: Sink>(
     alloc: Global,
-    command_line: &[String],
-    dialer: &mut D,
+    words: &List<Text>,
+    network: &mut N,
     output: &mut K,
 ) -> u8
-    requires none_out { (D.state dialer.old).given ≡ (D.state dialer.old).returned }
-    requires few { (D.state dialer.old).returned + 100000 < 2 ^ 32 }
-    ensures back { (D.state dialer.new).given ≡ (D.state dialer.new).returned }
-    ensures follows { IsUnbegun (D.state dialer.old) (D.state dialer.new)
-        (K.taken output.old) (K.taken output.new) (K.faults output.old) (K.faults output.new) result
-        ⊎ Follows (words_behind 1 command_line.now) (D.state dialer.old) (D.state dialer.new)
-        (K.taken output.old) (K.taken output.new) (K.faults output.old) (K.faults output.new) result }
+    ensures { FollowsOver N.dials N.Dialer.state (asked_of words.now) network.old network.new
+        (K.outflow output.old) (K.outflow output.new) result }
 {
-    match given_words(alloc, command_line, 1) {
-        Ok(words) => follow_run(alloc, &words, dialer, output),
+    let Some(asked) = asked_of(words) else {
+        return tell(output, b"fault Usage\n", USAGE_STATUS);
+    };
+    let mut dialer = network.dialer(asked.port);
+    follow(alloc, &asked, &mut dialer, output)
+}
+
+/// Does what the words behind the program's name say. Where memory ran out for them, the status is
+/// 12, and nothing is dialed or written.
+fn run_words<S, K: Sink, M, N: Network>(outside: &mut Outside<S, K, M>, network: &mut N) -> u8
+    ensures ran { Starts outside.old.words 1
+        ((network.new ≡ network.old)
+        × IsUnbegun (K.outflow outside.old.output) (K.outflow outside.new.output) result)
+        (λ words. FollowsOver N.dials N.Dialer.state (asked_of words) network.old network.new
+        (K.outflow outside.old.output) (K.outflow outside.new.output) result) }
+    ensures unread { outside.new.input ≡ outside.old.input }
+    ensures silent { outside.new.messages ≡ outside.old.messages }
+{
+    match outside.given(1) {
+        Ok(words) => follow_words(outside.alloc, &words, network, &mut outside.output),
         Err(_) => End::OutOfMemory.status(),
     }
+}
+
+/// The whole program: does what its command line says, over a dialer of the port that it names, with
+/// its output, and ends with the status of that run. It reads nothing of its input.
+pub fn run_program<S, K: Sink, M: Sink, N: Network>(
+    outside: &mut Outside<S, K, M>,
+    network: &mut N,
+) -> ExitCode
+    ensures ran { Starts outside.old.words 1
+        ((network.new ≡ network.old)
+        × IsUnbegun (K.outflow outside.old.output) (K.outflow outside.new.output)
+        (exit_status result))
+        (λ words. FollowsOver N.dials N.Dialer.state (asked_of words) network.old network.new
+        (K.outflow outside.old.output) (K.outflow outside.new.output) (exit_status result)) }
+    ensures unread { outside.new.input ≡ outside.old.input }
+    ensures usage { IsUsageShown USAGE.now (exit_status result) (M.outflow outside.old.messages)
+        (M.outflow outside.new.messages) }
+{
+    let status = run_words(outside, network);
+    outside.show_usage(status, USAGE);
+    ExitCode::from(status)
 }

@@ -1,6 +1,5 @@
 //! What a run tells.
 ghost use Rattle.std.specs.Prelude.{◌≡◌, ◌≢◌, ◌++◌, ◌⊎◌, ℕ, List as Seq, None, Some, IfOk, OnOk};
-ghost use Rattle.desk_traits.specs.Streams.{Adds};
 ghost use Rattle.program_ends.specs.Ends.{HasWritten};
 ghost use Rattle.event_life.specs.Products.{rows_of};
 ghost use Rattle.event_life.specs.Shown.{shown_at};
@@ -8,7 +7,7 @@ ghost use Rattle.follow_core.specs.Hearing.{place_of};
 ghost use Rattle.follow_links.specs.Telling.{IsToldAs, bad_line, report, place_line, shown_front};
 
 use board_text::put_board;
-use desk_traits::{Sink, write_whole};
+use byte_streams::{Sink, write_whole};
 use follow_core::Follower;
 use hazard_types::{Minute, Oom, Text, put_number, stamp};
 use program_ends::{End, end_run};
@@ -16,7 +15,8 @@ use std::alloc::Global;
 
 /// Writes a text, or a front of it before a fault.
 fn write_text<K: Sink>(output: &mut K, text: &[u8]) -> Option<End>
-    ensures written { (written : Seq ℕ) × Adds (K.taken output.old) (K.taken output.new) written × HasWritten text.now written (K.faults output.old) (K.faults output.new) result }
+    ensures written { (written : Seq ℕ)
+        × HasWritten text.now written (K.outflow output.old) (K.outflow output.new) result }
     ensures ends { (result ≡ None) ⊎ (result ≡ Some End.WriteFault) }
 {
     match write_whole(output, text) {
@@ -25,10 +25,10 @@ fn write_text<K: Sink>(output: &mut K, text: &[u8]) -> Option<End>
     }
 }
 
-/// Writes what a run tells, and answers its status, or that of a write fault.
+/// Writes what a run tells, and returns its status, or that of a write fault.
 pub fn tell<K: Sink>(output: &mut K, text: &[u8], status: u8) -> u8
     requires { status ≢ 8 }
-    ensures { IsToldAs text.now status (K.taken output.old) (K.taken output.new) (K.faults output.old) (K.faults output.new) result }
+    ensures { IsToldAs text.now status (K.outflow output.old) (K.outflow output.new) result }
 {
     let end = write_text(output, text);
     let ended = end_run(output, end);

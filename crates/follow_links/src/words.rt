@@ -1,7 +1,6 @@
 //! The words of the command line.
 ghost use Rattle.std.specs.Prelude.{◌≡◌, ◌≤◌, IfSome};
-ghost use Rattle.program_ends.specs.Words.{words_behind};
-ghost use Rattle.follow_links.specs.Words.{asked_of, port_in};
+ghost use Rattle.follow_links.specs.Words.{asked_of};
 
 use hazard_types::{Class, List, Minute, Text, classes, find, read_stamp};
 use program_ends::{count_in, office_of};
@@ -37,23 +36,4 @@ pub fn asked_of(words: &List<Text>) -> Option<Asked>
         port: port as u16,
         rounds: rounds as u32,
     })
-}
-
-/// The port that the fifth word names, or 0.
-fn port_named(command_line: &[String]) -> u16
-    ensures { result ≡ port_in command_line.now }
-{
-    match command_line.get(4) {
-        Some(word) => count_in(word.as_bytes(), 65_535).unwrap_or(0) as u16,
-        None => 0,
-    }
-}
-
-/// The port that a command line names behind the program's name, the office, the class and the stamp; 0 where it names none.
-pub fn port_in(command_line: &[String]) -> u16
-    ensures value { result ≡ port_in command_line.now }
-    // Where the words are in form, it is the port that they ask for.
-    ensures asked { IfSome (asked_of (words_behind 1 command_line.now)) (λ asked. asked.port ≡ result) }
-{
-    port_named(command_line)
 }

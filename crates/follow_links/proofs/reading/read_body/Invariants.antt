@@ -1,5 +1,5 @@
 use Rattle.std.proofs.Common.{◌≡◌, ◌≤◌, ◌++◌, ◌-◌, ℕ, List, length}
-use Rattle.desk_traits.specs.Streams.{Takes}
+use Rattle.byte_streams.specs.Flows.{Takes}
 use Rattle.desk_links.specs.Links.{KeepsOutput}
 use Rattle.follow_links.proofs.reading.read_body.Given as goal
 

@@ -3,7 +3,7 @@ use Rattle.httparse.specs.Grammar.{HasNoResponse}
 use Rattle.follow_links.proofs.Joining.{takes_none}
 use Rattle.follow_links.proofs.Listening.{head_stops, byte_taken, few_more, was_cut, bad_head, whole_head}
 use Rattle.follow_links.proofs.Sizes.{none_in_nothing}
-use Rattle.desk_traits.specs.Streams.{Takes}
+use Rattle.byte_streams.specs.Flows.{Takes}
 use Rattle.follow_links.proofs.reading.read_head.Goals as goal
 
 pub loop-link-init : goal.loop-link-init

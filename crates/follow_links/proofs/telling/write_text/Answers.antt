@@ -1,8 +1,9 @@
 use Rattle.std.proofs.Common.{take}
-use Rattle.follow_links.proofs.Listening.{front_written}
+use Rattle.program_ends.proofs.Telling.{has_cut}
 use Rattle.follow_links.proofs.telling.write_text.Goals as goal
 
 pub returns-in-Err-clause-written : goal.returns-in-Err-clause-written
 returns-in-Err-clause-written g c =
-    let p = c.in-Err.ensures.part in
-    (take p.0 c.args.text.now, p.2, front_written c.args.text.now p.0 (g.K.Sink.faults c.args.output.now) (g.K.Sink.faults c.write_whole.new.sink) c.in-Err.ensures.cause.failed)
+    let written = c.in-Err.ensures.written in
+    let part = written.part in
+    (take part.0 c.args.text.now, has_cut c.args.text.now part.0 (g.K.Sink.outflow c.args.output.now) (g.K.Sink.outflow c.write_whole.new.sink) part.2 written.cause.failed)

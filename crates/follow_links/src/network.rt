@@ -1,0 +1,43 @@
+//! The network in which a follower dials.
+ghost use Rattle.std.specs.Prelude.{◌≡◌, ℕ};
+
+use desk_links::{Dialer, TcpDialer};
+use std::net::{Net, TcpListener, TcpStream};
+use std::time::Clock;
+
+/// Makes dialers of the ports of this machine.
+pub trait Network {
+    type Dialer: Dialer + Drop;
+
+    /// Asking for the dialer of a port gave this one, and left this.
+    ghost dials: { Self → ℕ → Self.Dialer → Self → Type 0 };
+
+    /// A dialer of that port, which has given no link yet.
+    fn dialer(&mut self, port: u16) -> Self::Dialer
+        ensures dials { dials self.old port result self.new }
+        ensures none_given { (Self.Dialer.state result).given ≡ 0 }
+        ensures none_returned { (Self.Dialer.state result).returned ≡ 0 };
+}
+
+/// The network of the system. It is trusted.
+#[derive(Drop)]
+pub struct HostNetwork<R> {
+    net: R,
+}
+
+impl<R> HostNetwork<R> {
+    pub fn new(net: R) -> Self {
+        HostNetwork { net }
+    }
+}
+
+impl<R: Net<Listener = TcpListener, Stream = TcpStream> + Clock + Copy + Send + Drop> Network
+    for HostNetwork<R> {
+    type Dialer = TcpDialer<R>;
+
+    ghost dials = { λ _ _ _ _. Unit {0} };
+
+    fn dialer(&mut self, port: u16) -> TcpDialer<R> {
+        TcpDialer::new(self.net, port)
+    }
+}
