@@ -1,9 +1,5 @@
 -- A drill's run, request by request.
-use Rattle.std.proofs.Common.{◌≡◌, ◌≤◌, ◌<◌, ◌+◌, ◌-◌, Result, Ok, Err, IfOk, ℕ, suc, List, ◌∷◌, refl, ap, sym, subst, arith, take, drop, None, Some}
-use Rattle.std.proofs.lemmas.List.{take-append-drop}
-use Rattle.desk_traits.specs.Faults.{Rose}
-use Rattle.program_ends.specs.Ends.{HasWritten}
-use Rattle.program_ends.specs.declared.ends.End.TheVariants.{WriteFault}
+use Rattle.std.proofs.Common.{◌≡◌, ◌≤◌, ◌<◌, ◌+◌, ◌-◌, Result, Ok, Err, IfOk, ℕ, suc, List, ◌∷◌, refl, ap, sym, subst, arith}
 use Rattle.desk_drill.specs.Draws.{next_draw}
 use Rattle.desk_drill.specs.Keeping.{IsKept, drilled_of}
 use Rattle.desk_drill.specs.Office.{Answers, Drilled, LeadsTo, first_drilled}
@@ -23,14 +19,6 @@ requests_left i x n h =
 -- none is left
 pub none_left : (i x n : ℕ) → n - i ≡ 0 → requests_from i x (n - i) ≡ requests_from i x 0
 none_left i x n h = ap (requests_from i x) h
-
--- the whole text stands, and no write failed
-pub has_whole : (text : List ℕ) (before now : ℕ) → now ≡ before → HasWritten text text before now None
-has_whole text before now steady = record { whole = λ _. (steady, refl); cut = λ e. absurd (cc) }
-
--- a front of the text stands before a write fault
-pub has_cut : (text : List ℕ) (n before now : ℕ) → Rose before now → HasWritten text (take n text) before now (Some WriteFault)
-has_cut text n before now rose = record { whole = λ other. absurd (other refl); cut = λ _. (rose, (drop n text, sym (take-append-drop n text))) }
 
 -- one of the requests that are left
 pub goes_left : (d e z : Drilled) (r : Issued) (i x y n : ℕ) → i < n → r ≡ request_at i x → y ≡ next_draw (next_draw x) → Answers d r e

@@ -1,9 +1,9 @@
 -- What a drill tells.
-use Rattle.std.specs.Prelude.{◌≡◌, ◌⊎◌, ℕ, List, [], Option, None, Some}
+use Rattle.std.specs.Prelude.{◌≡◌, ◌⊎◌, ℕ, List, [], Some}
+use Rattle.byte_streams.specs.Flows.{Outflow}
 use Rattle.office_core.specs.Agreement.{ReadsAsTheBoard, texts_of}
-use Rattle.program_ends.specs.Ends.{Telling}
-use Rattle.program_ends.specs.declared.ends.End.{End}
-use Rattle.program_ends.specs.declared.ends.End.TheVariants.{OutOfMemory, WriteFault}
+use Rattle.program_ends.specs.Ends.{Telling, TellsText}
+use Rattle.program_ends.specs.declared.ends.End.TheVariants.{OutOfMemory}
 use Rattle.desk_drill.specs.Office.{Drilled, LeadsTo, first_drilled}
 use Rattle.desk_drill.specs.Requests.{requests}
 use Rattle.desk_drill.specs.Tellings.{breaches_in, summary}
@@ -20,12 +20,8 @@ pub record IsSummary (number count : ℕ) (text : List ℕ) : Type 0 where
   pub read_back : ReadsAsTheBoard after.state
   pub unbroken : breaches_in (texts_of after.state) ≡ 0
 
--- the text was written, or a front of it before a write fault
-abbrev pub TellsText : List ℕ → ℕ → Option (List ℕ) → Option (List ℕ) → ℕ → ℕ → Type 0
-TellsText text writes taken taken' writes' status = (end : Option End) × ((end ≡ None) ⊎ (end ≡ Some WriteFault)) × Telling text writes taken taken' writes' end status
-
 -- The summary was written; or memory lacked, and that alone is told.
-abbrev pub IsDrillRun : ℕ → ℕ → ℕ → Option (List ℕ) → Option (List ℕ) → ℕ → ℕ → Type 0
-IsDrillRun number count writes taken taken' writes' status =
-    ((text : List ℕ) × IsSummary number count text × TellsText text writes taken taken' writes' status)
-    ⊎ Telling [] writes taken taken' writes' (Some OutOfMemory) status
+abbrev pub IsDrillRun : ℕ → ℕ → Outflow → Outflow → ℕ → Type 0
+IsDrillRun number count before after status =
+    ((text : List ℕ) × IsSummary number count text × TellsText text before after status)
+    ⊎ Telling [] before after (Some OutOfMemory) status

@@ -4,16 +4,16 @@ ghost use Rattle.desk_traits.specs.Faults.{Rose};
 ghost use Rattle.desk_drill.specs.Keeping.{IsKept, drilled_of};
 ghost use Rattle.desk_drill.specs.Office.{LeadsTo, first_drilled};
 ghost use Rattle.desk_drill.specs.Requests.{requests};
-ghost use Rattle.desk_drill.specs.Runs.{IsDrillRun, IsSummary, TellsText};
+ghost use Rattle.desk_drill.specs.Runs.{IsDrillRun, IsSummary};
 
 use crate::desk::DrillDesk;
 use crate::draws::Draws;
 use crate::requests::request_at;
 use crate::summary::summary;
-use desk_traits::{Failed, Sink, write_whole};
+use byte_streams::Sink;
 use hazard_types::{Oom, Text};
 use office_core::a_request_has_one_answer;
-use program_ends::{End, end_at_once, end_run};
+use program_ends::{End, end_at_once, tell};
 use std::alloc::Global;
 
 /// A drill: the state of its draws at first, and how many requests it has, which are at most 8,192.
@@ -50,26 +50,16 @@ fn summary_of(alloc: Global, drill: &Drill) -> Result<Text, Oom>
     summary(alloc, &desk)
 }
 
-/// Writes a text, ends the run, and returns the status of the program.
-fn tell<K: Sink>(output: &mut K, text: &[u8]) -> u8
-    ensures { TellsText text.now (K.faults output.old) (K.taken output.old) (K.taken output.new) (K.faults output.new) result }
-{
-    match write_whole(output, text) {
-        Ok(()) => end_run(output, None),
-        Err(Failed) => end_run(output, Some(End::WriteFault)),
-    }
-}
-
 /// Runs a drill, writes its summary, and returns the status of the program.
 pub fn run_drill<K: Sink>(alloc: Global, drill: &Drill, output: &mut K) -> u8
     requires { drill.now.count ≤ 8192 }
     // The six lines, or that memory lacked.
-    ensures run { IsDrillRun drill.now.number drill.now.count (K.faults output.old) (K.taken output.old) (K.taken output.new) (K.faults output.new) result }
+    ensures run { IsDrillRun drill.now.number drill.now.count (K.outflow output.old) (K.outflow output.new) result }
     // A write fault is told only where the count rose, and want of memory only where it did not.
-    ensures write_fault { result ≡ 8 → Rose (K.faults output.old) (K.faults output.new) }
-    ensures no_memory { result ≡ 12 → K.faults output.new ≡ K.faults output.old }
+    ensures write_fault { result ≡ 8 → Rose (K.outflow output.old).faults (K.outflow output.new).faults }
+    ensures no_memory { result ≡ 12 → (K.outflow output.new).faults ≡ (K.outflow output.old).faults }
     // Where no write failed the six lines were written, unless memory lacked.
-    ensures complete { ¬ Rose (K.faults output.old) (K.faults output.new) → (result ≡ 0) ⊎ (result ≡ 12) }
+    ensures complete { ¬ Rose (K.outflow output.old).faults (K.outflow output.new).faults → (result ≡ 0) ⊎ (result ≡ 12) }
 {
     match summary_of(alloc, drill) {
         Ok(text) => tell(output, text.as_slice()),

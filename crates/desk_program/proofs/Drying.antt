@@ -1,7 +1,7 @@
 -- A run of the training office, by the office and the minute alone.
 use Rattle.std.proofs.Common.{ℕ, ◌≡◌, inl, inr, List, [], ◌∷◌, refl, ap, sym, ◌∙◌, subst, Option, None, Some, arith}
 use Rattle.std.proofs.lemmas.List.{take_all}
-use Rattle.desk_traits.specs.Streams.{Takes}
+use Rattle.byte_streams.specs.Flows.{Inflow, Outflow, Streams, Takes, streams}
 use Rattle.office_core.specs.Agreement.{ReadsAsTheBoard}
 use Rattle.office_core.specs.State.{State}
 use Rattle.program_ends.specs.Ends.{Telling}
@@ -56,9 +56,9 @@ breaks_states at d after lines told written s e is reads h =
       written_is = h.written_is;
     }
 
-broken_states : (at : ℕ) (d after : Trained) (lines : List (List ℕ)) (told : List ℕ) (taken taken' : Option (List ℕ)) (writes writes' : ℕ) (s : State) → d.at ≡ at → d.state ≡ s → ReadsAsTheBoard d.state
-    → IsBroken Replies d after lines told taken taken' writes writes' → IsBroken (AnswersLine at) s after.state lines told taken taken' writes writes'
-broken_states at d after lines told taken taken' writes writes' s e is reads h = record {
+broken_states : (at : ℕ) (d after : Trained) (lines : List (List ℕ)) (told : List ℕ) (old new : Outflow) (s : State) → d.at ≡ at → d.state ≡ s → ReadsAsTheBoard d.state
+    → IsBroken Replies d after lines told old new → IsBroken (AnswersLine at) s after.state lines told old new
+broken_states at d after lines told old new s e is reads h = record {
   written = h.written;
   fault = h.fault;
   breaks = breaks_states at d after lines told h.written s e is reads h.breaks;
@@ -67,10 +67,10 @@ broken_states at d after lines told taken taken' writes writes' s e is reads h =
   adds = h.adds;
 }
 
-pub dry_run : HasOneAnswer → (dry : Dry) (limit : ℕ) (desk after : Trained) (left left' taken taken' : Option (List ℕ)) (reads reads' writes writes' status : ℕ)
+pub dry_run : HasOneAnswer → (dry : Dry) (limit : ℕ) (desk after : Trained) (old new : Streams) (status : ℕ)
     → desk ≡ record { state = first_training dry.office; at = dry.minute } → ReadsAsTheBoard (first_training dry.office)
-    → IsLinesRun Replies Lacks limit desk after left left' taken taken' reads reads' writes writes' status → IsDryRun dry limit (record { input = record { left = left; faults = reads }; output = record { taken = taken; faults = writes } }) (record { input = record { left = left'; faults = reads' }; output = record { taken = taken'; faults = writes' } }) status
-dry_run law dry limit desk after left left' taken taken' reads reads' writes writes' status is first run =
+    → IsLinesRun Replies Lacks limit desk after old new status → IsDryRun dry limit old new status
+dry_run law dry limit desk after old new status is first run =
     let at : desk.at ≡ dry.minute = ap (λ (t : Trained). t.at) is in
     let state : desk.state ≡ first_training dry.office = ap (λ (t : Trained). t.state) is in
     let told = told_states dry.minute desk run.run.last run.run.lines run.told at (subst ReadsAsTheBoard (sym state) first) run.run.answered in
@@ -95,17 +95,17 @@ dry_run law dry limit desk after left left' taken taken' reads reads' writes wri
           too_long = run.run.too_long;
           state = λ e. ap (λ (t : Trained). t.state) (run.run.state e);
           no_memory = λ e. elim (run.run.no_memory e) [
-            | inl none ↦ inl (unbegun_states desk after left left' run.run.read run.run.lines (first_training dry.office) state none)
+            | inl none ↦ inl (unbegun_states desk after old.input.left new.input.left run.run.read run.run.lines (first_training dry.office) state none)
             | inr next ↦ inr (lacking run.run.last after run.run.others next)
           ];
           next = λ e. elim (run.run.next e) [
-            | inl none ↦ inl (unbegun_states desk after left left' run.run.read run.run.lines (first_training dry.office) state none)
+            | inl none ↦ inl (unbegun_states desk after old.input.left new.input.left run.run.read run.run.lines (first_training dry.office) state none)
             | inr more ↦ inr more
           ];
           reasons = run.run.reasons;
         };
         telling = run.telling;
-        broken = λ e. broken_states dry.minute desk after run.run.lines run.told taken taken' writes writes' (first_training dry.office) at state (subst ReadsAsTheBoard (sym state) first) (run.broken e);
+        broken = λ e. broken_states dry.minute desk after run.run.lines run.told old.output new.output (first_training dry.office) at state (subst ReadsAsTheBoard (sym state) first) (run.broken e);
         rose = run.rose;
         steady = run.steady;
         read_fault = run.read_fault;
@@ -122,9 +122,9 @@ takes_none None = refl
 takes_none (Some bytes) = refl
 
 -- memory lacked for the office, and no line was read
-pub unbegun : (dry : Dry) (limit : ℕ) (left taken taken' : Option (List ℕ)) (reads writes writes' status : ℕ)
-    → ReadsAsTheBoard (first_training dry.office) → Telling [] writes taken taken' writes' (Some OutOfMemory) status → IsDryRun dry limit (record { input = record { left = left; faults = reads }; output = record { taken = taken; faults = writes } }) (record { input = record { left = left; faults = reads }; output = record { taken = taken'; faults = writes' } }) status
-unbegun dry limit left taken taken' reads writes writes' status first telling =
+pub unbegun : (dry : Dry) (limit : ℕ) (input : Inflow) (old new : Outflow) (status : ℕ)
+    → ReadsAsTheBoard (first_training dry.office) → Telling [] old new (Some OutOfMemory) status → IsDryRun dry limit (streams input old) (streams input new) status
+unbegun dry limit input old new status first telling =
     record {
       office = first_training dry.office;
       run = record {
@@ -135,7 +135,7 @@ unbegun dry limit left taken taken' reads writes writes' status first telling =
           lines = [];
           others = [] ∷ [];
           last = first_training dry.office;
-          takes = takes_none left;
+          takes = takes_none input.left;
           within = omega arith;
           first = refl;
           answered = (refl, refl);

@@ -1,5 +1,6 @@
 -- What a run of the program reads, answers and tells.
 use Rattle.std.specs.Prelude.{◌≡◌, ◌≤◌, ◌⊎◌, ℕ, List, MatchOption, IsSome}
+use Rattle.byte_streams.specs.Flows.{Streams}
 use Rattle.office_core.specs.Agreement.{ReadsAsTheBoard}
 use Rattle.office_core.specs.State.{State}
 use Rattle.desk_traits.specs.Faults.{Rose}
@@ -9,7 +10,7 @@ use Rattle.program_ends.specs.Runs.{Answered, IsLinesRun}
 use Rattle.desk_program.specs.Commands.{Answers, Boards, Drills, Exports, IsNoCommand, IsUnopened, IsUnread, Makes, SameClock, SameDisk, Upgrades}
 use Rattle.desk_program.specs.Training.{AnswersLine, LacksLine, first_training}
 use Rattle.desk_program.specs.Words.{command_of}
-use Rattle.desk_program.specs.Worlds.{Streams, World, streams_of}
+use Rattle.desk_program.specs.Worlds.{World, streams_of}
 use Rattle.desk_program.specs.declared.words.Command.{Command}
 use Rattle.desk_program.specs.declared.words.Command.TheVariants as command
 use Rattle.desk_program.specs.declared.words.Dry.{Dry}
@@ -20,8 +21,7 @@ pub record IsDryRun (dry : Dry) (limit : ℕ) (before after : Streams) (status :
   -- the office at the end
   pub office : State
   pub run : IsLinesRun (AnswersLine dry.minute) LacksLine limit (first_training dry.office) office
-      before.input.left after.input.left before.output.taken after.output.taken
-      before.input.faults after.input.faults before.output.faults after.output.faults status
+      before after status
   -- No other answers to these lines are possible.
   pub only : (told : List ℕ) (last : State)
       → Answered (AnswersLine dry.minute) (first_training dry.office) run.run.lines told last

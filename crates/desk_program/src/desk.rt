@@ -1,13 +1,14 @@
 //! What the words ask for is done.
 ghost use Rattle.std.specs.Prelude.{◌<◌, ◌+◌, ◌^◌};
 ghost use Rattle.desk_program.specs.Runs.{DoesAsAsked};
-ghost use Rattle.desk_program.specs.Worlds.{input_of, output_of, world};
+ghost use Rattle.desk_program.specs.Worlds.{world};
 
 use crate::training::run_training;
 use crate::words::{Command, command_of};
+use byte_streams::{Sink, Source};
 use desk_commands::{Ended, run_board, run_export, run_init, run_script, run_upgrade};
 use desk_drill::run_drill;
-use desk_traits::{Clock, Disk, Sink, Source};
+use desk_traits::{Clock, Disk};
 use hazard_types::{List, Text};
 use program_ends::{End, end_at_once};
 use std::alloc::Global;
@@ -25,8 +26,8 @@ pub fn desk_within<S: Source, K: Sink, D: Disk, C: Clock>(
 ) -> Ended<D>
     requires { limit + 1 < 2 ^ 64 }
     ensures { DoesAsAsked D.Disk C.Clock words.now limit
-        (world (input_of S.Source input.old) (output_of K.Sink output.old) disk clock.old)
-        (world (input_of S.Source input.new) (output_of K.Sink output.new) result.disk clock.new)
+        (world (S.inflow input.old) (K.outflow output.old) disk clock.old)
+        (world (S.inflow input.new) (K.outflow output.new) result.disk clock.new)
         result.status }
 {
     match command_of(words) {

@@ -2,11 +2,11 @@
 ghost use Rattle.std.specs.Prelude.{◌+◌, ◌<◌, ◌^◌, IsTrue};
 ghost use Rattle.hazard_types.specs.Characters.{is_office};
 ghost use Rattle.desk_program.specs.Runs.{IsDryRun};
-ghost use Rattle.desk_program.specs.Worlds.{input_of, output_of, streams};
+ghost use Rattle.byte_streams.specs.Flows.{streams};
 
 use crate::training_desk::TrainingDesk;
 use crate::words::Dry;
-use desk_traits::{Sink, Source};
+use byte_streams::{Sink, Source};
 use office_core::{a_request_has_one_answer, offices_begin_in_agreement};
 use program_ends::{End, end_at_once, run_lines};
 use std::alloc::Global;
@@ -23,8 +23,8 @@ pub fn run_training<S: Source, K: Sink>(
     requires office { IsTrue (is_office dry.now.office) }
     requires limit { limit + 1 < 2 ^ 64 }
     ensures { IsDryRun dry.now limit
-        (streams (input_of S.Source input.old) (output_of K.Sink output.old))
-        (streams (input_of S.Source input.new) (output_of K.Sink output.new))
+        (streams (S.inflow input.old) (K.outflow output.old))
+        (streams (S.inflow input.new) (K.outflow output.new))
         result }
 {
     offices_begin_in_agreement();

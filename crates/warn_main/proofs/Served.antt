@@ -1,14 +1,14 @@
 -- How a run of `serve` ends.
 use Rattle.std.proofs.Common.{ℕ, ℤ, ◌≡◌, ◌≢◌, ◌⊎◌, inl, inr, IsSome, List, [], Option, None, Some, length, refl, sym, ◌∙◌, subst, arith}
 use Rattle.std.specs.Prelude.{MatchOption}
+use Rattle.byte_streams.specs.Flows.{Outflow}
 use Rattle.desk_links.specs.Links.{PortState}
 use Rattle.desk_traits.specs.Faults.{Rose}
 use Rattle.desk_traits.specs.declared.disk.Disk.{Ghosts as Disks}
 use Rattle.office_journal.specs.Kept as kept
-use Rattle.program_ends.specs.Ends.{Telling, own_status, status_of}
+use Rattle.program_ends.specs.Ends.{Telling, TellsText, own_status, status_of}
 use Rattle.program_ends.specs.declared.ends.End.{End}
 use Rattle.program_ends.specs.declared.ends.End.TheVariants.{Usage, SettingsRefused, AlreadyKept, NoJournal, Damaged, ReadFault, WriteFault, DiskFault, PortFault, ClockOut, OutOfMemory, InputTooLong, JournalFull}
-use Rattle.desk_commands.specs.Commands.{TellsText}
 use Rattle.desk_commands.specs.Opening.{IsUnopenedRun, IsWhy}
 use Rattle.desk_program.specs.Runs.{IsEndOfItsOwn}
 use Rattle.warn_serve.specs.Served.{EndsAs, visits_of}
@@ -35,12 +35,12 @@ module _ {A : Type 0} where
   given o is (inr some) = absurd (no_value o is some)
 
 -- each status has its cause: a fault of the output, of the disk or of the port
-pub record HasCauses (disk_failed port_failed : Type 0) (writes writes' status : ℕ) : Type 0 where
+pub record HasCauses (disk_failed port_failed : Type 0) (old new : Outflow) (status : ℕ) : Type 0 where
   pub unread : status ≢ 7
-  pub write : status ≡ 8 → Rose writes writes'
+  pub write : status ≡ 8 → Rose old.faults new.faults
   pub disk : status ≡ 9 → disk_failed
   pub port : status ≡ 10 → port_failed
-  pub own : (Rose writes writes' → ⊥) → (disk_failed → ⊥) → (port_failed → ⊥) → IsEndOfItsOwn status
+  pub own : (Rose old.faults new.faults → ⊥) → (disk_failed → ⊥) → (port_failed → ⊥) → IsEndOfItsOwn status
 
 module _ (disk_failed port_failed : Type 0) where
   -- the same of the status that an end has
@@ -74,11 +74,11 @@ module _ (disk_failed port_failed : Type 0) where
   of_port : port_failed → MayEnd 10
   of_port failed = record { unread = λ e. omega (arith, e); disk = λ e. absurd (omega (arith, e)); port = λ e. failed; own = λ eight disk port. absurd (port failed) }
 
-  module _ (writes : ℕ) (taken taken' : Option (List ℕ)) (writes' status : ℕ) where
-    told : (defined : List ℕ) (end : Option End) → MayEnd (own_status end) → Telling defined writes taken taken' writes' end status → HasCauses disk_failed port_failed writes writes' status
+  module _ (old new : Outflow) (status : ℕ) where
+    told : (defined : List ℕ) (end : Option End) → MayEnd (own_status end) → Telling defined old new end status → HasCauses disk_failed port_failed old new status
     told defined end may telling =
         let same : status ≢ 8 → status ≡ own_status end = λ other. (telling.told.others other).0 in
-        let cut : status ≡ 8 → Rose writes writes' = λ eight. (telling.told.cut eight).0 in
+        let cut : status ≡ 8 → Rose old.faults new.faults = λ eight. (telling.told.cut eight).0 in
         record {
           unread = λ seven. may.unread (sym (same (λ eight. omega (arith, seven, eight))) ∙ seven);
           write = cut;
@@ -89,14 +89,14 @@ module _ (disk_failed port_failed : Type 0) where
               subst IsEndOfItsOwn (sym (same other)) (may.own (λ eight. other (same other ∙ eight)) disk port);
         }
 
-    told_well : (line : List ℕ) → TellsText line writes taken taken' writes' status → HasCauses disk_failed port_failed writes writes' status
+    told_well : (line : List ℕ) → TellsText line old new status → HasCauses disk_failed port_failed old new status
     told_well line t = elim t.1 [
       | inl is ↦ told line t.0 (subst (λ (e : Option End). MayEnd (own_status e)) (sym is) well) t.2
       | inr is ↦ told line t.0 (subst (λ (e : Option End). MayEnd (own_status e)) (sym is) cut_off) t.2
     ]
 
     -- what is told of the service
-    told_served : (end : ServeEnd) (line : List ℕ) → (end ≡ serve.PortFault → port_failed) → TellsServed end line writes taken taken' writes' status → HasCauses disk_failed port_failed writes writes' status
+    told_served : (end : ServeEnd) (line : List ℕ) → (end ≡ serve.PortFault → port_failed) → TellsServed end line old new status → HasCauses disk_failed port_failed old new status
     told_served serve.Done line cause (inl tells) = told_well line tells
     told_served serve.Done line cause (inr telling) = told [] (Some OutOfMemory) lacking telling
     told_served serve.PortFault line cause telling = told [] (Some PortFault) (of_port (cause refl)) telling
@@ -121,18 +121,18 @@ module _ {D : Type 0} (d : Disks D) (disk next : D) (port_failed : Type 0) where
   why_ends InputTooLong why = absurd why
   why_ends JournalFull why = absurd why
 
-  module _ (taken taken' : Option (List ℕ)) (writes writes' status : ℕ) where
-    unopened : IsUnopenedRun d disk next taken taken' writes writes' status → HasCauses DiskFailed port_failed writes writes' status
-    unopened run = told DiskFailed port_failed writes taken taken' writes' status [] (Some run.end) (why_ends run.end run.unopened.why) run.telling
+  module _ (old new : Outflow) (status : ℕ) where
+    unopened : IsUnopenedRun d disk next old new status → HasCauses DiskFailed port_failed old new status
+    unopened run = told DiskFailed port_failed old new status [] (Some run.end) (why_ends run.end run.unopened.why) run.telling
 
-module _ {D : Type 0} (d : Disks D) (gives : ℤ → Type 0) (serving : Serving) (disk next : D) (port port' : PortState) (taken taken' : Option (List ℕ)) (writes writes' status : ℕ) where
+module _ {D : Type 0} (d : Disks D) (gives : ℤ → Type 0) (serving : Serving) (disk next : D) (port port' : PortState) (old new : Outflow) (status : ℕ) where
   abbrev PortFailed : Type 0
   PortFailed = Rose port.faults port'.faults
 
-  ran : IsServeRun d gives serving disk next port port' taken taken' writes writes' status → HasCauses (Rose (d.faults disk) (d.faults next)) PortFailed writes writes' status
-  ran run = told_served (Rose (d.faults disk) (d.faults next)) PortFailed writes taken taken' writes' status run.end (summary (kept.entries_of run.closed) (length (kept.state_of run.closed).products))
+  ran : IsServeRun d gives serving disk next port port' old new status → HasCauses (Rose (d.faults disk) (d.faults next)) PortFailed old new status
+  ran run = told_served (Rose (d.faults disk) (d.faults next)) PortFailed old new status run.end (summary (kept.entries_of run.closed) (length (kept.state_of run.closed).products))
       (λ same. (subst (λ (e : ServeEnd). EndsAs port port' serving.connections (visits_of run.served.parts) e) same run.served.ends).1) run.told
 
-  pub ends : Serves d gives serving disk next port port' taken taken' writes writes' status → HasCauses (Rose (d.faults disk) (d.faults next)) PortFailed writes writes' status
-  ends (inl run) = unopened d disk next PortFailed taken taken' writes writes' status run.0
+  pub ends : Serves d gives serving disk next port port' old new status → HasCauses (Rose (d.faults disk) (d.faults next)) PortFailed old new status
+  ends (inl run) = unopened d disk next PortFailed old new status run.0
   ends (inr run) = ran run

@@ -21,7 +21,7 @@ module _ {D : Type 0} (d : Disks D) (steady : (x : D) → d.faults x ≡ 0) wher
       none_failed (d.faults before.disk) (d.faults after.disk) _ (steady before.disk) (steady after.disk) run.faults
 
   pub serves : (gives : ℤ → Type 0) → ServesNoDiskFault d gives
-  serves gives serving disk next port port' taken taken' writes writes' status run =
+  serves gives serving disk next port port' old new status run =
       none_failed _ _ _ (steady _) (steady _) run.served.since.counted
 
 module _ {D C : Type 0} (d : Disks D) (k : Clocks C) where

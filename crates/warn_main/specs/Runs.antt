@@ -8,6 +8,7 @@ use Rattle.desk_program.specs.Commands.{IsUnread, SameClock, SameDisk}
 use Rattle.desk_program.specs.Runs.{IsEndOfItsOwn}
 use Rattle.desk_program.specs.Runs as alone
 use Rattle.desk_program.specs.Words.{command_of}
+use Rattle.desk_program.specs.Worlds.{streams_of}
 use Rattle.serve_command.specs.Serving.{Serves}
 use Rattle.serve_command.specs.Words.{serving_of}
 use Rattle.serve_command.specs.declared.words.Serving.{Serving}
@@ -21,8 +22,7 @@ module _ {D C : Type 0} (before after : World D C) where
   -- memory lacked for the words: status 12, and nothing was read, written or asked
   abbrev pub IsUntouched : ℕ → Type 0
   IsUntouched status =
-      ends.IsUntouched before.input.left after.input.left before.output.taken after.output.taken
-      before.input.faults after.input.faults before.output.faults after.output.faults status
+      ends.IsUntouched (streams_of (without_port before)) (streams_of (without_port after)) status
       × SameDisk (without_port before) (without_port after)
       × SameClock (without_port before) (without_port after)
 
@@ -33,7 +33,7 @@ module _ {D C : Type 0} (d : Disks D) (k : Clocks C) where
       IsUnread (without_port before) (without_port after)
       × SameClock (without_port before) (without_port after)
       × Serves d (k.gives before.clock) serving before.disk after.disk before.port after.port
-      before.output.taken after.output.taken before.output.faults after.output.faults status
+      before.output after.output status
 
   -- The words were done, with an input of at most so many bytes, or are no command.
   pub record DoesAsAsked (words : List (List ℕ)) (limit : ℕ) (before after : World D C) (status : ℕ) : Type 0 where

@@ -1,5 +1,6 @@
 -- What holds of a run at ends whose counts of faults stay where they are.
-use Rattle.std.specs.Prelude.{◌≡◌, ◌≢◌, ℕ, ℤ, List, Option}
+use Rattle.std.specs.Prelude.{◌≡◌, ◌≢◌, ℕ, ℤ, List}
+use Rattle.byte_streams.specs.Flows.{Outflow}
 use Rattle.desk_links.specs.Links.{PortState}
 use Rattle.desk_traits.specs.declared.clocks.Clock.{Ghosts as Clocks}
 use Rattle.desk_traits.specs.declared.disk.Disk.{Ghosts as Disks}
@@ -25,8 +26,8 @@ module _ {D : Type 0} (d : Disks D) where
   abbrev pub ServesNoDiskFault : (ℤ → Type 0) → Type 0
   ServesNoDiskFault gives =
       (serving : Serving) (disk next : D) (port port' : PortState)
-      (taken taken' : Option (List ℕ)) (writes writes' status : ℕ)
-      (run : IsServeRun d gives serving disk next port port' taken taken' writes writes' status)
+      (old new : Outflow) (status : ℕ)
+      (run : IsServeRun d gives serving disk next port port' old new status)
       → turns.faults_in run.served.happenings ≡ 0
 
 module _ {D C : Type 0} (d : Disks D) (k : Clocks C) where

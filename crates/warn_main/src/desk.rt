@@ -3,17 +3,18 @@ ghost use Rattle.std.specs.Prelude.{◌≡◌, ◌⊎◌, None};
 ghost use Rattle.program_ends.specs.Lines.{most_bytes};
 ghost use Rattle.program_ends.specs.Words.{words_behind};
 ghost use Rattle.desk_program.specs.Runs.{DoesAsAsked as DoesAlone};
-ghost use Rattle.desk_program.specs.Worlds.{input_of, output_of, world as world_alone};
+ghost use Rattle.desk_program.specs.Worlds.{world as world_alone};
 ghost use Rattle.serve_command.specs.Words.{serving_of};
 ghost use Rattle.warn_main.specs.Promise.{Promise};
 ghost use Rattle.warn_main.specs.Runs.{IsUntouched};
 ghost use Rattle.warn_main.specs.Worlds.{world};
 
 use crate::laws::what_was_done_keeps_the_promise;
+use byte_streams::{Sink, Source};
 use desk_commands::Ended;
 use desk_links::{Gate, Port};
 use desk_program::desk_within;
-use desk_traits::{Clock, Disk, Sink, Source};
+use desk_traits::{Clock, Disk};
 use hazard_types::{List, Text};
 use program_ends::{End, LIMIT, given_words};
 use serve_command::{run_serve, serving_of};
@@ -33,8 +34,8 @@ pub fn desk_alone<S: Source, K: Sink, D: Disk, C: Clock>(
 ) -> Ended<D>
     requires { serving_of words.now ≡ None }
     ensures { DoesAlone D.Disk C.Clock words.now most_bytes
-        (world_alone (input_of S.Source input.old) (output_of K.Sink output.old) disk clock.old)
-        (world_alone (input_of S.Source input.new) (output_of K.Sink output.new) result.disk clock.new)
+        (world_alone (S.inflow input.old) (K.outflow output.old) disk clock.old)
+        (world_alone (S.inflow input.new) (K.outflow output.new) result.disk clock.new)
         result.status }
 {
     desk_within(alloc, words, input, output, disk, clock, LIMIT)
@@ -63,9 +64,9 @@ pub fn desk_run<
 ) -> Ended<D>
     requires { (P.state port.old).returned ≡ 0 }
     ensures promise { Promise D.Disk C.Clock words.now most_bytes
-        (world (input_of S.Source input.old) (output_of K.Sink output.old) disk clock.old
+        (world (S.inflow input.old) (K.outflow output.old) disk clock.old
         (P.state port.old))
-        (world (input_of S.Source input.new) (output_of K.Sink output.new) result.disk clock.new
+        (world (S.inflow input.new) (K.outflow output.new) result.disk clock.new
         (P.state port.new))
         result.status }
     ensures port { serving_of words.now ≡ None → port.new ≡ port.old }
@@ -100,15 +101,15 @@ pub fn run_program<
 ) -> Ended<D>
     requires { (P.state port.old).returned ≡ 0 }
     ensures { (IsUntouched
-        (world (input_of S.Source input.old) (output_of K.Sink output.old) disk clock.old
+        (world (S.inflow input.old) (K.outflow output.old) disk clock.old
         (P.state port.old))
-        (world (input_of S.Source input.new) (output_of K.Sink output.new) result.disk clock.new
+        (world (S.inflow input.new) (K.outflow output.new) result.disk clock.new
         (P.state port.new))
         result.status × (port.new ≡ port.old))
         ⊎ Promise D.Disk C.Clock (words_behind 2 command_line.now) most_bytes
-        (world (input_of S.Source input.old) (output_of K.Sink output.old) disk clock.old
+        (world (S.inflow input.old) (K.outflow output.old) disk clock.old
         (P.state port.old))
-        (world (input_of S.Source input.new) (output_of K.Sink output.new) result.disk clock.new
+        (world (S.inflow input.new) (K.outflow output.new) result.disk clock.new
         (P.state port.new))
         result.status }
 {

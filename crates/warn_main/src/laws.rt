@@ -5,7 +5,8 @@ ghost use Rattle.warn_main.specs.Runs.{DoesAsAsked};
 ghost use Rattle.warn_main.specs.Sure.{EndsWithoutDiskFault, EndsWithoutReadFault, EndsWithoutWriteFault, SaysNoDiskFault, ServesNoDiskFault};
 ghost use Rattle.warn_main.specs.Worlds.{World};
 
-use desk_traits::{Clock, Disk, Sink, Source, SureDisk, SureSink, SureSource};
+use byte_streams::{Sink, Source, SureSink, SureSource};
+use desk_traits::{Clock, Disk, SureDisk};
 use office_core::requests_stand_once;
 
 /// A run that has done what its words ask for keeps the promise, over each disk and clock.
@@ -27,7 +28,7 @@ pub fn sure_ends_tell_no_fault<D: Disk, C: Clock>()
     ensures lines { SaysNoDiskFault ⟦<SureDisk as Disk>⟧ C.Clock }
     ensures calls { (clock : C) → ServesNoDiskFault ⟦<SureDisk as Disk>⟧ (C.gives clock) }
     ensures input { (source next : SureSource) → EndsWithoutReadFault D.Disk C.Clock
-        (⟦<SureSource as Source>⟧.faults source) (⟦<SureSource as Source>⟧.faults next) }
+        (⟦<SureSource as Source>⟧.inflow source).faults (⟦<SureSource as Source>⟧.inflow next).faults }
     ensures output { (sink next : SureSink) → EndsWithoutWriteFault D.Disk C.Clock
-        (⟦<SureSink as Sink>⟧.faults sink) (⟦<SureSink as Sink>⟧.faults next) }
+        (⟦<SureSink as Sink>⟧.outflow sink).faults (⟦<SureSink as Sink>⟧.outflow next).faults }
 {}

@@ -6,8 +6,9 @@ mod laws;
 mod place;
 
 use crate::place::{Place, place_of};
+use byte_streams::{StdSink, StdSource};
 use desk_links::{OpenGate, TcpPort};
-use desk_traits::{Disk, FileDisk, StdSink, StdSource, SureDisk, SystemClock};
+use desk_traits::{Disk, FileDisk, SureDisk, SystemClock};
 use program_ends::{End, command_line, show_usage};
 use std::fs::File;
 use std::io;

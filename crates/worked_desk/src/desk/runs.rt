@@ -1,6 +1,7 @@
 //! A command over a disk in memory.
+use byte_streams::{MemSink, MemSource};
 use desk_commands::{Ended, run_board, run_export, run_init, run_script, run_upgrade};
-use desk_traits::{MemDisk, MemSink, MemSource, SetClock};
+use desk_traits::{MemDisk, SetClock};
 use hazard_types::{List, Minute, Oom, Text};
 use std::alloc::Global;
 

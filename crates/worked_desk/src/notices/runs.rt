@@ -1,6 +1,6 @@
 //! A run over a source and a sink in memory.
+use byte_streams::{MemSink, MemSource};
 use county_notices::notice_within;
-use desk_traits::{MemSink, MemSource};
 use hazard_types::{List, Oom, Text};
 use program_ends::LIMIT;
 use std::alloc::Global;

@@ -1,8 +1,7 @@
 //! A run over a source, a sink and a disk in memory.
+use byte_streams::{MemSink, MemSource, Sink, Source, SureSink, SureSource};
 use desk_program::desk_within;
-use desk_traits::{
-    Disk, MemSink, MemSource, SetClock, Sink, Source, SureDisk, SureSink, SureSource,
-};
+use desk_traits::{Disk, SetClock, SureDisk};
 use hazard_types::{List, Oom, Text};
 use program_ends::LIMIT;
 use std::alloc::Global;

@@ -3,8 +3,8 @@ ghost use Rattle.std.specs.Prelude.{◌≡◌, ◌≤◌, ◌<◌, ◌+◌, ◌^
 ghost use Rattle.desk_links.specs.LinkMemory.{IsUntouched, IsIdle, all_links};
 
 use crate::outside::words::{add, add_bytes, bytes_of, numbers_of};
+use byte_streams::write_whole;
 use desk_links::{Dialer, Door, Link, MemDialer, MemDoor, MemLink, MemPort, Port};
-use desk_traits::write_whole;
 use hazard_types::{List, Oom};
 use std::alloc::Global;
 

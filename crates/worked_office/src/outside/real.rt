@@ -5,10 +5,9 @@ ghost use Rattle.std.specs.Prelude.{◌≡◌};
 use crate::outside::streams::{read_once, write_word};
 use crate::outside::told::Told;
 use crate::outside::words::{add, add_bytes};
+use byte_streams::{Source, StdSink, StdSource, write_whole};
 use desk_links::{Dialer, Door, Peer, Port, TcpDialer, TcpDoor, TcpPeer, TcpPort};
-use desk_traits::{
-    Clock, Disk, FileDisk, Source, StdSink, StdSource, SystemClock, write_synced, write_whole,
-};
+use desk_traits::{Clock, Disk, FileDisk, SystemClock, write_synced};
 use hazard_types::{List, Oom};
 use std::alloc::Global;
 use std::fs::{self, File};

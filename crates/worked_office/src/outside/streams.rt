@@ -1,9 +1,8 @@
 //! Sources, sinks and clocks.
 use crate::outside::told::Told;
 use crate::outside::words::{add, add_bytes, add_part, bytes_of};
-use desk_traits::{
-    Clock, MemSink, MemSource, SetClock, Sink, Source, SureSink, SureSource, write_whole,
-};
+use byte_streams::{MemSink, MemSource, Sink, Source, SureSink, SureSource, write_whole};
+use desk_traits::{Clock, SetClock};
 use hazard_types::{List, Oom};
 use std::alloc::Global;
 

@@ -1,6 +1,6 @@
 //! A report, or statistics, over a source and a sink in memory.
 use archive_report::archive_within;
-use desk_traits::{MemSink, MemSource};
+use byte_streams::{MemSink, MemSource};
 use hazard_types::{List, Oom, Text};
 use program_ends::LIMIT;
 use sha2::{Digest, Sha256};

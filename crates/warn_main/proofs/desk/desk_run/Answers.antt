@@ -1,6 +1,5 @@
 use Rattle.std.proofs.Common.{refl, sym, ◌∙◌}
 use Rattle.program_ends.specs.Lines.{most_bytes}
-use Rattle.desk_program.specs.Worlds.{input_of, output_of}
 use Rattle.serve_command.specs.Words.{serving_of}
 use Rattle.warn_main.specs.Worlds.{without_port, world}
 use Rattle.warn_main.proofs.Portless.{portless}
@@ -10,9 +9,9 @@ use Rattle.warn_main.proofs.desk.desk_run.Goals as goal
 pub returns-in-Some-clause-promise : goal.returns-in-Some-clause-promise
 returns-in-Some-clause-promise g c =
     let served = c.run_serve.ensures in
-    let before = world (input_of g.S.Source c.args.input.now) (output_of g.K.Sink c.args.output.now) c.args.disk c.args.clock.now (g.P.Port.state c.args.port.now) in
-    let after = world (input_of g.S.Source c.args.input.now) (output_of g.K.Sink c.run_serve.new.output) c.run_serve.result.disk c.args.clock.now (g.P.Port.state c.run_serve.new.port) in
-    let causes = ends g.D.Disk (g.C.Clock.gives c.args.clock.now) c.in-Some.serving before.disk after.disk before.port after.port before.output.taken after.output.taken before.output.faults after.output.faults c.run_serve.result.status served in
+    let before = world (g.S.Source.inflow c.args.input.now) (g.K.Sink.outflow c.args.output.now) c.args.disk c.args.clock.now (g.P.Port.state c.args.port.now) in
+    let after = world (g.S.Source.inflow c.args.input.now) (g.K.Sink.outflow c.run_serve.new.output) c.run_serve.result.disk c.args.clock.now (g.P.Port.state c.run_serve.new.port) in
+    let causes = ends g.D.Disk (g.C.Clock.gives c.args.clock.now) c.in-Some.serving before.disk after.disk before.port after.port before.output after.output c.run_serve.result.status served in
     c.what_was_done_keeps_the_promise.ensures c.args.words.now most_bytes before after c.run_serve.result.status (record {
       run = present (serving_of c.args.words.now) c.in-Some.serving _ _ (sym c.serving_of.ensures.value ∙ c.in-Some.is) (record { unread = refl; steady = refl }, refl, served);
       read_fault = λ seven. absurd (causes.unread seven);
@@ -26,8 +25,8 @@ pub returns-in-None-clause-promise : goal.returns-in-None-clause-promise
 returns-in-None-clause-promise g c =
     let is = sym c.serving_of.ensures.value ∙ c.in-None.is in
     let alone = c.desk_alone.ensures in
-    let before = world (input_of g.S.Source c.args.input.now) (output_of g.K.Sink c.args.output.now) c.args.disk c.args.clock.now (g.P.Port.state c.args.port.now) in
-    let after = world (input_of g.S.Source c.desk_alone.new.input) (output_of g.K.Sink c.desk_alone.new.output) c.desk_alone.result.disk c.desk_alone.new.clock (g.P.Port.state c.args.port.now) in
+    let before = world (g.S.Source.inflow c.args.input.now) (g.K.Sink.outflow c.args.output.now) c.args.disk c.args.clock.now (g.P.Port.state c.args.port.now) in
+    let after = world (g.S.Source.inflow c.desk_alone.new.input) (g.K.Sink.outflow c.desk_alone.new.output) c.desk_alone.result.disk c.desk_alone.new.clock (g.P.Port.state c.args.port.now) in
     c.what_was_done_keeps_the_promise.ensures c.args.words.now most_bytes before after c.desk_alone.result.status (record {
       run = absent (serving_of c.args.words.now) _ _ is (alone, refl);
       read_fault = alone.read_fault;
