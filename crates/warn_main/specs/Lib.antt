@@ -4,3 +4,5 @@ pub mod Runs
 pub mod Offices
 pub mod Promise
 pub mod Sure
+pub mod Access
+pub mod Programs

@@ -3,12 +3,10 @@ use Rattle.std.specs.Prelude.{◌≡◌, ◌⊎◌, ℕ, List, MatchOption, IsSo
 use Rattle.desk_traits.specs.Faults.{Rose}
 use Rattle.desk_traits.specs.declared.clocks.Clock.{Ghosts as Clocks}
 use Rattle.desk_traits.specs.declared.disk.Disk.{Ghosts as Disks}
-use Rattle.program_ends.specs.Ends as ends
-use Rattle.desk_program.specs.Commands.{IsUnread, SameClock, SameDisk}
+use Rattle.desk_program.specs.Commands.{IsUnread, SameClock}
 use Rattle.desk_program.specs.Runs.{IsEndOfItsOwn}
 use Rattle.desk_program.specs.Runs as alone
 use Rattle.desk_program.specs.Words.{command_of}
-use Rattle.desk_program.specs.Worlds.{streams_of}
 use Rattle.serve_command.specs.Serving.{Serves}
 use Rattle.serve_command.specs.Words.{serving_of}
 use Rattle.serve_command.specs.declared.words.Serving.{Serving}
@@ -18,13 +16,6 @@ module _ {D C : Type 0} (before after : World D C) where
   -- the port is as it was
   abbrev pub SamePort : Type 0
   SamePort = after.port ≡ before.port
-
-  -- memory lacked for the words: status 12, and nothing was read, written or asked
-  abbrev pub IsUntouched : ℕ → Type 0
-  IsUntouched status =
-      ends.IsUntouched (streams_of (without_port before)) (streams_of (without_port after)) status
-      × SameDisk (without_port before) (without_port after)
-      × SameClock (without_port before) (without_port after)
 
 module _ {D C : Type 0} (d : Disks D) (k : Clocks C) where
   -- `serve` was done: it reads nothing of the input and leaves the clock as it is

@@ -1,12 +1,10 @@
 //! The top call.
-ghost use Rattle.std.specs.Prelude.{◌≡◌, ◌⊎◌, None};
+ghost use Rattle.std.specs.Prelude.{◌≡◌, None};
 ghost use Rattle.program_ends.specs.Lines.{most_bytes};
-ghost use Rattle.program_ends.specs.Words.{words_behind};
 ghost use Rattle.desk_program.specs.Runs.{DoesAsAsked as DoesAlone};
 ghost use Rattle.desk_program.specs.Worlds.{world as world_alone};
 ghost use Rattle.serve_command.specs.Words.{serving_of};
 ghost use Rattle.warn_main.specs.Promise.{Promise};
-ghost use Rattle.warn_main.specs.Runs.{IsUntouched};
 ghost use Rattle.warn_main.specs.Worlds.{world};
 
 use crate::laws::what_was_done_keeps_the_promise;
@@ -16,7 +14,7 @@ use desk_links::{Gate, Port};
 use desk_program::desk_within;
 use desk_traits::{Clock, Disk};
 use hazard_types::{List, Text};
-use program_ends::{End, LIMIT, given_words};
+use program_ends::LIMIT;
 use serve_command::{run_serve, serving_of};
 use std::alloc::Global;
 use std::sync::Wait;
@@ -75,49 +73,5 @@ pub fn desk_run<
     match serving_of(words) {
         Some(serving) => run_serve(rt, alloc, &serving, output, disk, port, clock, gate),
         None => desk_alone(alloc, words, input, output, disk, clock),
-    }
-}
-
-/// Does what a command line says, of which the program's name and the journal's path come first. Out
-/// of memory for the words, the status is 12, and nothing is read or written.
-pub fn run_program<
-    R: Threads + Wait + Sync,
-    S: Source,
-    K: Sink,
-    D: Disk + Send,
-    P: Port,
-    C: Clock + Sync,
-    G: Gate + Sync,
->(
-    rt: &R,
-    alloc: Global,
-    command_line: &[String],
-    input: &mut S,
-    output: &mut K,
-    disk: D,
-    port: &mut P,
-    clock: &mut C,
-    gate: &G,
-) -> Ended<D>
-    requires { (P.state port.old).returned ≡ 0 }
-    ensures { (IsUntouched
-        (world (S.inflow input.old) (K.outflow output.old) disk clock.old
-        (P.state port.old))
-        (world (S.inflow input.new) (K.outflow output.new) result.disk clock.new
-        (P.state port.new))
-        result.status × (port.new ≡ port.old))
-        ⊎ Promise D.Disk C.Clock (words_behind 2 command_line.now) most_bytes
-        (world (S.inflow input.old) (K.outflow output.old) disk clock.old
-        (P.state port.old))
-        (world (S.inflow input.new) (K.outflow output.new) result.disk clock.new
-        (P.state port.new))
-        result.status }
-{
-    match given_words(alloc, command_line, 2) {
-        Ok(words) => desk_run(rt, alloc, &words, input, output, disk, port, clock, gate),
-        Err(_) => Ended {
-            status: End::OutOfMemory.status(),
-            disk,
-        },
     }
 }

@@ -1,0 +1,142 @@
+//! The whole program, over all that it may open.
+ghost use Rattle.std.specs.Prelude.{◌≡◌};
+ghost use Rattle.std.specs.Process.{exit_status};
+ghost use Rattle.program_outside.specs.Starts.{IsUsageShown};
+ghost use Rattle.warn_main.specs.Programs.{KeepsOver, RunsOver, around};
+
+use crate::access::access_of;
+use crate::desk::desk_run;
+use crate::place::{Place, place_of};
+use byte_streams::{Sink, Source};
+use desk_links::{Gate, Port};
+use desk_traits::{Clock, Disk, FileDisk, SureDisk};
+use hazard_types::{List, Text};
+use program_ends::{End, given_words};
+use program_outside::{Files, Outside};
+use std::alloc::Global;
+use std::process::ExitCode;
+use std::sync::Wait;
+use std::thread::Threads;
+
+/// The bytes of the disk in memory, in which the longest journal without a request has room.
+const ROOM: usize = 1_048_700;
+
+/// The words of the program, a line each.
+const USAGE: &str =
+    "warn_main PATH init\nwarn_main PATH script\nwarn_main PATH export\nwarn_main PATH board\nwarn_main PATH board --at STAMP\nwarn_main PATH upgrade\nwarn_main PATH dry OFFICE STAMP\nwarn_main PATH drill NUMBER COUNT\nwarn_main PATH serve --port N --workers W --connections M\n";
+
+/// What a desk's program uses beside its words, its input and its output.
+#[derive(Drop)]
+pub struct Desk<P, C, G> {
+    pub port: P,
+    pub clock: C,
+    pub gate: G,
+}
+
+/// Does what the words say over a disk, and closes it. Returns the status of the program.
+fn run_over<
+    R: Threads + Wait + Sync,
+    S: Source,
+    K: Sink,
+    D: Disk + Send + Drop,
+    P: Port,
+    C: Clock + Sync,
+    G: Gate + Sync,
+>(
+    rt: &R,
+    alloc: Global,
+    words: &List<Text>,
+    input: &mut S,
+    output: &mut K,
+    disk: D,
+    desk: &mut Desk<P, C, G>,
+) -> u8
+    requires { (P.state desk.old.port).returned ≡ 0 }
+    ensures { KeepsOver D.Disk C.Clock words.now disk
+        (around (S.inflow input.old) (K.outflow output.old) desk.old.clock
+        (P.state desk.old.port))
+        (around (S.inflow input.new) (K.outflow output.new) desk.new.clock
+        (P.state desk.new.port)) result }
+{
+    let ended = desk_run(
+        rt,
+        alloc,
+        words,
+        input,
+        output,
+        disk,
+        &mut desk.port,
+        &mut desk.clock,
+        &desk.gate,
+    );
+    ended.status
+}
+
+/// Does what the command line says over the journal that its first word names. Where memory ran out
+/// for the words, or for a disk in memory, the status is 12, and nothing is read or written.
+fn run_words<
+    R: Threads + Wait + Sync,
+    S: Source,
+    K: Sink,
+    M,
+    F: Files,
+    P: Port,
+    C: Clock + Sync,
+    G: Gate + Sync,
+>(rt: &R, outside: &mut Outside<S, K, M>, files: &mut F, desk: &mut Desk<P, C, G>) -> u8
+    requires { (P.state desk.old.port).returned ≡ 0 }
+    ensures ran { RunsOver F.opens F.File.Disk ⟦<FileDisk as Disk>⟧ ⟦<SureDisk as Disk>⟧ C.Clock
+        outside.old.words files.old files.new
+        (around (S.inflow outside.old.input) (K.outflow outside.old.output) desk.old.clock
+        (P.state desk.old.port))
+        (around (S.inflow outside.new.input) (K.outflow outside.new.output) desk.new.clock
+        (P.state desk.new.port)) result }
+    ensures silent { outside.new.messages ≡ outside.old.messages }
+{
+    let alloc = outside.alloc;
+    let Ok(command_line) = &outside.words else {
+        return End::OutOfMemory.status();
+    };
+    let Ok(words) = given_words(alloc, command_line, 2) else {
+        return End::OutOfMemory.status();
+    };
+    let (input, output) = (&mut outside.input, &mut outside.output);
+    match place_of(command_line) {
+        Place::Unnamed => run_over(rt, alloc, &words, input, output, FileDisk::new(None), desk),
+        Place::Memory => match SureDisk::new(alloc, ROOM) {
+            Ok(disk) => run_over(rt, alloc, &words, input, output, disk, desk),
+            Err(_) => End::OutOfMemory.status(),
+        },
+        Place::File(path) => {
+            let disk = files.open(path, access_of(&words));
+            run_over(rt, alloc, &words, input, output, disk, desk)
+        }
+    }
+}
+
+/// The whole program: opens the journal that its command line names, does what the words behind it
+/// say with its input and its output, and ends with the status of that run.
+pub fn run_program<
+    R: Threads + Wait + Sync,
+    S: Source,
+    K: Sink,
+    M: Sink,
+    F: Files,
+    P: Port,
+    C: Clock + Sync,
+    G: Gate + Sync,
+>(rt: &R, outside: &mut Outside<S, K, M>, files: &mut F, desk: &mut Desk<P, C, G>) -> ExitCode
+    requires { (P.state desk.old.port).returned ≡ 0 }
+    ensures ran { RunsOver F.opens F.File.Disk ⟦<FileDisk as Disk>⟧ ⟦<SureDisk as Disk>⟧ C.Clock
+        outside.old.words files.old files.new
+        (around (S.inflow outside.old.input) (K.outflow outside.old.output) desk.old.clock
+        (P.state desk.old.port))
+        (around (S.inflow outside.new.input) (K.outflow outside.new.output) desk.new.clock
+        (P.state desk.new.port)) (exit_status result) }
+    ensures usage { IsUsageShown USAGE.now (exit_status result) (M.outflow outside.old.messages)
+        (M.outflow outside.new.messages) }
+{
+    let status = run_words(rt, outside, files, desk);
+    outside.show_usage(status, USAGE);
+    ExitCode::from(status)
+}
