@@ -4,6 +4,7 @@ use Rattle.std.proofs.lemmas.Bool.{cases_Bool}
 use Rattle.std.proofs.lemmas.Bool.Decides.{nat_tests}
 use Rattle.desk_traits.specs.Faults.{Rose}
 use Rattle.desk_traits.specs.Streams.{Takes, Adds}
+use Rattle.event_life.specs.Products.{Product}
 use Rattle.product_decoder.specs.Decoded.{decode}
 use Rattle.product_decoder.specs.Feeding.{products_in}
 use Rattle.program_ends.specs.Ends.{fault_line, Begins, HasWritten, Telling, IsCut}
@@ -21,17 +22,20 @@ use Rattle.archive_report.proofs.Fronts.{readings_told}
 use Rattle.stats_report.specs.Readings.{statistics, IsTallied, ReadsTo, TellsTo}
 use Rattle.stats_report.specs.Report.{stats_text}
 use Rattle.stats_report.specs.Runs.{IsStatsRun}
+use Rattle.stats_report.specs.Tallies.{IsKept}
 use Rattle.stats_report.specs.declared.tally.Tally.{Tally}
 
 -- the text of a tally of the products of an input
-pub text_is : (asked : Asked) (read text : List ℕ) (tally : Tally) → IsTallied asked (map decode (products_in read)) tally → text ≡ stats_text tally.stamp tally.reader.products tally.faults → text ≡ statistics asked read
+abbrev pub IsText : List ℕ → Tally → Type 0
+IsText text tally = (stamp : ℕ) (products : List Product) → IsKept stamp products tally → text ≡ stats_text stamp products tally.faults
+
+pub text_is : (asked : Asked) (read text : List ℕ) (tally : Tally) → IsTallied asked (map decode (products_in read)) tally → IsText text tally → text ≡ statistics asked read
 unfolding statistics
 text_is asked read text tally is told =
     let rs = readings_told read in
-    let stamp = is.own.stamp in
-    let products = is.products ∙ ap (products_of asked) (sym rs) in
+    let products = ap (products_of asked) (sym rs) in
     let faults = is.faults ∙ ap faults_in (sym rs) in
-    told ∙ (λ i. stats_text (stamp i) (products i) (faults i))
+    told asked.minute (products_of asked (map decode (products_in read))) is.kept ∙ (λ i. stats_text asked.minute (products i) (faults i))
 
 module _ (asked : Asked) (limit : ℕ) (left left' taken : Option (List ℕ)) (tally : Tally) where
   -- the run stopped before there was a text, with nothing written
@@ -65,7 +69,7 @@ module _ (asked : Asked) (limit : ℕ) (left left' taken : Option (List ℕ)) (t
     pub ends_texting : {U : Type 0} → TellsTo {T = U} asked limit left left' taken taken (Err stop.OutOfMemory)
     ends_texting = untold stop.OutOfMemory t.read t.takes t.within (λ e. absurd (cc)) (λ e. absurd (cc)) (λ e. absurd (cc))
 
-    module _ (text : List ℕ) (taken' : Option (List ℕ)) (is : text ≡ stats_text tally.stamp tally.reader.products tally.faults) where
+    module _ (text : List ℕ) (taken' : Option (List ℕ)) (is : IsText text tally) where
       whole_is : text ≡ statistics asked t.read
       whole_is = text_is asked t.read text tally t.ended.2 is
 

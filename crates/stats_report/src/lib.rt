@@ -2,9 +2,11 @@
 #![tactic(auto)]
 
 mod input;
+mod keys;
 mod laws;
 mod lines;
 mod opened;
+mod product_lines;
 mod standing;
 mod stats;
 mod sums;

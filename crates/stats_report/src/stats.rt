@@ -27,7 +27,7 @@ fn tell_stats<S: Source, K: Sink>(
     ensures read { IsCauseOf Stop.Read (S.faults input.old) (S.faults input.new) result }
     ensures write { IsCauseOf Stop.Write (K.faults output.old) (K.faults output.new) result }
 {
-    let mut tally = Tally::new(alloc, asked);
+    let mut tally = Tally::new(alloc);
     count_input(alloc, asked, limit, &mut tally, input)?;
     let text = text_of(alloc, &tally)?;
     match write_whole(output, text.as_slice()) {

@@ -7,7 +7,7 @@ use Rattle.stats_report.proofs.input.count_input.Goals as goal
 
 pub loop-turn-init : goal.loop-turn-init
 loop-turn-init g c = record {
-  ran = ran_none c.args.asked.now c.args.tally.now (g.S.Source.left c.args.input.now) c.new-feed.result c.requires.kept c.requires.own c.requires.fresh c.new-feed.ensures.rest c.new-feed.ensures.going;
+  ran = ran_none c.args.asked.now c.args.tally.now (g.S.Source.left c.args.input.now) c.new-feed.result c.requires.fresh c.new-feed.ensures.rest c.new-feed.ensures.going;
   within = omega arith;
   turns = omega arith;
   steady = refl;
