@@ -1,5 +1,5 @@
 -- What a tally keeps of products, of which it holds none.
-use Rattle.std.specs.Prelude.{◌≡◌, ◌≤◌, ℕ, ◌+◌, List, [], ◌∷◌, ◌++◌, fold, length, max, Result, Ok, Err}
+use Rattle.std.specs.Prelude.{◌≡◌, ℕ, ◌+◌, List, ◌++◌, fold, length, max, Result, Ok, Err}
 use Rattle.event_life.specs.Products.{Product, rows_with, rows_of}
 use Rattle.product_decoder.specs.Openings.{lawful_lines, openings_with, openings_of}
 use Rattle.product_decoder.specs.ReaderModel.{product_of}

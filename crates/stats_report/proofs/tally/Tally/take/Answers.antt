@@ -1,7 +1,5 @@
-use Rattle.std.proofs.Common.{refl}
 use Rattle.std.proofs.lemmas.Result.{on_ok_weaker}
 use Rattle.archive_report.specs.Readings.{said_of}
-use Rattle.stats_report.specs.declared.tally.Tally.{Tally}
 use Rattle.stats_report.proofs.Keeping.{counts_told}
 use Rattle.stats_report.proofs.tally.Tally.take.Goals as goal
 
