@@ -1,0 +1,105 @@
+use Rattle.std.proofs.Common.{rules, [], sym, ◌∙◌, ap, refl, arith, length}
+use Rattle.std.proofs.lemmas.List.Elements.{All-rest}
+use Rattle.desk_links.specs.Links.{IsUnused, PortState}
+use Rattle.warn_serve.specs.Gathered.{IsFresh}
+use Rattle.warn_serve.proofs.Gathering.{is_share, keeps_fewer}
+use Rattle.warn_serve.proofs.Listing.{all_here, all_pushed, all_same, total_pushed}
+use Rattle.warn_serve.proofs.Returning.{takes_none, takes_unused}
+use Rattle.warn_serve.proofs.service.Service.hire.Goals as goal
+
+pub loop-door-init : goal.loop-door-init
+loop-door-init g c = record {
+  can = tt;
+  ends = tt;
+  waits = search rules;
+  kept = record { lock = refl; base = refl; first = refl; seen = refl; mine = refl };
+  shares = search rules;
+  room = search rules;
+  unused = all_same c.args.doors.items c.into_iter-door-iterator.result.rest.items (search rules) (λ d. IsUnused (g.P.Door.Door.state d)) c.requires.unused;
+  fresh = search rules;
+  total = search rules;
+  back = takes_none (g.P.Port.state c.args.port.now);
+  numbers = refl;
+}
+
+pub loop-door-preserved-then-is_err : goal.loop-door-preserved-then-is_err
+loop-door-preserved-then-is_err g c =
+    let door = g.P.Door.Door in
+    let port = g.P.Port.state in
+    let was = c.loop-door.invariant in
+    let step = c.in-Some.ensures.steps.0 in
+    record {
+      can = tt;
+      ends = tt;
+      waits = (let n = ap length step in omega (arith, was.waits));
+      kept = was.kept;
+      shares = search rules;
+      room = (let n = ap length step in let m = ap length c.reserve.ensures.items in omega (arith, was.room));
+      unused = All-rest (λ d. IsUnused (door.state d)) c.in-Some.door c.next.new.self.rest.items c.loop-door.door-iterator.rest.items step was.unused;
+      fresh = all_same c.loop-door.workers.items c.reserve.new.self.items c.reserve.ensures.items (λ w. IsFresh c.args.pass.now w.pass (door.state w.door) w.share c.args.connections) was.fresh;
+      total = search rules;
+      back = takes_unused (port c.args.port.now) (port c.loop-door.port) (port c.return_door.new.self) (door.state c.in-Some.door) was.back
+          (all_here [] c.in-Some.door c.next.new.self.rest.items c.loop-door.door-iterator.rest.items step (λ d. IsUnused (door.state d)) was.unused)
+          c.return_door.ensures;
+      numbers = ap (λ (p : PortState). p.numbers) c.return_door.ensures ∙ was.numbers;
+    }
+
+pub return_door-requires-in_default-clause-none_out : goal.return_door-requires-in_default-clause-none_out
+return_door-requires-in_default-clause-none_out g c =
+    let door = g.P.Door.Door in
+    let unused = all_here [] c.in-Some.door c.next.new.self.rest.items c.loop-door.door-iterator.rest.items c.in-Some.ensures.steps.0 (λ d. IsUnused (door.state d)) c.loop-door.invariant.unused in
+    unused.none_given ∙ sym unused.none_returned
+
+pub return_door-requires-in_default-clause-few : goal.return_door-requires-in_default-clause-few
+return_door-requires-in_default-clause-few g c =
+    let door = g.P.Door.Door in
+    let unused = all_here [] c.in-Some.door c.next.new.self.rest.items c.loop-door.door-iterator.rest.items c.in-Some.ensures.steps.0 (λ d. IsUnused (door.state d)) c.loop-door.invariant.unused in
+    omega (arith, unused.none_returned, c.loop-door.invariant.back.returned, c.requires.few)
+
+pub loop-door-preserved-in_default : goal.loop-door-preserved-in_default
+loop-door-preserved-in_default g c =
+    let door = g.P.Door.Door in
+    let port = g.P.Port.state in
+    let was = c.loop-door.invariant in
+    let step = c.in-Some.ensures.steps.0 in
+    record {
+      can = tt;
+      ends = tt;
+      waits = (let n = ap length step in omega (arith, was.waits));
+      kept = search rules;
+      shares = search rules;
+      room = (let n = ap length step in let m = ap length c.reserve.ensures.items in omega (arith, was.room));
+      unused = All-rest (λ d. IsUnused (door.state d)) c.in-Some.door c.next.new.self.rest.items c.loop-door.door-iterator.rest.items step was.unused;
+      fresh = all_same c.loop-door.workers.items c.reserve.new.self.items c.reserve.ensures.items (λ w. IsFresh c.args.pass.now w.pass (door.state w.door) w.share c.args.connections) was.fresh;
+      total = search rules;
+      back = takes_unused (port c.args.port.now) (port c.loop-door.port) (port c.return_door-in_default.new.self) (door.state c.in-Some.door) was.back
+          (all_here [] c.in-Some.door c.next.new.self.rest.items c.loop-door.door-iterator.rest.items step (λ d. IsUnused (door.state d)) was.unused)
+          c.return_door-in_default.ensures;
+      numbers = ap (λ (p : PortState). p.numbers) c.return_door-in_default.ensures ∙ was.numbers;
+    }
+
+pub loop-door-preserved : goal.loop-door-preserved
+loop-door-preserved g c =
+    let door = g.P.Door.Door in
+    let was = c.loop-door.invariant in
+    let step = c.in-Some.ensures.steps.0 in
+    let unused = all_here [] c.in-Some.door c.next.new.self.rest.items c.loop-door.door-iterator.rest.items step (λ d. IsUnused (door.state d)) was.unused in
+    let sum = total_pushed c.loop-door.workers.items c.reserve.new.self.items c.push_reserved.new.self.items _ c.reserve.ensures.items c.push_reserved.ensures.items (λ w. w.share) in
+    record {
+      can = tt;
+      ends = tt;
+      waits = (let n = ap length step in omega (arith, was.waits));
+      kept = keeps_fewer c.args.pass.now c.loop-door.pass c.split.new.pass was.kept c.in-Ok.ensures.old;
+      shares = search rules;
+      room = search rules;
+      unused = All-rest (λ d. IsUnused (door.state d)) c.in-Some.door c.next.new.self.rest.items c.loop-door.door-iterator.rest.items step was.unused;
+      fresh = all_pushed c.loop-door.workers.items c.reserve.new.self.items c.push_reserved.new.self.items _ c.reserve.ensures.items c.push_reserved.ensures.items (λ w. IsFresh c.args.pass.now w.pass (door.state w.door) w.share c.args.connections) was.fresh
+          (record {
+            is_share = is_share c.args.pass.now c.loop-door.pass c.in-Ok.part c.in-Ok.ensures.new was.kept;
+            unused = unused;
+            few = omega (arith, c.share_of-share.ensures.most, was.total);
+          });
+      total = omega (arith, sum, was.total, c.share_of-share.ensures.most);
+      back = was.back;
+      numbers = was.numbers;
+    }
