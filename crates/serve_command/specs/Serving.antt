@@ -32,7 +32,7 @@ module _ {D : Type 0} (d : Disks D) (gives : ℤ → Type 0) where
     -- the office when all its workers had ended
     pub closed : KeptOffice D d
     pub end : ServeEnd
-    pub served : IsServed d gives opened closed serving.port serving.connections port port' end
+    pub served : IsServed d gives opened closed serving.port serving.workers serving.connections port port' end
     pub told : TellsServed end (summary (entries_of closed) (length (state_of closed).products)) writes taken taken' writes' status
     pub handed : next ≡ disk_of closed
     -- one legal history, which holds the requests that were accepted on the links behind what was found, and the disk

@@ -1,7 +1,9 @@
 //! Workers, each with a share of one pass and of the links.
-ghost use Rattle.std.specs.Prelude.{◌≡◌, ◌≤◌, ◌<◌, ◌+◌, [], ℕ, All, length, map, slice_index_or, vec_len};
+ghost use Rattle.std.specs.Prelude.{◌≡◌, ◌≤◌, ◌<◌, ◌+◌, ◌-◌, [], ℕ, All, IfOk, OnErr, OnOk, length, map, slice_index_or, vec_len};
+ghost use Rattle.turn_lock.specs.Passes.{one_share_fewer, one_share_of};
 ghost use Rattle.warn_serve.specs.Calls.{AnswersCall};
-ghost use Rattle.warn_serve.specs.Gathered.{DoesShare, IsFresh, KeepsWhole, TakesBack, total_of};
+ghost use Rattle.warn_serve.specs.Gathered.{DoesShare, IsFresh, KeepsWhole, TakesBack};
+ghost use Rattle.warn_serve.specs.Shares.{share_at, shares_of, total_of, with_links};
 ghost use Rattle.desk_links.specs.Links.{IsUnused};
 
 use crate::service::Service;
@@ -9,6 +11,7 @@ use crate::workers::WorkerEnd;
 use call_inbox::Inbox;
 use desk_links::{Door, Gate, Port};
 use desk_traits::{Clock, Disk};
+use hazard_types::Oom;
 use office_turns::SharedOffice;
 use std::sync::Wait;
 use std::thread;
@@ -25,20 +28,38 @@ pub(crate) struct Worker<T: Storied, Dr> {
     pub(crate) end: WorkerEnd,
 }
 
-/// The share of the next of so many workers in the links that are left: those before take one more
-/// where they can't be shared evenly.
-fn share_of(left: u64, workers: u64) -> u64
-    requires { 0 < workers }
-    ensures most { result ≤ left }
-    ensures all { workers ≡ 1 → result ≡ left }
+/// The share of the next worker, the whole part of the quotient and one link more while some are left
+/// over; and how many are left over for those after it.
+fn share_of(whole: u64, more: u64) -> (u64, u64)
+    requires { whole ≤ 1000000 }
+    ensures share { result.0 ≡ share_at whole more }
+    ensures more { result.1 ≡ more - 1 }
 {
-    left.div_ceil(workers)
+    if more == 0 {
+        (whole, 0)
+    } else {
+        (whole + 1, more - 1)
+    }
 }
 
 impl<R, D: Disk, C, G> Service<'_, R, D, C, G> {
-    /// A worker for each door, with its share of the pass and of the links. Where memory runs out for
-    /// one its door goes back to the port, and the later ones take its links. Returns how many links
-    /// are left without a worker.
+    /// What one more worker needs: a share of the pass, and an inbox.
+    fn equip(&self, pass: &mut Pass<SharedOffice<D>>) -> Result<(Pass<SharedOffice<D>>, Inbox), Oom>
+        requires lock { pass.old.lock ≡ self.now.lock.now }
+        requires shares { 1 < pass.old.shares }
+        ensures part { IfOk result (λ made. made.0 ≡ one_share_of pass.old) }
+        ensures fewer { OnOk result (pass.new ≡ one_share_fewer pass.old) }
+        ensures kept { OnErr result (pass.new ≡ pass.old) }
+    {
+        let inbox = Inbox::new(self.alloc)?;
+        let part = self.lock.split(pass)?;
+        Ok((part, inbox))
+    }
+
+    /// A worker for each door, with its share of the pass and of the links: worker k of W has the
+    /// whole part of `connections` / W, and one link more where k is at most the remainder. Where
+    /// memory runs out for one its door goes back to the port. Returns how many links are lost with
+    /// those.
     pub(crate) fn hire<P: Port>(
         &self,
         pass: &mut Pass<SharedOffice<D>>,
@@ -47,7 +68,9 @@ impl<R, D: Disk, C, G> Service<'_, R, D, C, G> {
         connections: u64,
     ) -> (Vec<Worker<SharedOffice<D>, P::Door>>, u64)
         requires lock { pass.old.lock ≡ self.now.lock.now }
+        requires some { 0 < vec_len doors }
         requires shares { vec_len doors < pass.old.shares }
+        requires connections { connections ≤ 1000000 }
         requires unused { All (λ door. IsUnused (P.Door.state door)) doors.items }
         requires few { (P.state port.old).returned ≤ 1000000 }
         ensures kept { KeepsWhole pass.old pass.new }
@@ -55,28 +78,29 @@ impl<R, D: Disk, C, G> Service<'_, R, D, C, G> {
         ensures fresh { All (λ w. IsFresh pass.old w.pass (P.Door.state w.door) w.share connections)
             result.0.items }
         ensures total { total_of (map (λ w. w.share) result.0.items) + result.1 ≡ connections }
+        ensures even { result.1 ≡ 0 → with_links (map (λ w. w.share) result.0.items)
+            ≡ with_links (shares_of (vec_len doors) connections) }
         ensures port { TakesBack (P.state port.old) (P.state port.new) [] }
         ensures numbers { (P.state port.new).numbers ≡ (P.state port.old).numbers }
     {
+        let count = doors.len() as u64;
+        let whole = connections / count;
+        let mut more = connections % count;
         let mut workers = Vec::new(self.alloc);
-        let mut left = connections;
-        let mut waiting = doors.len() as u64;
+        let mut lost = 0;
         for door in doors {
-            let share = share_of(left, waiting);
-            waiting -= 1;
+            let (share, rest) = share_of(whole, more);
+            more = rest;
             if workers.reserve(1).is_err() {
                 port.return_door(door);
+                lost += share;
                 continue;
             }
-            let Ok(inbox) = Inbox::new(self.alloc) else {
+            let Ok((part, inbox)) = self.equip(pass) else {
                 port.return_door(door);
+                lost += share;
                 continue;
             };
-            let Ok(part) = self.lock.split(pass) else {
-                port.return_door(door);
-                continue;
-            };
-            left -= share;
             workers.push_reserved(Worker {
                 pass: part,
                 door,
@@ -85,7 +109,7 @@ impl<R, D: Disk, C, G> Service<'_, R, D, C, G> {
                 end: WorkerEnd::Done(0),
             });
         }
-        (workers, left)
+        (workers, lost)
     }
 }
 

@@ -12,7 +12,7 @@ mod serving;
 mod workers;
 
 pub use laws::links_end_by_their_causes;
-pub use links::{LinkEnd, MOST_CALLS};
+pub use links::{LinkEnd, MOST_CALLS, serve_link};
 pub use service::Service;
 pub use serving::{ServeEnd, serve};
 pub use workers::WorkerEnd;

@@ -18,8 +18,8 @@ use hazard_types::{Oom, Refusal};
 use office_turns::SharedOffice;
 use std::alloc::Global;
 use std::sync::Wait;
-use turn_lock::Pass;
-use warn_http::Call;
+use turn_lock::{Pass, TurnLock};
+use warn_http::{Call, Routes};
 
 /// The most calls that a link serves.
 pub const MOST_CALLS: u64 = 10_000;
@@ -166,4 +166,38 @@ impl<R: Wait, D: Disk, C: Clock, G: Gate> Service<'_, R, D, C, G> {
         inbox.clear();
         self.serve_calls(pass, inbox, link)
     }
+}
+
+/// Serves one link, as `Service::serve_link` does, with routes and an inbox of its own.
+pub fn serve_link<R: Wait, D: Disk, L: Link, C: Clock, G: Gate>(
+    rt: &R,
+    alloc: Global,
+    lock: &TurnLock<SharedOffice<D>>,
+    pass: &mut Pass<SharedOffice<D>>,
+    link: &mut L,
+    clock: &C,
+    gate: &G,
+) -> LinkEnd
+    requires pass { pass.old.lock ≡ lock.now }
+    ensures kept { KeepsRights pass.old pass.new }
+    ensures whole { IsWhole result → AnswersLink (AnswersCall (C.gives clock.now))
+        (L.state link.old) (L.state link.new) pass.old pass.new }
+    ensures served { IsServedLink (AnswersCall (C.gives clock.now)) (L.state link.old)
+        (L.state link.new) pass.old pass.new result }
+{
+    let Ok(mut inbox) = Inbox::new(alloc) else {
+        return LinkEnd::OutOfMemory;
+    };
+    let Ok(routes) = Routes::new(alloc) else {
+        return LinkEnd::OutOfMemory;
+    };
+    let service = Service {
+        rt,
+        alloc,
+        lock,
+        routes: &routes,
+        clock,
+        gate,
+    };
+    service.serve_link(pass, &mut inbox, link)
 }

@@ -1,7 +1,8 @@
 //! The whole service: workers over the doors of a port share one kept office.
-ghost use Rattle.std.specs.Prelude.{◌≡◌, ◌≤◌, ◌<◌, ◌+◌, All, map, vec_len};
+ghost use Rattle.std.specs.Prelude.{◌≡◌, ◌≤◌, ◌<◌, ◌+◌, ℕ, List, All, map, vec_len};
 ghost use Rattle.warn_serve.specs.Calls.{AnswersCall};
-ghost use Rattle.warn_serve.specs.Gathered.{HasDone, IsFresh, IsGathered, end_after, short_of, total_of};
+ghost use Rattle.warn_serve.specs.Gathered.{HasDone, IsFresh, IsGathered, end_after, short_of};
+ghost use Rattle.warn_serve.specs.Shares.{SharesOut, total_of};
 ghost use Rattle.warn_serve.specs.Served.{HasListened, IsServed};
 
 use crate::hiring::{Worker, work_all};
@@ -71,6 +72,7 @@ impl<R, D: Disk, C: Clock, G> Service<'_, R, D, C, G> {
         ensures shares { pass.new.shares ≡ pass.old.shares + vec_len workers }
         ensures numbers { (P.state port.new).numbers ≡ (P.state port.old).numbers }
         ensures gathered { IsGathered (AnswersCall (C.gives self.now.clock.now))
+            (map (λ w. w.share) workers.items)
             (total_of (map (λ w. w.share) workers.items)) (P.state port.old) (P.state port.new)
             pass.old pass.new result }
     {
@@ -112,6 +114,7 @@ impl<R: Threads + Wait + Sync, D: Disk + Send, C: Clock + Sync, G: Gate + Sync> 
         ensures shares { pass.new.shares ≡ pass.old.shares + vec_len workers }
         ensures numbers { (P.state port.new).numbers ≡ (P.state port.old).numbers }
         ensures gathered { IsGathered (AnswersCall (C.gives self.now.clock.now))
+            (map (λ w. w.share) workers.items)
             (total_of (map (λ w. w.share) workers.items)) (P.state port.old) (P.state port.new)
             pass.old pass.new result }
     {
@@ -131,29 +134,30 @@ impl<R: Threads + Wait + Sync, D: Disk + Send, C: Clock + Sync, G: Gate + Sync> 
     ) -> ServeEnd
         requires lock { pass.old.lock ≡ self.now.lock.now }
         requires shares { pass.old.shares ≡ 1024 }
-        requires workers { workers ≤ 16 }
+        requires workers { (1 ≤ workers) × (workers ≤ 16) }
         requires connections { (1 ≤ connections) × (connections ≤ 1000000) }
         requires unused { (P.state port.old).returned ≡ 0 }
         ensures shares { pass.new.shares ≡ 1024 }
         ensures listened { HasListened number (P.state port.old) (P.state port.new) }
-        ensures gathered { IsGathered (AnswersCall (C.gives self.now.clock.now))
-            connections (P.state port.old) (P.state port.new) pass.old pass.new result }
+        ensures gathered { (given : List ℕ) × IsGathered (AnswersCall (C.gives self.now.clock.now))
+            given connections (P.state port.old) (P.state port.new) pass.old pass.new result
+            × SharesOut workers connections given result }
     {
         let doors = match port.listen(number, workers) {
             Ok(doors) => doors.into_vec(),
             Err(Or::No(Failed)) => return ServeEnd::PortFault,
             Err(Or::OutOfMemory) => return ServeEnd::OutOfMemory,
         };
-        let (hired, left) = self.hire(pass, port, doors, connections);
+        let (hired, lost) = self.hire(pass, port, doors, connections);
         let end = self.serve_shares(pass, port, hired);
-        short_of(end, left)
+        short_of(end, lost)
     }
 }
 
 /// Serves so many links of the doors of a port, 1 to 1,000,000, which listens at the number, over
-/// one kept office, by 1 to 16 workers, and returns how that ended. The office comes back, after
-/// all that happened to it. Where memory runs out for a worker the others serve fewer links, or all of
-/// them.
+/// one kept office, by 1 to 16 workers, each with its share, and returns how that ended. The office
+/// comes back, after all that happened to it. Where memory runs out for a worker its links are served
+/// by nobody, and the end is `OutOfMemory`.
 pub fn serve<R: Threads + Wait + Sync, D: Disk + Send, P: Port, C: Clock + Sync, G: Gate + Sync>(
     rt: &R,
     alloc: Global,
@@ -168,7 +172,7 @@ pub fn serve<R: Threads + Wait + Sync, D: Disk + Send, P: Port, C: Clock + Sync,
     requires workers { (1 ≤ workers) × (workers ≤ 16) }
     requires connections { (1 ≤ connections) × (connections ≤ 1000000) }
     requires unused { (P.state port.old).returned ≡ 0 }
-    ensures { IsServed D.Disk (C.gives clock.now) kept result.0 number connections
+    ensures { IsServed D.Disk (C.gives clock.now) kept result.0 number workers connections
         (P.state port.old) (P.state port.new) result.1 }
 {
     let shared = SharedOffice::open(alloc, kept);
