@@ -1,7 +1,7 @@
 -- Reading, step by step, and what is told.
 use Rattle.std.proofs.Common.{◌≡◌, ℕ, List, [], refl, sym, ◌∙◌, append-nil, subst, Option, None, Some, Result, Ok, Err, OnErr}
 use Rattle.desk_links.specs.Links.{LinkState}
-use Rattle.desk_traits.specs.Streams.{Takes}
+use Rattle.byte_streams.specs.Flows.{Takes}
 use Rattle.call_inbox.specs.Next.{Tells}
 use Rattle.call_inbox.specs.Reading.{HasRead}
 use Rattle.call_inbox.specs.declared.next.NextCall.{NextCall}

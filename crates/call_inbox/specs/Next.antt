@@ -2,7 +2,7 @@
 use Rattle.std.specs.Prelude.{◌≡◌, ◌<◌, ℕ, List, [], length, ⊤}
 use Rattle.desk_links.specs.Links.{LinkState}
 use Rattle.desk_traits.specs.Faults.{Rose}
-use Rattle.desk_traits.specs.Streams.{IsAtEnd}
+use Rattle.byte_streams.specs.Flows.{IsAtEnd}
 use Rattle.warn_http.specs.Calls.{HasNoWholeCall, IsCall, IsRefused, IsUnfinished, IsWithin, posted_in}
 use Rattle.warn_http.specs.declared.read.HttpRead.TheVariants as read
 use Rattle.call_inbox.specs.declared.next.NextCall.{NextCall}

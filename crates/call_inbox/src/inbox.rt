@@ -1,7 +1,7 @@
 //! What was read from a link and not yet used.
 ghost use Rattle.std.specs.Prelude.{◌≡◌, ◌≤◌, ◌<◌, ◌+◌, ◌-◌, [], length, take, drop, IfOk, OnErr, OnOk};
 ghost use Rattle.desk_traits.specs.Faults.{HasCause};
-ghost use Rattle.desk_traits.specs.Streams.{IsAtEnd};
+ghost use Rattle.byte_streams.specs.Flows.{IsAtEnd};
 ghost use Rattle.desk_links.specs.Links.{ReadsLink};
 ghost use Rattle.call_inbox.specs.Reading.{HasRead};
 

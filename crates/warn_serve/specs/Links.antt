@@ -4,7 +4,7 @@ use Rattle.hazard_types.specs.declared.refusal.Refusal.{Refusal}
 use mathlib.Core.List.{IsPrefix}
 use Rattle.desk_links.specs.Links.{LinkState, faults_of}
 use Rattle.desk_traits.specs.Faults.{Rose}
-use Rattle.desk_traits.specs.Streams.{Adds, IsAtEnd, Takes}
+use Rattle.byte_streams.specs.Flows.{Adds, IsAtEnd, Takes}
 use Rattle.warn_http.specs.Calls.{Called, HasNoWholeCall, IsCall, IsCut, IsRefused, IsUnfinished, most_calls}
 use Rattle.warn_serve.specs.Answers.{refused_answer}
 use Rattle.warn_serve.specs.declared.links.LinkEnd.{LinkEnd}

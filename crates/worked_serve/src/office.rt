@@ -5,7 +5,8 @@ ghost use Rattle.serve_command.specs.Words.{IsServing};
 
 use desk_commands::Ended;
 use desk_links::{Gate, Link, OpenGate, Port};
-use desk_traits::{Clock, Disk, Sink};
+use byte_streams::Sink;
+use desk_traits::{Clock, Disk};
 use hazard_types::Oom;
 use office_journal::KeptOffice;
 use office_turns::SharedOffice;
