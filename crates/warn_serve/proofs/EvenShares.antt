@@ -49,8 +49,8 @@ module _ (workers connections lost coming later whole more share : ℕ) (one_mor
   pub share_within : (had : List ℕ) → IsSharing had lost coming whole more workers connections → lost + share ≤ connections
   share_within had s = let t = total_is in let all = s.total in omega arith
 
-  pub sharing_on : (had had' : List ℕ) → had' ≡ had ++ share ∷ [] → IsSharing had lost coming whole more workers connections → IsSharing had' lost later whole (more - 1) workers connections
-  sharing_on had had' pushed s = record {
+  one_on : (had had' : List ℕ) → had' ≡ had ++ share ∷ [] → IsSharing had lost coming whole more workers connections → IsSharing had' lost later whole (more - 1) workers connections
+  one_on had had' pushed s = record {
     total = (let t = total_is in let all = s.total in let p = ap total_of pushed ∙ total_pushed had share in omega arith);
     even = λ none.
         ap (λ (l : List ℕ). with_links (l ++ even_shares later whole (more - 1))) pushed
@@ -59,14 +59,25 @@ module _ (workers connections lost coming later whole more share : ℕ) (one_mor
         ∙ s.even none;
   }
 
-  pub sharing_missed : (had : List ℕ) (lost' : ℕ) → lost' ≡ lost + share → IsSharing had lost coming whole more workers connections → IsSharing had lost' later whole (more - 1) workers connections
-  sharing_missed had lost' is s = record {
+  one_missed : (had : List ℕ) (lost' : ℕ) → lost' ≡ lost + share → IsSharing had lost coming whole more workers connections → IsSharing had lost' later whole (more - 1) workers connections
+  one_missed had lost' is s = record {
     total = (let t = total_is in let all = s.total in omega (arith, is));
     even = λ none.
         skipped had (even_shares later whole (more - 1)) share (omega (arith, is, none))
         ∙ ap (λ (l : List ℕ). with_links (had ++ l)) (sym rest_is)
         ∙ s.even (omega (arith, is, none));
   }
+
+  -- one worker more has its share
+  pub sharing_on : (had had' : List ℕ) (more' : ℕ) → had' ≡ had ++ share ∷ [] → more' ≡ more - 1 → IsSharing had lost coming whole more workers connections → IsSharing had' lost later whole more' workers connections
+  sharing_on had had' more' pushed fewer s =
+      subst (λ (n : ℕ). IsSharing had' lost later whole n workers connections) (sym fewer) (one_on had had' pushed s)
+
+  -- its share is lost
+  pub sharing_missed : (had had' : List ℕ) (lost' more' : ℕ) → had' ≡ had → lost' ≡ lost + share → more' ≡ more - 1 → IsSharing had lost coming whole more workers connections → IsSharing had' lost' later whole more' workers connections
+  sharing_missed had had' lost' more' same is fewer s =
+      subst (λ (l : List ℕ). IsSharing l lost' later whole more' workers connections) (sym same)
+      (subst (λ (n : ℕ). IsSharing had lost' later whole n workers connections) (sym fewer) (one_missed had lost' is s))
 
 -- no worker is to come
 pub sharing_done : (workers connections lost coming whole more : ℕ) (had : List ℕ) → coming ≡ 0 → IsSharing had lost coming whole more workers connections
