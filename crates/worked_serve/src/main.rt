@@ -3,6 +3,7 @@
 #![tactic(auto)]
 
 mod follow;
+mod office;
 mod serve;
 mod turns;
 

@@ -3,14 +3,15 @@ ghost use Rattle.std.specs.Prelude.{◌≡◌, [], All, IfOk};
 ghost use Rattle.desk_links.specs.LinkMemory.{IsUntouched};
 ghost use Rattle.serve_command.specs.Words.{IsServing};
 
+use crate::office::serve_port;
 use crate::serve::answers::{add_bytes, count_answers};
 use crate::serve::gate::HoldingGate;
 use crate::serve::given::Given;
 use desk_commands::Ended;
 use desk_links::{MemLink, MemPort};
-use desk_traits::MemSink;
+use byte_streams::MemSink;
 use hazard_types::{List, Oom, Text};
-use serve_command::{Serving, run_serve};
+use serve_command::Serving;
 use std::alloc::Global;
 use std::sync::Wait;
 use std::thread::Threads;
@@ -127,7 +128,7 @@ pub fn serve_doors<R: Threads + Wait + Sync>(
     let mut port = port_of(alloc, given, doors)?;
     let clock = given.clock(alloc)?;
     let disk = given.disk(alloc)?;
-    let Ended { status, disk } = run_serve(
+    let Ended { status, disk } = serve_port(
         rt,
         alloc,
         serving,
