@@ -1,10 +1,18 @@
 -- The laws of a link that tells nothing of its bytes.
 use Rattle.std.proofs.Common.{◌≡◌, ℕ, None, refl, ap, ◌∙◌}
-use Rattle.desk_links.specs.Links.{DoorState, KeepsInput, KeepsOutput, LinkState, PortState, inflow, outflow}
+use Rattle.byte_streams.specs.Flows.{Inflow, Outflow, inflow, outflow}
+use Rattle.desk_links.specs.Links.{DoorState, KeepsInput, KeepsOutput, LinkState, PortState}
 
--- what it shows: how many of its reads and how many of its writes have failed
+-- what it shows as a source and as a sink: how many of its reads and how many of its writes have failed
+abbrev pub untold_input : ℕ → Inflow
+untold_input reads = inflow None reads
+
+abbrev pub untold_output : ℕ → Outflow
+untold_output writes = outflow None writes
+
+-- what it shows
 abbrev pub untold : ℕ → ℕ → LinkState
-untold reads writes = record { came = None; input = inflow None reads; output = outflow None writes }
+untold reads writes = record { came = None; input = untold_input reads; output = untold_output writes }
 
 -- a door over such links, and a port
 abbrev pub untold_door : ℕ → ℕ → ℕ → DoorState

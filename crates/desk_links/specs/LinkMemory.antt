@@ -2,7 +2,8 @@
 use Rattle.std.proofs.Common.{◌≡◌, ◌⊎◌, ◌↔◌, ◌+◌, ◌-◌, ◌^◌, ℕ, zero, suc, List, [], ◌∷◌, ◌++◌, length, map, min, drop, Bool, Some, Result, IfOk, OnErr, IsErr, refl, ◌∙◌, ap}
 use Rattle.std.specs.Prelude.{Contains}
 use Rattle.desk_traits.specs.Faults.{next_count}
-use Rattle.desk_links.specs.Links.{DoorState, EndsIn, IsNew, IsUnused, KeepsInput, KeepsOutput, LinkState, PortState, inflow, outflow}
+use Rattle.byte_streams.specs.Flows.{Inflow, Outflow, inflow, outflow}
+use Rattle.desk_links.specs.Links.{DoorState, EndsIn, IsNew, IsUnused, KeepsInput, KeepsOutput, LinkState, PortState}
 
 -- a link in memory: the bytes read and those left, the bytes written, the most that it gives at once, the calls that fail, how many were made, how many reads and how many writes failed, and whether memory has lacked for a write
 pub record LinkInMemory : Type 0 where
@@ -16,10 +17,17 @@ pub record LinkInMemory : Type 0 where
   pub write_faults : ℕ
   pub lacked : Bool
 
+-- what it shows as a source and as a sink
+abbrev pub link_input : LinkInMemory → Inflow
+link_input l = inflow (Some l.left) l.read_faults
+
+abbrev pub link_output : LinkInMemory → Outflow
+link_output l = outflow (Some l.written) l.write_faults
+
 -- what it shows
 abbrev pub link_state : LinkInMemory → LinkState
 link_state l =
-    record { came = Some (l.read ++ l.left); input = inflow (Some l.left) l.read_faults; output = outflow (Some l.written) l.write_faults }
+    record { came = Some (l.read ++ l.left); input = link_input l; output = link_output l }
 
 -- nothing was read of it or written on it, and it has not failed
 abbrev pub IsUntouched : LinkInMemory → Type 0

@@ -1,25 +1,7 @@
 -- What links, doors, dialers and ports show, and what is done to that.
 use Rattle.std.specs.Prelude.{◌≡◌, ◌≤◌, ◌+◌, ◌-◌, ◌^◌, ℕ, List, [], ◌∷◌, ◌++◌, length, min, take, Option, None, Some, option_map, Result, IfOk, OnOk, OnErr}
 use Rattle.desk_traits.specs.Faults.{HasCause}
-use Rattle.desk_traits.specs.Streams.{Adds, Reads}
-
--- what comes in: the bytes that are left to read, where they are told, and how many reads have
--- failed
-pub record Inflow : Type 0 where
-  pub left : Option (List ℕ)
-  pub faults : ℕ
-
--- what goes out: the bytes that were taken, where they are told, and how many writes have failed
-pub record Outflow : Type 0 where
-  pub taken : Option (List ℕ)
-  pub faults : ℕ
-
--- the same, by their parts
-abbrev pub inflow : Option (List ℕ) → ℕ → Inflow
-inflow left faults = record { left = left; faults = faults }
-
-abbrev pub outflow : Option (List ℕ) → ℕ → Outflow
-outflow taken faults = record { taken = taken; faults = faults }
+use Rattle.byte_streams.specs.Flows.{Adds, Gives, Inflow, Outflow}
 
 -- a link: the bytes that came, those read and those left, where they are told, and both its sides
 pub record LinkState : Type 0 where
@@ -46,7 +28,7 @@ EndsIn (Some came) left = (read rest : List ℕ) × (left ≡ Some rest) × (cam
 
 -- one read of a link into a buffer
 pub record ReadsLink {E : Type 0} (old new : LinkState) (result : Result ℕ E) (buffer : List ℕ) : Type 0 where
-  pub bytes : Reads old.input.left new.input.left result buffer
+  pub bytes : Gives old.input.left new.input.left result buffer
   pub cause : HasCause old.input.faults new.input.faults result
   pub steady : OnOk result (new.input.faults ≡ old.input.faults)
   pub came : new.came ≡ old.came

@@ -1,9 +1,10 @@
 //! Bytes that are read before they are asked for.
 ghost use Rattle.std.specs.Prelude.{◌≡◌, ◌++◌, ◌↔◌, [], length, take, min, IsTrue, OnOk, OnErr};
 ghost use Rattle.desk_traits.specs.Faults.{HasCause};
-ghost use Rattle.desk_traits.specs.Streams.{Takes, IsAtEnd};
+ghost use Rattle.byte_streams.specs.Flows.{Takes, IsAtEnd};
 
-use desk_traits::{Failed, Source};
+use byte_streams::Source;
+use desk_traits::Failed;
 use std::marker::Model;
 
 // The most bytes that are read ahead.
@@ -53,11 +54,11 @@ impl Ahead {
     /// `Failed` where nothing was read; the source's count of faults rose.
     pub fn fill<S: Source>(&mut self, source: &mut S) -> Result<(), Failed>
         requires { self.old ≡ [] }
-        ensures bytes { OnOk result (Takes (S.left source.old) (S.left source.new) self.new) }
-        ensures end { OnOk result (self.new ≡ [] → IsAtEnd (S.left source.new)) }
-        ensures err { OnErr result ((self.new ≡ []) × (S.left source.new ≡ S.left source.old)) }
-        ensures cause { HasCause (S.faults source.old) (S.faults source.new) result }
-        ensures steady { OnOk result (S.faults source.new ≡ S.faults source.old) }
+        ensures bytes { OnOk result (Takes (S.inflow source.old).left (S.inflow source.new).left self.new) }
+        ensures end { OnOk result (self.new ≡ [] → IsAtEnd (S.inflow source.new).left) }
+        ensures err { OnErr result ((self.new ≡ []) × ((S.inflow source.new).left ≡ (S.inflow source.old).left)) }
+        ensures cause { HasCause (S.inflow source.old).faults (S.inflow source.new).faults result }
+        ensures steady { OnOk result ((S.inflow source.new).faults ≡ (S.inflow source.old).faults) }
         ensures beside { S.reads source.old source.new }
     {
         self.from = 0;

@@ -1,15 +1,16 @@
 //! A dialer in memory, which gives the links that it was made with.
 ghost use Rattle.std.specs.Prelude.{◌≡◌, ◌⊎◌, ◌<◌, ◌+◌, ◌++◌, ◌∷◌, ◌^◌, ◌↔◌, [], All, length, min, Some, Contains, IfOk, OnOk, OnErr, IsErr};
-ghost use Rattle.desk_traits.specs.Faults.{HasCause, next_count};
-ghost use Rattle.desk_traits.specs.Streams.{Reads};
+ghost use Rattle.desk_traits.specs.Faults.{next_count};
+ghost use Rattle.byte_streams.specs.Flows.{Reads};
 ghost use Rattle.desk_links.specs.Links.{GivesLink, with_count};
-ghost use Rattle.desk_links.specs.LinkMemory.{IsUntouched, KeepsIn, KeepsOut, Lends, door_state, door_with, link_state};
+ghost use Rattle.desk_links.specs.LinkMemory.{IsUntouched, KeepsIn, KeepsOut, Lends, door_state, door_with, link_input, link_output, link_state};
 
 use crate::dialer::{Dialer, Peer};
 use crate::lent::LentLinks;
 use crate::link::Link;
 use crate::link_memory::MemLink;
-use desk_traits::{Failed, Sink, Source};
+use byte_streams::{Sink, Source};
+use desk_traits::Failed;
 use hazard_types::{List, Oom, Text};
 use std::alloc::Global;
 use std::marker::Model;
@@ -45,16 +46,12 @@ impl MemPeer {
 }
 
 impl Source for MemPeer {
-    ghost left = { λ p. Some p.left };
-
-    ghost faults = { λ p. p.read_faults };
+    ghost inflow = { link_input };
 
     ghost reads = { KeepsOut };
 
     fn read(&mut self, into: &mut [u8]) -> Result<usize, Failed>
-        ensures bytes { Reads (Some self.old.left) (Some self.new.left) result into.new }
-        ensures cause { HasCause self.old.read_faults self.new.read_faults result }
-        ensures steady { OnOk result (self.new.read_faults ≡ self.old.read_faults) }
+        ensures read { Reads (link_input self.old) (link_input self.new) result into.new }
         ensures counted { OnErr result (self.new.read_faults ≡ next_count self.old.read_faults) }
         ensures beside { KeepsOut self.old self.new }
 
@@ -74,9 +71,7 @@ impl Source for MemPeer {
 impl Sink for MemPeer {
     ghost use Rattle.desk_links.specs.LinkMemory.{keeps_in_none, keeps_in_more};
 
-    ghost taken = { λ p. Some p.written };
-
-    ghost faults = { λ p. p.write_faults };
+    ghost outflow = { link_output };
 
     ghost writes = { KeepsIn };
 

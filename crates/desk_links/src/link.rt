@@ -1,8 +1,9 @@
 //! A link: what comes in and what goes out, each by itself.
 ghost use Rattle.std.specs.Prelude.{◌≡◌};
-ghost use Rattle.desk_links.specs.Links.{EndsIn, KeepsInput, KeepsOutput, LinkState, ReadsLink, WritesLink, inflow, outflow};
+ghost use Rattle.desk_links.specs.Links.{EndsIn, KeepsInput, KeepsOutput, LinkState, ReadsLink, WritesLink};
 
-use desk_traits::{Failed, Sink, Source, write_whole};
+use byte_streams::{Sink, Source, write_whole};
+use desk_traits::Failed;
 
 /// A source and a sink that leave one another alone. Its count of faults is the sum of the two: of
 /// the reads that failed, and of the writes.
@@ -12,11 +13,11 @@ pub trait Link: Source + Sink {
 
     /// It shows what it shows as a source,
     ghost shows_input: { (link : Self)
-        → (state link).input ≡ inflow (Self.Source.left link) (Self.Source.faults link) };
+        → (state link).input ≡ Self.Source.inflow link };
 
     /// and what it shows as a sink.
     ghost shows_output: { (link : Self)
-        → (state link).output ≡ outflow (Self.Sink.taken link) (Self.Sink.faults link) };
+        → (state link).output ≡ Self.Sink.outflow link };
 
     /// A read leaves the sink alone,
     ghost reads_alone: { (old new : Self)

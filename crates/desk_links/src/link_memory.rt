@@ -1,12 +1,13 @@
 //! A link in memory, which fails at exactly the calls that it is told.
-ghost use Rattle.std.specs.Prelude.{◌≡◌, ◌≤◌, ◌+◌, ◌-◌, ◌^◌, ◌↔◌, length, min, Some, IfOk, OnOk, OnErr, IsErr, IsTrue, Contains, [], false};
-ghost use Rattle.desk_traits.specs.Faults.{HasCause, next_count};
-ghost use Rattle.desk_traits.specs.Streams.{Reads, Writes};
-ghost use Rattle.desk_traits.specs.StreamMemory.{FailsAsTold};
-ghost use Rattle.desk_links.specs.LinkMemory.{KeepsOut, KeepsIn};
+ghost use Rattle.std.specs.Prelude.{◌≡◌, ◌≤◌, ◌+◌, ◌-◌, ◌^◌, ◌↔◌, length, min, IfOk, OnErr, IsErr, IsTrue, Contains, [], false};
+ghost use Rattle.desk_traits.specs.Faults.{next_count};
+ghost use Rattle.byte_streams.specs.Flows.{Reads, Writes};
+ghost use Rattle.byte_streams.specs.StreamMemory.{FailsAsTold};
+ghost use Rattle.desk_links.specs.LinkMemory.{KeepsIn, KeepsOut, link_input, link_output};
 
 use crate::link::Link;
-use desk_traits::{Failed, Sink, Source};
+use byte_streams::{Sink, Source};
+use desk_traits::Failed;
 use hazard_types::{List, Oom, Text};
 use std::alloc::Global;
 use std::marker::Model;
@@ -89,16 +90,12 @@ impl MemLink {
 }
 
 impl Source for MemLink {
-    ghost left = { λ l. Some l.left };
-
-    ghost faults = { λ l. l.read_faults };
+    ghost inflow = { link_input };
 
     ghost reads = { KeepsOut };
 
     fn read(&mut self, into: &mut [u8]) -> Result<usize, Failed>
-        ensures bytes { Reads (Some self.old.left) (Some self.new.left) result into.new }
-        ensures cause { HasCause self.old.read_faults self.new.read_faults result }
-        ensures steady { OnOk result (self.new.read_faults ≡ self.old.read_faults) }
+        ensures read { Reads (link_input self.old) (link_input self.new) result into.new }
         ensures counted { OnErr result (self.new.read_faults ≡ next_count self.old.read_faults) }
         ensures beside { KeepsOut self.old self.new }
 
@@ -124,9 +121,7 @@ impl Source for MemLink {
 impl Sink for MemLink {
     ghost use Rattle.desk_links.specs.LinkMemory.{keeps_in_none, keeps_in_more};
 
-    ghost taken = { λ l. Some l.written };
-
-    ghost faults = { λ l. l.write_faults };
+    ghost outflow = { link_output };
 
     ghost writes = { KeepsIn };
 
@@ -136,9 +131,7 @@ impl Sink for MemLink {
 
     /// Takes the whole piece. A growth of its memory that is refused is a counted fault.
     fn write(&mut self, bytes: &[u8]) -> Result<usize, Failed>
-        ensures bytes { Writes (Some self.old.written) (Some self.new.written) result bytes.now }
-        ensures cause { HasCause self.old.write_faults self.new.write_faults result }
-        ensures steady { OnOk result (self.new.write_faults ≡ self.old.write_faults) }
+        ensures written { Writes (link_output self.old) (link_output self.new) result bytes.now }
         ensures counted { OnErr result (self.new.write_faults ≡ next_count self.old.write_faults) }
         ensures beside { KeepsIn self.old self.new }
 

@@ -1,13 +1,14 @@
 //! The dialer of the system, over TCP on this machine's own address. It is trusted.
 ghost use Rattle.std.specs.Prelude.{◌≡◌, ◌≢◌, ◌<◌, ◌++◌, [], take, None, length, IfOk, OnOk};
-ghost use Rattle.desk_traits.specs.Faults.{HasCause};
-ghost use Rattle.desk_traits.specs.Streams.{Reads};
+ghost use Rattle.byte_streams.specs.Flows.{Reads};
+ghost use Rattle.desk_links.specs.LinkLaws.{untold_input, untold_output};
 
 use crate::ahead::Ahead;
 use crate::dialer::{Dialer, Peer};
 use crate::link::Link;
 use crate::tcp_link::{Side, TcpLink};
-use desk_traits::{Failed, Sink, Source};
+use byte_streams::{Sink, Source};
+use desk_traits::Failed;
 use std::net::{Ipv4Addr, Net, SocketAddr, SocketAddrV4, TcpListener, TcpStream};
 use std::time::Clock;
 
@@ -20,16 +21,12 @@ pub struct TcpPeer<C> {
 }
 
 impl<C: Clock> Source for TcpPeer<C> {
-    ghost left = { λ _. None };
-
-    ghost faults = { λ p. p.link.read_faults };
+    ghost inflow = { λ p. untold_input p.link.read_faults };
 
     ghost reads = { λ old new. new.link.write_faults ≡ old.link.write_faults };
 
     fn read(&mut self, into: &mut [u8]) -> Result<usize, Failed>
-        ensures bytes { Reads None None result into.new }
-        ensures cause { HasCause self.old.link.read_faults self.new.link.read_faults result }
-        ensures steady { OnOk result (self.new.link.read_faults ≡ self.old.link.read_faults) }
+        ensures read { Reads (untold_input self.old.link.read_faults) (untold_input self.new.link.read_faults) result into.new }
         ensures beside { self.new.link.write_faults ≡ self.old.link.write_faults }
         ensures some { IfOk result (λ n. 0 < length into.old → 0 < n) }
 
@@ -50,9 +47,7 @@ impl<C: Clock> Source for TcpPeer<C> {
 impl<C: Clock> Sink for TcpPeer<C> {
     ghost use Rattle.desk_links.specs.LinkLaws.{count_same, count_kept};
 
-    ghost taken = { λ _. None };
-
-    ghost faults = { λ p. p.link.write_faults };
+    ghost outflow = { λ p. untold_output p.link.write_faults };
 
     ghost writes = { λ old new. new.link.read_faults ≡ old.link.read_faults };
 

@@ -1,9 +1,11 @@
 //! The link of the system, over TCP, with a bound for all that it waits for. It tells nothing of the
 //! bytes, and is trusted.
-ghost use Rattle.std.specs.Prelude.{◌≡◌, ◌≤◌, ◌<◌, length, IfSome, None};
+ghost use Rattle.std.specs.Prelude.{◌≡◌, ◌≤◌, ◌<◌, length, IfSome};
+ghost use Rattle.desk_links.specs.LinkLaws.{untold_input, untold_output};
 
 use crate::link::Link;
-use desk_traits::{Failed, Sink, Source};
+use byte_streams::{Sink, Source};
+use desk_traits::Failed;
 use std::io::{ErrorKind, Read, Write};
 use std::net::{Shutdown, TcpStream};
 use std::time::{Clock, Duration};
@@ -339,9 +341,7 @@ impl<C: Clock + Drop> TcpLink<C> {
 }
 
 impl<C: Clock> Source for TcpLink<C> {
-    ghost left = { λ _. None };
-
-    ghost faults = { λ l. l.read_faults };
+    ghost inflow = { λ l. untold_input l.read_faults };
 
     ghost reads = { λ old new. new.write_faults ≡ old.write_faults };
 
@@ -359,9 +359,7 @@ impl<C: Clock> Source for TcpLink<C> {
 impl<C: Clock> Sink for TcpLink<C> {
     ghost use Rattle.desk_links.specs.LinkLaws.{count_same, count_kept};
 
-    ghost taken = { λ _. None };
-
-    ghost faults = { λ l. l.write_faults };
+    ghost outflow = { λ l. untold_output l.write_faults };
 
     ghost writes = { λ old new. new.read_faults ≡ old.read_faults };
 

@@ -6,5 +6,3 @@ pub mod DiskMemoryLaws
 pub mod DiskTold
 pub mod Faults
 pub mod File
-pub mod StreamMemory
-pub mod Streams

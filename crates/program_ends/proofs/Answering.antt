@@ -1,7 +1,7 @@
 -- Lines that are answered one after another.
 use Rattle.std.proofs.Common.{ℕ, ◌≡◌, ◌⊎◌, inl, inr, List, [], ◌∷◌, ◌++◌, refl, ap, sym, ◌∙◌, subst, append_assoc, append-nil, Option, None, Some}
-use Rattle.desk_traits.specs.Streams.{Adds}
-use Rattle.desk_traits.proofs.Pieces.{adds_both}
+use Rattle.byte_streams.specs.Flows.{Adds}
+use Rattle.byte_streams.proofs.Pieces.{adds_both}
 use Rattle.program_ends.specs.declared.reading.Stop.{Stop}
 use Rattle.program_ends.specs.declared.reading.Stop.TheVariants as stop
 use Rattle.program_ends.specs.Lines.{fit}

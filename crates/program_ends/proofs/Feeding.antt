@@ -2,8 +2,8 @@
 use Rattle.std.proofs.Common.{ℕ, ◌≡◌, ◌≢◌, ◌<◌, ◌+◌, ◌==◌, List, [], ◌∷◌, ◌++◌, length, get_or, drop, refl, ap, sym, ◌∙◌, append_assoc, append-nil, Option, false, inl, inr}
 use Rattle.std.proofs.lemmas.Bool.Decides.{eqb_tells}
 use Rattle.std.proofs.lemmas.List.{drop_more}
-use Rattle.desk_traits.specs.Streams.{Adds}
-use Rattle.desk_traits.proofs.Pieces.{adds_both}
+use Rattle.byte_streams.specs.Flows.{Adds}
+use Rattle.byte_streams.proofs.Pieces.{adds_both}
 use Rattle.program_ends.specs.declared.reading.Stop.{Stop}
 use Rattle.program_ends.specs.Lines.{Pending, pending_of, lines_from, rest_from, without_return, fit}
 use Rattle.program_ends.specs.Runs.{Answered}

@@ -2,8 +2,8 @@
 use Rattle.std.proofs.Common.{ℕ, ◌≡◌, ◌≢◌, List, [], ◌∷◌, ◌++◌, Option, Some, Result, Ok, Err, IsErrOf, refl, ap, sym, ◌∙◌, ◌⊎◌, inl, inr, rules, arith}
 use Rattle.std.proofs.lemmas.Bool.Decides.{eqb_tells}
 use Rattle.desk_traits.specs.Faults.{Rose}
-use Rattle.desk_traits.specs.Streams.{Adds}
-use Rattle.desk_traits.proofs.Pieces.{adds_both}
+use Rattle.byte_streams.specs.Flows.{Adds, Outflow, Streams, outflow}
+use Rattle.byte_streams.proofs.Pieces.{adds_both}
 use Rattle.program_ends.specs.declared.ends.End.{End}
 use Rattle.program_ends.specs.declared.ends.End.TheVariants.{ReadFault, WriteFault}
 use Rattle.program_ends.specs.declared.reading.Stop.{Stop}
@@ -74,15 +74,15 @@ is_eight end status e own = elim (eqb_tells status 8) [
 ]
 
 -- what the end of a run is told, over all that was written before
-abbrev pub Tells : Option (List ℕ) → Option (List ℕ) → ℕ → ℕ → Option End → ℕ → Type 0
-Tells mid taken' between writes' end status = (taken : Option (List ℕ)) (before : ℕ) (defined written : List ℕ) → Adds taken mid written → HasWritten defined written before between end → Telling defined before taken taken' writes' end status
+abbrev pub Tells : Outflow → Outflow → Option End → ℕ → Type 0
+Tells mid after end status = (begun : Outflow) (defined written : List ℕ) → HasWritten defined written begun mid end → Telling defined begun after end status
 
-module _ (mid taken' : Option (List ℕ)) (writes between writes' : ℕ) (end : Option End) (status : ℕ) (tells : Tells mid taken' between writes' end status) (e : end ≡ Some WriteFault) (rose : Rose writes between) where
+module _ (begun mid after : Outflow) (end : Option End) (status : ℕ) (tells : Tells mid after end status) (e : end ≡ Some WriteFault) (rose : Rose begun.faults mid.faults) where
   -- behind all that was written before
-  nothing : Telling [] writes mid taken' writes' end status
-  nothing = tells mid writes [] [] (adds_none mid) (record { whole = λ no. absurd (no e); cut = λ _. (rose, begins_self []) })
+  nothing : Telling [] (outflow mid.taken begun.faults) after end status
+  nothing = tells (outflow mid.taken begun.faults) [] [] (record { adds = adds_none mid.taken; whole = λ no. absurd (no e); cut = λ _. (rose, begins_self []) })
 
-  cut : IsCut ([] ++ own_line end) nothing.written writes writes'
+  cut : IsCut ([] ++ own_line end) nothing.written begun.faults after.faults
   cut = (nothing.told.cut (is_eight end status e (λ no. (nothing.told.others no).0))).1
 
   -- the line of the write fault alone, or a front of it
@@ -91,8 +91,8 @@ module _ (mid taken' : Option (List ℕ)) (writes between writes' : ℕ) (end : 
       let none : own_line end ≡ [] = ap own_line e in
       cut.parts ∙ ap (λ (l : List ℕ). l ++ cut.line) (no_front cut.front cut.some.0 (sym none ∙ cut.some.1))
 
-  pub broken_by : {A : Type 0} (answers : A → Option (List ℕ) → List ℕ → A → Type 0) (a z : A) (lines : List (List ℕ)) (told written : List ℕ) (taken : Option (List ℕ)) → Adds taken mid written → Breaks answers a z lines told written → IsBroken answers a z lines told taken taken' writes writes'
-  broken_by answers a z lines told written taken adds breaks = record {
+  pub broken_by : {A : Type 0} (answers : A → Option (List ℕ) → List ℕ → A → Type 0) (a z : A) (lines : List (List ℕ)) (told written : List ℕ) → Adds begun.taken mid.taken written → Breaks answers a z lines told written → IsBroken answers a z lines told begun after
+  broken_by answers a z lines told written adds breaks = record {
     written = written;
     fault = cut.line;
     breaks = breaks;
@@ -101,18 +101,20 @@ module _ (mid taken' : Option (List ℕ)) (writes between writes' : ℕ) (end : 
     adds = adds_both _ _ _ _ _ _ adds nothing.adds (ap (λ (l : List ℕ). written ++ l) alone);
   }
 
-module _ {A T : Type 0} (answers : A → Option (List ℕ) → List ℕ → A → Type 0) (lacks : A → Option (List ℕ) → A → Type 0) (limit : ℕ) (a z : A) (left left' taken mid taken' : Option (List ℕ)) (reads reads' writes between writes' : ℕ)
-    (r : Result T Stop) (status : ℕ) where
-  has_written : (run : Runs answers lacks limit a z left left' taken mid r) → IsCauseOf stop.Write writes between r → HasWritten run.told run.written writes between (end_in r)
+module _ {A T : Type 0} (answers : A → Option (List ℕ) → List ℕ → A → Type 0) (lacks : A → Option (List ℕ) → A → Type 0) (limit : ℕ) (a z : A) (before after : Streams) (mid : Outflow) (r : Result T Stop) (status : ℕ) where
+  has_written : (run : Runs answers lacks limit a z before.input.left after.input.left before.output.taken mid.taken r) → IsCauseOf stop.Write before.output.faults mid.faults r
+      → HasWritten run.told run.written before.output mid (end_in r)
   has_written run cause = record {
+    adds = run.adds;
     whole = λ no. (cause.steady (λ is. no (is_write r is)), run.whole (λ is. no (is_write r is)));
     cut = λ e. (cause.rose (write_is r e), run.begins);
   }
 
-  pub run_told : Runs answers lacks limit a z left left' taken mid r → IsCauseOf stop.Read reads reads' r → IsCauseOf stop.Write writes between r → Tells mid taken' between writes' (end_in r) status
-      → IsLinesRun answers lacks limit a z left left' taken taken' reads reads' writes writes' status
+  pub run_told : Runs answers lacks limit a z before.input.left after.input.left before.output.taken mid.taken r → IsCauseOf stop.Read before.input.faults after.input.faults r
+      → IsCauseOf stop.Write before.output.faults mid.faults r → Tells mid after.output (end_in r) status
+      → IsLinesRun answers lacks limit a z before after status
   run_told run cause writing tells =
-      let telling = tells taken writes run.told run.written run.adds (has_written run writing) in
+      let telling = tells before.output run.told run.written (has_written run writing) in
       record {
         end = end_in r;
         told = run.told;
@@ -120,7 +122,7 @@ module _ {A T : Type 0} (answers : A → Option (List ℕ) → List ℕ → A �
         telling = telling;
         broken = λ e.
             let is = write_is r e in
-            broken_by mid taken' writes between writes' (end_in r) status tells e (writing.rose is) answers a z run.run.lines run.told run.written taken run.adds (run.broken is);
+            broken_by before.output mid after.output (end_in r) status tells e (writing.rose is) answers a z run.run.lines run.told run.written run.adds (run.broken is);
         rose = λ e. cause.rose (read_is r e);
         steady = λ no. cause.steady (λ is. no (is_read r is));
         read_fault = λ e.

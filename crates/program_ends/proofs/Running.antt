@@ -3,8 +3,8 @@ use Rattle.std.proofs.Common.{ℕ, ◌≡◌, ◌≤◌, ◌<◌, ◌+◌, ◌==
 use Rattle.std.proofs.lemmas.Bool.Decides.{leb_tells}
 use Rattle.std.proofs.lemmas.List.{take-append-drop, take-append-le, length-take, take_all}
 use Rattle.std.proofs.Math.Seq.{take-append-add}
-use Rattle.desk_traits.specs.Streams.{Adds, Takes, IsAtEnd}
-use Rattle.desk_traits.proofs.Pieces.{adds_both, takes_both}
+use Rattle.byte_streams.specs.Flows.{Adds, Takes, IsAtEnd}
+use Rattle.byte_streams.proofs.Pieces.{adds_both, takes_both}
 use Rattle.program_ends.specs.declared.reading.Stop.{Stop}
 use Rattle.program_ends.specs.declared.reading.Stop.TheVariants as stop
 use Rattle.program_ends.specs.Lines.{Pending, pending_of, lines_from, rest_from, lines_of, ended_lines, without_return, fit}

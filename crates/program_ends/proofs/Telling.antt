@@ -1,11 +1,13 @@
 -- How a run's end is told.
-use Rattle.std.proofs.Common.{ℕ, ◌≡◌, ◌≢◌, ◌≤◌, true, false, List, [], ◌++◌, refl, ap, sym, ◌∙◌, subst, append_assoc, append-nil, Option, None, Some, Result, Ok, Err, OnErr, arith}
+use Rattle.std.proofs.Common.{ℕ, ◌≡◌, ◌≢◌, ◌≤◌, true, false, List, [], ◌++◌, take, drop, refl, ap, sym, ◌∙◌, subst, append_assoc, append-nil, Option, None, Some, Result, Ok, Err, OnErr, OnOk, arith}
+use Rattle.std.proofs.lemmas.List.{take-append-drop}
 use Rattle.desk_traits.specs.Faults.{Rose}
-use Rattle.desk_traits.specs.Streams.{Adds}
-use Rattle.desk_traits.proofs.Pieces.{adds_both}
+use Rattle.byte_streams.specs.Flows.{Adds, Outflow}
+use Rattle.byte_streams.proofs.Pieces.{adds_both}
 use Rattle.program_ends.specs.declared.ends.End.{End}
 use Rattle.program_ends.specs.declared.ends.End.TheVariants.{Usage, SettingsRefused, AlreadyKept, NoJournal, Damaged, ReadFault, WriteFault, DiskFault, PortFault, ClockOut, OutOfMemory, InputTooLong, JournalFull}
 use Rattle.program_ends.specs.Ends.{status_of, is_write_fault, fault_line, write_fault_line, own_line, Begins, RoseTwice, HasWritten, Telling, AddsFront, IsTried}
+use Rattle.program_ends.proofs.Answering.{adds_none}
 
 -- another end than a write fault has a status and a line of its own
 own : (end : End) → is_write_fault end ≡ false → (status_of end ≢ 8) × (own_line (Some end) ≡ fault_line end)
@@ -45,8 +47,16 @@ is_none end h e =
     absurd (cc)
 
 -- nothing was written before
-pub has_nothing : (end : End) (before : ℕ) → is_write_fault end ≡ false → HasWritten [] [] before before (Some end)
-has_nothing end before h = record { whole = λ _. (refl, refl); cut = λ e. absurd (is_none end h e) }
+pub has_nothing : (end : End) (output : Outflow) → is_write_fault end ≡ false → HasWritten [] [] output output (Some end)
+has_nothing end output h = record { adds = adds_none output.taken; whole = λ _. (refl, refl); cut = λ e. absurd (is_none end h e) }
+
+-- a text stands where no write failed
+pub has_all : (text : List ℕ) (before after : Outflow) → Adds before.taken after.taken text → after.faults ≡ before.faults → HasWritten text text before after None
+has_all text before after adds steady = record { adds = adds; whole = λ _. (steady, refl); cut = λ e. absurd (cc) }
+
+-- a front of it stands before a write fault
+pub has_cut : (text : List ℕ) (n : ℕ) (before after : Outflow) → Adds before.taken after.taken (take n text) → Rose before.faults after.faults → HasWritten text (take n text) before after (Some WriteFault)
+has_cut text n before after adds rose = record { adds = adds; whole = λ no. absurd (no refl); cut = λ _. (rose, (drop n text, sym (take-append-drop n text))) }
 
 pub begins_self : (text : List ℕ) → Begins text text
 begins_self text = ([], sym (append-nil text))
@@ -57,50 +67,50 @@ twice before mid now first second = omega (arith, first, second)
 rose_later : (before mid now : ℕ) → Rose before mid → mid ≤ now → Rose before now
 rose_later before mid now first later = omega (arith, first, later)
 
-module _ (taken mid : Option (List ℕ)) (before now : ℕ) (defined written : List ℕ) (adds : Adds taken mid written) where
-  pub told_well : HasWritten defined written before now None → Telling defined before taken mid now None 0
+module _ (begun mid : Outflow) (defined written : List ℕ) where
+  pub told_well : HasWritten defined written begun mid None → Telling defined begun mid None 0
   told_well has =
       let same = has.whole (λ e. absurd (cc)) in
       record {
         written = written;
-        adds = adds;
+        adds = has.adds;
         told = record { others = λ _. (refl, same.0, same.1 ∙ sym (append-nil defined)); well = λ _. (refl, same.1); cut = λ e. absurd (omega (arith, e)) };
       }
 
   -- a run that a write fault ended, whose line was tried
-  pub told_write_fault : (end : End) (new : Option (List ℕ)) (after : ℕ) → is_write_fault end ≡ true → HasWritten defined written before now (Some end) → IsTried write_fault_line mid new now after → Telling defined before taken new after (Some end) 8
-  told_write_fault end new after is has tried =
+  pub told_write_fault : (end : End) (new : Outflow) → is_write_fault end ≡ true → HasWritten defined written begun mid (Some end) → IsTried write_fault_line mid new → Telling defined begun new (Some end) 8
+  told_write_fault end new is has tried =
       let same = is_one end is in
       let cut = has.cut (ap (λ (x : End). Some x) same) in
       let none : own_line (Some end) ≡ [] = subst (λ (x : End). own_line (Some x) ≡ []) (sym same) refl in
       record {
         written = written ++ tried.front;
-        adds = adds_both _ _ _ _ _ _ adds tried.adds refl;
+        adds = adds_both _ _ _ _ _ _ has.adds tried.adds refl;
         told = record {
           others = λ no. absurd (no refl);
           well = λ e. absurd (cc);
           cut = λ _. (
-            rose_later before now after cut.0 tried.later,
+            rose_later begun.faults mid.faults new.faults cut.0 tried.later,
             record {
               front = written;
               line = tried.front;
               some = (cut.1.0, rw none (append-nil defined ∙ cut.1.1));
               told = tried.begins;
               parts = refl;
-              once = λ no. tried.whole (λ again. no (twice before now after cut.0 again));
+              once = λ no. tried.whole (λ again. no (twice begun.faults mid.faults new.faults cut.0 again));
             },
           );
         };
       }
 
   -- a run whose line stands
-  pub told_own : (end : End) (new : Option (List ℕ)) (after : ℕ) → is_write_fault end ≡ false → HasWritten defined written before now (Some end) → Adds mid new (fault_line end) → after ≡ now → Telling defined before taken new after (Some end) (status_of end)
-  told_own end new after is has line steady =
+  pub told_own : (end : End) (new : Outflow) → is_write_fault end ≡ false → HasWritten defined written begun mid (Some end) → Adds mid.taken new.taken (fault_line end) → new.faults ≡ mid.faults → Telling defined begun new (Some end) (status_of end)
+  told_own end new is has line steady =
       let same = has.whole (is_none end is) in
       let mine = own end is in
       record {
         written = written ++ fault_line end;
-        adds = adds_both _ _ _ _ _ _ adds line refl;
+        adds = adds_both _ _ _ _ _ _ has.adds line refl;
         told = record {
           others = λ _. (refl, steady ∙ same.0, ap (λ (t : List ℕ). t ++ fault_line end) same.1 ∙ ap (λ (t : List ℕ). defined ++ t) (sym mine.1));
           well = λ e. absurd (cc);
@@ -109,29 +119,29 @@ module _ (taken mid : Option (List ℕ)) (before now : ℕ) (defined written : L
       }
 
   -- a run whose line was cut by a write fault
-  pub told_cut : (end : End) (half new : Option (List ℕ)) (between after : ℕ) → is_write_fault end ≡ false → HasWritten defined written before now (Some end) → AddsFront mid half (fault_line end) → Rose now between
-      → IsTried write_fault_line half new between after → Telling defined before taken new after (Some end) 8
-  told_cut end half new between after is has some rose tried =
+  pub told_cut : (end : End) (half new : Outflow) → is_write_fault end ≡ false → HasWritten defined written begun mid (Some end) → AddsFront mid.taken half.taken (fault_line end) → Rose mid.faults half.faults
+      → IsTried write_fault_line half new → Telling defined begun new (Some end) 8
+  told_cut end half new is has some rose tried =
       let same = has.whole (is_none end is) in
       let mine = own end is in
-      let first : Rose before between = subst (λ (k : ℕ). Rose k between) same.0 rose in
+      let first : Rose begun.faults half.faults = subst (λ (k : ℕ). Rose k half.faults) same.0 rose in
       let whole : defined ++ own_line (Some end) ≡ (written ++ some.front) ++ some.begins.0 =
       ap (λ (t : List ℕ). defined ++ t) (mine.1 ∙ some.begins.1) ∙ ap (λ (t : List ℕ). t ++ (some.front ++ some.begins.0)) (sym same.1) ∙ sym (append_assoc written some.front some.begins.0) in
       record {
         written = (written ++ some.front) ++ tried.front;
-        adds = adds_both _ _ _ _ _ _ (adds_both _ _ _ _ _ _ adds some.adds refl) tried.adds refl;
+        adds = adds_both _ _ _ _ _ _ (adds_both _ _ _ _ _ _ has.adds some.adds refl) tried.adds refl;
         told = record {
           others = λ no. absurd (no refl);
           well = λ e. absurd (cc);
           cut = λ _. (
-            rose_later before between after first tried.later,
+            rose_later begun.faults half.faults new.faults first tried.later,
             record {
               front = written ++ some.front;
               line = tried.front;
               some = (some.begins.0, whole);
               told = tried.begins;
               parts = refl;
-              once = λ no. tried.whole (λ again. no (twice before between after first again));
+              once = λ no. tried.whole (λ again. no (twice begun.faults half.faults new.faults first again));
             },
           );
         };
@@ -140,6 +150,11 @@ module _ (taken mid : Option (List ℕ)) (before now : ℕ) (defined written : L
 pub on_err : {T E : Type 0} (r : Result T E) (P : Type 0) → P → OnErr r P
 on_err (Ok x) P p = tt
 on_err (Err e) P p = p
+
+-- a text in two parts, of which the first stands
+pub whole_both : {T E : Type 0} (r : Result T E) (taken mid taken' : Option (List ℕ)) (first second : List ℕ) → Adds taken mid first → OnOk r (Adds mid taken' second) → OnOk r (Adds taken taken' (first ++ second))
+whole_both (Ok x) taken mid taken' first second a b = adds_both _ _ _ _ _ _ a b refl
+whole_both (Err e) taken mid taken' first second a b = tt
 
 -- fronts of a text in two parts
 pub front_first : (taken taken' : Option (List ℕ)) (first second front rest : List ℕ) → Adds taken taken' front → first ≡ front ++ rest → AddsFront taken taken' (first ++ second)

@@ -1,7 +1,7 @@
 -- How a program ends: its status, the line of its fault, and what stands in its output.
-use Rattle.std.specs.Prelude.{◌≡◌, ◌≢◌, ◌≤◌, ℕ, ◌+◌, ◌-◌, ◌^◌, min, Bool, true, false, List, [], ◌++◌, Option, None, Some, codes, decimal}
-use Rattle.desk_traits.specs.Faults.{Rose}
-use Rattle.desk_traits.specs.Streams.{Adds}
+use Rattle.std.specs.Prelude.{◌≡◌, ◌≢◌, ◌≤◌, ◌⊎◌, ℕ, ◌+◌, ◌-◌, ◌^◌, min, Bool, true, false, List, [], ◌++◌, Option, None, Some, Result, OnOk, OnErr, codes, decimal}
+use Rattle.desk_traits.specs.Faults.{HasCause, Rose}
+use Rattle.byte_streams.specs.Flows.{Adds, Outflow, Streams}
 use Rattle.program_ends.specs.declared.ends.End.{End}
 use Rattle.program_ends.specs.declared.ends.End.TheVariants.{Usage, SettingsRefused, AlreadyKept, NoJournal, Damaged, ReadFault, WriteFault, DiskFault, PortFault, ClockOut, OutOfMemory, InputTooLong, JournalFull}
 
@@ -80,25 +80,32 @@ pub record IsCut (text written : List ℕ) (before now : ℕ) : Type 0 where
   pub parts : written ≡ front ++ line
   pub once : ¬ RoseTwice before now → line ≡ write_fault_line
 
--- How a run tells its end, over the bytes that are defined for it, what was written, the output's count of faults before and after, why it ended, and its status.
-pub record IsTold (defined written : List ℕ) (before now : ℕ) (end : Option End) (status : ℕ) : Type 0 where
+-- How a run tells its end, over the bytes that are defined for it, what was written, the output before
+-- and after, why it ended, and its status.
+pub record IsTold (defined written : List ℕ) (before after : Outflow) (end : Option End) (status : ℕ) : Type 0 where
   -- With another status than 8 the count is as before; the bytes stand, and then exactly the line of the fault.
-  pub others : status ≢ 8 → (status ≡ own_status end) × (now ≡ before) × (written ≡ defined ++ own_line end)
+  pub others : status ≢ 8 → (status ≡ own_status end) × (after.faults ≡ before.faults) × (written ≡ defined ++ own_line end)
   -- A run that ended for no reason went well, and wrote exactly its bytes.
   pub well : end ≡ None → (status ≡ 0) × (written ≡ defined)
   -- With 8 the count rose, and the output was cut somewhere.
-  pub cut : status ≡ 8 → Rose before now × IsCut (defined ++ own_line end) written before now
+  pub cut : status ≡ 8 → Rose before.faults after.faults × IsCut (defined ++ own_line end) written before.faults after.faults
 
--- what a run has written when it ends: the bytes that are defined, or a front of them before a write fault, the first that was counted
-pub record HasWritten (defined written : List ℕ) (before now : ℕ) (end : Option End) : Type 0 where
-  pub whole : end ≢ Some WriteFault → (now ≡ before) × (written ≡ defined)
-  pub cut : end ≡ Some WriteFault → Rose before now × Begins written defined
+-- what a run has written when it ends: the bytes that are defined, or a front of them before a write
+-- fault, the first that was counted
+pub record HasWritten (defined written : List ℕ) (before after : Outflow) (end : Option End) : Type 0 where
+  pub adds : Adds before.taken after.taken written
+  pub whole : end ≢ Some WriteFault → (after.faults ≡ before.faults) × (written ≡ defined)
+  pub cut : end ≡ Some WriteFault → Rose before.faults after.faults × Begins written defined
 
--- the output as it was told a run's end
-pub record Telling (defined : List ℕ) (before : ℕ) (taken taken' : Option (List ℕ)) (now : ℕ) (end : Option End) (status : ℕ) : Type 0 where
+-- the output, from a run's start to when it was told the run's end
+pub record Telling (defined : List ℕ) (before after : Outflow) (end : Option End) (status : ℕ) : Type 0 where
   pub written : List ℕ
-  pub adds : Adds taken taken' written
-  pub told : IsTold defined written before now end status
+  pub adds : Adds before.taken after.taken written
+  pub told : IsTold defined written before after end status
+
+-- a text that is all that a run writes: it was written, or a front of it before a write fault
+abbrev pub TellsText : List ℕ → Outflow → Outflow → ℕ → Type 0
+TellsText text before after status = (end : Option End) × ((end ≡ None) ⊎ (end ≡ Some WriteFault)) × Telling text before after end status
 
 -- a front of the text was added
 pub record AddsFront (taken taken' : Option (List ℕ)) (text : List ℕ) : Type 0 where
@@ -107,22 +114,29 @@ pub record AddsFront (taken taken' : Option (List ℕ)) (text : List ℕ) : Type
   pub adds : Adds taken taken' front
 
 -- all of a line was added, or a front of it before a fault
-pub record IsTried (line : List ℕ) (taken taken' : Option (List ℕ)) (before now : ℕ) : Type 0 where
+pub record IsTried (line : List ℕ) (before after : Outflow) : Type 0 where
   pub front : List ℕ
   pub begins : Begins front line
-  pub adds : Adds taken taken' front
-  pub later : before ≤ now
-  pub whole : ¬ Rose before now → front ≡ line
+  pub adds : Adds before.taken after.taken front
+  pub later : before.faults ≤ after.faults
+  pub whole : ¬ Rose before.faults after.faults → front ≡ line
+
+-- a text was added, or a front of it before a fault
+pub record WritesText {E : Type 0} (before after : Outflow) (result : Result (Unit {0}) E) (text : List ℕ) : Type 0 where
+  pub whole : OnOk result (Adds before.taken after.taken text)
+  pub front : OnErr result (AddsFront before.taken after.taken text)
+  pub cause : HasCause before.faults after.faults result
+  pub steady : OnOk result (after.faults ≡ before.faults)
 
 -- no word was read as a command: nothing was read, and the end alone was told
-pub record IsUsage (left left' taken taken' : Option (List ℕ)) (reads reads' writes writes' status : ℕ) : Type 0 where
-  pub unread : left' ≡ left
-  pub steady : reads' ≡ reads
-  pub telling : Telling [] writes taken taken' writes' (Some Usage) status
+pub record IsUsage (before after : Streams) (status : ℕ) : Type 0 where
+  pub unread : after.input.left ≡ before.input.left
+  pub steady : after.input.faults ≡ before.input.faults
+  pub telling : Telling [] before.output after.output (Some Usage) status
 
 -- memory lacked for the words: nothing was read or written
-pub record IsUntouched (left left' taken taken' : Option (List ℕ)) (reads reads' writes writes' status : ℕ) : Type 0 where
+pub record IsUntouched (before after : Streams) (status : ℕ) : Type 0 where
   pub no_memory : status ≡ 12
-  pub unread : left' ≡ left
-  pub unwritten : taken' ≡ taken
-  pub steady : (reads' ≡ reads) × (writes' ≡ writes)
+  pub unread : after.input.left ≡ before.input.left
+  pub unwritten : after.output.taken ≡ before.output.taken
+  pub steady : (after.input.faults ≡ before.input.faults) × (after.output.faults ≡ before.output.faults)

@@ -1,7 +1,7 @@
 -- What a run over the lines of an input reads, answers and tells.
 use Rattle.std.specs.Prelude.{◌≡◌, ◌≢◌, ◌≤◌, ◌⊎◌, ℕ, ◌+◌, ◌++◌, ◌∷◌, List, [], length, take, Option, None, Some, Result, Ok, Err}
 use Rattle.desk_traits.specs.Faults.{Rose}
-use Rattle.desk_traits.specs.Streams.{Adds, Takes, IsAtEnd}
+use Rattle.byte_streams.specs.Flows.{Adds, IsAtEnd, Outflow, Streams, Takes}
 use Rattle.program_ends.specs.declared.ends.End.{End}
 use Rattle.program_ends.specs.declared.ends.End.TheVariants.{ReadFault, WriteFault, InputTooLong, OutOfMemory}
 use Rattle.program_ends.specs.declared.reading.Stop.{Stop}
@@ -65,30 +65,30 @@ pub record AnswersUntil {A : Type 0} (answers : A → Option (List ℕ) → List
   pub reasons : (end ≡ None) ⊎ (end ≡ Some ReadFault) ⊎ (end ≡ Some WriteFault) ⊎ (end ≡ Some InputTooLong) ⊎ (end ≡ Some OutOfMemory)
 
 -- Behind a failed write no further line is taken: what was written of the answers ends with a front of the last one, and behind it the line of the write fault was tried. Where the count rose by one alone, that line stands whole.
-pub record IsBroken {A : Type 0} (answers : A → Option (List ℕ) → List ℕ → A → Type 0) (a z : A) (lines : List (List ℕ)) (told : List ℕ) (taken taken' : Option (List ℕ)) (writes writes' : ℕ) : Type 0 where
+pub record IsBroken {A : Type 0} (answers : A → Option (List ℕ) → List ℕ → A → Type 0) (a z : A) (lines : List (List ℕ)) (told : List ℕ) (before after : Outflow) : Type 0 where
   pub written : List ℕ
   pub fault : List ℕ
   pub breaks : Breaks answers a z lines told written
   pub begins : Begins fault write_fault_line
-  pub once : ¬ RoseTwice writes writes' → fault ≡ write_fault_line
-  pub adds : Adds taken taken' (written ++ fault)
+  pub once : ¬ RoseTwice before.faults after.faults → fault ≡ write_fault_line
+  pub adds : Adds before.taken after.taken (written ++ fault)
 
--- A whole run over the lines of an input: what was answered, what was told of its end, and the counts of both ends before and after.
-pub record IsLinesRun {A : Type 0} (answers : A → Option (List ℕ) → List ℕ → A → Type 0) (lacks : A → Option (List ℕ) → A → Type 0) (limit : ℕ) (a z : A) (left left' taken taken' : Option (List ℕ)) (reads reads' writes writes' : ℕ) (status : ℕ) : Type 0 where
+-- A whole run over the lines of an input: what was answered, what was told of its end, and the input and the output before and after.
+pub record IsLinesRun {A : Type 0} (answers : A → Option (List ℕ) → List ℕ → A → Type 0) (lacks : A → Option (List ℕ) → A → Type 0) (limit : ℕ) (a z : A) (before after : Streams) (status : ℕ) : Type 0 where
   pub end : Option End
   pub told : List ℕ
-  pub run : AnswersUntil answers lacks limit a z left left' end told
-  pub telling : Telling told writes taken taken' writes' end status
-  pub broken : end ≡ Some WriteFault → IsBroken answers a z run.lines told taken taken' writes writes'
+  pub run : AnswersUntil answers lacks limit a z before.input.left after.input.left end told
+  pub telling : Telling told before.output after.output end status
+  pub broken : end ≡ Some WriteFault → IsBroken answers a z run.lines told before.output after.output
   -- the input's count rose exactly where a read ended the run
-  pub rose : end ≡ Some ReadFault → Rose reads reads'
-  pub steady : end ≢ Some ReadFault → reads' ≡ reads
+  pub rose : end ≡ Some ReadFault → Rose before.input.faults after.input.faults
+  pub steady : end ≢ Some ReadFault → after.input.faults ≡ before.input.faults
   -- each fault's status comes only where that count rose, and status 12 only where none did
-  pub read_fault : status ≡ 7 → Rose reads reads'
-  pub write_fault : status ≡ 8 → Rose writes writes'
-  pub no_memory : status ≡ 12 → (reads' ≡ reads) × (writes' ≡ writes)
+  pub read_fault : status ≡ 7 → Rose before.input.faults after.input.faults
+  pub write_fault : status ≡ 8 → Rose before.output.faults after.output.faults
+  pub no_memory : status ≡ 12 → (after.input.faults ≡ before.input.faults) × (after.output.faults ≡ before.output.faults)
   -- where no count rose the input was read to its end, or memory lacked, or it is too long
-  pub complete : ¬ Rose reads reads' → ¬ Rose writes writes' → (status ≡ 0) ⊎ (status ≡ 12) ⊎ (status ≡ 13)
+  pub complete : ¬ Rose before.input.faults after.input.faults → ¬ Rose before.output.faults after.output.faults → (status ≡ 0) ⊎ (status ≡ 12) ⊎ (status ≡ 13)
 
 -- why a run over lines ended
 abbrev pub end_of : Stop → End

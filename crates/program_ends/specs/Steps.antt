@@ -1,7 +1,7 @@
 -- The steps of a run over lines.
-use Rattle.std.specs.Prelude.{◌≡◌, ◌⊎◌, ℕ, ◌++◌, List, Option, Result, IsErrOf}
-use Rattle.desk_traits.specs.Faults.{Rose}
-use Rattle.desk_traits.specs.Streams.{Adds}
+use Rattle.std.specs.Prelude.{◌≡◌, ◌≤◌, ◌<◌, ◌⊎◌, ℕ, ◌++◌, List, length, take, Option, Result, Ok, IfOk, IsErrOf, OnErr, OnOk}
+use Rattle.byte_streams.specs.Flows.{Adds, Inflow, IsAtEnd, Takes}
+use Rattle.desk_traits.specs.Faults.{HasCause, Rose}
 use Rattle.program_ends.specs.declared.reading.Stop.{Stop}
 use Rattle.program_ends.specs.declared.reading.Stop.TheVariants as stop
 use Rattle.program_ends.specs.Ends.{Begins, AddsFront}
@@ -56,3 +56,11 @@ pub record Runs {A T : Type 0} (answers : A → Option (List ℕ) → List ℕ �
 pub record IsCauseOf {T : Type 0} (why : Stop) (before now : ℕ) (result : Result T Stop) : Type 0 where
   pub rose : IsErrOf result why → Rose before now
   pub steady : (IsErrOf result why → ⊥) → now ≡ before
+
+-- one read of at most so many bytes, into the front of a buffer
+pub record ReadsFront {E : Type 0} (before after : Inflow) (room : ℕ) (result : Result ℕ E) (buffer : List ℕ) : Type 0 where
+  pub taken : IfOk result (λ count. (count ≤ room) × (count ≤ length buffer) × Takes before.left after.left (take count buffer))
+  pub ended : result ≡ Ok 0 → 0 < room → IsAtEnd after.left
+  pub failed : OnErr result (after.left ≡ before.left)
+  pub cause : HasCause before.faults after.faults result
+  pub steady : OnOk result (after.faults ≡ before.faults)

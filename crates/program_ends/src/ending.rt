@@ -1,19 +1,16 @@
 //! The end of a run: the line of its fault, and its status.
-ghost use Rattle.std.specs.Prelude.{◌≡◌, ◌≤◌, ◌++◌, ℕ, List, Option, Some, None, OnOk, OnErr, codes, false, []};
-ghost use Rattle.desk_traits.specs.Faults.{Rose, HasCause};
-ghost use Rattle.desk_traits.specs.Streams.{Adds};
-ghost use Rattle.program_ends.specs.Ends.{is_write_fault, fault_line, write_fault_line, Telling, HasWritten, AddsFront, IsTried};
+ghost use Rattle.std.specs.Prelude.{◌≡◌, ◌++◌, ℕ, List, Some, codes, false, []};
+ghost use Rattle.byte_streams.specs.Flows.{Outflow};
+ghost use Rattle.program_ends.specs.Ends.{is_write_fault, fault_line, write_fault_line, Telling, HasWritten, IsTried, TellsText, WritesText};
 
 use crate::ends::End;
-use desk_traits::{Failed, Sink, write_whole};
+use byte_streams::{Sink, write_whole};
+use desk_traits::Failed;
 use itoa::Buffer;
 
 // Writes two pieces, or a front of them before a fault.
 pub(crate) fn write_both<K: Sink>(output: &mut K, first: &[u8], second: &[u8]) -> Result<(), Failed>
-    ensures whole { OnOk result (Adds (K.taken output.old) (K.taken output.new) (first.now ++ second.now)) }
-    ensures front { OnErr result (AddsFront (K.taken output.old) (K.taken output.new) (first.now ++ second.now)) }
-    ensures cause { HasCause (K.faults output.old) (K.faults output.new) result }
-    ensures steady { OnOk result (K.faults output.new ≡ K.faults output.old) }
+    ensures { WritesText (K.outflow output.old) (K.outflow output.new) result (first.now ++ second.now) }
 {
     write_whole(output, first)?;
     write_whole(output, second)
@@ -21,10 +18,7 @@ pub(crate) fn write_both<K: Sink>(output: &mut K, first: &[u8], second: &[u8]) -
 
 // Writes a front, a value and LF.
 fn write_line<K: Sink>(output: &mut K, front: &[u8], value: &[u8]) -> Result<(), Failed>
-    ensures whole { OnOk result (Adds (K.taken output.old) (K.taken output.new) (front.now ++ value.now ++ codes "\n")) }
-    ensures front { OnErr result (AddsFront (K.taken output.old) (K.taken output.new) (front.now ++ value.now ++ codes "\n")) }
-    ensures cause { HasCause (K.faults output.old) (K.faults output.new) result }
-    ensures steady { OnOk result (K.faults output.new ≡ K.faults output.old) }
+    ensures { WritesText (K.outflow output.old) (K.outflow output.new) result (front.now ++ value.now ++ codes "\n") }
 {
     write_both(output, front, value)?;
     write_whole(output, b"\n")
@@ -32,10 +26,7 @@ fn write_line<K: Sink>(output: &mut K, front: &[u8], value: &[u8]) -> Result<(),
 
 // Writes the line of a fault, or a front of it. It takes no memory.
 fn write_fault<K: Sink>(output: &mut K, end: &End) -> Result<(), Failed>
-    ensures whole { OnOk result (Adds (K.taken output.old) (K.taken output.new) (fault_line end.now)) }
-    ensures front { OnErr result (AddsFront (K.taken output.old) (K.taken output.new) (fault_line end.now)) }
-    ensures cause { HasCause (K.faults output.old) (K.faults output.new) result }
-    ensures steady { OnOk result (K.faults output.new ≡ K.faults output.old) }
+    ensures { WritesText (K.outflow output.old) (K.outflow output.new) result (fault_line end.now) }
 {
     let front = end.front().as_bytes();
     match end {
@@ -51,7 +42,7 @@ fn write_fault<K: Sink>(output: &mut K, end: &End) -> Result<(), Failed>
 // Writes the line of a write fault, or a front of it.
 fn tell_write_fault<K: Sink>(output: &mut K) -> u8
     ensures status { result ≡ 8 }
-    ensures tried { IsTried write_fault_line (K.taken output.old) (K.taken output.new) (K.faults output.old) (K.faults output.new) }
+    ensures tried { IsTried write_fault_line (K.outflow output.old) (K.outflow output.new) }
 {
     let _ = write_fault(output, &End::WriteFault);
     8
@@ -61,9 +52,9 @@ fn tell_write_fault<K: Sink>(output: &mut K) -> u8
 /// reason is written. A write fault, of that line too, has a line of its own, of which a front may be
 /// written.
 pub fn end_run<K: Sink>(output: &mut K, end: Option<End>) -> u8
-    ensures { (taken : Option (List ℕ)) (before : ℕ) (defined written : List ℕ) → Adds taken (K.taken output.old) written
-        → HasWritten defined written before (K.faults output.old) end
-        → Telling defined before taken (K.taken output.new) (K.faults output.new) end result }
+    ensures { (begun : Outflow) (defined written : List ℕ)
+        → HasWritten defined written begun (K.outflow output.old) end
+        → Telling defined begun (K.outflow output.new) end result }
 {
     let Some(end) = end else {
         return 0;
@@ -80,7 +71,17 @@ pub fn end_run<K: Sink>(output: &mut K, end: Option<End>) -> u8
 /// Ends a run that has written nothing, for a reason that is no write fault.
 pub fn end_at_once<K: Sink>(output: &mut K, end: End) -> u8
     requires { is_write_fault end ≡ false }
-    ensures { Telling [] (K.faults output.old) (K.taken output.old) (K.taken output.new) (K.faults output.new) (Some end) result }
+    ensures { Telling [] (K.outflow output.old) (K.outflow output.new) (Some end) result }
 {
     end_run(output, Some(end))
+}
+
+/// Writes a text that is all that a run writes, ends the run, and returns the program's status.
+pub fn tell<K: Sink>(output: &mut K, text: &[u8]) -> u8
+    ensures { TellsText text.now (K.outflow output.old) (K.outflow output.new) result }
+{
+    match write_whole(output, text) {
+        Ok(()) => end_run(output, None),
+        Err(Failed) => end_run(output, Some(End::WriteFault)),
+    }
 }

@@ -12,7 +12,7 @@ mod reading;
 mod reply;
 mod words;
 
-pub use ending::{end_at_once, end_run};
+pub use ending::{end_at_once, end_run, tell};
 pub use ends::End;
 pub use laws::lines_make_up_the_input;
 pub use lines::{Answers, LIMIT, run_lines};

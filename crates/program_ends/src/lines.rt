@@ -1,5 +1,6 @@
 //! The run over the lines of a source.
 ghost use Rattle.std.specs.Prelude.{◌≡◌, ◌≤◌, ◌<◌, ◌+◌, ◌^◌, [], ℕ, List, Option, length, option_map, IfOk, OnOk, OnErr, IfErr};
+ghost use Rattle.byte_streams.specs.Flows.{streams};
 ghost use Rattle.program_ends.specs.Lines.{pending_of, lines_from};
 ghost use Rattle.program_ends.specs.Replies.{bytes_of};
 ghost use Rattle.program_ends.specs.Runs.{IsLinesRun};
@@ -10,7 +11,8 @@ use crate::ends::End;
 use crate::line::Line;
 use crate::reading::{Stop, read_front};
 use crate::reply::Reply;
-use desk_traits::{Failed, Sink, Source};
+use byte_streams::{Sink, Source};
+use desk_traits::Failed;
 use hazard_types::Oom;
 use std::alloc::Global;
 
@@ -39,9 +41,9 @@ fn reply<K: Sink, A: Answers>(
     line: Option<&[u8]>,
     output: &mut K,
 ) -> Result<(), Stop>
-    ensures told { OnOk result (Replies A.answers answers.old answers.new (option_map (λ bytes. bytes.now) line.entry) (K.taken output.old) (K.taken output.new)) }
-    ensures halted { IfErr result (λ why. HaltsAt A.answers A.lacks answers.old answers.new (option_map (λ bytes. bytes.now) line.entry) (K.taken output.old) (K.taken output.new) why) }
-    ensures cause { IsCauseOf Stop.Write (K.faults output.old) (K.faults output.new) result }
+    ensures told { OnOk result (Replies A.answers answers.old answers.new (option_map (λ bytes. bytes.now) line.entry) (K.outflow output.old).taken (K.outflow output.new).taken) }
+    ensures halted { IfErr result (λ why. HaltsAt A.answers A.lacks answers.old answers.new (option_map (λ bytes. bytes.now) line.entry) (K.outflow output.old).taken (K.outflow output.new).taken why) }
+    ensures cause { IsCauseOf Stop.Write (K.outflow output.old).faults (K.outflow output.new).faults result }
 {
     let reply = answers.answer(alloc, line)?;
     match reply.write(output) {
@@ -59,10 +61,10 @@ fn feed<K: Sink, A: Answers>(
     output: &mut K,
 ) -> Result<(), Stop>
     ensures fed { OnOk result ((begun : List ℕ) → line.old ≡ pending_of begun
-        → Feeds A.answers answers.old answers.new begun chunk.now line.new (K.taken output.old) (K.taken output.new)) }
+        → Feeds A.answers answers.old answers.new begun chunk.now line.new (K.outflow output.old).taken (K.outflow output.new).taken) }
     ensures halted { IfErr result (λ why. (begun : List ℕ) → line.old ≡ pending_of begun
-        → Halts A.answers A.lacks answers.old answers.new (lines_from begun chunk.now) (K.taken output.old) (K.taken output.new) why) }
-    ensures cause { IsCauseOf Stop.Write (K.faults output.old) (K.faults output.new) result }
+        → Halts A.answers A.lacks answers.old answers.new (lines_from begun chunk.now) (K.outflow output.old).taken (K.outflow output.new).taken why) }
+    ensures cause { IsCauseOf Stop.Write (K.outflow output.old).faults (K.outflow output.new).faults result }
 {
     for byte in chunk {
         if *byte == b'\n' {
@@ -87,9 +89,9 @@ fn answer_lines<S: Source, K: Sink, A: Answers>(
     output: &mut K,
 ) -> Result<(), Stop>
     requires { limit + 1 < 2 ^ 64 }
-    ensures run { Runs A.answers A.lacks limit answers.old answers.new (S.left input.old) (S.left input.new) (K.taken output.old) (K.taken output.new) result }
-    ensures read { IsCauseOf Stop.Read (S.faults input.old) (S.faults input.new) result }
-    ensures write { IsCauseOf Stop.Write (K.faults output.old) (K.faults output.new) result }
+    ensures run { Runs A.answers A.lacks limit answers.old answers.new (S.inflow input.old).left (S.inflow input.new).left (K.outflow output.old).taken (K.outflow output.new).taken result }
+    ensures read { IsCauseOf Stop.Read (S.inflow input.old).faults (S.inflow input.new).faults result }
+    ensures write { IsCauseOf Stop.Write (K.outflow output.old).faults (K.outflow output.new).faults result }
 {
     let mut line = Line::new(alloc)?;
     let mut buffer = [0u8; 4096];
@@ -126,8 +128,9 @@ pub fn run_lines<S: Source, K: Sink, A: Answers>(
     output: &mut K,
 ) -> u8
     requires { limit + 1 < 2 ^ 64 }
-    ensures { IsLinesRun A.answers A.lacks limit answers.old answers.new (S.left input.old) (S.left input.new) (K.taken output.old) (K.taken output.new)
-        (S.faults input.old) (S.faults input.new) (K.faults output.old) (K.faults output.new) result }
+    ensures { IsLinesRun A.answers A.lacks limit answers.old answers.new
+        (streams (S.inflow input.old) (K.outflow output.old))
+        (streams (S.inflow input.new) (K.outflow output.new)) result }
 {
     match answer_lines(alloc, limit, answers, input, output) {
         Ok(()) => end_run(output, None),

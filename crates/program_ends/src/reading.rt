@@ -1,10 +1,10 @@
 //! Reading of an input, up to a limit.
-ghost use Rattle.std.specs.Prelude.{◌≡◌, ◌≤◌, ◌<◌, length, take, Ok, IfOk, OnOk, OnErr};
-ghost use Rattle.desk_traits.specs.Faults.{HasCause};
-ghost use Rattle.desk_traits.specs.Streams.{Takes, IsAtEnd};
+ghost use Rattle.std.specs.Prelude.{◌≡◌, ◌≤◌, length};
+ghost use Rattle.program_ends.specs.Steps.{ReadsFront};
 
 use crate::ends::End;
-use desk_traits::{Failed, Source};
+use byte_streams::Source;
+use desk_traits::Failed;
 use hazard_types::Oom;
 
 /// Why a run stops before the end of its input.
@@ -44,11 +44,7 @@ impl From<Stop> for End {
 /// Reads at most `room` bytes into the front of the buffer.
 pub fn read_front<S: Source>(input: &mut S, buffer: &mut [u8], room: usize) -> Result<usize, Failed>
     requires { room ≤ length buffer.old }
-    ensures taken { IfOk result (λ count. (count ≤ room) × (count ≤ length buffer.new) × Takes (S.left input.old) (S.left input.new) (take count buffer.new)) }
-    ensures ended { result ≡ Ok 0 → 0 < room → IsAtEnd (S.left input.new) }
-    ensures failed { OnErr result (S.left input.new ≡ S.left input.old) }
-    ensures cause { HasCause (S.faults input.old) (S.faults input.new) result }
-    ensures steady { OnOk result (S.faults input.new ≡ S.faults input.old) }
+    ensures { ReadsFront (S.inflow input.old) (S.inflow input.new) room result buffer.new }
 {
     let count = input.read(&mut buffer[..room])?;
     Ok(count)

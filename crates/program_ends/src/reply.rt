@@ -1,12 +1,10 @@
 //! What a line is answered.
-ghost use Rattle.std.specs.Prelude.{◌≡◌, OnErr, OnOk};
-ghost use Rattle.desk_traits.specs.Faults.{HasCause};
-ghost use Rattle.desk_traits.specs.Streams.{Adds};
-ghost use Rattle.program_ends.specs.Ends.{AddsFront};
+ghost use Rattle.program_ends.specs.Ends.{WritesText};
 ghost use Rattle.program_ends.specs.Replies.{bytes_of};
 
 use crate::ending::write_both;
-use desk_traits::{Failed, Sink, write_whole};
+use byte_streams::{Sink, write_whole};
+use desk_traits::Failed;
 use hazard_types::Text;
 
 /// What a line is answered.
@@ -25,10 +23,7 @@ pub enum Reply {
 impl Reply {
     /// Writes the reply, or a front of it before a fault.
     pub(crate) fn write<K: Sink>(&self, output: &mut K) -> Result<(), Failed>
-        ensures whole { OnOk result (Adds (K.taken output.old) (K.taken output.new) (bytes_of self.now)) }
-        ensures front { OnErr result (AddsFront (K.taken output.old) (K.taken output.new) (bytes_of self.now)) }
-        ensures cause { HasCause (K.faults output.old) (K.faults output.new) result }
-        ensures steady { OnOk result (K.faults output.new ≡ K.faults output.old) }
+        ensures { WritesText (K.outflow output.old) (K.outflow output.new) result (bytes_of self.now) }
     {
         match self {
             Reply::Nothing => Ok(()),

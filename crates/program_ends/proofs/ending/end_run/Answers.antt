@@ -3,20 +3,22 @@ use Rattle.program_ends.proofs.Telling.{told_own, told_cut, told_write_fault}
 use Rattle.program_ends.proofs.ending.end_run.Goals as goal
 
 pub returns-then-is_write_fault : goal.returns-then-is_write_fault
-returns-then-is_write_fault g c = λ taken before defined written adds has.
+returns-then-is_write_fault g c = λ begun defined written has.
+    let shows = g.K.Sink.outflow in
     rw (c.in-Some.is, c.tell_write_fault.ensures.status)
-    (told_write_fault taken (g.K.Sink.taken c.args.output.now) before (g.K.Sink.faults c.args.output.now) defined written adds c.in-Some.end (g.K.Sink.taken c.tell_write_fault.new.output) (g.K.Sink.faults c.tell_write_fault.new.output)
+    (told_write_fault begun (shows c.args.output.now) defined written c.in-Some.end (shows c.tell_write_fault.new.output)
     (sym c.is_write_fault.ensures ∙ c.if-is_write_fault.true) (rw c.in-Some.is at has) c.tell_write_fault.ensures.tried)
 
 pub returns-in-Ok : goal.returns-in-Ok
-returns-in-Ok g c = λ taken before defined written adds has.
+returns-in-Ok g c = λ begun defined written has.
+    let shows = g.K.Sink.outflow in
     rw (c.in-Some.is, c.status.ensures)
-    (told_own taken (g.K.Sink.taken c.args.output.now) before (g.K.Sink.faults c.args.output.now) defined written adds c.in-Some.end (g.K.Sink.taken c.write_fault.new.output) (g.K.Sink.faults c.write_fault.new.output)
+    (told_own begun (shows c.args.output.now) defined written c.in-Some.end (shows c.write_fault.new.output)
     (sym c.is_write_fault.ensures ∙ c.if-is_write_fault.false) (rw c.in-Some.is at has) c.in-Ok.ensures.whole c.in-Ok.ensures.steady)
 
 pub returns : goal.returns
-returns g c = λ taken before defined written adds has.
+returns g c = λ begun defined written has.
+    let shows = g.K.Sink.outflow in
     rw (c.in-Some.is, c.tell_write_fault-in-Err.ensures.status)
-    (told_cut taken (g.K.Sink.taken c.args.output.now) before (g.K.Sink.faults c.args.output.now) defined written adds c.in-Some.end
-    (g.K.Sink.taken c.write_fault.new.output) (g.K.Sink.taken c.tell_write_fault-in-Err.new.output) (g.K.Sink.faults c.write_fault.new.output) (g.K.Sink.faults c.tell_write_fault-in-Err.new.output)
+    (told_cut begun (shows c.args.output.now) defined written c.in-Some.end (shows c.write_fault.new.output) (shows c.tell_write_fault-in-Err.new.output)
     (sym c.is_write_fault.ensures ∙ c.if-is_write_fault.false) (rw c.in-Some.is at has) c.in-Err.ensures.front c.in-Err.ensures.cause.failed c.tell_write_fault-in-Err.ensures.tried)

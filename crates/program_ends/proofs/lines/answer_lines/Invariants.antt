@@ -8,9 +8,9 @@ invariant-loop-turn g l =
     let source = g.S.Source in
     let sink = g.K.Sink in
     record {
-      ran : Ran g.A.Answers.answers l.fn.answers l.answers (source.left l.fn.input) (source.left l.input) (sink.taken l.fn.output) (sink.taken l.output) l.line l.total;
+      ran : Ran g.A.Answers.answers l.fn.answers l.answers (source.inflow l.fn.input).left (source.inflow l.input).left (sink.outflow l.fn.output).taken (sink.outflow l.output).taken l.line l.total;
       within : l.total ≤ l.limit;
       turns : l._turn ≤ l.total;
-      read_steady : source.faults l.input ≡ source.faults l.fn.input;
-      write_steady : sink.faults l.output ≡ sink.faults l.fn.output;
+      read_steady : (source.inflow l.input).faults ≡ (source.inflow l.fn.input).faults;
+      write_steady : (sink.outflow l.output).faults ≡ (sink.outflow l.fn.output).faults;
     }

@@ -1,20 +1,23 @@
-use Rattle.std.proofs.Common.{◌≡◌, arith, drop, length-append}
+use Rattle.std.proofs.Common.{rules, ◌≡◌, arith, drop, length-append}
 use Rattle.std.proofs.lemmas.List.{length-take, take-append-le}
 use Rattle.program_ends.proofs.reading.read_front.Goals as goal
 
-pub returns-clause-taken : goal.returns-clause-taken
-returns-clause-taken g c =
+pub returns : goal.returns
+returns g c =
     let size = c.read.auto.into in
-    let bytes = c.in_ok-count.ensures.bytes in
+    let bytes = c.in_ok-count.ensures.read.bytes in
     let into = c.read.new.into in
-    let rest = drop c.args.room c.args.buffer.now in (
-      omega (arith, bytes.0, size, length-take c.args.room c.args.buffer.now),
-      omega (arith, bytes.0, length-append into rest),
-      rw (take-append-le c.in_ok-count.count into rest bytes.0) bytes.1,
-    )
-
-pub returns-clause-ended : goal.returns-clause-ended
-returns-clause-ended g c = λ zero some.
-    let size = c.read.auto.into in
-    let none : c.in_ok-count.count ≡ 0 = cc in
-    c.in_ok-count.ensures.bytes.2 none (omega (arith, some, size, length-take c.args.room c.args.buffer.now, c.requires))
+    let rest = drop c.args.room c.args.buffer.now in
+    record {
+      taken = (
+        omega (arith, bytes.0, size, length-take c.args.room c.args.buffer.now),
+        omega (arith, bytes.0, length-append into rest),
+        rw (take-append-le c.in_ok-count.count into rest bytes.0) bytes.1,
+      );
+      ended = λ zero some.
+          let none : c.in_ok-count.count ≡ 0 = cc in
+          bytes.2 none (omega (arith, some, size, length-take c.args.room c.args.buffer.now, c.requires));
+      failed = search rules;
+      cause = search rules;
+      steady = search rules;
+    }

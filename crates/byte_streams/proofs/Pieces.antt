@@ -2,7 +2,7 @@
 use Rattle.std.proofs.Common.{◌≡◌, ℕ, ◌+◌, ◌-◌, List, ◌++◌, length, take, drop, ap, sym, ◌∙◌, append_assoc, arith, length-drop, drop-drop, Option, None, Some, option_map}
 use Rattle.std.proofs.lemmas.List.{take_all, take_at, take-append-drop}
 use Rattle.std.proofs.Math.Seq.{take-add}
-use Rattle.desk_traits.specs.Streams.{Adds, Takes}
+use Rattle.byte_streams.specs.Flows.{Adds, Takes}
 
 pub adds_both : (old mid new : Option (List ℕ)) (a b c : List ℕ) → Adds old mid a → Adds mid new b → a ++ b ≡ c → Adds old new c
 adds_both None mid new a b c p q e = q ∙ ap (option_map (λ (t : List ℕ). t ++ b)) p

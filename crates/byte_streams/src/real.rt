@@ -1,8 +1,8 @@
 //! The real ones, over any reader and writer of std. They tell nothing of the bytes.
 ghost use Rattle.std.specs.Prelude.{None};
 
-use crate::faults::Failed;
 use crate::streams::{Sink, Source};
+use desk_traits::Failed;
 use std::io::{Read, Write};
 
 /// A reader, with a count of its faults.
@@ -19,9 +19,7 @@ impl<R: Read> StdSource<R> {
 }
 
 impl<R: Read> Source for StdSource<R> {
-    ghost left = { λ _. None };
-
-    ghost faults = { λ s. s.faults };
+    ghost inflow = { λ s. record { left = None; faults = s.faults } };
 
     ghost reads = { λ _ _. Unit {0} };
 
@@ -50,9 +48,7 @@ impl<W: Write> StdSink<W> {
 }
 
 impl<W: Write> Sink for StdSink<W> {
-    ghost taken = { λ _. None };
-
-    ghost faults = { λ s. s.faults };
+    ghost outflow = { λ s. record { taken = None; faults = s.faults } };
 
     ghost writes = { λ _ _. Unit {0} };
 

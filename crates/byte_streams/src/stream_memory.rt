@@ -1,11 +1,12 @@
-//! Sources and sinks in memory, which fail at exactly the calls that they are told, and a sink where memory lacks.
-ghost use Rattle.std.specs.Prelude.{◌≡◌, ◌≤◌, ◌↔◌, length, min, Some, IfOk, OnOk, OnErr, IsErr, Contains, [], false};
-ghost use Rattle.desk_traits.specs.Faults.{HasCause, next_count};
-ghost use Rattle.desk_traits.specs.Streams.{Reads, Writes};
-ghost use Rattle.desk_traits.specs.StreamMemory.{FailsAsTold};
+//! Sources and sinks in memory, which fail at exactly the calls that they are told, and a sink where
+//! memory lacks.
+ghost use Rattle.std.specs.Prelude.{◌≡◌, ◌≤◌, ◌↔◌, length, min, IfOk, OnErr, IsErr, Contains, [], false};
+ghost use Rattle.desk_traits.specs.Faults.{next_count};
+ghost use Rattle.byte_streams.specs.Flows.{Reads, Writes};
+ghost use Rattle.byte_streams.specs.StreamMemory.{FailsAsTold, inflow_of, outflow_of};
 
-use crate::faults::Failed;
 use crate::streams::{Sink, Source};
+use desk_traits::Failed;
 use hazard_types::{List, Oom, Text};
 use std::alloc::Global;
 use std::marker::Model;
@@ -23,7 +24,7 @@ pub struct MemSource {
 
 impl Model for MemSource {
     ghost use Rattle.std.specs.Prelude.{◌≤◌, length, drop};
-    ghost use Rattle.desk_traits.specs.StreamMemory.{SourceInMemory};
+    ghost use Rattle.byte_streams.specs.StreamMemory.{SourceInMemory};
 
     ghost Value = { SourceInMemory };
 
@@ -51,20 +52,17 @@ impl MemSource {
 }
 
 impl Source for MemSource {
-    ghost left = { λ s. Some s.left };
-
-    ghost faults = { λ s. s.faults };
+    ghost inflow = { inflow_of };
 
     ghost reads = { λ _ _. Unit {0} };
 
     fn read(&mut self, into: &mut [u8]) -> Result<usize, Failed>
-        ensures bytes { Reads (Some self.old.left) (Some self.new.left) result into.new }
-        ensures cause { HasCause self.old.faults self.new.faults result }
-        ensures steady { OnOk result (self.new.faults ≡ self.old.faults) }
+        ensures read { Reads (inflow_of self.old) (inflow_of self.new) result into.new }
         ensures counted { OnErr result (self.new.faults ≡ next_count self.old.faults) }
         ensures beside { Unit {0} }
 
-        // It fails at exactly the listed calls, and gives all that a piece and the buffer may hold at the others.
+        // It fails at exactly the listed calls, and gives all that a piece and the buffer may hold at
+        // the others.
         ensures failing { IsErr result ↔ Contains self.old.failing (next_count self.old.calls) }
         ensures amount { IfOk result (λ n. n ≡ min (min (length self.old.left) self.old.piece) (length into.old)) }
         ensures called { self.new.calls ≡ next_count self.old.calls }
@@ -94,7 +92,7 @@ pub struct MemSink {
 }
 
 impl Model for MemSink {
-    ghost use Rattle.desk_traits.specs.StreamMemory.{SinkInMemory};
+    ghost use Rattle.byte_streams.specs.StreamMemory.{SinkInMemory};
 
     ghost Value = { SinkInMemory };
 
@@ -126,9 +124,7 @@ impl MemSink {
 }
 
 impl Sink for MemSink {
-    ghost taken = { λ s. Some s.taken };
-
-    ghost faults = { λ s. s.faults };
+    ghost outflow = { outflow_of };
 
     ghost writes = { λ _ _. Unit {0} };
 
@@ -138,13 +134,12 @@ impl Sink for MemSink {
 
     /// Takes the whole piece. A growth of its memory that is refused is a counted fault.
     fn write(&mut self, bytes: &[u8]) -> Result<usize, Failed>
-        ensures bytes { Writes (Some self.old.taken) (Some self.new.taken) result bytes.now }
-        ensures cause { HasCause self.old.faults self.new.faults result }
-        ensures steady { OnOk result (self.new.faults ≡ self.old.faults) }
+        ensures written { Writes (outflow_of self.old) (outflow_of self.new) result bytes.now }
         ensures counted { OnErr result (self.new.faults ≡ next_count self.old.faults) }
         ensures beside { Unit {0} }
 
-        // It fails at exactly the listed calls, and where memory lacks, and takes the whole piece at the others.
+        // It fails at exactly the listed calls, and where memory lacks, and takes the whole piece at
+        // the others.
         ensures failing { FailsAsTold (Contains self.old.failing (next_count self.old.calls)) self.old.lacked self.new.lacked result }
         ensures amount { IfOk result (λ n. n ≡ length bytes.now) }
         ensures called { self.new.calls ≡ next_count self.old.calls }

@@ -1,8 +1,9 @@
 //! A source and a sink whose counts of faults can't rise.
 ghost use Rattle.std.specs.Prelude.{◌≡◌, ◌≤◌, None, Some, drop, length, IfOk};
+ghost use Rattle.byte_streams.specs.Flows.{inflow, outflow};
 
-use crate::faults::Failed;
 use crate::streams::{Sink, Source};
+use desk_traits::Failed;
 use hazard_types::{List, Oom, Text};
 use std::alloc::Global;
 
@@ -17,7 +18,7 @@ pub struct SureSource {
 impl SureSource {
     /// A source of these bytes.
     pub fn new(alloc: Global, bytes: &[u8]) -> Result<Self, Oom>
-        ensures { IfOk result (λ source. ⟦<SureSource as Source>⟧.left source ≡ Some bytes.now) }
+        ensures { IfOk result (λ source. ⟦<SureSource as Source>⟧.inflow source ≡ inflow (Some bytes.now) 0) }
     {
         Ok(SureSource {
             bytes: List::from_slice(alloc, bytes)?,
@@ -27,9 +28,7 @@ impl SureSource {
 }
 
 impl Source for SureSource {
-    ghost left = { λ s. Some (drop s.at s.bytes) };
-
-    ghost faults = { λ _. 0 };
+    ghost inflow = { λ s. record { left = Some (drop s.at s.bytes); faults = 0 } };
 
     ghost reads = { λ _ _. Unit {0} };
 
@@ -47,9 +46,7 @@ impl Source for SureSource {
 pub struct SureSink;
 
 impl Sink for SureSink {
-    ghost taken = { λ _. None };
-
-    ghost faults = { λ _. 0 };
+    ghost outflow = { λ _. record { taken = None; faults = 0 } };
 
     ghost writes = { λ _ _. Unit {0} };
 
