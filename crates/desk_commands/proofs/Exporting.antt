@@ -3,8 +3,8 @@ use Rattle.std.proofs.Common.{ℕ, ◌≡◌, ◌≤◌, ◌<◌, ◌+◌, suc, 
 use Rattle.std.specs.List.{slice_get}
 use Rattle.std.proofs.lemmas.List.{take-append-drop, take_all}
 use Rattle.desk_traits.specs.Faults.{Rose}
-use Rattle.desk_traits.specs.Streams.{Adds}
-use Rattle.desk_traits.proofs.Pieces.{adds_both}
+use Rattle.byte_streams.specs.Flows.{Adds, Outflow}
+use Rattle.byte_streams.proofs.Pieces.{adds_both}
 use Rattle.hazard_types.specs.declared.refusal.Refusal.{Refusal}
 use Rattle.hazard_types.specs.declared.request.Sent.{Sent}
 use Rattle.office_core.specs.Agreement.{texts_of}
@@ -48,8 +48,8 @@ wrote_next s n text taken mid taken' shows wrote adds =
     subst (λ (k : ℕ). Wrote s k taken taken') e (adds_both _ _ _ _ _ _ wrote adds (sym (one_more s n text shows)))
 
 -- all of them
-pub exported : (s : State) (n before now : ℕ) (taken taken' : Option (List ℕ)) → length s.products ≤ n → Wrote s n taken taken' → now ≡ before → Exported (texts_of s) taken taken' before now None
-exported s n before now taken taken' all wrote steady =
+pub exported : (s : State) (n : ℕ) (old new : Outflow) → length s.products ≤ n → Wrote s n old.taken new.taken → new.faults ≡ old.faults → Exported (texts_of s) old new None
+exported s n old new all wrote steady =
     let whole : take n (texts_of s) ≡ texts_of s = take_all n (texts_of s) (omega (arith, all, length_texts s.products)) in
     record {
       first = texts_of s;
@@ -57,14 +57,17 @@ exported s n before now taken taken' all wrote steady =
       are = sym (append-nil (texts_of s));
       reasons = inl (refl, refl);
       written = joined (texts_of s);
-      adds = subst (λ (texts : List (List ℕ)). Adds taken taken' (joined texts)) whole wrote;
-      has = record { whole = λ _. (steady, refl); cut = λ e. absurd (cc) };
+      has = record {
+        adds = subst (λ (texts : List (List ℕ)). Adds old.taken new.taken (joined texts)) whole wrote;
+        whole = λ _. (steady, refl);
+        cut = λ e. absurd (cc);
+      };
     }
 
 -- those before a write fault, and a front of the next
-pub exported_part : (s : State) (n count before mid now : ℕ) (text : List ℕ) (taken half taken' : Option (List ℕ)) → ShowsProduct (product_at s (n + 1)) text → Wrote s n taken half → Adds half taken' (take count text)
-    → mid ≡ before → Rose mid now → Exported (texts_of s) taken taken' before now (Some WriteFault)
-exported_part s n count before mid now text taken half taken' shows wrote adds steady rose =
+pub exported_part : (s : State) (n count : ℕ) (text : List ℕ) (old half new : Outflow) → ShowsProduct (product_at s (n + 1)) text → Wrote s n old.taken half.taken → Adds half.taken new.taken (take count text)
+    → half.faults ≡ old.faults → Rose half.faults new.faults → Exported (texts_of s) old new (Some WriteFault)
+exported_part s n count text old half new shows wrote adds steady rose =
     let told = joined (take n (texts_of s)) in
     record {
       first = take (suc n) (texts_of s);
@@ -72,24 +75,23 @@ exported_part s n count before mid now text taken half taken' shows wrote adds s
       are = sym (take-append-drop (suc n) (texts_of s));
       reasons = inr (inl refl);
       written = told ++ take count text;
-      adds = adds_both _ _ _ _ _ _ wrote adds refl;
       has = record {
+        adds = adds_both _ _ _ _ _ _ wrote adds refl;
         whole = λ no. absurd (no refl);
         cut = λ _. (
-          subst (λ (k : ℕ). Rose k now) steady rose,
+          subst (λ (k : ℕ). Rose k new.faults) steady rose,
           (drop count text, one_more s n text shows ∙ ap (λ (l : List ℕ). told ++ l) (sym (take-append-drop count text)) ∙ sym (append_assoc told (take count text) (drop count text))),
         );
       };
     }
 
 -- those before memory lacked
-pub exported_before : (s : State) (n before now : ℕ) (taken taken' : Option (List ℕ)) → Wrote s n taken taken' → now ≡ before → Exported (texts_of s) taken taken' before now (Some OutOfMemory)
-exported_before s n before now taken taken' wrote steady = record {
+pub exported_before : (s : State) (n : ℕ) (old new : Outflow) → Wrote s n old.taken new.taken → new.faults ≡ old.faults → Exported (texts_of s) old new (Some OutOfMemory)
+exported_before s n old new wrote steady = record {
   first = take n (texts_of s);
   rest = drop n (texts_of s);
   are = sym (take-append-drop n (texts_of s));
   reasons = inr (inr refl);
   written = joined (take n (texts_of s));
-  adds = wrote;
-  has = record { whole = λ _. (steady, refl); cut = λ e. absurd (cc) };
+  has = record { adds = wrote; whole = λ _. (steady, refl); cut = λ e. absurd (cc) };
 }

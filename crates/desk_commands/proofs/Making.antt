@@ -9,7 +9,7 @@ use Rattle.desk_traits.specs.Crash.{LeavesOnly}
 use Rattle.desk_traits.specs.declared.disk.Disk.{Ghosts as Disks}
 use Rattle.desk_traits.specs.Faults.{Rose}
 use Rattle.desk_traits.specs.File.{Only}
-use Rattle.desk_traits.specs.Streams.{IsAtEnd}
+use Rattle.byte_streams.specs.Flows.{IsAtEnd}
 use Rattle.hazard_types.specs.declared.request.Edition.TheVariants.{Two}
 use Rattle.journal_core.specs.Image.{Fresh}
 use Rattle.office_journal.specs.Changes.{Change, Leaves}

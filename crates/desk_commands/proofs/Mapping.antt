@@ -1,5 +1,6 @@
 -- A run over lines told over what states show, where memory never lacks for an answer.
 use Rattle.std.proofs.Common.{ℕ, ◌≡◌, inl, inr, List, [], ◌∷◌, Option, ap, ◌∙◌}
+use Rattle.byte_streams.specs.Flows.{Outflow, Streams}
 use Rattle.program_ends.proofs.Mapping.{ends_at_last}
 use Rattle.program_ends.specs.Runs.{Answered, Breaks, IsBroken, IsLinesRun, IsUnbegun}
 
@@ -10,9 +11,9 @@ module _ {A N : Type 0} (name : A → N) (under : A → Option (List ℕ) → Li
   same_name a z [] told h = ap name h.1
   same_name a z (line ∷ lines) told h = same_name h.1 z lines h.2 h.5 ∙ keeps a _ h.0 h.1 h.3
 
-  pub last_name : (limit : ℕ) (a z : A) (left left' taken taken' : Option (List ℕ)) (reads reads' writes writes' status : ℕ) → IsLinesRun under never limit a z left left' taken taken' reads reads' writes writes' status → name z ≡ name a
-  last_name limit a z left left' taken taken' reads reads' writes writes' status run =
-      ap name (ends_at_last under never no limit a z left left' run.end run.told run.run) ∙ same_name a run.run.last run.run.lines run.told run.run.answered
+  pub last_name : (limit : ℕ) (a z : A) (before after : Streams) (status : ℕ) → IsLinesRun under never limit a z before after status → name z ≡ name a
+  last_name limit a z before after status run =
+      ap name (ends_at_last under never no limit a z before.input.left after.input.left run.end run.told run.run) ∙ same_name a run.run.last run.run.lines run.told run.run.answered
 
 module _ {A B : Type 0} (f : A → B) (under : A → Option (List ℕ) → List ℕ → A → Type 0) (answers : B → Option (List ℕ) → List ℕ → B → Type 0)
     (says : (x : A) (line : Option (List ℕ)) (text : List ℕ) (y : A) → under x line text y → answers (f x) line text (f y))
@@ -40,8 +41,8 @@ module _ {A B : Type 0} (f : A → B) (under : A → Option (List ℕ) → List 
     written_is = h.written_is;
   }
 
-  broken : (a z : A) (lines : List (List ℕ)) (told : List ℕ) (taken taken' : Option (List ℕ)) (writes writes' : ℕ) → IsBroken under a z lines told taken taken' writes writes' → IsBroken answers (f a) (f z) lines told taken taken' writes writes'
-  broken a z lines told taken taken' writes writes' h = record {
+  broken : (a z : A) (lines : List (List ℕ)) (told : List ℕ) (before after : Outflow) → IsBroken under a z lines told before after → IsBroken answers (f a) (f z) lines told before after
+  broken a z lines told before after h = record {
     written = h.written;
     fault = h.fault;
     breaks = breaks a z lines told h.written h.breaks;
@@ -50,10 +51,10 @@ module _ {A B : Type 0} (f : A → B) (under : A → Option (List ℕ) → List 
     adds = h.adds;
   }
 
-  pub shown : (limit : ℕ) (a z : A) (left left' taken taken' : Option (List ℕ)) (reads reads' writes writes' status : ℕ)
-      → IsLinesRun under never limit a z left left' taken taken' reads reads' writes writes' status
-      → IsLinesRun answers (λ (s : B) (line : Option (List ℕ)) (y : B). ⊥) limit (f a) (f z) left left' taken taken' reads reads' writes writes' status
-  shown limit a z left left' taken taken' reads reads' writes writes' status run = record {
+  pub shown : (limit : ℕ) (a z : A) (before after : Streams) (status : ℕ)
+      → IsLinesRun under never limit a z before after status
+      → IsLinesRun answers (λ (s : B) (line : Option (List ℕ)) (y : B). ⊥) limit (f a) (f z) before after status
+  shown limit a z before after status run = record {
     end = run.end;
     told = run.told;
     run = record {
@@ -71,17 +72,17 @@ module _ {A B : Type 0} (f : A → B) (under : A → Option (List ℕ) → List 
       state = λ e. ap f (run.run.state e);
       whole = run.run.whole;
       no_memory = λ e. elim (run.run.no_memory e) [
-        | inl none ↦ inl (unbegun a z left left' run.run.read run.run.lines none)
+        | inl none ↦ inl (unbegun a z before.input.left after.input.left run.run.read run.run.lines none)
         | inr next ↦ absurd (no run.run.last _ z next.3)
       ];
       next = λ e. elim (run.run.next e) [
-        | inl none ↦ inl (unbegun a z left left' run.run.read run.run.lines none)
+        | inl none ↦ inl (unbegun a z before.input.left after.input.left run.run.read run.run.lines none)
         | inr more ↦ inr more
       ];
       reasons = run.run.reasons;
     };
     telling = run.telling;
-    broken = λ e. broken a z run.run.lines run.told taken taken' writes writes' (run.broken e);
+    broken = λ e. broken a z run.run.lines run.told before.output after.output (run.broken e);
     rose = run.rose;
     steady = run.steady;
     read_fault = run.read_fault;

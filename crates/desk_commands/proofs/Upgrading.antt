@@ -19,6 +19,7 @@ use Rattle.office_journal.specs.Submitting.{MayTouch}
 use Rattle.office_journal.specs.declared.answers.Upgrade.{Upgrade}
 use Rattle.office_journal.specs.declared.answers.Upgrade.TheVariants as upgrade
 use Rattle.office_journal.specs.declared.kept.KeptOffice.{KeptOffice}
+use Rattle.byte_streams.specs.Flows.{Outflow}
 use Rattle.desk_commands.specs.Commands.{IsMarked, TellsUpgrade, UpgradeOutcome}
 use Rattle.office_journal.proofs.Between.{at_start, grown_follows}
 use Rattle.office_journal.proofs.Growing.{two_follows}
@@ -53,16 +54,16 @@ module _ {D : Type 0} (d : Disks D) (old new : KeptOffice D d) where
       omega (arith, less)
 
   -- what it comes to
-  pub outcome : (u : Upgrade) (writes : ℕ) (taken taken' : Option (List ℕ)) (writes' status : ℕ) → Says u → TellsUpgrade u writes taken taken' writes' status
-      → UpgradeOutcome d (disk_of new) old new writes taken taken' writes' status
-  outcome upgrade.Done writes taken taken' writes' status says told = inl (ap (λ (s : State). s.edition) (says.done refl).1, inr (has_room says), told)
-  outcome upgrade.Already writes taken taken' writes' status says told =
+  pub outcome : (u : Upgrade) (before after : Outflow) (status : ℕ) → Says u → TellsUpgrade u before after status
+      → UpgradeOutcome d (disk_of new) old new before after status
+  outcome upgrade.Done before after status says told = inl (ap (λ (s : State). s.edition) (says.done refl).1, inr (has_room says), told)
+  outcome upgrade.Already before after status says told =
       inl (ap (λ (s : State). s.edition) (says.state (λ q. absurd (cc))) ∙ says.already.0 refl, inl (says.already.0 refl, (says.untouched (λ q. absurd (cc)) (λ q. absurd (cc))).0), told)
-  outcome upgrade.Full writes taken taken' writes' status says told =
+  outcome upgrade.Full before after status says told =
       inr (inl (ap (λ (s : State). s.edition) (says.state (λ q. absurd (cc))) ∙ (says.full refl).0, (says.full refl).0, (says.full refl).1, (says.untouched (λ q. absurd (cc)) (λ q. absurd (cc))).0, told))
-  outcome upgrade.DiskFault writes taken taken' writes' status says told =
+  outcome upgrade.DiskFault before after status says told =
       inr (inr (inl (ap (λ (s : State). s.edition) (says.state (λ q. absurd (cc))) ∙ (says.cause refl).0, (says.cause refl).0, (says.cause refl).1, told)))
-  outcome upgrade.OutOfMemory writes taken taken' writes' status says told =
+  outcome upgrade.OutOfMemory before after status says told =
       inr (inr (inr (ap (λ (s : State). s.edition) (says.state (λ q. absurd (cc))), (says.untouched (λ q. absurd (cc)) (λ q. absurd (cc))).0, told)))
 
   module _ (start : ℕ) (counts_now : (x : D) (c : List ℕ) → d.may_leave x c → d.left_since x (d.moment x) c)

@@ -10,7 +10,7 @@ use Rattle.desk_traits.specs.declared.clocks.Clock.{Ghosts as Clocks}
 use Rattle.desk_traits.specs.declared.disk.Disk.{Ghosts as Disks}
 use Rattle.desk_traits.specs.Faults.{Rose}
 use Rattle.desk_traits.specs.File.{Only}
-use Rattle.desk_traits.specs.Streams.{Adds, Takes, IsAtEnd}
+use Rattle.byte_streams.specs.Flows.{Inflow, IsAtEnd, Outflow, Streams, Takes}
 use Rattle.hazard_types.specs.declared.request.Edition.TheVariants.{One, Two}
 use Rattle.journal_core.specs.Image.{Fresh}
 use Rattle.office_core.specs.Agreement.{texts_of}
@@ -26,7 +26,7 @@ use Rattle.office_journal.specs.Making.{IsMakingOf}
 use Rattle.office_journal.specs.declared.answers.Upgrade.{Upgrade}
 use Rattle.office_journal.specs.declared.answers.Upgrade.TheVariants as upgrade
 use Rattle.office_journal.specs.declared.kept.KeptOffice.{KeptOffice}
-use Rattle.program_ends.specs.Ends.{HasWritten, Telling}
+use Rattle.program_ends.specs.Ends.{HasWritten, Telling, TellsText}
 use Rattle.program_ends.specs.Runs.{IsLinesRun, IsUnbegun}
 use Rattle.program_ends.specs.declared.ends.End.{End}
 use Rattle.program_ends.specs.declared.reading.Stop.{Stop}
@@ -35,37 +35,32 @@ use Rattle.program_ends.specs.declared.ends.End.TheVariants.{WriteFault, OutOfMe
 use Rattle.desk_commands.specs.Opening.{IsOpened}
 use Rattle.desk_commands.specs.Scripts.{Answers, Goes, HaveReadings, IsRead, MayPend, Said, Scripted, entries_in, failed_from, faults_in, texts_in}
 
--- the text was written, or a front of it before a write fault
-abbrev pub TellsText : List ℕ → ℕ → Option (List ℕ) → Option (List ℕ) → ℕ → ℕ → Type 0
-TellsText text writes taken taken' writes' status = (end : Option End) × ((end ≡ None) ⊎ (end ≡ Some WriteFault)) × Telling text writes taken taken' writes' end status
-
 -- texts one after another
 abbrev pub joined : List (List ℕ) → List ℕ
 joined texts = flat_map (λ (text : List ℕ). text) texts
 
 -- the first of the texts were written one after another: all of them, those up to a write fault, or those before memory lacked
-pub record Exported (texts : List (List ℕ)) (taken taken' : Option (List ℕ)) (writes writes' : ℕ) (end : Option End) : Type 0 where
+pub record Exported (texts : List (List ℕ)) (old new : Outflow) (end : Option End) : Type 0 where
   pub first : List (List ℕ)
   pub rest : List (List ℕ)
   pub are : texts ≡ first ++ rest
   pub reasons : ((end ≡ None) × (rest ≡ [])) ⊎ (end ≡ Some WriteFault) ⊎ (end ≡ Some OutOfMemory)
   pub written : List ℕ
-  pub adds : Adds taken taken' written
-  pub has : HasWritten (joined first) written writes writes' end
+  pub has : HasWritten (joined first) written old new end
 
 -- the same, with the end of the run
-pub record AreTold (texts : List (List ℕ)) (writes : ℕ) (taken taken' : Option (List ℕ)) (writes' status : ℕ) : Type 0 where
+pub record AreTold (texts : List (List ℕ)) (old new : Outflow) (status : ℕ) : Type 0 where
   pub first : List (List ℕ)
   pub rest : List (List ℕ)
   pub are : texts ≡ first ++ rest
   pub end : Option End
   pub reasons : ((end ≡ None) × (rest ≡ [])) ⊎ (end ≡ Some WriteFault) ⊎ (end ≡ Some OutOfMemory)
-  pub telling : Telling (joined first) writes taken taken' writes' end status
+  pub telling : Telling (joined first) old new end status
 
 -- The settings were read to the input's end, or to the byte behind the last that settings may have; or a read failed, or memory lacked, somewhere within.
-abbrev pub SettingsRead : Option (List ℕ) → Option (List ℕ) → ℕ → ℕ → Result (List ℕ) Stop → Type 0
-SettingsRead left left' reads reads' (Ok text) = Takes left left' text × (length text ≤ 1048577) × ((length text ≡ 1048577) ⊎ IsAtEnd left') × (reads' ≡ reads)
-SettingsRead left left' reads reads' (Err why) = ((text : List ℕ) × Takes left left' text × (length text ≤ 1048577)) × (((why ≡ stop.OutOfMemory) × (reads' ≡ reads)) ⊎ ((why ≡ stop.Read) × Rose reads reads'))
+abbrev pub SettingsRead : Inflow → Inflow → Result (List ℕ) Stop → Type 0
+SettingsRead old new (Ok text) = Takes old.left new.left text × (length text ≤ 1048577) × ((length text ≡ 1048577) ⊎ IsAtEnd new.left) × (new.faults ≡ old.faults)
+SettingsRead old new (Err why) = ((text : List ℕ) × Takes old.left new.left text × (length text ≤ 1048577)) × (((why ≡ stop.OutOfMemory) × (new.faults ≡ old.faults)) ⊎ ((why ≡ stop.Read) × Rose old.faults new.faults))
 
 -- a fault of settings, and its key
 abbrev pub fault_text : SettingsFault → List ℕ
@@ -76,27 +71,27 @@ fault_text (Twice key) = codes "Twice " ++ key
 fault_text TooLong = codes "TooLong"
 
 -- what is told of an upgrade
-abbrev pub TellsUpgrade : Upgrade → ℕ → Option (List ℕ) → Option (List ℕ) → ℕ → ℕ → Type 0
-TellsUpgrade upgrade.Done writes taken taken' writes' status = TellsText (codes "edition 2\n") writes taken taken' writes' status
-TellsUpgrade upgrade.Already writes taken taken' writes' status = TellsText (codes "edition 2\n") writes taken taken' writes' status
-TellsUpgrade upgrade.Full writes taken taken' writes' status = Telling [] writes taken taken' writes' (Some JournalFull) status
-TellsUpgrade upgrade.DiskFault writes taken taken' writes' status = Telling [] writes taken taken' writes' (Some DiskFault) status
-TellsUpgrade upgrade.OutOfMemory writes taken taken' writes' status = Telling [] writes taken taken' writes' (Some OutOfMemory) status
+abbrev pub TellsUpgrade : Upgrade → Outflow → Outflow → ℕ → Type 0
+TellsUpgrade upgrade.Done old new status = TellsText (codes "edition 2\n") old new status
+TellsUpgrade upgrade.Already old new status = TellsText (codes "edition 2\n") old new status
+TellsUpgrade upgrade.Full old new status = Telling [] old new (Some JournalFull) status
+TellsUpgrade upgrade.DiskFault old new status = Telling [] old new (Some DiskFault) status
+TellsUpgrade upgrade.OutOfMemory old new status = Telling [] old new (Some OutOfMemory) status
 
 -- What becomes of an upgrade: the edition is Two, and was before, so that the disk is as it was, or the mark has room; it has none, the disk failed in this call, or memory lacked, and the edition is as it was. But for the disk's fault the disk is as it was then.
-abbrev pub UpgradeOutcome : {D : Type 0} (d : Disks D) → D → KeptOffice D d → KeptOffice D d → ℕ → Option (List ℕ) → Option (List ℕ) → ℕ → ℕ → Type 0
-UpgradeOutcome d next opened after writes taken taken' writes' status =
-    (((state_of after).edition ≡ Two) × ((((state_of opened).edition ≡ Two) × (next ≡ disk_of opened)) ⊎ (gate_of opened + 15 ≤ 268435456)) × TellsText (codes "edition 2\n") writes taken taken' writes' status)
-    ⊎ (((state_of after).edition ≡ One) × ((state_of opened).edition ≡ One) × (268435456 < gate_of opened + 15) × (next ≡ disk_of opened) × Telling [] writes taken taken' writes' (Some JournalFull) status)
-    ⊎ (((state_of after).edition ≡ One) × ((state_of opened).edition ≡ One) × Rose (d.faults (disk_of opened)) (d.faults next) × Telling [] writes taken taken' writes' (Some DiskFault) status)
-    ⊎ (((state_of after).edition ≡ (state_of opened).edition) × (next ≡ disk_of opened) × Telling [] writes taken taken' writes' (Some OutOfMemory) status)
+abbrev pub UpgradeOutcome : {D : Type 0} (d : Disks D) → D → KeptOffice D d → KeptOffice D d → Outflow → Outflow → ℕ → Type 0
+UpgradeOutcome d next opened after old new status =
+    (((state_of after).edition ≡ Two) × ((((state_of opened).edition ≡ Two) × (next ≡ disk_of opened)) ⊎ (gate_of opened + 15 ≤ 268435456)) × TellsText (codes "edition 2\n") old new status)
+    ⊎ (((state_of after).edition ≡ One) × ((state_of opened).edition ≡ One) × (268435456 < gate_of opened + 15) × (next ≡ disk_of opened) × Telling [] old new (Some JournalFull) status)
+    ⊎ (((state_of after).edition ≡ One) × ((state_of opened).edition ≡ One) × Rose (d.faults (disk_of opened)) (d.faults next) × Telling [] old new (Some DiskFault) status)
+    ⊎ (((state_of after).edition ≡ (state_of opened).edition) × (next ≡ disk_of opened) × Telling [] old new (Some OutOfMemory) status)
 
 -- The board at a minute: its text, or the clock's fault where the minute is out; or memory lacked.
-abbrev pub TellsBoard : State → ℤ → ℕ → Option (List ℕ) → Option (List ℕ) → ℕ → ℕ → Type 0
-TellsBoard s at writes taken taken' writes' status =
-    ((is_out at ≡ false) × TellsText (board_text (shown_at (nat_abs at) s.rows)) writes taken taken' writes' status)
-    ⊎ ((is_out at ≡ true) × Telling [] writes taken taken' writes' (Some ClockOut) status)
-    ⊎ Telling [] writes taken taken' writes' (Some OutOfMemory) status
+abbrev pub TellsBoard : State → ℤ → Outflow → Outflow → ℕ → Type 0
+TellsBoard s at old new status =
+    ((is_out at ≡ false) × TellsText (board_text (shown_at (nat_abs at) s.rows)) old new status)
+    ⊎ ((is_out at ≡ true) × Telling [] old new (Some ClockOut) status)
+    ⊎ Telling [] old new (Some OutOfMemory) status
 
 -- the minute of the board: the one that is named, or a reading of the clock
 abbrev pub IsBoardAt : {C : Type 0} (k : Clocks C) → Option ℕ → C → C → ℤ → Type 0
@@ -104,8 +99,8 @@ IsBoardAt k None clock next at = IsRead k clock next at
 IsBoardAt k (Some minute) clock next at = (at ≡ pos minute) × (next ≡ clock)
 
 -- a run over lines in which memory never lacks for an answer
-abbrev pub AnswersLines : {D C : Type 0} (d : Disks D) (k : Clocks C) → ℕ → Scripted (KeptOffice D d) C → Scripted (KeptOffice D d) C → Option (List ℕ) → Option (List ℕ) → Option (List ℕ) → Option (List ℕ) → ℕ → ℕ → ℕ → ℕ → ℕ → Type 0
-AnswersLines d k limit s z left left' taken taken' reads reads' writes writes' status = IsLinesRun (Answers d k) (λ x line y. ⊥) limit s z left left' taken taken' reads reads' writes writes' status
+abbrev pub AnswersLines : {D C : Type 0} (d : Disks D) (k : Clocks C) → ℕ → Scripted (KeptOffice D d) C → Scripted (KeptOffice D d) C → Streams → Streams → ℕ → Type 0
+AnswersLines d k limit s z old new status = IsLinesRun (Answers d k) (λ x line y. ⊥) limit s z old new status
 
 module _ {D : Type 0} (d : Disks D) where
   -- Nothing was added: the history is the one that was found, and the disk stands as it did.
@@ -113,13 +108,13 @@ module _ {D : Type 0} (d : Disks D) where
   Stays disk next kept = (bytes : List ℕ) → d.seen disk ≡ Some bytes → (file : List ℕ) × (h : History) × KeepsHistory d disk (disk_of kept) next bytes file h h (λ change. ⊥) (state_of kept)
 
   -- the input's lines were answered one after another by the office that was found
-  pub record IsScriptRun {C : Type 0} (k : Clocks C) (disk next : D) (clock clock' : C) (limit : ℕ) (left left' taken taken' : Option (List ℕ)) (reads reads' writes writes' status : ℕ) : Type 0 where
+  pub record IsScriptRun {C : Type 0} (k : Clocks C) (disk next : D) (clock clock' : C) (limit : ℕ) (old new : Streams) (status : ℕ) : Type 0 where
     pub opened : KeptOffice D d
     pub first : IsOpened d disk opened
     -- office and clock at the end
     pub after : Scripted (KeptOffice D d) C
     pub clock_is : after.clock ≡ clock'
-    pub run : AnswersLines d k limit (record { kept = opened; clock = clock }) after left left' taken taken' reads reads' writes writes' status
+    pub run : AnswersLines d k limit (record { kept = opened; clock = clock }) after old new status
     -- what came of each line that was answered, in order
     pub said : List Said
     pub goes : Goes d k (record { kept = opened; clock = clock }) run.run.lines said after
@@ -133,24 +128,24 @@ module _ {D : Type 0} (d : Disks D) where
     -- the first line that is not empty has the first reading ahead, and so on
     pub readings : (ahead : List ℤ) → k.ahead clock ≡ Some ahead → HaveReadings ahead said
     -- memory lacks before the first line alone, and then the disk's count is as before
-    pub no_memory : status ≡ 12 → IsUnbegun (record { kept = opened; clock = clock }) after left left' run.run.read run.run.lines × (d.faults next ≡ d.faults disk)
+    pub no_memory : status ≡ 12 → IsUnbegun (record { kept = opened; clock = clock }) after old.input.left new.input.left run.run.read run.run.lines × (d.faults next ≡ d.faults disk)
 
   -- the texts of the products were written one after another
-  pub record IsExportRun (disk next : D) (taken taken' : Option (List ℕ)) (writes writes' status : ℕ) : Type 0 where
+  pub record IsExportRun (disk next : D) (old new : Outflow) (status : ℕ) : Type 0 where
     pub opened : KeptOffice D d
     pub first : IsOpened d disk opened
-    pub told : AreTold (texts_of (state_of opened)) writes taken taken' writes' status
+    pub told : AreTold (texts_of (state_of opened)) old new status
     pub handed : next ≡ disk_of opened
     pub history : Stays disk next opened
     pub later : d.faults disk ≤ d.faults next
 
   -- the board at a minute was written
-  pub record IsBoardRun {C : Type 0} (k : Clocks C) (minute : Option ℕ) (disk next : D) (clock clock' : C) (taken taken' : Option (List ℕ)) (writes writes' status : ℕ) : Type 0 where
+  pub record IsBoardRun {C : Type 0} (k : Clocks C) (minute : Option ℕ) (disk next : D) (clock clock' : C) (old new : Outflow) (status : ℕ) : Type 0 where
     pub opened : KeptOffice D d
     pub first : IsOpened d disk opened
     pub at : ℤ
     pub reading : IsBoardAt k minute clock clock' at
-    pub told : TellsBoard (state_of opened) at writes taken taken' writes' status
+    pub told : TellsBoard (state_of opened) at old new status
     pub handed : next ≡ disk_of opened
     pub history : Stays disk next opened
     pub later : d.faults disk ≤ d.faults next
@@ -164,11 +159,11 @@ module _ {D : Type 0} (d : Disks D) where
     pub moments : LeavesOnly d.moment d.left_since (disk_of opened) (disk_of after) (Leaves file h (λ change. (change ≡ Change.marked) × (h.edition ≡ One)))
 
   -- the journal has the mark
-  pub record IsUpgradeRun (disk next : D) (taken taken' : Option (List ℕ)) (writes writes' status : ℕ) : Type 0 where
+  pub record IsUpgradeRun (disk next : D) (old new : Outflow) (status : ℕ) : Type 0 where
     pub opened : KeptOffice D d
     pub first : IsOpened d disk opened
     pub after : KeptOffice D d
-    pub outcome : UpgradeOutcome d next opened after writes taken taken' writes' status
+    pub outcome : UpgradeOutcome d next opened after old new status
     pub handed : next ≡ disk_of after
     pub marked : (file : List ℕ) (h : History) → Holds d.seen d.may_leave opened file h None → IsMarked opened after file h
     pub later : d.faults disk ≤ d.faults next
@@ -195,16 +190,16 @@ module _ {D : Type 0} (d : Disks D) where
     pub only : (bytes : List ℕ) → d.seen disk ≡ Some bytes → Only (d.seen next) (d.may_leave next)
 
   -- the settings were read whole, or as far as they can be settings, and a journal was made of them or not
-  pub record IsInitRun (disk next : D) (left left' taken taken' : Option (List ℕ)) (reads reads' writes writes' status : ℕ) : Type 0 where
+  pub record IsInitRun (disk next : D) (old new : Streams) (status : ℕ) : Type 0 where
     pub read : List ℕ
-    pub takes : Takes left left' read
+    pub takes : Takes old.input.left new.input.left read
     pub within : length read ≤ 1048577
     pub outcome :
-        ((length read ≡ 1048577) ⊎ IsAtEnd left') × (reads' ≡ reads)
-        × ((IsMade disk next read × IsAtEnd left' × TellsText (codes "ready\n") writes taken taken' writes' status)
-        ⊎ ((end : End) × IsWhyUnmade disk next read end × Telling [] writes taken taken' writes' (Some end) status))
-        ⊎ (next ≡ disk) × (((reads' ≡ reads) × Telling [] writes taken taken' writes' (Some OutOfMemory) status)
-        ⊎ (Rose reads reads' × Telling [] writes taken taken' writes' (Some ReadFault) status))
+        ((length read ≡ 1048577) ⊎ IsAtEnd new.input.left) × (new.input.faults ≡ old.input.faults)
+        × ((IsMade disk next read × IsAtEnd new.input.left × TellsText (codes "ready\n") old.output new.output status)
+        ⊎ ((end : End) × IsWhyUnmade disk next read end × Telling [] old.output new.output (Some end) status))
+        ⊎ (next ≡ disk) × (((new.input.faults ≡ old.input.faults) × Telling [] old.output new.output (Some OutOfMemory) status)
+        ⊎ (Rose old.input.faults new.input.faults × Telling [] old.output new.output (Some ReadFault) status))
     pub later : d.faults disk ≤ d.faults next
     -- what a crash leaves: what one at the start might have left, or a file that is being made
     pub crashes : (bytes : List ℕ) → d.seen disk ≡ Some bytes → LeavesOnly d.moment d.left_since disk next (λ c. d.may_leave disk c ⊎ IsMakingOf read c)

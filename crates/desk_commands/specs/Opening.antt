@@ -1,5 +1,6 @@
 -- How an office is opened from the journal that a disk holds.
 use Rattle.std.specs.Prelude.{◌≡◌, ◌≤◌, ℕ, List, [], Option, None, Some}
+use Rattle.byte_streams.specs.Flows.{Inflow, Outflow}
 use Rattle.desk_traits.specs.Crash.{LeavesOnly}
 use Rattle.desk_traits.specs.declared.disk.Disk.{Ghosts as Disks}
 use Rattle.desk_traits.specs.Faults.{Rose}
@@ -44,12 +45,12 @@ module _ {D : Type 0} (d : Disks D) where
     pub moments : LeavesOnly d.moment d.left_since disk next (d.may_leave disk)
 
   -- no office was opened, and the reason alone is told
-  pub record IsUnopenedRun (disk next : D) (taken taken' : Option (List ℕ)) (writes writes' status : ℕ) : Type 0 where
+  pub record IsUnopenedRun (disk next : D) (old new : Outflow) (status : ℕ) : Type 0 where
     pub end : End
     pub unopened : IsUnopened disk next end
-    pub telling : Telling [] writes taken taken' writes' (Some end) status
+    pub telling : Telling [] old new (Some end) status
 
 -- nothing was read
-pub record IsUnread (left left' : Option (List ℕ)) (reads reads' : ℕ) : Type 0 where
-  pub unread : left' ≡ left
-  pub steady : reads' ≡ reads
+pub record IsUnread (old new : Inflow) : Type 0 where
+  pub unread : new.left ≡ old.left
+  pub steady : new.faults ≡ old.faults

@@ -6,17 +6,18 @@ ghost use Rattle.desk_commands.specs.Commands.{IsBoardAt, IsBoardRun, TellsBoard
 
 use crate::ended::Ended;
 use crate::opening::open;
-use crate::telling::tell;
-use desk_traits::{Clock, Disk, Sink};
+use byte_streams::Sink;
+use desk_traits::{Clock, Disk};
 use hazard_types::{Minute, Or, Query};
 use office_core::requests_stand_once;
 use office_journal::KeptOffice;
-use program_ends::{End, end_at_once};
+use program_ends::{End, end_at_once, tell};
 use std::alloc::Global;
 
 /// Tells the board at a reading.
 fn tell_board<D: Disk, K: Sink>(alloc: Global, kept: &KeptOffice<D>, at: i64, output: &mut K) -> u8
-    ensures { TellsBoard (state_of kept.now) at (K.faults output.old) (K.taken output.old) (K.taken output.new) (K.faults output.new) result }
+    ensures { TellsBoard (state_of kept.now) at
+        (K.outflow output.old) (K.outflow output.new) result }
 {
     match kept.look(alloc, &Query::Board, at) {
         Ok(text) => tell(output, text.as_slice()),
@@ -43,8 +44,11 @@ pub fn run_board<K: Sink, D: Disk, C: Clock>(
     disk: D,
     clock: &mut C,
 ) -> Ended<D>
-    ensures { (IsUnopenedRun D.Disk disk result.disk (K.taken output.old) (K.taken output.new) (K.faults output.old) (K.faults output.new) result.status × (clock.new ≡ clock.old))
-        ⊎ IsBoardRun D.Disk C.Clock minute disk result.disk clock.old clock.new (K.taken output.old) (K.taken output.new) (K.faults output.old) (K.faults output.new) result.status }
+    ensures { (IsUnopenedRun D.Disk disk result.disk
+        (K.outflow output.old) (K.outflow output.new) result.status
+        × (clock.new ≡ clock.old))
+        ⊎ IsBoardRun D.Disk C.Clock minute disk result.disk clock.old clock.new
+        (K.outflow output.old) (K.outflow output.new) result.status }
 {
     requests_stand_once();
     match open(alloc, disk) {

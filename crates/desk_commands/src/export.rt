@@ -7,7 +7,8 @@ ghost use Rattle.desk_commands.specs.Commands.{Exported, IsExportRun};
 
 use crate::ended::Ended;
 use crate::opening::open;
-use desk_traits::{Disk, Failed, Sink, write_whole};
+use byte_streams::{Sink, write_whole};
+use desk_traits::{Disk, Failed};
 use hazard_types::{Or, Query};
 use office_core::requests_stand_once;
 use office_journal::KeptOffice;
@@ -20,7 +21,8 @@ fn write_products<D: Disk, K: Sink>(
     kept: &KeptOffice<D>,
     output: &mut K,
 ) -> Option<End>
-    ensures { Exported (texts_of (state_of kept.now)) (K.taken output.old) (K.taken output.new) (K.faults output.old) (K.faults output.new) result }
+    ensures { Exported (texts_of (state_of kept.now))
+        (K.outflow output.old) (K.outflow output.new) result }
 {
     for index in 0..kept.products() {
         match kept.look(alloc, &Query::Product(index + 1), 0) {
@@ -37,8 +39,10 @@ fn write_products<D: Disk, K: Sink>(
 
 /// Writes the texts of all products of the office whose journal the disk holds.
 pub fn run_export<K: Sink, D: Disk>(alloc: Global, output: &mut K, disk: D) -> Ended<D>
-    ensures { IsUnopenedRun D.Disk disk result.disk (K.taken output.old) (K.taken output.new) (K.faults output.old) (K.faults output.new) result.status
-        ⊎ IsExportRun D.Disk disk result.disk (K.taken output.old) (K.taken output.new) (K.faults output.old) (K.faults output.new) result.status }
+    ensures { IsUnopenedRun D.Disk disk result.disk
+        (K.outflow output.old) (K.outflow output.new) result.status
+        ⊎ IsExportRun D.Disk disk result.disk
+        (K.outflow output.old) (K.outflow output.new) result.status }
 {
     requests_stand_once();
     match open(alloc, disk) {

@@ -1,5 +1,6 @@
 //! The command `init`.
 ghost use Rattle.std.specs.Prelude.{◌≡◌, ◌≤◌, ◌⊎◌, ◌++◌, ℕ, List, Some, IfOk, IfErr, MatchResult, false};
+ghost use Rattle.byte_streams.specs.Flows.{streams};
 ghost use Rattle.desk_traits.specs.Crash.{LeavesOnly};
 ghost use Rattle.office_journal.specs.Kept.{disk_of};
 ghost use Rattle.office_journal.specs.Making.{IsMakingOf};
@@ -8,12 +9,12 @@ ghost use Rattle.desk_commands.specs.Commands.{IsInitRun, IsMade, IsWhyUnmade, S
 ghost use Rattle.desk_commands.specs.Unmade.{EndsAs, MayUnmake};
 
 use crate::ended::Ended;
-use crate::telling::tell;
+use byte_streams::{Sink, Source};
 use desk_settings::SettingsFault;
-use desk_traits::{Disk, Failed, Sink, Source};
+use desk_traits::{Disk, Failed};
 use hazard_types::{Oom, Text};
 use office_journal::{KeepFault, KeptOffice};
-use program_ends::{End, Stop, end_at_once, read_front};
+use program_ends::{End, Stop, end_at_once, read_front, tell};
 use std::alloc::Global;
 
 /// The most bytes of a settings' file, and one.
@@ -21,7 +22,7 @@ const ENOUGH: usize = 1_048_577;
 
 /// Reads the settings to the input's end, or one byte more than settings may have.
 fn read_settings<S: Source>(alloc: Global, input: &mut S) -> Result<Text, Stop>
-    ensures { SettingsRead (S.left input.old) (S.left input.new) (S.faults input.old) (S.faults input.new) result }
+    ensures { SettingsRead (S.inflow input.old) (S.inflow input.new) result }
 {
     let mut text = Text::new(alloc);
     let mut buffer = [0u8; 4096];
@@ -109,7 +110,9 @@ pub fn run_init<S: Source, K: Sink, D: Disk>(
     output: &mut K,
     disk: D,
 ) -> Ended<D>
-    ensures { IsInitRun D.Disk disk result.disk (S.left input.old) (S.left input.new) (K.taken output.old) (K.taken output.new) (S.faults input.old) (S.faults input.new) (K.faults output.old) (K.faults output.new) result.status }
+    ensures { IsInitRun D.Disk disk result.disk
+        (streams (S.inflow input.old) (K.outflow output.old))
+        (streams (S.inflow input.new) (K.outflow output.new)) result.status }
 {
     let settings = match read_settings(alloc, input) {
         Ok(settings) => settings,

@@ -8,7 +8,6 @@ mod init;
 mod lines;
 mod opening;
 mod script;
-mod telling;
 mod upgrade;
 
 pub use board::run_board;
@@ -18,5 +17,4 @@ pub use init::run_init;
 pub use lines::refusal_line;
 pub use opening::open;
 pub use script::run_script;
-pub use telling::tell;
 pub use upgrade::run_upgrade;

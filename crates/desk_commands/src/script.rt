@@ -1,5 +1,6 @@
 //! The command `script`.
 ghost use Rattle.std.specs.Prelude.{◌≡◌, ◌+◌, ◌<◌, ◌^◌, ◌⊎◌};
+ghost use Rattle.byte_streams.specs.Flows.{streams};
 ghost use Rattle.request_json.specs.Formed.{HasForm};
 ghost use Rattle.request_json.specs.Replies.{out_of_memory_text};
 ghost use Rattle.program_ends.specs.Replies.{bytes_of};
@@ -11,7 +12,8 @@ ghost use Rattle.desk_commands.specs.Held.{HasReferences, scripted};
 
 use crate::ended::Ended;
 use crate::opening::open;
-use desk_traits::{Clock, Disk, Sink, Source};
+use byte_streams::{Sink, Source};
+use desk_traits::{Clock, Disk};
 use hazard_types::{Oom, Or, Refusal};
 use office_core::requests_stand_once;
 use office_journal::{Answer, KeptOffice};
@@ -92,10 +94,13 @@ pub fn run_script<S: Source, K: Sink, D: Disk, C: Clock>(
     clock: &mut C,
 ) -> Ended<D>
     requires { limit + 1 < 2 ^ 64 }
-    ensures { (IsUnread (S.left input.old) (S.left input.new) (S.faults input.old) (S.faults input.new)
-        × IsUnopenedRun D.Disk disk result.disk (K.taken output.old) (K.taken output.new) (K.faults output.old) (K.faults output.new) result.status × (clock.new ≡ clock.old))
-        ⊎ IsScriptRun D.Disk C.Clock disk result.disk clock.old clock.new limit (S.left input.old) (S.left input.new) (K.taken output.old) (K.taken output.new)
-        (S.faults input.old) (S.faults input.new) (K.faults output.old) (K.faults output.new) result.status }
+    ensures { (IsUnread (S.inflow input.old) (S.inflow input.new)
+        × IsUnopenedRun D.Disk disk result.disk
+        (K.outflow output.old) (K.outflow output.new) result.status
+        × (clock.new ≡ clock.old))
+        ⊎ IsScriptRun D.Disk C.Clock disk result.disk clock.old clock.new limit
+        (streams (S.inflow input.old) (K.outflow output.old))
+        (streams (S.inflow input.new) (K.outflow output.new)) result.status }
 {
     match open(alloc, disk) {
         Ok(kept) => answer_script(alloc, limit, input, output, kept, clock),
@@ -117,8 +122,9 @@ fn answer_script<S: Source, K: Sink, D: Disk, C: Clock>(
 ) -> Ended<D>
     requires { limit + 1 < 2 ^ 64 }
     ensures { (disk : D) → IsOpened D.Disk disk kept →
-        IsScriptRun D.Disk C.Clock disk result.disk clock.old clock.new limit (S.left input.old) (S.left input.new) (K.taken output.old) (K.taken output.new)
-        (S.faults input.old) (S.faults input.new) (K.faults output.old) (K.faults output.new) result.status }
+        IsScriptRun D.Disk C.Clock disk result.disk clock.old clock.new limit
+        (streams (S.inflow input.old) (K.outflow output.old))
+        (streams (S.inflow input.new) (K.outflow output.new)) result.status }
 {
     requests_stand_once();
     kept.a_crash_leaves_the_history();
@@ -140,8 +146,11 @@ fn answer_lines<S: Source, K: Sink, D: Disk, C: Clock>(
     clock: &mut C,
 ) -> u8
     requires { limit + 1 < 2 ^ 64 }
-    ensures { AnswersLines D.Disk C.Clock limit (record { kept = kept.old; clock = clock.old }) (record { kept = kept.new; clock = clock.new })
-        (S.left input.old) (S.left input.new) (K.taken output.old) (K.taken output.new) (S.faults input.old) (S.faults input.new) (K.faults output.old) (K.faults output.new) result }
+    ensures { AnswersLines D.Disk C.Clock limit
+        (record { kept = kept.old; clock = clock.old })
+        (record { kept = kept.new; clock = clock.new })
+        (streams (S.inflow input.old) (K.outflow output.old))
+        (streams (S.inflow input.new) (K.outflow output.new)) result }
 {
     let mut script = Script { kept, clock };
     run_over(alloc, limit, &mut script, input, output)
@@ -157,7 +166,8 @@ fn run_over<S: Source, K: Sink, D: Disk, C: Clock>(
 ) -> u8
     requires { limit + 1 < 2 ^ 64 }
     ensures run { AnswersLines D.Disk C.Clock limit (scripted script.old) (scripted script.new)
-        (S.left input.old) (S.left input.new) (K.taken output.old) (K.taken output.new) (S.faults input.old) (S.faults input.new) (K.faults output.old) (K.faults output.new) result }
+        (streams (S.inflow input.old) (K.outflow output.old))
+        (streams (S.inflow input.new) (K.outflow output.new)) result }
     ensures references { HasReferences script.old script.new }
 {
     run_lines(alloc, limit, script, input, output)

@@ -5,16 +5,16 @@ ghost use Rattle.desk_commands.specs.Commands.{IsUpgradeRun, TellsUpgrade};
 
 use crate::ended::Ended;
 use crate::opening::open;
-use crate::telling::tell;
-use desk_traits::{Disk, Sink};
+use byte_streams::Sink;
+use desk_traits::Disk;
 use office_core::requests_stand_once;
 use office_journal::Upgrade;
-use program_ends::{End, end_at_once};
+use program_ends::{End, end_at_once, tell};
 use std::alloc::Global;
 
 /// Tells what became of an upgrade.
 fn tell_upgrade<K: Sink>(output: &mut K, upgrade: Upgrade) -> u8
-    ensures { TellsUpgrade upgrade (K.faults output.old) (K.taken output.old) (K.taken output.new) (K.faults output.new) result }
+    ensures { TellsUpgrade upgrade (K.outflow output.old) (K.outflow output.new) result }
 {
     match upgrade {
         Upgrade::Done => tell(output, b"edition 2\n"),
@@ -27,8 +27,10 @@ fn tell_upgrade<K: Sink>(output: &mut K, upgrade: Upgrade) -> u8
 
 /// Has the office whose journal the disk holds write its texts in edition Two from now on.
 pub fn run_upgrade<K: Sink, D: Disk>(alloc: Global, output: &mut K, disk: D) -> Ended<D>
-    ensures { IsUnopenedRun D.Disk disk result.disk (K.taken output.old) (K.taken output.new) (K.faults output.old) (K.faults output.new) result.status
-        ⊎ IsUpgradeRun D.Disk disk result.disk (K.taken output.old) (K.taken output.new) (K.faults output.old) (K.faults output.new) result.status }
+    ensures { IsUnopenedRun D.Disk disk result.disk
+        (K.outflow output.old) (K.outflow output.new) result.status
+        ⊎ IsUpgradeRun D.Disk disk result.disk
+        (K.outflow output.old) (K.outflow output.new) result.status }
 {
     requests_stand_once();
     match open(alloc, disk) {

@@ -18,7 +18,7 @@ returns-in-Ok g c =
         are = exported.are;
         end = c.write_products-end.result;
         reasons = exported.reasons;
-        telling = c.end_run.ensures (sink.taken c.args.output.now) (sink.faults c.args.output.now) (joined exported.first) exported.written exported.adds exported.has;
+        telling = c.end_run.ensures (sink.outflow c.args.output.now) (joined exported.first) exported.written exported.has;
       };
       handed = refl;
       history = unchanged d laws.seen_is_left laws.counts_now laws.only_now laws.earlier c.requests_stand_once.ensures c.args.disk c.in-Ok.kept c.a_crash_leaves_the_history.ensures c.in-Ok.ensures.opened;

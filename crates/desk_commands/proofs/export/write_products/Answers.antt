@@ -12,9 +12,10 @@ returns-in-Err g c =
     let n = c.loop-index.index in
     let text = c.as_slice.result.now in
     let shows = subst (λ (t : List ℕ). ShowsProduct (product_at s (n + 1)) t) (sym c.as_slice.ensures) c.in-Ok.ensures.shows in
-    let part = c.in-Err.ensures.part in
-    exported_part s n part.0 (sink.faults c.args.output.now) (sink.faults c.loop-index.output) (sink.faults c.write_whole.new.sink) text (sink.taken c.args.output.now) (sink.taken c.loop-index.output) (sink.taken c.write_whole.new.sink)
-    shows c.loop-index.invariant.wrote part.2 c.loop-index.invariant.steady c.in-Err.ensures.cause.failed
+    let written = c.in-Err.ensures.written in
+    let part = written.part in
+    exported_part s n part.0 text (sink.outflow c.args.output.now) (sink.outflow c.loop-index.output) (sink.outflow c.write_whole.new.sink)
+    shows c.loop-index.invariant.wrote part.2 c.loop-index.invariant.steady written.cause.failed
 
 pub unreachable-requires : goal.unreachable-requires
 unreachable-requires g c =
@@ -24,7 +25,7 @@ unreachable-requires g c =
 pub returns-in-Err-OutOfMemory : goal.returns-in-Err-OutOfMemory
 returns-in-Err-OutOfMemory g c =
     let sink = g.K.Sink in
-    exported_before (state_of c.args.kept.now) c.loop-index.index (sink.faults c.args.output.now) (sink.faults c.loop-index.output) (sink.taken c.args.output.now) (sink.taken c.loop-index.output) c.loop-index.invariant.wrote c.loop-index.invariant.steady
+    exported_before (state_of c.args.kept.now) c.loop-index.index (sink.outflow c.args.output.now) (sink.outflow c.loop-index.output) c.loop-index.invariant.wrote c.loop-index.invariant.steady
 
 pub loop-index-preserved : goal.loop-index-preserved
 loop-index-preserved g c =
@@ -34,12 +35,12 @@ loop-index-preserved g c =
     let text = c.as_slice.result.now in
     let shows = subst (λ (t : List ℕ). ShowsProduct (product_at s (n + 1)) t) (sym c.as_slice.ensures) c.in-Ok.ensures.shows in
     record {
-      wrote = wrote_next s n text (sink.taken c.args.output.now) (sink.taken c.loop-index.output) (sink.taken c.write_whole.new.sink) shows c.loop-index.invariant.wrote c.in-Ok-write_whole.ensures.ok;
-      steady = c.in-Ok-write_whole.ensures.steady ∙ c.loop-index.invariant.steady;
+      wrote = wrote_next s n text (sink.outflow c.args.output.now).taken (sink.outflow c.loop-index.output).taken (sink.outflow c.write_whole.new.sink).taken shows c.loop-index.invariant.wrote c.in-Ok-write_whole.ensures.written.ok;
+      steady = c.in-Ok-write_whole.ensures.written.steady ∙ c.loop-index.invariant.steady;
     }
 
 pub returns : goal.returns
 returns g c =
     let sink = g.K.Sink in
-    exported (state_of c.args.kept.now) c.loop-index.index (sink.faults c.args.output.now) (sink.faults c.loop-index.output) (sink.taken c.args.output.now) (sink.taken c.loop-index.output)
+    exported (state_of c.args.kept.now) c.loop-index.index (sink.outflow c.args.output.now) (sink.outflow c.loop-index.output)
     (omega (arith, c.loop-index-test.false, c.products-index-end.ensures)) c.loop-index.invariant.wrote c.loop-index.invariant.steady

@@ -8,6 +8,6 @@ abbrev pub invariant-loop-index : goal.invariant-loop-index
 invariant-loop-index g l =
     let sink = g.K.Sink in
     record {
-      wrote : Wrote (state_of l.fn.kept) l.index (sink.taken l.fn.output) (sink.taken l.output);
-      steady : sink.faults l.output ≡ sink.faults l.fn.output;
+      wrote : Wrote (state_of l.fn.kept) l.index (sink.outflow l.fn.output).taken (sink.outflow l.output).taken;
+      steady : (sink.outflow l.output).faults ≡ (sink.outflow l.fn.output).faults;
     }

@@ -1,6 +1,6 @@
 use Rattle.std.proofs.Common.{arith, take, inl, refl, ◌∙◌, ◌++◌, length-append}
 use Rattle.std.proofs.lemmas.List.{length-take}
-use Rattle.desk_traits.proofs.Pieces.{takes_both}
+use Rattle.byte_streams.proofs.Pieces.{takes_both}
 use Rattle.program_ends.specs.declared.reading.Stop.TheVariants as stop
 use Rattle.desk_commands.proofs.Cutting.{stops_by}
 use Rattle.desk_commands.proofs.init.read_settings.Goals as goal

@@ -6,13 +6,13 @@ use Rattle.desk_commands.proofs.init.run_init.Goals as goal
 pub returns-in-Ok-make : goal.returns-in-Ok-make
 returns-in-Ok-make g c =
     let source = g.S.Source in
-    let took = subst (λ (t : List ℕ). SettingsRead (source.left c.args.input.now) (source.left c.read_settings.new.input) (source.faults c.args.input.now) (source.faults c.read_settings.new.input) (Ok t)) (sym c.as_slice.ensures) c.in-Ok.ensures in
+    let took = subst (λ (t : List ℕ). SettingsRead (source.inflow c.args.input.now) (source.inflow c.read_settings.new.input) (Ok t)) (sym c.as_slice.ensures) c.in-Ok.ensures in
     let ensures = c.in-Ok-make.ensures in
     rw c.into_disk.ensures (record {
       read = c.as_slice.result.now;
       takes = took.0;
       within = took.1;
-      outcome = inl (took.2, took.3, inl (ensures.made, read_whole c.as_slice.result.now (source.left c.read_settings.new.input) ensures.made.settings.0 ensures.made.settings.1 took.2, c.tell.ensures));
+      outcome = inl (took.2, took.3, inl (ensures.made, read_whole c.as_slice.result.now (source.inflow c.read_settings.new.input).left ensures.made.settings.0 ensures.made.settings.1 took.2, c.tell.ensures));
       later = ensures.later;
       crashes = ensures.crashes;
     })
@@ -20,7 +20,7 @@ returns-in-Ok-make g c =
 pub returns : goal.returns
 returns g c =
     let source = g.S.Source in
-    let took = subst (λ (t : List ℕ). SettingsRead (source.left c.args.input.now) (source.left c.read_settings.new.input) (source.faults c.args.input.now) (source.faults c.read_settings.new.input) (Ok t)) (sym c.as_slice.ensures) c.in-Ok.ensures in
+    let took = subst (λ (t : List ℕ). SettingsRead (source.inflow c.args.input.now) (source.inflow c.read_settings.new.input) (Ok t)) (sym c.as_slice.ensures) c.in-Ok.ensures in
     let ensures = c.in-Err-make.ensures in
     record {
       read = c.as_slice.result.now;

@@ -24,7 +24,7 @@ returns g c disk opened =
     let goes = subst (λ z. Goes d k first run.run.lines said z) (sym last) lines.2 in
     let counted = lines_count d k first after run.run.lines said goes in
     let rises = rises_on (faults_in said) (d.faults disk) (d.faults (disk_of c.args.kept)) (d.faults (disk_of after.kept)) opened.steady counted in
-    let none = twelve_unbegun (Answers d k) (λ s line y. ⊥) (λ s line y never. never) c.args.limit first after _ _ _ _ _ _ _ _ _ run in
+    let none = twelve_unbegun (Answers d k) (λ s line y. ⊥) (λ s line y never. never) c.args.limit first after _ _ _ run in
     record {
       opened = c.args.kept;
       first = opened;
