@@ -2,7 +2,7 @@ use Rattle.std.proofs.Common.{ℤ, refl, rules, subst, w64}
 use Rattle.std.proofs.lemmas.Int.{to_z-of_z}
 use Rattle.warn_serve.specs.Calls.{LooksInTurn}
 use Rattle.warn_serve.specs.Answers.{look_answer}
-use Rattle.warn_serve.proofs.calls.answer_look.Goals as goal
+use Rattle.warn_serve.proofs.service.Service.answer_look.Goals as goal
 
 pub returns-clause-looked : goal.returns-clause-looked
 returns-clause-looked g c = (

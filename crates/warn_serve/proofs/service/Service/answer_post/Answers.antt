@@ -4,7 +4,7 @@ use Rattle.hazard_types.specs.declared.or.Or.{Or}
 use Rattle.hazard_types.specs.declared.refusal.Refusal.{Refusal}
 use Rattle.request_json.specs.Form.{asked_of}
 use Rattle.warn_serve.specs.Answers.{refused_answer}
-use Rattle.warn_serve.proofs.calls.answer_post.Goals as goal
+use Rattle.warn_serve.proofs.service.Service.answer_post.Goals as goal
 
 pub returns-in-Err-No-clause-posted : goal.returns-in-Err-No-clause-posted
 returns-in-Err-No-clause-posted g c =

@@ -1,16 +1,17 @@
-use Rattle.std.proofs.Common.{◌≡◌, ◌<◌, ◌∙◌, ℕ, sym, ap, arith, subst, length, drop, slice_index_or}
+use Rattle.std.proofs.Common.{◌≡◌, ◌<◌, ◌∙◌, ℕ, List, sym, ap, arith, subst, length, drop, slice_index_or}
 use Rattle.std.proofs.lemmas.List.{take_at}
 use Rattle.warn_serve.specs.Calls.{AnswersCall}
 use Rattle.warn_serve.specs.Gathered.{HasDone, IsFresh, IsGathered}
-use Rattle.warn_serve.proofs.Listing.{all_of, total_same, totals_alike}
+use Rattle.warn_serve.specs.Shares.{total_of}
+use Rattle.warn_serve.proofs.Listing.{all_of, shares_alike, shares_same}
 use Rattle.warn_serve.proofs.Sharing.{done_by}
-use Rattle.warn_serve.proofs.serving.serve_shares.Goals as goal
+use Rattle.warn_serve.proofs.service.Service.serve_shares.Goals as goal
 
 pub gather-requires-clause-done : goal.gather-requires-clause-done
 gather-requires-clause-done g c κs within =
     let door = g.P.Door.Door in
     let state = door.state in
-    let answers = AnswersCall (g.C.Clock.gives c.args.clock.now) in
+    let answers = AnswersCall (g.C.Clock.gives c.args.self.now.clock.now) in
     let old = c.as_mut_slice.result.now in
     let new = c.work_all.new.workers in
     let same : length new ≡ length old = c.work_all.ensures.count in
@@ -29,8 +30,8 @@ gather-requires-clause-few g c =
     let new = c.work_all.new.workers in
     let same : length new ≡ length old = c.work_all.ensures.count in
     let back = take_at new (drop (length new) c.args.workers.items) c.args.workers.len (same ∙ (ap length c.as_mut_slice.ensures.value ∙ sym c.args.workers.ok.0)) in
-    let total = total_same new _ back (λ w. w.share) ∙ (totals_alike old new same (λ w. w.share) c.work_all.ensures.share ∙ total_same c.args.workers.items old c.as_mut_slice.ensures.value (λ w. w.share)) in
-    omega (arith, total, c.requires.few)
+    let given = shares_same new _ back (λ w. w.share) ∙ (shares_alike old new same (λ w. w.share) c.work_all.ensures.share ∙ shares_same c.args.workers.items old c.as_mut_slice.ensures.value (λ w. w.share)) in
+    omega (arith, ap total_of given, c.requires.few)
 
 pub returns-clause-gathered : goal.returns-clause-gathered
 returns-clause-gathered g c =
@@ -39,5 +40,5 @@ returns-clause-gathered g c =
     let new = c.work_all.new.workers in
     let same : length new ≡ length old = c.work_all.ensures.count in
     let back = take_at new (drop (length new) c.args.workers.items) c.args.workers.len (same ∙ (ap length c.as_mut_slice.ensures.value ∙ sym c.args.workers.ok.0)) in
-    let total = total_same new _ back (λ w. w.share) ∙ (totals_alike old new same (λ w. w.share) c.work_all.ensures.share ∙ total_same c.args.workers.items old c.as_mut_slice.ensures.value (λ w. w.share)) in
-    subst (λ (n : ℕ). IsGathered (AnswersCall (g.C.Clock.gives c.args.clock.now)) n (port c.args.port.now) (port c.gather.new.port) c.args.pass.now c.gather.new.pass c.gather.result) total c.gather.ensures.gathered
+    let given = shares_same new _ back (λ w. w.share) ∙ (shares_alike old new same (λ w. w.share) c.work_all.ensures.share ∙ shares_same c.args.workers.items old c.as_mut_slice.ensures.value (λ w. w.share)) in
+    subst (λ (l : List ℕ). IsGathered (AnswersCall (g.C.Clock.gives c.args.self.now.clock.now)) l (total_of l) (port c.args.port.now) (port c.gather.new.port) c.args.pass.now c.gather.new.pass c.gather.result) given c.gather.ensures.gathered

@@ -2,7 +2,7 @@ use Rattle.std.proofs.Common.{ℤ, refl, rules, subst, w64}
 use Rattle.std.proofs.lemmas.Int.{to_z-of_z}
 use Rattle.office_turns.specs.Turns.{SubmitsInTurn}
 use Rattle.warn_serve.specs.Answers.{submit_answer}
-use Rattle.warn_serve.proofs.calls.answer_request.Goals as goal
+use Rattle.warn_serve.proofs.service.Service.answer_request.Goals as goal
 
 pub returns-clause-submitted : goal.returns-clause-submitted
 returns-clause-submitted g c = (
