@@ -7,7 +7,7 @@ use Rattle.desk_links.specs.Links.{DoorState, PortState, with_door}
 use Rattle.turn_lock.specs.Passes.{PassRecord, joined}
 use Rattle.warn_http.specs.Calls.{Called}
 use Rattle.warn_serve.specs.Gathered.{DoesShare, HasDone, IsFresh, IsGathered, IsPartOf, KeepsWhole, TakesBack, end_after, short_of}
-use Rattle.warn_serve.specs.Served.{EndsAs, Part, TellsBehind, passes_of, shares_in, visits_of}
+use Rattle.warn_serve.specs.Served.{EndsAs, Part, TellsBehind, passes_of, visits_of}
 use Rattle.warn_serve.specs.Sharing.{Gathers}
 use Rattle.warn_serve.specs.Workers.{EndsWith, Visit}
 use Rattle.warn_serve.specs.declared.serving.ServeEnd.{ServeEnd}

@@ -1,5 +1,5 @@
 -- What workers have done by shares of one pass, and what becomes of these and of their doors.
-use Rattle.std.specs.Prelude.{◌≡◌, ◌+◌, ◌-◌, ◌^◌, ◌≤◌, ℕ, zero, suc, All, List, [], ◌∷◌, length, min}
+use Rattle.std.specs.Prelude.{◌≡◌, ◌+◌, ◌-◌, ◌^◌, ◌≤◌, ℕ, zero, suc, All, List, length, min}
 use Rattle.desk_links.specs.Links.{DoorState, IsUnused, PortState}
 use Rattle.turn_lock.specs.Passes.{KeepsRights, PassRecord}
 use Rattle.warn_http.specs.Calls.{Called}

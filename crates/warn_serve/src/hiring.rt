@@ -153,18 +153,35 @@ pub(crate) fn work_all<
         (slice_index_or workers.old i w).pass (slice_index_or workers.new i w).pass
         (slice_index_or workers.new i w).end }
 {
+    let Service {
+        rt,
+        alloc,
+        lock,
+        routes,
+        clock,
+        gate,
+    } = *service;
     thread::for_each_mut(
-        service.rt,
+        rt,
         workers,
         16,
         &|_: usize, one: &mut Worker<SharedOffice<D>, Dr>|
-            requires { (one.old.pass.lock ≡ service.now.lock.now) × (one.old.share ≤ 1000000)
+            requires { (one.old.pass.lock ≡ lock.now) × (one.old.share ≤ 1000000)
                 × ((Dr.state one.old.door).given ≡ 0) × ((Dr.state one.old.door).returned ≡ 0) }
             ensures share { one.new.share ≡ one.old.share }
-            ensures does { DoesShare (AnswersCall (C.gives service.entry.now.clock.now))
-                one.old.share
+            ensures does { DoesShare (AnswersCall (C.gives clock.entry.now)) one.old.share
                 (Dr.state one.old.door)
                 (Dr.state one.new.door) one.old.pass one.new.pass one.new.end }
-        { service.work(one) },
+        {
+            let service = Service {
+                rt,
+                alloc,
+                lock,
+                routes,
+                clock,
+                gate,
+            };
+            service.work(one);
+        },
     );
 }

@@ -3,7 +3,6 @@
 #![tactic(auto)]
 
 mod follow;
-mod office;
 mod serve;
 mod turns;
 

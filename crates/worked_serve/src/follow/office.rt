@@ -1,10 +1,13 @@
 //! The other end: an office on a disk in memory, served over one link.
-use crate::office::{adopted, created, serve_once};
-use desk_links::MemLink;
+use desk_links::{MemLink, OpenGate};
 use desk_traits::{MemDisk, SetClock};
 use hazard_types::{List, Oom, Text};
+use office_journal::KeptOffice;
+use office_turns::SharedOffice;
 use std::alloc::Global;
 use std::sync::Wait;
+use turn_lock::TurnLock;
+use warn_serve::serve_link;
 
 /// The settings, the journal, and the reading of the clock.
 #[derive(Drop)]
@@ -35,13 +38,13 @@ impl Office {
     pub fn make_journal(&mut self, alloc: Global) -> Result<bool, Oom> {
         let none = List::new(alloc);
         let disk = MemDisk::new(alloc, b"", &none, None, 0)?;
-        match created(alloc, disk, self.settings.as_slice()) {
-            Some(kept) => {
+        match KeptOffice::create(alloc, disk, self.settings.as_slice()) {
+            Ok(kept) => {
                 let disk = kept.into_disk();
                 self.journal = disk.file().clone()?;
                 Ok(true)
             }
-            None => Ok(false),
+            Err(_refused) => Ok(false),
         }
     }
 
@@ -56,11 +59,14 @@ impl Office {
         let disk = MemDisk::new(alloc, self.journal.as_slice(), &none, None, 0)?;
         let clock = SetClock::new(&List::from_slice(alloc, &[self.reading])?)?;
         let mut link = MemLink::new(alloc, bytes, usize::MAX, &none)?;
-        let Some(kept) = adopted(alloc, disk) else {
+        let Ok(kept) = KeptOffice::adopt(alloc, disk) else {
             return Ok(None);
         };
-        let (_end, kept) = serve_once(rt, alloc, kept, &mut link, &clock)?;
-        let disk = kept.into_disk();
+        let Ok((lock, mut pass)) = TurnLock::start(alloc, SharedOffice::open(alloc, kept)) else {
+            return Err(Oom);
+        };
+        let _ = serve_link(rt, alloc, &lock, &mut pass, &mut link, &clock, &OpenGate);
+        let disk = lock.close(pass).into_kept().into_disk();
         Ok(Some(Served {
             written: link.written().clone()?,
             journal: disk.file().clone()?,

@@ -1,14 +1,16 @@
 //! One link, served over the office of a journal.
 ghost use Rattle.std.specs.Prelude.{◌≤◌};
 
-use crate::office::{adopted, serve_once};
 use crate::serve::answers::{add_bytes, count_answers, end_name};
 use crate::serve::given::Given;
-use desk_links::MemLink;
+use desk_links::{MemLink, OpenGate};
 use hazard_types::{Oom, Text};
+use office_journal::KeptOffice;
+use office_turns::SharedOffice;
 use std::alloc::Global;
 use std::sync::Wait;
-use warn_serve::LinkEnd;
+use turn_lock::TurnLock;
+use warn_serve::{LinkEnd, serve_link};
 
 /// How a link ended, what was written on it, the file that the disk then has, and how many requests the office has.
 #[derive(Drop)]
@@ -31,10 +33,14 @@ pub fn run_link<R: Wait>(
 {
     let clock = given.clock(alloc)?;
     let mut link = MemLink::new(alloc, bytes, piece, &given.broken)?;
-    let Some(kept) = adopted(alloc, given.disk(alloc)?) else {
+    let Ok(kept) = KeptOffice::adopt(alloc, given.disk(alloc)?) else {
         return Ok(None);
     };
-    let (end, kept) = serve_once(rt, alloc, kept, &mut link, &clock)?;
+    let Ok((lock, mut pass)) = TurnLock::start(alloc, SharedOffice::open(alloc, kept)) else {
+        return Err(Oom);
+    };
+    let end = serve_link(rt, alloc, &lock, &mut pass, &mut link, &clock, &OpenGate);
+    let kept = lock.close(pass).into_kept();
     let requests = kept.entries();
     let disk = kept.into_disk();
     Ok(Some(LinkRun {

@@ -3,7 +3,6 @@ ghost use Rattle.std.specs.Prelude.{◌≡◌, [], All, IfOk};
 ghost use Rattle.desk_links.specs.LinkMemory.{IsUntouched};
 ghost use Rattle.serve_command.specs.Words.{IsServing};
 
-use crate::office::serve_port;
 use crate::serve::answers::{add_bytes, count_answers};
 use crate::serve::gate::HoldingGate;
 use crate::serve::given::Given;
@@ -11,7 +10,7 @@ use desk_commands::Ended;
 use desk_links::{MemLink, MemPort};
 use byte_streams::MemSink;
 use hazard_types::{List, Oom, Text};
-use serve_command::Serving;
+use serve_command::{Serving, run_serve};
 use std::alloc::Global;
 use std::sync::Wait;
 use std::thread::Threads;
@@ -128,7 +127,7 @@ pub fn serve_doors<R: Threads + Wait + Sync>(
     let mut port = port_of(alloc, given, doors)?;
     let clock = given.clock(alloc)?;
     let disk = given.disk(alloc)?;
-    let Ended { status, disk } = serve_port(
+    let Ended { status, disk } = run_serve(
         rt,
         alloc,
         serving,

@@ -3,7 +3,6 @@ ghost use Rattle.std.specs.Prelude.{IfOk, IfSome};
 ghost use Rattle.std.specs.Thread.{IsSync};
 ghost use Rattle.serve_command.specs.Words.{IsServing};
 
-use crate::office;
 use crate::serve::answers::add_bytes;
 use crate::serve::gate::HoldingGate;
 use crate::serve::given::Given;
@@ -13,7 +12,7 @@ use desk_commands::Ended;
 use desk_links::{Dialer, Peer, Port, TcpDialer, TcpDoor, TcpPeer, TcpPort};
 use byte_streams::{MemSink, write_whole};
 use hazard_types::{List, Oom, Text};
-use serve_command::Serving;
+use serve_command::{Serving, run_serve};
 use std::alloc::Global;
 use std::net::{Net, TcpListener, TcpStream};
 use std::sync::Wait;
@@ -74,7 +73,7 @@ fn serve_port<R: Clock + Threads + Wait + Sync + Net<Listener = TcpListener, Str
     let clock = given.clock(alloc)?;
     let disk = given.disk(alloc)?;
     let gate = HoldingGate::new(false);
-    let Ended { status, disk } = office::serve_port(
+    let Ended { status, disk } = run_serve(
         rt,
         alloc,
         serving,

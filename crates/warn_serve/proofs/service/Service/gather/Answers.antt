@@ -1,4 +1,4 @@
-use Rattle.std.proofs.Common.{[], ◌∷◌, ◌++◌, ℕ, refl, sym, ◌∙◌, ap, arith, append_assoc, map, rules, subst, length, length-append}
+use Rattle.std.proofs.Common.{[], ◌∷◌, ◌++◌, refl, sym, ◌∙◌, ap, arith, append_assoc, map, rules, subst, length, length-append}
 use Rattle.desk_links.specs.Links.{PortState}
 use Rattle.std.proofs.lemmas.List.{map-append}
 use Rattle.warn_serve.specs.Calls.{AnswersCall}

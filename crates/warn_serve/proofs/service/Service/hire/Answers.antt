@@ -3,7 +3,7 @@ use Rattle.std.proofs.lemmas.List.Elements.{All-rest}
 use Rattle.desk_links.specs.Links.{IsUnused, PortState}
 use Rattle.warn_serve.specs.Gathered.{IsFresh}
 use Rattle.warn_serve.specs.Shares.{shares_of, with_links}
-use Rattle.warn_serve.proofs.EvenShares.{IsSharing, share_within, sharing_begun, sharing_done, sharing_missed, sharing_on}
+use Rattle.warn_serve.proofs.EvenShares.{share_within, sharing_begun, sharing_done, sharing_missed, sharing_on}
 use Rattle.warn_serve.proofs.Gathering.{is_share, keeps_fewer}
 use Rattle.warn_serve.proofs.Listing.{all_here, all_pushed, all_same, shares_pushed}
 use Rattle.warn_serve.proofs.Returning.{takes_none, takes_unused}

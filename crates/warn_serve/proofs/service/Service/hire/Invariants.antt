@@ -1,4 +1,4 @@
-use Rattle.std.proofs.Common.{◌≡◌, ◌≤◌, ◌+◌, ◌/◌, [], All, length, map}
+use Rattle.std.proofs.Common.{◌≡◌, ◌≤◌, ◌+◌, [], All, length, map}
 use Rattle.desk_links.specs.Links.{IsUnused}
 use Rattle.warn_serve.specs.Gathered.{IsFresh, KeepsWhole, TakesBack}
 use Rattle.warn_serve.proofs.EvenShares.{IsSharing}
