@@ -1,7 +1,7 @@
 -- Reading, step by step, and what is told.
-use Rattle.std.proofs.Common.{◌≡◌, ℕ, List, [], refl, sym, ◌∙◌, append-nil, subst, Option, None, Some}
+use Rattle.std.proofs.Common.{◌≡◌, ℕ, List, [], refl, sym, ◌∙◌, append-nil, subst, Option, None, Some, Result, Ok, Err, OnErr}
 use Rattle.desk_links.specs.Links.{LinkState}
-use Rattle.desk_traits.specs.Streams.{Takes}
+use Rattle.byte_streams.specs.Flows.{Takes}
 use Rattle.call_inbox.specs.Next.{Tells}
 use Rattle.call_inbox.specs.Reading.{HasRead}
 use Rattle.call_inbox.specs.declared.next.NextCall.{NextCall}
@@ -27,5 +27,10 @@ tells_more bytes ended failed ended' failed' (Call call used last) e f t = t
 tells_more bytes ended failed ended' failed' (Refused refusal) e f t = t
 tells_more bytes ended failed ended' failed' Closed e f t = (t.0, t.1, e t.2)
 tells_more bytes ended failed ended' failed' Cut e f t = (t.0, t.1, e t.2)
-tells_more bytes ended failed ended' failed' LinkFault e f t = f t
+tells_more bytes ended failed ended' failed' LinkFault e f t = (f t.0, t.1)
 tells_more bytes ended failed ended' failed' OutOfMemory e f t = t
+
+-- what holds holds of an error
+pub on_err : {T E : Type 0} (result : Result T E) (fact : Type 0) → fact → OnErr result fact
+on_err (Ok value) fact holds = tt
+on_err (Err error) fact holds = holds

@@ -1,7 +1,7 @@
 -- What stands in the inbox of a link.
 use Rattle.std.specs.Prelude.{◌≡◌, ℕ, List, ◌++◌}
 use Rattle.desk_links.specs.Links.{LinkState}
-use Rattle.desk_traits.specs.Streams.{Takes}
+use Rattle.byte_streams.specs.Flows.{Takes}
 
 -- some bytes were taken from the link, where it tells what is left, and stand behind those that were there; nothing was written on it
 pub record HasRead (bytes bytes' : List ℕ) (old new : LinkState) : Type 0 where

@@ -1,7 +1,7 @@
 //! What was read from a link and not yet used.
-ghost use Rattle.std.specs.Prelude.{◌≡◌, ◌≤◌, ◌<◌, ◌+◌, ◌-◌, [], length, take, drop, IfOk, OnOk};
+ghost use Rattle.std.specs.Prelude.{◌≡◌, ◌≤◌, ◌<◌, ◌+◌, ◌-◌, [], length, take, drop, IfOk, OnErr, OnOk};
 ghost use Rattle.desk_traits.specs.Faults.{HasCause};
-ghost use Rattle.desk_traits.specs.Streams.{IsAtEnd};
+ghost use Rattle.byte_streams.specs.Flows.{IsAtEnd};
 ghost use Rattle.desk_links.specs.Links.{ReadsLink};
 ghost use Rattle.call_inbox.specs.Reading.{HasRead};
 
@@ -66,6 +66,14 @@ impl Inbox {
         self.start += count;
     }
 
+    /// Removes all bytes.
+    pub fn clear(&mut self)
+        ensures { self.new ≡ [] }
+    {
+        self.start = 0;
+        self.end = 0;
+    }
+
     /// Reads some bytes of the link behind those that are there, and answers how many: none at the
     /// end.
     ///
@@ -80,6 +88,7 @@ impl Inbox {
         ensures cause { HasCause (L.state link.old).input.faults (L.state link.new).input.faults result }
         ensures steady { OnOk result
             ((L.state link.new).input.faults ≡ (L.state link.old).input.faults) }
+        ensures unread { OnErr result (self.new ≡ self.old) }
     {
         let (start, end) = places_with_room(self.buffer.as_mut_slice(), self.start, self.end);
         self.start = start;

@@ -1,8 +1,9 @@
 //! The next call of a link.
-ghost use Rattle.std.specs.Prelude.{◌≡◌, ◌≤◌, ◌<◌, length, IfSome, IfNone, ⊤};
-ghost use Rattle.warn_http.specs.Calls.{IsUnfinished};
+ghost use Rattle.std.specs.Prelude.{◌≡◌, ◌≤◌, ◌<◌, length, take, IfSome, IfNone, ⊤};
+ghost use Rattle.warn_http.specs.Calls.{HasNoWholeCall, IsUnfinished};
 ghost use Rattle.call_inbox.specs.Next.{IsSteady, Tells, TellsOf};
 ghost use Rattle.call_inbox.specs.Reading.{HasRead};
+ghost use Rattle.call_inbox.specs.Watching.{Waits};
 
 use crate::inbox::Inbox;
 use crate::watch::Watch;
@@ -10,7 +11,10 @@ use desk_links::Link;
 use desk_traits::Failed;
 use hazard_types::Refusal;
 use std::alloc::Global;
-use warn_http::{Call, HttpRead, Routes, read_call, unfinished_calls_are_short};
+use warn_http::{
+    Call, HttpRead, Routes, heads_end_with_a_line_feed, read_call, unfinished_calls_are_not_whole,
+    unfinished_calls_are_short,
+};
 
 /// What comes next on a link.
 #[derive(Clone, Debug, Drop, PartialEq, Eq)]
@@ -60,12 +64,17 @@ fn next_when_due(
     bytes: &[u8],
     watch: &mut Watch,
 ) -> Option<NextCall>
-    requires { watch.old.seen ≤ length bytes.now }
+    requires seen { watch.old.seen ≤ length bytes.now }
+    requires waits { Waits watch.old.from watch.old.by_line (take watch.old.seen bytes.now) }
     ensures some { IfSome result (Tells bytes.now ⊥ ⊥) }
+    ensures none { IfNone result (HasNoWholeCall bytes.now) }
     ensures room { IfNone result (length bytes.now < 73728) }
     ensures seen { IfNone result (watch.new.seen ≡ length bytes.now) }
+    ensures waits { IfNone result (Waits watch.new.from watch.new.by_line bytes.now) }
 {
     unfinished_calls_are_short();
+    unfinished_calls_are_not_whole();
+    heads_end_with_a_line_feed();
     if !watch.is_due(bytes) {
         watch.seen = bytes.len();
         return None;
@@ -80,7 +89,8 @@ fn next_when_due(
 }
 
 /// The next call of a link, behind the bytes that were skipped. It reads on until the call at the
-/// front of the inbox is whole or refused, and writes nothing.
+/// front of the inbox is whole or refused, and writes nothing. Where a whole call is there it reads
+/// nothing more, so where a read fails there was none.
 pub fn next_call<L: Link>(
     alloc: Global,
     routes: &Routes,

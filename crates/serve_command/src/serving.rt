@@ -7,12 +7,13 @@ ghost use Rattle.serve_command.specs.Words.{IsServing};
 
 use crate::growing::an_opened_office_keeps_its_history;
 use crate::words::Serving;
-use desk_commands::{Ended, open, tell};
+use desk_commands::{Ended, open};
 use desk_links::{Gate, Port};
-use desk_traits::{Clock, Disk, Sink};
+use byte_streams::Sink;
+use desk_traits::{Clock, Disk};
 use hazard_types::{List, Oom, Text, put_number};
 use office_journal::KeptOffice;
-use program_ends::{End, end_at_once};
+use program_ends::{End, end_at_once, tell};
 use std::alloc::Global;
 use std::sync::Wait;
 use std::thread::Threads;
@@ -40,7 +41,7 @@ fn tell_served<K: Sink, D: Disk>(
     end: ServeEnd,
 ) -> u8
     ensures { TellsServed end (summary (entries_of kept.now) (length (state_of kept.now).products))
-        (K.faults output.old) (K.taken output.old) (K.taken output.new) (K.faults output.new) result }
+        (K.outflow output.old) (K.outflow output.new) result }
 {
     match end {
         ServeEnd::Done => match summary(alloc, kept.entries(), kept.products()) {
@@ -74,8 +75,8 @@ fn serve_office<
     requires unused { (P.state port.old).returned ≡ 0 }
     ensures { (disk : D) → IsOpened D.Disk disk kept →
         IsServeRun D.Disk (C.gives clock.now) serving.now disk result.disk
-        (P.state port.old) (P.state port.new) (K.taken output.old) (K.taken output.new)
-        (K.faults output.old) (K.faults output.new) result.status }
+        (P.state port.old) (P.state port.new) (K.outflow output.old) (K.outflow output.new)
+        result.status }
 {
     let (kept, end) = serve(
         rt,
@@ -118,8 +119,8 @@ pub fn run_serve<
     requires form { IsServing serving.now }
     requires unused { (P.state port.old).returned ≡ 0 }
     ensures { Serves D.Disk (C.gives clock.now) serving.now disk result.disk
-        (P.state port.old) (P.state port.new) (K.taken output.old) (K.taken output.new)
-        (K.faults output.old) (K.faults output.new) result.status }
+        (P.state port.old) (P.state port.new) (K.outflow output.old) (K.outflow output.new)
+        result.status }
 {
     match open(alloc, disk) {
         Ok(kept) => serve_office(rt, alloc, serving, output, kept, port, clock, gate),

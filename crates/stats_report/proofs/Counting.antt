@@ -22,14 +22,6 @@ pub count_less : (n : ℕ) (f g : ℕ → Bool) → ((m : ℕ) → one_if (f m) 
 count_less zero f g h = omega arith
 count_less (suc m) f g h = omega (arith, h m, count_less m f g h)
 
-at_most_one : (b : Bool) → one_if b ≤ 1
-at_most_one true = omega arith
-at_most_one false = omega arith
-
-pub count_all : (n : ℕ) (f : ℕ → Bool) → count_before n f ≤ n
-count_all zero f = omega arith
-count_all (suc m) f = omega (arith, at_most_one (f m), count_all m f)
-
 pub count_none : (n : ℕ) (f : ℕ → Bool) → ((m : ℕ) → f m ≡ false) → count_before n f ≡ 0
 count_none zero f h = refl
 count_none (suc m) f h = let e : one_if (f m) ≡ 0 = ap one_if (h m) in omega (arith, e, count_none m f h)

@@ -3,7 +3,8 @@ use Rattle.std.proofs.Common.{◌≡◌, ◌≢◌, ◌∙◌, ◌⊎◌, inl, i
 use Rattle.std.proofs.lemmas.Bool.{cases_Bool}
 use Rattle.std.proofs.lemmas.Bool.Decides.{nat_tests}
 use Rattle.desk_traits.specs.Faults.{Rose}
-use Rattle.desk_traits.specs.Streams.{Takes, Adds}
+use Rattle.byte_streams.specs.Flows.{Takes, Adds, Outflow, Streams, streams}
+use Rattle.event_life.specs.Products.{Product}
 use Rattle.product_decoder.specs.Decoded.{decode}
 use Rattle.product_decoder.specs.Feeding.{products_in}
 use Rattle.program_ends.specs.Ends.{fault_line, Begins, HasWritten, Telling, IsCut}
@@ -21,17 +22,20 @@ use Rattle.archive_report.proofs.Fronts.{readings_told}
 use Rattle.stats_report.specs.Readings.{statistics, IsTallied, ReadsTo, TellsTo}
 use Rattle.stats_report.specs.Report.{stats_text}
 use Rattle.stats_report.specs.Runs.{IsStatsRun}
+use Rattle.stats_report.specs.Tallies.{IsKept}
 use Rattle.stats_report.specs.declared.tally.Tally.{Tally}
 
 -- the text of a tally of the products of an input
-pub text_is : (asked : Asked) (read text : List ℕ) (tally : Tally) → IsTallied asked (map decode (products_in read)) tally → text ≡ stats_text tally.stamp tally.reader.products tally.faults → text ≡ statistics asked read
+abbrev pub IsText : List ℕ → Tally → Type 0
+IsText text tally = (stamp : ℕ) (products : List Product) → IsKept stamp products tally → text ≡ stats_text stamp products tally.faults
+
+pub text_is : (asked : Asked) (read text : List ℕ) (tally : Tally) → IsTallied asked (map decode (products_in read)) tally → IsText text tally → text ≡ statistics asked read
 unfolding statistics
 text_is asked read text tally is told =
     let rs = readings_told read in
-    let stamp = is.own.stamp in
-    let products = is.products ∙ ap (products_of asked) (sym rs) in
+    let products = ap (products_of asked) (sym rs) in
     let faults = is.faults ∙ ap faults_in (sym rs) in
-    told ∙ (λ i. stats_text (stamp i) (products i) (faults i))
+    told asked.minute (products_of asked (map decode (products_in read))) is.kept ∙ (λ i. stats_text asked.minute (products i) (faults i))
 
 module _ (asked : Asked) (limit : ℕ) (left left' taken : Option (List ℕ)) (tally : Tally) where
   -- the run stopped before there was a text, with nothing written
@@ -65,7 +69,7 @@ module _ (asked : Asked) (limit : ℕ) (left left' taken : Option (List ℕ)) (t
     pub ends_texting : {U : Type 0} → TellsTo {T = U} asked limit left left' taken taken (Err stop.OutOfMemory)
     ends_texting = untold stop.OutOfMemory t.read t.takes t.within (λ e. absurd (cc)) (λ e. absurd (cc)) (λ e. absurd (cc))
 
-    module _ (text : List ℕ) (taken' : Option (List ℕ)) (is : text ≡ stats_text tally.stamp tally.reader.products tally.faults) where
+    module _ (text : List ℕ) (taken' : Option (List ℕ)) (is : IsText text tally) where
       whole_is : text ≡ statistics asked t.read
       whole_is = text_is asked t.read text tally t.ended.2 is
 
@@ -112,23 +116,24 @@ eight status = elim (cases_Bool (status == 8)) [
 no_other : (status own k : ℕ) → (status ≢ 8 → status ≡ own) → own ≢ k → k ≢ 8 → status ≡ k → ⊥
 no_other status own k told p q e = p (sym (told (λ h. q (sym e ∙ h))) ∙ e)
 
-module _ {T : Type 0} (asked : Asked) (limit : ℕ) (left left' taken mid : Option (List ℕ)) (reads reads' writes between : ℕ) where
+module _ {T : Type 0} (asked : Asked) (limit : ℕ) (before after : Streams) where
   -- what a run has written when it halts
-  pub has_told : (why : Stop) → (t : TellsTo {T = T} asked limit left left' taken mid (Err why)) → IsCauseOf {T = T} stop.Write writes between (Err why) → HasWritten t.text t.written writes between (Some (end_of why))
-  has_told stop.Read t cause = record { whole = λ _. (cause.steady (λ e. absurd (cc)), t.whole (λ e. absurd (cc))); cut = λ e. absurd (cc) }
-  has_told stop.Write t cause = record { whole = λ no. absurd (no refl); cut = λ _. (cause.rose refl, t.begins) }
-  has_told stop.TooLong t cause = record { whole = λ _. (cause.steady (λ e. absurd (cc)), t.whole (λ e. absurd (cc))); cut = λ e. absurd (cc) }
-  has_told stop.OutOfMemory t cause = record { whole = λ _. (cause.steady (λ e. absurd (cc)), t.whole (λ e. absurd (cc))); cut = λ e. absurd (cc) }
+  pub has_told : (why : Stop) → (t : TellsTo {T = T} asked limit before.input.left after.input.left before.output.taken after.output.taken (Err why)) → IsCauseOf {T = T} stop.Write before.output.faults after.output.faults (Err why)
+      → HasWritten t.text t.written before.output after.output (Some (end_of why))
+  has_told stop.Read t cause = record { adds = t.adds; whole = λ _. (cause.steady (λ e. absurd (cc)), t.whole (λ e. absurd (cc))); cut = λ e. absurd (cc) }
+  has_told stop.Write t cause = record { adds = t.adds; whole = λ no. absurd (no refl); cut = λ _. (cause.rose refl, t.begins) }
+  has_told stop.TooLong t cause = record { adds = t.adds; whole = λ _. (cause.steady (λ e. absurd (cc)), t.whole (λ e. absurd (cc))); cut = λ e. absurd (cc) }
+  has_told stop.OutOfMemory t cause = record { adds = t.adds; whole = λ _. (cause.steady (λ e. absurd (cc)), t.whole (λ e. absurd (cc))); cut = λ e. absurd (cc) }
 
   -- a run that told all
-  pub run_whole : (x : T) → TellsTo asked limit left left' taken mid (Ok x) → reads' ≡ reads → between ≡ writes → IsStatsRun asked limit left left' taken mid reads reads' writes between 0
+  pub run_whole : (x : T) → TellsTo asked limit before.input.left after.input.left before.output.taken after.output.taken (Ok x) → after.input.faults ≡ before.input.faults → after.output.faults ≡ before.output.faults → IsStatsRun asked limit before after 0
   run_whole x t read_steady write_steady = record {
     read = t.read;
     written = t.written;
     takes = t.takes;
     adds = t.adds;
     within = t.within;
-    told = λ _. (t.ended.0, t.ended.1, t.whole (λ e. absurd (cc)) ∙ t.ended.2, read_steady, write_steady);
+    told = λ _. (t.ended.0, t.ended.1, t.whole (λ e. absurd (cc)) ∙ t.ended.2, (read_steady, write_steady));
     read_fault = λ e. absurd (omega (arith, e));
     too_long = λ e. absurd (omega (arith, e));
     no_memory = λ e. absurd (omega (arith, e));
@@ -143,9 +148,9 @@ front_nil text line written none is = is ∙ ap (λ (t : List ℕ). t ++ line) n
 cut_nil : (writes writes' : ℕ) (text line written : List ℕ) → text ≡ [] → IsCut (text ++ line) written writes writes' → IsCut line written writes writes'
 cut_nil writes writes' text line written none cut = subst (λ (t : List ℕ). IsCut t written writes writes') (ap (λ (t : List ℕ). t ++ line) none) cut
 
-module _ {T : Type 0} (asked : Asked) (limit : ℕ) (left left' taken mid taken' : Option (List ℕ)) (reads reads' writes writes' status : ℕ) where
+module _ {T : Type 0} (asked : Asked) (limit : ℕ) (before after : Streams) (mid : Outflow) (status : ℕ) where
   -- a run that ended early, for each reason
-  read_failed : (t : TellsTo {T = T} asked limit left left' taken mid (Err stop.Read)) → Rose reads reads' → Telling t.text writes taken taken' writes' (Some ReadFault) status → IsStatsRun asked limit left left' taken taken' reads reads' writes writes' status
+  read_failed : (t : TellsTo {T = T} asked limit before.input.left after.input.left before.output.taken mid.taken (Err stop.Read)) → Rose before.input.faults after.input.faults → Telling t.text before.output after.output (Some ReadFault) status → IsStatsRun asked limit before after status
   read_failed t rose telling =
       let own : status ≢ 8 → status ≡ 7 = λ no. (telling.told.others no).0 in
       let few = (t.read_fault refl).0 in
@@ -160,11 +165,11 @@ module _ {T : Type 0} (asked : Asked) (limit : ℕ) (left left' taken mid taken'
         read_fault = λ e. let told = telling.told.others (λ h. omega (arith, e, h)) in (rose, told.1, few, front_nil t.text (fault_line ReadFault) telling.written none told.2);
         too_long = λ e. absurd (no_other status 7 13 own (λ q. omega (arith, q)) (λ q. omega (arith, q)) e);
         no_memory = λ e. absurd (no_other status 7 12 own (λ q. omega (arith, q)) (λ q. omega (arith, q)) e);
-        write_fault = λ e. ((telling.told.cut e).0, (fault_line ReadFault, inr (inl (refl, rose, few)), cut_nil writes writes' t.text (fault_line ReadFault) telling.written none (telling.told.cut e).1));
+        write_fault = λ e. ((telling.told.cut e).0, (fault_line ReadFault, inr (inl (refl, rose, few)), cut_nil before.output.faults after.output.faults t.text (fault_line ReadFault) telling.written none (telling.told.cut e).1));
         others = elim (eight status) [ inl h ↦ inr (inr (inl h)) | inr h ↦ inr (inl (own h)) ];
       }
 
-  too_long : (t : TellsTo {T = T} asked limit left left' taken mid (Err stop.TooLong)) → reads' ≡ reads → Telling t.text writes taken taken' writes' (Some InputTooLong) status → IsStatsRun asked limit left left' taken taken' reads reads' writes writes' status
+  too_long : (t : TellsTo {T = T} asked limit before.input.left after.input.left before.output.taken mid.taken (Err stop.TooLong)) → after.input.faults ≡ before.input.faults → Telling t.text before.output after.output (Some InputTooLong) status → IsStatsRun asked limit before after status
   too_long t steady telling =
       let own : status ≢ 8 → status ≡ 13 = λ no. (telling.told.others no).0 in
       let full = (t.too_long refl).0 in
@@ -177,13 +182,13 @@ module _ {T : Type 0} (asked : Asked) (limit : ℕ) (left left' taken mid taken'
         within = t.within;
         told = λ e. absurd (no_other status 13 0 own (λ q. omega (arith, q)) (λ q. omega (arith, q)) e);
         read_fault = λ e. absurd (no_other status 13 7 own (λ q. omega (arith, q)) (λ q. omega (arith, q)) e);
-        too_long = λ e. let told = telling.told.others (λ h. omega (arith, e, h)) in (steady, told.1, full, front_nil t.text (fault_line InputTooLong) telling.written none told.2);
+        too_long = λ e. let told = telling.told.others (λ h. omega (arith, e, h)) in ((steady, told.1), full, front_nil t.text (fault_line InputTooLong) telling.written none told.2);
         no_memory = λ e. absurd (no_other status 13 12 own (λ q. omega (arith, q)) (λ q. omega (arith, q)) e);
-        write_fault = λ e. ((telling.told.cut e).0, (fault_line InputTooLong, inr (inr (inl (refl, steady, full))), cut_nil writes writes' t.text (fault_line InputTooLong) telling.written none (telling.told.cut e).1));
+        write_fault = λ e. ((telling.told.cut e).0, (fault_line InputTooLong, inr (inr (inl (refl, steady, full))), cut_nil before.output.faults after.output.faults t.text (fault_line InputTooLong) telling.written none (telling.told.cut e).1));
         others = elim (eight status) [ inl h ↦ inr (inr (inl h)) | inr h ↦ inr (inr (inr (inr (own h)))) ];
       }
 
-  no_memory : (t : TellsTo {T = T} asked limit left left' taken mid (Err stop.OutOfMemory)) → reads' ≡ reads → Telling t.text writes taken taken' writes' (Some OutOfMemory) status → IsStatsRun asked limit left left' taken taken' reads reads' writes writes' status
+  no_memory : (t : TellsTo {T = T} asked limit before.input.left after.input.left before.output.taken mid.taken (Err stop.OutOfMemory)) → after.input.faults ≡ before.input.faults → Telling t.text before.output after.output (Some OutOfMemory) status → IsStatsRun asked limit before after status
   no_memory t steady telling =
       let own : status ≢ 8 → status ≡ 12 = λ no. (telling.told.others no).0 in
       let none = t.no_memory refl in
@@ -196,12 +201,12 @@ module _ {T : Type 0} (asked : Asked) (limit : ℕ) (left left' taken mid taken'
         told = λ e. absurd (no_other status 12 0 own (λ q. omega (arith, q)) (λ q. omega (arith, q)) e);
         read_fault = λ e. absurd (no_other status 12 7 own (λ q. omega (arith, q)) (λ q. omega (arith, q)) e);
         too_long = λ e. absurd (no_other status 12 13 own (λ q. omega (arith, q)) (λ q. omega (arith, q)) e);
-        no_memory = λ e. let told = telling.told.others (λ h. omega (arith, e, h)) in (steady, told.1, front_nil t.text (fault_line OutOfMemory) telling.written none told.2);
-        write_fault = λ e. ((telling.told.cut e).0, (fault_line OutOfMemory, inr (inr (inr (refl, steady))), cut_nil writes writes' t.text (fault_line OutOfMemory) telling.written none (telling.told.cut e).1));
+        no_memory = λ e. let told = telling.told.others (λ h. omega (arith, e, h)) in ((steady, told.1), front_nil t.text (fault_line OutOfMemory) telling.written none told.2);
+        write_fault = λ e. ((telling.told.cut e).0, (fault_line OutOfMemory, inr (inr (inr (refl, steady))), cut_nil before.output.faults after.output.faults t.text (fault_line OutOfMemory) telling.written none (telling.told.cut e).1));
         others = elim (eight status) [ inl h ↦ inr (inr (inl h)) | inr h ↦ inr (inr (inr (inl (own h)))) ];
       }
 
-  write_failed : (t : TellsTo {T = T} asked limit left left' taken mid (Err stop.Write)) → reads' ≡ reads → Telling t.text writes taken taken' writes' (Some WriteFault) status → IsStatsRun asked limit left left' taken taken' reads reads' writes writes' status
+  write_failed : (t : TellsTo {T = T} asked limit before.input.left after.input.left before.output.taken mid.taken (Err stop.Write)) → after.input.faults ≡ before.input.faults → Telling t.text before.output after.output (Some WriteFault) status → IsStatsRun asked limit before after status
   write_failed t steady telling =
       let own : status ≢ 8 → status ≡ 8 = λ no. (telling.told.others no).0 in
       let is : status ≡ 8 = elim (eight status) [ inl h ↦ h | inr h ↦ own h ] in
@@ -216,29 +221,20 @@ module _ {T : Type 0} (asked : Asked) (limit : ℕ) (left left' taken mid taken'
         read_fault = λ e. absurd (omega (arith, e, is));
         too_long = λ e. absurd (omega (arith, e, is));
         no_memory = λ e. absurd (omega (arith, e, is));
-        write_fault = λ e. ((telling.told.cut e).0, (t.text, inl (all.2, all.0, all.1, steady), subst (λ (w : List ℕ). IsCut w telling.written writes writes') (append-nil t.text) (telling.told.cut e).1));
+        write_fault = λ e. ((telling.told.cut e).0, (t.text, inl (all.2, all.0, all.1, steady), subst (λ (w : List ℕ). IsCut w telling.written before.output.faults after.output.faults) (append-nil t.text) (telling.told.cut e).1));
         others = inr (inr (inl is));
       }
 
-  run_halted : (why : Stop) (t : TellsTo {T = T} asked limit left left' taken mid (Err why)) → IsCauseOf {T = T} stop.Read reads reads' (Err why) → Telling t.text writes taken taken' writes' (Some (end_of why)) status
-      → IsStatsRun asked limit left left' taken taken' reads reads' writes writes' status
+  pub run_halted : (why : Stop) (t : TellsTo {T = T} asked limit before.input.left after.input.left before.output.taken mid.taken (Err why)) → IsCauseOf {T = T} stop.Read before.input.faults after.input.faults (Err why) → Telling t.text before.output after.output (Some (end_of why)) status
+      → IsStatsRun asked limit before after status
   run_halted stop.Read t cause telling = read_failed t (cause.rose refl) telling
   run_halted stop.Write t cause telling = write_failed t (cause.steady (λ e. absurd (cc))) telling
   run_halted stop.TooLong t cause telling = too_long t (cause.steady (λ e. absurd (cc))) telling
   run_halted stop.OutOfMemory t cause telling = no_memory t (cause.steady (λ e. absurd (cc))) telling
 
-  -- a run that halted, once its end was told
-  pub run_ended : (between : ℕ) (why : Stop) (end : End) → TellsTo {T = T} asked limit left left' taken mid (Err why) → IsCauseOf {T = T} stop.Read reads reads' (Err why) → IsCauseOf {T = T} stop.Write writes between (Err why) → end ≡ end_of why
-      → ((past : Option (List ℕ)) (before : ℕ) (defined written : List ℕ) → Adds past mid written → HasWritten defined written before between (Some end) → Telling defined before past taken' writes' (Some end) status)
-      → IsStatsRun asked limit left left' taken taken' reads reads' writes writes' status
-  run_ended between why end t read write is tells =
-      let has = has_told asked limit left left' taken mid reads reads' writes between why t write in
-      let told = tells taken writes t.text t.written t.adds (subst (λ (e : End). HasWritten t.text t.written writes between (Some e)) (sym is) has) in
-      run_halted why t read (subst (λ (e : End). Telling t.text writes taken taken' writes' (Some e) status) is told)
-
 -- what the statuses of a run say by themselves
 
-module _ (asked : Asked) (limit : ℕ) (left left' taken taken' : Option (List ℕ)) (reads reads' writes writes' status : ℕ) (run : IsStatsRun asked limit left left' taken taken' reads reads' writes writes' status) where
+module _ (asked : Asked) (limit : ℕ) (before after : Streams) (status : ℕ) (run : IsStatsRun asked limit before after status) where
   pub not_two : status ≡ 2 → ⊥
   not_two e = none run.others
     where
@@ -249,7 +245,7 @@ module _ (asked : Asked) (limit : ℕ) (left left' taken taken' : Option (List �
       none (inr (inr (inr (inl h)))) = omega (arith, e, h)
       none (inr (inr (inr (inr h)))) = omega (arith, e, h)
 
-  pub run_complete : ¬ Rose reads reads' → ¬ Rose writes writes' → (status ≡ 0) ⊎ (status ≡ 12) ⊎ (status ≡ 13)
+  pub run_complete : ¬ Rose before.input.faults after.input.faults → ¬ Rose before.output.faults after.output.faults → (status ≡ 0) ⊎ (status ≡ 12) ⊎ (status ≡ 13)
   run_complete no_read no_write = some run.others
     where
       some : (status ≡ 0) ⊎ (status ≡ 7) ⊎ (status ≡ 8) ⊎ (status ≡ 12) ⊎ (status ≡ 13) → (status ≡ 0) ⊎ (status ≡ 12) ⊎ (status ≡ 13)
@@ -258,3 +254,14 @@ module _ (asked : Asked) (limit : ℕ) (left left' taken taken' : Option (List �
       some (inr (inr (inl h))) = absurd (no_write (run.write_fault h).0)
       some (inr (inr (inr (inl h)))) = inr (inl h)
       some (inr (inr (inr (inr h)))) = inr (inr h)
+
+-- a run that halted, once its end was told
+pub run_ended : {T : Type 0} (asked : Asked) (limit : ℕ) (before after : Streams) (mid : Outflow) (status : ℕ) (why : Stop) (end : End) → TellsTo {T = T} asked limit before.input.left after.input.left before.output.taken mid.taken (Err why)
+    → IsCauseOf {T = T} stop.Read before.input.faults after.input.faults (Err why) → IsCauseOf {T = T} stop.Write before.output.faults mid.faults (Err why)
+    → end ≡ end_of why
+    → ((begun : Outflow) (defined written : List ℕ) → HasWritten defined written begun mid (Some end) → Telling defined begun after.output (Some end) status)
+    → IsStatsRun asked limit before after status
+run_ended asked limit before after mid status why end t read write is tells =
+    let has = has_told asked limit before (streams after.input mid) why t write in
+    let told = tells before.output t.text t.written (subst (λ (e : End). HasWritten t.text t.written before.output mid (Some e)) (sym is) has) in
+    run_halted asked limit before after mid status why t read (subst (λ (e : End). Telling t.text before.output after.output (Some e) status) is told)

@@ -7,7 +7,7 @@ use Rattle.hazard_types.specs.declared.hazard.Event.{Event}
 use Rattle.hazard_types.specs.declared.line.Row.{Row}
 use Rattle.event_life.specs.Products.{Product, row_at, rows_of}
 use Rattle.stats_report.specs.Minutes.{greatest, governing, has_effect, in_effect, one_if, minutes_of, minutes_left}
-use Rattle.stats_report.proofs.Counting.{joined_count, count_less, count_all, left_counted}
+use Rattle.stats_report.proofs.Counting.{joined_count, count_less, left_counted}
 
 pub greatest-push : (products : List Product) (q : Product) → greatest (products ++ q ∷ []) ≡ max (greatest products) q.issue
 greatest-push [] q = omega arith
@@ -109,10 +109,6 @@ module _ (products : List Product) (q : Product) (e : Event) (z : Place) (from :
   left_within stamp =
       subst (λ (n : ℕ). n ≤ minutes_of stamp products e z) (sym (left_counted stamp from old))
       (count_less stamp (λ m. nat_le from m && has_effect old m) (in_effect products e z) (λ m. left_at m (nat_le from m) refl))
-
-pub few_minutes : (stamp : ℕ) (products : List Product) (e : Event) (z : Place) → minutes_of stamp products e z ≤ stamp
-unfolding minutes_of
-few_minutes stamp products e z = count_all stamp (in_effect products e z)
 
 -- the governing products are a front, and the longest of which no issue minute is after the minute
 

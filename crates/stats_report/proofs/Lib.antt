@@ -10,3 +10,4 @@ pub mod Taking
 pub mod Reading
 pub mod Ending
 pub mod Sharing
+pub mod Zoning

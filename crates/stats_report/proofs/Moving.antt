@@ -3,7 +3,7 @@ use Rattle.std.proofs.Common.{◌≡◌, ◌∙◌, ◌≤◌, ℕ, ◌+◌, Boo
 use Rattle.std.specs.BTreeMap.{insert_entry, is_at}
 use Rattle.std.specs.List.{filter}
 use Rattle.std.specs.List.Sorted.{IsStrictlySortedBy}
-use Rattle.std.specs.Prelude.{nat_le, max}
+use Rattle.std.specs.Prelude.{nat_le, max, IfSome}
 use Rattle.std.proofs.lemmas.Grind.{fold-append}
 use Rattle.hazard_types.specs.Places.{Place}
 use Rattle.hazard_types.specs.declared.hazard.Event.{Event}
@@ -16,12 +16,16 @@ use Rattle.event_life.proofs.Members.{find_in}
 use Rattle.event_life.proofs.Puts.{at_key, at_key-parts, rows_after-sorted}
 use Rattle.event_life.proofs.Spoken.{AreTouching, lawful_of-touches, lawful_first, spoken, row_by_last, row_at-put_all, row_at-rows_after}
 use Rattle.stats_report.specs.Minutes.{greatest, governing, has_effect, in_effect, minutes_of, minutes_left}
-use Rattle.stats_report.specs.Spots.{Spots, by_spot, spot_of, spot_said, rows_in, AreSpotted, AreExact, IsCounted, counted_at, row_counted, minutes_counted, row_left, counted_after, changed, IsOwn, MayChange, MayChangeAll}
+use Rattle.stats_report.specs.Spots.{Spots, by_spot, spot_of, spot_said, rows_in, AreSpotted, AreExact, IsCounted, counted_at, row_counted, minutes_counted, row_left, counted_after, changed}
 use Rattle.stats_report.specs.declared.standing.Spot.{Spot}
 use Rattle.stats_report.specs.declared.standing.Counted.{Counted}
 use Rattle.stats_report.proofs.Counting.{count_none}
 use Rattle.stats_report.proofs.Found.{rows_put, spotted_put, Each, each_put, row_found, OfFound, of_found, Own, own_rows}
-use Rattle.stats_report.proofs.Governing.{minutes_step, left_within, few_minutes}
+use Rattle.stats_report.proofs.Governing.{minutes_step, left_within}
+
+-- the row is of the line's event in its zone
+abbrev IsOwn : Line → Option Row → Type 0
+IsOwn line before = IfSome before (λ r. (r.event ≡ line.event) × (r.zone ≡ line.zone))
 
 -- no two lawful lines of a product speak of one event and zone
 
@@ -179,7 +183,7 @@ module _ (stamp from : ℕ) (products : List Product) (p : Product) (is : from �
   put_is = refl
 
   step : (done : List Line) (line : Line) (lines : List Line) (es : Spots) → all_lawful ≡ done ++ line ∷ lines → Moved (put_all before p.issue done before) es
-      → MayChange stamp from line (counted_at es line) × Moved (put_all before p.issue (done ++ line ∷ []) before) (changed stamp from p.issue es line)
+      → Moved (put_all before p.issue (done ++ line ∷ []) before) (changed stamp from p.issue es line)
   step done line lines es parts moved =
       let found : Option Counted = counted_at es line in
       let row : row_counted found ≡ row_at before line.event line.zone = row_found es moved.spotted line.event line.zone ∙ ap (λ (rows : List Row). row_at rows line.event line.zone) moved.rows ∙ unmoved before p.issue spoken_lines done line lines parts in
@@ -187,7 +191,6 @@ module _ (stamp from : ℕ) (products : List Product) (p : Product) (is : from �
       let minutes = found_minutes line found row own (of_found IsMoved (is_at (by_spot (spot_said line))) es moved.moved) in
       let left = ap (minutes_left stamp from) row in
       let within = left_within products p line.event line.zone from is stamp in
-      let few = few_minutes stamp products line.event line.zone in
       let after = counted_after stamp from p.issue line found in
       let row_is : after.row ≡ row_after before p.issue line = ap (λ (o : Option Row). row_left o line p.issue) row ∙ left_row line in
       let event_is : after.row.event ≡ line.event = left_event (row_counted found) line in
@@ -197,22 +200,18 @@ module _ (stamp from : ℕ) (products : List Product) (p : Product) (is : from �
       let own_minutes = ap (λ (e : Event). minutes_of stamp products e after.row.zone) event_is ∙ ap (λ (z : Place). minutes_of stamp products line.event z) zone_is in
       let new : IsMoved after = omega (arith, minutes, left, within, own_left, own_minutes) in
       let put_es : Spots = insert_entry by_spot es (spot_of after.row) after in
-      let same : put_es ≡ changed stamp from p.issue es line = ap (λ (k : Spot). insert_entry by_spot es k after) spot_is in (
-        record { own = own; within = omega (arith, minutes, left, within); few = omega (arith, minutes, few) },
-        record {
-          rows = ap rows_in (sym same) ∙ rows_put after es moved.spotted ∙ ap (λ (rows : List Row). put after.row rows) moved.rows ∙ ap (λ (r : Row). put r (put_all before p.issue done before)) row_is ∙ sym (put_all_last before p.issue done line before);
-          spotted = subst (λ (es : Spots). AreSpotted es) same (spotted_put after es moved.spotted);
-          moved = each_put IsMoved (spot_said line) after es new moved.moved;
-        },
-      )
+      let same : put_es ≡ changed stamp from p.issue es line = ap (λ (k : Spot). insert_entry by_spot es k after) spot_is in
+      record {
+        rows = ap rows_in (sym same) ∙ rows_put after es moved.spotted ∙ ap (λ (rows : List Row). put after.row rows) moved.rows ∙ ap (λ (r : Row). put r (put_all before p.issue done before)) row_is ∙ sym (put_all_last before p.issue done line before);
+        spotted = subst (λ (es : Spots). AreSpotted es) same (spotted_put after es moved.spotted);
+        moved = each_put IsMoved (spot_said line) after es new moved.moved;
+      }
 
   all_steps : (done lines : List Line) (es : Spots) → all_lawful ≡ done ++ lines → Moved (put_all before p.issue done before) es
-      → MayChangeAll stamp from p.issue es lines × Moved (put_all before p.issue all_lawful before) (fold (changed stamp from p.issue) es lines)
-  all_steps done [] es parts moved = (tt, subst (λ (ls : List Line). Moved (put_all before p.issue ls before) es) (sym (append-nil done) ∙ sym parts) moved)
+      → Moved (put_all before p.issue all_lawful before) (fold (changed stamp from p.issue) es lines)
+  all_steps done [] es parts moved = subst (λ (ls : List Line). Moved (put_all before p.issue ls before) es) (sym (append-nil done) ∙ sym parts) moved
   all_steps done (line ∷ lines) es parts moved =
-      let one = step done line lines es parts moved in
-      let later = all_steps (done ++ line ∷ []) lines (changed stamp from p.issue es line) (parts ∙ sym (append_assoc done (line ∷ []) lines)) one.1 in
-      ((one.0, later.0), later.1)
+      all_steps (done ++ line ∷ []) lines (changed stamp from p.issue es line) (parts ∙ sym (append_assoc done (line ∷ []) lines)) (step done line lines es parts moved)
 
   -- at the product's end
 
@@ -249,12 +248,9 @@ module _ (stamp from : ℕ) (products : List Product) (p : Product) (is : from �
       moved = moved_first es counted.exact (subst (Own before) (sym counted.rows) (own_rows before sorted));
     }
 
-    pub may_change : MayChangeAll stamp from p.issue es all_lawful
-    may_change = (all_steps [] all_lawful es refl first).0
-
     pub counted_next : IsCounted stamp products' (fold (changed stamp from p.issue) es all_lawful)
     counted_next =
-        let moved = (all_steps [] all_lawful es refl first).1 in
+        let moved = all_steps [] all_lawful es refl first in
         let rows_are = moved.rows ∙ rows_next in
         let up : IsStrictlySortedBy by_key (rows_of products') = subst (IsStrictlySortedBy by_key) (put_is ∙ rows_next) (rows_after-sorted before p.issue spoken_lines sorted) in
         record {

@@ -4,11 +4,11 @@ use Rattle.hazard_types.specs.declared.line.Line.{Line}
 use Rattle.hazard_types.specs.declared.line.Row.{Row}
 use Rattle.hazard_types.proofs.Equality.{zone_itself, event_itself}
 use Rattle.event_life.specs.Products.{row_after}
-use Rattle.stats_report.specs.Spots.{row_left}
+use Rattle.stats_report.specs.Spots.{own_row, row_left}
 
-pub row_told : (r : Row) (line : Line) (t : ℕ) → r.event ≡ line.event → r.zone ≡ line.zone → row_after (r ∷ []) t line ≡ row_left (Some r) line t
+pub row_told : (r : Row) (line : Line) (t : ℕ) → row_after (own_row line r ∷ []) t line ≡ row_left (Some r) line t
 unfolding row_left
-row_told r line t e z = rw (e, z, event_itself line.event, zone_itself line.zone) refl
+row_told r line t = rw (event_itself line.event, zone_itself line.zone) refl
 
 pub none_told : (line : Line) (t : ℕ) → row_after [] t line ≡ row_left None line t
 unfolding row_left

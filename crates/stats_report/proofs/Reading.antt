@@ -1,18 +1,18 @@
 -- Pieces that are read one after another, and how a run ends.
 use Rattle.std.proofs.Common.{◌≡◌, ◌∙◌, ℕ, ◌+◌, ◌≤◌, List, [], ◌++◌, length, map, refl, ap, sym, subst, append_assoc, append-nil, length-append, arith, true, false, Option, None, Some, Ok, Err}
 use Rattle.std.proofs.lemmas.List.{map-append}
-use Rattle.desk_traits.specs.Streams.{Takes, IsAtEnd}
-use Rattle.desk_traits.proofs.Pieces.{takes_both}
+use Rattle.byte_streams.specs.Flows.{Takes, IsAtEnd}
+use Rattle.byte_streams.proofs.Pieces.{takes_both}
+use Rattle.event_life.specs.Products.{Product}
 use Rattle.product_decoder.specs.Decoded.{decode}
 use Rattle.product_decoder.specs.Feeding.{Fed, products_in}
-use Rattle.program_ends.specs.declared.reading.Stop.{Stop}
 use Rattle.program_ends.specs.declared.reading.Stop.TheVariants as stop
 use Rattle.archive_report.specs.declared.words.Asked.{Asked}
 use Rattle.archive_report.specs.Report.{products_of}
 use Rattle.archive_report.proofs.Fronts.{products-append, faults-append}
 use Rattle.stats_report.specs.declared.tally.Tally.{Tally}
 use Rattle.stats_report.specs.Readings.{IsFresh, TakesEach, IsTallied, ReadsTo}
-use Rattle.stats_report.specs.Tallies.{IsKept, IsFor, CountsAll}
+use Rattle.stats_report.specs.Tallies.{IsKept, CountsAll}
 use Rattle.stats_report.proofs.Taking.{Readings}
 
 -- these bytes were read, and the products that were finished in them counted
@@ -30,28 +30,26 @@ takes_none : (left : Option (List ℕ)) → Takes left left []
 takes_none None = refl
 takes_none (Some rest) = refl
 
-pub ran_none : (asked : Asked) (tally : Tally) (left : Option (List ℕ)) (feed : Fed) → IsKept tally → IsFor asked tally → IsFresh tally → feed.rest ≡ [] → feed.ended ≡ false → Ran asked tally left left feed 0
-ran_none asked tally left feed kept own fresh rest going = record {
+pub ran_none : (asked : Asked) (tally : Tally) (left : Option (List ℕ)) (feed : Fed) → IsFresh asked tally → feed.rest ≡ [] → feed.ended ≡ false → Ran asked tally left left feed 0
+ran_none asked tally left feed fresh rest going = record {
   read = [];
   texts = [];
   takes = takes_none left;
   going = going;
   first = λ more. rw rest refl;
-  tallied = record { kept = kept; own = own; products = fresh.0; count = fresh.1; faults = fresh.2 };
+  tallied = record { kept = fresh.0; count = fresh.1; faults = fresh.2 };
   less = omega (arith, ap length rest, fresh.1);
   total_is = refl;
 }
 
 -- the tally with the products of one piece more
-tallied_next : (asked : Asked) (texts more : List (List ℕ)) (tally new : Tally) → IsTallied asked (map decode texts) tally → CountsAll asked (map decode more) tally new → IsKept new → IsFor asked new → IsTallied asked (map decode (texts ++ more)) new
-tallied_next asked texts more tally new was counts kept own =
+tallied_next : (asked : Asked) (texts more : List (List ℕ)) (tally new : Tally) → IsTallied asked (map decode texts) tally → CountsAll asked (map decode more) tally new → IsTallied asked (map decode (texts ++ more)) new
+tallied_next asked texts more tally new was counts =
     let first : Readings = map decode texts in
     let later : Readings = map decode more in
     let both : map decode (texts ++ more) ≡ first ++ later = map-append decode texts more in
     subst (λ (rs : Readings). IsTallied asked rs new) (sym both) (record {
-      kept = kept;
-      own = own;
-      products = counts.products ∙ ap (λ ps. ps ++ products_of asked later) was.products ∙ sym (products-append asked first later);
+      kept = subst (λ (ps : List Product). IsKept asked.minute ps new) (sym (products-append asked first later)) (counts.kept (products_of asked first) was.kept);
       count = omega (arith, was.count, counts.count, length-append first later);
       faults = omega (arith, was.faults, counts.faults, faults-append first later);
     })
@@ -72,7 +70,7 @@ module _ (asked : Asked) (limit : ℕ) (tally : Tally) (left mid : Option (List 
     takes = takes_both _ _ _ _ _ _ ran.takes takes refl;
     going = each.ended ∙ going;
     first = λ others. pushed_first part fed pushed others ∙ ap (λ (ts : List (List ℕ)). ran.texts ++ ts) (each.going going others) ∙ sym (append_assoc ran.texts each.texts (products_in (new.rest ++ others)));
-    tallied = tallied_next asked ran.texts each.texts tally tally' ran.tallied each.counts each.kept each.own;
+    tallied = tallied_next asked ran.texts each.texts tally tally' ran.tallied each.counts;
     less = omega (arith, each.less, ran.less, ap length pushed, length-append feed.rest part, length-append ran.read part);
     total_is = omega (arith, more_is, ran.total_is, length-append ran.read part);
   }
@@ -124,7 +122,7 @@ module _ (asked : Asked) (limit : ℕ) (tally : Tally) (left mid : Option (List 
         read = ran.read;
         takes = takes_both _ _ _ _ _ _ ran.takes takes (append-nil ran.read);
         within = omega (arith, few, ran.total_is);
-        ended = (at_end, omega (arith, few, ran.total_is), subst (λ (ts : List (List ℕ)). IsTallied asked (map decode ts) tally') (sym all) (tallied_next asked ran.texts each.texts tally tally' ran.tallied each.counts each.kept each.own));
+        ended = (at_end, omega (arith, few, ran.total_is), subst (λ (ts : List (List ℕ)). IsTallied asked (map decode ts) tally') (sym all) (tallied_next asked ran.texts each.texts tally tally' ran.tallied each.counts));
         read_fault = λ e. absurd (cc);
         too_long = λ e. absurd (cc);
         unwritten = λ e. absurd (cc);

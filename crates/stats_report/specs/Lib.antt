@@ -6,3 +6,4 @@ pub mod Told
 pub mod Tallies
 pub mod Readings
 pub mod Runs
+pub mod ProductLines

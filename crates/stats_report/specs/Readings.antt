@@ -1,6 +1,6 @@
 -- How an input is read, and its products counted.
 use Rattle.std.specs.Prelude.{◌≡◌, ◌≤◌, ℕ, ◌+◌, ◌++◌, true, false, List, [], length, map, Option, Result, IfOk, IsErrOf}
-use Rattle.desk_traits.specs.Streams.{Takes, Adds, IsAtEnd}
+use Rattle.byte_streams.specs.Flows.{Takes, Adds, IsAtEnd}
 use Rattle.product_decoder.specs.Decoded.{decode}
 use Rattle.product_decoder.specs.Feeding.{Fed, Gives, products_in}
 use Rattle.product_decoder.specs.declared.types.Decoded.{Decoded}
@@ -11,7 +11,7 @@ use Rattle.program_ends.specs.declared.reading.Stop.TheVariants as stop
 use Rattle.archive_report.specs.declared.words.Asked.{Asked}
 use Rattle.archive_report.specs.Report.{products_of, faults_in, readings_of}
 use Rattle.stats_report.specs.Report.{stats_text}
-use Rattle.stats_report.specs.Tallies.{IsKept, IsFor, Counts, CountsAll}
+use Rattle.stats_report.specs.Tallies.{IsKept, Counts, CountsAll}
 use Rattle.stats_report.specs.declared.tally.Tally.{Tally}
 
 -- the statistics of an input: those of its products without a fault, and how many have one
@@ -19,16 +19,14 @@ unfoldable pub statistics : Asked → List ℕ → List ℕ
 statistics asked bytes = stats_text asked.minute (products_of asked (readings_of bytes)) (faults_in (readings_of bytes))
 
 -- nothing was taken yet
-abbrev pub IsFresh : Tally → Type 0
-IsFresh tally = (tally.reader.products ≡ []) × (tally.count ≡ 0) × (tally.faults ≡ 0)
+abbrev pub IsFresh : Asked → Tally → Type 0
+IsFresh asked tally = IsKept asked.minute [] tally × (tally.count ≡ 0) × (tally.faults ≡ 0)
 
 -- a product came out, and was counted
 pub record TakesNext (asked : Asked) (old new : Fed) (tally tally' : Tally) : Type 0 where
   pub text : List ℕ
   pub gives : Gives old text new
   pub counts : Counts asked (decode text) tally tally'
-  pub kept : IsKept tally'
-  pub own : IsFor asked tally'
 
 -- all products that were finished came out and were counted; at the stream's end all of them
 pub record TakesEach (asked : Asked) (old new : Fed) (tally tally' : Tally) : Type 0 where
@@ -37,15 +35,11 @@ pub record TakesEach (asked : Asked) (old new : Fed) (tally tally' : Tally) : Ty
   pub going : old.ended ≡ false → (more : List ℕ) → products_in (old.rest ++ more) ≡ texts ++ products_in (new.rest ++ more)
   pub last : old.ended ≡ true → products_in old.rest ≡ texts
   pub counts : CountsAll asked (map decode texts) tally tally'
-  pub kept : IsKept tally'
-  pub own : IsFor asked tally'
   pub less : tally'.count + length new.rest ≤ tally.count + length old.rest
 
 -- a tally of these products
 pub record IsTallied (asked : Asked) (readings : List (Result Decoded FrameFault)) (tally : Tally) : Type 0 where
-  pub kept : IsKept tally
-  pub own : IsFor asked tally
-  pub products : tally.reader.products ≡ products_of asked readings
+  pub kept : IsKept asked.minute (products_of asked readings) tally
   pub count : tally.count ≡ length readings
   pub faults : tally.faults ≡ faults_in readings
 

@@ -1,5 +1,5 @@
 -- Rows at their spots, each with the minutes that are counted for it.
-use Rattle.std.specs.Prelude.{◌≡◌, ◌≤◌, ℕ, ◌+◌, ◌-◌, List, [], ◌∷◌, map, Option, Some, None, option_map, IfSome}
+use Rattle.std.specs.Prelude.{◌≡◌, ℕ, ◌+◌, ◌-◌, List, map, Option, Some, None, option_map}
 use Rattle.std.specs.BTreeMap.{insert_entry, is_at}
 use Rattle.std.specs.List.{AllByRecursion}
 use Rattle.std.specs.Map.{lookup}
@@ -62,6 +62,10 @@ abbrev pub minutes_counted : Option Counted → ℕ
 minutes_counted None = 0
 minutes_counted (Some c) = c.minutes
 
+-- a row of a line's event in its zone that stands as another does
+abbrev pub own_row : Line → Row → Row
+own_row line r = record { event = line.event; zone = line.zone; period = r.period; flood = r.flood; ended = r.ended }
+
 -- the row that a line leaves
 unfoldable pub row_left : Option Row → Line → ℕ → Row
 row_left before line t = row_of line (life_after (option_map life_of before) line t)
@@ -75,18 +79,3 @@ counted_after stamp from t line before = record {
 
 abbrev pub changed : ℕ → ℕ → ℕ → Spots → Line → Spots
 changed stamp from t es line = insert_entry by_spot es (spot_said line) (counted_after stamp from t line (counted_at es line))
-
--- the row is of the line's event in its zone
-abbrev pub IsOwn : Line → Option Row → Type 0
-IsOwn line before = IfSome before (λ r. (r.event ≡ line.event) × (r.zone ≡ line.zone))
-
--- a line may change what is counted: it is of the row's event and zone, and what is left is among what is counted
-pub record MayChange (stamp from : ℕ) (line : Line) (before : Option Counted) : Type 0 where
-  pub own : IsOwn line (row_counted before)
-  pub within : minutes_left stamp from (row_counted before) ≤ minutes_counted before
-  pub few : minutes_counted before ≤ stamp
-
--- so may these lines, one after another
-abbrev pub MayChangeAll : ℕ → ℕ → ℕ → Spots → List Line → Type 0
-MayChangeAll stamp from t es [] = Unit {0}
-MayChangeAll stamp from t es (line ∷ lines) = MayChange stamp from line (counted_at es line) × MayChangeAll stamp from t (changed stamp from t es line) lines

@@ -1,49 +1,58 @@
--- What a tally keeps of the products that it took.
-use Rattle.std.specs.Prelude.{◌≡◌, ◌≤◌, ◌+◌, List, [], ◌∷◌, ◌++◌, length, Result}
-use Rattle.product_decoder.specs.Openings.{openings_of}
+-- What a tally keeps of products, of which it holds none.
+use Rattle.std.specs.Prelude.{◌≡◌, ℕ, ◌+◌, List, ◌++◌, fold, length, max, Result, Ok, Err}
+use Rattle.event_life.specs.Products.{Product, rows_with, rows_of}
+use Rattle.product_decoder.specs.Openings.{lawful_lines, openings_with, openings_of}
 use Rattle.product_decoder.specs.ReaderModel.{product_of}
 use Rattle.product_decoder.specs.declared.types.Decoded.{Decoded}
 use Rattle.product_frame.specs.declared.frame.FrameFault.{FrameFault}
 use Rattle.archive_report.specs.declared.words.Asked.{Asked}
 use Rattle.archive_report.specs.Report.{taken_in, products_of, fault_in, faults_in}
-use Rattle.stats_report.specs.Adding.{IsOpened}
+use Rattle.stats_report.specs.Adding.{CountsMore, IsOpened}
 use Rattle.stats_report.specs.Minutes.{greatest}
-use Rattle.stats_report.specs.Spots.{IsCounted}
+use Rattle.stats_report.specs.Spots.{IsCounted, changed}
 use Rattle.stats_report.specs.declared.tally.Tally.{Tally}
 
--- the rows and openings of the products are counted
-pub record IsKept (tally : Tally) : Type 0 where
-  pub latest : tally.latest ≡ greatest tally.reader.products
-  pub counted : IsCounted tally.stamp tally.reader.products tally.standing.entries
-  pub opened : IsOpened (openings_of tally.reader.products) tally.opened
-  pub few : length tally.reader.products ≤ tally.count
-  pub faulty : tally.faults ≤ tally.count
+-- the rows of the products, with their minutes before the stamp, and the openings are counted
+pub record IsKept (stamp : ℕ) (products : List Product) (tally : Tally) : Type 0 where
+  pub rows : tally.rows ≡ rows_of products
+  pub latest : tally.latest ≡ greatest products
+  pub counted : IsCounted stamp products tally.standing.entries
+  pub opened : IsOpened (openings_of products) tally.opened
 
--- it is one for what was asked
-pub record IsFor (asked : Asked) (tally : Tally) : Type 0 where
-  pub office : tally.reader.office ≡ asked.office
-  pub class : tally.reader.class ≡ asked.class
-  pub stamp : tally.stamp ≡ asked.minute
+-- A product was taken: what its lawful lines change was changed, and what they open counted.
+pub record TakesOne (stamp : ℕ) (p : Product) (old new : Tally) : Type 0 where
+  pub rows : new.rows ≡ rows_with old.rows p
+  pub latest : new.latest ≡ max old.latest p.issue
+  pub standing : new.standing.entries ≡ fold (changed stamp new.latest p.issue) old.standing.entries (lawful_lines old.rows p)
+  pub opened : CountsMore (openings_with old.rows p) old.opened new.opened
+  pub same : (new.count ≡ old.count) × (new.faults ≡ old.faults)
 
--- one product more was counted
+-- so was one without a fault, as the reader of the office and class sees it
+abbrev pub TakesProduct : Asked → Decoded → Tally → Tally → Type 0
+TakesProduct asked d old new = TakesOne asked.minute (product_of asked.office asked.class d) old new
+
+-- a product that has a fault was counted
+pub record CountsFault (old new : Tally) : Type 0 where
+  pub rows : new.rows ≡ old.rows
+  pub latest : new.latest ≡ old.latest
+  pub standing : new.standing.entries ≡ old.standing.entries
+  pub opened : new.opened ≡ old.opened
+  pub count : new.count ≡ old.count
+  pub faults : new.faults ≡ old.faults + 1
+
+-- what was read of a product was taken, or its fault counted
+abbrev pub TakesReading : Asked → Result Decoded FrameFault → Tally → Tally → Type 0
+TakesReading asked (Ok d) old new = TakesProduct asked d old new
+TakesReading asked (Err f) old new = CountsFault old new
+
+-- one product more was counted, behind whatever products were counted before
 pub record Counts (asked : Asked) (reading : Result Decoded FrameFault) (old new : Tally) : Type 0 where
-  pub products : new.reader.products ≡ old.reader.products ++ taken_in asked reading
+  pub kept : (products : List Product) → IsKept asked.minute products old → IsKept asked.minute (products ++ taken_in asked reading) new
   pub count : new.count ≡ old.count + 1
   pub faults : new.faults ≡ old.faults + fault_in reading
 
 -- so many products more were counted
 pub record CountsAll (asked : Asked) (readings : List (Result Decoded FrameFault)) (old new : Tally) : Type 0 where
-  pub products : new.reader.products ≡ old.reader.products ++ products_of asked readings
+  pub kept : (products : List Product) → IsKept asked.minute products old → IsKept asked.minute (products ++ products_of asked readings) new
   pub count : new.count ≡ old.count + length readings
   pub faults : new.faults ≡ old.faults + faults_in readings
-
--- A product without a fault was taken: what is counted is of it and those before.
-pub record TakesProduct (d : Decoded) (old new : Tally) : Type 0 where
-  pub office : new.reader.office ≡ old.reader.office
-  pub class : new.reader.class ≡ old.reader.class
-  pub stamp : new.stamp ≡ old.stamp
-  pub products : new.reader.products ≡ old.reader.products ++ product_of old.reader.office old.reader.class d ∷ []
-  pub latest : new.latest ≡ greatest new.reader.products
-  pub counted : IsCounted new.stamp new.reader.products new.standing.entries
-  pub opened : IsOpened (openings_of new.reader.products) new.opened
-  pub same : (new.count ≡ old.count) × (new.faults ≡ old.faults)

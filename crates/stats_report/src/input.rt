@@ -4,22 +4,25 @@ ghost use Rattle.product_decoder.specs.Decoded.{decode};
 ghost use Rattle.product_decoder.specs.Feeding.{GivesNone};
 ghost use Rattle.program_ends.specs.Lines.{most_bytes};
 ghost use Rattle.program_ends.specs.Steps.{IsCauseOf};
+ghost use Rattle.archive_report.specs.Readings.{said_of};
 ghost use Rattle.stats_report.specs.Readings.{IsFresh, TakesNext, TakesEach, ReadsTo};
-ghost use Rattle.stats_report.specs.Tallies.{IsKept, IsFor};
 
 use crate::tally::{Reading, Tally};
 use archive_report::Asked;
-use desk_traits::{Failed, Source};
+use byte_streams::Source;
+use desk_traits::Failed;
 use hazard_types::{Oom, Or};
-use product_decoder::{Feed, decode};
+use product_decoder::Feed;
+use product_frame::read_frame;
 use program_ends::{Stop, read_front};
 use std::alloc::Global;
 
+/// What is read of a product: its frame, or its first fault.
 fn read_product(alloc: Global, bytes: &[u8]) -> Result<Reading, Oom>
-    ensures { IfOk result (λ reading. reading ≡ decode bytes.now) }
+    ensures { IfOk result (λ reading. said_of reading ≡ decode bytes.now) }
 {
-    match decode(alloc, bytes) {
-        Ok(d) => Ok(Ok(d)),
+    match read_frame(alloc, bytes) {
+        Ok(frame) => Ok(Ok(frame)),
         Err(Or::No(fault)) => Ok(Err(fault)),
         Err(Or::OutOfMemory) => Err(Oom),
     }
@@ -27,9 +30,7 @@ fn read_product(alloc: Global, bytes: &[u8]) -> Result<Reading, Oom>
 
 /// Takes the next product that came out. Answers whether there was one.
 fn take_next(alloc: Global, asked: &Asked, feed: &mut Feed, tally: &mut Tally) -> Result<bool, Oom>
-    requires kept { IsKept tally.old }
-    requires own { IsFor asked.now tally.old }
-    requires few { tally.old.count < 2000000000 }
+    requires { tally.old.count < 2000000000 }
     ensures ended { feed.new.ended ≡ feed.old.ended }
     ensures some { result ≡ Ok true → TakesNext asked.now feed.old feed.new tally.old tally.new }
     ensures none { result ≡ Ok false → GivesNone feed.old feed.new × (tally.new ≡ tally.old) }
@@ -46,9 +47,7 @@ fn take_next(alloc: Global, asked: &Asked, feed: &mut Feed, tally: &mut Tally) -
 
 /// Takes each product that came out.
 fn take_each(alloc: Global, asked: &Asked, feed: &mut Feed, tally: &mut Tally) -> Result<(), Oom>
-    requires kept { IsKept tally.old }
-    requires own { IsFor asked.now tally.old }
-    requires few { tally.old.count + length feed.old.rest < 2000000000 }
+    requires { tally.old.count + length feed.old.rest < 2000000000 }
     ensures { OnOk result (TakesEach asked.now feed.old feed.new tally.old tally.new) }
 {
     let mut more = true;
@@ -67,14 +66,12 @@ pub fn count_input<S: Source>(
     input: &mut S,
 ) -> Result<(), Stop>
     requires limit { limit ≤ most_bytes }
-    requires kept { IsKept tally.old }
-    requires own { IsFor asked.now tally.old }
-    requires fresh { IsFresh tally.old }
-    ensures run { ReadsTo asked.now limit (S.left input.old) (S.left input.new) tally.new result }
-    ensures read { IsCauseOf Stop.Read (S.faults input.old) (S.faults input.new) result }
+    requires fresh { IsFresh asked.now tally.old }
+    ensures run { ReadsTo asked.now limit (S.inflow input.old).left (S.inflow input.new).left tally.new result }
+    ensures read { IsCauseOf Stop.Read (S.inflow input.old).faults (S.inflow input.new).faults result }
 {
     let mut feed = Feed::new(alloc);
-    let mut buffer = [0u8; 4096];
+    let mut buffer = [0u8; 65_536];
     let mut total = 0usize;
     // Each turn but the last reads a byte or more, so the turns are no more than the bytes.
     for _turn in 0..limit + 1 {

@@ -2,9 +2,12 @@
 #![tactic(auto)]
 
 mod input;
+mod keys;
 mod laws;
 mod lines;
 mod opened;
+mod product_lines;
+mod run;
 mod standing;
 mod stats;
 mod sums;
@@ -12,4 +15,5 @@ mod tally;
 mod totals;
 
 pub use laws::{minutes_add_up, the_greatest_issue_minute_governs};
+pub use run::{run_program, stats_run};
 pub use stats::stats_within;

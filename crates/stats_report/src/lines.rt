@@ -1,14 +1,16 @@
 //! The lines of the statistics. Each is added to a text, or, when memory runs out, its beginning.
-ghost use Rattle.std.specs.Prelude.{◌≡◌, ◌++◌, IfOk, OnOk};
+ghost use Rattle.std.specs.Prelude.{◌≡◌, ◌++◌, ℕ, List as Seq, IfOk, OnOk};
+ghost use Rattle.event_life.specs.Products.{Product};
 ghost use Rattle.stats_report.specs.Report.{named, total_text, faults_text, stats_text};
 ghost use Rattle.stats_report.specs.Told.{hazard_told, zone_told, hazards_told, zones_told};
 ghost use Rattle.stats_report.specs.Tallies.{IsKept};
 
+use crate::keys::{HazardKey, ZoneKey};
 use crate::opened::Opened;
 use crate::sums::sum_at;
 use crate::tally::Tally;
 use crate::totals::{Totals, all_counted, hazards_in, zones_in};
-use hazard_types::{Hazard, List, Oom, Text, Zone, hazard_text, zone_text};
+use hazard_types::{List, Oom, Text, hazard_text, zone_text};
 use std::alloc::Global;
 use std::collections::BTreeSet;
 
@@ -27,12 +29,12 @@ fn put_hazard(
     out: &mut Text,
     totals: &Totals,
     opened: &Opened,
-    hazard: &Hazard,
+    hazard: &HazardKey,
 ) -> Result<(), Oom>
     ensures { OnOk result (out.new ≡ out.old ++ hazard_told totals.now opened.now hazard.now) }
 {
     out.extend(b"hazard ")?;
-    out.extend(&hazard_text(hazard))?;
+    out.extend(&hazard_text(&hazard.hazard))?;
     put_named(alloc, out, b" events ", sum_at(&totals.events, hazard))?;
     put_named(alloc, out, b" openings ", sum_at(&opened.hazards, hazard))?;
     put_named(alloc, out, b" lead ", sum_at(&opened.leads, hazard))?;
@@ -47,12 +49,12 @@ fn put_zone(
     out: &mut Text,
     totals: &Totals,
     opened: &Opened,
-    zone: &Zone,
+    zone: &ZoneKey,
 ) -> Result<(), Oom>
     ensures { OnOk result (out.new ≡ out.old ++ zone_told totals.now opened.now zone.now) }
 {
     out.extend(b"zone ")?;
-    out.extend(&zone_text(zone))?;
+    out.extend(&zone_text(&zone.zone))?;
     put_named(alloc, out, b" openings ", sum_at(&opened.zones, zone))?;
     put_named(alloc, out, b" minutes ", sum_at(&totals.zone_minutes, zone))?;
     out.push(b'\n')
@@ -64,7 +66,7 @@ fn put_hazards(
     out: &mut Text,
     totals: &Totals,
     opened: &Opened,
-    hazards: BTreeSet<Hazard>,
+    hazards: BTreeSet<HazardKey>,
 ) -> Result<(), Oom>
     ensures { OnOk result (out.new ≡ out.old ++ hazards_told totals.now opened.now hazards.keys) }
 {
@@ -80,7 +82,7 @@ fn put_zones(
     out: &mut Text,
     totals: &Totals,
     opened: &Opened,
-    zones: BTreeSet<Zone>,
+    zones: BTreeSet<ZoneKey>,
 ) -> Result<(), Oom>
     ensures { OnOk result (out.new ≡ out.old ++ zones_told totals.now opened.now zones.keys) }
 {
@@ -123,8 +125,7 @@ fn put_end(
 
 /// The text of the statistics.
 pub fn text_of(alloc: Global, tally: &Tally) -> Result<Text, Oom>
-    requires { IsKept tally.now }
-    ensures { IfOk result (λ text. text ≡ stats_text tally.now.stamp tally.now.reader.products tally.now.faults) }
+    ensures { (stamp : ℕ) (products : Seq Product) → IsKept stamp products tally.now → IfOk result (λ text. text ≡ stats_text stamp products tally.now.faults) }
 {
     let rows = all_counted(alloc, &tally.standing)?;
     let totals = Totals::of_rows(alloc, &rows)?;

@@ -1,18 +1,21 @@
 //! The rows so far, each with the minutes that it comes to if nothing changes it any more.
-ghost use Rattle.std.specs.Prelude.{◌≡◌, ◌<◌, ◌≤◌, ◌-◌, fold, Some, OnOk};
+ghost use Rattle.std.specs.Prelude.{◌≡◌, ◌<◌, ◌+◌, ◌-◌, fold, Some, IfOk, OnOk};
 ghost use Rattle.std.specs.BTreeMap.{insert_entry};
+ghost use Rattle.event_life.specs.Products.{lawful_of};
 ghost use Rattle.stats_report.specs.Minutes.{cut_at, minutes_left};
-ghost use Rattle.stats_report.specs.Spots.{spot_said, counted_at, row_counted, minutes_counted, row_left, counted_after, changed, IsOwn, MayChange, MayChangeAll};
+ghost use Rattle.stats_report.specs.Spots.{spot_said, counted_at, row_counted, minutes_counted, own_row, row_left, changed};
 
-use event_life::row_after;
-use hazard_types::{End, Event, Line, Minute, Oom, Row, Zone};
+use crate::keys::ZoneKey;
+use event_life::{Breach, is_lawful, row_after};
+use hazard_types::{End, Line, Minute, Oom, Row};
+use row_index::EventKey;
 use std::collections::BTreeMap;
 
 /// An event in a zone. Spots are in order by zone, then event.
-#[derive(Clone, Copy, Debug, PartialEq, Eq, PartialOrd, Ord)]
+#[derive(Clone, Copy, PartialEq, Eq, PartialOrd, Ord)]
 pub struct Spot {
-    pub zone: Zone,
-    pub event: Event,
+    pub zone: ZoneKey,
+    pub event: EventKey,
 }
 
 /// A row, and its minutes in effect before the stamp.
@@ -48,56 +51,66 @@ fn minutes_left(stamp: Minute, from: u32, row: &Row) -> u64
     u64::from(cut_at(stamp, &row.period.end).saturating_sub(begin))
 }
 
+/// A row of a line's event in its zone that stands as another does.
+fn own_row(line: &Line, row: &Row) -> Row
+    ensures { result ≡ own_row line.now row.now }
+{
+    Row {
+        event: line.event,
+        zone: line.zone,
+        period: row.period,
+        flood: row.flood,
+        ended: row.ended,
+    }
+}
+
 /// The row that a line of a product that was issued at `t` leaves.
 #[tactic(auto, using(crate::proofs::Own::row_told, crate::proofs::Own::none_told))]
 fn row_left(t: Minute, line: &Line, before: &Option<Counted>) -> Row
-    requires { IsOwn line.now (row_counted before.now) }
     ensures { result ≡ row_left (row_counted before.now) line.now t }
 {
     match before {
-        Some(counted) => row_after(&[counted.row], t, line),
+        Some(counted) => row_after(&[own_row(line, &counted.row)], t, line),
         None => row_after(&[], t, line),
     }
 }
 
 /// What is counted that a change of the row from this minute on can't touch.
 fn minutes_passed(stamp: Minute, from: u32, before: &Option<Counted>) -> u64
-    requires within { minutes_left stamp from (row_counted before.now) ≤ minutes_counted before.now }
-    requires few { minutes_counted before.now ≤ stamp }
-    ensures value { result ≡ minutes_counted before.now - minutes_left stamp from (row_counted before.now) }
-    ensures range { result < 52596000 }
+    ensures { result ≡ minutes_counted before.now - minutes_left stamp from (row_counted before.now) }
 {
     match before {
-        Some(counted) => {
-            let _most = stamp.get();
-            counted.minutes - minutes_left(stamp, from, &counted.row)
-        }
+        Some(counted) => counted
+            .minutes
+            .saturating_sub(minutes_left(stamp, from, &counted.row)),
         None => 0,
     }
 }
 
-/// What is counted at a spot after a line of a product that was issued at `t`, where the product governs the minutes from this one on.
-fn counted_after(
-    stamp: Minute,
-    from: u32,
-    t: Minute,
-    line: &Line,
-    before: &Option<Counted>,
-) -> Counted
-    requires { MayChange stamp from line.now before.now }
-    ensures { result ≡ counted_after stamp from t line.now before.now }
+/// The sum of minutes. It never wraps: there is none only where it would come to the end of its type.
+fn minutes_more(minutes: u64, more: u64) -> Result<u64, Oom>
+    ensures { IfOk result (λ n. n ≡ minutes + more) }
 {
-    let row = row_left(t, line, before);
-    let minutes = minutes_passed(stamp, from, before) + minutes_left(stamp, from, &row);
-    Counted { row, minutes }
+    match minutes.checked_add(more) {
+        Some(sum) => Ok(sum),
+        None => Err(Oom),
+    }
+}
+
+/// What the minutes at a spot come to where this row is left there, and the product governs the minutes from this one on.
+fn minutes_after(stamp: Minute, from: u32, before: &Option<Counted>, row: &Row) -> Result<u64, Oom>
+    ensures { IfOk result (λ n. n ≡ (minutes_counted before.now - minutes_left stamp from (row_counted before.now)) + minutes_left stamp from (Some row.now)) }
+{
+    let left = minutes_left(stamp, from, row);
+    minutes_more(minutes_passed(stamp, from, before), left)
 }
 
 fn spot_said(line: &Line) -> Spot
     ensures { result ≡ spot_said line.now }
 {
     Spot {
-        zone: line.zone,
-        event: line.event,
+        zone: ZoneKey { zone: line.zone },
+        event: EventKey { event: line.event },
     }
 }
 
@@ -131,12 +144,12 @@ fn change(
     t: Minute,
     line: &Line,
 ) -> Result<(), Oom>
-    requires { MayChange stamp from line.now (counted_at standing.old.entries line.now) }
     ensures { OnOk result (standing.new.entries ≡ changed stamp from t standing.old.entries line.now) }
 {
     let before = counted_at(standing, line);
-    let after = counted_after(stamp, from, t, line, &before);
-    put(standing, spot_said(line), &after)
+    let row = row_left(t, line, &before);
+    let minutes = minutes_after(stamp, from, &before, &row)?;
+    put(standing, spot_said(line), &Counted { row, minutes })
 }
 
 /// The lawful lines of a product that was issued at `t` change their rows, where it governs the minutes from this one on.
@@ -145,13 +158,14 @@ pub fn change_all(
     stamp: Minute,
     from: u32,
     t: Minute,
-    lines: &[Line],
+    judged: &[(Line, Option<Breach>)],
 ) -> Result<(), Oom>
-    requires { MayChangeAll stamp from t standing.old.entries lines.now }
-    ensures { OnOk result (standing.new.entries ≡ fold (changed stamp from t) standing.old.entries lines.now) }
+    ensures { OnOk result (standing.new.entries ≡ fold (changed stamp from t) standing.old.entries (lawful_of judged.now)) }
 {
-    for line in lines {
-        change(standing, stamp, from, t, line)?;
+    for found in judged {
+        if is_lawful(found) {
+            change(standing, stamp, from, t, &found.0)?;
+        }
     }
     Ok(())
 }

@@ -1,5 +1,6 @@
 //! Statistics by the words of a command.
 ghost use Rattle.std.specs.Prelude.{◌≤◌};
+ghost use Rattle.byte_streams.specs.Flows.{streams};
 ghost use Rattle.program_ends.specs.Lines.{most_bytes};
 ghost use Rattle.program_ends.specs.Steps.{IsCauseOf};
 ghost use Rattle.stats_report.specs.Readings.{TellsTo};
@@ -9,7 +10,8 @@ use crate::input::count_input;
 use crate::lines::text_of;
 use crate::tally::Tally;
 use archive_report::{Asked, asked_of};
-use desk_traits::{Failed, Sink, Source, write_whole};
+use byte_streams::{Sink, Source, write_whole};
+use desk_traits::Failed;
 use hazard_types::{List, Text};
 use program_ends::{End, Stop, end_at_once, end_run};
 use std::alloc::Global;
@@ -23,11 +25,11 @@ fn tell_stats<S: Source, K: Sink>(
     output: &mut K,
 ) -> Result<(), Stop>
     requires { limit ≤ most_bytes }
-    ensures run { TellsTo asked.now limit (S.left input.old) (S.left input.new) (K.taken output.old) (K.taken output.new) result }
-    ensures read { IsCauseOf Stop.Read (S.faults input.old) (S.faults input.new) result }
-    ensures write { IsCauseOf Stop.Write (K.faults output.old) (K.faults output.new) result }
+    ensures run { TellsTo asked.now limit (S.inflow input.old).left (S.inflow input.new).left (K.outflow output.old).taken (K.outflow output.new).taken result }
+    ensures read { IsCauseOf Stop.Read (S.inflow input.old).faults (S.inflow input.new).faults result }
+    ensures write { IsCauseOf Stop.Write (K.outflow output.old).faults (K.outflow output.new).faults result }
 {
-    let mut tally = Tally::new(alloc, asked);
+    let mut tally = Tally::new(alloc);
     count_input(alloc, asked, limit, &mut tally, input)?;
     let text = text_of(alloc, &tally)?;
     match write_whole(output, text.as_slice()) {
@@ -45,9 +47,9 @@ pub fn stats_within<S: Source, K: Sink>(
     limit: usize,
 ) -> u8
     requires { limit ≤ most_bytes }
-    ensures { DoesAsAsked words.now limit (S.left input.old) (S.left input.new)
-        (K.taken output.old) (K.taken output.new) (S.faults input.old) (S.faults input.new)
-        (K.faults output.old) (K.faults output.new) result }
+    ensures { DoesAsAsked words.now limit
+        (streams (S.inflow input.old) (K.outflow output.old))
+        (streams (S.inflow input.new) (K.outflow output.new)) result }
 {
     let Some(asked) = asked_of(words) else {
         return end_at_once(output, End::Usage);

@@ -31,10 +31,10 @@ pub fn sum_at<K: Ord>(sums: &Sums<K>, key: &K) -> u128
 }
 
 /// Adds an amount to the sum at a key.
-pub fn add<K: Ord + Copy + Drop>(sums: &mut Sums<K>, key: &K, amount: u128) -> Result<(), Oom>
-    ensures { OnOk result (sums.new.entries ≡ with_amount K.cmp sums.old.entries key.now amount) }
+pub fn add<K: Ord + Drop>(sums: &mut Sums<K>, key: K, amount: u128) -> Result<(), Oom>
+    ensures { OnOk result (sums.new.entries ≡ with_amount K.cmp sums.old.entries key amount) }
 {
-    let sum = more(sum_at(sums, key), amount)?;
-    sums.insert(*key, sum)?;
+    let sum = more(sum_at(sums, &key), amount)?;
+    sums.insert(key, sum)?;
     Ok(())
 }

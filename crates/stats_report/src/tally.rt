@@ -1,26 +1,28 @@
 //! What the products of an input come to.
-ghost use Rattle.std.specs.Prelude.{◌≡◌, ◌<◌, [], OnOk};
-ghost use Rattle.stats_report.specs.Tallies.{IsKept, IsFor, Counts, TakesProduct};
+ghost use Rattle.std.specs.Prelude.{◌≡◌, ◌<◌, ◌+◌, ℕ, [], IfOk, OnOk};
+ghost use Rattle.product_decoder.specs.Decoded.{decoded_of};
+ghost use Rattle.archive_report.specs.Readings.{said_of};
+ghost use Rattle.stats_report.specs.Tallies.{IsKept, Counts, CountsFault, TakesProduct, TakesReading};
 
 use crate::opened::Opened;
+use crate::product_lines::lines_by_frame;
 use crate::standing::{Standing, change_all};
 use archive_report::Asked;
-use hazard_types::{Minute, Oom};
-use product_decoder::{Decoded, Reader};
-use product_frame::FrameFault;
+use hazard_types::Oom;
+use product_frame::{Frame, FrameFault};
+use row_index::RowIndex;
 use std::alloc::Global;
 use std::collections::BTreeMap;
+use std::mem;
 
-/// What a product says, or its first fault.
-pub type Reading = Result<Decoded, FrameFault>;
+/// What is read of a product: its frame, or its first fault.
+pub type Reading = Result<Frame, FrameFault>;
 
-/// What the products so far come to.
+/// What the products so far come to. None of them is kept.
 #[derive(Drop)]
 pub struct Tally {
-    /// The minutes before this one are counted.
-    pub stamp: Minute,
-    /// The reader of the products without a fault.
-    pub reader: Reader,
+    /// The rows of those without a fault.
+    pub rows: RowIndex,
     /// The greatest issue minute of these.
     pub latest: u32,
     /// Their rows, with the minutes of each.
@@ -33,19 +35,26 @@ pub struct Tally {
     pub faults: usize,
 }
 
+/// One more. It never wraps: there is none only where the count would come to the end of its type.
+fn one_more(count: usize) -> Result<usize, Oom>
+    ensures { IfOk result (λ n. n ≡ count + 1) }
+{
+    match count.checked_add(1) {
+        Some(more) => Ok(more),
+        None => Err(Oom),
+    }
+}
+
 impl Tally {
     /// There are no products yet.
     #[tactic(auto, using(crate::proofs::Keeping::none_counted))]
-    pub fn new(alloc: Global, asked: &Asked) -> Self
-        ensures kept { IsKept result }
-        ensures asked { IsFor asked.now result }
-        ensures products { result.reader.products ≡ [] }
+    pub fn new(alloc: Global) -> Self
+        ensures kept { (stamp : ℕ) → IsKept stamp [] result }
         ensures count { result.count ≡ 0 }
         ensures faults { result.faults ≡ 0 }
     {
         Tally {
-            stamp: asked.minute,
-            reader: Reader::new(alloc, asked.office, asked.class),
+            rows: RowIndex::new(alloc),
             latest: 0,
             standing: BTreeMap::new(alloc),
             opened: Opened::new(alloc),
@@ -54,41 +63,46 @@ impl Tally {
         }
     }
 
-    /// Takes what a product says.
-    fn take_product(&mut self, alloc: Global, d: &Decoded) -> Result<(), Oom>
-        requires kept { IsKept self.old }
-        requires few { self.old.count < 2000000000 }
-        ensures { OnOk result (TakesProduct d.now self.old self.new) }
+    /// Takes a product by its frame.
+    fn take_product(&mut self, alloc: Global, asked: &Asked, frame: &Frame) -> Result<(), Oom>
+        ensures { OnOk result (TakesProduct asked.now (decoded_of frame.now) self.old self.new) }
     {
-        let issue = d.issue;
-        self.reader.take(alloc, d)?;
+        let issue = frame.issue;
+        let lines = lines_by_frame(alloc, asked, &self.rows, frame)?;
+        let found = self.rows.judge(alloc, issue, lines.as_slice())?;
+        let judged = found.as_slice();
+        let rows = mem::replace(&mut self.rows, RowIndex::new(alloc));
+        self.rows = rows.leave(alloc, issue, judged)?;
         self.latest = self.latest.max(issue.get());
-        let lines = self.reader.lawful(alloc)?;
-        let openings = self.reader.openings(alloc)?;
-        change_all(
-            &mut self.standing,
-            self.stamp,
-            self.latest,
-            issue,
-            lines.as_slice(),
-        )?;
-        self.opened.count_all(openings.as_slice())
+        let from = self.latest;
+        change_all(&mut self.standing, asked.minute, from, issue, judged)?;
+        self.opened.count_all(issue, judged)
     }
 
-    /// Takes what the next product says, or counts its fault.
-    pub fn take(&mut self, alloc: Global, asked: &Asked, reading: &Reading) -> Result<(), Oom>
-        requires kept { IsKept self.old }
-        requires asked { IsFor asked.now self.old }
-        requires few { self.old.count < 2000000000 }
-        ensures kept { OnOk result (IsKept self.new) }
-        ensures asked { OnOk result (IsFor asked.now self.new) }
-        ensures counts { OnOk result (Counts asked.now reading.now self.old self.new) }
+    /// Counts a product that has a fault.
+    fn count_fault(&mut self) -> Result<(), Oom>
+        ensures { OnOk result (CountsFault self.old self.new) }
+    {
+        self.faults = one_more(self.faults)?;
+        Ok(())
+    }
+
+    /// Takes what was read of a product, or counts its fault.
+    fn take_reading(&mut self, alloc: Global, asked: &Asked, reading: &Reading) -> Result<(), Oom>
+        ensures { OnOk result (TakesReading asked.now (said_of reading.now) self.old self.new) }
     {
         match reading {
-            Ok(d) => self.take_product(alloc, d)?,
-            Err(_fault) => self.faults += 1,
+            Ok(frame) => self.take_product(alloc, asked, frame),
+            Err(_fault) => self.count_fault(),
         }
+    }
+
+    /// Takes what was read of the next product, or counts its fault.
+    pub fn take(&mut self, alloc: Global, asked: &Asked, reading: &Reading) -> Result<(), Oom>
+        requires few { self.old.count < 2000000000 }
+        ensures { OnOk result (Counts asked.now (said_of reading.now) self.old self.new) }
+    {
         self.count += 1;
-        Ok(())
+        self.take_reading(alloc, asked, reading)
     }
 }

@@ -2,6 +2,7 @@ pub mod Sizes
 pub mod Digits
 pub mod Folding
 pub mod Fronts
+pub mod Feeds
 pub mod Causes
 pub mod Streams
 pub mod Paths

@@ -68,6 +68,10 @@ pub record IsCutBody (bytes : List ℕ) : Type 0 where
 abbrev pub IsUnfinished : List ℕ → Type 0
 IsUnfinished bytes = IsCutHead bytes ⊎ IsCutBody bytes
 
+-- the bytes begin with no whole call
+abbrev pub HasNoWholeCall : List ℕ → Type 0
+HasNoWholeCall bytes = (c : Called) → IsCall bytes c → ⊥
+
 -- ---- one reading
 
 -- the cause of an answer

@@ -61,6 +61,10 @@ asks_to_close pair = is_named (codes "connection") pair && same_letters pair.1 (
 unfoldable pub closes : ℕ → List Pair → Bool
 closes minor pairs = (minor == 0) || list_any asks_to_close pairs
 
+-- a line feed is among the bytes
+abbrev pub has_line_feed : List ℕ → Bool
+has_line_feed bytes = list_any (λ b. b == 10) bytes
+
 -- the most bytes and the most fields of a head
 abbrev pub most_bytes : ℕ
 most_bytes = 8192

@@ -3,7 +3,9 @@ ghost use Rattle.std.specs.Prelude.{◌≡◌, ◌++◌, ℕ, false, Some, List,
 ghost use Rattle.hazard_types.specs.declared.refusal.Refusal.{Refusal};
 ghost use Rattle.warn_http.specs.Routes.{aim_of, IsPath};
 ghost use Rattle.warn_http.specs.declared.routes.Aim.{Aim};
-ghost use Rattle.warn_http.specs.Calls.{Called, IsCall, IsRefused, IsUnfinished, IsCut, Stop, AreCalls, IsFinal, AreAlike};
+ghost use Rattle.httparse.specs.Grammar.{HasNoRequest};
+ghost use Rattle.warn_http.specs.Heads.{has_line_feed};
+ghost use Rattle.warn_http.specs.Calls.{Called, HasNoWholeCall, IsCall, IsRefused, IsUnfinished, IsCut, Stop, AreCalls, IsFinal, AreAlike};
 
 /// What is a call on a front is the same call on every longer front, and what is refused stays refused.
 /// So the calls of a stream that end at more than a rest are those of every longer stream.
@@ -35,4 +37,17 @@ pub fn routes_are_paths()
 /// A head of at most 8,192 bytes and a body of at most 65,536 are whole in 73,728 bytes.
 pub fn unfinished_calls_are_short()
     ensures { (bytes : List ℕ) → IsUnfinished bytes → length bytes < 73728 }
+{}
+
+/// A head ends with a line feed. So bytes that begin with no head begin with none until the next line
+/// feed comes.
+pub fn heads_end_with_a_line_feed()
+    ensures empty { HasNoRequest [] }
+    ensures more { (bytes more : List ℕ) → HasNoRequest bytes → has_line_feed more ≡ false → HasNoRequest (bytes ++ more) }
+{}
+
+/// What is unfinished, or begins with no head, is no whole call.
+pub fn unfinished_calls_are_not_whole()
+    ensures unfinished { (bytes : List ℕ) → IsUnfinished bytes → HasNoWholeCall bytes }
+    ensures headless { (bytes : List ℕ) → HasNoRequest bytes → HasNoWholeCall bytes }
 {}

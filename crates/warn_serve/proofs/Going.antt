@@ -3,8 +3,8 @@ use Rattle.std.proofs.Common.{ℕ, ◌≡◌, ◌+◌, ◌<◌, inl, List, [], �
 use Rattle.std.proofs.lemmas.List.{map-append}
 use Rattle.desk_links.specs.Links.{LinkState, faults_of}
 use Rattle.desk_traits.specs.Faults.{Rose}
-use Rattle.desk_traits.specs.Streams.{Adds, Takes}
-use Rattle.desk_traits.proofs.Pieces.{adds_both, takes_both}
+use Rattle.byte_streams.specs.Flows.{Adds, Takes}
+use Rattle.byte_streams.proofs.Pieces.{adds_both, takes_both}
 use Rattle.turn_lock.specs.Passes.{KeepsRights, PassRecord}
 use Rattle.warn_http.specs.Calls.{Called, IsCut, most_calls}
 use Rattle.warn_http.proofs.Streams.{cut_more, cut_stays}

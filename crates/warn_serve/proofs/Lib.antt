@@ -5,6 +5,7 @@ mod Working
 mod Gathering
 mod Returning
 mod Listing
+mod EvenShares
 mod Sharing
 mod Opened
 mod Causing

@@ -1,8 +1,8 @@
 -- Lists of workers, whatever a worker is.
-use Rattle.std.proofs.Common.{ℕ, suc, ◌≡◌, ◌+◌, ◌≤◌, ◌<◌, List, [], ◌∷◌, ◌++◌, All, length, map, slice_index_or, sym, ◌∙◌, ap, subst, arith}
+use Rattle.std.proofs.Common.{ℕ, suc, ◌≡◌, ◌+◌, ◌≤◌, ◌<◌, List, [], ◌∷◌, ◌++◌, All, length, map, slice_index_or, refl, sym, ◌∙◌, ap, subst, arith}
+use Rattle.std.proofs.lemmas.List.{map-append}
 use Rattle.std.proofs.lemmas.List.Elements.{All-push}
-use Rattle.warn_serve.specs.Gathered.{total_of}
-use Rattle.warn_serve.proofs.Returning.{total_on}
+use Rattle.warn_serve.specs.Shares.{total_of}
 
 module _ {W : Type 0} where
   all_amid : (P : W → Type 0) (xs : List W) (y : W) (zs : List W) → All P (xs ++ y ∷ zs) → P y
@@ -22,8 +22,9 @@ module _ {W : Type 0} where
   pub all_pushed : (old mid new : List W) (w : W) → mid ≡ old → new ≡ mid ++ w ∷ [] → (P : W → Type 0) → All P old → P w → All P new
   all_pushed old mid new w kept is P h p = subst (λ (l : List W). All P l) (sym (is ∙ ap (λ (l : List W). l ++ w ∷ []) kept)) (All-push P old w h p)
 
-  pub total_pushed : (old mid new : List W) (w : W) → mid ≡ old → new ≡ mid ++ w ∷ [] → (share : W → ℕ) → total_of (map share new) ≡ total_of (map share old) + share w
-  total_pushed old mid new w kept is share = ap (λ (l : List W). total_of (map share l)) (is ∙ ap (λ (l : List W). l ++ w ∷ []) kept) ∙ total_on share old w
+  pub shares_pushed : (old mid new : List W) (w : W) → mid ≡ old → new ≡ mid ++ w ∷ [] → (share : W → ℕ) → map share new ≡ map share old ++ share w ∷ []
+  shares_pushed old mid new w kept is share =
+      ap (map share) (is ∙ ap (λ (l : List W). l ++ w ∷ []) kept) ∙ map-append share old (w ∷ [])
 
   total_amid : (share : W → ℕ) (xs : List W) (y : W) (zs : List W) → total_of (map share xs) + share y ≤ total_of (map share (xs ++ y ∷ zs))
   total_amid share [] y zs = omega arith
@@ -33,17 +34,17 @@ module _ {W : Type 0} where
   pub total_here : (xs : List W) (y : W) (zs items : List W) → items ≡ xs ++ y ∷ zs → (share : W → ℕ) → total_of (map share xs) + share y ≤ total_of (map share items)
   total_here xs y zs items is share = subst (λ (l : List W). total_of (map share xs) + share y ≤ total_of (map share l)) (sym is) (total_amid share xs y zs)
 
-  pub total_same : (xs ys : List W) → ys ≡ xs → (share : W → ℕ) → total_of (map share ys) ≡ total_of (map share xs)
-  total_same xs ys is share = ap (λ (l : List W). total_of (map share l)) is
+  pub shares_same : (xs ys : List W) → ys ≡ xs → (share : W → ℕ) → map share ys ≡ map share xs
+  shares_same xs ys is share = ap (map share) is
 
-  pub totals_alike : (xs ys : List W) → length ys ≡ length xs → (share : W → ℕ) → ((i : ℕ) (d : W) → i < length xs → share (slice_index_or ys i d) ≡ share (slice_index_or xs i d)) → total_of (map share ys) ≡ total_of (map share xs)
-  totals_alike [] [] long share h = omega arith
-  totals_alike [] (y ∷ ys) long share h = absurd (omega (arith, long))
-  totals_alike (x ∷ xs) [] long share h = absurd (omega (arith, long))
-  totals_alike (x ∷ xs) (y ∷ ys) long share h =
+  pub shares_alike : (xs ys : List W) → length ys ≡ length xs → (share : W → ℕ) → ((i : ℕ) (d : W) → i < length xs → share (slice_index_or ys i d) ≡ share (slice_index_or xs i d)) → map share ys ≡ map share xs
+  shares_alike [] [] long share h = refl
+  shares_alike [] (y ∷ ys) long share h = absurd (omega (arith, long))
+  shares_alike (x ∷ xs) [] long share h = absurd (omega (arith, long))
+  shares_alike (x ∷ xs) (y ∷ ys) long share h =
       let first : share y ≡ share x = h 0 x (omega arith) in
-      let rest = totals_alike xs ys (omega (arith, long)) share (λ i d less. h (suc i) d (omega (arith, less))) in
-      omega arith
+      let rest = shares_alike xs ys (omega (arith, long)) share (λ i d less. h (suc i) d (omega (arith, less))) in
+      ap (λ (n : ℕ). n ∷ map share ys) first ∙ ap (λ (l : List ℕ). share x ∷ l) rest
 
   -- what a call said of its arguments, said of what they are
   pub moved : (a b x y : W) → a ≡ x → b ≡ y → (P : W → W → Type 0) → P a b → P x y

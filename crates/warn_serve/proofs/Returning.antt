@@ -6,7 +6,8 @@ use Rattle.desk_links.specs.Listening.{MayFail}
 use Rattle.hazard_types.specs.declared.or.Or.{Or}
 use Rattle.hazard_types.specs.declared.or.Or.TheVariants.{No}
 use Rattle.warn_http.specs.Calls.{Called}
-use Rattle.warn_serve.specs.Gathered.{TakesBack, end_after, short_of, total_of}
+use Rattle.warn_serve.specs.Gathered.{TakesBack, end_after, short_of}
+use Rattle.warn_serve.specs.Shares.{total_of}
 use Rattle.warn_serve.specs.Served.{EndsAs, TellsBehind}
 use Rattle.warn_serve.specs.Workers.{EndsWith, Visit, lacks_of, links_of}
 use Rattle.warn_serve.specs.declared.serving.ServeEnd.{ServeEnd}

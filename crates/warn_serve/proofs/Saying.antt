@@ -1,9 +1,10 @@
 -- What one call makes of a link: it goes on, or it ends.
 use Rattle.std.proofs.Common.{ℕ, ◌≡◌, ◌≤◌, inl, inr, true, List, [], ◌++◌, drop, refl, ap, sym, ◌∙◌, subst, arith, Option, None, Some}
 use Rattle.std.proofs.lemmas.Bool.{false≢true}
-use Rattle.desk_links.specs.Links.{Inflow, LinkState, Outflow}
+use Rattle.byte_streams.specs.Flows.{Inflow, Outflow}
+use Rattle.desk_links.specs.Links.{LinkState}
 use Rattle.desk_traits.specs.Faults.{Rose}
-use Rattle.desk_traits.specs.Streams.{Adds, Takes}
+use Rattle.byte_streams.specs.Flows.{Adds, Takes}
 use Rattle.hazard_types.specs.declared.refusal.Refusal.{Refusal}
 use Rattle.warn_http.specs.Calls.{Called, IsCall, IsRefused, LiesIn}
 use Rattle.warn_http.specs.declared.read.Call.{Call}

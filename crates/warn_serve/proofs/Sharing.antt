@@ -14,6 +14,7 @@ use Rattle.warn_serve.specs.declared.serving.ServeEnd.{ServeEnd}
 use Rattle.warn_serve.specs.declared.serving.ServeEnd.TheVariants.{Done, PortFault, OutOfMemory}
 use Rattle.warn_serve.specs.declared.workers.WorkerEnd.{WorkerEnd}
 use Rattle.warn_serve.specs.declared.workers.WorkerEnd.TheVariants.{Done as Worked, PortFault as Failed}
+use Rattle.warn_serve.proofs.EvenShares.{serves_share}
 use Rattle.warn_serve.proofs.Gathering.{first_share, gathers_from, gathers_none, gathers_on}
 use Rattle.warn_serve.proofs.Returning.{door_told, ends_on, ends_short, takes_door, takes_none, takes_on, within_on}
 
@@ -54,29 +55,32 @@ module _ {B E : Type 0} (answers : Called → PassRecord B E → PassRecord B E 
       let work = h.does.worked in
       omega (arith, few_returned h.first door share work.visits end work.ends, work.gives_back.returned, h.unused.none_returned)
 
-  pub gathered_none : (port : PortState) (pass : PassRecord B E) → IsGathered answers 0 port port pass pass Done
-  gathered_none port pass = record { parts = []; passes = gathers_none pass; served = λ k d less. absurd (omega (arith, less)); back = takes_none port; within = omega arith; ends = (refl, refl) }
+  pub gathered_none : (port : PortState) (pass : PassRecord B E) → IsGathered answers [] 0 port port pass pass Done
+  gathered_none port pass = record { parts = []; given_is = refl; passes = gathers_none pass; served = λ k d less. absurd (omega (arith, less)); back = takes_none port; within = omega arith; ends = (refl, refl) }
 
   -- nobody served a link
-  pub gathered_not : (shares : ℕ) (first last : PortState) (pass : PassRecord B E) (end : ServeEnd) → TakesBack first last [] → EndsAs first last shares [] end → IsGathered answers shares first last pass pass end
-  gathered_not shares first last pass end back ends = record { parts = []; passes = gathers_none pass; served = λ k d less. absurd (omega (arith, less)); back = back; within = omega arith; ends = ends }
+  pub gathered_not : (shares : ℕ) (first last : PortState) (pass : PassRecord B E) (end : ServeEnd) → TakesBack first last [] → EndsAs first last shares [] end → IsGathered answers [] shares first last pass pass end
+  gathered_not shares first last pass end back ends = record { parts = []; given_is = refl; passes = gathers_none pass; served = λ k d less. absurd (omega (arith, less)); back = back; within = omega arith; ends = ends }
 
-  pub gathered_on : (shares share total : ℕ) (first mid last : PortState) (old pass new part : PassRecord B E) (door : DoorState) (end next : ServeEnd) (worked : WorkerEnd)
-      → IsGathered answers shares first mid old pass end → HasDone answers old share door part worked
-      → total ≡ shares + share → next ≡ end_after end worked
+  pub gathered_on : (given given' : List ℕ) (shares share total : ℕ) (first mid last : PortState) (old pass new part : PassRecord B E) (door : DoorState) (end next : ServeEnd) (worked : WorkerEnd)
+      → IsGathered answers given shares first mid old pass end → HasDone answers old share door part worked
+      → given' ≡ given ++ share ∷ [] → total ≡ shares + share → next ≡ end_after end worked
       → new ≡ joined pass part → IsPrefix pass.seen new.seen → IsPrefix part.seen new.seen
       → last ≡ with_door mid door
-      → IsGathered answers total first last old new next
-  gathered_on shares share total first mid last old pass new part door end next worked g h sum is both begins theirs put =
+      → IsGathered answers given' total first last old new next
+  gathered_on given given' shares share total first mid last old pass new part door end next worked g h more sum is both begins theirs put =
       let work = h.does.worked in
-      let p : Part (PassRecord B E) = record { pass = part; visits = work.visits } in
+      let p : Part (PassRecord B E) = record { share = share; pass = part; visits = work.visits; end = worked } in
       let all : visits_of (g.parts ++ p ∷ []) ≡ visits_of g.parts ++ work.visits = visits_on g.parts p in
       let count : door.returned ≡ length work.visits = (let r = work.gives_back.returned in let n = h.unused.none_returned in omega arith) in
       let told = door_told h.first.links door.links _ work.gives_back.links h.unused.no_link in
       record {
         parts = g.parts ++ p ∷ [];
+        given_is =
+            map-append (λ (q : Part (PassRecord B E)). q.share) g.parts (p ∷ [])
+            ∙ ap (λ (l : List ℕ). l ++ share ∷ []) g.given_is ∙ sym more;
         passes = subst (λ (l : List (PassRecord B E)). Gathers old new l) (sym (map-append (λ (q : Part (PassRecord B E)). q.pass) g.parts (p ∷ []))) (gathers_on old pass new part (passes_of g.parts) g.passes both begins theirs);
-        served = All-push (IsPartOf answers old) g.parts p g.served (record { start = h.start; is_share = h.is_share; visits = work.served });
+        served = All-push (IsPartOf answers old) g.parts p g.served (record { start = h.start; is_share = h.is_share; visits = work.served; ends = serves_share answers h.first door share work.visits worked work.ends });
         back = subst (λ (l : List Visit). TakesBack first last l) (sym all) (takes_on first mid last (visits_of g.parts) work.visits g.back (takes_door mid last door work.visits put count told));
         within = subst (λ (l : List Visit). length l ≤ total) (sym all) (subst (λ (n : ℕ). length (visits_of g.parts ++ work.visits) ≤ n) (sym sum) (within_on answers first mid last h.first door shares share (visits_of g.parts) work.visits h.unused.no_fault (ap (λ (p : PortState). p.faults) put) g.back.later g.within worked work.ends));
         ends =
@@ -87,12 +91,13 @@ module _ {B E : Type 0} (answers : Called → PassRecord B E → PassRecord B E 
       }
 
   part_before : (old pass : PassRecord B E) (p : Part (PassRecord B E)) → KeepsWhole old pass → IsPartOf answers pass p → IsPartOf answers old p
-  part_before old pass p kept h = record { start = h.start; is_share = first_share old pass h.start kept h.is_share; visits = h.visits }
+  part_before old pass p kept h = record { start = h.start; is_share = first_share old pass h.start kept h.is_share; visits = h.visits; ends = h.ends }
 
   -- the same with the pass and the port before workers were hired, and with the links that none had to serve
-  pub gathered_short : (shares left connections : ℕ) (first mid last : PortState) (old pass new : PassRecord B E) (end next : ServeEnd) → IsGathered answers shares mid last pass new end → KeepsWhole old pass → TakesBack first mid [] → shares + left ≡ connections → next ≡ short_of end left → IsGathered answers connections first last old new next
-  gathered_short shares left connections first mid last old pass new end next g kept back all is = record {
+  pub gathered_short : (given : List ℕ) (shares left connections : ℕ) (first mid last : PortState) (old pass new : PassRecord B E) (end next : ServeEnd) → IsGathered answers given shares mid last pass new end → KeepsWhole old pass → TakesBack first mid [] → shares + left ≡ connections → next ≡ short_of end left → IsGathered answers given connections first last old new next
+  gathered_short given shares left connections first mid last old pass new end next g kept back all is = record {
     parts = g.parts;
+    given_is = g.given_is;
     passes = gathers_from old pass new (passes_of g.parts) kept g.passes;
     served = λ k d less. part_before old pass _ kept (g.served k d less);
     back = takes_on first mid last [] (visits_of g.parts) back g.back;

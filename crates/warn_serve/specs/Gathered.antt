@@ -1,20 +1,16 @@
 -- What workers have done by shares of one pass, and what becomes of these and of their doors.
-use Rattle.std.specs.Prelude.{◌≡◌, ◌+◌, ◌-◌, ◌^◌, ◌≤◌, ℕ, zero, suc, All, List, [], ◌∷◌, length, min}
+use Rattle.std.specs.Prelude.{◌≡◌, ◌+◌, ◌-◌, ◌^◌, ◌≤◌, ℕ, zero, suc, All, List, length, min}
 use Rattle.desk_links.specs.Links.{DoorState, IsUnused, PortState}
 use Rattle.turn_lock.specs.Passes.{KeepsRights, PassRecord}
 use Rattle.warn_http.specs.Calls.{Called}
-use Rattle.warn_serve.specs.Served.{EndsAs, Part, TellsBehind, passes_of, visits_of}
+use Rattle.warn_serve.specs.Served.{EndsAs, Part, TellsBehind, passes_of, shares_in, visits_of}
+use Rattle.warn_serve.specs.Shares.{ServesShare}
 use Rattle.warn_serve.specs.Sharing.{Gathers, IsShareOf}
 use Rattle.warn_serve.specs.Workers.{AreVisits, HasWorked, Visit, links_of}
 use Rattle.warn_serve.specs.declared.serving.ServeEnd.{ServeEnd}
 use Rattle.warn_serve.specs.declared.serving.ServeEnd.TheVariants.{Done, PortFault, OutOfMemory}
 use Rattle.warn_serve.specs.declared.workers.WorkerEnd.{WorkerEnd}
 use Rattle.warn_serve.specs.declared.workers.WorkerEnd.TheVariants.{Done as Worked, PortFault as Failed}
-
--- all shares together
-abbrev pub total_of : List ℕ → ℕ
-total_of [] = 0
-total_of (share ∷ shares) = share + total_of shares
 
 -- an end, where for so many links memory lacked
 abbrev pub short_of : ServeEnd → ℕ → ServeEnd
@@ -68,10 +64,12 @@ module _ {B E : Type 0} (answers : Called → PassRecord B E → PassRecord B E 
     pub start : PassRecord B E
     pub is_share : IsShareOf whole start
     pub visits : AreVisits answers start p.visits p.pass
+    pub ends : ServesShare p.share p.visits p.end
 
-  -- the passes of workers that had so many links to serve were taken in, and their doors went back to the port
-  pub record IsGathered (shares : ℕ) (first last : PortState) (old new : PassRecord B E) (end : ServeEnd) : Type 0 where
+  -- the passes of workers that had these shares of so many links were taken in, and their doors went back to the port
+  pub record IsGathered (given : List ℕ) (shares : ℕ) (first last : PortState) (old new : PassRecord B E) (end : ServeEnd) : Type 0 where
     pub parts : List (Part (PassRecord B E))
+    pub given_is : shares_in parts ≡ given
     pub passes : Gathers old new (passes_of parts)
     pub served : All (IsPartOf old) parts
     pub back : TakesBack first last (visits_of parts)

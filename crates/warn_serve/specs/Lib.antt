@@ -5,6 +5,7 @@ pub mod Wholes
 pub mod Steps
 pub mod Workers
 pub mod Sharing
+pub mod Shares
 pub mod Served
 pub mod Gathered
 pub mod Causes

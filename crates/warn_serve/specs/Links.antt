@@ -4,8 +4,8 @@ use Rattle.hazard_types.specs.declared.refusal.Refusal.{Refusal}
 use mathlib.Core.List.{IsPrefix}
 use Rattle.desk_links.specs.Links.{LinkState, faults_of}
 use Rattle.desk_traits.specs.Faults.{Rose}
-use Rattle.desk_traits.specs.Streams.{Adds, IsAtEnd, Takes}
-use Rattle.warn_http.specs.Calls.{Called, IsCall, IsCut, IsRefused, IsUnfinished, most_calls}
+use Rattle.byte_streams.specs.Flows.{Adds, IsAtEnd, Takes}
+use Rattle.warn_http.specs.Calls.{Called, HasNoWholeCall, IsCall, IsCut, IsRefused, IsUnfinished, most_calls}
 use Rattle.warn_serve.specs.Answers.{refused_answer}
 use Rattle.warn_serve.specs.declared.links.LinkEnd.{LinkEnd}
 use Rattle.warn_serve.specs.declared.links.LinkEnd.TheVariants.{Closed, Cut, Spent, LinkFault, OutOfMemory}
@@ -92,7 +92,7 @@ module _ {P : Type 0} (answers : Called → P → P → List ℕ → Type 0) whe
     EndsSo Closed = (at_end × (rest ≡ []) × IsUnfinished rest × IsAll) ⊎ (IsClosing ⊎ IsRefusing)
     EndsSo Cut = at_end × (0 < length rest) × IsUnfinished rest × IsAll
     EndsSo Spent = IsAll
-    EndsSo LinkFault = failed × (IsAll ⊎ IsBroken)
+    EndsSo LinkFault = failed × ((IsAll × HasNoWholeCall rest) ⊎ IsBroken)
     EndsSo OutOfMemory = IsAll ⊎ IsUnanswered
 
   -- What is done over a link of which `read` was read and on which `written` was written. `at_end` says that the input has ended, `failed` that the link has failed.

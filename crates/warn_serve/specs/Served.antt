@@ -8,23 +8,30 @@ use Rattle.turn_lock.specs.Passes.{PassRecord}
 use Rattle.office_turns.specs.Since.{IsSince}
 use Rattle.office_turns.specs.declared.happening.Happening.{Happening}
 use Rattle.warn_serve.specs.Calls.{AnswersCall}
+use Rattle.warn_serve.specs.Shares.{ServesShare, SharesOut}
 use Rattle.warn_serve.specs.Sharing.{IsShared}
 use Rattle.warn_serve.specs.Workers.{AreVisits, Visit, lacks_of, links_of}
 use Rattle.warn_serve.specs.declared.serving.ServeEnd.{ServeEnd}
 use Rattle.warn_serve.specs.declared.serving.ServeEnd.TheVariants.{Done, PortFault, OutOfMemory}
+use Rattle.warn_serve.specs.declared.workers.WorkerEnd.{WorkerEnd}
 
 -- The port listened at this number, once; or it gave no doors, and no link.
 abbrev pub HasListened : ℕ → PortState → PortState → Type 0
 HasListened number first last = (last.numbers ≡ with_one first.numbers number) ⊎ ((last.numbers ≡ first.numbers) × (last.returned ≡ first.returned))
 
--- a worker's pass at its end, and the links that it served
+-- a worker's share of the links, its pass at its end, the links that it served, and how it ended
 pub record Part (P : Type 0) : Type 0 where
+  pub share : ℕ
   pub pass : P
   pub visits : List Visit
+  pub end : WorkerEnd
 
 module _ {P : Type 0} where
   abbrev pub passes_of : List (Part P) → List P
   passes_of parts = map (λ p. p.pass) parts
+
+  abbrev pub shares_in : List (Part P) → List ℕ
+  shares_in parts = map (λ p. p.share) parts
 
   -- the links that all workers served, worker by worker
   abbrev pub visits_of : List (Part P) → List Visit
@@ -50,14 +57,16 @@ module _ {D : Type 0} (d : Disks D) (gives : ℤ → Type 0) (opened : KeptOffic
     pub unseen : start.seen ≡ []
     pub none_added : start.mine ≡ []
     pub visits : AreVisits (AnswersCall gives) start p.visits p.pass
+    pub ends : ServesShare p.share p.visits p.end
 
-  -- There is one list of happenings since the opening, those of the calls on these links, each once; and the links went back to the port, which had listened at the number.
-  pub record IsServed (kept : KeptOffice D d) (number connections : ℕ) (first last : PortState) (end : ServeEnd) : Type 0 where
+  -- There is one list of happenings since the opening, those of the calls on these links, each once; the links were shared out among the workers; and they went back to the port, which had listened at the number.
+  pub record IsServed (kept : KeptOffice D d) (number workers connections : ℕ) (first last : PortState) (end : ServeEnd) : Type 0 where
     pub happenings : List Happening
     pub since : IsSince d opened kept happenings
     pub parts : List (Part (PassRecord (KeptOffice D d) Happening))
     pub shared : IsShared 0 happenings (passes_of parts)
     pub served : All HasPart parts
+    pub shares : SharesOut workers connections (shares_in parts) end
     pub listened : HasListened number first last
     pub returned : last.returned ≡ first.returned + length (visits_of parts)
     pub links : TellsBehind first.links last.links (links_of (visits_of parts))

@@ -1,7 +1,7 @@
 -- What is done over a link step by step, whatever answers its calls and whatever that makes of a pass. `held` are the bytes that were read and are no part of a call that was answered.
 use Rattle.std.specs.Prelude.{◌≡◌, ◌≤◌, ℕ, Bool, List, [], true, false, ◌++◌, length, drop, Option, None, Some}
 use mathlib.Core.List.{IsPrefix}
-use Rattle.desk_traits.specs.Streams.{Adds, Takes}
+use Rattle.byte_streams.specs.Flows.{Adds, Takes}
 use Rattle.desk_links.specs.Links.{LinkState}
 use Rattle.warn_http.specs.Calls.{Called, IsCut}
 use Rattle.warn_serve.specs.Links.{Answered, EndsSo, HasCount, HasEnded, HasFailed, IsJudged, IsLater, Said, answers_of, calls_of}

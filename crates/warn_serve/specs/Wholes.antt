@@ -2,7 +2,7 @@
 use Rattle.std.specs.Prelude.{◌≡◌, ℕ, true, List, [], ◌++◌, ⊤}
 use Rattle.warn_http.specs.Calls.{AreCalls, Called, Stop, refused, closed, spent, left}
 use Rattle.warn_serve.specs.Answers.{refused_answer}
-use Rattle.desk_traits.specs.Streams.{Adds, Takes}
+use Rattle.byte_streams.specs.Flows.{Adds, Takes}
 use Rattle.desk_links.specs.Links.{LinkState}
 use Rattle.warn_serve.specs.Links.{Answered, Said, answers_of, calls_of}
 use Rattle.warn_serve.specs.declared.links.LinkEnd.{LinkEnd}

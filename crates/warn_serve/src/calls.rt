@@ -7,123 +7,111 @@ ghost use Rattle.warn_serve.specs.Answers.{Yields};
 ghost use Rattle.warn_serve.specs.Calls.{AnswersAsked, AnswersPost, IsLooked, LooksInTurn, Submits};
 
 use crate::answers::{AnswerBytes, look_answer, refused_answer, submit_answer};
+use crate::service::Service;
 use desk_traits::{Clock, Disk};
 use hazard_types::{Oom, Or, Query, Refusal, Text};
 use office_turns::{Look, SharedOffice, submit_in_turn};
 use request_json::{Asked, read_request};
-use std::alloc::Global;
 use std::sync::Wait;
-use turn_lock::{Pass, TurnLock};
+use turn_lock::Pass;
 use warn_http::{Call, no_memory_answer};
 
-/// Looks in a turn, which may wait until it comes.
-fn look_in_turn<R: Wait, D: Disk>(
-    rt: &R,
-    lock: &TurnLock<SharedOffice<D>>,
-    pass: &mut Pass<SharedOffice<D>>,
-    alloc: Global,
-    query: &Query,
-    reading: i64,
-) -> Result<Text, Or<Refusal>>
-    requires pass { pass.old.lock ≡ lock.now }
-    ensures { LooksInTurn query.now reading pass.old pass.new result }
-{
-    lock.turn(
-        rt,
-        pass,
-        Look {
-            alloc,
-            query,
-            reading,
-        },
-    )
-}
-
-/// Submits a request at a reading of the clock, and answers it.
-fn answer_request<R: Wait, D: Disk, C: Clock>(
-    rt: &R,
-    alloc: Global,
-    lock: &TurnLock<SharedOffice<D>>,
-    pass: &mut Pass<SharedOffice<D>>,
-    clock: &C,
-    asked: &Asked,
-    last: bool,
-) -> Result<AnswerBytes, Oom>
-    requires pass { pass.old.lock ≡ lock.now }
-    requires form { HasForm asked.now }
-    ensures kept { KeepsRights pass.old pass.new }
-    ensures submitted { (answer : List ℕ) × Submits last pass.old pass.new answer (C.gives clock.now) asked.now × Yields result answer }
-{
-    let reading = clock.minute();
-    let outcome = submit_in_turn(rt, lock, pass, alloc, asked, reading);
-    submit_answer(alloc, outcome, last)
-}
-
-/// Looks at a reading of the clock, and answers with what is shown.
-fn answer_look<R: Wait, D: Disk, C: Clock>(
-    rt: &R,
-    alloc: Global,
-    lock: &TurnLock<SharedOffice<D>>,
-    pass: &mut Pass<SharedOffice<D>>,
-    clock: &C,
-    query: Query,
-    last: bool,
-) -> Result<AnswerBytes, Oom>
-    requires pass { pass.old.lock ≡ lock.now }
-    ensures kept { KeepsRights pass.old pass.new }
-    ensures looked { (answer : List ℕ) × IsLooked last pass.old pass.new answer (C.gives clock.now) query × Yields result answer }
-{
-    let reading = clock.minute();
-    let shown = look_in_turn(rt, lock, pass, alloc, &query, reading);
-    look_answer(alloc, query, shown, last)
-}
-
-/// Answers a call that posts these bytes.
-fn answer_post<R: Wait, D: Disk, C: Clock>(
-    rt: &R,
-    alloc: Global,
-    lock: &TurnLock<SharedOffice<D>>,
-    pass: &mut Pass<SharedOffice<D>>,
-    clock: &C,
-    posted: &[u8],
-    last: bool,
-) -> Result<AnswerBytes, Oom>
-    requires pass { pass.old.lock ≡ lock.now }
-    ensures kept { KeepsRights pass.old pass.new }
-    ensures posted { (answer : List ℕ) × AnswersPost last pass.old pass.new answer (C.gives clock.now) posted.now × Yields result answer }
-{
-    match read_request(alloc, posted) {
-        Ok(asked) => answer_request(rt, alloc, lock, pass, clock, &asked, last),
-        Err(Or::No(refusal)) => refused_answer(alloc, refusal, last),
-        Err(Or::OutOfMemory) => Ok(AnswerBytes::Fixed(no_memory_answer(last))),
+impl<R: Wait, D: Disk, C: Clock, G> Service<'_, R, D, C, G> {
+    /// Looks in a turn, which may wait until it comes.
+    fn look_in_turn(
+        &self,
+        pass: &mut Pass<SharedOffice<D>>,
+        query: &Query,
+        reading: i64,
+    ) -> Result<Text, Or<Refusal>>
+        requires pass { pass.old.lock ≡ self.now.lock.now }
+        ensures { LooksInTurn query.now reading pass.old pass.new result }
+    {
+        self.lock.turn(
+            self.rt,
+            pass,
+            Look {
+                alloc: self.alloc,
+                query,
+                reading,
+            },
+        )
     }
-}
 
-/// Answers a call by a shared office. Its body lies in `bytes`, which are those of the call.
-///
-/// # Errors
-///
-/// Out of memory for the answer's bytes, where the call was judged.
-pub(crate) fn answer_call<R: Wait, D: Disk, C: Clock>(
-    rt: &R,
-    alloc: Global,
-    lock: &TurnLock<SharedOffice<D>>,
-    pass: &mut Pass<SharedOffice<D>>,
-    clock: &C,
-    bytes: &[u8],
-    call: Call,
-    last: bool,
-) -> Result<AnswerBytes, Oom>
-    requires pass { pass.old.lock ≡ lock.now }
-    requires within { LiesIn (length bytes.now) call }
-    ensures kept { KeepsRights pass.old pass.new }
-    ensures judged { (answer : List ℕ) × AnswersAsked last pass.old pass.new answer (C.gives clock.now) call (posted_in bytes.now call) × Yields result answer }
-{
-    match call {
-        Call::Post(span) => {
-            let posted = &bytes[span.from..span.to];
-            answer_post(rt, alloc, lock, pass, clock, posted, last)
+    /// Submits a request at a reading of the clock, and answers it.
+    fn answer_request(
+        &self,
+        pass: &mut Pass<SharedOffice<D>>,
+        asked: &Asked,
+        last: bool,
+    ) -> Result<AnswerBytes, Oom>
+        requires pass { pass.old.lock ≡ self.now.lock.now }
+        requires form { HasForm asked.now }
+        ensures kept { KeepsRights pass.old pass.new }
+        ensures submitted { (answer : List ℕ) × Submits last pass.old pass.new answer (C.gives self.now.clock.now) asked.now × Yields result answer }
+    {
+        let reading = self.clock.minute();
+        let outcome = submit_in_turn(self.rt, self.lock, pass, self.alloc, asked, reading);
+        submit_answer(self.alloc, outcome, last)
+    }
+
+    /// Looks at a reading of the clock, and answers with what is shown.
+    fn answer_look(
+        &self,
+        pass: &mut Pass<SharedOffice<D>>,
+        query: Query,
+        last: bool,
+    ) -> Result<AnswerBytes, Oom>
+        requires pass { pass.old.lock ≡ self.now.lock.now }
+        ensures kept { KeepsRights pass.old pass.new }
+        ensures looked { (answer : List ℕ) × IsLooked last pass.old pass.new answer (C.gives self.now.clock.now) query × Yields result answer }
+    {
+        let reading = self.clock.minute();
+        let shown = self.look_in_turn(pass, &query, reading);
+        look_answer(self.alloc, query, shown, last)
+    }
+
+    /// Answers a call that posts these bytes.
+    fn answer_post(
+        &self,
+        pass: &mut Pass<SharedOffice<D>>,
+        posted: &[u8],
+        last: bool,
+    ) -> Result<AnswerBytes, Oom>
+        requires pass { pass.old.lock ≡ self.now.lock.now }
+        ensures kept { KeepsRights pass.old pass.new }
+        ensures posted { (answer : List ℕ) × AnswersPost last pass.old pass.new answer (C.gives self.now.clock.now) posted.now × Yields result answer }
+    {
+        match read_request(self.alloc, posted) {
+            Ok(asked) => self.answer_request(pass, &asked, last),
+            Err(Or::No(refusal)) => refused_answer(self.alloc, refusal, last),
+            Err(Or::OutOfMemory) => Ok(AnswerBytes::Fixed(no_memory_answer(last))),
         }
-        Call::Look(query) => answer_look(rt, alloc, lock, pass, clock, query, last),
+    }
+
+    /// Answers a call by the shared office. Its body lies in `bytes`, which are those of the call.
+    ///
+    /// # Errors
+    ///
+    /// Out of memory for the answer's bytes, where the call was judged.
+    pub(crate) fn answer_call(
+        &self,
+        pass: &mut Pass<SharedOffice<D>>,
+        bytes: &[u8],
+        call: Call,
+        last: bool,
+    ) -> Result<AnswerBytes, Oom>
+        requires pass { pass.old.lock ≡ self.now.lock.now }
+        requires within { LiesIn (length bytes.now) call }
+        ensures kept { KeepsRights pass.old pass.new }
+        ensures judged { (answer : List ℕ) × AnswersAsked last pass.old pass.new answer (C.gives self.now.clock.now) call (posted_in bytes.now call) × Yields result answer }
+    {
+        match call {
+            Call::Post(span) => {
+                let posted = &bytes[span.from..span.to];
+                self.answer_post(pass, posted, last)
+            }
+            Call::Look(query) => self.answer_look(pass, query, last),
+        }
     }
 }

@@ -1,115 +1,133 @@
 //! Workers, each with a share of one pass and of the links.
-ghost use Rattle.std.specs.Prelude.{◌≡◌, ◌≤◌, ◌<◌, ◌+◌, [], ℕ, All, length, map, slice_index_or, vec_len};
+ghost use Rattle.std.specs.Prelude.{◌≡◌, ◌≤◌, ◌<◌, ◌+◌, ◌-◌, [], ℕ, All, IfOk, OnErr, OnOk, length, map, slice_index_or, vec_len};
+ghost use Rattle.turn_lock.specs.Passes.{one_share_fewer, one_share_of};
 ghost use Rattle.warn_serve.specs.Calls.{AnswersCall};
-ghost use Rattle.warn_serve.specs.Gathered.{DoesShare, IsFresh, KeepsWhole, TakesBack, total_of};
+ghost use Rattle.warn_serve.specs.Gathered.{DoesShare, IsFresh, KeepsWhole, TakesBack};
+ghost use Rattle.warn_serve.specs.Shares.{share_at, shares_of, total_of, with_links};
 ghost use Rattle.desk_links.specs.Links.{IsUnused};
 
-use crate::workers::{WorkerEnd, worker};
+use crate::service::Service;
+use crate::workers::WorkerEnd;
+use call_inbox::Inbox;
 use desk_links::{Door, Gate, Port};
 use desk_traits::{Clock, Disk};
+use hazard_types::Oom;
 use office_turns::SharedOffice;
-use std::alloc::Global;
 use std::sync::Wait;
 use std::thread;
 use std::thread::Threads;
-use turn_lock::{Pass, Storied, TurnLock};
+use turn_lock::{Pass, Storied};
 
-/// A worker: its pass, its door, how many links it has to serve, and how it ended.
+/// A worker: its pass, its door, its inbox, how many links it has to serve, and how it ended.
 #[derive(Drop)]
 pub(crate) struct Worker<T: Storied, Dr> {
     pub(crate) pass: Pass<T>,
     pub(crate) door: Dr,
+    pub(crate) inbox: Inbox,
     pub(crate) share: u64,
     pub(crate) end: WorkerEnd,
 }
 
-/// The share of the next of so many workers in the links that are left: those before take one more
-/// where they can't be shared evenly.
-fn share_of(left: u64, workers: u64) -> u64
-    requires { 0 < workers }
-    ensures most { result ≤ left }
-    ensures all { workers ≡ 1 → result ≡ left }
+/// The share of the next worker, the whole part of the quotient and one link more while some are left
+/// over; and how many are left over for those after it.
+fn share_of(whole: u64, more: u64) -> (u64, u64)
+    requires { whole ≤ 1000000 }
+    ensures share { result.0 ≡ share_at whole more }
+    ensures more { result.1 ≡ more - 1 }
 {
-    left.div_ceil(workers)
-}
-
-/// A worker for each door, with its share of the pass and of the links. Where memory runs out for one
-/// its door goes back to the port, and the later ones take its links. Returns how many links are left
-/// without a worker.
-pub(crate) fn hire<D: Disk, P: Port>(
-    alloc: Global,
-    lock: &TurnLock<SharedOffice<D>>,
-    pass: &mut Pass<SharedOffice<D>>,
-    port: &mut P,
-    doors: Vec<P::Door>,
-    connections: u64,
-) -> (Vec<Worker<SharedOffice<D>, P::Door>>, u64)
-    requires lock { pass.old.lock ≡ lock.now }
-    requires shares { vec_len doors < pass.old.shares }
-    requires unused { All (λ door. IsUnused (P.Door.state door)) doors.items }
-    requires few { (P.state port.old).returned ≤ 1000000 }
-    ensures kept { KeepsWhole pass.old pass.new }
-    ensures shares { pass.new.shares + vec_len result.0 ≡ pass.old.shares }
-    ensures fresh { All (λ w. IsFresh pass.old w.pass (P.Door.state w.door) w.share connections)
-        result.0.items }
-    ensures total { total_of (map (λ w. w.share) result.0.items) + result.1 ≡ connections }
-    ensures port { TakesBack (P.state port.old) (P.state port.new) [] }
-    ensures numbers { (P.state port.new).numbers ≡ (P.state port.old).numbers }
-{
-    let mut workers = Vec::new(alloc);
-    let mut left = connections;
-    let mut waiting = doors.len() as u64;
-    for door in doors {
-        let share = share_of(left, waiting);
-        waiting -= 1;
-        if workers.reserve(1).is_err() {
-            port.return_door(door);
-            continue;
-        }
-        let Ok(part) = lock.split(pass) else {
-            port.return_door(door);
-            continue;
-        };
-        left -= share;
-        workers.push_reserved(Worker {
-            pass: part,
-            door,
-            share,
-            end: WorkerEnd::Done(0),
-        });
+    if more == 0 {
+        (whole, 0)
+    } else {
+        (whole + 1, more - 1)
     }
-    (workers, left)
 }
 
-/// A worker serves its share of the links.
-fn work<R: Wait, D: Disk, Dr: Door, C: Clock, G: Gate>(
-    rt: &R,
-    alloc: Global,
-    lock: &TurnLock<SharedOffice<D>>,
-    one: &mut Worker<SharedOffice<D>, Dr>,
-    clock: &C,
-    gate: &G,
-)
-    requires lock { one.old.pass.lock ≡ lock.now }
-    requires few { one.old.share ≤ 1000000 }
-    requires none_given { (Dr.state one.old.door).given ≡ 0 }
-    requires none_returned { (Dr.state one.old.door).returned ≡ 0 }
-    ensures share { one.new.share ≡ one.old.share }
-    ensures does { DoesShare (AnswersCall (C.gives clock.now)) one.old.share
-        (Dr.state one.old.door)
-        (Dr.state one.new.door) one.old.pass one.new.pass one.new.end }
-{
-    let share = one.share;
-    one.end = worker(
-        rt,
-        alloc,
-        lock,
-        &mut one.pass,
-        &mut one.door,
-        share,
-        clock,
-        gate,
-    );
+impl<R, D: Disk, C, G> Service<'_, R, D, C, G> {
+    /// What one more worker needs: a share of the pass, and an inbox.
+    fn equip(&self, pass: &mut Pass<SharedOffice<D>>) -> Result<(Pass<SharedOffice<D>>, Inbox), Oom>
+        requires lock { pass.old.lock ≡ self.now.lock.now }
+        requires shares { 1 < pass.old.shares }
+        ensures part { IfOk result (λ made. made.0 ≡ one_share_of pass.old) }
+        ensures fewer { OnOk result (pass.new ≡ one_share_fewer pass.old) }
+        ensures kept { OnErr result (pass.new ≡ pass.old) }
+    {
+        let inbox = Inbox::new(self.alloc)?;
+        let part = self.lock.split(pass)?;
+        Ok((part, inbox))
+    }
+
+    /// A worker for each door, with its share of the pass and of the links: worker k of W has the
+    /// whole part of `connections` / W, and one link more where k is at most the remainder. Where
+    /// memory runs out for one its door goes back to the port. Returns how many links are lost with
+    /// those.
+    pub(crate) fn hire<P: Port>(
+        &self,
+        pass: &mut Pass<SharedOffice<D>>,
+        port: &mut P,
+        doors: Vec<P::Door>,
+        connections: u64,
+    ) -> (Vec<Worker<SharedOffice<D>, P::Door>>, u64)
+        requires lock { pass.old.lock ≡ self.now.lock.now }
+        requires some { 0 < vec_len doors }
+        requires shares { vec_len doors < pass.old.shares }
+        requires connections { connections ≤ 1000000 }
+        requires unused { All (λ door. IsUnused (P.Door.state door)) doors.items }
+        requires few { (P.state port.old).returned ≤ 1000000 }
+        ensures kept { KeepsWhole pass.old pass.new }
+        ensures shares { pass.new.shares + vec_len result.0 ≡ pass.old.shares }
+        ensures fresh { All (λ w. IsFresh pass.old w.pass (P.Door.state w.door) w.share connections)
+            result.0.items }
+        ensures total { total_of (map (λ w. w.share) result.0.items) + result.1 ≡ connections }
+        ensures even { result.1 ≡ 0 → with_links (map (λ w. w.share) result.0.items)
+            ≡ with_links (shares_of (vec_len doors) connections) }
+        ensures port { TakesBack (P.state port.old) (P.state port.new) [] }
+        ensures numbers { (P.state port.new).numbers ≡ (P.state port.old).numbers }
+    {
+        let count = doors.len() as u64;
+        let whole = connections / count;
+        let mut more = connections % count;
+        let mut workers = Vec::new(self.alloc);
+        let mut lost = 0;
+        for door in doors {
+            let (share, rest) = share_of(whole, more);
+            more = rest;
+            if workers.reserve(1).is_err() {
+                port.return_door(door);
+                lost += share;
+                continue;
+            }
+            let Ok((part, inbox)) = self.equip(pass) else {
+                port.return_door(door);
+                lost += share;
+                continue;
+            };
+            workers.push_reserved(Worker {
+                pass: part,
+                door,
+                inbox,
+                share,
+                end: WorkerEnd::Done(0),
+            });
+        }
+        (workers, lost)
+    }
+}
+
+impl<R: Wait, D: Disk, C: Clock, G: Gate> Service<'_, R, D, C, G> {
+    /// A worker serves its share of the links.
+    fn work<Dr: Door>(&self, one: &mut Worker<SharedOffice<D>, Dr>)
+        requires lock { one.old.pass.lock ≡ self.now.lock.now }
+        requires few { one.old.share ≤ 1000000 }
+        requires none_given { (Dr.state one.old.door).given ≡ 0 }
+        requires none_returned { (Dr.state one.old.door).returned ≡ 0 }
+        ensures share { one.new.share ≡ one.old.share }
+        ensures does { DoesShare (AnswersCall (C.gives self.now.clock.now)) one.old.share
+            (Dr.state one.old.door)
+            (Dr.state one.new.door) one.old.pass one.new.pass one.new.end }
+    {
+        let share = one.share;
+        one.end = self.worker(&mut one.pass, &mut one.inbox, &mut one.door, share);
+    }
 }
 
 /// Each worker serves its share of the links, in a thread of its own where one can be made.
@@ -119,15 +137,8 @@ pub(crate) fn work_all<
     Dr: Door + Send,
     C: Clock + Sync,
     G: Gate + Sync,
->(
-    rt: &R,
-    alloc: Global,
-    lock: &TurnLock<SharedOffice<D>>,
-    workers: &mut [Worker<SharedOffice<D>, Dr>],
-    clock: &C,
-    gate: &G,
-)
-    requires lock { All (λ w. w.pass.lock ≡ lock.now) workers.old }
+>(service: &Service<'_, R, D, C, G>, workers: &mut [Worker<SharedOffice<D>, Dr>])
+    requires lock { All (λ w. w.pass.lock ≡ service.now.lock.now) workers.old }
     requires few { All (λ w. w.share ≤ 1000000) workers.old }
     requires none_given { All (λ w. (Dr.state w.door).given ≡ 0) workers.old }
     requires none_returned { All (λ w. (Dr.state w.door).returned ≡ 0) workers.old }
@@ -135,12 +146,21 @@ pub(crate) fn work_all<
     ensures share { (i : ℕ) (w : _) → i < length workers.old
         → (slice_index_or workers.new i w).share ≡ (slice_index_or workers.old i w).share }
     ensures does { (i : ℕ) (w : _) → i < length workers.old
-        → DoesShare (AnswersCall (C.gives clock.now)) (slice_index_or workers.old i w).share
+        → DoesShare (AnswersCall (C.gives service.now.clock.now))
+        (slice_index_or workers.old i w).share
         (Dr.state (slice_index_or workers.old i w).door)
         (Dr.state (slice_index_or workers.new i w).door)
         (slice_index_or workers.old i w).pass (slice_index_or workers.new i w).pass
         (slice_index_or workers.new i w).end }
 {
+    let Service {
+        rt,
+        alloc,
+        lock,
+        routes,
+        clock,
+        gate,
+    } = *service;
     thread::for_each_mut(
         rt,
         workers,
@@ -152,6 +172,16 @@ pub(crate) fn work_all<
             ensures does { DoesShare (AnswersCall (C.gives clock.entry.now)) one.old.share
                 (Dr.state one.old.door)
                 (Dr.state one.new.door) one.old.pass one.new.pass one.new.end }
-        { work(rt, alloc, lock, one, clock, gate) },
+        {
+            let service = Service {
+                rt,
+                alloc,
+                lock,
+                routes,
+                clock,
+                gate,
+            };
+            service.work(one);
+        },
     );
 }

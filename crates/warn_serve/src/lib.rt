@@ -7,10 +7,12 @@ mod calls;
 mod hiring;
 mod laws;
 mod links;
+mod service;
 mod serving;
 mod workers;
 
 pub use laws::links_end_by_their_causes;
 pub use links::{LinkEnd, MOST_CALLS, serve_link};
+pub use service::Service;
 pub use serving::{ServeEnd, serve};
-pub use workers::{WorkerEnd, worker};
+pub use workers::WorkerEnd;

@@ -10,7 +10,7 @@ ghost use Rattle.warn_serve.specs.Steps.{Sends, ServesNext};
 ghost use Rattle.warn_serve.specs.Wholes.{AnswersLink, IsWhole};
 
 use crate::answers::{AnswerBytes, refused_answer};
-use crate::calls::answer_call;
+use crate::service::Service;
 use call_inbox::{Inbox, NextCall, next_call};
 use desk_links::{Gate, Link, write_link};
 use desk_traits::{Clock, Disk, Failed};
@@ -67,101 +67,108 @@ fn refuse<L: Link>(alloc: Global, link: &mut L, refusal: Refusal) -> Option<Link
     }
 }
 
-/// Answers a call, whose body lies in `bytes`: the end of the link, or nothing where it stays open.
-fn serve_call<R: Wait, D: Disk, L: Link, C: Clock>(
-    rt: &R,
-    alloc: Global,
-    lock: &TurnLock<SharedOffice<D>>,
-    pass: &mut Pass<SharedOffice<D>>,
-    link: &mut L,
-    clock: &C,
-    bytes: &[u8],
-    call: Call,
-    last: bool,
-) -> Option<LinkEnd>
-    requires pass { pass.old.lock ≡ lock.now }
-    requires within { LiesIn (length bytes.now) call }
-    ensures kept { KeepsRights pass.old pass.new }
-    ensures sent { (answer : List ℕ)
-        × AnswersAsked last pass.old pass.new answer (C.gives clock.now) call
-        (posted_in bytes.now call)
-        × Sends (L.state link.old) (L.state link.new) answer last result }
-{
-    match answer_call(rt, alloc, lock, pass, clock, bytes, call, last) {
-        Ok(answer) => finish(link, &answer, last),
-        Err(Oom) => Some(LinkEnd::OutOfMemory),
-    }
-}
-
-/// Reads and answers the next call of a link, number `number`: the end of the link, or nothing where
-/// it stays open.
-fn serve_next<R: Wait, D: Disk, L: Link, C: Clock, G: Gate>(
-    rt: &R,
-    alloc: Global,
-    lock: &TurnLock<SharedOffice<D>>,
-    pass: &mut Pass<SharedOffice<D>>,
-    routes: &Routes,
-    inbox: &mut Inbox,
-    link: &mut L,
-    clock: &C,
-    gate: &G,
-    number: u64,
-) -> Option<LinkEnd>
-    requires pass { pass.old.lock ≡ lock.now }
-    ensures kept { KeepsRights pass.old pass.new }
-    ensures served { ServesNext (AnswersCall (C.gives clock.now)) (L.state link.old)
-        (L.state link.new) pass.old pass.new inbox.old inbox.new result }
-{
-    match next_call(alloc, routes, inbox, link) {
-        NextCall::Call { call, used, last } => {
-            gate.enter(number);
-            let bytes = inbox.as_slice();
-            let end = serve_call(rt, alloc, lock, pass, link, clock, bytes, call, last);
-            gate.leave(number);
-            inbox.skip(used);
-            end
-        }
-        NextCall::Refused(refusal) => refuse(alloc, link, refusal),
-        NextCall::Closed => Some(LinkEnd::Closed),
-        NextCall::Cut => Some(LinkEnd::Cut),
-        NextCall::LinkFault => Some(LinkEnd::LinkFault),
-        NextCall::OutOfMemory => Some(LinkEnd::OutOfMemory),
-    }
-}
-
-/// Serves the calls of a link, from its first one on.
-fn serve_calls<R: Wait, D: Disk, L: Link, C: Clock, G: Gate>(
-    rt: &R,
-    alloc: Global,
-    lock: &TurnLock<SharedOffice<D>>,
-    pass: &mut Pass<SharedOffice<D>>,
-    routes: &Routes,
-    inbox: &mut Inbox,
-    link: &mut L,
-    clock: &C,
-    gate: &G,
-) -> LinkEnd
-    requires pass { pass.old.lock ≡ lock.now }
-    requires empty { inbox.old ≡ [] }
-    ensures kept { KeepsRights pass.old pass.new }
-    ensures served { IsServedLink (AnswersCall (C.gives clock.now)) (L.state link.old)
-        (L.state link.new) pass.old pass.new result }
-{
-    for index in 0..MOST_CALLS {
-        let number = index + 1;
-        match serve_next(
-            rt, alloc, lock, pass, routes, inbox, link, clock, gate, number,
-        ) {
-            None => {}
-            Some(end) => return end,
+impl<R: Wait, D: Disk, C: Clock, G: Gate> Service<'_, R, D, C, G> {
+    /// Answers a call, whose body lies in `bytes`: the end of the link, or nothing where it stays
+    /// open.
+    fn serve_call<L: Link>(
+        &self,
+        pass: &mut Pass<SharedOffice<D>>,
+        link: &mut L,
+        bytes: &[u8],
+        call: Call,
+        last: bool,
+    ) -> Option<LinkEnd>
+        requires pass { pass.old.lock ≡ self.now.lock.now }
+        requires within { LiesIn (length bytes.now) call }
+        ensures kept { KeepsRights pass.old pass.new }
+        ensures sent { (answer : List ℕ)
+            × AnswersAsked last pass.old pass.new answer (C.gives self.now.clock.now) call
+            (posted_in bytes.now call)
+            × Sends (L.state link.old) (L.state link.new) answer last result }
+    {
+        match self.answer_call(pass, bytes, call, last) {
+            Ok(answer) => finish(link, &answer, last),
+            Err(Oom) => Some(LinkEnd::OutOfMemory),
         }
     }
-    LinkEnd::Spent
+
+    /// Reads and answers the next call of a link, number `number`: the end of the link, or nothing
+    /// where it stays open.
+    fn serve_next<L: Link>(
+        &self,
+        pass: &mut Pass<SharedOffice<D>>,
+        inbox: &mut Inbox,
+        link: &mut L,
+        number: u64,
+    ) -> Option<LinkEnd>
+        requires pass { pass.old.lock ≡ self.now.lock.now }
+        ensures kept { KeepsRights pass.old pass.new }
+        ensures served { ServesNext (AnswersCall (C.gives self.now.clock.now)) (L.state link.old)
+            (L.state link.new) pass.old pass.new inbox.old inbox.new result }
+    {
+        match next_call(self.alloc, self.routes, inbox, link) {
+            NextCall::Call { call, used, last } => {
+                self.gate.enter(number);
+                let bytes = inbox.as_slice();
+                let end = self.serve_call(pass, link, bytes, call, last);
+                self.gate.leave(number);
+                inbox.skip(used);
+                end
+            }
+            NextCall::Refused(refusal) => refuse(self.alloc, link, refusal),
+            NextCall::Closed => Some(LinkEnd::Closed),
+            NextCall::Cut => Some(LinkEnd::Cut),
+            NextCall::LinkFault => Some(LinkEnd::LinkFault),
+            NextCall::OutOfMemory => Some(LinkEnd::OutOfMemory),
+        }
+    }
+
+    /// Serves the calls of a link, from its first one on.
+    fn serve_calls<L: Link>(
+        &self,
+        pass: &mut Pass<SharedOffice<D>>,
+        inbox: &mut Inbox,
+        link: &mut L,
+    ) -> LinkEnd
+        requires pass { pass.old.lock ≡ self.now.lock.now }
+        requires empty { inbox.old ≡ [] }
+        ensures kept { KeepsRights pass.old pass.new }
+        ensures served { IsServedLink (AnswersCall (C.gives self.now.clock.now)) (L.state link.old)
+            (L.state link.new) pass.old pass.new result }
+    {
+        for index in 0..MOST_CALLS {
+            let number = index + 1;
+            match self.serve_next(pass, inbox, link, number) {
+                None => {}
+                Some(end) => return end,
+            }
+        }
+        LinkEnd::Spent
+    }
+
+    /// Serves a link: reads its calls, at most 10,000, answers each in a turn at the office, at a
+    /// reading of the clock of its own, and returns how the link ended. The gate hears of each call,
+    /// by its number from 1 on. The answers to a disk fault, and to a call for which memory ran out,
+    /// take no memory. Whatever the inbox held before is dropped.
+    pub fn serve_link<L: Link>(
+        &self,
+        pass: &mut Pass<SharedOffice<D>>,
+        inbox: &mut Inbox,
+        link: &mut L,
+    ) -> LinkEnd
+        requires pass { pass.old.lock ≡ self.now.lock.now }
+        ensures kept { KeepsRights pass.old pass.new }
+        ensures whole { IsWhole result → AnswersLink (AnswersCall (C.gives self.now.clock.now))
+            (L.state link.old) (L.state link.new) pass.old pass.new }
+        ensures served { IsServedLink (AnswersCall (C.gives self.now.clock.now)) (L.state link.old)
+            (L.state link.new) pass.old pass.new result }
+    {
+        inbox.clear();
+        self.serve_calls(pass, inbox, link)
+    }
 }
 
-/// Serves a link: reads its calls, at most 10,000, answers each in a turn at the office, at a reading
-/// of the clock of its own, and returns how the link ended. The gate hears of each call, by its number
-/// from 1 on. The answers to a disk fault, and to a call for which memory ran out, take no memory.
+/// Serves one link, as `Service::serve_link` does, with routes and an inbox of its own.
 pub fn serve_link<R: Wait, D: Disk, L: Link, C: Clock, G: Gate>(
     rt: &R,
     alloc: Global,
@@ -184,7 +191,13 @@ pub fn serve_link<R: Wait, D: Disk, L: Link, C: Clock, G: Gate>(
     let Ok(routes) = Routes::new(alloc) else {
         return LinkEnd::OutOfMemory;
     };
-    serve_calls(
-        rt, alloc, lock, pass, &routes, &mut inbox, link, clock, gate,
-    )
+    let service = Service {
+        rt,
+        alloc,
+        lock,
+        routes: &routes,
+        clock,
+        gate,
+    };
+    service.serve_link(pass, &mut inbox, link)
 }

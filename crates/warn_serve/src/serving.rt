@@ -1,10 +1,12 @@
 //! The whole service: workers over the doors of a port share one kept office.
-ghost use Rattle.std.specs.Prelude.{◌≡◌, ◌≤◌, ◌<◌, ◌+◌, All, map, vec_len};
+ghost use Rattle.std.specs.Prelude.{◌≡◌, ◌≤◌, ◌<◌, ◌+◌, ℕ, List, All, map, vec_len};
 ghost use Rattle.warn_serve.specs.Calls.{AnswersCall};
-ghost use Rattle.warn_serve.specs.Gathered.{HasDone, IsFresh, IsGathered, end_after, short_of, total_of};
+ghost use Rattle.warn_serve.specs.Gathered.{HasDone, IsFresh, IsGathered, end_after, short_of};
+ghost use Rattle.warn_serve.specs.Shares.{SharesOut, total_of};
 ghost use Rattle.warn_serve.specs.Served.{HasListened, IsServed};
 
-use crate::hiring::{Worker, hire, work_all};
+use crate::hiring::{Worker, work_all};
+use crate::service::Service;
 use crate::workers::WorkerEnd;
 use desk_links::{Gate, Port};
 use desk_traits::{Clock, Disk, Failed};
@@ -15,6 +17,7 @@ use std::alloc::Global;
 use std::sync::Wait;
 use std::thread::Threads;
 use turn_lock::{Pass, TurnLock};
+use warn_http::Routes;
 
 /// How serving ended.
 #[derive(Clone, Copy, Debug, PartialEq, Eq)]
@@ -53,68 +56,106 @@ fn end_after(end: ServeEnd, worked: WorkerEnd) -> ServeEnd
     }
 }
 
-/// Takes in the passes of all workers, gives their doors back, and returns how serving ended.
-fn gather<D: Disk, P: Port, C: Clock>(
-    lock: &TurnLock<SharedOffice<D>>,
-    pass: &mut Pass<SharedOffice<D>>,
-    port: &mut P,
-    workers: Vec<Worker<SharedOffice<D>, P::Door>>,
-    clock: &C,
-) -> ServeEnd
-    requires lock { pass.old.lock ≡ lock.now }
-    requires done { All (λ w. HasDone (AnswersCall (C.gives clock.now))
-        pass.old w.share (P.Door.state w.door) w.pass w.end) workers.items }
-    requires few { (P.state port.old).returned + total_of (map (λ w. w.share) workers.items)
-        ≤ 1000000 }
-    ensures shares { pass.new.shares ≡ pass.old.shares + vec_len workers }
-    ensures numbers { (P.state port.new).numbers ≡ (P.state port.old).numbers }
-    ensures gathered { IsGathered (AnswersCall (C.gives clock.now))
-        (total_of (map (λ w. w.share) workers.items)) (P.state port.old) (P.state port.new)
-        pass.old pass.new result }
-{
-    let mut end = ServeEnd::Done;
-    for worker in workers {
-        let Worker {
-            pass: part,
-            door,
-            end: worked,
-            ..
-        } = worker;
-        lock.join(pass, part);
-        port.return_door(door);
-        end = end_after(end, worked);
+impl<R, D: Disk, C: Clock, G> Service<'_, R, D, C, G> {
+    /// Takes in the passes of all workers, gives their doors back, and returns how serving ended.
+    fn gather<P: Port>(
+        &self,
+        pass: &mut Pass<SharedOffice<D>>,
+        port: &mut P,
+        workers: Vec<Worker<SharedOffice<D>, P::Door>>,
+    ) -> ServeEnd
+        requires lock { pass.old.lock ≡ self.now.lock.now }
+        requires done { All (λ w. HasDone (AnswersCall (C.gives self.now.clock.now))
+            pass.old w.share (P.Door.state w.door) w.pass w.end) workers.items }
+        requires few { (P.state port.old).returned + total_of (map (λ w. w.share) workers.items)
+            ≤ 1000000 }
+        ensures shares { pass.new.shares ≡ pass.old.shares + vec_len workers }
+        ensures numbers { (P.state port.new).numbers ≡ (P.state port.old).numbers }
+        ensures gathered { IsGathered (AnswersCall (C.gives self.now.clock.now))
+            (map (λ w. w.share) workers.items)
+            (total_of (map (λ w. w.share) workers.items)) (P.state port.old) (P.state port.new)
+            pass.old pass.new result }
+    {
+        let mut end = ServeEnd::Done;
+        for worker in workers {
+            let Worker {
+                pass: part,
+                door,
+                end: worked,
+                ..
+            } = worker;
+            self.lock.join(pass, part);
+            port.return_door(door);
+            end = end_after(end, worked);
+        }
+        end
     }
-    end
 }
 
-/// The workers serve their shares, and their passes and doors are taken in.
-fn serve_shares<R: Threads + Wait + Sync, D: Disk + Send, P: Port, C: Clock + Sync, G: Gate + Sync>(
-    rt: &R,
-    alloc: Global,
-    lock: &TurnLock<SharedOffice<D>>,
-    pass: &mut Pass<SharedOffice<D>>,
-    port: &mut P,
-    mut workers: Vec<Worker<SharedOffice<D>, P::Door>>,
-    clock: &C,
-    gate: &G,
-) -> ServeEnd
-    requires lock { pass.old.lock ≡ lock.now }
-    requires fresh { All (λ w. IsFresh pass.old w.pass (P.Door.state w.door) w.share 1000000)
-        workers.items }
-    requires few { (P.state port.old).returned + total_of (map (λ w. w.share) workers.items)
-        ≤ 1000000 }
-    ensures shares { pass.new.shares ≡ pass.old.shares + vec_len workers }
-    ensures numbers { (P.state port.new).numbers ≡ (P.state port.old).numbers }
-    ensures gathered { IsGathered (AnswersCall (C.gives clock.now))
-        (total_of (map (λ w. w.share) workers.items)) (P.state port.old) (P.state port.new)
-        pass.old pass.new result }
-{
-    work_all(rt, alloc, lock, workers.as_mut_slice(), clock, gate);
-    gather(lock, pass, port, workers, clock)
+impl<R: Threads + Wait + Sync, D: Disk + Send, C: Clock + Sync, G: Gate + Sync> Service<
+    '_,
+    R,
+    D,
+    C,
+    G,
+> {
+    /// The workers serve their shares, and their passes and doors are taken in.
+    fn serve_shares<P: Port>(
+        &self,
+        pass: &mut Pass<SharedOffice<D>>,
+        port: &mut P,
+        mut workers: Vec<Worker<SharedOffice<D>, P::Door>>,
+    ) -> ServeEnd
+        requires lock { pass.old.lock ≡ self.now.lock.now }
+        requires fresh { All (λ w. IsFresh pass.old w.pass (P.Door.state w.door) w.share 1000000)
+            workers.items }
+        requires few { (P.state port.old).returned + total_of (map (λ w. w.share) workers.items)
+            ≤ 1000000 }
+        ensures shares { pass.new.shares ≡ pass.old.shares + vec_len workers }
+        ensures numbers { (P.state port.new).numbers ≡ (P.state port.old).numbers }
+        ensures gathered { IsGathered (AnswersCall (C.gives self.now.clock.now))
+            (map (λ w. w.share) workers.items)
+            (total_of (map (λ w. w.share) workers.items)) (P.state port.old) (P.state port.new)
+            pass.old pass.new result }
+    {
+        work_all(self, workers.as_mut_slice());
+        self.gather(pass, port, workers)
+    }
+
+    /// Serves so many links of the doors that the port gives at the number, by a worker for each
+    /// door.
+    fn serve_port<P: Port>(
+        &self,
+        pass: &mut Pass<SharedOffice<D>>,
+        port: &mut P,
+        number: u16,
+        workers: usize,
+        connections: u64,
+    ) -> ServeEnd
+        requires lock { pass.old.lock ≡ self.now.lock.now }
+        requires shares { pass.old.shares ≡ 1024 }
+        requires workers { (1 ≤ workers) × (workers ≤ 16) }
+        requires connections { (1 ≤ connections) × (connections ≤ 1000000) }
+        requires unused { (P.state port.old).returned ≡ 0 }
+        ensures shares { pass.new.shares ≡ 1024 }
+        ensures listened { HasListened number (P.state port.old) (P.state port.new) }
+        ensures gathered { (given : List ℕ) × IsGathered (AnswersCall (C.gives self.now.clock.now))
+            given connections (P.state port.old) (P.state port.new) pass.old pass.new result
+            × SharesOut workers connections given result }
+    {
+        let doors = match port.listen(number, workers) {
+            Ok(doors) => doors.into_vec(),
+            Err(Or::No(Failed)) => return ServeEnd::PortFault,
+            Err(Or::OutOfMemory) => return ServeEnd::OutOfMemory,
+        };
+        let (hired, lost) = self.hire(pass, port, doors, connections);
+        let end = self.serve_shares(pass, port, hired);
+        short_of(end, lost)
+    }
 }
 
-/// Serves so many links of the doors that the port gives at the number, by a worker for each door.
-fn serve_port<R: Threads + Wait + Sync, D: Disk + Send, P: Port, C: Clock + Sync, G: Gate + Sync>(
+/// Makes the routes, and then serves the links of the port.
+fn serve_routed<R: Threads + Wait + Sync, D: Disk + Send, P: Port, C: Clock + Sync, G: Gate + Sync>(
     rt: &R,
     alloc: Global,
     lock: &TurnLock<SharedOffice<D>>,
@@ -128,28 +169,33 @@ fn serve_port<R: Threads + Wait + Sync, D: Disk + Send, P: Port, C: Clock + Sync
 ) -> ServeEnd
     requires lock { pass.old.lock ≡ lock.now }
     requires shares { pass.old.shares ≡ 1024 }
-    requires workers { workers ≤ 16 }
+    requires workers { (1 ≤ workers) × (workers ≤ 16) }
     requires connections { (1 ≤ connections) × (connections ≤ 1000000) }
     requires unused { (P.state port.old).returned ≡ 0 }
     ensures shares { pass.new.shares ≡ 1024 }
     ensures listened { HasListened number (P.state port.old) (P.state port.new) }
-    ensures gathered { IsGathered (AnswersCall (C.gives clock.now))
-        connections (P.state port.old) (P.state port.new) pass.old pass.new result }
+    ensures gathered { (given : List ℕ) × IsGathered (AnswersCall (C.gives clock.now))
+        given connections (P.state port.old) (P.state port.new) pass.old pass.new result
+        × SharesOut workers connections given result }
 {
-    let doors = match port.listen(number, workers) {
-        Ok(doors) => doors.into_vec(),
-        Err(Or::No(Failed)) => return ServeEnd::PortFault,
-        Err(Or::OutOfMemory) => return ServeEnd::OutOfMemory,
+    let Ok(routes) = Routes::new(alloc) else {
+        return ServeEnd::OutOfMemory;
     };
-    let (hired, left) = hire(alloc, lock, pass, port, doors, connections);
-    let end = serve_shares(rt, alloc, lock, pass, port, hired, clock, gate);
-    short_of(end, left)
+    let service = Service {
+        rt,
+        alloc,
+        lock,
+        routes: &routes,
+        clock,
+        gate,
+    };
+    service.serve_port(pass, port, number, workers, connections)
 }
 
 /// Serves so many links of the doors of a port, 1 to 1,000,000, which listens at the number, over
-/// one kept office, by 1 to 16 workers, and returns how that ended. The office comes back, after
-/// all that happened to it. Where memory runs out for a worker the others serve fewer links, or all of
-/// them.
+/// one kept office, by 1 to 16 workers, each with its share, and returns how that ended. The office
+/// comes back, after all that happened to it. Where memory runs out for a worker its links are served
+/// by nobody, and the end is `OutOfMemory`.
 pub fn serve<R: Threads + Wait + Sync, D: Disk + Send, P: Port, C: Clock + Sync, G: Gate + Sync>(
     rt: &R,
     alloc: Global,
@@ -164,7 +210,7 @@ pub fn serve<R: Threads + Wait + Sync, D: Disk + Send, P: Port, C: Clock + Sync,
     requires workers { (1 ≤ workers) × (workers ≤ 16) }
     requires connections { (1 ≤ connections) × (connections ≤ 1000000) }
     requires unused { (P.state port.old).returned ≡ 0 }
-    ensures { IsServed D.Disk (C.gives clock.now) kept result.0 number connections
+    ensures { IsServed D.Disk (C.gives clock.now) kept result.0 number workers connections
         (P.state port.old) (P.state port.new) result.1 }
 {
     let shared = SharedOffice::open(alloc, kept);
@@ -172,7 +218,7 @@ pub fn serve<R: Threads + Wait + Sync, D: Disk + Send, P: Port, C: Clock + Sync,
         Ok(made) => made,
         Err(shared) => return (shared.into_kept(), ServeEnd::OutOfMemory),
     };
-    let end = serve_port(
+    let end = serve_routed(
         rt,
         alloc,
         &lock,

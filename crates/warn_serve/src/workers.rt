@@ -4,13 +4,14 @@ ghost use Rattle.turn_lock.specs.Passes.{KeepsRights};
 ghost use Rattle.warn_serve.specs.Calls.{AnswersCall};
 ghost use Rattle.warn_serve.specs.Workers.{HasNone, HasWorked, ServesOne, lack_of};
 
-use crate::links::{LinkEnd, serve_link};
+use crate::links::LinkEnd;
+use crate::service::Service;
+use call_inbox::Inbox;
 use desk_links::{Door, Gate};
 use desk_traits::{Clock, Disk, Failed};
 use office_turns::SharedOffice;
-use std::alloc::Global;
 use std::sync::Wait;
-use turn_lock::{Pass, TurnLock};
+use turn_lock::Pass;
 
 /// How a worker ended.
 #[derive(Clone, Copy, Debug, PartialEq, Eq)]
@@ -32,60 +33,57 @@ fn lack_of(end: LinkEnd) -> u64
     }
 }
 
-/// Serves the next link of a door, and gives it back.
-fn serve_one<R: Wait, D: Disk, Dr: Door, C: Clock, G: Gate>(
-    rt: &R,
-    alloc: Global,
-    lock: &TurnLock<SharedOffice<D>>,
-    pass: &mut Pass<SharedOffice<D>>,
-    door: &mut Dr,
-    clock: &C,
-    gate: &G,
-) -> Result<LinkEnd, Failed>
-    requires pass { pass.old.lock ≡ lock.now }
-    requires none_out { (Dr.state door.old).given ≡ (Dr.state door.old).returned }
-    requires few { (Dr.state door.old).returned < 2 ^ 32 }
-    ensures kept { KeepsRights pass.old pass.new }
-    ensures served { IfOk result (λ end. ServesOne (AnswersCall (C.gives clock.now))
-        (Dr.state door.old)
-        (Dr.state door.new) pass.old pass.new end) }
-    ensures failed { OnErr result (HasNone (Dr.state door.old)
-        (Dr.state door.new) pass.old pass.new) }
-{
-    let mut link = door.accept()?;
-    let end = serve_link(rt, alloc, lock, pass, &mut link, clock, gate);
-    door.return_link(link);
-    Ok(end)
-}
-
-/// Serves so many links of a door, at most 1,000,000, one after another. Each goes back to the door.
-pub fn worker<R: Wait, D: Disk, Dr: Door, C: Clock, G: Gate>(
-    rt: &R,
-    alloc: Global,
-    lock: &TurnLock<SharedOffice<D>>,
-    pass: &mut Pass<SharedOffice<D>>,
-    door: &mut Dr,
-    share: u64,
-    clock: &C,
-    gate: &G,
-) -> WorkerEnd
-    requires pass { pass.old.lock ≡ lock.now }
-    requires share { share ≤ 1000000 }
-    requires none_given { (Dr.state door.old).given ≡ 0 }
-    requires none_returned { (Dr.state door.old).returned ≡ 0 }
-    ensures kept { KeepsRights pass.old pass.new }
-    ensures none_out { (Dr.state door.new).given ≡ (Dr.state door.new).returned }
-    ensures few { (Dr.state door.new).returned ≤ share }
-    ensures worked { HasWorked (AnswersCall (C.gives clock.now)) share
-        (Dr.state door.old)
-        (Dr.state door.new) pass.old pass.new result }
-{
-    let mut lacks = 0;
-    for _served in 0..share {
-        match serve_one(rt, alloc, lock, pass, door, clock, gate) {
-            Ok(end) => lacks += lack_of(end),
-            Err(Failed) => return WorkerEnd::PortFault,
-        }
+impl<R: Wait, D: Disk, C: Clock, G: Gate> Service<'_, R, D, C, G> {
+    /// Serves the next link of a door, and gives it back.
+    fn serve_one<Dr: Door>(
+        &self,
+        pass: &mut Pass<SharedOffice<D>>,
+        inbox: &mut Inbox,
+        door: &mut Dr,
+    ) -> Result<LinkEnd, Failed>
+        requires pass { pass.old.lock ≡ self.now.lock.now }
+        requires none_out { (Dr.state door.old).given ≡ (Dr.state door.old).returned }
+        requires few { (Dr.state door.old).returned < 2 ^ 32 }
+        ensures kept { KeepsRights pass.old pass.new }
+        ensures served { IfOk result (λ end. ServesOne (AnswersCall (C.gives self.now.clock.now))
+            (Dr.state door.old)
+            (Dr.state door.new) pass.old pass.new end) }
+        ensures failed { OnErr result (HasNone (Dr.state door.old)
+            (Dr.state door.new) pass.old pass.new) }
+    {
+        let mut link = door.accept()?;
+        let end = self.serve_link(pass, inbox, &mut link);
+        door.return_link(link);
+        Ok(end)
     }
-    WorkerEnd::Done(lacks)
+
+    /// Serves so many links of a door, at most 1,000,000, one after another, with one inbox. Each goes
+    /// back to the door.
+    pub fn worker<Dr: Door>(
+        &self,
+        pass: &mut Pass<SharedOffice<D>>,
+        inbox: &mut Inbox,
+        door: &mut Dr,
+        share: u64,
+    ) -> WorkerEnd
+        requires pass { pass.old.lock ≡ self.now.lock.now }
+        requires share { share ≤ 1000000 }
+        requires none_given { (Dr.state door.old).given ≡ 0 }
+        requires none_returned { (Dr.state door.old).returned ≡ 0 }
+        ensures kept { KeepsRights pass.old pass.new }
+        ensures none_out { (Dr.state door.new).given ≡ (Dr.state door.new).returned }
+        ensures few { (Dr.state door.new).returned ≤ share }
+        ensures worked { HasWorked (AnswersCall (C.gives self.now.clock.now)) share
+            (Dr.state door.old)
+            (Dr.state door.new) pass.old pass.new result }
+    {
+        let mut lacks = 0;
+        for _served in 0..share {
+            match self.serve_one(pass, inbox, door) {
+                Ok(end) => lacks += lack_of(end),
+                Err(Failed) => return WorkerEnd::PortFault,
+            }
+        }
+        WorkerEnd::Done(lacks)
+    }
 }

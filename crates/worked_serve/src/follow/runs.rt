@@ -4,7 +4,7 @@ ghost use Rattle.desk_links.specs.LinkMemory.{IsUntouched};
 
 use crate::follow::given::Given;
 use desk_links::{MemDialer, MemLink};
-use desk_traits::MemSink;
+use byte_streams::MemSink;
 use follow_links::follow_run;
 use hazard_types::{List, Oom, Text};
 use std::alloc::Global;

@@ -8,7 +8,7 @@ use crate::serve::gate::HoldingGate;
 use crate::serve::given::Given;
 use desk_commands::Ended;
 use desk_links::{MemLink, MemPort};
-use desk_traits::MemSink;
+use byte_streams::MemSink;
 use hazard_types::{List, Oom, Text};
 use serve_command::{Serving, run_serve};
 use std::alloc::Global;

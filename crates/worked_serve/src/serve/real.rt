@@ -10,7 +10,7 @@ use crate::serve::ports::add_output;
 use crate::serve::words::serving_in;
 use desk_commands::Ended;
 use desk_links::{Dialer, Peer, Port, TcpDialer, TcpDoor, TcpPeer, TcpPort};
-use desk_traits::{MemSink, write_whole};
+use byte_streams::{MemSink, write_whole};
 use hazard_types::{List, Oom, Text};
 use serve_command::{Serving, run_serve};
 use std::alloc::Global;

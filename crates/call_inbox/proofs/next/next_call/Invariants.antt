@@ -1,5 +1,6 @@
-use Rattle.std.proofs.Common.{◌≡◌, ◌≤◌, ◌-◌, length}
+use Rattle.std.proofs.Common.{◌≡◌, ◌≤◌, ◌-◌, length, take}
 use Rattle.call_inbox.specs.Reading.{HasRead}
+use Rattle.call_inbox.specs.Watching.{Waits}
 use Rattle.call_inbox.proofs.next.next_call.Given as goal
 
 -- what was read so far stands in the inbox, and nothing else has changed
@@ -9,6 +10,7 @@ invariant-loop-next g l =
     record {
       read : HasRead l.fn.inbox l.inbox (state l.fn.link) (state l.link);
       seen : l.watch.seen ≤ length l.inbox;
+      waits : Waits l.watch.from l.watch.by_line (take l.watch.seen l.inbox);
       steady : (state l.link).input.faults ≡ (state l.fn.link).input.faults;
     }
 

@@ -7,8 +7,8 @@ abbrev pub invariant-loop-turn : goal.invariant-loop-turn
 invariant-loop-turn g l =
     let source = g.S.Source in
     record {
-      ran : Ran l.asked l.tally (source.left l.fn.input) (source.left l.input) l.feed l.total;
+      ran : Ran l.asked l.tally (source.inflow l.fn.input).left (source.inflow l.input).left l.feed l.total;
       within : l.total ≤ l.limit;
       turns : l._turn ≤ l.total;
-      steady : source.faults l.input ≡ source.faults l.fn.input;
+      steady : (source.inflow l.input).faults ≡ (source.inflow l.fn.input).faults;
     }

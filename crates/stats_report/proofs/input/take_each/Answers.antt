@@ -3,7 +3,7 @@ use Rattle.stats_report.proofs.Taking.{looped_none, looped_next}
 use Rattle.stats_report.proofs.input.take_each.Goals as goal
 
 pub loop-more-init : goal.loop-more-init
-loop-more-init c = record { looped = looped_none c.args.asked.now c.args.feed.now c.args.tally.now c.requires.kept c.requires.own }
+loop-more-init c = record { looped = looped_none c.args.asked.now c.args.feed.now c.args.tally.now }
 
 pub loop-more-preserved : goal.loop-more-preserved
 loop-more-preserved c =

@@ -7,7 +7,7 @@ use Rattle.stats_report.proofs.Folding.{text_told}
 use Rattle.stats_report.proofs.lines.text_of.Goals as goal
 
 pub returns : goal.returns
-returns c =
+returns c = λ stamp products kept.
     let tally = c.args.tally.now in
     let totals = c.in_ok-totals.totals in
     let hs = c.in_ok-hazards.hazards.keys in
@@ -22,4 +22,4 @@ returns c =
     c.in_ok-put_end.ensures
     ∙ ap (λ (t : List ℕ). t ++ end) (c.in_ok-put_zones.ensures ∙ ap (λ (t : List ℕ). t ++ second) (c.in_ok-put_hazards.ensures ∙ ap (λ (t : List ℕ). t ++ first) c.new-out.ensures))
     ∙ append_assoc first second end
-    ∙ text_told tally.stamp tally.reader.products tally.standing.entries c.requires.counted totals tally.opened total c.requires.opened hs zs tally.faults hs_are zs_are
+    ∙ text_told stamp products tally.standing.entries kept.counted totals tally.opened total kept.opened hs zs tally.faults hs_are zs_are

@@ -1,0 +1,67 @@
+//! The program `warn_stats`.
+ghost use Rattle.std.specs.Prelude.{◌≡◌};
+ghost use Rattle.std.specs.Process.{exit_status};
+ghost use Rattle.byte_streams.specs.Flows.{streams};
+ghost use Rattle.program_ends.specs.Lines.{most_bytes};
+ghost use Rattle.program_outside.specs.Starts.{IsUsageShown, Runs};
+ghost use Rattle.stats_report.specs.Runs.{DoesAsAsked};
+
+use crate::stats::stats_within;
+use byte_streams::{Sink, Source};
+use hazard_types::{List, Text};
+use program_ends::{End, LIMIT};
+use program_outside::Outside;
+use std::alloc::Global;
+use std::process::ExitCode;
+
+/// The words that the program takes.
+const USAGE: &str = "warn_stats OFFICE CLASS STAMP\n";
+
+/// Does what the words say, with an input of at most 1,073,741,824 bytes, and returns the status of
+/// the program.
+pub fn stats_run<S: Source, K: Sink>(
+    alloc: Global,
+    words: &List<Text>,
+    input: &mut S,
+    output: &mut K,
+) -> u8
+    ensures { DoesAsAsked words.now most_bytes
+        (streams (S.inflow input.old) (K.outflow output.old))
+        (streams (S.inflow input.new) (K.outflow output.new)) result }
+{
+    stats_within(alloc, words, input, output, LIMIT)
+}
+
+/// Does what the words behind the program's name say. Where memory ran out for them, the status is
+/// 12, and nothing is read or written.
+fn run_words<S: Source, K: Sink, M>(outside: &mut Outside<S, K, M>) -> u8
+    ensures ran { Runs outside.old.words (λ words. DoesAsAsked words most_bytes)
+        (streams (S.inflow outside.old.input) (K.outflow outside.old.output))
+        (streams (S.inflow outside.new.input) (K.outflow outside.new.output)) result }
+    ensures silent { outside.new.messages ≡ outside.old.messages }
+{
+    match outside.given(1) {
+        Ok(words) => stats_run(
+            outside.alloc,
+            &words,
+            &mut outside.input,
+            &mut outside.output,
+        ),
+        Err(_) => End::OutOfMemory.status(),
+    }
+}
+
+/// The whole program: does what its command line says with its input and its output, and ends with
+/// the status of that run.
+pub fn run_program<S: Source, K: Sink, M: Sink>(outside: &mut Outside<S, K, M>) -> ExitCode
+    ensures ran { Runs outside.old.words (λ words. DoesAsAsked words most_bytes)
+        (streams (S.inflow outside.old.input) (K.outflow outside.old.output))
+        (streams (S.inflow outside.new.input) (K.outflow outside.new.output))
+        (exit_status result) }
+    ensures usage { IsUsageShown USAGE.now (exit_status result) (M.outflow outside.old.messages)
+        (M.outflow outside.new.messages) }
+{
+    let status = run_words(outside);
+    outside.show_usage(status, USAGE);
+    ExitCode::from(status)
+}
