@@ -7,9 +7,9 @@ ghost use Rattle.serve_command.specs.Words.{IsServing};
 
 use crate::growing::an_opened_office_keeps_its_history;
 use crate::words::Serving;
+use byte_streams::Sink;
 use desk_commands::{Ended, open};
 use desk_links::{Gate, Port};
-use byte_streams::Sink;
 use desk_traits::{Clock, Disk};
 use hazard_types::{List, Oom, Text, put_number};
 use office_journal::KeptOffice;

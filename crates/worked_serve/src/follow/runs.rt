@@ -3,8 +3,8 @@ ghost use Rattle.std.specs.Prelude.{◌≤◌, All, IfOk};
 ghost use Rattle.desk_links.specs.LinkMemory.{IsUntouched};
 
 use crate::follow::given::Given;
-use desk_links::{MemDialer, MemLink};
 use byte_streams::MemSink;
+use desk_links::{MemDialer, MemLink};
 use follow_links::follow_run;
 use hazard_types::{List, Oom, Text};
 use std::alloc::Global;
