@@ -1,4 +1,5 @@
 mod Lawful
+mod Opening
 mod Portless
 mod Promising
 mod Served
