@@ -6,6 +6,7 @@ use Rattle.byte_streams.proofs.Pieces.{takes_both}
 use Rattle.event_life.specs.Products.{Product}
 use Rattle.product_decoder.specs.Decoded.{decode}
 use Rattle.product_decoder.specs.Feeding.{Fed, products_in}
+use Rattle.program_ends.specs.declared.reading.Stop.{Stop}
 use Rattle.program_ends.specs.declared.reading.Stop.TheVariants as stop
 use Rattle.archive_report.specs.declared.words.Asked.{Asked}
 use Rattle.archive_report.specs.Report.{products_of}
