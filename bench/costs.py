@@ -2,10 +2,12 @@
 
     python3 bench/costs.py [NAMES..] [--beside FOLDER]
 
-NAMES are those of the measurements below (all where none is given): live, random, drill, year, script, long, counties, joins, single.
+NAMES are those of the measurements below (all where none is given): live, random, drill, year, script, long, counties, joins,
+single, look, links.
 FOLDER has another `warn_main` and `watch_notice`, which are given the same words, and for `year` a program
 `year PRODUCTS ZONES SEED`, which writes a journal.
-Seconds are of processor time, the least of three runs. Growth is the exponent between the two largest sizes.
+Seconds are of processor time, the least of three runs. Growth is the exponent between the two largest sizes. `links` is
+bench/links.py, over crates/worked_serve as built last.
 """
 import datetime
 import json
@@ -13,11 +15,15 @@ import math
 import os
 import random
 import shutil
+import socket
 import subprocess
 import sys
 import tempfile
+import time
 
+import links
 from measure import beside, program, run
+from serve import call, free_port, get
 
 STAMP = "180103T1530Z"
 START = datetime.datetime(2018, 1, 3, 15, 30)
@@ -172,6 +178,61 @@ def long_draft(measured, folder):
                  lines_of(asked + [{"desk": "A", "seq": 66, "do": "send", "draft": 1}] * 20), fresh(folder))
 
 
+def office_of(path, folder, products):
+    """The journal of an office with so many products. The last ten have ten zones each and stand, so that its board has a hundred
+    lines; each event before them was cancelled by the product behind its own."""
+    journal = fresh(folder)(path)[0]
+    ends = (datetime.datetime.now(datetime.timezone.utc) + datetime.timedelta(hours=20)).strftime("%y%m%dT%H%MZ")
+    year = datetime.datetime.now(datetime.timezone.utc).year
+    asked = []
+    for number in range((products - 10) // 2):
+        zones = [zone(number % 1800)]
+        asked.append(issue("WS.W", zones, "now", ends))
+        asked.append({"do": "open", "category": "WSW"})
+        asked.append({"do": "end", "draft": number + 1, "event": "WS.W.%04d.%04d" % (number + 1, year), "zones": zones})
+        asked.append({"do": "send", "draft": number + 1})
+    for number in range(10):
+        asked.append(issue("WI.Y", [zone(1800 + 10 * number + n) for n in range(10)], "now", ends))
+    given = lines_of([dict(it, desk="A", seq=n + 1) for n, it in enumerate(asked)])
+    told = subprocess.run([path, journal, "script"], input=given, stdout=subprocess.PIPE, check=True).stdout
+    if told.count(b'"ok"') != len(asked):
+        raise SystemExit("of %d requests %d were accepted" % (len(asked), told.count(b'"ok"')))
+    return journal
+
+
+def served(path, journal, calls):
+    """Seconds of the processor that a server takes from its start over so many boards that one link asks for, and their lines."""
+    port = free_port()
+    words = ["serve", "--port", str(port), "--workers", "1", "--connections", "1"]
+    work = subprocess.Popen([path, journal] + words, stdin=subprocess.DEVNULL, stdout=subprocess.DEVNULL)
+    link, held, lines = None, b"", 0
+    while link is None:
+        try:
+            link = socket.create_connection(("127.0.0.1", port))
+        except OSError:
+            time.sleep(0.02)
+    for _ in range(calls):
+        status, body, held = call(link, held, get("/board"))
+        lines = body.count(b"\n") if status == 200 else -1
+    link.close()
+    _, ended, usage = os.wait4(work.pid, 0)
+    work.returncode = os.waitstatus_to_exitcode(ended)
+    return usage.ru_utime + usage.ru_stime, lines
+
+
+def look(paths, folder, calls=4000):
+    """`GET /board` of a hundred lines, on an office of ten products and on one of eight thousand."""
+    for path in paths:
+        each = []
+        for products in (10, 8000):
+            journal = office_of(path, folder, products)
+            none = min(served(path, journal, 0)[0] for _ in range(3))
+            taken, lines = min(served(path, journal, calls) for _ in range(5))
+            each.append((taken - none) / calls)
+            print("%s: GET /board of %d lines after %d products: %.4f ms" % (path, lines, products, each[-1] * 1000), flush=True)
+        print("  the old office's over the young one's: %.2f" % (each[1] / each[0]), flush=True)
+
+
 def county(number):
     return "A%sC%03d" % (chr(ord("A") + number // 999), number % 999 + 1)
 
@@ -224,6 +285,8 @@ def main():
             "counties": lambda: notices(counties, (150, 300, 600), "watches in as many counties", there),
             "joins": lambda: notices(joins, (90, 180, 360), "lines that open and join watches", there),
             "single": lambda: notices(single, (1900, 7600), "counties that join one watch, a line each", there),
+            "look": lambda: look([it for it in (mine, other) if it], folder),
+            "links": lambda: links.measure(100),
         }
         for name in words or kinds:
             kinds[name]()

@@ -38,8 +38,7 @@ def seconds(path, calls, runs):
     return taken, answer.decode().splitlines()[-1]
 
 
-def main():
-    calls = int(sys.argv[1]) if len(sys.argv) > 1 else 100
+def measure(calls):
     path = program("worked_serve")
     none, _ = seconds(path, calls, ["words"])
     whole, answer = seconds(path, calls, ["tally"])
@@ -51,4 +50,4 @@ def main():
 
 
 if __name__ == "__main__":
-    main()
+    measure(int(sys.argv[1]) if len(sys.argv) > 1 else 100)

@@ -101,6 +101,31 @@ saved() {
 SAVED
 }
 
+# What no clause can say of real links: that bytes come in pieces, at which address is listened, how
+# many workers wait, and what a port that is taken, or closed, makes of a run.
+check_edges() {
+  port=$(free_port)
+  sed 's/^desks = .*/desks = ["EDGE"]/' "$here/office.toml" | warn_main edge.journal init > told || say "no office: $(cat told)"
+  start_office edge.journal 3 40
+  python3 "$here/checks/edges.py" "$port" pieces || say "a call in pieces"
+  python3 "$here/checks/edges.py" "$port" 3 || say "three workers"
+  # Only this machine's own address is listened at.
+  for address in 127.0.0.2 $(hostname -I 2> /dev/null | tr ' ' '\n' | grep '^[0-9.]*$'); do
+    curl -s -o answer --max-time 5 "http://$address:$port/board"
+    case $? in 7 | 28) ;; *) say "somebody listens at $address" ;; esac
+  done
+  # The port is taken, and the file is another program's: a fault of each, and nothing is served.
+  status 9 warn_main edge.journal serve --port "$(free_port)" --workers 1 --connections 1 > taken
+  grep -qx 'fault DiskFault' taken || say "$(cat taken)"
+  sed 's/^desks = .*/desks = ["EDGE"]/' "$here/office.toml" | warn_main other.journal init > told
+  status 10 warn_main other.journal serve --port "$port" --workers 2 --connections 1 > taken
+  grep -qx 'fault PortFault' taken || say "$(cat taken)"
+  # Nobody listens: each dial takes a round.
+  closed=$(free_port)
+  status 15 warn_follow KLWX O "$(date -u +%y%m%dT%H%MZ)" "$closed" 3 > told
+  [ "$(sed -n 1p told)" = 'place 0' ] && [ "$(sed -n '$p' told)" = 'fault RoundsSpent' ] || say "$(cat told)"
+}
+
 # Requests posted by a client that is killed at any moment, to an office that is killed too, over a
 # link that is cut: each once.
 check_once() {

@@ -1,18 +1,17 @@
 -- A whole run, once its end was told.
-use Rattle.std.proofs.Common.{◌≡◌, ◌≢◌, ◌∙◌, ◌⊎◌, inl, inr, ℕ, ◌==◌, List, [], ◌++◌, refl, ap, sym, subst, append_assoc, arith, Option, Some, Result, Ok, Err, IfOk, IfErr, OnOk}
-use Rattle.std.proofs.lemmas.Bool.{cases_Bool}
-use Rattle.std.proofs.lemmas.Bool.Decides.{nat_tests}
+use Rattle.std.proofs.Common.{◌≡◌, ◌≢◌, ◌∙◌, ◌⊎◌, inl, inr, ℕ, List, [], ◌++◌, refl, ap, sym, append_assoc, arith, Some, Result, Ok, Err, IfOk, IfErr, OnOk}
 use Rattle.desk_traits.specs.Faults.{Rose}
 use Rattle.byte_streams.specs.Flows.{Adds, Outflow, Streams, streams}
 use Rattle.byte_streams.proofs.Pieces.{adds_both}
 use Rattle.product_decoder.specs.Feeding.{products_in}
-use Rattle.program_ends.specs.Ends.{fault_line, Begins, HasWritten, Telling}
+use Rattle.program_ends.specs.Ends.{fault_line, Begins, Telling}
 use Rattle.program_ends.specs.Runs.{end_of}
 use Rattle.program_ends.specs.Steps.{IsCauseOf}
 use Rattle.program_ends.specs.declared.ends.End.{End}
 use Rattle.program_ends.specs.declared.ends.End.TheVariants.{ReadFault, WriteFault, InputTooLong, OutOfMemory}
 use Rattle.program_ends.specs.declared.reading.Stop.{Stop}
 use Rattle.program_ends.specs.declared.reading.Stop.TheVariants as stop
+use Rattle.program_ends.proofs.Finishing.{Tells, eight, has_written, no_other, told_by}
 use Rattle.program_ends.proofs.Telling.{begins_self}
 use Rattle.archive_report.specs.declared.tally.Tally.{Tally}
 use Rattle.archive_report.specs.declared.words.Asked.{Asked}
@@ -21,14 +20,8 @@ use Rattle.archive_report.specs.Report.{report, listed}
 use Rattle.archive_report.specs.Runs.{IsArchiveRun, lines_told}
 use Rattle.archive_report.proofs.Fronts.{report_told, listed_told}
 
-eight : (status : ℕ) → (status ≡ 8) ⊎ (status ≢ 8)
-eight status = elim (cases_Bool (status == 8)) [
-  | inl h ↦ inl (grind (arith, nat_tests))
-  | inr h ↦ inr (λ e. grind (arith, nat_tests))
-]
-
 -- the rest of the report, behind the lines of the products
-module _ (asked : Asked) (limit : ℕ) (tally : Tally) (left left' taken mid : Option (List ℕ)) (x : Unit {0}) (input : TellsTo asked limit left left' taken mid (ReadsAll asked tally) (Ok x)) where
+module _ (asked : Asked) (limit : ℕ) (tally : Tally) (before mid : Streams) (x : Unit {0}) (input : TellsTo asked limit before mid (ReadsAll asked tally) (Ok x)) where
   all : ReadsAll asked tally input.read input.text x
   all = input.ended.2
 
@@ -38,8 +31,8 @@ module _ (asked : Asked) (limit : ℕ) (tally : Tally) (left left' taken mid : O
   whole : input.written ++ rest_text asked tally ≡ report asked input.read
   whole = ap (λ (t : List ℕ). t ++ rest_text asked tally) lines_written ∙ report_told asked input.read tally all.0
 
-  pub ends_reported : (n : ℕ) (taken' : Option (List ℕ)) → Adds mid taken' (rest_text asked tally) → n ≡ count_listed tally → TellsTo asked limit left left' taken taken' (Reports asked) (Ok n)
-  ends_reported n taken' adds n_is = record {
+  ends_reported : (n : ℕ) (after : Outflow) → Adds mid.output.taken after.taken (rest_text asked tally) → n ≡ count_listed tally → TellsTo asked limit before (streams mid.input after) (Reports asked) (Ok n)
+  ends_reported n after adds n_is = record {
     read = input.read;
     text = report asked input.read;
     written = report asked input.read;
@@ -62,8 +55,8 @@ module _ (asked : Asked) (limit : ℕ) (tally : Tally) (left left' taken mid : O
   no_long why (inl e) h = let same : stop.OutOfMemory ≡ stop.TooLong = sym e ∙ h in cc
   no_long why (inr e) h = let same : stop.Write ≡ stop.TooLong = sym e ∙ h in cc
 
-  pub ends_halted : (why : Stop) (taken' : Option (List ℕ)) → Halts mid taken' (rest_text asked tally) why → TellsTo asked limit left left' taken taken' (Reports asked) (Err why)
-  ends_halted why taken' halts =
+  ends_halted : (why : Stop) (after : Outflow) → Halts mid.output after (rest_text asked tally) why → TellsTo asked limit before (streams mid.input after) (Reports asked) (Err why)
+  ends_halted why after halts =
       let text = input.written ++ halts.front.front in
       let begins : Begins text (report asked input.read) = (
         halts.front.begins.0,
@@ -87,22 +80,14 @@ module _ (asked : Asked) (limit : ℕ) (tally : Tally) (left left' taken mid : O
       reason : (a b : Stop) → ◌≡◌ {A = Result ℕ Stop} (Err a) (Err b) → a ≡ b
       reason a b e = cc
 
-  pub ends_rest : (taken' : Option (List ℕ)) (result : Result ℕ Stop) → OnOk result (Adds mid taken' (rest_text asked tally)) → IfOk result (λ n. n ≡ count_listed tally) → IfErr result (Halts mid taken' (rest_text asked tally))
-      → TellsTo asked limit left left' taken taken' (Reports asked) result
-  ends_rest taken' (Ok n) adds is halted = ends_reported n taken' adds is
-  ends_rest taken' (Err why) adds is halted = ends_halted why taken' halted
+  pub ends_rest : (after : Outflow) (result : Result ℕ Stop) → OnOk result (Adds mid.output.taken after.taken (rest_text asked tally)) → IfOk result (λ n. n ≡ count_listed tally) → IfErr result (Halts mid.output after (rest_text asked tally))
+      → TellsTo asked limit before (streams mid.input after) (Reports asked) result
+  ends_rest after (Ok n) adds is halted = ends_reported n after adds is
+  ends_rest after (Err why) adds is halted = ends_halted why after halted
 
 module _ (asked : Asked) (limit : ℕ) (before after : Streams) where
-  -- what a run has written when it halts
-  pub has_told : (why : Stop) → (t : TellsTo asked limit before.input.left after.input.left before.output.taken after.output.taken (Reports asked) (Err why)) → IsCauseOf {T = ℕ} stop.Write before.output.faults after.output.faults (Err why)
-      → HasWritten t.text t.written before.output after.output (Some (end_of why))
-  has_told stop.Read t cause = record { adds = t.adds; whole = λ _. (cause.steady (λ e. absurd (cc)), t.whole (λ e. absurd (cc))); cut = λ e. absurd (cc) }
-  has_told stop.Write t cause = record { adds = t.adds; whole = λ no. absurd (no refl); cut = λ _. (cause.rose refl, t.begins) }
-  has_told stop.TooLong t cause = record { adds = t.adds; whole = λ _. (cause.steady (λ e. absurd (cc)), t.whole (λ e. absurd (cc))); cut = λ e. absurd (cc) }
-  has_told stop.OutOfMemory t cause = record { adds = t.adds; whole = λ _. (cause.steady (λ e. absurd (cc)), t.whole (λ e. absurd (cc))); cut = λ e. absurd (cc) }
-
   -- a run that told the whole report
-  pub run_whole : (n status : ℕ) → TellsTo asked limit before.input.left after.input.left before.output.taken after.output.taken (Reports asked) (Ok n) → after.input.faults ≡ before.input.faults → after.output.faults ≡ before.output.faults
+  pub run_whole : (n status : ℕ) → TellsTo asked limit before after (Reports asked) (Ok n) → after.input.faults ≡ before.input.faults → after.output.faults ≡ before.output.faults
       → ((status ≡ 0) × (n ≡ 0)) ⊎ ((status ≡ 3) × (n ≢ 0)) → IsArchiveRun asked limit before after status
   run_whole n status t read_steady write_steady which =
       let done : Reports asked t.read t.text n = t.ended.2 in
@@ -142,13 +127,10 @@ no_good : (status own : ℕ) → (status ≢ 8 → status ≡ own) → own ≢ 0
 no_good status own told p q (inl e) = p (sym (told (λ h. omega (arith, e, h))) ∙ e)
 no_good status own told p q (inr e) = q (sym (told (λ h. omega (arith, e, h))) ∙ e)
 
-no_other : (status own k : ℕ) → (status ≢ 8 → status ≡ own) → own ≢ k → k ≢ 8 → status ≡ k → ⊥
-no_other status own k told p q e = p (sym (told (λ h. q (sym e ∙ h))) ∙ e)
-
 module _ (asked : Asked) (limit : ℕ) (before after : Streams) (mid : Outflow) (status : ℕ) where
   -- a run that ended early, for each reason
 
-  read_failed : (t : TellsTo asked limit before.input.left after.input.left before.output.taken mid.taken (Reports asked) (Err stop.Read)) → Rose before.input.faults after.input.faults → Telling t.text before.output after.output (Some ReadFault) status → IsArchiveRun asked limit before after status
+  read_failed : (t : TellsTo asked limit before (streams after.input mid) (Reports asked) (Err stop.Read)) → Rose before.input.faults after.input.faults → Telling t.text before.output after.output (Some ReadFault) status → IsArchiveRun asked limit before after status
   read_failed t rose telling =
       let own : status ≢ 8 → status ≡ 7 = λ no. (telling.told.others no).0 in
       record {
@@ -167,7 +149,7 @@ module _ (asked : Asked) (limit : ℕ) (before after : Streams) (mid : Outflow) 
         others = elim (eight status) [ inl h ↦ inr (inr (inr (inl h))) | inr h ↦ inr (inr (inl (own h))) ];
       }
 
-  too_long : (t : TellsTo asked limit before.input.left after.input.left before.output.taken mid.taken (Reports asked) (Err stop.TooLong)) → after.input.faults ≡ before.input.faults → Telling t.text before.output after.output (Some InputTooLong) status → IsArchiveRun asked limit before after status
+  too_long : (t : TellsTo asked limit before (streams after.input mid) (Reports asked) (Err stop.TooLong)) → after.input.faults ≡ before.input.faults → Telling t.text before.output after.output (Some InputTooLong) status → IsArchiveRun asked limit before after status
   too_long t steady telling =
       let own : status ≢ 8 → status ≡ 13 = λ no. (telling.told.others no).0 in
       record {
@@ -186,7 +168,7 @@ module _ (asked : Asked) (limit : ℕ) (before after : Streams) (mid : Outflow) 
         others = elim (eight status) [ inl h ↦ inr (inr (inr (inl h))) | inr h ↦ inr (inr (inr (inr (inr (own h))))) ];
       }
 
-  no_memory : (t : TellsTo asked limit before.input.left after.input.left before.output.taken mid.taken (Reports asked) (Err stop.OutOfMemory)) → after.input.faults ≡ before.input.faults → Telling t.text before.output after.output (Some OutOfMemory) status → IsArchiveRun asked limit before after status
+  no_memory : (t : TellsTo asked limit before (streams after.input mid) (Reports asked) (Err stop.OutOfMemory)) → after.input.faults ≡ before.input.faults → Telling t.text before.output after.output (Some OutOfMemory) status → IsArchiveRun asked limit before after status
   no_memory t steady telling =
       let own : status ≢ 8 → status ≡ 12 = λ no. (telling.told.others no).0 in
       record {
@@ -205,7 +187,7 @@ module _ (asked : Asked) (limit : ℕ) (before after : Streams) (mid : Outflow) 
         others = elim (eight status) [ inl h ↦ inr (inr (inr (inl h))) | inr h ↦ inr (inr (inr (inr (inl (own h))))) ];
       }
 
-  write_failed : (t : TellsTo asked limit before.input.left after.input.left before.output.taken mid.taken (Reports asked) (Err stop.Write)) → after.input.faults ≡ before.input.faults → Telling t.text before.output after.output (Some WriteFault) status → IsArchiveRun asked limit before after status
+  write_failed : (t : TellsTo asked limit before (streams after.input mid) (Reports asked) (Err stop.Write)) → after.input.faults ≡ before.input.faults → Telling t.text before.output after.output (Some WriteFault) status → IsArchiveRun asked limit before after status
   write_failed t steady telling =
       let own : status ≢ 8 → status ≡ 8 = λ no. (telling.told.others no).0 in
       let is : status ≡ 8 = elim (eight status) [ inl h ↦ h | inr h ↦ own h ] in
@@ -225,7 +207,7 @@ module _ (asked : Asked) (limit : ℕ) (before after : Streams) (mid : Outflow) 
         others = inr (inr (inr (inl is)));
       }
 
-  pub run_halted : (why : Stop) (t : TellsTo asked limit before.input.left after.input.left before.output.taken mid.taken (Reports asked) (Err why)) → IsCauseOf {T = ℕ} stop.Read before.input.faults after.input.faults (Err why) → Telling t.text before.output after.output (Some (end_of why)) status
+  pub run_halted : (why : Stop) (t : TellsTo asked limit before (streams after.input mid) (Reports asked) (Err why)) → IsCauseOf {T = ℕ} stop.Read before.input.faults after.input.faults (Err why) → Telling t.text before.output after.output (Some (end_of why)) status
       → IsArchiveRun asked limit before after status
   run_halted stop.Read t cause telling = read_failed t (cause.rose refl) telling
   run_halted stop.Write t cause telling = write_failed t (cause.steady (λ e. absurd (cc))) telling
@@ -258,11 +240,10 @@ module _ (asked : Asked) (limit : ℕ) (before after : Streams) (status : ℕ) (
       some (inr (inr (inr (inr (inr h))))) = inr (inr (inr h))
 
 -- a run that halted, once its end was told
-pub run_ended : (asked : Asked) (limit : ℕ) (before after : Streams) (mid : Outflow) (status : ℕ) (why : Stop) (end : End) → TellsTo asked limit before.input.left after.input.left before.output.taken mid.taken (Reports asked) (Err why) → IsCauseOf {T = ℕ} stop.Read before.input.faults after.input.faults (Err why) → IsCauseOf {T = ℕ} stop.Write before.output.faults mid.faults (Err why)
+pub run_ended : (asked : Asked) (limit : ℕ) (before after : Streams) (mid : Outflow) (status : ℕ) (why : Stop) (end : End) → TellsTo asked limit before (streams after.input mid) (Reports asked) (Err why) → IsCauseOf {T = ℕ} stop.Read before.input.faults after.input.faults (Err why) → IsCauseOf {T = ℕ} stop.Write before.output.faults mid.faults (Err why)
     → end ≡ end_of why
-    → ((begun : Outflow) (defined written : List ℕ) → HasWritten defined written begun mid (Some end) → Telling defined begun after.output (Some end) status)
+    → Tells mid after.output (Some end) status
     → IsArchiveRun asked limit before after status
 run_ended asked limit before after mid status why end t read write is tells =
-    let has = has_told asked limit before (streams after.input mid) why t write in
-    let told = tells before.output t.text t.written (subst (λ (e : End). HasWritten t.text t.written before.output mid (Some e)) (sym is) has) in
-    run_halted asked limit before after mid status why t read (subst (λ (e : End). Telling t.text before.output after.output (Some e) status) is told)
+    let has = has_written {T = ℕ} (Err why) t.text t.written before.output mid t.adds t.begins t.whole write in
+    run_halted asked limit before after mid status why t read (told_by why end t.text t.written before.output mid after.output status has is tells)

@@ -1,6 +1,6 @@
 -- How a report is told piece by piece.
 use Rattle.std.specs.Prelude.{◌≡◌, ◌≤◌, ◌⊎◌, ℕ, ◌+◌, ◌++◌, true, false, List, [], length, map, take, Option, Result, IfOk, IsErrOf}
-use Rattle.byte_streams.specs.Flows.{Takes, Adds, IsAtEnd}
+use Rattle.byte_streams.specs.Flows.{Takes, Adds, IsAtEnd, Outflow, Streams}
 use Rattle.event_life.specs.Products.{rows_of}
 use Rattle.event_life.specs.Shown.{shown_at}
 use Rattle.product_decoder.specs.Decoded.{decode}
@@ -64,13 +64,13 @@ pub record TellsEach (asked : Asked) (old new : Fed) (tally tally' : Tally) (out
   pub told : out' ≡ out ++ product_lines asked (tally.count + 1) (map decode texts)
 
 -- and their lines were written
-abbrev pub TellsPiece : Asked → Fed → Fed → Tally → Tally → Option (List ℕ) → Option (List ℕ) → Type 0
-TellsPiece asked old new tally tally' taken taken' = (out : List ℕ) × TellsEach asked old new tally tally' [] out × Adds taken taken' out
+abbrev pub TellsPiece : Asked → Fed → Fed → Tally → Tally → Outflow → Outflow → Type 0
+TellsPiece asked old new tally tally' before after = (out : List ℕ) × TellsEach asked old new tally tally' [] out × Adds before.taken after.taken out
 
 -- nothing was written where memory lacked, and a front of the lines where a write failed
-pub record HaltsPiece (asked : Asked) (old : Fed) (tally : Tally) (taken taken' : Option (List ℕ)) (why : Stop) : Type 0 where
-  pub no_memory : why ≡ stop.OutOfMemory → taken' ≡ taken
-  pub write_fault : why ≡ stop.Write → (new : Fed) × (tally' : Tally) × (out : List ℕ) × TellsEach asked old new tally tally' [] out × AddsFront taken taken' out
+pub record HaltsPiece (asked : Asked) (old : Fed) (tally : Tally) (before after : Outflow) (why : Stop) : Type 0 where
+  pub no_memory : why ≡ stop.OutOfMemory → after.taken ≡ before.taken
+  pub write_fault : why ≡ stop.Write → (new : Fed) × (tally' : Tally) × (out : List ℕ) × TellsEach asked old new tally tally' [] out × AddsFront before.taken after.taken out
   pub reasons : (why ≡ stop.OutOfMemory) ⊎ (why ≡ stop.Write)
 
 -- a tally of these products
@@ -82,17 +82,17 @@ pub record IsTallied (asked : Asked) (readings : List (Result Decoded FrameFault
   pub faults : tally.faults ≡ faults_in readings
 
 -- A run until it ends, well or for a reason: what was read, the text that was to be written, and what was written of it.
-pub record TellsTo {T : Type 0} (asked : Asked) (limit : ℕ) (left left' taken taken' : Option (List ℕ)) (done : List ℕ → List ℕ → T → Type 0) (result : Result T Stop) : Type 0 where
+pub record TellsTo {T : Type 0} (asked : Asked) (limit : ℕ) (before after : Streams) (done : List ℕ → List ℕ → T → Type 0) (result : Result T Stop) : Type 0 where
   pub read : List ℕ
   pub text : List ℕ
   pub written : List ℕ
-  pub takes : Takes left left' read
-  pub adds : Adds taken taken' written
+  pub takes : Takes before.input.left after.input.left read
+  pub adds : Adds before.output.taken after.output.taken written
   pub within : length read ≤ limit + 1
-  pub ended : IfOk result (λ (x : T). IsAtEnd left' × (length read ≤ limit) × done read text x)
+  pub ended : IfOk result (λ (x : T). IsAtEnd after.input.left × (length read ≤ limit) × done read text x)
   pub read_fault : IsErrOf result stop.Read → (length read ≤ limit) × IsFinishedTold asked read text
   pub too_long : IsErrOf result stop.TooLong → (length read ≡ limit + 1) × IsFinishedTold asked (take limit read) text
-  pub front : IsFront asked limit read left' text
+  pub front : IsFront asked limit read after.input.left text
   pub begins : Begins written text
   pub whole : (IsErrOf result stop.Write → ⊥) → written ≡ text
 
@@ -101,14 +101,14 @@ abbrev pub ReadsAll : Asked → Tally → List ℕ → List ℕ → Unit {0} →
 ReadsAll asked tally read text x = IsTallied asked (map decode (products_in read)) tally × (text ≡ lines_told asked (products_in read)) × (length (products_in read) ≤ length read)
 
 -- some of what waited, and of the text behind it, was written, and the rest waits
-pub record Pages (taken taken' : Option (List ℕ)) (out out' text : List ℕ) : Type 0 where
+pub record Pages (before after : Outflow) (out out' text : List ℕ) : Type 0 where
   pub written : List ℕ
-  pub adds : Adds taken taken' written
+  pub adds : Adds before.taken after.taken written
   pub whole : written ++ out' ≡ out ++ text
 
 -- a front of the text was written, until memory lacked or a write failed
-pub record Halts (taken taken' : Option (List ℕ)) (text : List ℕ) (why : Stop) : Type 0 where
-  pub front : AddsFront taken taken' text
+pub record Halts (before after : Outflow) (text : List ℕ) (why : Stop) : Type 0 where
+  pub front : AddsFront before.taken after.taken text
   pub reasons : (why ≡ stop.OutOfMemory) ⊎ (why ≡ stop.Write)
 
 -- the report was told, and so many faults, breaches and gaps are listed

@@ -14,7 +14,8 @@ use std::alloc::Global;
 /// The status of a report that lists something.
 const LISTED: u8 = 3;
 
-/// Does what the words say, with an input of at most `limit` bytes, and returns the status of the program.
+/// Does what the words say, with an input of at most `limit` bytes, and returns the status of the
+/// program.
 pub fn archive_within<S: Source, K: Sink>(
     alloc: Global,
     words: &List<Text>,

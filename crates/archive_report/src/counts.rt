@@ -23,7 +23,8 @@ fn count_by(asked: &Asked, pairs: &[Pair]) -> usize
     count
 }
 
-/// A count and one of so many pairs for each zone. It never wraps: zones and pairs of a text that memory holds are far too few.
+/// A count and one of so many pairs for each zone. It never wraps: zones and pairs of a text that
+/// memory holds are far too few.
 fn count_with(count: usize, zones: usize, pairs: usize) -> Result<usize, Oom>
     ensures { IfOk result (λ n. n ≡ count + zones * pairs) }
 {
@@ -54,7 +55,8 @@ fn count_in(asked: &Asked, segments: &[FrameSegment]) -> Result<usize, Oom>
 ///
 /// Out of memory where the count would wrap, which it never does.
 pub fn count_by_frame(asked: &Asked, frame: &Frame) -> Result<usize, Oom>
-    ensures { IfOk result (λ count. count ≡ length (said_by asked.now.office asked.now.class (decoded_of frame.now).pairs)) }
+    ensures { IfOk result (λ count. count
+        ≡ length (said_by asked.now.office asked.now.class (decoded_of frame.now).pairs)) }
 {
     count_in(asked, frame.segments.as_slice())
 }

@@ -53,9 +53,12 @@ pub fn tell_entries<E: Entry, K: Sink>(
     output: &mut K,
     entries: &[E],
 ) -> Result<(), Stop>
-    ensures told { OnOk result (Pages (K.outflow output.old).taken (K.outflow output.new).taken out.old out.new (flat_map E.line entries.now)) }
-    ensures halted { IfErr result (Halts (K.outflow output.old).taken (K.outflow output.new).taken (out.old ++ flat_map E.line entries.now)) }
-    ensures cause { IsCauseOf Stop.Write (K.outflow output.old).faults (K.outflow output.new).faults result }
+    ensures told { OnOk result (Pages (K.outflow output.old) (K.outflow output.new)
+        out.old out.new (flat_map E.line entries.now)) }
+    ensures halted { IfErr result (Halts (K.outflow output.old) (K.outflow output.new)
+        (out.old ++ flat_map E.line entries.now)) }
+    ensures cause { IsCauseOf Stop.Write
+        (K.outflow output.old).faults (K.outflow output.new).faults result }
 {
     for entry in entries {
         entry.put(alloc, out)?;

@@ -30,9 +30,12 @@ fn tell_life<K: Sink>(
     last: &mut LastLife,
     life: &Track,
 ) -> Result<(), Stop>
-    ensures told { OnOk result (Pages (K.outflow output.old).taken (K.outflow output.new).taken out.old out.new (life_line life.now)) }
-    ensures halted { IfErr result (Halts (K.outflow output.old).taken (K.outflow output.new).taken (out.old ++ life_line life.now)) }
-    ensures cause { IsCauseOf Stop.Write (K.outflow output.old).faults (K.outflow output.new).faults result }
+    ensures told { OnOk result (Pages (K.outflow output.old) (K.outflow output.new)
+        out.old out.new (life_line life.now)) }
+    ensures halted { IfErr result (Halts (K.outflow output.old) (K.outflow output.new)
+        (out.old ++ life_line life.now)) }
+    ensures cause { IsCauseOf Stop.Write
+        (K.outflow output.old).faults (K.outflow output.new).faults result }
 {
     last.put(alloc, out, life)?;
     turn(alloc, out, output)
@@ -45,9 +48,12 @@ fn tell_event<K: Sink>(
     output: &mut K,
     event: &EventLives,
 ) -> Result<(), Stop>
-    ensures told { OnOk result (Pages (K.outflow output.old).taken (K.outflow output.new).taken out.old out.new (lives_text event.now)) }
-    ensures halted { IfErr result (Halts (K.outflow output.old).taken (K.outflow output.new).taken (out.old ++ lives_text event.now)) }
-    ensures cause { IsCauseOf Stop.Write (K.outflow output.old).faults (K.outflow output.new).faults result }
+    ensures told { OnOk result (Pages (K.outflow output.old) (K.outflow output.new)
+        out.old out.new (lives_text event.now)) }
+    ensures halted { IfErr result (Halts (K.outflow output.old) (K.outflow output.new)
+        (out.old ++ lives_text event.now)) }
+    ensures cause { IsCauseOf Stop.Write
+        (K.outflow output.old).faults (K.outflow output.new).faults result }
 {
     let lives = event.tracks(alloc)?;
     let mut last = LastLife::none(alloc);
@@ -64,9 +70,12 @@ fn tell_events<K: Sink>(
     output: &mut K,
     events: &[EventLives],
 ) -> Result<(), Stop>
-    ensures told { OnOk result (Pages (K.outflow output.old).taken (K.outflow output.new).taken out.old out.new (flat_map lives_text events.now)) }
-    ensures halted { IfErr result (Halts (K.outflow output.old).taken (K.outflow output.new).taken (out.old ++ flat_map lives_text events.now)) }
-    ensures cause { IsCauseOf Stop.Write (K.outflow output.old).faults (K.outflow output.new).faults result }
+    ensures told { OnOk result (Pages (K.outflow output.old) (K.outflow output.new)
+        out.old out.new (flat_map lives_text events.now)) }
+    ensures halted { IfErr result (Halts (K.outflow output.old) (K.outflow output.new)
+        (out.old ++ flat_map lives_text events.now)) }
+    ensures cause { IsCauseOf Stop.Write
+        (K.outflow output.old).faults (K.outflow output.new).faults result }
 {
     for event in events {
         tell_event(alloc, out, output, event)?;
@@ -81,9 +90,12 @@ fn tell_lives<K: Sink>(
     output: &mut K,
     reader: &Reader,
 ) -> Result<(), Stop>
-    ensures told { OnOk result (Pages (K.outflow output.old).taken (K.outflow output.new).taken out.old out.new (flat_map life_line (lives_of reader.now.products))) }
-    ensures halted { IfErr result (Halts (K.outflow output.old).taken (K.outflow output.new).taken (out.old ++ flat_map life_line (lives_of reader.now.products))) }
-    ensures cause { IsCauseOf Stop.Write (K.outflow output.old).faults (K.outflow output.new).faults result }
+    ensures told { OnOk result (Pages (K.outflow output.old) (K.outflow output.new)
+        out.old out.new (flat_map life_line (lives_of reader.now.products))) }
+    ensures halted { IfErr result (Halts (K.outflow output.old) (K.outflow output.new)
+        (out.old ++ flat_map life_line (lives_of reader.now.products))) }
+    ensures cause { IsCauseOf Stop.Write
+        (K.outflow output.old).faults (K.outflow output.new).faults result }
 {
     let events = reader.lives_by_event(alloc)?;
     tell_events(alloc, out, output, events.as_slice())
@@ -98,9 +110,12 @@ fn tell_breaches<K: Sink>(
     breaches: &[Found],
 ) -> Result<(), Stop>
     requires { All (IsNumbered (length numbers.now)) breaches.now }
-    ensures told { OnOk result (Pages (K.outflow output.old).taken (K.outflow output.new).taken out.old out.new (flat_map (breach_line numbers.now) breaches.now)) }
-    ensures halted { IfErr result (Halts (K.outflow output.old).taken (K.outflow output.new).taken (out.old ++ flat_map (breach_line numbers.now) breaches.now)) }
-    ensures cause { IsCauseOf Stop.Write (K.outflow output.old).faults (K.outflow output.new).faults result }
+    ensures told { OnOk result (Pages (K.outflow output.old) (K.outflow output.new)
+        out.old out.new (flat_map (breach_line numbers.now) breaches.now)) }
+    ensures halted { IfErr result (Halts (K.outflow output.old) (K.outflow output.new)
+        (out.old ++ flat_map (breach_line numbers.now) breaches.now)) }
+    ensures cause { IsCauseOf Stop.Write
+        (K.outflow output.old).faults (K.outflow output.new).faults result }
 {
     for found in breaches {
         put_breach(alloc, out, numbers, found)?;
@@ -124,12 +139,16 @@ fn tell_findings<K: Sink>(
     output: &mut K,
     tally: &Tally,
 ) -> Result<usize, Stop>
-    requires numbered { All (IsNumbered (length tally.now.numbers)) (found_of tally.now.reader.products) }
+    requires numbered { All (IsNumbered (length tally.now.numbers))
+        (found_of tally.now.reader.products) }
     requires few { tally.now.faults ≤ 2000000000 }
-    ensures told { OnOk result (Pages (K.outflow output.old).taken (K.outflow output.new).taken out.old out.new (findings_text tally.now.numbers tally.now.reader.products)) }
+    ensures told { OnOk result (Pages (K.outflow output.old) (K.outflow output.new)
+        out.old out.new (findings_text tally.now.numbers tally.now.reader.products)) }
     ensures count { IfOk result (λ n. n ≡ count_listed tally.now) }
-    ensures halted { IfErr result (Halts (K.outflow output.old).taken (K.outflow output.new).taken (out.old ++ findings_text tally.now.numbers tally.now.reader.products)) }
-    ensures cause { IsCauseOf Stop.Write (K.outflow output.old).faults (K.outflow output.new).faults result }
+    ensures halted { IfErr result (Halts (K.outflow output.old) (K.outflow output.new)
+        (out.old ++ findings_text tally.now.numbers tally.now.reader.products)) }
+    ensures cause { IsCauseOf Stop.Write
+        (K.outflow output.old).faults (K.outflow output.new).faults result }
 {
     tell_lives(alloc, out, output, &tally.reader)?;
     let breaches = tally.reader.breaches(alloc)?;
@@ -153,9 +172,14 @@ fn tell_shown<K: Sink>(
     asked: &Asked,
     reader: &Reader,
 ) -> Result<(), Stop>
-    ensures told { OnOk result (Pages (K.outflow output.old).taken (K.outflow output.new).taken out.old out.new (shown_text asked.now.minute (shown_at asked.now.minute (rows_of reader.now.products)))) }
-    ensures halted { IfErr result (Halts (K.outflow output.old).taken (K.outflow output.new).taken (out.old ++ shown_text asked.now.minute (shown_at asked.now.minute (rows_of reader.now.products)))) }
-    ensures cause { IsCauseOf Stop.Write (K.outflow output.old).faults (K.outflow output.new).faults result }
+    ensures told { OnOk result (Pages (K.outflow output.old) (K.outflow output.new)
+        out.old out.new (shown_text asked.now.minute
+        (shown_at asked.now.minute (rows_of reader.now.products)))) }
+    ensures halted { IfErr result (Halts (K.outflow output.old) (K.outflow output.new)
+        (out.old ++ shown_text asked.now.minute
+        (shown_at asked.now.minute (rows_of reader.now.products)))) }
+    ensures cause { IsCauseOf Stop.Write
+        (K.outflow output.old).faults (K.outflow output.new).faults result }
 {
     let rows = reader.shown(alloc, asked.minute)?;
     put_shown(alloc, out, asked.minute, rows.len())?;
@@ -169,9 +193,12 @@ fn tell_last<K: Sink>(
     output: &mut K,
     listed: usize,
 ) -> Result<(), Stop>
-    ensures told { OnOk result (Adds (K.outflow output.old).taken (K.outflow output.new).taken (out.old ++ last_line listed)) }
-    ensures halted { IfErr result (Halts (K.outflow output.old).taken (K.outflow output.new).taken (out.old ++ last_line listed)) }
-    ensures cause { IsCauseOf Stop.Write (K.outflow output.old).faults (K.outflow output.new).faults result }
+    ensures told { OnOk result (Adds (K.outflow output.old).taken (K.outflow output.new).taken
+        (out.old ++ last_line listed)) }
+    ensures halted { IfErr result (Halts (K.outflow output.old) (K.outflow output.new)
+        (out.old ++ last_line listed)) }
+    ensures cause { IsCauseOf Stop.Write
+        (K.outflow output.old).faults (K.outflow output.new).faults result }
 {
     put_last(alloc, out, listed)?;
     flush(alloc, out, output)
@@ -187,9 +214,12 @@ fn tell_end<K: Sink>(
     listed: usize,
 ) -> Result<(), Stop>
     requires { listed ≡ count_listed tally.now }
-    ensures told { OnOk result (Adds (K.outflow output.old).taken (K.outflow output.new).taken (out.old ++ end_text asked.now tally.now)) }
-    ensures halted { IfErr result (Halts (K.outflow output.old).taken (K.outflow output.new).taken (out.old ++ end_text asked.now tally.now)) }
-    ensures cause { IsCauseOf Stop.Write (K.outflow output.old).faults (K.outflow output.new).faults result }
+    ensures told { OnOk result (Adds (K.outflow output.old).taken (K.outflow output.new).taken
+        (out.old ++ end_text asked.now tally.now)) }
+    ensures halted { IfErr result (Halts (K.outflow output.old) (K.outflow output.new)
+        (out.old ++ end_text asked.now tally.now)) }
+    ensures cause { IsCauseOf Stop.Write
+        (K.outflow output.old).faults (K.outflow output.new).faults result }
 {
     tell_shown(alloc, out, output, asked, &tally.reader)?;
     tell_last(alloc, out, output, listed)
@@ -202,12 +232,16 @@ pub fn tell_rest<K: Sink>(
     tally: &Tally,
     output: &mut K,
 ) -> Result<usize, Stop>
-    requires numbered { All (IsNumbered (length tally.now.numbers)) (found_of tally.now.reader.products) }
+    requires numbered { All (IsNumbered (length tally.now.numbers))
+        (found_of tally.now.reader.products) }
     requires few { tally.now.faults ≤ 2000000000 }
-    ensures told { OnOk result (Adds (K.outflow output.old).taken (K.outflow output.new).taken (rest_text asked.now tally.now)) }
+    ensures told { OnOk result (Adds (K.outflow output.old).taken (K.outflow output.new).taken
+        (rest_text asked.now tally.now)) }
     ensures count { IfOk result (λ n. n ≡ count_listed tally.now) }
-    ensures halted { IfErr result (Halts (K.outflow output.old).taken (K.outflow output.new).taken (rest_text asked.now tally.now)) }
-    ensures cause { IsCauseOf Stop.Write (K.outflow output.old).faults (K.outflow output.new).faults result }
+    ensures halted { IfErr result (Halts (K.outflow output.old) (K.outflow output.new)
+        (rest_text asked.now tally.now)) }
+    ensures cause { IsCauseOf Stop.Write
+        (K.outflow output.old).faults (K.outflow output.new).faults result }
 {
     let mut out = List::new(alloc);
     let listed = tell_findings(alloc, &mut out, output, tally)?;

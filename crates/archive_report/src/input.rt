@@ -1,5 +1,6 @@
 //! An input is read piece by piece.
 ghost use Rattle.std.specs.Prelude.{◌≤◌};
+ghost use Rattle.byte_streams.specs.Flows.{streams};
 ghost use Rattle.program_ends.specs.Steps.{IsCauseOf};
 ghost use Rattle.program_ends.specs.Lines.{most_bytes};
 ghost use Rattle.archive_report.specs.Pieces.{IsTally, IsFresh, TellsTo, ReadsAll};
@@ -8,13 +9,13 @@ use crate::products::tell_products;
 use crate::tally::Tally;
 use crate::words::Asked;
 use byte_streams::{Sink, Source};
-use desk_traits::Failed;
 use product_decoder::Feed;
-use program_ends::{Stop, read_front};
+use program_ends::{Pieces, Stop};
 use std::alloc::Global;
 
-/// Reads an input of at most `limit` bytes to its end, and writes the line of each product. The products that are finished within
-/// a piece are written before the next read. One byte more than the limit is read, and is no product's.
+/// Reads an input of at most `limit` bytes to its end, and writes the line of each product. The
+/// products that are finished within a piece are written before the next read. One byte more than
+/// the limit is read, and is no product's.
 pub fn tell_input<S: Source, K: Sink>(
     alloc: Global,
     asked: &Asked,
@@ -26,31 +27,22 @@ pub fn tell_input<S: Source, K: Sink>(
     requires limit { limit ≤ most_bytes }
     requires tally { IsTally asked.now tally.old }
     requires fresh { IsFresh tally.old }
-    ensures run { TellsTo asked.now limit (S.inflow input.old).left (S.inflow input.new).left (K.outflow output.old).taken (K.outflow output.new).taken (ReadsAll asked.now tally.new) result }
-    ensures read { IsCauseOf Stop.Read (S.inflow input.old).faults (S.inflow input.new).faults result }
-    ensures write { IsCauseOf Stop.Write (K.outflow output.old).faults (K.outflow output.new).faults result }
+    ensures run { TellsTo asked.now limit
+        (streams (S.inflow input.old) (K.outflow output.old))
+        (streams (S.inflow input.new) (K.outflow output.new))
+        (ReadsAll asked.now tally.new) result }
+    ensures read { IsCauseOf Stop.Read
+        (S.inflow input.old).faults (S.inflow input.new).faults result }
+    ensures write { IsCauseOf Stop.Write
+        (K.outflow output.old).faults (K.outflow output.new).faults result }
 {
     let mut feed = Feed::new(alloc);
+    let mut pieces = Pieces::up_to(limit);
     let mut buffer = [0u8; 65_536];
-    let mut total = 0usize;
-    // Each turn but the last reads a byte or more, so the turns are no more than the bytes.
-    for _turn in 0..limit + 1 {
-        let room = (limit + 1 - total).min(buffer.len());
-        let count = match read_front(input, &mut buffer, room) {
-            Ok(count) => count,
-            Err(Failed) => return Err(Stop::Read),
-        };
-        if count == 0 {
-            feed.end();
-            return tell_products(alloc, asked, &mut feed, tally, output);
-        }
-        let within = count.min(limit - total);
-        feed.push(alloc, &buffer[..within])?;
+    while let Some(count) = pieces.next(input, &mut buffer)? {
+        feed.push(alloc, &buffer[..count])?;
         tell_products(alloc, asked, &mut feed, tally, output)?;
-        if within < count {
-            return Err(Stop::TooLong);
-        }
-        total += count;
     }
-    unreachable!()
+    feed.end();
+    tell_products(alloc, asked, &mut feed, tally, output)
 }

@@ -1,5 +1,5 @@
-//! The report of an office's texts: the product lines, the lives and gaps of its events, the rows at a minute, and
-//! what breaks a rule.
+//! The report of an office's texts: the product lines, the lives and gaps of its events, the rows at
+//! a minute, and what breaks a rule.
 #![tactic(auto)]
 
 mod archive;

@@ -39,7 +39,8 @@ fn put_taken(
     number: usize,
     frame: &Frame,
 ) -> Result<(), Oom>
-    ensures { OnOk result (out.new ≡ out.old ++ taken_line asked.now number (decoded_of frame.now)) }
+    ensures { OnOk result (out.new
+        ≡ out.old ++ taken_line asked.now number (decoded_of frame.now)) }
 {
     let count = count_by_frame(asked, frame)?;
     put_title(alloc, out, number)?;
@@ -65,7 +66,8 @@ pub fn put_product(
     number: usize,
     reading: &Reading,
 ) -> Result<(), Oom>
-    ensures { OnOk result (out.new ≡ out.old ++ product_line asked.now number (said_of reading.now)) }
+    ensures { OnOk result (out.new
+        ≡ out.old ++ product_line asked.now number (said_of reading.now)) }
 {
     match reading {
         Ok(frame) => put_taken(alloc, out, asked, number, frame),

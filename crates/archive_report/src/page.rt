@@ -14,10 +14,12 @@ const ENOUGH: usize = 65_536;
 
 /// Writes what waits.
 pub fn flush<K: Sink>(alloc: Global, out: &mut Text, output: &mut K) -> Result<(), Stop>
-    ensures told { OnOk result (Pages (K.outflow output.old).taken (K.outflow output.new).taken out.old out.new []) }
+    ensures told { OnOk result (Pages (K.outflow output.old) (K.outflow output.new)
+        out.old out.new []) }
     ensures none { OnOk result (out.new ≡ []) }
-    ensures halted { IfErr result (Halts (K.outflow output.old).taken (K.outflow output.new).taken out.old) }
-    ensures cause { IsCauseOf Stop.Write (K.outflow output.old).faults (K.outflow output.new).faults result }
+    ensures halted { IfErr result (Halts (K.outflow output.old) (K.outflow output.new) out.old) }
+    ensures cause { IsCauseOf Stop.Write
+        (K.outflow output.old).faults (K.outflow output.new).faults result }
 {
     match write_whole(output, out.as_slice()) {
         Ok(()) => {
@@ -30,9 +32,11 @@ pub fn flush<K: Sink>(alloc: Global, out: &mut Text, output: &mut K) -> Result<(
 
 /// Writes what waits where it is enough.
 pub fn turn<K: Sink>(alloc: Global, out: &mut Text, output: &mut K) -> Result<(), Stop>
-    ensures told { OnOk result (Pages (K.outflow output.old).taken (K.outflow output.new).taken out.old out.new []) }
-    ensures halted { IfErr result (Halts (K.outflow output.old).taken (K.outflow output.new).taken out.old) }
-    ensures cause { IsCauseOf Stop.Write (K.outflow output.old).faults (K.outflow output.new).faults result }
+    ensures told { OnOk result (Pages (K.outflow output.old) (K.outflow output.new)
+        out.old out.new []) }
+    ensures halted { IfErr result (Halts (K.outflow output.old) (K.outflow output.new) out.old) }
+    ensures cause { IsCauseOf Stop.Write
+        (K.outflow output.old).faults (K.outflow output.new).faults result }
 {
     if out.len() < ENOUGH {
         return Ok(());

@@ -39,8 +39,10 @@ fn tell_next(
     requires tally { IsTally asked.now tally.old }
     requires few { tally.old.count < 2000000000 }
     ensures ended { feed.new.ended ≡ feed.old.ended }
-    ensures some { result ≡ Ok true → TellsNext asked.now feed.old feed.new tally.old tally.new out.old out.new }
-    ensures none { result ≡ Ok false → GivesNone feed.old feed.new × (tally.new ≡ tally.old) × (out.new ≡ out.old) }
+    ensures some { result ≡ Ok true
+        → TellsNext asked.now feed.old feed.new tally.old tally.new out.old out.new }
+    ensures none { result ≡ Ok false
+        → GivesNone feed.old feed.new × (tally.new ≡ tally.old) × (out.new ≡ out.old) }
 {
     match feed.take(alloc)? {
         Some(text) => {
@@ -63,7 +65,8 @@ fn tell_each(
 ) -> Result<(), Oom>
     requires tally { IsTally asked.now tally.old }
     requires few { tally.old.count + length feed.old.rest < 2000000000 }
-    ensures { OnOk result (TellsEach asked.now feed.old feed.new tally.old tally.new out.old out.new) }
+    ensures { OnOk result
+        (TellsEach asked.now feed.old feed.new tally.old tally.new out.old out.new) }
 {
     let mut more = true;
     while more {
@@ -82,9 +85,12 @@ pub fn tell_products<K: Sink>(
 ) -> Result<(), Stop>
     requires tally { IsTally asked.now tally.old }
     requires few { tally.old.count + length feed.old.rest < 2000000000 }
-    ensures told { OnOk result (TellsPiece asked.now feed.old feed.new tally.old tally.new (K.outflow output.old).taken (K.outflow output.new).taken) }
-    ensures halted { IfErr result (λ why. HaltsPiece asked.now feed.old tally.old (K.outflow output.old).taken (K.outflow output.new).taken why) }
-    ensures cause { IsCauseOf Stop.Write (K.outflow output.old).faults (K.outflow output.new).faults result }
+    ensures told { OnOk result (TellsPiece asked.now feed.old feed.new tally.old tally.new
+        (K.outflow output.old) (K.outflow output.new)) }
+    ensures halted { IfErr result (HaltsPiece asked.now feed.old tally.old
+        (K.outflow output.old) (K.outflow output.new)) }
+    ensures cause { IsCauseOf Stop.Write
+        (K.outflow output.old).faults (K.outflow output.new).faults result }
 {
     let mut lines = List::new(alloc);
     tell_each(alloc, asked, feed, tally, &mut lines)?;

@@ -1,5 +1,6 @@
 //! The report of an input is told as it is read.
 ghost use Rattle.std.specs.Prelude.{◌≤◌};
+ghost use Rattle.byte_streams.specs.Flows.{streams};
 ghost use Rattle.program_ends.specs.Steps.{IsCauseOf};
 ghost use Rattle.program_ends.specs.Lines.{most_bytes};
 ghost use Rattle.archive_report.specs.Pieces.{TellsTo, Reports};
@@ -12,7 +13,8 @@ use byte_streams::{Sink, Source};
 use program_ends::Stop;
 use std::alloc::Global;
 
-/// Reads an input of at most `limit` bytes to its end, and writes its report. Returns how many faults, breaches and gaps are listed.
+/// Reads an input of at most `limit` bytes to its end, and writes its report. Returns how many
+/// faults, breaches and gaps are listed.
 pub fn tell_report<S: Source, K: Sink>(
     alloc: Global,
     asked: &Asked,
@@ -21,9 +23,13 @@ pub fn tell_report<S: Source, K: Sink>(
     output: &mut K,
 ) -> Result<usize, Stop>
     requires { limit ≤ most_bytes }
-    ensures run { TellsTo asked.now limit (S.inflow input.old).left (S.inflow input.new).left (K.outflow output.old).taken (K.outflow output.new).taken (Reports asked.now) result }
-    ensures read { IsCauseOf Stop.Read (S.inflow input.old).faults (S.inflow input.new).faults result }
-    ensures write { IsCauseOf Stop.Write (K.outflow output.old).faults (K.outflow output.new).faults result }
+    ensures run { TellsTo asked.now limit
+        (streams (S.inflow input.old) (K.outflow output.old))
+        (streams (S.inflow input.new) (K.outflow output.new)) (Reports asked.now) result }
+    ensures read { IsCauseOf Stop.Read
+        (S.inflow input.old).faults (S.inflow input.new).faults result }
+    ensures write { IsCauseOf Stop.Write
+        (K.outflow output.old).faults (K.outflow output.new).faults result }
 {
     let mut tally = Tally::new(alloc, asked);
     tell_input(alloc, asked, limit, &mut tally, input, output)?;

@@ -1,5 +1,6 @@
 //! What was read from a link and not yet used.
-ghost use Rattle.std.specs.Prelude.{◌≡◌, ◌≤◌, ◌<◌, ◌+◌, ◌-◌, [], length, take, drop, IfOk, OnErr, OnOk};
+ghost use Rattle.std.specs.Prelude.{◌≡◌, ◌≤◌, ◌<◌, ◌+◌, ◌-◌, [], length};
+ghost use Rattle.std.specs.Prelude.{take, drop, IfOk, OnErr, OnOk};
 ghost use Rattle.desk_traits.specs.Faults.{HasCause};
 ghost use Rattle.byte_streams.specs.Flows.{IsAtEnd};
 ghost use Rattle.desk_links.specs.Links.{ReadsLink};
@@ -35,7 +36,8 @@ impl Model for Inbox {
 
     ghost view = { λ i. take (i.end - i.start) (drop i.start i.buffer.items) };
 
-    ghost invariant = { λ i. (i.start ≤ i.end) × (i.end ≤ 73728) × (length i.buffer.items ≡ 73728) };
+    ghost invariant = { λ i. (i.start ≤ i.end) × (i.end ≤ 73728)
+        × (length i.buffer.items ≡ 73728) };
 }
 
 impl Inbox {
@@ -85,7 +87,8 @@ impl Inbox {
         ensures read { HasRead self.old self.new (L.state link.old) (L.state link.new) }
         ensures count { IfOk result (λ n. length self.new ≡ length self.old + n) }
         ensures end { IfOk result (λ n. n ≡ 0 → IsAtEnd (L.state link.new).input.left) }
-        ensures cause { HasCause (L.state link.old).input.faults (L.state link.new).input.faults result }
+        ensures cause { HasCause (L.state link.old).input.faults (L.state link.new).input.faults
+            result }
         ensures steady { OnOk result
             ((L.state link.new).input.faults ≡ (L.state link.old).input.faults) }
         ensures unread { OnErr result (self.new ≡ self.old) }
@@ -108,7 +111,8 @@ fn places_with_room(buffer: &mut [u8], start: usize, end: usize) -> (usize, usiz
     ensures len { length buffer.new ≡ length buffer.old }
     ensures order { result.0 ≤ result.1 }
     ensures room { result.1 < length buffer.new }
-    ensures same { take (result.1 - result.0) (drop result.0 buffer.new) ≡ take (end - start) (drop start buffer.old) }
+    ensures same { take (result.1 - result.0) (drop result.0 buffer.new)
+        ≡ take (end - start) (drop start buffer.old) }
 {
     if end < buffer.len() {
         return (start, end);

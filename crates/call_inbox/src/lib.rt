@@ -1,4 +1,5 @@
-//! The bytes of one HTTP link, before the office is asked: what was read and not yet used, and the next call in it.
+//! The bytes of one HTTP link, before the office is asked: what was read and not yet used, and the
+//! next call in it.
 #![tactic(auto)]
 
 mod inbox;

@@ -1,4 +1,5 @@
-//! When the bytes of a call that came so far are worth judging, so that no head is judged for each of its bytes.
+//! When the bytes of a call that came so far are worth judging, so that no head is judged for each
+//! of its bytes.
 ghost use Rattle.std.specs.Prelude.{◌≡◌, ◌≤◌, ◌<◌, ◌+◌, [], drop, length, false, true};
 ghost use Rattle.warn_http.specs.Calls.{IsUnfinished};
 ghost use Rattle.warn_http.specs.Heads.{has_line_feed};
@@ -58,8 +59,8 @@ impl Watch {
         }
     }
 
-    /// After the unfinished start of a call: when its body is whole, or else at the next line, when the
-    /// bytes of its head have doubled, and when they are as many as a head may have.
+    /// After the unfinished start of a call: when its body is whole, or else at the next line, when
+    /// the bytes of its head have doubled, and when they are as many as a head may have.
     pub fn behind(bytes: &[u8]) -> Self
         requires { IsUnfinished bytes.now }
         ensures seen { result.seen ≡ length bytes.now }

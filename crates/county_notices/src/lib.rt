@@ -1,4 +1,5 @@
-//! County notices: what the office tells its counties of tornado and severe thunderstorm watches, whose numbers are handed in.
+//! County notices: what the office tells its counties of tornado and severe thunderstorm watches,
+//! whose numbers are handed in.
 #![tactic(auto)]
 
 mod issuer;

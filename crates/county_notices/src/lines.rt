@@ -10,7 +10,8 @@ use hazard_types::{Action, End, Event, Line, List, Minute, Oom, Period, Row, Zon
 use notice_json::{Command, Deed};
 use std::alloc::Global;
 
-/// The event that a command would open: of the number that was handed in, and of the year of its minute.
+/// The event that a command would open: of the number that was handed in, and of the year of its
+/// minute.
 pub fn new_event(command: &Command) -> Event
     ensures { result ≡ new_event command.now }
 {
@@ -51,7 +52,8 @@ fn printed_begin(begin: Minute, t: Minute) -> Option<Minute>
 
 /// The line of a new event in a zone.
 fn new_line(board: &Board, t: Minute, event: &Event, end: Minute, zone: &Zone) -> Line
-    ensures { result ≡ put_line board.now.rows t event.now (put_of (Fresh event.now.hazard) end) zone.now }
+    ensures { result
+        ≡ put_line board.now.rows t event.now (put_of (Fresh event.now.hazard) end) zone.now }
 {
     Line {
         action: Action::New,
@@ -63,7 +65,8 @@ fn new_line(board: &Board, t: Minute, event: &Event, end: Minute, zone: &Zone) -
     }
 }
 
-/// The action of an event in the zones that it comes into. A join is EXA where a live row of the event has the same period, else EXB.
+/// The action of an event in the zones that it comes into. A join is EXA where a live row of the
+/// event has the same period, else EXB.
 fn entering_action(board: &Board, command: &Command, event: &Event) -> Action
     ensures { result ≡ entering_action board.now.rows command.now.at event.now command.now.deed }
 {
@@ -151,7 +154,8 @@ fn join_line(
     entering: Action,
     zone: &Zone,
 ) -> Line
-    requires { entering ≡ opening_action board.now.rows t event.now (put_of (Join event.now) end) (Join event.now) }
+    requires { entering ≡ opening_action board.now.rows t event.now
+        (put_of (Join event.now) end) (Join event.now) }
     ensures { result ≡ put_line board.now.rows t event.now (put_of (Join event.now) end) zone.now }
 {
     match unless_ended(board.row(*event, *zone)) {
@@ -215,7 +219,8 @@ fn add_in_zone(
     zone: &Zone,
 ) -> Result<(), Oom>
     requires { entering ≡ entering_action board.now.rows command.now.at event.now command.now.deed }
-    ensures { OnOk result (lines.new ≡ lines.old ++ lines_in board.now.rows command.now.at event.now command.now.deed zone.now) }
+    ensures { OnOk result (lines.new ≡ lines.old
+        ++ lines_in board.now.rows command.now.at event.now command.now.deed zone.now) }
 {
     let t = command.at;
     match &command.deed {
@@ -232,7 +237,8 @@ fn lines_in_zones(
     command: &Command,
     event: &Event,
 ) -> Result<List<Line>, Oom>
-    ensures { IfOk result (λ lines. lines ≡ lines_in_zones board.now.rows command.now.at event.now command.now.deed command.now.zones) }
+    ensures { IfOk result (λ lines. lines ≡ lines_in_zones board.now.rows command.now.at event.now
+        command.now.deed command.now.zones) }
 {
     let entering = entering_action(board, command, event);
     let mut lines = List::new(alloc);

@@ -22,7 +22,8 @@ use std::marker::Model;
 /// The most bytes of a notice.
 const MOST: usize = 65_536;
 
-/// An office's notices so far, by the rows that they have left and the minute of the last accepted command.
+/// An office's notices so far, by the rows that they have left and the minute of the last accepted
+/// command.
 #[derive(Drop)]
 pub struct Notices {
     issuer: Issuer,
@@ -38,7 +39,8 @@ impl Model for Notices {
 
     ghost view = { λ n. record { by = n.issuer; rows = n.board.rows; last = n.last } };
 
-    ghost invariant = { λ n. IsStanding (record { by = n.issuer; rows = n.board.rows; last = n.last }) };
+    ghost invariant = { λ n. IsStanding
+        (record { by = n.issuer; rows = n.board.rows; last = n.last }) };
 }
 
 /// The lines of a command, and its notice.
@@ -123,7 +125,8 @@ impl Notices {
     /// What a command is answered.
     fn answer_command(&mut self, alloc: Global, command: &Command) -> Result<Reply, Oom>
         requires { command.now.number ≤ 9999 }
-        ensures answered { IfOk result (λ reply. AnswersCommand self.old (Ok command.now) (bytes_of reply) self.new) }
+        ensures answered { IfOk result (λ reply.
+            AnswersCommand self.old (Ok command.now) (bytes_of reply) self.new) }
         ensures lacked { OnErr result (self.new ≡ self.old) }
     {
         match self.accept(alloc, command) {

@@ -99,7 +99,8 @@ fn bad_end(command: &Command) -> Option<NoticeRefusal>
     }
 }
 
-/// The first rule that the command breaks by itself. `last` is the minute of the last accepted command.
+/// The first rule that the command breaks by itself. `last` is the minute of the last accepted
+/// command.
 #[tactic(auto, unfolding(crate::specs::Commands::broken_by_itself))]
 fn broken_by_itself(last: Minute, command: &Command) -> Option<NoticeRefusal>
     ensures { result ≡ broken_by_itself last command.now }
@@ -149,7 +150,8 @@ fn number_used(board: &Board, command: &Command) -> Option<NoticeRefusal>
 /// The open event of an earlier year that has the number.
 fn holder(board: &Board, command: &Command) -> Option<NoticeRefusal>
     requires { IsConsistent board.now.rows command.now.at }
-    ensures { result ≡ option_map held_by (find (holds command.now.at (new_event command.now)) board.now.rows) }
+    ensures { result ≡ option_map held_by
+        (find (holds command.now.at (new_event command.now)) board.now.rows) }
 {
     let event = new_event(command);
     let holder = open_event(board, command)?;
@@ -223,7 +225,8 @@ fn left_in(board: &Board, command: &Command, event: Option<Event>) -> Option<Not
     }
 }
 
-/// LeftBefore: a join in a zone with a row that no line has ended and that is not live; the first one is named.
+/// LeftBefore: a join in a zone with a row that no line has ended and that is not live; the first
+/// one is named.
 fn left_before(board: &Board, command: &Command) -> Option<NoticeRefusal>
     ensures { result ≡ left_before board.now.rows command.now command.now.deed }
 {
@@ -265,7 +268,8 @@ fn gone_in(board: &Board, command: &Command, event: Option<Event>) -> Option<Not
     }
 }
 
-/// NotLive: an end in a zone without a row, on an ended one, or more than half an hour after its end; the first one is named.
+/// NotLive: an end in a zone without a row, on an ended one, or more than half an hour after its
+/// end; the first one is named.
 fn not_live(board: &Board, command: &Command) -> Option<NoticeRefusal>
     ensures { result ≡ not_live board.now.rows command.now command.now.deed }
 {
@@ -300,7 +304,8 @@ fn broken_by_rows(board: &Board, command: &Command) -> Option<NoticeRefusal>
     not_live(board, command)
 }
 
-/// The first rule that the command breaks, but for that on the length of its notice. `last` is the minute of the last accepted command.
+/// The first rule that the command breaks, but for that on the length of its notice. `last` is the
+/// minute of the last accepted command.
 pub fn broken(board: &Board, last: Minute, command: &Command) -> Option<NoticeRefusal>
     requires { IsConsistent board.now.rows last }
     ensures { result ≡ broken_with board.now.rows last command.now }

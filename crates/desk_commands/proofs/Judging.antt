@@ -23,8 +23,8 @@ module _ {D : Type 0} (d : Disks D) (a : Asked) (reading : ℤ) (kept next : Kep
   Told text = (gave : Gave) × IsJudged d a reading kept text next gave
 
   abbrev pub Moments : Type 0
-  Moments = (file : List ℕ) (h : History) (pending : Option Change) → Holds d.seen d.may_leave kept file h pending
-      → LeavesOnly d.moment d.left_since (disk_of kept) (disk_of next) (Leaves file h (λ change. (pending ≡ Some change) ⊎ IsAsked (state_of kept) a.desk a.seq a.request reading change))
+  Moments = (file : List ℕ) (h : History) (pending : Option Change) → Holds d.seen d.crash kept file h pending
+      → LeavesOnly (d.crash (disk_of kept)) (d.crash (disk_of next)) (Leaves file h (λ change. (pending ≡ Some change) ⊎ IsAsked (state_of kept) a.desk a.seq a.request reading change))
 
   -- the line of the answer
   pub told : (answer : Answer) (text : List ℕ) → Submits d a reading kept next answer → text ≡ answer_line answer → d.faults (disk_of kept) ≤ d.faults (disk_of next) → Moments → Told text

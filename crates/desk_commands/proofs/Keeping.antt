@@ -1,7 +1,7 @@
 -- What a run over a kept office leaves of its history.
-use Rattle.std.proofs.Common.{ℕ, ◌≡◌, ◌≤◌, ◌⊎◌, inl, inr, Bool, List, Option, None, Some, sym, subst}
+use Rattle.std.proofs.Common.{ℕ, ◌≡◌, ◌⊎◌, inl, inr, Bool, List, Option, None, Some, sym, subst}
 use Rattle.desk_settings.specs.declared.settings.Settings.{Settings}
-use Rattle.desk_traits.specs.Crash.{LeavesOnly}
+use Rattle.desk_traits.specs.Crash.{AreCrashes, LeavesOnly}
 use Rattle.desk_traits.specs.declared.disk.Disk.{Ghosts as Disks}
 use Rattle.desk_traits.proofs.Moments.{both, weaker}
 use Rattle.hazard_types.specs.declared.codes.Class.{Class}
@@ -22,16 +22,14 @@ abbrev pub RequestsStandOnce : Type 0
 RequestsStandOnce = (may : List Entered → Entered → Bool) (settings : Settings) (class : Class) (history : List Entered) (s : State) → IsLegal may settings class history s → StandOnce (entries_of history)
 
 module _ {D : Type 0} (d : Disks D)
-    (seen_is_left : (x : D) (file : List ℕ) → d.seen x ≡ Some file → d.may_leave x file)
-    (counts_now : (x : D) (c : List ℕ) → d.may_leave x c → d.left_since x (d.moment x) c)
-    (only_now : (x : D) (c : List ℕ) → d.left_since x (d.moment x) c → d.may_leave x c)
-    (earlier : (x : D) (t u : ℕ) (c : List ℕ) → t ≤ u → u ≤ d.moment x → d.left_since x u c → d.left_since x t c) where
+    (seen_is_left : (x : D) (file : List ℕ) → d.seen x ≡ Some file → (d.crash x).may_leave file)
+    (are_crashes : (x : D) → AreCrashes (d.crash x)) where
   -- a crash now leaves the history that a kept office holds, or that with the pending change
   abbrev pub CrashLaw : KeptOffice D d → Type 0
-  CrashLaw kept = (file : List ℕ) (h : History) (pending : Option Change) (c : List ℕ) → Holds d.seen d.may_leave kept file h pending → d.may_leave (disk_of kept) c → Leaves file h (λ change. pending ≡ Some change) c
+  CrashLaw kept = (file : List ℕ) (h : History) (pending : Option Change) (c : List ℕ) → Holds d.seen d.crash kept file h pending → (d.crash (disk_of kept)).may_leave c → Leaves file h (λ change. pending ≡ Some change) c
 
   -- as the office was opened
-  pub opened_carries : (file : List ℕ) (h : History) (may : Change → Type 0) (disk : D) (kept : KeptOffice D d) → CrashLaw kept → IsOpened d disk kept → Holds d.seen d.may_leave kept file h None → Carries d (d.faults disk) file h may kept
+  pub opened_carries : (file : List ℕ) (h : History) (may : Change → Type 0) (disk : D) (kept : KeptOffice D d) → CrashLaw kept → IsOpened d disk kept → Holds d.seen d.crash kept file h None → Carries d (d.faults disk) file h may kept
   opened_carries file h may disk kept law opened holds = record {
     pending = None;
     holds = holds;
@@ -43,7 +41,7 @@ module _ {D : Type 0} (d : Disks D)
   }
 
   pub keeps : RequestsStandOnce → (bytes file : List ℕ) (h last : History) (may : Change → Type 0) (disk : D) (opened kept : KeptOffice D d) → CrashLaw kept → IsOpened d disk opened → ImageOf bytes file h
-      → Follows h last → Carries d (d.faults disk) file last may kept → LeavesOnly d.moment d.left_since (disk_of opened) (disk_of kept) (IsBetween file h last)
+      → Follows h last → Carries d (d.faults disk) file last may kept → LeavesOnly (d.crash (disk_of opened)) (d.crash (disk_of kept)) (IsBetween file h last)
       → KeepsHistory d disk (disk_of opened) (disk_of kept) bytes file h last may (state_of kept)
   keeps stand_once bytes file h last may disk opened kept law first found follows carries run = record {
     found = found;
@@ -58,8 +56,8 @@ module _ {D : Type 0} (d : Disks D)
     told = carries.holds.journal.told;
     image = law file last carries.pending carries.holds.journal.file carries.holds (seen_is_left (disk_of kept) carries.holds.journal.file carries.holds.journal.told);
     left = λ c left. law file last carries.pending c carries.holds left;
-    crashes = both d.moment d.left_since d.may_leave counts_now only_now earlier disk (disk_of opened) (disk_of kept) (d.may_leave disk) (λ (c : List ℕ). d.may_leave disk c ⊎ IsBetween file h last c) first.moments
-        (weaker d.moment d.left_since d.may_leave counts_now only_now earlier (disk_of opened) (disk_of kept) (IsBetween file h last) (λ (c : List ℕ). d.may_leave disk c ⊎ IsBetween file h last c) (λ c between. inr between) run)
+    crashes = both d.crash are_crashes disk (disk_of opened) (disk_of kept) (d.crash disk).may_leave (λ (c : List ℕ). (d.crash disk).may_leave c ⊎ IsBetween file h last c) first.moments
+        (weaker d.crash are_crashes (disk_of opened) (disk_of kept) (IsBetween file h last) (λ (c : List ℕ). (d.crash disk).may_leave c ⊎ IsBetween file h last c) (λ c between. inr between) run)
         (λ c left. inl left);
     settled = λ before sync c left. elim (run.joins sync.at c sync.past left) [
       | inl was ↦ at_start file h last Any c follows (inl (subst (λ (b : List ℕ). ImageOf b file h) (sym (sync.only c was)) found))

@@ -50,10 +50,10 @@ image_alone file h c (inl image) = image
 image_alone file h c (inr more) = let no : None ≡ Some more.0 = more.1 in absurd (cc)
 
 module _ {D : Type 0} (d : Disks D) where
-  pub made : ((x : D) (file : List ℕ) → d.seen x ≡ Some file → d.may_leave x file) → (disk : D) (kept : KeptOffice D d) (read : List ℕ)
-      → ((file : List ℕ) (h : History) (pending : Option Change) (c : List ℕ) → Holds d.seen d.may_leave kept file h pending → d.may_leave (disk_of kept) c → Leaves file h (λ change. pending ≡ Some change) c)
+  pub made : ((x : D) (file : List ℕ) → d.seen x ≡ Some file → (d.crash x).may_leave file) → (disk : D) (kept : KeptOffice D d) (read : List ℕ)
+      → ((file : List ℕ) (h : History) (pending : Option Change) (c : List ℕ) → Holds d.seen d.crash kept file h pending → (d.crash (disk_of kept)).may_leave c → Leaves file h (λ change. pending ≡ Some change) c)
       → ((bytes : List ℕ) → d.seen disk ≡ Some bytes → Fresh bytes)
-      → ((bytes : List ℕ) → d.seen disk ≡ Some bytes → Holds d.seen d.may_leave kept read (empty Two) None × Only (d.seen (disk_of kept)) (d.may_leave (disk_of kept)))
+      → ((bytes : List ℕ) → d.seen disk ≡ Some bytes → Holds d.seen d.crash kept read (empty Two) None × Only (d.seen (disk_of kept)) (d.crash (disk_of kept)).may_leave)
       → IsMadeFor read kept → IsMade d disk (disk_of kept) read
   made seen_is_left disk kept read law fresh holds for = record {
     settings = (for.settings, for.read);
@@ -65,7 +65,7 @@ module _ {D : Type 0} (d : Disks D) where
     only = λ bytes seen. (holds bytes seen).1;
   }
 
-  left_by : (fault : KeepFault) (disk next : D) → IsUndone fault → (IsUndone fault → d.seen next ≡ d.seen disk) → (IsUndone fault → LeavesOnly d.moment d.left_since disk next (d.may_leave disk)) → ((fault ≡ keep.DiskFault → ⊥) → d.faults next ≡ d.faults disk)
+  left_by : (fault : KeepFault) (disk next : D) → IsUndone fault → (IsUndone fault → d.seen next ≡ d.seen disk) → (IsUndone fault → LeavesOnly (d.crash disk) (d.crash next) (d.crash disk).may_leave) → ((fault ≡ keep.DiskFault → ⊥) → d.faults next ≡ d.faults disk)
       → IsLeft d disk next
   left_by fault disk next undone same untouched steady = (same undone, untouched undone, steady (λ e. no_fault fault undone e))
 
@@ -74,7 +74,7 @@ module _ {D : Type 0} (d : Disks D) where
       → ((bytes : List ℕ) (f : SettingsFault) → d.seen disk ≡ Some bytes → fault ≡ keep.Settings f → Fresh bytes)
       → ((bytes : List ℕ) → d.seen disk ≡ Some bytes → fault ≡ keep.NotFresh → Fresh bytes → ⊥)
       → (fault ≡ keep.DiskFault → Rose (d.faults disk) (d.faults next))
-      → (IsUndone fault → d.seen next ≡ d.seen disk) → (IsUndone fault → LeavesOnly d.moment d.left_since disk next (d.may_leave disk))
+      → (IsUndone fault → d.seen next ≡ d.seen disk) → (IsUndone fault → LeavesOnly (d.crash disk) (d.crash next) (d.crash disk).may_leave)
       → ((fault ≡ keep.DiskFault → ⊥) → d.faults next ≡ d.faults disk)
       → IsWhyUnmade d disk next read end
   unmade disk next read (keep.Settings f) end (inl is) settings fresh not_fresh cause same untouched steady =

@@ -1,6 +1,6 @@
 -- How the history of a kept office grows by the lines of a script.
 use Rattle.std.proofs.Common.{ℕ, ℤ, ◌≡◌, ◌≤◌, ◌⊎◌, inl, inr, List, [], ◌∷◌, ◌++◌, Option, None, Some, Result, Ok, Err, IfSome, IsSome, refl, ap, sym, ◌∙◌, subst, arith}
-use Rattle.desk_traits.specs.Crash.{LeavesOnly}
+use Rattle.desk_traits.specs.Crash.{AreCrashes, LeavesOnly}
 use Rattle.desk_traits.specs.Faults.{Rose}
 use Rattle.desk_traits.specs.declared.clocks.Clock.{Ghosts as Clocks}
 use Rattle.desk_traits.specs.declared.disk.Disk.{Ghosts as Disks}
@@ -50,41 +50,39 @@ module _ {D : Type 0} (d : Disks D) (start : ℕ) where
   -- What is carried from line to line: the history that the journal holds, and what a crash now leaves of it; which changes may be pending, and that one is only where the disk failed.
   pub record Carries (file : List ℕ) (h : History) (may : Change → Type 0) (kept : KeptOffice D d) : Type 0 where
     pub pending : Option Change
-    pub holds : Holds d.seen d.may_leave kept file h pending
-    pub now : (c : List ℕ) → d.may_leave (disk_of kept) c → Leaves file h Any c
+    pub holds : Holds d.seen d.crash kept file h pending
+    pub now : (c : List ℕ) → (d.crash (disk_of kept)).may_leave c → Leaves file h Any c
     pub reads : ReadsAsTheBoard (state_of kept)
     pub since : start ≤ d.faults (disk_of kept)
     pub which : IfSome pending may
     pub cause : IsSome pending → Rose start (d.faults (disk_of kept))
 
-  module _ (counts_now : (x : D) (c : List ℕ) → d.may_leave x c → d.left_since x (d.moment x) c)
-      (only_now : (x : D) (c : List ℕ) → d.left_since x (d.moment x) c → d.may_leave x c)
-      (earlier : (x : D) (t u : ℕ) (c : List ℕ) → t ≤ u → u ≤ d.moment x → d.left_since x u c → d.left_since x t c) where
+  module _ (are_crashes : (x : D) → AreCrashes (d.crash x)) where
     abbrev pub GoesOn : List ℕ → History → List Entered → (Change → Type 0) → KeptOffice D d → KeptOffice D d → Type 0
     GoesOn file h entries may kept next =
-        Carries file (grown h entries) may next × LeavesOnly d.moment d.left_since (disk_of kept) (disk_of next) (IsBetween file h (grown h entries))
+        Carries file (grown h entries) may next × LeavesOnly (d.crash (disk_of kept)) (d.crash (disk_of next)) (IsBetween file h (grown h entries))
 
     -- nothing was added, and the history is held as before
-    pub unadded : (file : List ℕ) (h : History) (P may : Change → Type 0) (kept next : KeptOffice D d) (pending : Option Change) → Holds d.seen d.may_leave next file h pending → ReadsAsTheBoard (state_of next)
+    pub unadded : (file : List ℕ) (h : History) (P may : Change → Type 0) (kept next : KeptOffice D d) (pending : Option Change) → Holds d.seen d.crash next file h pending → ReadsAsTheBoard (state_of next)
         → start ≤ d.faults (disk_of next) → IfSome pending may → (IsSome pending → Rose start (d.faults (disk_of next)))
-        → LeavesOnly d.moment d.left_since (disk_of kept) (disk_of next) (Leaves file h P) → GoesOn file h [] may kept next
+        → LeavesOnly (d.crash (disk_of kept)) (d.crash (disk_of next)) (Leaves file h P) → GoesOn file h [] may kept next
     unadded file h P may kept next pending holds reads since which cause moments =
         let none : h ≡ grown h [] = sym (grown_none h) in (
           record {
             pending = pending;
-            holds = subst (λ (g : History). Holds d.seen d.may_leave next file g pending) none holds;
+            holds = subst (λ (g : History). Holds d.seen d.crash next file g pending) none holds;
             now = λ c left. subst (λ (g : History). Leaves file g Any c) none
-                (loosened file h P c (ends d.moment d.left_since d.may_leave counts_now only_now earlier (disk_of kept) (disk_of next) (Leaves file h P) moments c left));
+                (loosened file h P c (ends d.crash are_crashes (disk_of kept) (disk_of next) (Leaves file h P) moments c left));
             reads = reads;
             since = since;
             which = which;
             cause = cause;
           },
-          weaker d.moment d.left_since d.may_leave counts_now only_now earlier (disk_of kept) (disk_of next) (Leaves file h P) (IsBetween file h (grown h [])) (λ c leaves. at_start file h (grown h []) P c (grown_follows h []) leaves) moments,
+          weaker d.crash are_crashes (disk_of kept) (disk_of next) (Leaves file h P) (IsBetween file h (grown h [])) (λ c leaves. at_start file h (grown h []) P c (grown_follows h []) leaves) moments,
         )
 
-    as_before : (file : List ℕ) (h : History) (P may : Change → Type 0) (kept next : KeptOffice D d) → IsAsBefore d.seen d.may_leave kept next → Carries file h may kept
-        → LeavesOnly d.moment d.left_since (disk_of kept) (disk_of next) (Leaves file h P) → GoesOn file h [] may kept next
+    as_before : (file : List ℕ) (h : History) (P may : Change → Type 0) (kept next : KeptOffice D d) → IsAsBefore d.seen d.crash kept next → Carries file h may kept
+        → LeavesOnly (d.crash (disk_of kept)) (d.crash (disk_of next)) (Leaves file h P) → GoesOn file h [] may kept next
     as_before file h P may kept next same carries moments =
         unadded file h P may kept next carries.pending (same.held file h carries.pending carries.holds) (subst ReadsAsTheBoard (sym same.state) carries.reads)
         (subst (λ (x : D). start ≤ d.faults x) (sym same.disk) carries.since) carries.which (λ some. subst (λ (x : D). Rose start (d.faults x)) (sym same.disk) (carries.cause some)) moments
@@ -96,7 +94,7 @@ module _ {D : Type 0} (d : Disks D) (start : ℕ) where
 
       module _ (kept next : KeptOffice D d) (carries : Carries file h (MayPend failed) kept) where
         judged_by : (a : Asked) (reading : ℤ) (answer : Answer) (becomes : Submits d a reading kept next answer) → d.faults (disk_of kept) ≤ d.faults (disk_of next)
-            → (P : Change → Type 0) → LeavesOnly d.moment d.left_since (disk_of kept) (disk_of next) (Leaves file h P) → Behind (gave_in d a reading kept next answer becomes) kept next
+            → (P : Change → Type 0) → LeavesOnly (d.crash (disk_of kept)) (d.crash (disk_of next)) (Leaves file h P) → Behind (gave_in d a reading kept next answer becomes) kept next
         judged_by a reading (Accepted text) becomes later P moments =
             let x = becomes.0 in
             let entered = becomes.3 in
@@ -110,7 +108,7 @@ module _ {D : Type 0} (d : Disks D) (start : ℕ) where
                 which = tt;
                 cause = λ some. absurd (cc);
               },
-              weaker d.moment d.left_since d.may_leave counts_now only_now earlier (disk_of kept) (disk_of next) (Leaves file h P) (IsBetween file h (grown h (x ∷ []))) (λ c leaves. at_start file h (grown h (x ∷ [])) P c (grown_follows h (x ∷ [])) leaves) moments,
+              weaker d.crash are_crashes (disk_of kept) (disk_of next) (Leaves file h P) (IsBetween file h (grown h (x ∷ []))) (λ c leaves. at_start file h (grown h (x ∷ [])) P c (grown_follows h (x ∷ [])) leaves) moments,
             )
         judged_by a reading (Repeated text) becomes later P moments = as_before file h P (MayPend failed) kept next becomes.1 carries moments
         judged_by a reading (Refused x) becomes later P moments = as_before file h P (MayPend failed) kept next becomes.1 carries moments
@@ -134,7 +132,7 @@ module _ {D : Type 0} (d : Disks D) (start : ℕ) where
             subst (λ (w : Gave). Behind w kept next) (sym none)
             (subst (λ (x : KeptOffice D d). Behind Gave.nothing kept x) (sym same)
             (unadded file h Any (MayPend failed) kept kept carries.pending carries.holds carries.reads carries.since carries.which carries.cause
-            (nothing d.moment d.left_since d.may_leave counts_now only_now earlier (disk_of kept) (Leaves file h Any) carries.now)))
+            (nothing d.crash are_crashes (disk_of kept) (Leaves file h Any) carries.now)))
 
         asked : (reading : ℤ) (r : Result Asked Refusal) (text : List ℕ) (gave : Gave) → (AnswersAsked d reading kept r text next gave ⊎ LacksMemory d kept text next gave) → Behind gave kept next
         asked reading r text gave (inr lacks) = unasked gave lacks.1 lacks.2
@@ -167,8 +165,8 @@ module _ {D : Type 0} (d : Disks D) (start : ℕ) where
           let may = MayPend (failed_from failed (w ∷ said)) in
           let one = line_goes file h failed k s (fit line) w next goes.1 carries in
           let rest = lines_go file mid (failed_after failed w.gave) next lines said z goes.2 one.0 in
-          let run = both d.moment d.left_since d.may_leave counts_now only_now earlier (disk_of s.kept) (disk_of next.kept) (disk_of z.kept) (IsBetween file h mid) (IsBetween file h end) one.1
-          (weaker d.moment d.left_since d.may_leave counts_now only_now earlier (disk_of next.kept) (disk_of z.kept) (IsBetween file mid end) (IsBetween file h end)
+          let run = both d.crash are_crashes (disk_of s.kept) (disk_of next.kept) (disk_of z.kept) (IsBetween file h mid) (IsBetween file h end) one.1
+          (weaker d.crash are_crashes (disk_of next.kept) (disk_of z.kept) (IsBetween file mid end) (IsBetween file h end)
           (λ c between. sooner file h mid end c (grown_follows h (with_added w.gave [])) between) rest.1)
           (λ c between. longer file h mid end c (grown_follows mid more) between) in
-          subst (λ (g : History). Carries file g may z.kept × LeavesOnly d.moment d.left_since (disk_of s.kept) (disk_of z.kept) (IsBetween file h g)) (with_more h w.gave more) (rest.0, run)
+          subst (λ (g : History). Carries file g may z.kept × LeavesOnly (d.crash (disk_of s.kept)) (d.crash (disk_of z.kept)) (IsBetween file h g)) (with_more h w.gave more) (rest.0, run)

@@ -1,5 +1,6 @@
 -- A run that adds nothing keeps the history that was found.
-use Rattle.std.proofs.Common.{ℕ, ◌≡◌, ◌≤◌, List, Some}
+use Rattle.std.proofs.Common.{ℕ, ◌≡◌, List, Some}
+use Rattle.desk_traits.specs.Crash.{AreCrashes}
 use Rattle.desk_traits.specs.declared.disk.Disk.{Ghosts as Disks}
 use Rattle.desk_traits.proofs.Moments.{nothing}
 use Rattle.office_journal.specs.Grown.{IsBetween}
@@ -11,21 +12,19 @@ use Rattle.desk_commands.specs.Opening.{IsOpened}
 use Rattle.desk_commands.proofs.Keeping.{CrashLaw, RequestsStandOnce, keeps, opened_carries}
 
 module _ {D : Type 0} (d : Disks D)
-    (seen_is_left : (x : D) (file : List ℕ) → d.seen x ≡ Some file → d.may_leave x file)
-    (counts_now : (x : D) (c : List ℕ) → d.may_leave x c → d.left_since x (d.moment x) c)
-    (only_now : (x : D) (c : List ℕ) → d.left_since x (d.moment x) c → d.may_leave x c)
-    (earlier : (x : D) (t u : ℕ) (c : List ℕ) → t ≤ u → u ≤ d.moment x → d.left_since x u c → d.left_since x t c) where
-  pub unchanged : RequestsStandOnce → (disk : D) (kept : KeptOffice D d) → CrashLaw d seen_is_left counts_now only_now earlier kept → IsOpened d disk kept → Stays d disk (disk_of kept) kept
+    (seen_is_left : (x : D) (file : List ℕ) → d.seen x ≡ Some file → (d.crash x).may_leave file)
+    (are_crashes : (x : D) → AreCrashes (d.crash x)) where
+  pub unchanged : RequestsStandOnce → (disk : D) (kept : KeptOffice D d) → CrashLaw d seen_is_left are_crashes kept → IsOpened d disk kept → Stays d disk (disk_of kept) kept
   unchanged stand_once disk kept law opened = λ bytes seen.
       let found = opened.found bytes seen in
       let file = found.0 in
       let h = found.1 in
-      let carries = opened_carries d seen_is_left counts_now only_now earlier file h (λ change. ⊥) disk kept law opened found.3 in (
+      let carries = opened_carries d seen_is_left are_crashes file h (λ change. ⊥) disk kept law opened found.3 in (
         file,
         h,
-        keeps d seen_is_left counts_now only_now earlier stand_once bytes file h h (λ change. ⊥) disk kept kept law opened found.2
+        keeps d seen_is_left are_crashes stand_once bytes file h h (λ change. ⊥) disk kept kept law opened found.2
             (follows_self h)
             carries
-            (nothing d.moment d.left_since d.may_leave counts_now only_now earlier (disk_of kept) (IsBetween file h h)
+            (nothing d.crash are_crashes (disk_of kept) (IsBetween file h h)
             (λ c left. at_start file h h Any c (follows_self h) (carries.now c left))),
       )

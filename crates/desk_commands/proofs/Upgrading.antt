@@ -2,7 +2,7 @@
 use Rattle.std.proofs.Common.{ℕ, ◌≡◌, ◌≢◌, ◌≤◌, ◌<◌, ◌+◌, ◌⊎◌, ◌↔◌, inl, inr, List, [], Option, None, Some, IsSome, IfSome, refl, ap, sym, ◌∙◌, subst, arith}
 use Rattle.std.proofs.Math.Nat.{lt_of_not-le}
 use Rattle.std.proofs.lemmas.List.{append-nil}
-use Rattle.desk_traits.specs.Crash.{LeavesOnly}
+use Rattle.desk_traits.specs.Crash.{AreCrashes, LeavesOnly}
 use Rattle.desk_traits.specs.Faults.{Rose}
 use Rattle.desk_traits.specs.File.{Only}
 use Rattle.desk_traits.specs.declared.disk.Disk.{Ghosts as Disks}
@@ -32,20 +32,20 @@ module _ {D : Type 0} (d : Disks D) (old new : KeptOffice D d) where
   -- what `upgrade` says
   pub record Says (u : Upgrade) : Type 0 where
     pub done : u ≡ upgrade.Done → ((state_of old).edition ≡ One) × (state_of new ≡ in_edition Two (state_of old))
-        × ((file : List ℕ) (h : History) (pending : Option Change) → Holds d.seen d.may_leave old file h pending
-        → Holds d.seen d.may_leave new file (changed h Change.marked) None × Only (d.seen (disk_of new)) (d.may_leave (disk_of new)))
+        × ((file : List ℕ) (h : History) (pending : Option Change) → Holds d.seen d.crash old file h pending
+        → Holds d.seen d.crash new file (changed h Change.marked) None × Only (d.seen (disk_of new)) (d.crash (disk_of new)).may_leave)
     pub already : (u ≡ upgrade.Already) ↔ ((state_of old).edition ≡ Two)
     pub full : u ≡ upgrade.Full → ((state_of old).edition ≡ One) × (268435456 < gate_of old + 15)
     pub room : (state_of old).edition ≡ One → 268435456 < gate_of old + 15 → (u ≡ upgrade.Full) ⊎ (u ≡ upgrade.OutOfMemory)
     pub cause : u ≡ upgrade.DiskFault → ((state_of old).edition ≡ One) × Rose (d.faults (disk_of old)) (d.faults (disk_of new))
-    pub failed : u ≡ upgrade.DiskFault → (file : List ℕ) (h : History) (pending : Option Change) → Holds d.seen d.may_leave old file h pending
-        → (next : Option Change) × MayTouch pending Change.marked next × Holds d.seen d.may_leave new file h next
+    pub failed : u ≡ upgrade.DiskFault → (file : List ℕ) (h : History) (pending : Option Change) → Holds d.seen d.crash old file h pending
+        → (next : Option Change) × MayTouch pending Change.marked next × Holds d.seen d.crash new file h next
     pub state : u ≢ upgrade.Done → state_of new ≡ state_of old
     pub untouched : u ≢ upgrade.Done → u ≢ upgrade.DiskFault → (disk_of new ≡ disk_of old)
-        × ((file : List ℕ) (h : History) (pending : Option Change) → Holds d.seen d.may_leave old file h pending → Holds d.seen d.may_leave new file h pending)
+        × ((file : List ℕ) (h : History) (pending : Option Change) → Holds d.seen d.crash old file h pending → Holds d.seen d.crash new file h pending)
     pub later : d.faults (disk_of old) ≤ d.faults (disk_of new)
-    pub any_moment : (file : List ℕ) (h : History) (pending : Option Change) → Holds d.seen d.may_leave old file h pending
-        → LeavesOnly d.moment d.left_since (disk_of old) (disk_of new) (Leaves file h (λ change. (pending ≡ Some change) ⊎ ((change ≡ Change.marked) × (h.edition ≡ One))))
+    pub any_moment : (file : List ℕ) (h : History) (pending : Option Change) → Holds d.seen d.crash old file h pending
+        → LeavesOnly (d.crash (disk_of old)) (d.crash (disk_of new)) (Leaves file h (λ change. (pending ≡ Some change) ⊎ ((change ≡ Change.marked) × (h.edition ≡ One))))
 
   -- the mark that was appended had room
   has_room : Says upgrade.Done → gate_of old + 15 ≤ 268435456
@@ -66,9 +66,7 @@ module _ {D : Type 0} (d : Disks D) (old new : KeptOffice D d) where
   outcome upgrade.OutOfMemory before after status says told =
       inr (inr (inr (ap (λ (s : State). s.edition) (says.state (λ q. absurd (cc))), (says.untouched (λ q. absurd (cc)) (λ q. absurd (cc))).0, told)))
 
-  module _ (start : ℕ) (counts_now : (x : D) (c : List ℕ) → d.may_leave x c → d.left_since x (d.moment x) c)
-      (only_now : (x : D) (c : List ℕ) → d.left_since x (d.moment x) c → d.may_leave x c)
-      (earlier : (x : D) (t u : ℕ) (c : List ℕ) → t ≤ u → u ≤ d.moment x → d.left_since x u c → d.left_since x t c) where
+  module _ (start : ℕ) (are_crashes : (x : D) → AreCrashes (d.crash x)) where
     abbrev pub IsMark : Change → Type 0
     IsMark change = change ≡ Change.marked
 
@@ -78,17 +76,17 @@ module _ {D : Type 0} (d : Disks D) (old new : KeptOffice D d) where
       pub same : last.entries ≡ h.entries
       pub follows : Follows h last
       pub carries : Carries d start file last IsMark new
-      pub run : LeavesOnly d.moment d.left_since (disk_of old) (disk_of new) (IsBetween file h last)
+      pub run : LeavesOnly (d.crash (disk_of old)) (d.crash (disk_of new)) (IsBetween file h last)
 
     marks : (p next : Option Change) → IfSome p IsMark → MayTouch p Change.marked next → IfSome next IsMark
     marks p None which may = tt
     marks p (Some change) which (inl was) = subst (λ (o : Option Change). IfSome o IsMark) was which
     marks p (Some change) which (inr is) = is
 
-    unmarked : (u : Upgrade) (file : List ℕ) (h : History) (pending : Option Change) → Says u → u ≢ upgrade.Done → Carries d start file h IsMark old → Holds d.seen d.may_leave new file h pending → IfSome pending IsMark
+    unmarked : (u : Upgrade) (file : List ℕ) (h : History) (pending : Option Change) → Says u → u ≢ upgrade.Done → Carries d start file h IsMark old → Holds d.seen d.crash new file h pending → IfSome pending IsMark
         → (IsSome pending → Rose start (d.faults (disk_of new))) → Upgraded file h
     unmarked u file h pending says not carries holds which cause =
-        let one = unadded d start counts_now only_now earlier file h (λ (change : Change). (carries.pending ≡ Some change) ⊎ ((change ≡ Change.marked) × (h.edition ≡ One))) IsMark old new pending holds
+        let one = unadded d start are_crashes file h (λ (change : Change). (carries.pending ≡ Some change) ⊎ ((change ≡ Change.marked) × (h.edition ≡ One))) IsMark old new pending holds
         (subst ReadsAsTheBoard (sym (says.state not)) carries.reads) (omega (arith, carries.since, says.later)) which cause (says.any_moment file h carries.pending carries.holds) in
         record { last = grown h []; same = append-nil h.entries; follows = grown_follows h []; carries = one.0; run = one.1 }
 
@@ -117,7 +115,7 @@ module _ {D : Type 0} (d : Disks D) (old new : KeptOffice D d) where
             which = tt;
             cause = λ some. absurd (cc);
           };
-          run = weaker d.moment d.left_since d.may_leave counts_now only_now earlier (disk_of old) (disk_of new) (Leaves file h P) (IsBetween file h last)
+          run = weaker d.crash are_crashes (disk_of old) (disk_of new) (Leaves file h P) (IsBetween file h last)
               (λ c leaves. at_start file h last P c follows leaves)
               (says.any_moment file h carries.pending carries.holds);
         }
@@ -133,10 +131,10 @@ module _ {D : Type 0} (d : Disks D) (old new : KeptOffice D d) where
     only_mark h file c (inr (change, inl never, image)) = absurd (cc)
     only_mark h file c (inr (change, inr is, image)) = inr (change, is, image)
 
-    moments_of : (u : Upgrade) (file : List ℕ) (h : History) → Says u → Holds d.seen d.may_leave old file h None
-        → LeavesOnly d.moment d.left_since (disk_of old) (disk_of new) (Leaves file h (λ change. (change ≡ Change.marked) × (h.edition ≡ One)))
+    moments_of : (u : Upgrade) (file : List ℕ) (h : History) → Says u → Holds d.seen d.crash old file h None
+        → LeavesOnly (d.crash (disk_of old)) (d.crash (disk_of new)) (Leaves file h (λ change. (change ≡ Change.marked) × (h.edition ≡ One)))
     moments_of u file h says holds =
-        weaker d.moment d.left_since d.may_leave counts_now only_now earlier (disk_of old) (disk_of new) (Leaves file h (λ (change : Change). (None ≡ Some change) ⊎ ((change ≡ Change.marked) × (h.edition ≡ One)))) (Leaves file h (λ (change : Change). (change ≡ Change.marked) × (h.edition ≡ One)))
+        weaker d.crash are_crashes (disk_of old) (disk_of new) (Leaves file h (λ (change : Change). (None ≡ Some change) ⊎ ((change ≡ Change.marked) × (h.edition ≡ One)))) (Leaves file h (λ (change : Change). (change ≡ Change.marked) × (h.edition ≡ One)))
         (λ c leaves. only_mark h file c leaves) (says.any_moment file h None holds)
 
     touched : (p : Option Change) → MayTouch None Change.marked p → IfSome p (λ (change : Change). change ≡ Change.marked)
@@ -145,12 +143,12 @@ module _ {D : Type 0} (d : Disks D) (old new : KeptOffice D d) where
     touched (Some change) (inr is) = is
 
     -- the history is held in the edition of the office
-    in_its_edition : (file : List ℕ) (h : History) (p : Option Change) → Holds d.seen d.may_leave new file h p → Holds d.seen d.may_leave new file (record { entries = h.entries; edition = (state_of new).edition }) p
+    in_its_edition : (file : List ℕ) (h : History) (p : Option Change) → Holds d.seen d.crash new file h p → Holds d.seen d.crash new file (record { entries = h.entries; edition = (state_of new).edition }) p
     in_its_edition file h p held =
         let is : h.edition ≡ (state_of new).edition = sym (ap (λ (s : State). s.edition) held.history.state) in
-        subst (λ (e : Edition). Holds d.seen d.may_leave new file (record { entries = h.entries; edition = e }) p) is held
+        subst (λ (e : Edition). Holds d.seen d.crash new file (record { entries = h.entries; edition = e }) p) is held
 
-    unmoved : (u : Upgrade) (file : List ℕ) (h : History) → Says u → u ≢ upgrade.Done → u ≢ upgrade.DiskFault → Holds d.seen d.may_leave old file h None → IsMarked d old new file h
+    unmoved : (u : Upgrade) (file : List ℕ) (h : History) → Says u → u ≢ upgrade.Done → u ≢ upgrade.DiskFault → Holds d.seen d.crash old file h None → IsMarked d old new file h
     unmoved u file h says done failed holds = record {
       pending = None;
       mark = tt;
@@ -159,7 +157,7 @@ module _ {D : Type 0} (d : Disks D) (old new : KeptOffice D d) where
       moments = moments_of u file h says holds;
     }
 
-    pub marked : (u : Upgrade) (file : List ℕ) (h : History) → Says u → Holds d.seen d.may_leave old file h None → IsMarked d old new file h
+    pub marked : (u : Upgrade) (file : List ℕ) (h : History) → Says u → Holds d.seen d.crash old file h None → IsMarked d old new file h
     marked upgrade.Done file h says holds = record {
       pending = None;
       mark = tt;

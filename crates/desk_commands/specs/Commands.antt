@@ -155,8 +155,8 @@ module _ {D : Type 0} (d : Disks D) where
     pub pending : Option Change
     pub mark : IfSome pending (λ change. change ≡ Change.marked)
     pub none : (state_of after).edition ≡ Two → pending ≡ None
-    pub holds : Holds d.seen d.may_leave after file (record { entries = h.entries; edition = (state_of after).edition }) pending
-    pub moments : LeavesOnly d.moment d.left_since (disk_of opened) (disk_of after) (Leaves file h (λ change. (change ≡ Change.marked) × (h.edition ≡ One)))
+    pub holds : Holds d.seen d.crash after file (record { entries = h.entries; edition = (state_of after).edition }) pending
+    pub moments : LeavesOnly (d.crash (disk_of opened)) (d.crash (disk_of after)) (Leaves file h (λ change. (change ≡ Change.marked) × (h.edition ≡ One)))
 
   -- the journal has the mark
   pub record IsUpgradeRun (disk next : D) (old new : Outflow) (status : ℕ) : Type 0 where
@@ -165,13 +165,13 @@ module _ {D : Type 0} (d : Disks D) where
     pub after : KeptOffice D d
     pub outcome : UpgradeOutcome d next opened after old new status
     pub handed : next ≡ disk_of after
-    pub marked : (file : List ℕ) (h : History) → Holds d.seen d.may_leave opened file h None → IsMarked opened after file h
+    pub marked : (file : List ℕ) (h : History) → Holds d.seen d.crash opened file h None → IsMarked opened after file h
     pub later : d.faults disk ≤ d.faults next
     pub history : (bytes : List ℕ) → d.seen disk ≡ Some bytes → (file : List ℕ) × (h last : History) × KeepsHistory d disk (disk_of opened) next bytes file h last (λ change. change ≡ Change.marked) (state_of after) × (last.entries ≡ h.entries) × (last.edition ≡ (state_of after).edition)
 
   -- the file is as it was, and so are what a crash leaves, at any moment, and the count of faults
   abbrev pub IsLeft : D → D → Type 0
-  IsLeft disk next = (d.seen next ≡ d.seen disk) × LeavesOnly d.moment d.left_since disk next (d.may_leave disk) × (d.faults next ≡ d.faults disk)
+  IsLeft disk next = (d.seen next ≡ d.seen disk) × LeavesOnly (d.crash disk) (d.crash next) (d.crash disk).may_leave × (d.faults next ≡ d.faults disk)
 
   -- Why no journal is made of settings that were read: they have this fault first, and the file is fresh; the file is not fresh; the disk failed in this call; or memory lacked. But for the disk's fault the file is left as it was.
   abbrev pub IsWhyUnmade : D → D → List ℕ → End → Type 0
@@ -187,7 +187,7 @@ module _ {D : Type 0} (d : Disks D) where
     pub settings : (settings : Settings) × (settings_of read ≡ Ok settings)
     pub fresh : (bytes : List ℕ) → d.seen disk ≡ Some bytes → Fresh bytes
     pub image : (bytes : List ℕ) → d.seen disk ≡ Some bytes → (now : List ℕ) × (d.seen next ≡ Some now) × ImageOf now read (empty Two)
-    pub only : (bytes : List ℕ) → d.seen disk ≡ Some bytes → Only (d.seen next) (d.may_leave next)
+    pub only : (bytes : List ℕ) → d.seen disk ≡ Some bytes → Only (d.seen next) (d.crash next).may_leave
 
   -- the settings were read whole, or as far as they can be settings, and a journal was made of them or not
   pub record IsInitRun (disk next : D) (old new : Streams) (status : ℕ) : Type 0 where
@@ -202,4 +202,4 @@ module _ {D : Type 0} (d : Disks D) where
         ⊎ (Rose old.input.faults new.input.faults × Telling [] old.output new.output (Some ReadFault) status))
     pub later : d.faults disk ≤ d.faults next
     -- what a crash leaves: what one at the start might have left, or a file that is being made
-    pub crashes : (bytes : List ℕ) → d.seen disk ≡ Some bytes → LeavesOnly d.moment d.left_since disk next (λ c. d.may_leave disk c ⊎ IsMakingOf read c)
+    pub crashes : (bytes : List ℕ) → d.seen disk ≡ Some bytes → LeavesOnly (d.crash disk) (d.crash next) (λ c. (d.crash disk).may_leave c ⊎ IsMakingOf read c)

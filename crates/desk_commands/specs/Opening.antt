@@ -18,16 +18,16 @@ use Rattle.program_ends.specs.declared.ends.End.TheVariants.{NoJournal, Damaged,
 module _ {D : Type 0} (d : Disks D) where
   -- The file is an image of one history, and the office is at its state; nothing is pending. A read gives the same, and no crash leaves what one at the start might not have left.
   pub record IsOpened (disk : D) (kept : KeptOffice D d) : Type 0 where
-    pub found : (bytes : List ℕ) → d.seen disk ≡ Some bytes → (file : List ℕ) × (h : History) × ImageOf bytes file h × Holds d.seen d.may_leave kept file h None
+    pub found : (bytes : List ℕ) → d.seen disk ≡ Some bytes → (file : List ℕ) × (h : History) × ImageOf bytes file h × Holds d.seen d.crash kept file h None
     pub reads : ReadsAsTheBoard (state_of kept)
     pub same : d.seen (disk_of kept) ≡ d.seen disk
     -- whatever the disk tells
     pub legal : (file : List ℕ) × (h : History) × HasHistory kept file h
     pub steady : d.faults (disk_of kept) ≡ d.faults disk
     pub later : d.faults disk ≤ d.faults (disk_of kept)
-    pub moments : LeavesOnly d.moment d.left_since disk (disk_of kept) (d.may_leave disk)
+    pub moments : LeavesOnly (d.crash disk) (d.crash (disk_of kept)) (d.crash disk).may_leave
     -- what a crash since the first sync that answered might have left is what a read gives
-    pub settled : (bytes before : List ℕ) → d.seen disk ≡ Some bytes → d.syncs disk ≡ Some before → Settles d.moment d.left_since d.syncs before bytes (disk_of kept)
+    pub settled : (bytes before : List ℕ) → d.seen disk ≡ Some bytes → d.syncs disk ≡ Some before → Settles d.crash d.syncs before bytes (disk_of kept)
 
   -- Why no office is opened: the file is fresh, it is damaged at this byte, the disk failed in this call, or memory lacked, and the count of faults is as before.
   abbrev pub IsWhy : D → D → End → Type 0
@@ -42,7 +42,7 @@ module _ {D : Type 0} (d : Disks D) where
     pub why : IsWhy disk next end
     pub same : d.seen next ≡ d.seen disk
     pub later : d.faults disk ≤ d.faults next
-    pub moments : LeavesOnly d.moment d.left_since disk next (d.may_leave disk)
+    pub moments : LeavesOnly (d.crash disk) (d.crash next) (d.crash disk).may_leave
 
   -- no office was opened, and the reason alone is told
   pub record IsUnopenedRun (disk next : D) (old new : Outflow) (status : ℕ) : Type 0 where

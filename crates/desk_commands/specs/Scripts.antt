@@ -125,7 +125,7 @@ module _ {D : Type 0} (d : Disks D) where
   -- what becomes of the request of a desk at a reading
   abbrev pub Submits : Asked → ℤ → KeptOffice D d → KeptOffice D d → Answer → Type 0
   Submits a reading kept next answer =
-      Becomes d.seen d.may_leave d.faults kept next (IsOffered (state_of kept) a.desk a.seq a.request reading)
+      Becomes d.seen d.crash d.faults kept next (IsOffered (state_of kept) a.desk a.seq a.request reading)
       (λ text. (reply : Reply) × Repeats (state_of kept) a.desk a.seq a.request reply × (text ≡ reply_text reply)) (Refuses (state_of kept) a.desk a.seq a.request reading) answer
 
   -- what it gives to the disk: its entry, where it is accepted or the disk fails
@@ -143,8 +143,8 @@ module _ {D : Type 0} (d : Disks D) where
     pub told : text ≡ answer_line answer
     pub given : gave ≡ gave_in a reading kept next answer becomes
     pub later : d.faults (disk_of kept) ≤ d.faults (disk_of next)
-    pub moments : (file : List ℕ) (h : History) (pending : Option Change) → Holds d.seen d.may_leave kept file h pending
-        → LeavesOnly d.moment d.left_since (disk_of kept) (disk_of next) (Leaves file h (λ change. (pending ≡ Some change) ⊎ IsAsked (state_of kept) a.desk a.seq a.request reading change))
+    pub moments : (file : List ℕ) (h : History) (pending : Option Change) → Holds d.seen d.crash kept file h pending
+        → LeavesOnly (d.crash (disk_of kept)) (d.crash (disk_of next)) (Leaves file h (λ change. (pending ≡ Some change) ⊎ IsAsked (state_of kept) a.desk a.seq a.request reading change))
 
   -- what is no request gets its fault
   abbrev pub AnswersAsked : ℤ → KeptOffice D d → Result Asked Refusal → List ℕ → KeptOffice D d → Gave → Type 0

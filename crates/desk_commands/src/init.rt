@@ -84,12 +84,16 @@ fn end_of(alloc: Global, fault: &KeepFault) -> End
 
 /// Makes the journal of an office with these settings.
 fn make<D: Disk>(alloc: Global, disk: D, settings: &[u8]) -> Result<KeptOffice<D>, (D, End)>
-    ensures made { MatchResult result (λ kept. IsMade D.Disk disk (disk_of kept) settings.now) (λ e. IsWhyUnmade D.Disk disk e.0 settings.now e.1) }
+    ensures made { MatchResult result (λ kept. IsMade D.Disk disk (disk_of kept) settings.now)
+        (λ e. IsWhyUnmade D.Disk disk e.0 settings.now e.1) }
     ensures end { IfErr result (λ e. is_write_fault e.1 ≡ false) }
-    ensures later { MatchResult result (λ kept. D.faults disk ≤ D.faults (disk_of kept)) (λ e. D.faults disk ≤ D.faults e.0) }
+    ensures later { MatchResult result (λ kept. D.faults disk ≤ D.faults (disk_of kept))
+        (λ e. D.faults disk ≤ D.faults e.0) }
     ensures crashes { (bytes : List ℕ) → D.seen disk ≡ Some bytes → MatchResult result
-        (λ kept. LeavesOnly D.moment D.left_since disk (disk_of kept) (λ c. D.may_leave disk c ⊎ IsMakingOf settings.now c))
-        (λ e. LeavesOnly D.moment D.left_since disk e.0 (λ c. D.may_leave disk c ⊎ IsMakingOf settings.now c)) }
+        (λ kept. LeavesOnly (D.crash disk) (D.crash (disk_of kept))
+        (λ c. (D.crash disk).may_leave c ⊎ IsMakingOf settings.now c))
+        (λ e. LeavesOnly (D.crash disk) (D.crash e.0)
+        (λ c. (D.crash disk).may_leave c ⊎ IsMakingOf settings.now c)) }
 {
     match KeptOffice::create(alloc, disk, settings) {
         Ok(kept) => {

@@ -7,6 +7,10 @@ use request_json::refusal_text;
 use std::alloc::Global;
 
 /// The text of a refusal, and LF.
+///
+/// # Errors
+///
+/// Out of memory.
 pub fn refusal_line(alloc: Global, refusal: &Refusal) -> Result<Text, Oom>
     ensures { IfOk result (λ line. line ≡ refusal_line refusal.now) }
 {

@@ -8,9 +8,15 @@ use office_journal::{KeepFault, KeptOffice};
 use program_ends::End;
 use std::alloc::Global;
 
-/// Opens the office whose journal the disk holds, or returns why there is none.
+/// Opens the office whose journal the disk holds.
+///
+/// # Errors
+///
+/// The disk, as a read and a crash would find it before, with `NoJournal` where its file is fresh,
+/// `Damaged` with a place in bytes, `DiskFault`, or `OutOfMemory`.
 pub fn open<D: Disk>(alloc: Global, disk: D) -> Result<KeptOffice<D>, (D, End)>
-    ensures opened { MatchResult result (IsOpened D.Disk disk) (λ e. IsUnopened D.Disk disk e.0 e.1) }
+    ensures opened { MatchResult result (IsOpened D.Disk disk)
+        (λ e. IsUnopened D.Disk disk e.0 e.1) }
     ensures end { IfErr result (λ e. is_write_fault e.1 ≡ false) }
 {
     match KeptOffice::adopt(alloc, disk) {

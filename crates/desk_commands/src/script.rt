@@ -30,7 +30,8 @@ pub struct Script<'a, D: Disk, C: Clock> {
 
 /// The reply to a refused line, or the one that memory ran out for its text.
 fn refusal_reply(alloc: Global, refusal: &Refusal) -> Reply
-    ensures { (bytes_of result ≡ refusal_line refusal.now) ⊎ (bytes_of result ≡ ended out_of_memory_text) }
+    ensures { (bytes_of result ≡ refusal_line refusal.now)
+        ⊎ (bytes_of result ≡ ended out_of_memory_text) }
 {
     match refusal_text(alloc, refusal) {
         Ok(text) => Reply::Line(text),
@@ -42,7 +43,9 @@ impl<'a, D: Disk, C: Clock> Script<'a, D, C> {
     /// Judges a request at a reading.
     fn judge(&mut self, alloc: Global, asked: &Asked, reading: i64) -> Reply
         requires form { HasForm asked.now }
-        ensures judged { (gave : Gave) × IsJudged D.Disk asked.now reading self.old.kept.now (bytes_of result) self.new.kept.now gave }
+        ensures judged { (gave : Gave)
+            × IsJudged D.Disk asked.now reading self.old.kept.now (bytes_of result)
+            self.new.kept.now gave }
         ensures clock { self.new.clock.now ≡ self.old.clock.now }
         ensures references { HasReferences self.old self.new }
     {
@@ -63,7 +66,8 @@ impl<'a, D: Disk, C: Clock> Answers for Script<'a, D, C> {
     ghost use Rattle.desk_commands.specs.Held.{HasReferences, scripted};
     ghost use Rattle.desk_commands.specs.Scripts.{Answers as Replies};
 
-    ghost answers = { λ s line text next. HasReferences s next × Replies D.Disk C.Clock (scripted s) line text (scripted next) };
+    ghost answers = { λ s line text next. HasReferences s next
+        × Replies D.Disk C.Clock (scripted s) line text (scripted next) };
 
     ghost lacks = { λ _ _ _. ⊥ };
 

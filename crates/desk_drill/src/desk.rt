@@ -101,15 +101,21 @@ impl DrillDesk {
         requires accepted { self.old.accepted < 8192 }
         requires products { length self.old.texts.reader.products < 8192 }
         requires faults { self.old.texts.faults < 8192 }
-        ensures office { OnOk result (self.new.office.state ≡ state_after self.old.office.state prepared.entry prepared.made) }
-        ensures heard { OnOk result (last_number self.new.office.state prepared.entry.desk ≡ prepared.entry.seq) }
+        ensures office { OnOk result (self.new.office.state
+            ≡ state_after self.old.office.state prepared.entry prepared.made) }
+        ensures heard { OnOk result
+            (last_number self.new.office.state prepared.entry.desk ≡ prepared.entry.seq) }
         ensures reads { OnOk result (ReadsAsTheBoard self.new.office.state) }
-        ensures numbers { OnOk result (self.new.numbers ≡ set self.old.numbers place (slice_index self.old.numbers place + 1)) }
+        ensures numbers { OnOk result (self.new.numbers
+            ≡ set self.old.numbers place (slice_index self.old.numbers place + 1)) }
         ensures minute { OnOk result (self.new.last ≡ prepared.entry.minute) }
         ensures accepted { OnOk result (self.new.accepted ≡ self.old.accepted + 1) }
         ensures refused { self.new.refused ≡ self.old.refused }
-        ensures opened { OnOk result (option_map (λ made. self.old.opened ++ made.opened) prepared.made ≡ Some self.new.opened) }
-        ensures texts { OnOk result (IfSome prepared.made (λ made. HasReadOne self.old.texts made.sent.text self.new.texts)) }
+        ensures opened { OnOk result
+            (option_map (λ made. self.old.opened ++ made.opened) prepared.made
+            ≡ Some self.new.opened) }
+        ensures texts { OnOk result (IfSome prepared.made
+            (λ made. HasReadOne self.old.texts made.sent.text self.new.texts)) }
     {
         self.opened.extend(events_of(&prepared))?;
         self.texts.read(alloc, text_of(&prepared))?;
@@ -131,7 +137,8 @@ impl DrillDesk {
         requires form { IsIssuePart r.part }
         requires refused { self.old.refused < 8192 }
         ensures kept { OnOk result (IsKept self.new) }
-        ensures answered { OnOk result (Answers (drilled_of self.old) (issued_by r) (drilled_of self.new)) }
+        ensures answered { OnOk result
+            (Answers (drilled_of self.old) (issued_by r) (drilled_of self.new)) }
         ensures refused { OnOk result (self.new.refused ≤ self.old.refused + 1) }
     {
         let DrillRequest { desk, part, minute } = r;

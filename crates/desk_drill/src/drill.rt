@@ -26,7 +26,8 @@ pub struct Drill {
 /// The office after the requests of a drill.
 fn drilled(alloc: Global, drill: &Drill) -> Result<DrillDesk, Oom>
     requires { drill.now.count ≤ 8192 }
-    ensures run { IfOk result (λ d. LeadsTo first_drilled (requests drill.now.number drill.now.count) (drilled_of d)) }
+    ensures run { IfOk result (λ d. LeadsTo first_drilled
+        (requests drill.now.number drill.now.count) (drilled_of d)) }
     ensures kept { IfOk result IsKept }
 {
     let mut desk = DrillDesk::new(alloc)?;
@@ -54,12 +55,16 @@ fn summary_of(alloc: Global, drill: &Drill) -> Result<Text, Oom>
 pub fn run_drill<K: Sink>(alloc: Global, drill: &Drill, output: &mut K) -> u8
     requires { drill.now.count ≤ 8192 }
     // The six lines, or that memory lacked.
-    ensures run { IsDrillRun drill.now.number drill.now.count (K.outflow output.old) (K.outflow output.new) result }
+    ensures run { IsDrillRun drill.now.number drill.now.count
+        (K.outflow output.old) (K.outflow output.new) result }
     // A write fault is told only where the count rose, and want of memory only where it did not.
-    ensures write_fault { result ≡ 8 → Rose (K.outflow output.old).faults (K.outflow output.new).faults }
-    ensures no_memory { result ≡ 12 → (K.outflow output.new).faults ≡ (K.outflow output.old).faults }
+    ensures write_fault { result ≡ 8
+        → Rose (K.outflow output.old).faults (K.outflow output.new).faults }
+    ensures no_memory { result ≡ 12
+        → (K.outflow output.new).faults ≡ (K.outflow output.old).faults }
     // Where no write failed the six lines were written, unless memory lacked.
-    ensures complete { ¬ Rose (K.outflow output.old).faults (K.outflow output.new).faults → (result ≡ 0) ⊎ (result ≡ 12) }
+    ensures complete { ¬ Rose (K.outflow output.old).faults (K.outflow output.new).faults
+        → (result ≡ 0) ⊎ (result ≡ 12) }
 {
     match summary_of(alloc, drill) {
         Ok(text) => tell(output, text.as_slice()),

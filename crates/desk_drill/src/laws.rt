@@ -9,5 +9,6 @@ ghost use Rattle.desk_drill.specs.Tellings.{breaches_in};
 /// A reader finds nothing against the texts of an office of a drill that agree with its board.
 #[tactic(auto, using(crate::proofs::Agreeing::no_breach))]
 pub fn texts_that_read_as_the_board_have_no_breach()
-    ensures { (s : State) → s.settings.office ≡ drill_office → s.class ≡ classes.O → ReadsAsTheBoard s → breaches_in (texts_of s) ≡ 0 }
+    ensures { (s : State) → s.settings.office ≡ drill_office → s.class ≡ classes.O
+        → ReadsAsTheBoard s → breaches_in (texts_of s) ≡ 0 }
 {}

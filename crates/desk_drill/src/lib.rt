@@ -1,4 +1,5 @@
-//! The drill: generated requests through an office in memory, whose texts are read as they are written.
+//! The drill: generated requests through an office in memory, whose texts are read as they are
+//! written.
 #![tactic(auto)]
 
 mod desk;

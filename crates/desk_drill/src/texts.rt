@@ -43,8 +43,10 @@ impl TextReader {
         requires faults { self.old.faults < 8192 }
         ensures office { self.new.reader.office ≡ self.old.reader.office }
         ensures class { self.new.reader.class ≡ self.old.reader.class }
-        ensures products { OnOk result (self.new.reader.products ≡ self.old.reader.products ++ product_in self.old.reader.office self.old.reader.class (decode text.now)) }
-        ensures faults { OnOk result (self.new.faults ≡ self.old.faults + fault_of (decode text.now)) }
+        ensures products { OnOk result (self.new.reader.products ≡ self.old.reader.products
+            ++ product_in self.old.reader.office self.old.reader.class (decode text.now)) }
+        ensures faults { OnOk result
+            (self.new.faults ≡ self.old.faults + fault_of (decode text.now)) }
     {
         match decode(alloc, text) {
             Ok(decoded) => self.reader.take(alloc, &decoded),

@@ -1,5 +1,5 @@
 -- What links, doors and ports in memory hold.
-use Rattle.std.proofs.Common.{◌≡◌, ◌⊎◌, ◌↔◌, ◌+◌, ◌-◌, ◌^◌, ℕ, zero, suc, List, [], ◌∷◌, ◌++◌, length, map, min, drop, Bool, Some, Result, IfOk, OnErr, IsErr, refl, ◌∙◌, ap}
+use Rattle.std.proofs.Common.{◌≡◌, ◌⊎◌, ◌↔◌, ◌+◌, ◌-◌, ◌^◌, ℕ, zero, suc, List, [], ◌∷◌, ◌++◌, length, map, min, drop, Bool, Some, Result, IfOk, OnErr, IsErr, false, refl, ◌∙◌, ap}
 use Rattle.std.specs.Prelude.{Contains}
 use Rattle.desk_traits.specs.Faults.{next_count}
 use Rattle.byte_streams.specs.Flows.{Inflow, Outflow, inflow, outflow}
@@ -16,6 +16,34 @@ pub record LinkInMemory : Type 0 where
   pub read_faults : ℕ
   pub write_faults : ℕ
   pub lacked : Bool
+
+-- a link that was not used
+abbrev pub link_with : List ℕ → ℕ → List ℕ → LinkInMemory
+link_with bytes piece failing = record {
+  read = [];
+  left = bytes;
+  written = [];
+  piece = piece;
+  failing = failing;
+  calls = 0;
+  read_faults = 0;
+  write_faults = 0;
+  lacked = false;
+}
+
+-- a link of which one read more was made, and failed
+abbrev pub with_failed_read : LinkInMemory → LinkInMemory
+with_failed_read l = record {
+  read = l.read;
+  left = l.left;
+  written = l.written;
+  piece = l.piece;
+  failing = l.failing;
+  calls = next_count l.calls;
+  read_faults = next_count l.read_faults;
+  write_faults = l.write_faults;
+  lacked = l.lacked;
+}
 
 -- what it shows as a source and as a sink
 abbrev pub link_input : LinkInMemory → Inflow
@@ -97,6 +125,10 @@ pub record PortInMemory : Type 0 where
   pub back : List (List LinkInMemory)
   pub numbers : List ℕ
   pub faults : ℕ
+
+-- a port that was not used
+abbrev pub port_with : List DoorInMemory → PortInMemory
+port_with doors = record { doors = doors; back = []; numbers = []; faults = 0 }
 
 -- the links of all doors, one after another
 abbrev pub all_links : List (List LinkInMemory) → List LinkInMemory

@@ -54,9 +54,11 @@ impl Ahead {
     /// `Failed` where nothing was read; the source's count of faults rose.
     pub fn fill<S: Source>(&mut self, source: &mut S) -> Result<(), Failed>
         requires { self.old ≡ [] }
-        ensures bytes { OnOk result (Takes (S.inflow source.old).left (S.inflow source.new).left self.new) }
+        ensures bytes { OnOk result
+            (Takes (S.inflow source.old).left (S.inflow source.new).left self.new) }
         ensures end { OnOk result (self.new ≡ [] → IsAtEnd (S.inflow source.new).left) }
-        ensures err { OnErr result ((self.new ≡ []) × ((S.inflow source.new).left ≡ (S.inflow source.old).left)) }
+        ensures err { OnErr result ((self.new ≡ [])
+            × ((S.inflow source.new).left ≡ (S.inflow source.old).left)) }
         ensures cause { HasCause (S.inflow source.old).faults (S.inflow source.new).faults result }
         ensures steady { OnOk result ((S.inflow source.new).faults ≡ (S.inflow source.old).faults) }
         ensures beside { S.reads source.old source.new }

@@ -1,9 +1,11 @@
 //! A dialer in memory, which gives the links that it was made with.
-ghost use Rattle.std.specs.Prelude.{◌≡◌, ◌⊎◌, ◌<◌, ◌+◌, ◌++◌, ◌∷◌, ◌^◌, ◌↔◌, [], All, length, min, Some, Contains, IfOk, OnOk, OnErr, IsErr};
+ghost use Rattle.std.specs.Prelude.{◌≡◌, ◌⊎◌, ◌<◌, ◌+◌, ◌++◌, ◌∷◌, ◌^◌, ◌↔◌, [], All};
+ghost use Rattle.std.specs.Prelude.{length, min, Some, Contains, IfOk, OnOk, OnErr, IsErr};
 ghost use Rattle.desk_traits.specs.Faults.{next_count};
 ghost use Rattle.byte_streams.specs.Flows.{Reads};
 ghost use Rattle.desk_links.specs.Links.{GivesLink, with_count};
-ghost use Rattle.desk_links.specs.LinkMemory.{IsUntouched, KeepsIn, KeepsOut, Lends, door_state, door_with, link_input, link_output, link_state};
+ghost use Rattle.desk_links.specs.LinkMemory.{IsUntouched, KeepsIn, KeepsOut, Lends, door_state};
+ghost use Rattle.desk_links.specs.LinkMemory.{door_with, link_input, link_output, link_state};
 
 use crate::dialer::{Dialer, Peer};
 use crate::lent::LentLinks;
@@ -55,9 +57,11 @@ impl Source for MemPeer {
         ensures counted { OnErr result (self.new.read_faults ≡ next_count self.old.read_faults) }
         ensures beside { KeepsOut self.old self.new }
 
-        // It fails at exactly the listed calls, and where no byte is left for a buffer that has room.
-        ensures failing { IsErr result ↔ (Contains self.old.failing (next_count self.old.calls) ⊎ ((self.old.left ≡ []) × (0 < length into.old))) }
-        ensures amount { IfOk result (λ n. n ≡ min (min (length self.old.left) self.old.piece) (length into.old)) }
+        // It fails at exactly the listed calls, and where no byte is left for a buffer with room.
+        ensures failing { IsErr result ↔ (Contains self.old.failing (next_count self.old.calls)
+            ⊎ ((self.old.left ≡ []) × (0 < length into.old))) }
+        ensures amount { IfOk result
+            (λ n. n ≡ min (min (length self.old.left) self.old.piece) (length into.old)) }
         ensures called { self.new.calls ≡ next_count self.old.calls }
     {
         if !into.is_empty() && self.link.is_at_end() {

@@ -2,7 +2,8 @@
 //! returned.
 ghost use Rattle.std.specs.Prelude.{◌≡◌, ◌<◌, ◌+◌, ◌^◌, All, length, IfOk};
 ghost use Rattle.desk_links.specs.Links.{GivesLink};
-ghost use Rattle.desk_links.specs.LinkMemory.{IsUntouched, Lends, door_state, door_with, link_state, with_back, with_faults};
+ghost use Rattle.desk_links.specs.LinkMemory.{IsUntouched, Lends, door_state, door_with};
+ghost use Rattle.desk_links.specs.LinkMemory.{link_state, with_back, with_faults};
 
 use crate::link_memory::MemLink;
 use desk_traits::Failed;

@@ -1,6 +1,7 @@
 //! A link: what comes in and what goes out, each by itself.
 ghost use Rattle.std.specs.Prelude.{◌≡◌};
-ghost use Rattle.desk_links.specs.Links.{EndsIn, KeepsInput, KeepsOutput, LinkState, ReadsLink, WritesLink};
+ghost use Rattle.desk_links.specs.Links.{EndsIn, KeepsInput, KeepsOutput};
+ghost use Rattle.desk_links.specs.Links.{LinkState, ReadsLink, WritesLink};
 
 use byte_streams::{Sink, Source, write_whole};
 use desk_traits::Failed;

@@ -1,9 +1,11 @@
 //! A link in memory, which fails at exactly the calls that it is told.
-ghost use Rattle.std.specs.Prelude.{◌≡◌, ◌≤◌, ◌+◌, ◌-◌, ◌^◌, ◌↔◌, length, min, IfOk, OnErr, IsErr, IsTrue, Contains, [], false};
+ghost use Rattle.std.specs.Prelude.{◌≡◌, ◌≤◌, ◌+◌, ◌-◌, ◌^◌, ◌↔◌, length, min, IfOk};
+ghost use Rattle.std.specs.Prelude.{OnErr, IsErr, IsTrue, Contains, []};
 ghost use Rattle.desk_traits.specs.Faults.{next_count};
 ghost use Rattle.byte_streams.specs.Flows.{Reads, Writes};
 ghost use Rattle.byte_streams.specs.StreamMemory.{FailsAsTold};
 ghost use Rattle.desk_links.specs.LinkMemory.{KeepsIn, KeepsOut, link_input, link_output};
+ghost use Rattle.desk_links.specs.LinkMemory.{link_with, with_failed_read};
 
 use crate::link::Link;
 use byte_streams::{Sink, Source};
@@ -32,7 +34,17 @@ impl Model for MemLink {
 
     ghost Value = { LinkInMemory };
 
-    ghost view = { λ l. record { read = take l.at l.bytes; left = drop l.at l.bytes; written = l.written; piece = l.piece; failing = l.failing; calls = l.calls; read_faults = l.read_faults; write_faults = l.write_faults; lacked = l.lacked } };
+    ghost view = { λ l. record {
+      read = take l.at l.bytes;
+      left = drop l.at l.bytes;
+      written = l.written;
+      piece = l.piece;
+      failing = l.failing;
+      calls = l.calls;
+      read_faults = l.read_faults;
+      write_faults = l.write_faults;
+      lacked = l.lacked;
+    } };
 
     ghost invariant = { λ l. (l.at ≤ length l.bytes) × (1 ≤ l.piece) };
 }
@@ -43,7 +55,7 @@ impl MemLink {
     /// which memory lacks.
     pub fn new(alloc: Global, bytes: &[u8], piece: usize, failing: &List<u64>) -> Result<Self, Oom>
         requires { 1 ≤ piece }
-        ensures { IfOk result (λ l. l ≡ record { read = []; left = bytes.now; written = []; piece = piece; failing = failing.now; calls = 0; read_faults = 0; write_faults = 0; lacked = false }) }
+        ensures { IfOk result (λ l. l ≡ link_with bytes.now piece failing.now) }
     {
         Ok(MemLink {
             bytes: List::from_slice(alloc, bytes)?,
@@ -75,7 +87,7 @@ impl MemLink {
     // Counts a read, and that it failed.
     pub(crate) fn fail_read(&mut self)
         ensures later { self.old.read_faults ≤ self.new.read_faults }
-        ensures new { self.new ≡ record { read = self.old.read; left = self.old.left; written = self.old.written; piece = self.old.piece; failing = self.old.failing; calls = next_count self.old.calls; read_faults = next_count self.old.read_faults; write_faults = self.old.write_faults; lacked = self.old.lacked } }
+        ensures new { self.new ≡ with_failed_read self.old }
     {
         self.calls = self.calls.saturating_add(1);
         self.read_faults = self.read_faults.saturating_add(1);
@@ -99,11 +111,14 @@ impl Source for MemLink {
         ensures counted { OnErr result (self.new.read_faults ≡ next_count self.old.read_faults) }
         ensures beside { KeepsOut self.old self.new }
 
-        // It fails at exactly the listed calls, and gives all that a piece and the buffer may hold at the others.
+        // It fails at exactly the listed calls, and gives all that a piece and the buffer may hold
+        // at the others.
         ensures failing { IsErr result ↔ Contains self.old.failing (next_count self.old.calls) }
-        ensures amount { IfOk result (λ n. n ≡ min (min (length self.old.left) self.old.piece) (length into.old)) }
+        ensures amount { IfOk result
+            (λ n. n ≡ min (min (length self.old.left) self.old.piece) (length into.old)) }
         ensures called { self.new.calls ≡ next_count self.old.calls }
-        ensures kept { (self.new.failing ≡ self.old.failing) × (self.new.piece ≡ self.old.piece) × (self.new.lacked ≡ self.old.lacked) }
+        ensures kept { (self.new.failing ≡ self.old.failing) × (self.new.piece ≡ self.old.piece)
+            × (self.new.lacked ≡ self.old.lacked) }
     {
         self.calls = self.calls.saturating_add(1);
         if self.failing.as_slice().contains(&self.calls) {
@@ -135,8 +150,10 @@ impl Sink for MemLink {
         ensures counted { OnErr result (self.new.write_faults ≡ next_count self.old.write_faults) }
         ensures beside { KeepsIn self.old self.new }
 
-        // It fails at exactly the listed calls, and where memory lacks, and takes the whole piece at the others.
-        ensures failing { FailsAsTold (Contains self.old.failing (next_count self.old.calls)) self.old.lacked self.new.lacked result }
+        // It fails at exactly the listed calls, and where memory lacks, and takes the whole piece
+        // at the others.
+        ensures failing { FailsAsTold (Contains self.old.failing (next_count self.old.calls))
+            self.old.lacked self.new.lacked result }
         ensures amount { IfOk result (λ n. n ≡ length bytes.now) }
         ensures called { self.new.calls ≡ next_count self.old.calls }
         ensures kept { (self.new.failing ≡ self.old.failing) × (self.new.piece ≡ self.old.piece) }

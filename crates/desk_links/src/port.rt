@@ -42,7 +42,8 @@ pub trait Port {
     ///
     /// # Errors
     ///
-    /// `No(Failed)` where the port can't be had; the count of faults rose. `OutOfMemory`.
+    /// `No(Failed)` where the port can't be had; the count of faults rose. `OutOfMemory`, where it
+    /// did not.
     fn listen(&mut self, port: u16, doors: usize) -> Result<List<Self::Door>, Or<Failed>>
         ensures { Listens Self.Door.state (state self.old) (state self.new) port doors result };
 

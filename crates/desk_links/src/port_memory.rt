@@ -1,9 +1,12 @@
 //! A port in memory, whose doors give the links that it was made with.
-ghost use Rattle.std.specs.Prelude.{◌≡◌, ◌≤◌, ◌<◌, ◌+◌, ◌-◌, ◌^◌, ◌++◌, ◌∷◌, [], All, length, drop, min, IfOk, OnOk, OnErr};
-ghost use Rattle.desk_traits.specs.Faults.{Rose};
+ghost use Rattle.std.specs.Prelude.{◌≡◌, ◌≤◌, ◌<◌, ◌+◌, ◌-◌, ◌^◌, ◌++◌, ◌∷◌, []};
+ghost use Rattle.std.specs.Prelude.{All, length, drop, min, IfOk, OnOk, OnErr};
 ghost use Rattle.desk_links.specs.Links.{GivesLink};
-ghost use Rattle.desk_links.specs.Listening.{MayFail};
-ghost use Rattle.desk_links.specs.LinkMemory.{IsIdle, IsUntouched, Lends, all_links, dealt, door_state, door_with, doors_with, first_door, first_list, link_state, port_state, with_back};
+ghost use Rattle.desk_links.specs.Listening.{RoseAsTold};
+ghost use Rattle.desk_links.specs.LinkMemory.{IsIdle, IsUntouched, Lends, all_links, dealt};
+ghost use Rattle.desk_links.specs.LinkMemory.{door_state, door_with, doors_with, first_door};
+ghost use Rattle.desk_links.specs.LinkMemory.{first_list, link_state, port_state, port_with};
+ghost use Rattle.desk_links.specs.LinkMemory.{with_back};
 
 use crate::lent::LentLinks;
 use crate::link_memory::MemLink;
@@ -117,9 +120,15 @@ impl Model for MemPort {
 
     ghost Value = { PortInMemory };
 
-    ghost view = { λ p. record { doors = p.doors.items; back = p.back; numbers = p.numbers.items; faults = p.faults } };
+    ghost view = { λ p. record {
+      doors = p.doors.items;
+      back = p.back;
+      numbers = p.numbers.items;
+      faults = p.faults;
+    } };
 
-    ghost invariant = { λ p. (length p.back ≤ length (all_links p.back)) × All IsIdle p.doors.items };
+    ghost invariant = { λ p. (length p.back ≤ length (all_links p.back))
+        × All IsIdle p.doors.items };
 }
 
 impl MemPort {
@@ -132,7 +141,7 @@ impl MemPort {
         failing: &List<List<u64>>,
     ) -> Result<Self, Oom>
         requires { All (λ list. All IsUntouched list) links }
-        ensures { IfOk result (λ port. port ≡ record { doors = doors_with links failing.now; back = []; numbers = []; faults = 0 }) }
+        ensures { IfOk result (λ port. port ≡ port_with (doors_with links failing.now)) }
     {
         let mut doors = VecDeque::with_capacity(alloc, links.len())?;
         let mut place = 0;
@@ -175,7 +184,7 @@ impl Port for MemPort {
         ensures count { IfOk result (λ list. length list ≡ doors) }
         ensures unused { IfOk result (λ list. All IsIdle list) }
         ensures later { self.old.faults ≤ self.new.faults }
-        ensures cause { MayFail (Rose self.old.faults self.new.faults) result }
+        ensures counted { RoseAsTold self.old.faults self.new.faults result }
         ensures faults { self.new.faults ≡ self.old.faults }
         ensures back { self.new.back ≡ self.old.back }
         ensures numbers { OnOk result (self.new.numbers ≡ self.old.numbers ++ port ∷ []) }
@@ -197,7 +206,8 @@ impl Port for MemPort {
     fn return_door(&mut self, door: MemDoor)
         requires none_out { door.given ≡ length door.back }
         requires few { length (all_links self.old.back) + length door.back < 2 ^ 32 }
-        ensures returned { length (all_links self.new.back) ≡ length (all_links self.old.back) + length door.back }
+        ensures returned { length (all_links self.new.back)
+            ≡ length (all_links self.old.back) + length door.back }
         ensures links { all_links self.new.back ≡ all_links self.old.back ++ door.back }
         ensures numbers { self.new.numbers ≡ self.old.numbers }
         ensures faults { self.new.faults ≡ min (self.old.faults + door.faults) (2 ^ 64 - 1) }

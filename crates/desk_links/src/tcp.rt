@@ -1,5 +1,5 @@
-//! The port and doors of the system, over TCP on this machine's own address. They tell nothing of the
-//! links, and are trusted.
+//! The port and doors of the system, over TCP on this machine's own address. They tell nothing of
+//! the links, and are trusted.
 ghost use Rattle.std.specs.Prelude.{◌≡◌, All, length, IfOk};
 
 use crate::port::{Door, Port};
@@ -12,8 +12,8 @@ use std::net::{Ipv4Addr, Net, SocketAddr, SocketAddrV4, TcpListener, TcpStream};
 use std::sync::Arc;
 use std::time::{Clock, Duration};
 
-// How often an accept is tried in a row where a connection broke off before it was taken, or where the
-// system has no descriptor or no memory for it just now.
+// How often an accept is tried in a row where a connection broke off before it was taken, or where
+// the system has no descriptor or no memory for it just now.
 const TRIES: usize = 100;
 
 // The milliseconds that are waited before an accept is tried again for want of these.
@@ -115,7 +115,8 @@ fn doors_over<C: Clock + Copy>(
     doors: usize,
 ) -> Result<Vec<TcpDoor<C>>, Oom>
     ensures count { IfOk result (λ list. length list.items ≡ doors) }
-    ensures unused { IfOk result (λ list. All (λ door. (door.given ≡ 0) × (door.returned ≡ 0) × (door.faults ≡ 0)) list.items) }
+    ensures unused { IfOk result (λ list. All
+        (λ door. (door.given ≡ 0) × (door.returned ≡ 0) × (door.faults ≡ 0)) list.items) }
 {
     let shared = Arc::new(alloc, listener)?;
     let mut list = Vec::with_capacity(alloc, doors)?;

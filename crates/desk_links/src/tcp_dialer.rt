@@ -12,8 +12,9 @@ use desk_traits::Failed;
 use std::net::{Ipv4Addr, Net, SocketAddr, SocketAddrV4, TcpListener, TcpStream};
 use std::time::Clock;
 
-/// A stream whose reads fail where the other side's bytes end. It takes what the system has of them,
-/// up to 4,096 bytes, and hands out those that are asked for; the others wait for the next read.
+/// A stream whose reads fail where the other side's bytes end. It takes what the system has of
+/// them, up to 4,096 bytes, and hands out those that are asked for; the others wait for the next
+/// read.
 #[derive(Drop)]
 pub struct TcpPeer<C> {
     link: TcpLink<C>,
@@ -26,12 +27,14 @@ impl<C: Clock> Source for TcpPeer<C> {
     ghost reads = { λ old new. new.link.write_faults ≡ old.link.write_faults };
 
     fn read(&mut self, into: &mut [u8]) -> Result<usize, Failed>
-        ensures read { Reads (untold_input self.old.link.read_faults) (untold_input self.new.link.read_faults) result into.new }
+        ensures read { Reads (untold_input self.old.link.read_faults)
+            (untold_input self.new.link.read_faults) result into.new }
         ensures beside { self.new.link.write_faults ≡ self.old.link.write_faults }
         ensures some { IfOk result (λ n. 0 < length into.old → 0 < n) }
 
         // What waits is handed out first, in its order, and nothing of it is lost.
-        ensures waiting { self.old.ahead ≢ [] → IfOk result (λ n. self.old.ahead ≡ take n into.new ++ self.new.ahead) }
+        ensures waiting { self.old.ahead ≢ []
+            → IfOk result (λ n. self.old.ahead ≡ take n into.new ++ self.new.ahead) }
     {
         if self.ahead.is_empty() && !into.is_empty() {
             self.ahead.fill(&mut self.link)?;
@@ -53,7 +56,8 @@ impl<C: Clock> Sink for TcpPeer<C> {
 
     ghost no_writes = { λ p. count_same p.link.read_faults };
 
-    ghost more_writes = { λ old mid new first second. count_kept old.link.read_faults mid.link.read_faults new.link.read_faults first second };
+    ghost more_writes = { λ old mid new first second. count_kept
+        old.link.read_faults mid.link.read_faults new.link.read_faults first second };
 
     fn write(&mut self, bytes: &[u8]) -> Result<usize, Failed> {
         self.link.write(bytes)
@@ -71,10 +75,12 @@ impl<C: Clock> Link for TcpPeer<C> {
     ghost shows_output = { λ _. refl };
 
     ghost reads_alone = { λ old new kept.
-        keeps_output old.link.read_faults new.link.read_faults old.link.write_faults new.link.write_faults kept };
+        keeps_output old.link.read_faults new.link.read_faults
+        old.link.write_faults new.link.write_faults kept };
 
     ghost writes_alone = { λ old new kept.
-        keeps_input old.link.read_faults new.link.read_faults old.link.write_faults new.link.write_faults kept };
+        keeps_input old.link.read_faults new.link.read_faults
+        old.link.write_faults new.link.write_faults kept };
 
     ghost told_whole = { λ _. tt };
 }

@@ -1,5 +1,5 @@
-//! The link of the system, over TCP, with a bound for all that it waits for. It tells nothing of the
-//! bytes, and is trusted.
+//! The link of the system, over TCP, with a bound for all that it waits for. It tells nothing of
+//! the bytes, and is trusted.
 ghost use Rattle.std.specs.Prelude.{◌≡◌, ◌≤◌, ◌<◌, length, IfSome};
 ghost use Rattle.desk_links.specs.LinkLaws.{untold_input, untold_output};
 
@@ -10,13 +10,13 @@ use std::io::{ErrorKind, Read, Write};
 use std::net::{Shutdown, TcpStream};
 use std::time::{Clock, Duration};
 
-// The seconds for which a link that is served may be silent between two calls. No single read of such
-// a link waits longer.
+// The seconds for which a link that is served may be silent between two calls. No single read of
+// such a link waits longer.
 const IDLE: u64 = 5;
 
-// The seconds that a call has, from its first byte to its last, and those that an answer has. Each has
-// one second more for so many bytes of it, and the most seconds in all. So a head has the first of
-// these, but for one that comes fast.
+// The seconds that a call has, from its first byte to its last, and those that an answer has. Each
+// has one second more for so many bytes of it, and the most seconds in all. So a head has the first
+// of these, but for one that comes fast.
 const CALL: u64 = 10;
 
 const ANSWER: u64 = 5;
@@ -25,7 +25,8 @@ const BYTES_A_SECOND: u64 = 1_024;
 
 const MOST: u64 = 30;
 
-// The seconds of a single write, and those within which an answer that is taken whole is taken quickly.
+// The seconds of a single write, and those within which an answer that is taken whole is taken
+// quickly.
 const WRITE: u64 = 3;
 
 const QUICK: u64 = 1;
@@ -151,8 +152,8 @@ impl<C: Clock> Wire<C> {
         }
     }
 
-    // The time since some start. Where the clock can't be read none passes, and the single waits are
-    // the only bound.
+    // The time since some start. Where the clock can't be read none passes, and the single waits
+    // are the only bound.
     fn now(&self) -> Duration {
         self.clock.monotonic().unwrap_or(Duration::ZERO)
     }
@@ -165,7 +166,8 @@ impl<C: Clock> Wire<C> {
         }
     }
 
-    // How long a wait may be that ends then at the latest, and the most; None where the time is over.
+    // How long a wait may be that ends then at the latest, and the most; None where the time is
+    // over.
     fn wait_until(&self, end: Duration, most: Duration) -> Option<Duration> {
         let left = end.saturating_sub(self.now());
         if left.is_zero() {
@@ -276,8 +278,9 @@ impl<C: Clock> Wire<C> {
         None
     }
 
-    // Behind a whole answer the other side may still be sending, and loses the answer where bytes of
-    // it are unread when the link closes. So its end is told, and what it sends is read for a while.
+    // Behind a whole answer the other side may still be sending, and loses the answer where bytes
+    // of it are unread when the link closes. So its end is told, and what it sends is read for a
+    // while.
     fn linger(&mut self) {
         if !self.answered || self.stream.shutdown(Shutdown::Write).is_err() {
             return;
@@ -303,14 +306,15 @@ impl<C: Clock> Wire<C> {
     }
 }
 
-/// A stream with a count of the reads that failed and one of the writes. It knows by the order of its
-/// own reads and writes what it waits for: what is read before anything is written is a call, and what
-/// is written then is an answer, up to a write that takes the whole of its piece. A read or write that
-/// passes a bound has failed. These are five seconds of silence between calls, ten seconds for a call
-/// and five for an answer, each with one more for every 1,024 bytes of it, up to thirty. No three seconds
-/// of an answer may pass without a byte, and answers that are not taken quickly share their seconds with
-/// the next one. On a link that was dialled each read and each write has thirty seconds. A write that
-/// takes nothing of a piece has failed, too. What a signal interrupts is tried again.
+/// A stream with a count of the reads that failed and one of the writes. It knows by the order of
+/// its own reads and writes what it waits for: what is read before anything is written is a call,
+/// and what is written then is an answer, up to a write that takes the whole of its piece. A read
+/// or write that passes a bound has failed. These are five seconds of silence between calls, ten
+/// seconds for a call and five for an answer, each with one more for every 1,024 bytes of it, up to
+/// thirty. No three seconds of an answer may pass without a byte, and answers that are not taken
+/// quickly share their seconds with the next one. On a link that was dialled each read and each
+/// write has thirty seconds. A write that takes nothing of a piece has failed, too. What a signal
+/// interrupts is tried again.
 #[derive(Drop)]
 pub struct TcpLink<C> {
     wire: Wire<C>,
@@ -365,7 +369,8 @@ impl<C: Clock> Sink for TcpLink<C> {
 
     ghost no_writes = { λ l. count_same l.read_faults };
 
-    ghost more_writes = { λ old mid new first second. count_kept old.read_faults mid.read_faults new.read_faults first second };
+    ghost more_writes = { λ old mid new first second. count_kept
+        old.read_faults mid.read_faults new.read_faults first second };
 
     fn write(&mut self, bytes: &[u8]) -> Result<usize, Failed> {
         match self.wire.send(bytes) {

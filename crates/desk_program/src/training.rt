@@ -11,8 +11,8 @@ use office_core::{a_request_has_one_answer, offices_begin_in_agreement};
 use program_ends::{End, end_at_once, run_lines};
 use std::alloc::Global;
 
-/// Answers each line of an input of at most `limit` bytes by a training office, and returns the status
-/// of the program.
+/// Answers each line of an input of at most `limit` bytes by a training office, and returns the
+/// status of the program.
 pub fn run_training<S: Source, K: Sink>(
     alloc: Global,
     dry: &Dry,

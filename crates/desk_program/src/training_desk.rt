@@ -1,5 +1,7 @@
-//! The training office: an office in memory that takes each line as a request of its one desk, at one minute.
-ghost use Rattle.std.specs.Prelude.{◌≡◌, ◌<◌, IfOk, IsSome, IsTrue, OnErr, OnOk, Ok, Some, option_map};
+//! The training office: an office in memory that takes each line as a request of its one desk, at
+//! one minute.
+ghost use Rattle.std.specs.Prelude.{◌≡◌, ◌<◌, IfOk, IsSome, IsTrue};
+ghost use Rattle.std.specs.Prelude.{OnErr, OnOk, Ok, Some, option_map};
 ghost use Rattle.hazard_types.specs.Characters.{is_office};
 ghost use Rattle.request_json.specs.Formed.{IsIssuePart};
 ghost use Rattle.office_core.specs.Agreement.{ReadsAsTheBoard};
@@ -8,7 +10,8 @@ ghost use Rattle.office_core.specs.State.{last_number};
 ghost use Rattle.office_core.specs.Step.{state_after};
 ghost use Rattle.program_ends.specs.Replies.{bytes_of};
 ghost use Rattle.desk_commands.specs.Lines.{refusal_line};
-ghost use Rattle.desk_program.specs.Training.{AnswersIssue, IsTraining, Replies, Lacks, dry_desk, first_training};
+ghost use Rattle.desk_program.specs.Training.{AnswersIssue, IsTraining, Replies};
+ghost use Rattle.desk_program.specs.Training.{Lacks, dry_desk, first_training};
 
 use crate::words::Dry;
 use desk_settings::training_settings;
@@ -49,7 +52,8 @@ fn dry_desk() -> Desk
 /// The text of the product that is to be committed.
 fn product_text(prepared: &Prepared) -> Result<Text, Oom>
     requires { IsSome prepared.now.made }
-    ensures { IfOk result (λ text. option_map (λ made. made.sent.text) prepared.now.made ≡ Some text) }
+    ensures { IfOk result
+        (λ text. option_map (λ made. made.sent.text) prepared.now.made ≡ Some text) }
 {
     match prepared.text() {
         Some(text) => Ok(text.clone()?),
@@ -57,13 +61,17 @@ fn product_text(prepared: &Prepared) -> Result<Text, Oom>
     }
 }
 
-/// Commits an issue that was accepted, and returns the text of its product, whose memory is taken first.
+/// Commits an issue that was accepted, and returns the text of its product, whose memory is taken
+/// first.
 fn accept(office: &mut Office, prepared: Prepared) -> Result<Reply, Oom>
     requires may { MayCommit office.old prepared }
     requires made { IsSome prepared.made }
-    ensures text { IfOk result (λ reply. option_map (λ made. made.sent.text) prepared.made ≡ Some (bytes_of reply)) }
-    ensures state { OnOk result (office.new.state ≡ state_after office.old.state prepared.entry prepared.made) }
-    ensures number { OnOk result (last_number office.new.state prepared.entry.desk ≡ prepared.entry.seq) }
+    ensures text { IfOk result
+        (λ reply. option_map (λ made. made.sent.text) prepared.made ≡ Some (bytes_of reply)) }
+    ensures state { OnOk result
+        (office.new.state ≡ state_after office.old.state prepared.entry prepared.made) }
+    ensures number { OnOk result
+        (last_number office.new.state prepared.entry.desk ≡ prepared.entry.seq) }
     ensures reads { OnOk result (ReadsAsTheBoard office.new.state) }
     ensures lacked { OnErr result (office.new.state ≡ office.old.state) }
 {
@@ -84,7 +92,8 @@ fn refusal_reply(alloc: Global, refusal: &Refusal) -> Result<Reply, Oom>
 fn answer_issue(alloc: Global, office: &mut Office, at: Minute, part: PutPart) -> Result<Reply, Oom>
     requires form { IsIssuePart part }
     requires training { IsTraining office.old.state at }
-    ensures answered { IfOk result (λ reply. AnswersIssue at office.old.state (Ok part) (bytes_of reply) office.new.state) }
+    ensures answered { IfOk result (λ reply. AnswersIssue at office.old.state (Ok part)
+        (bytes_of reply) office.new.state) }
     ensures training { IsTraining office.new.state at }
     ensures lacked { OnErr result (office.new.state ≡ office.old.state) }
 {
@@ -110,7 +119,10 @@ impl TrainingDesk {
     /// Out of memory.
     pub fn new(alloc: Global, dry: &Dry) -> Result<Self, Oom>
         requires { IsTrue (is_office dry.now.office) }
-        ensures { IfOk result (λ desk. desk ≡ record { state = first_training dry.now.office; at = dry.now.minute }) }
+        ensures { IfOk result (λ desk. desk ≡ record {
+          state = first_training dry.now.office;
+          at = dry.now.minute;
+        }) }
     {
         offices_begin_in_agreement();
         let settings = training_settings(alloc, dry.office)?;

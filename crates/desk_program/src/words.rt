@@ -1,6 +1,7 @@
 //! The words of the command line.
 ghost use Rattle.std.specs.Prelude.{◌≡◌, IfSome};
-ghost use Rattle.desk_program.specs.Words.{IsCommand, board_words, command_of, drill_words, dry_words, single_word, three_words};
+ghost use Rattle.desk_program.specs.Words.{IsCommand, board_words, command_of, drill_words};
+ghost use Rattle.desk_program.specs.Words.{dry_words, single_word, three_words};
 
 use desk_drill::{Drill, drill_in};
 use hazard_types::{List, Minute, Text, read_stamp};

@@ -1,6 +1,6 @@
 -- Runs of device calls.
-use Rattle.std.proofs.Common.{◌≡◌, inl, inr, ⊎_elim, ℕ, ◌≤◌, List, Option, None, Some, refl, ◌∙◌, subst, arith, length, Result, OnOk}
-use Rattle.desk_traits.specs.Crash.{Passes, LeavesOnly}
+use Rattle.std.proofs.Common.{◌≡◌, inl, inr, ⊎_elim, ℕ, List, Option, None, Some, refl, ◌∙◌, subst, arith, length, Result, OnOk}
+use Rattle.desk_traits.specs.Crash.{Crashes, AreCrashes, Passes, LeavesOnly}
 use Rattle.desk_traits.specs.File.{Torn, HasBytes, WritesAt, Same}
 
 -- what a write leaves of a file that is told
@@ -18,17 +18,14 @@ told_after at bytes None new result f e w = absurd (cc)
 told_after at bytes (Some o) None result f e w = absurd w
 told_after at bytes (Some o) (Some n) result f e w = after at bytes o n f result (cc) w
 
-module _ {D : Type 0} (moment : D → ℕ) (left_since : D → ℕ → List ℕ → Type 0) (may_leave : D → List ℕ → Type 0)
-    (counts_now : (d : D) (c : List ℕ) → may_leave d c → left_since d (moment d) c)
-    (only_now : (d : D) (c : List ℕ) → left_since d (moment d) c → may_leave d c)
-    (earlier : (d : D) (t u : ℕ) (c : List ℕ) → t ≤ u → u ≤ moment d → left_since d u c → left_since d t c) where
+module _ {D : Type 0} (crash : D → Crashes) (are_crashes : (d : D) → AreCrashes (crash d)) where
   -- no call
-  pub nothing : (d : D) (P : List ℕ → Type 0) → ((c : List ℕ) → may_leave d c → P c) → LeavesOnly moment left_since d d P
-  nothing d P now = record { later = omega arith; each = λ c left. now c (only_now d c left); joins = λ t c le left. inl left; keeps = λ t c le left. left }
+  pub nothing : (d : D) (P : List ℕ → Type 0) → ((c : List ℕ) → (crash d).may_leave c → P c) → LeavesOnly (crash d) (crash d) P
+  nothing d P now = record { later = omega arith; each = λ c left. now c ((are_crashes d).only_now c left); joins = λ t c le left. inl left; keeps = λ t c le left. left }
 
   -- one call
-  pub one : (old new : D) (step : List ℕ → List ℕ → Type 0) (P : List ℕ → Type 0) → Passes step (moment old) (moment new) (may_leave old) (left_since old) (left_since new)
-      → ((d c : List ℕ) → may_leave old d → step d c → P c) → LeavesOnly moment left_since old new P
+  pub one : (old new : D) (step : List ℕ → List ℕ → Type 0) (P : List ℕ → Type 0) → Passes step (crash old) (crash new)
+      → ((d c : List ℕ) → (crash old).may_leave d → step d c → P c) → LeavesOnly (crash old) (crash new) P
   one old new step P passes each = record {
     later = passes.later;
     each = λ c left. let from = passes.during c left in each from.0 c from.1 from.2;
@@ -37,37 +34,34 @@ module _ {D : Type 0} (moment : D → ℕ) (left_since : D → ℕ → List ℕ 
   }
 
   -- one run and then another
-  pub both : (old mid new : D) (P Q : List ℕ → Type 0) → LeavesOnly moment left_since old mid P → LeavesOnly moment left_since mid new Q → ((c : List ℕ) → P c → Q c) → LeavesOnly moment left_since old new Q
-  both old mid new P Q first second weaker = record {
+  pub both : (old mid new : D) (P Q : List ℕ → Type 0) → LeavesOnly (crash old) (crash mid) P → LeavesOnly (crash mid) (crash new) Q → ((c : List ℕ) → P c → Q c) → LeavesOnly (crash old) (crash new) Q
+  both old mid new P Q first second weaker = let start = (crash old).moment in record {
     later = omega (arith, first.later, second.later);
-    each = λ c left. ⊎_elim (λ was. weaker c (first.each c was)) (second.each c) (second.joins (moment old) c first.later left);
+    each = λ c left. ⊎_elim (λ was. weaker c (first.each c was)) (second.each c) (second.joins start c first.later left);
     joins = λ t c le left. ⊎_elim
-        (λ was. ⊎_elim (λ long. inl long) (λ since. inr (second.keeps (moment old) c first.later since)) (first.joins t c le was))
-        (λ since. inr (earlier new (moment old) (moment mid) c first.later second.later since))
+        (λ was. ⊎_elim (λ long. inl long) (λ since. inr (second.keeps start c first.later since)) (first.joins t c le was))
+        (λ since. inr ((are_crashes new).earlier start (crash mid).moment c first.later second.later since))
         (second.joins t c (omega (arith, le, first.later)) left);
     keeps = λ t c le left. second.keeps t c (omega (arith, le, first.later)) (first.keeps t c le left);
   }
 
-  pub weaker : (old new : D) (P Q : List ℕ → Type 0) → ((c : List ℕ) → P c → Q c) → LeavesOnly moment left_since old new P → LeavesOnly moment left_since old new Q
+  pub weaker : (old new : D) (P Q : List ℕ → Type 0) → ((c : List ℕ) → P c → Q c) → LeavesOnly (crash old) (crash new) P → LeavesOnly (crash old) (crash new) Q
   weaker old new P Q f run = record { later = run.later; each = λ c left. f c (run.each c left); joins = run.joins; keeps = run.keeps }
 
   -- what a crash may leave in the end
-  pub ends : (old new : D) (P : List ℕ → Type 0) → LeavesOnly moment left_since old new P → (c : List ℕ) → may_leave new c → P c
-  ends old new P run c left = run.each c (earlier new (moment old) (moment new) c run.later (omega arith) (counts_now new c left))
+  pub ends : (old new : D) (P : List ℕ → Type 0) → LeavesOnly (crash old) (crash new) P → (c : List ℕ) → (crash new).may_leave c → P c
+  ends old new P run c left = run.each c ((are_crashes new).earlier (crash old).moment (crash new).moment c run.later (omega arith) ((are_crashes new).counts_now c left))
 
--- two runs that change nothing
-pub same_both : {D : Type 0} (moment : D → ℕ) (left_since : D → ℕ → List ℕ → Type 0) (may_leave : D → List ℕ → Type 0)
-    → ((d : D) (c : List ℕ) → may_leave d c → left_since d (moment d) c) → ((d : D) (t u : ℕ) (c : List ℕ) → t ≤ u → u ≤ moment d → left_since d u c → left_since d t c)
-    → (old mid new : D) → Passes Same (moment old) (moment mid) (may_leave old) (left_since old) (left_since mid) → Passes Same (moment mid) (moment new) (may_leave mid) (left_since mid) (left_since new)
-    → Passes Same (moment old) (moment new) (may_leave old) (left_since old) (left_since new)
-same_both moment left_since may_leave counts_now earlier old mid new first second = record {
-  later = omega (arith, first.later, second.later);
-  during = λ c left. ⊎_elim (first.during c) (λ since. let from = second.during c since in
-      let was = first.during from.0 (earlier mid (moment old) (moment mid) from.0 first.later (omega arith) (counts_now mid from.0 from.1)) in
-      (was.0, was.1, from.2 ∙ was.2)) (second.joins (moment old) c first.later left);
-  joins = λ t c le left. ⊎_elim
-      (λ was. ⊎_elim (λ long. inl long) (λ since. inr (second.keeps (moment old) c first.later since)) (first.joins t c le was))
-      (λ since. inr (earlier new (moment old) (moment mid) c first.later second.later since))
-      (second.joins t c (omega (arith, le, first.later)) left);
-  keeps = λ t c le left. second.keeps t c (omega (arith, le, first.later)) (first.keeps t c le left);
-}
+  -- two runs that change nothing
+  pub same_both : (old mid new : D) → Passes Same (crash old) (crash mid) → Passes Same (crash mid) (crash new) → Passes Same (crash old) (crash new)
+  same_both old mid new first second = let start = (crash old).moment in record {
+    later = omega (arith, first.later, second.later);
+    during = λ c left. ⊎_elim (first.during c) (λ since. let from = second.during c since in
+        let was = first.during from.0 ((are_crashes mid).earlier start (crash mid).moment from.0 first.later (omega arith) ((are_crashes mid).counts_now from.0 from.1)) in
+        (was.0, was.1, from.2 ∙ was.2)) (second.joins start c first.later left);
+    joins = λ t c le left. ⊎_elim
+        (λ was. ⊎_elim (λ long. inl long) (λ since. inr (second.keeps start c first.later since)) (first.joins t c le was))
+        (λ since. inr ((are_crashes new).earlier start (crash mid).moment c first.later second.later since))
+        (second.joins t c (omega (arith, le, first.later)) left);
+    keeps = λ t c le left. second.keeps t c (omega (arith, le, first.later)) (first.keeps t c le left);
+  }

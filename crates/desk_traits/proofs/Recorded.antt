@@ -2,9 +2,9 @@
 use Rattle.std.proofs.Common.{◌≡◌, ◌⊎◌, inl, inr, ⊎_elim, ℕ, ◌+◌, ◌≤◌, ◌<◌, Bool, true, false, cond, leb, List, [], ◌∷◌, ◌++◌, length, take, drop, Some, refl, sym, ◌∙◌, ap, subst, arith, length-append, leb-true, le-leb, ◌-◌, ◌/◌, ◌%◌, ◌==◌, replicate, length-take, drop-drop, append-nil, Result, Ok, Err, OnOk, OnErr}
 use borrow.Author.Tests.{leb-false}
 use Rattle.std.proofs.lemmas.List.{take_all, take-append-le, length-replicate}
-use Rattle.desk_traits.specs.Crash.{Passes}
+use Rattle.desk_traits.specs.Crash.{Passes, any_crash}
 use Rattle.desk_traits.specs.File.{Torn, Same}
-use Rattle.desk_traits.specs.DiskMemory.{written, next, replay, after_call, leaves, MayLeave, LeftSince, is_write, is_synced, synced_at, torn_to, crash_after, crash_by, picked}
+use Rattle.desk_traits.specs.DiskMemory.{written, next, replay, after_call, leaves, MayLeave, LeftSince, crashes_of, is_write, is_synced, synced_at, torn_to, crash_after, crash_by, picked}
 use Rattle.desk_traits.specs.DiskTold.{Comes}
 use Rattle.desk_traits.specs.DiskMemoryLaws.{torn_not, torn_put, seen_left}
 use Rattle.desk_traits.specs.declared.disk_crash.Crashed.{Crashed}
@@ -19,7 +19,7 @@ leaves-push : (file : List ℕ) (P : List ℕ → Type 0) (calls : List DiskCall
 leaves-push file P [] call c left = left
 leaves-push file P (x ∷ calls) call c left = leaves-push (next x file) (after_call x file P) calls call c left
 
-passes_same : (first : List ℕ) (calls : List DiskCall) (step : List ℕ → List ℕ → Type 0) → ((c : List ℕ) → step c c) → Passes step (length calls) (length calls) (MayLeave first calls) (LeftSince first calls) (LeftSince first calls)
+passes_same : (first : List ℕ) (calls : List DiskCall) (step : List ℕ → List ℕ → Type 0) → ((c : List ℕ) → step c c) → Passes step (crashes_of first calls) (crashes_of first calls)
 passes_same first calls step stays = record {
   later = omega arith;
   during = λ c since. (c, subst (λ (l : List DiskCall). MayLeave first l c) (take_all since.k calls (omega (arith, since.from))) since.left, stays c);
@@ -54,7 +54,7 @@ module _ (first : List ℕ) (calls : List DiskCall) (call : DiskCall) (step : Li
       let lt : length calls < since.k = leb-false since.k (length calls) e in
       inr (record { k = since.k; from = omega arith; upto = since.upto; left = since.left })
 
-  pub passes_push : Passes step (length calls) (length (calls ++ call ∷ [])) (MayLeave first calls) (LeftSince first calls) (LeftSince first (calls ++ call ∷ []))
+  pub passes_push : Passes step (crashes_of first calls) (crashes_of first (calls ++ call ∷ []))
   passes_push = record {
     later = omega (arith, long);
     during = λ c since. during_by c since (leb since.k (length calls)) refl;
@@ -64,7 +64,7 @@ module _ (first : List ℕ) (calls : List DiskCall) (call : DiskCall) (step : Li
 
 -- from the calls of a disk to those of a later one
 abbrev pub Goes : (List ℕ → List ℕ → Type 0) → List ℕ → List ℕ → List DiskCall → List DiskCall → Type 0
-Goes step first first' calls new = Passes step (length calls) (length new) (MayLeave first calls) (LeftSince first calls) (LeftSince first' new)
+Goes step first first' calls new = Passes step (crashes_of first calls) (crashes_of first' new)
 
 pub goes_push : (step : List ℕ → List ℕ → Type 0) (first first' : List ℕ) (calls calls' new : List DiskCall) (call : DiskCall) → ((c : List ℕ) → step c c)
     → ((c : List ℕ) → after_call call (replay first calls) (MayLeave first calls) c → (d : List ℕ) × MayLeave first calls d × step d c)
@@ -238,5 +238,5 @@ pub picked_may : (first : List ℕ) (pick : ℕ) (calls : List DiskCall) (file :
 picked_may first pick calls file is = subst (MayLeave first calls) (sym is) (picked_left pick calls (record { seen = first; left = first; digits = pick }) (λ d. d ≡ first) refl)
 
 -- a write where nothing is told
-pub untold_write : (at n : ℕ) → Passes (Torn at n) 0 0 (λ c. Unit {0}) (λ t c. Unit {0}) (λ t c. Unit {0})
+pub untold_write : (at n : ℕ) → Passes (Torn at n) any_crash any_crash
 untold_write at n = record { later = omega arith; during = λ c left. (c, tt, torn_not at n c); joins = λ t c le left. inl tt; keeps = λ t c le left. tt }

@@ -1,5 +1,6 @@
 -- A disk in memory: what its calls have made of its file, and what a crash may leave.
 use Rattle.std.specs.Prelude.{◌≡◌, ℕ, ◌+◌, ◌/◌, ◌%◌, ◌≤◌, ◌==◌, Bool, true, false, List, [], ◌∷◌, ◌++◌, length, take, drop, replicate, cond, leb, if◌then◌else◌}
+use Rattle.desk_traits.specs.Crash.{Crashes}
 use Rattle.desk_traits.specs.File.{Torn}
 use Rattle.desk_traits.specs.declared.disk_record.DiskCall.{DiskCall}
 use Rattle.desk_traits.specs.declared.disk_crash.Crashed.{Crashed}
@@ -41,6 +42,10 @@ pub record LeftSince (first : List ℕ) (calls : List DiskCall) (t : ℕ) (c : L
   pub from : t ≤ k
   pub upto : k ≤ length calls
   pub left : MayLeave first (take k calls) c
+
+-- what crashes may leave after the calls, of which each is a moment
+abbrev pub crashes_of : List ℕ → List DiskCall → Crashes
+crashes_of first calls = record { moment = length calls; may_leave = MayLeave first calls; left_since = LeftSince first calls }
 
 -- a write, failed or not
 abbrev pub is_write : DiskCall → Bool

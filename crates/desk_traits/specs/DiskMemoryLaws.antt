@@ -1,19 +1,23 @@
 -- The laws of a disk, for a disk in memory.
 use Rattle.std.proofs.Common.{◌≡◌, ℕ, ◌+◌, ◌≤◌, Bool, true, false, cond, leb, leb-true, List, [], ◌∷◌, ◌++◌, length, take, drop, Some, refl, sym, ◌∙◌, ap, subst, arith, append_assoc, length-append, length-drop, length-take}
 use Rattle.std.proofs.lemmas.List.{take_all, take_at, drop_at}
+use Rattle.desk_traits.specs.Crash.{AreCrashes}
 use Rattle.desk_traits.specs.File.{Torn}
-use Rattle.desk_traits.specs.DiskMemory.{next, replay, after_call, leaves, MayLeave, LeftSince}
+use Rattle.desk_traits.specs.DiskMemory.{next, replay, after_call, leaves, MayLeave, LeftSince, crashes_of}
 use Rattle.desk_traits.specs.declared.disk_record.DiskCall.{DiskCall}
 use Rattle.desk_traits.specs.declared.disk_record.DiskCall.TheVariants.{Looked, Read, Wrote, Synced, LookFailed, ReadFailed, WriteFailed, SyncFailed}
 
-pub counts : (first : List ℕ) (calls : List DiskCall) (c : List ℕ) → MayLeave first calls c → LeftSince first calls (length calls) c
+counts : (first : List ℕ) (calls : List DiskCall) (c : List ℕ) → MayLeave first calls c → LeftSince first calls (length calls) c
 counts first calls c left = record { k = length calls; from = omega arith; upto = omega arith; left = subst (λ (l : List DiskCall). MayLeave first l c) (sym (take_all (length calls) calls (omega arith))) left }
 
-pub only : (first : List ℕ) (calls : List DiskCall) (c : List ℕ) → LeftSince first calls (length calls) c → MayLeave first calls c
+only : (first : List ℕ) (calls : List DiskCall) (c : List ℕ) → LeftSince first calls (length calls) c → MayLeave first calls c
 only first calls c since = subst (λ (l : List DiskCall). MayLeave first l c) (take_all since.k calls (omega (arith, since.from))) since.left
 
-pub sooner : (first : List ℕ) (calls : List DiskCall) (t u : ℕ) (c : List ℕ) → t ≤ u → LeftSince first calls u c → LeftSince first calls t c
+sooner : (first : List ℕ) (calls : List DiskCall) (t u : ℕ) (c : List ℕ) → t ≤ u → LeftSince first calls u c → LeftSince first calls t c
 sooner first calls t u c le since = record { k = since.k; from = omega (arith, le, since.from); upto = since.upto; left = since.left }
+
+pub they_are : (first : List ℕ) (calls : List DiskCall) → AreCrashes (crashes_of first calls)
+they_are first calls = record { counts_now = counts first calls; only_now = only first calls; earlier = λ t u c le upto since. sooner first calls t u c le since }
 
 -- nothing is torn
 pub torn_not : (at n : ℕ) (f : List ℕ) → Torn at n f f

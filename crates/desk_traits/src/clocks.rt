@@ -15,7 +15,8 @@ pub trait Clock {
     /// What a reading may be. No call changes it.
     ghost gives: { Self → ℤ → Type 0 };
 
-    /// A reading, for callers that share the clock. It says nothing of the readings ahead.
+    /// A reading, in minutes, for callers that share the clock. It says nothing of the readings
+    /// ahead.
     fn minute(&self) -> i64
         ensures { gives self.now result };
 
@@ -26,7 +27,8 @@ pub trait Clock {
         ensures ahead { Ticks (ahead self.old) (ahead self.new) result };
 
     /// There is always a reading ahead.
-    ghost never_out: { (clock : Self) (readings : Seq ℤ) → ahead clock ≡ Some readings → 0 < length readings };
+    ghost never_out: { (clock : Self) (readings : Seq ℤ) → ahead clock ≡ Some readings
+        → 0 < length readings };
 }
 
 /// A clock with set readings, the last of which is repeated. It counts the calls of `tick` and
@@ -40,11 +42,17 @@ pub struct SetClock {
 }
 
 impl SetClock {
-    /// A clock with these readings.
+    /// A clock with these readings, in minutes from 2000-01-01T00:00Z.
+    ///
+    /// # Errors
+    ///
+    /// Out of memory.
     pub fn new(readings: &List<i64>) -> Result<Self, Oom>
         requires { 0 < length readings.now }
-        ensures ahead { IfOk result (λ clock. ⟦<SetClock as Clock>⟧.ahead clock ≡ Some readings.now) }
-        ensures gives { IfOk result (λ clock. (m : ℤ) → ⟦<SetClock as Clock>⟧.gives clock m ↔ Contains readings.now m) }
+        ensures ahead { IfOk result
+            (λ clock. ⟦<SetClock as Clock>⟧.ahead clock ≡ Some readings.now) }
+        ensures gives { IfOk result
+            (λ clock. (m : ℤ) → ⟦<SetClock as Clock>⟧.gives clock m ↔ Contains readings.now m) }
     {
         Ok(SetClock {
             readings: readings.clone()?,
@@ -76,7 +84,8 @@ impl Clock for SetClock {
         reading
     }
 
-    ghost never_out = { λ clock readings told. some_ahead clock.readings readings clock.at clock.in_range told };
+    ghost never_out = { λ clock readings told.
+        some_ahead clock.readings readings clock.at clock.in_range told };
 }
 
 // The seconds from 1970 to 2000.

@@ -14,10 +14,15 @@ pub struct Crashed {
     pub digits: u64,
 }
 
-/// The file with the bytes at a place of it.
+/// The file with the bytes at a place of it, counted from 0.
+///
+/// # Errors
+///
+/// Out of memory.
 pub fn splice(alloc: Global, file: &Text, at: usize, bytes: &[u8]) -> Result<Text, Oom>
     requires { at ≤ length file.now }
-    ensures { IfOk result (λ new. new ≡ take at file.now ++ (bytes.now ++ drop (at + length bytes.now) file.now)) }
+    ensures { IfOk result
+        (λ new. new ≡ take at file.now ++ (bytes.now ++ drop (at + length bytes.now) file.now)) }
 {
     let file = file.as_slice();
     let mut next = file[..at].to_vec(alloc)?;
@@ -88,6 +93,10 @@ fn crash_after(alloc: Global, pick: u64, call: &DiskCall, crash: Crashed) -> Res
 }
 
 /// The file that a crash after the calls leaves by the pick.
+///
+/// # Errors
+///
+/// Out of memory.
 pub fn file_left(alloc: Global, first: &Text, pick: u64, calls: &[DiskCall]) -> Result<Text, Oom>
     ensures { IfOk result (λ file. file ≡ picked first.now pick calls.now) }
 {

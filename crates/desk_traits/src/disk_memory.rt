@@ -3,7 +3,7 @@ ghost use Rattle.std.specs.Prelude.{◌≡◌, ◌⊎◌, ◌≤◌, ◌<◌, �
 ghost use Rattle.desk_traits.specs.Crash.{Passes};
 ghost use Rattle.desk_traits.specs.Faults.{HasCause, Rose, next_count};
 ghost use Rattle.desk_traits.specs.File.{Torn, Same, IsWithin, WritesAt, Gives, IsLength, Only, NotesSync};
-ghost use Rattle.desk_traits.specs.DiskMemory.{MayLeave, is_write, picked};
+ghost use Rattle.desk_traits.specs.DiskMemory.{is_write, picked};
 ghost use Rattle.desk_traits.specs.DiskTold.{told_of, calls_of, has_lacked, IsPast, IsToFail, Comes, Counts};
 ghost use Rattle.desk_traits.specs.declared.disk_record.DiskCall.TheVariants.{Looked, Read, Wrote, Synced, LookFailed, ReadFailed, WriteFailed, SyncFailed};
 
@@ -23,7 +23,8 @@ fn put(
     bytes: &[u8],
 ) -> Result<(), Oom>
     requires { at ≤ length file.old }
-    ensures file { OnOk result (file.new ≡ take at file.old ++ (bytes.now ++ drop (at + length bytes.now) file.old)) }
+    ensures file { OnOk result
+        (file.new ≡ take at file.old ++ (bytes.now ++ drop (at + length bytes.now) file.old)) }
     ensures calls { OnOk result (calls.new.items ≡ calls.old.items ++ Wrote at bytes.now ∷ []) }
     ensures same { OnErr result (file.new ≡ file.old) }
     ensures same_calls { OnErr result (calls.new.items ≡ calls.old.items) }
@@ -44,7 +45,8 @@ fn note(calls: &mut Vec<DiskCall>, call: DiskCall) -> bool
 
 // Notes a failed write, where there is memory for it.
 fn note_failed(alloc: Global, calls: &mut Vec<DiskCall>, at: u64, bytes: &[u8]) -> bool
-    ensures { calls.new.items ≡ (if result then calls.old.items ++ WriteFailed at bytes.now ∷ [] else calls.old.items) }
+    ensures { calls.new.items
+        ≡ (if result then calls.old.items ++ WriteFailed at bytes.now ∷ [] else calls.old.items) }
 {
     match List::from_slice(alloc, bytes) {
         Ok(bytes) => note(calls, DiskCall::WriteFailed { at, bytes }),
@@ -68,6 +70,10 @@ impl MemDisk {
     /// leaves: read in base 4 from the lowest digit on, a digit for each write since the last good
     /// sync, it says that nothing of the write is left (0), all (1), half (2), or as many bytes
     /// `G` (3).
+    ///
+    /// # Errors
+    ///
+    /// Out of memory.
     pub fn new(
         alloc: Global,
         bytes: &[u8],
@@ -76,9 +82,16 @@ impl MemDisk {
         pick: u64,
     ) -> Result<Self, Oom>
         ensures file { IfOk result (λ disk. ⟦<MemDisk as Disk>⟧.seen disk ≡ Some bytes.now) }
-        ensures stable { IfOk result (λ disk. (c : _) → ⟦<MemDisk as Disk>⟧.may_leave disk c → c ≡ bytes.now) }
+        ensures stable { IfOk result
+            (λ disk. (c : _) → (⟦<MemDisk as Disk>⟧.crash disk).may_leave c → c ≡ bytes.now) }
         ensures faults { IfOk result (λ disk. ⟦<MemDisk as Disk>⟧.faults disk ≡ 0) }
-        ensures told { IfOk result (λ disk. told_of disk ≡ record { first = bytes.now; failing = failing.now; stop = stop; pick = pick; made = 0 }) }
+        ensures told { IfOk result (λ disk. told_of disk ≡ record {
+          first = bytes.now;
+          failing = failing.now;
+          stop = stop;
+          pick = pick;
+          made = 0;
+        }) }
         ensures calls { IfOk result (λ disk. calls_of disk ≡ []) }
         ensures lacked { IfOk result (λ disk. has_lacked disk ≡ false) }
     {
@@ -112,9 +125,14 @@ impl MemDisk {
     }
 
     /// The file that a crash now leaves by the pick.
+    ///
+    /// # Errors
+    ///
+    /// Out of memory.
     pub fn crashed(self) -> Result<Text, Oom>
-        ensures left { IfOk result (λ file. ⟦<MemDisk as Disk>⟧.may_leave self file) }
-        ensures chosen { IfOk result (λ file. file ≡ picked (told_of self).first (told_of self).pick (calls_of self)) }
+        ensures left { IfOk result (λ file. (⟦<MemDisk as Disk>⟧.crash self).may_leave file) }
+        ensures chosen { IfOk result
+            (λ file. file ≡ picked (told_of self).first (told_of self).pick (calls_of self)) }
     {
         file_left(self.alloc, &self.first, self.pick, &self.calls)
     }
@@ -124,7 +142,13 @@ impl MemDisk {
         ensures first { self.new.first ≡ self.old.first }
         ensures file { self.new.file ≡ self.old.file }
         ensures calls { self.new.calls ≡ self.old.calls }
-        ensures told { told_of self.new ≡ record { first = self.old.first; failing = self.old.failing; stop = self.old.stop; pick = self.old.pick; made = next_count self.old.count } }
+        ensures told { told_of self.new ≡ record {
+          first = self.old.first;
+          failing = self.old.failing;
+          stop = self.old.stop;
+          pick = self.old.pick;
+          made = next_count self.old.count;
+        } }
         ensures fails { IsTrue result ↔ IsToFail (told_of self.old) }
         ensures faults { self.new.faults ≡ self.old.faults }
         ensures lacked { self.new.lacked ≡ self.old.lacked }
@@ -154,8 +178,15 @@ impl MemDisk {
         requires failed { is_write failed ≡ false }
         ensures first { self.new.first ≡ self.old.first }
         ensures file { self.new.file ≡ self.old.file }
-        ensures told { told_of self.new ≡ record { first = self.old.first; failing = self.old.failing; stop = self.old.stop; pick = self.old.pick; made = next_count self.old.count } }
-        ensures comes { Comes (IsToFail (told_of self.old)) self.old.calls.items self.new.calls.items good failed self.old.lacked self.new.lacked result }
+        ensures told { told_of self.new ≡ record {
+          first = self.old.first;
+          failing = self.old.failing;
+          stop = self.old.stop;
+          pick = self.old.pick;
+          made = next_count self.old.count;
+        } }
+        ensures comes { Comes (IsToFail (told_of self.old)) self.old.calls.items
+            self.new.calls.items good failed self.old.lacked self.new.lacked result }
         ensures later { self.old.faults ≤ self.new.faults }
         ensures cause { result ≡ false → Rose self.old.faults self.new.faults }
         ensures steady { result ≡ true → self.new.faults ≡ self.old.faults }
@@ -175,16 +206,12 @@ impl MemDisk {
 }
 
 impl Disk for MemDisk {
-    ghost use Rattle.desk_traits.specs.DiskMemory.{LeftSince, synced_at};
-    ghost use Rattle.desk_traits.specs.DiskMemoryLaws.{counts, only, sooner, seen_may};
+    ghost use Rattle.desk_traits.specs.DiskMemory.{crashes_of, synced_at};
+    ghost use Rattle.desk_traits.specs.DiskMemoryLaws.{they_are, seen_may};
 
     ghost seen = { λ m. Some m.file };
 
-    ghost may_leave = { λ m c. MayLeave m.first m.calls.items c };
-
-    ghost moment = { λ m. length m.calls.items };
-
-    ghost left_since = { λ m t c. LeftSince m.first m.calls.items t c };
+    ghost crash = { λ m. crashes_of m.first m.calls.items };
 
     ghost syncs = { λ m. Some (synced_at 0 m.calls.items) };
 
@@ -192,20 +219,21 @@ impl Disk for MemDisk {
 
     ghost seen_is_left = { λ m f told. seen_may m.first m.file f m.calls.items m.kept told };
 
-    ghost counts_now = { λ m c left. counts m.first m.calls.items c left };
-
-    ghost only_now = { λ m c since. only m.first m.calls.items c since };
-
-    ghost earlier = { λ m t u c le upto since. sooner m.first m.calls.items t u c le since };
+    ghost are_crashes = { λ m. they_are m.first m.calls.items };
 
     fn len(&mut self) -> Result<u64, Failed>
         ensures told { IfOk result (λ n. IsLength n (⟦<MemDisk as Disk>⟧.seen self.old)) }
         ensures seen { ⟦<MemDisk as Disk>⟧.seen self.new ≡ ⟦<MemDisk as Disk>⟧.seen self.old }
-        ensures crash { Passes Same (⟦<MemDisk as Disk>⟧.moment self.old) (⟦<MemDisk as Disk>⟧.moment self.new) (⟦<MemDisk as Disk>⟧.may_leave self.old) (⟦<MemDisk as Disk>⟧.left_since self.old) (⟦<MemDisk as Disk>⟧.left_since self.new) }
+        ensures crash { Passes Same (⟦<MemDisk as Disk>⟧.crash self.old)
+            (⟦<MemDisk as Disk>⟧.crash self.new) }
         ensures syncs { ⟦<MemDisk as Disk>⟧.syncs self.new ≡ ⟦<MemDisk as Disk>⟧.syncs self.old }
-        ensures cause { HasCause (⟦<MemDisk as Disk>⟧.faults self.old) (⟦<MemDisk as Disk>⟧.faults self.new) result }
-        ensures steady { OnOk result (⟦<MemDisk as Disk>⟧.faults self.new ≡ ⟦<MemDisk as Disk>⟧.faults self.old) }
-        ensures counted { OnErr result (⟦<MemDisk as Disk>⟧.faults self.new ≡ next_count (⟦<MemDisk as Disk>⟧.faults self.old)) }
+        ensures cause { HasCause (⟦<MemDisk as Disk>⟧.faults self.old)
+            (⟦<MemDisk as Disk>⟧.faults self.new) result }
+        ensures steady { OnOk result
+            (⟦<MemDisk as Disk>⟧.faults self.new ≡ ⟦<MemDisk as Disk>⟧.faults self.old) }
+        ensures counted { OnErr result
+            (⟦<MemDisk as Disk>⟧.faults self.new
+            ≡ next_count (⟦<MemDisk as Disk>⟧.faults self.old)) }
         ensures counts { Counts self.old self.new Looked LookFailed result }
     {
         if self.asked(DiskCall::Looked, DiskCall::LookFailed) {
@@ -219,12 +247,18 @@ impl Disk for MemDisk {
         requires { IsWithin (at + length into.old) (⟦<MemDisk as Disk>⟧.seen self.old) }
         ensures told { OnOk result (Gives at into.new (⟦<MemDisk as Disk>⟧.seen self.old)) }
         ensures seen { ⟦<MemDisk as Disk>⟧.seen self.new ≡ ⟦<MemDisk as Disk>⟧.seen self.old }
-        ensures crash { Passes Same (⟦<MemDisk as Disk>⟧.moment self.old) (⟦<MemDisk as Disk>⟧.moment self.new) (⟦<MemDisk as Disk>⟧.may_leave self.old) (⟦<MemDisk as Disk>⟧.left_since self.old) (⟦<MemDisk as Disk>⟧.left_since self.new) }
+        ensures crash { Passes Same (⟦<MemDisk as Disk>⟧.crash self.old)
+            (⟦<MemDisk as Disk>⟧.crash self.new) }
         ensures syncs { ⟦<MemDisk as Disk>⟧.syncs self.new ≡ ⟦<MemDisk as Disk>⟧.syncs self.old }
-        ensures cause { HasCause (⟦<MemDisk as Disk>⟧.faults self.old) (⟦<MemDisk as Disk>⟧.faults self.new) result }
-        ensures steady { OnOk result (⟦<MemDisk as Disk>⟧.faults self.new ≡ ⟦<MemDisk as Disk>⟧.faults self.old) }
-        ensures counted { OnErr result (⟦<MemDisk as Disk>⟧.faults self.new ≡ next_count (⟦<MemDisk as Disk>⟧.faults self.old)) }
-        ensures counts { Counts self.old self.new (Read at (length into.old)) (ReadFailed at (length into.old)) result }
+        ensures cause { HasCause (⟦<MemDisk as Disk>⟧.faults self.old)
+            (⟦<MemDisk as Disk>⟧.faults self.new) result }
+        ensures steady { OnOk result
+            (⟦<MemDisk as Disk>⟧.faults self.new ≡ ⟦<MemDisk as Disk>⟧.faults self.old) }
+        ensures counted { OnErr result
+            (⟦<MemDisk as Disk>⟧.faults self.new
+            ≡ next_count (⟦<MemDisk as Disk>⟧.faults self.old)) }
+        ensures counts { Counts self.old self.new (Read at (length into.old))
+            (ReadFailed at (length into.old)) result }
     {
         let count = into.len();
         if !self.asked(
@@ -240,13 +274,20 @@ impl Disk for MemDisk {
 
     fn write_at(&mut self, at: u64, bytes: &[u8]) -> Result<(), Failed>
         requires { IsWithin at (⟦<MemDisk as Disk>⟧.seen self.old) }
-        ensures seen { WritesAt at bytes.now (⟦<MemDisk as Disk>⟧.seen self.old) (⟦<MemDisk as Disk>⟧.seen self.new) result }
-        ensures crash { Passes (Torn at (length bytes.now)) (⟦<MemDisk as Disk>⟧.moment self.old) (⟦<MemDisk as Disk>⟧.moment self.new) (⟦<MemDisk as Disk>⟧.may_leave self.old) (⟦<MemDisk as Disk>⟧.left_since self.old) (⟦<MemDisk as Disk>⟧.left_since self.new) }
+        ensures seen { WritesAt at bytes.now (⟦<MemDisk as Disk>⟧.seen self.old)
+            (⟦<MemDisk as Disk>⟧.seen self.new) result }
+        ensures crash { Passes (Torn at (length bytes.now)) (⟦<MemDisk as Disk>⟧.crash self.old)
+            (⟦<MemDisk as Disk>⟧.crash self.new) }
         ensures syncs { ⟦<MemDisk as Disk>⟧.syncs self.new ≡ ⟦<MemDisk as Disk>⟧.syncs self.old }
-        ensures cause { HasCause (⟦<MemDisk as Disk>⟧.faults self.old) (⟦<MemDisk as Disk>⟧.faults self.new) result }
-        ensures steady { OnOk result (⟦<MemDisk as Disk>⟧.faults self.new ≡ ⟦<MemDisk as Disk>⟧.faults self.old) }
-        ensures counted { OnErr result (⟦<MemDisk as Disk>⟧.faults self.new ≡ next_count (⟦<MemDisk as Disk>⟧.faults self.old)) }
-        ensures counts { Counts self.old self.new (Wrote at bytes.now) (WriteFailed at bytes.now) result }
+        ensures cause { HasCause (⟦<MemDisk as Disk>⟧.faults self.old)
+            (⟦<MemDisk as Disk>⟧.faults self.new) result }
+        ensures steady { OnOk result
+            (⟦<MemDisk as Disk>⟧.faults self.new ≡ ⟦<MemDisk as Disk>⟧.faults self.old) }
+        ensures counted { OnErr result
+            (⟦<MemDisk as Disk>⟧.faults self.new
+            ≡ next_count (⟦<MemDisk as Disk>⟧.faults self.old)) }
+        ensures counts { Counts self.old self.new (Wrote at bytes.now) (WriteFailed at bytes.now)
+            result }
     {
         if self.called() {
             let noted = note_failed(self.alloc, &mut self.calls, at, bytes);
@@ -263,13 +304,21 @@ impl Disk for MemDisk {
     }
 
     fn sync(&mut self) -> Result<(), Failed>
-        ensures durable { OnOk result (Only (⟦<MemDisk as Disk>⟧.seen self.old) (⟦<MemDisk as Disk>⟧.may_leave self.new)) }
+        ensures durable { OnOk result
+            (Only (⟦<MemDisk as Disk>⟧.seen self.old)
+            (⟦<MemDisk as Disk>⟧.crash self.new).may_leave) }
         ensures seen { ⟦<MemDisk as Disk>⟧.seen self.new ≡ ⟦<MemDisk as Disk>⟧.seen self.old }
-        ensures crash { Passes Same (⟦<MemDisk as Disk>⟧.moment self.old) (⟦<MemDisk as Disk>⟧.moment self.new) (⟦<MemDisk as Disk>⟧.may_leave self.old) (⟦<MemDisk as Disk>⟧.left_since self.old) (⟦<MemDisk as Disk>⟧.left_since self.new) }
-        ensures syncs { NotesSync (⟦<MemDisk as Disk>⟧.moment self.new) (⟦<MemDisk as Disk>⟧.syncs self.old) (⟦<MemDisk as Disk>⟧.syncs self.new) result }
-        ensures cause { HasCause (⟦<MemDisk as Disk>⟧.faults self.old) (⟦<MemDisk as Disk>⟧.faults self.new) result }
-        ensures steady { OnOk result (⟦<MemDisk as Disk>⟧.faults self.new ≡ ⟦<MemDisk as Disk>⟧.faults self.old) }
-        ensures counted { OnErr result (⟦<MemDisk as Disk>⟧.faults self.new ≡ next_count (⟦<MemDisk as Disk>⟧.faults self.old)) }
+        ensures crash { Passes Same (⟦<MemDisk as Disk>⟧.crash self.old)
+            (⟦<MemDisk as Disk>⟧.crash self.new) }
+        ensures syncs { NotesSync (⟦<MemDisk as Disk>⟧.crash self.new).moment
+            (⟦<MemDisk as Disk>⟧.syncs self.old) (⟦<MemDisk as Disk>⟧.syncs self.new) result }
+        ensures cause { HasCause (⟦<MemDisk as Disk>⟧.faults self.old)
+            (⟦<MemDisk as Disk>⟧.faults self.new) result }
+        ensures steady { OnOk result
+            (⟦<MemDisk as Disk>⟧.faults self.new ≡ ⟦<MemDisk as Disk>⟧.faults self.old) }
+        ensures counted { OnErr result
+            (⟦<MemDisk as Disk>⟧.faults self.new
+            ≡ next_count (⟦<MemDisk as Disk>⟧.faults self.old)) }
         ensures counts { Counts self.old self.new Synced SyncFailed result }
     {
         if self.asked(DiskCall::Synced, DiskCall::SyncFailed) {

@@ -1,5 +1,6 @@
 //! A file of the system, as a disk. It tells nothing of its content, and is trusted.
 ghost use Rattle.std.specs.Prelude.{◌≡◌, None};
+ghost use Rattle.desk_traits.specs.Crash.{any_crash, any_are};
 
 use crate::disk::Disk;
 use crate::faults::Failed;
@@ -25,11 +26,7 @@ impl FileDisk {
 impl Disk for FileDisk {
     ghost seen = { λ _. None };
 
-    ghost may_leave = { λ _ _. Unit {0} };
-
-    ghost moment = { λ _. 0 };
-
-    ghost left_since = { λ _ _ _. Unit {0} };
+    ghost crash = { λ _. any_crash };
 
     ghost syncs = { λ _. None };
 
@@ -37,11 +34,7 @@ impl Disk for FileDisk {
 
     ghost seen_is_left = { λ _ _ _. tt };
 
-    ghost counts_now = { λ _ _ _. tt };
-
-    ghost only_now = { λ _ _ _. tt };
-
-    ghost earlier = { λ _ _ _ _ _ _ _. tt };
+    ghost are_crashes = { λ _. any_are };
 
     fn len(&mut self) -> Result<u64, Failed> {
         if let Some(file) = &self.file

@@ -7,13 +7,19 @@ ghost use Rattle.desk_traits.specs.File.{Torn, Same, IsWithin, WritesAt, Only, N
 use crate::disk::Disk;
 use crate::faults::Failed;
 
-/// Writes the bytes and makes them stable.
+/// Writes the bytes from the `at`th on, counted from 0, and makes them stable.
+///
+/// # Errors
+///
+/// `Failed` where the write or the sync failed; the count of faults rose. Any bytes may stand where
+/// these were to be written.
 pub fn write_synced<D: Disk>(disk: &mut D, at: u64, bytes: &[u8]) -> Result<(), Failed>
     requires { IsWithin at (D.seen disk.old) }
     ensures seen { WritesAt at bytes.now (D.seen disk.old) (D.seen disk.new) result }
-    ensures crash { Passes (Torn at (length bytes.now)) (D.moment disk.old) (D.moment disk.new) (D.may_leave disk.old) (D.left_since disk.old) (D.left_since disk.new) }
-    ensures syncs { NotesSync (D.moment disk.new) (D.syncs disk.old) (D.syncs disk.new) result }
-    ensures durable { OnOk result (Only (D.seen disk.new) (D.may_leave disk.new)) }
+    ensures crash { Passes (Torn at (length bytes.now)) (D.crash disk.old) (D.crash disk.new) }
+    ensures syncs { NotesSync (D.crash disk.new).moment (D.syncs disk.old) (D.syncs disk.new)
+        result }
+    ensures durable { OnOk result (Only (D.seen disk.new) (D.crash disk.new).may_leave) }
     ensures cause { HasCause (D.faults disk.old) (D.faults disk.new) result }
     ensures steady { OnOk result (D.faults disk.new ≡ D.faults disk.old) }
 {

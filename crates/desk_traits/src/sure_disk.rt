@@ -1,5 +1,6 @@
 //! A disk in memory whose count of faults can't rise.
 ghost use Rattle.std.specs.Prelude.{◌≤◌, None, length};
+ghost use Rattle.desk_traits.specs.Crash.{any_crash, any_are};
 
 use crate::disk::Disk;
 use crate::faults::Failed;
@@ -16,6 +17,10 @@ pub struct SureDisk {
 
 impl SureDisk {
     /// An empty disk with room for this many bytes.
+    ///
+    /// # Errors
+    ///
+    /// Out of memory.
     pub fn new(alloc: Global, room: usize) -> Result<Self, Oom> {
         Ok(SureDisk {
             room: vec![in alloc; 0; room]?,
@@ -27,11 +32,7 @@ impl SureDisk {
 impl Disk for SureDisk {
     ghost seen = { λ _. None };
 
-    ghost may_leave = { λ _ _. Unit {0} };
-
-    ghost moment = { λ _. 0 };
-
-    ghost left_since = { λ _ _ _. Unit {0} };
+    ghost crash = { λ _. any_crash };
 
     ghost syncs = { λ _. None };
 
@@ -39,11 +40,7 @@ impl Disk for SureDisk {
 
     ghost seen_is_left = { λ _ _ _. tt };
 
-    ghost counts_now = { λ _ _ _. tt };
-
-    ghost only_now = { λ _ _ _. tt };
-
-    ghost earlier = { λ _ _ _ _ _ _ _. tt };
+    ghost are_crashes = { λ _. any_are };
 
     fn len(&mut self) -> Result<u64, Failed> {
         Ok(self.len as u64)

@@ -1,4 +1,5 @@
-//! A follower over links: it asks a server for the office's products, one after another, and tells the board that they give.
+//! A follower over links: it asks a server for the office's products, one after another, and tells
+//! the board that they give.
 #![tactic(auto)]
 
 mod answers;

@@ -38,7 +38,8 @@ fn read_up_to<L: Peer>(link: &mut L, buffer: &mut [u8], room: usize) -> Result<u
         × Takes (L.state link.old).input.left (L.state link.new).input.left
         (take count buffer.new)) }
     ensures failed { OnErr result ((L.state link.new).input.left ≡ (L.state link.old).input.left) }
-    ensures cause { HasCause (L.state link.old).input.faults (L.state link.new).input.faults result }
+    ensures cause { HasCause
+        (L.state link.old).input.faults (L.state link.new).input.faults result }
     ensures steady { OnOk result
         ((L.state link.new).input.faults ≡ (L.state link.old).input.faults) }
     ensures beside { KeepsOutput (L.state link.old) (L.state link.new) }
@@ -47,17 +48,23 @@ fn read_up_to<L: Peer>(link: &mut L, buffer: &mut [u8], room: usize) -> Result<u
     Ok(count)
 }
 
-/// Reads at least one byte and at most so many.
-fn read_more<L: Peer>(link: &mut L, bytes: &mut Text, most: usize) -> Result<(), Miss>
-    requires { 1 ≤ most }
+/// Reads at least one byte and at most so many, by way of the buffer.
+fn read_more<L: Peer>(
+    link: &mut L,
+    buffer: &mut [u8],
+    bytes: &mut Text,
+    most: usize,
+) -> Result<(), Miss>
+    requires some { 1 ≤ most }
+    requires buffer { 1 ≤ length buffer.old }
     ensures read { ReadsMore (L.state link.old).input.left (L.state link.new).input.left
         bytes.old bytes.new most result }
+    ensures kept { length buffer.new ≡ length buffer.old }
     ensures cause { IsCause (L.state link.old).input.faults (L.state link.new).input.faults result }
     ensures beside { KeepsOutput (L.state link.old) (L.state link.new) }
 {
-    let mut buffer = [0u8; 4096];
-    let room = most.min(4096);
-    match read_up_to(link, &mut buffer, room) {
+    let room = most.min(buffer.len());
+    match read_up_to(link, buffer, room) {
         Ok(count) => bytes.extend(&buffer[..count])?,
         Err(Failed) => return Err(Miss::Failed),
     }
@@ -78,8 +85,9 @@ fn read_head<L: Peer>(
     ensures cause { IsCause (L.state link.old).input.faults (L.state link.new).input.faults result }
     ensures beside { KeepsOutput (L.state link.old) (L.state link.new) }
 {
+    let mut byte = [0u8; 1];
     while bytes.len() < MOST_BYTES {
-        if let Err(miss) = read_more(link, bytes, 1) {
+        if let Err(miss) = read_more(link, &mut byte, bytes, 1) {
             return Err(miss);
         }
         match head_of(bytes.as_slice(), fields) {
@@ -99,9 +107,10 @@ fn read_body<L: Peer>(link: &mut L, bytes: &mut Text, wanted: usize) -> Result<(
     ensures cause { IsCause (L.state link.old).input.faults (L.state link.new).input.faults result }
     ensures beside { KeepsOutput (L.state link.old) (L.state link.new) }
 {
+    let mut buffer = [0u8; 4096];
     while bytes.len() < wanted {
         let most = wanted - bytes.len();
-        if let Err(miss) = read_more(link, bytes, most) {
+        if let Err(miss) = read_more(link, &mut buffer, bytes, most) {
             return Err(miss);
         }
     }

@@ -34,7 +34,8 @@ const BAD_ANSWER: u8 = 16;
 
 /// What is told where a run stopped so.
 fn text_at(alloc: Global, follower: &Follower, minute: Minute, stop: Stop) -> Result<Text, Oom>
-    ensures { IfOk result (λ text. text ≡ text_of stop (place_of follower.now) minute (shown_at minute (rows_of follower.now.products))) }
+    ensures { IfOk result (λ text. text ≡ text_of stop (place_of follower.now) minute
+        (shown_at minute (rows_of follower.now.products))) }
 {
     match stop {
         Stop::Spent => report(alloc, follower, minute, b"fault RoundsSpent\n"),
@@ -89,8 +90,8 @@ fn follow<D: Dialer, K: Sink>(alloc: Global, asked: &Asked, dialer: &mut D, outp
     tell_stop(alloc, &follower, asked.minute, stop, output)
 }
 
-/// Does what the words `OFFICE CLASS STAMP PORT ROUNDS` say over a dialer, and returns the status of
-/// the program.
+/// Does what the words `OFFICE CLASS STAMP PORT ROUNDS` say over a dialer, and returns the status
+/// of the program.
 pub fn follow_run<D: Dialer, K: Sink>(
     alloc: Global,
     words: &List<Text>,
@@ -143,8 +144,8 @@ fn run_words<S, K: Sink, M, N: Network>(outside: &mut Outside<S, K, M>, network:
     }
 }
 
-/// The whole program: does what its command line says, over a dialer of the port that it names, with
-/// its output, and ends with the status of that run. It reads nothing of its input.
+/// The whole program: does what its command line says, over a dialer of the port that it names,
+/// with its output, and ends with the status of that run. It reads nothing of its input.
 pub fn run_program<S, K: Sink, M: Sink, N: Network>(
     outside: &mut Outside<S, K, M>,
     network: &mut N,

@@ -68,7 +68,8 @@ fn put_shown(alloc: Global, out: &mut Text, minute: Minute, count: usize) -> Res
 
 /// The place of a follower, and the rows that it shows at a minute; then a last line.
 pub fn report(alloc: Global, follower: &Follower, minute: Minute, last: &[u8]) -> Result<Text, Oom>
-    ensures { IfOk result (λ text. text ≡ report (place_of follower.now) minute (shown_at minute (rows_of follower.now.products)) ++ last.now) }
+    ensures { IfOk result (λ text. text ≡ report (place_of follower.now) minute
+        (shown_at minute (rows_of follower.now.products)) ++ last.now) }
 {
     let rows = follower.shown(alloc, minute)?;
     let mut text = Text::new(alloc);

@@ -15,7 +15,8 @@ pub struct Asked {
     pub rounds: u32,
 }
 
-/// The office, the class, the minute, the port and the rounds of the words `OFFICE CLASS STAMP PORT ROUNDS`.
+/// The office, the class, the minute, the port and the rounds of the words
+/// `OFFICE CLASS STAMP PORT ROUNDS`.
 #[tactic(auto, unfolding(crate::specs::Words::asked_of))]
 pub fn asked_of(words: &List<Text>) -> Option<Asked>
     ensures value { result ≡ asked_of words.now }

@@ -2,7 +2,7 @@
 use Rattle.std.proofs.Common.{◌≡◌, ◌⊎◌, inl, inr, ℕ, ◌+◌, ◌≤◌, List, [], ◌∷◌, ◌++◌, length, get_or, drop, Option, None, Some, refl, sym, ◌∙◌, ap, subst, arith, append_assoc, Result, Ok, Err, OnOk}
 use Rattle.std.proofs.lemmas.List.{append-nil}
 use Rattle.std.proofs.lemmas.Bool.{cases_eq}
-use Rattle.desk_traits.specs.Crash.{Passes, LeavesOnly}
+use Rattle.desk_traits.specs.Crash.{AreCrashes, Crashes, Passes, LeavesOnly}
 use Rattle.desk_traits.specs.File.{Torn, WritesAt, Only, Same}
 use Rattle.journal_core.specs.Image.{spelled, Fits, Image, Fresh}
 use Rattle.journal_core.specs.Packet.{framed}
@@ -42,19 +42,17 @@ making_of body rest c g fits is = elim (cases_eq g 71) [
 ]
 
 -- the body stands behind the first byte
-pub record IsWritten {D : Type 0} (seen : D → Option (List ℕ)) (may_leave : D → List ℕ → Type 0) (disk : D) (body : List ℕ) : Type 0 where
+pub record IsWritten {D : Type 0} (seen : D → Option (List ℕ)) (crash : D → Crashes) (disk : D) (body : List ℕ) : Type 0 where
   pub rest : List ℕ
   pub told : seen disk ≡ Some (46 ∷ (framed body ++ rest))
-  pub only : (c : List ℕ) → may_leave disk c → c ≡ 46 ∷ (framed body ++ rest)
+  pub only : (c : List ℕ) → (crash disk).may_leave c → c ≡ 46 ∷ (framed body ++ rest)
 
-module _ {D : Type 0} (seen : D → Option (List ℕ)) (moment : D → ℕ) (left_since : D → ℕ → List ℕ → Type 0) (may_leave : D → List ℕ → Type 0)
-    (counts_now : (d : D) (c : List ℕ) → may_leave d c → left_since d (moment d) c)
-    (only_now : (d : D) (c : List ℕ) → left_since d (moment d) c → may_leave d c)
-    (earlier : (d : D) (t u : ℕ) (c : List ℕ) → t ≤ u → u ≤ moment d → left_since d u c → left_since d t c) where
+module _ {D : Type 0} (seen : D → Option (List ℕ)) (crash : D → Crashes)
+    (are_crashes : (d : D) → AreCrashes (crash d)) where
   abbrev Step : ℕ → ℕ → D → D → Type 0
-  Step at n old new = Passes (Torn at n) (moment old) (moment new) (may_leave old) (left_since old) (left_since new)
+  Step at n old new = Passes (Torn at n) (crash old) (crash new)
 
-  pub written : (E : Type 0) (x : Unit {0}) (old new : D) (bytes body : List ℕ) → bytes ≡ framed body → IsBlank seen may_leave old → WritesAt {E = E} 1 bytes (seen old) (seen new) (Ok x) → Only (seen new) (may_leave new) → IsWritten seen may_leave new body
+  pub written : (E : Type 0) (x : Unit {0}) (old new : D) (bytes body : List ℕ) → bytes ≡ framed body → IsBlank seen crash old → WritesAt {E = E} 1 bytes (seen old) (seen new) (Ok x) → Only (seen new) (crash new).may_leave → IsWritten seen crash new body
   written E x old new bytes body framed_is b writes only =
       let a : After {E = E} 1 bytes (46 ∷ b.tail) (seen new) (Ok x) = told_after 1 bytes (seen old) (seen new) (Ok x) (46 ∷ b.tail) b.told writes in
       let rest = drop (1 + length bytes) (46 ∷ b.tail) in
@@ -62,57 +60,57 @@ module _ {D : Type 0} (seen : D → Option (List ℕ)) (moment : D → ℕ) (lef
       record {
         rest = rest;
         told = a.told ∙ ap (λ (l : List ℕ). Some l) is;
-        only = λ c left. only_told (seen new) (may_leave new) a.file a.told only c left ∙ is;
+        only = λ c left. only_told (seen new) (crash new).may_leave a.file a.told only c left ∙ is;
       }
 
-  pub making_first : (old new : D) (n : ℕ) (body : List ℕ) → IsBlank seen may_leave old → Step 1 n old new → LeavesOnly moment left_since old new (IsMaking body)
+  pub making_first : (old new : D) (n : ℕ) (body : List ℕ) → IsBlank seen crash old → Step 1 n old new → LeavesOnly (crash old) (crash new) (IsMaking body)
   making_first old new n body b step =
-      one moment left_since may_leave counts_now only_now earlier old new (Torn 1 n) (IsMaking body) step
+      one crash are_crashes old new (Torn 1 n) (IsMaking body) step
       (λ d c left torn. inl (fresh_is c (drop 1 c) (torn_behind [] 0 refl 46 n b.tail c (subst (λ (l : List ℕ). Torn 1 n l c) (b.only d left) torn))))
 
-  making_second : (old new : D) (body : List ℕ) → Fits body → IsWritten seen may_leave old body → Step 0 1 old new → LeavesOnly moment left_since old new (IsMaking body)
+  making_second : (old new : D) (body : List ℕ) → Fits body → IsWritten seen crash old body → Step 0 1 old new → LeavesOnly (crash old) (crash new) (IsMaking body)
   making_second old new body fits w step =
-      one moment left_since may_leave counts_now only_now earlier old new (Torn 0 1) (IsMaking body) step
+      one crash are_crashes old new (Torn 0 1) (IsMaking body) step
       (λ d c left torn. making_of body w.rest c (get_or c 0 0) fits (torn_gate [] 0 refl 46 (framed body ++ w.rest) c (subst (λ (l : List ℕ). Torn 0 1 l c) (w.only d left) torn)))
 
-  pub making : (old mid new : D) (n : ℕ) (body : List ℕ) → Fits body → IsBlank seen may_leave old → Step 1 n old mid → IsWritten seen may_leave mid body → Step 0 1 mid new → LeavesOnly moment left_since old new (IsMaking body)
+  pub making : (old mid new : D) (n : ℕ) (body : List ℕ) → Fits body → IsBlank seen crash old → Step 1 n old mid → IsWritten seen crash mid body → Step 0 1 mid new → LeavesOnly (crash old) (crash new) (IsMaking body)
   making old mid new n body fits b step w step2 =
-      both moment left_since may_leave counts_now only_now earlier old mid new (IsMaking body) (IsMaking body) (making_first old mid n body b step) (making_second mid new body fits w step2) (λ c p. p)
+      both crash are_crashes old mid new (IsMaking body) (IsMaking body) (making_first old mid n body b step) (making_second mid new body fits w step2) (λ c p. p)
 
-  pub made : {E : Type 0} (result : Result (Unit {0}) E) (old new : D) (body : List ℕ) → Fits body → IsWritten seen may_leave old body → WritesAt 0 (71 ∷ []) (seen old) (seen new) result → OnOk result (Only (seen new) (may_leave new)) → OnOk result (IsMade seen may_leave new body)
+  pub made : {E : Type 0} (result : Result (Unit {0}) E) (old new : D) (body : List ℕ) → Fits body → IsWritten seen crash old body → WritesAt 0 (71 ∷ []) (seen old) (seen new) result → OnOk result (Only (seen new) (crash new).may_leave) → OnOk result (IsMade seen crash new body)
   made (Err e) old new body fits w writes only = tt
   made {E} (Ok x) old new body fits w writes only =
       let a : After {E = E} 0 (71 ∷ []) (46 ∷ (framed body ++ w.rest)) (seen new) (Ok x) = told_after 0 (71 ∷ []) (seen old) (seen new) (Ok x) (46 ∷ (framed body ++ w.rest)) w.told writes in
       let is : a.file ≡ 71 ∷ (framed body ++ w.rest) = written_gate [] 0 refl 46 71 (framed body ++ w.rest) a.file a.holds in
-      record { file = a.file; told = a.told; image = subst (λ (l : List ℕ). Image l (body ∷ [])) (sym is) (image_first body w.rest fits); only = only_told (seen new) (may_leave new) a.file a.told only }
+      record { file = a.file; told = a.told; image = subst (λ (l : List ℕ). Image l (body ∷ [])) (sym is) (image_first body w.rest fits); only = only_told (seen new) (crash new).may_leave a.file a.told only }
 
   -- a first byte is written where there was at most one
-  pub blank : (E : Type 0) (x : Unit {0}) (old new : D) (f : List ℕ) → seen old ≡ Some f → length f ≤ 1 → WritesAt {E = E} 0 (46 ∷ []) (seen old) (seen new) (Ok x) → Only (seen new) (may_leave new) → IsBlank seen may_leave new
+  pub blank : (E : Type 0) (x : Unit {0}) (old new : D) (f : List ℕ) → seen old ≡ Some f → length f ≤ 1 → WritesAt {E = E} 0 (46 ∷ []) (seen old) (seen new) (Ok x) → Only (seen new) (crash new).may_leave → IsBlank seen crash new
   blank E x old new f told short writes only =
       let a : After {E = E} 0 (46 ∷ []) f (seen new) (Ok x) = told_after 0 (46 ∷ []) (seen old) (seen new) (Ok x) f told writes in
-      record { tail = drop 1 f; told = a.told ∙ ap (λ (l : List ℕ). Some l) a.holds; only = λ c left. only_told (seen new) (may_leave new) a.file a.told only c left ∙ a.holds }
+      record { tail = drop 1 f; told = a.told ∙ ap (λ (l : List ℕ). Some l) a.holds; only = λ c left. only_told (seen new) (crash new).may_leave a.file a.told only c left ∙ a.holds }
 
   abbrev Making : D → List ℕ → List ℕ → Type 0
-  Making old body c = may_leave old c ⊎ IsMaking body c
+  Making old body c = (crash old).may_leave c ⊎ IsMaking body c
 
   -- a look leaves what might have been left before
-  pub looked : (old new : D) (body : List ℕ) → Passes Same (moment old) (moment new) (may_leave old) (left_since old) (left_since new) → LeavesOnly moment left_since old new (Making old body)
-  looked old new body passes = one moment left_since may_leave counts_now only_now earlier old new Same (Making old body) passes (λ d c left is. inl (subst (may_leave old) (sym is) left))
+  pub looked : (old new : D) (body : List ℕ) → Passes Same (crash old) (crash new) → LeavesOnly (crash old) (crash new) (Making old body)
+  looked old new body passes = one crash are_crashes old new Same (Making old body) passes (λ d c left is. inl (subst (crash old).may_leave (sym is) left))
 
   -- a first byte where there was at most one
-  pub dotted : (old new : D) (f body : List ℕ) → ((c : List ℕ) → may_leave old c → c ≡ f) → length f ≤ 1 → Step 0 1 old new → LeavesOnly moment left_since old new (IsMaking body)
+  pub dotted : (old new : D) (f body : List ℕ) → ((c : List ℕ) → (crash old).may_leave c → c ≡ f) → length f ≤ 1 → Step 0 1 old new → LeavesOnly (crash old) (crash new) (IsMaking body)
   dotted old new f body only short step =
-      one moment left_since may_leave counts_now only_now earlier old new (Torn 0 1) (IsMaking body) step (λ d c left torn. inl (short_fresh c (omega (arith, torn.no_longer, ap length (only d left), short))))
+      one crash are_crashes old new (Torn 0 1) (IsMaking body) step (λ d c left torn. inl (short_fresh c (omega (arith, torn.no_longer, ap length (only d left), short))))
 
-  pub goes_on : (old mid new : D) (body : List ℕ) → LeavesOnly moment left_since old mid (Making old body) → LeavesOnly moment left_since mid new (IsMaking body) → LeavesOnly moment left_since old new (Making old body)
+  pub goes_on : (old mid new : D) (body : List ℕ) → LeavesOnly (crash old) (crash mid) (Making old body) → LeavesOnly (crash mid) (crash new) (IsMaking body) → LeavesOnly (crash old) (crash new) (Making old body)
   goes_on old mid new body first second =
-      both moment left_since may_leave counts_now only_now earlier old mid new (Making old body) (Making old body) first
-      (weaker moment left_since may_leave counts_now only_now earlier mid new (IsMaking body) (Making old body) (λ c m. inr m) second) (λ c p. p)
+      both crash are_crashes old mid new (Making old body) (Making old body) first
+      (weaker crash are_crashes mid new (IsMaking body) (Making old body) (λ c m. inr m) second) (λ c p. p)
 
 pub starts_told : (start : Start) (o : Option (List ℕ)) (f : List ℕ) → o ≡ Some f → Starts start o → IsStart start f
 starts_told start None f e s = absurd (cc)
 starts_told start (Some o) f e s = let is : o ≡ f = cc in subst (IsStart start) is s
 
 -- a file that begins as one that is being made, and is stable
-pub blank_begun : {D : Type 0} (seen : D → Option (List ℕ)) (may_leave : D → List ℕ → Type 0) (disk : D) (f : List ℕ) → seen disk ≡ Some f → ((c : List ℕ) → may_leave disk c → c ≡ f) → IsStart Begun f → IsBlank seen may_leave disk
-blank_begun seen may_leave disk f told only begins = record { tail = begins.0; told = told ∙ ap (λ (l : List ℕ). Some l) begins.1; only = λ c left. only c left ∙ begins.1 }
+pub blank_begun : {D : Type 0} (seen : D → Option (List ℕ)) (crash : D → Crashes) (disk : D) (f : List ℕ) → seen disk ≡ Some f → ((c : List ℕ) → (crash disk).may_leave c → c ≡ f) → IsStart Begun f → IsBlank seen crash disk
+blank_begun seen crash disk f told only begins = record { tail = begins.0; told = told ∙ ap (λ (l : List ℕ). Some l) begins.1; only = λ c left. only c left ∙ begins.1 }

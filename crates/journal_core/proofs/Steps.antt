@@ -1,6 +1,6 @@
 -- The steps of an append, each a write and a sync.
-use Rattle.std.proofs.Common.{◌≡◌, ℕ, ◌+◌, ◌≤◌, List, [], ◌∷◌, ◌++◌, length, Bool, true, false, Option, None, Some, refl, sym, ◌∙◌, ap, subst, arith, length-append, Result, Ok, Err, OnOk, OnErr, IfSome}
-use Rattle.desk_traits.specs.Crash.{Passes, LeavesOnly}
+use Rattle.std.proofs.Common.{◌≡◌, ℕ, ◌+◌, List, [], ◌∷◌, ◌++◌, length, Bool, true, false, Option, None, Some, refl, sym, ◌∙◌, ap, subst, arith, length-append, Result, Ok, Err, OnOk, OnErr, IfSome}
+use Rattle.desk_traits.specs.Crash.{AreCrashes, Crashes, Passes, LeavesOnly}
 use Rattle.desk_traits.specs.File.{Torn, HasBytes, WritesAt, Only}
 use Rattle.journal_core.specs.Image.{spelled, records, Fits, Image, Half}
 use Rattle.journal_core.specs.Packet.{framed}
@@ -22,48 +22,46 @@ pub only_told : (o : Option (List ℕ)) (leaves : List ℕ → Type 0) (f : List
 only_told None leaves f e only c left = absurd (cc)
 only_told (Some o) leaves f e only c left = let is : o ≡ f = cc in only c left ∙ is
 
-module _ {D : Type 0} (seen : D → Option (List ℕ)) (moment : D → ℕ) (left_since : D → ℕ → List ℕ → Type 0) (may_leave : D → List ℕ → Type 0)
-    (seen_is_left : (d : D) (f : List ℕ) → seen d ≡ Some f → may_leave d f)
-    (counts_now : (d : D) (c : List ℕ) → may_leave d c → left_since d (moment d) c)
-    (only_now : (d : D) (c : List ℕ) → left_since d (moment d) c → may_leave d c)
-    (earlier : (d : D) (t u : ℕ) (c : List ℕ) → t ≤ u → u ≤ moment d → left_since d u c → left_since d t c) where
+module _ {D : Type 0} (seen : D → Option (List ℕ)) (crash : D → Crashes)
+    (seen_is_left : (d : D) (f : List ℕ) → seen d ≡ Some f → (crash d).may_leave f)
+    (are_crashes : (d : D) → AreCrashes (crash d)) where
   abbrev Step : ℕ → ℕ → D → D → Type 0
-  Step at n old new = Passes (Torn at n) (moment old) (moment new) (may_leave old) (left_since old) (left_since new)
+  Step at n old new = Passes (Torn at n) (crash old) (crash new)
 
   -- the gate is closed again
   module _ (jd : D) (jg : ℕ) (ju : Bool) (new : D) (bodies : List (List ℕ)) where
-    pub close_moments : (pending : Option (List ℕ)) → ju ≡ true → StandsFor seen may_leave jd jg ju bodies pending → Step jg 1 jd new → LeavesOnly moment left_since jd new (Rests bodies pending)
+    pub close_moments : (pending : Option (List ℕ)) → ju ≡ true → StandsFor seen crash jd jg ju bodies pending → Step jg 1 jd new → LeavesOnly (crash jd) (crash new) (Rests bodies pending)
     close_moments None unsure s step = let not : ju ≡ false = s.repair in absurd (cc)
     close_moments (Some body) unsure s step =
-        one moment left_since may_leave counts_now only_now earlier jd new (Torn jg 1) (λ c. Half c bodies body) step (λ d c left torn. torn_half bodies jg s.place d c body (s.rests d left) torn)
+        one crash are_crashes jd new (Torn jg 1) (λ c. Half c bodies body) step (λ d c left torn. torn_half bodies jg s.place d c body (s.rests d left) torn)
 
-    pub close_err : {E : Type 0} (result : Result (Unit {0}) E) (pending : Option (List ℕ)) → ju ≡ true → StandsFor seen may_leave jd jg ju bodies pending → WritesAt jg (46 ∷ []) (seen jd) (seen new) result → Step jg 1 jd new
-        → StandsFor seen may_leave new jg ju bodies pending
+    pub close_err : {E : Type 0} (result : Result (Unit {0}) E) (pending : Option (List ℕ)) → ju ≡ true → StandsFor seen crash jd jg ju bodies pending → WritesAt jg (46 ∷ []) (seen jd) (seen new) result → Step jg 1 jd new
+        → StandsFor seen crash new jg ju bodies pending
     close_err result pending unsure s writes step =
         let a = told_after jg (46 ∷ []) (seen jd) (seen new) result s.file s.told writes in
-        record { file = a.file; told = a.told; place = s.place; repair = s.repair; rests = ends moment left_since may_leave counts_now only_now earlier jd new (Rests bodies pending) (close_moments pending unsure s step) }
+        record { file = a.file; told = a.told; place = s.place; repair = s.repair; rests = ends crash are_crashes jd new (Rests bodies pending) (close_moments pending unsure s step) }
 
-    pub close_ok : (E : Type 0) (x : Unit {0}) (pending : Option (List ℕ)) → ju ≡ true → StandsFor seen may_leave jd jg ju bodies pending → WritesAt {E = E} jg (46 ∷ []) (seen jd) (seen new) (Ok x) → Only (seen new) (may_leave new)
-        → StandsFor seen may_leave new jg false bodies None
+    pub close_ok : (E : Type 0) (x : Unit {0}) (pending : Option (List ℕ)) → ju ≡ true → StandsFor seen crash jd jg ju bodies pending → WritesAt {E = E} jg (46 ∷ []) (seen jd) (seen new) (Ok x) → Only (seen new) (crash new).may_leave
+        → StandsFor seen crash new jg false bodies None
     close_ok E x None unsure s writes only = let not : ju ≡ false = s.repair in absurd (cc)
     close_ok E x (Some body) unsure s writes only =
         let a : After {E = E} jg (46 ∷ []) s.file (seen new) (Ok x) = told_after jg (46 ∷ []) (seen jd) (seen new) (Ok x) s.file s.told writes in
         let image = closed_half bodies jg s.place s.file a.file body (s.rests s.file (seen_is_left jd s.file s.told)) a.holds in
-        record { file = a.file; told = a.told; place = s.place; repair = refl; rests = λ c left. subst (λ (l : List ℕ). Image l bodies) (sym (only_told (seen new) (may_leave new) a.file a.told only c left)) image }
+        record { file = a.file; told = a.told; place = s.place; repair = refl; rests = λ c left. subst (λ (l : List ℕ). Image l bodies) (sym (only_told (seen new) (crash new).may_leave a.file a.told only c left)) image }
 
     -- the body is written behind it
-    pub stage_moments : (n : ℕ) → StandsFor seen may_leave jd jg ju bodies None → Step (jg + 1) n jd new → LeavesOnly moment left_since jd new (λ c. Image c bodies)
+    pub stage_moments : (n : ℕ) → StandsFor seen crash jd jg ju bodies None → Step (jg + 1) n jd new → LeavesOnly (crash jd) (crash new) (λ c. Image c bodies)
     stage_moments n s step =
-        one moment left_since may_leave counts_now only_now earlier jd new (Torn (jg + 1) n) (λ c. Image c bodies) step (λ d c left torn. torn_image bodies jg s.place d c n (s.rests d left) torn)
+        one crash are_crashes jd new (Torn (jg + 1) n) (λ c. Image c bodies) step (λ d c left torn. torn_image bodies jg s.place d c n (s.rests d left) torn)
 
-    pub stage_err : {E : Type 0} (result : Result (Unit {0}) E) (bytes : List ℕ) → StandsFor seen may_leave jd jg ju bodies None → WritesAt (jg + 1) bytes (seen jd) (seen new) result → Step (jg + 1) (length bytes) jd new
-        → StandsFor seen may_leave new jg ju bodies None
+    pub stage_err : {E : Type 0} (result : Result (Unit {0}) E) (bytes : List ℕ) → StandsFor seen crash jd jg ju bodies None → WritesAt (jg + 1) bytes (seen jd) (seen new) result → Step (jg + 1) (length bytes) jd new
+        → StandsFor seen crash new jg ju bodies None
     stage_err result bytes s writes step =
         let a = told_after (jg + 1) bytes (seen jd) (seen new) result s.file s.told writes in
-        record { file = a.file; told = a.told; place = s.place; repair = s.repair; rests = ends moment left_since may_leave counts_now only_now earlier jd new (λ c. Image c bodies) (stage_moments (length bytes) s step) }
+        record { file = a.file; told = a.told; place = s.place; repair = s.repair; rests = ends crash are_crashes jd new (λ c. Image c bodies) (stage_moments (length bytes) s step) }
 
-    pub stage_ok : {E : Type 0} (result : Result (Unit {0}) E) (bytes body : List ℕ) → bytes ≡ framed body → Fits body → StandsFor seen may_leave jd jg ju bodies None → WritesAt (jg + 1) bytes (seen jd) (seen new) result → Step (jg + 1) (length bytes) jd new
-        → OnOk result (Only (seen new) (may_leave new)) → OnOk result (IsStaged seen may_leave new jg bodies body)
+    pub stage_ok : {E : Type 0} (result : Result (Unit {0}) E) (bytes body : List ℕ) → bytes ≡ framed body → Fits body → StandsFor seen crash jd jg ju bodies None → WritesAt (jg + 1) bytes (seen jd) (seen new) result → Step (jg + 1) (length bytes) jd new
+        → OnOk result (Only (seen new) (crash new).may_leave) → OnOk result (IsStaged seen crash new jg bodies body)
     stage_ok (Err e) bytes body is fits s writes step only = tt
     stage_ok {E} (Ok x) bytes body is fits s writes step only =
         let a : After {E = E} (jg + 1) bytes s.file (seen new) (Ok x) = told_after (jg + 1) bytes (seen jd) (seen new) (Ok x) s.file s.told writes in
@@ -73,27 +71,27 @@ module _ {D : Type 0} (seen : D → Option (List ℕ)) (moment : D → ℕ) (lef
           file = a.file;
           told = a.told;
           place = s.place;
-          shut = ends moment left_since may_leave counts_now only_now earlier jd new (λ c. Image c bodies) (stage_moments (length bytes) s step);
-          rests = λ c left. subst (λ (l : List ℕ). Half l bodies body) (sym (only_told (seen new) (may_leave new) a.file a.told only c left)) half;
+          shut = ends crash are_crashes jd new (λ c. Image c bodies) (stage_moments (length bytes) s step);
+          rests = λ c left. subst (λ (l : List ℕ). Half l bodies body) (sym (only_told (seen new) (crash new).may_leave a.file a.told only c left)) half;
         }
 
     -- the gate is opened
-    pub open_moments : (body : List ℕ) → IsStaged seen may_leave jd jg bodies body → Step jg 1 jd new → LeavesOnly moment left_since jd new (λ c. Half c bodies body)
+    pub open_moments : (body : List ℕ) → IsStaged seen crash jd jg bodies body → Step jg 1 jd new → LeavesOnly (crash jd) (crash new) (λ c. Half c bodies body)
     open_moments body s step =
-        one moment left_since may_leave counts_now only_now earlier jd new (Torn jg 1) (λ c. Half c bodies body) step (λ d c left torn. torn_half bodies jg s.place d c body (s.rests d left) torn)
+        one crash are_crashes jd new (Torn jg 1) (λ c. Half c bodies body) step (λ d c left torn. torn_half bodies jg s.place d c body (s.rests d left) torn)
 
-    pub open_err : {E : Type 0} (result : Result (Unit {0}) E) (body : List ℕ) → IsStaged seen may_leave jd jg bodies body → WritesAt jg (71 ∷ []) (seen jd) (seen new) result → Step jg 1 jd new
-        → StandsFor seen may_leave new jg true bodies (Some body)
+    pub open_err : {E : Type 0} (result : Result (Unit {0}) E) (body : List ℕ) → IsStaged seen crash jd jg bodies body → WritesAt jg (71 ∷ []) (seen jd) (seen new) result → Step jg 1 jd new
+        → StandsFor seen crash new jg true bodies (Some body)
     open_err result body s writes step =
         let a = told_after jg (71 ∷ []) (seen jd) (seen new) result s.file s.told writes in
-        record { file = a.file; told = a.told; place = s.place; repair = refl; rests = ends moment left_since may_leave counts_now only_now earlier jd new (λ c. Half c bodies body) (open_moments body s step) }
+        record { file = a.file; told = a.told; place = s.place; repair = refl; rests = ends crash are_crashes jd new (λ c. Half c bodies body) (open_moments body s step) }
 
-    pub open_ok : (E : Type 0) (x : Unit {0}) (gate : ℕ) (body : List ℕ) → gate ≡ length (records (bodies ++ body ∷ [])) → IsStaged seen may_leave jd jg bodies body → WritesAt {E = E} jg (71 ∷ []) (seen jd) (seen new) (Ok x) → Only (seen new) (may_leave new)
-        → StandsFor seen may_leave new gate false (bodies ++ body ∷ []) None
+    pub open_ok : (E : Type 0) (x : Unit {0}) (gate : ℕ) (body : List ℕ) → gate ≡ length (records (bodies ++ body ∷ [])) → IsStaged seen crash jd jg bodies body → WritesAt {E = E} jg (71 ∷ []) (seen jd) (seen new) (Ok x) → Only (seen new) (crash new).may_leave
+        → StandsFor seen crash new gate false (bodies ++ body ∷ []) None
     open_ok E x gate body gate_is s writes only =
         let a : After {E = E} jg (71 ∷ []) s.file (seen new) (Ok x) = told_after jg (71 ∷ []) (seen jd) (seen new) (Ok x) s.file s.told writes in
         let image = opened_half bodies jg s.place s.file a.file body (s.rests s.file (seen_is_left jd s.file s.told)) a.holds in
-        record { file = a.file; told = a.told; place = gate_is; repair = refl; rests = λ c left. subst (λ (l : List ℕ). Image l (bodies ++ body ∷ [])) (sym (only_told (seen new) (may_leave new) a.file a.told only c left)) image }
+        record { file = a.file; told = a.told; place = gate_is; repair = refl; rests = λ c left. subst (λ (l : List ℕ). Image l (bodies ++ body ∷ [])) (sym (only_told (seen new) (crash new).may_leave a.file a.told only c left)) image }
 
 -- one record more
 pub length-push : (bodies : List (List ℕ)) (body : List ℕ) (gate n : ℕ) → gate ≡ length (records bodies) → n ≡ length (framed body) → gate + n ≡ length (records (bodies ++ body ∷ []))
@@ -106,9 +104,9 @@ only_of None leaves f e only = absurd (cc)
 only_of (Some o) leaves f e only = λ c left. let is : f ≡ o = cc in only c left ∙ is
 
 -- a journal that was just made
-pub made_stands : {D : Type 0} (seen : D → Option (List ℕ)) (may_leave : D → List ℕ → Type 0) (disk : D) (body : List ℕ) (gate : ℕ) → gate ≡ length body + 5 → IsMade seen may_leave disk body
-    → StandsFor seen may_leave disk gate false (body ∷ []) None × Only (seen disk) (may_leave disk)
-made_stands seen may_leave disk body gate is made = (
+pub made_stands : {D : Type 0} (seen : D → Option (List ℕ)) (crash : D → Crashes) (disk : D) (body : List ℕ) (gate : ℕ) → gate ≡ length body + 5 → IsMade seen crash disk body
+    → StandsFor seen crash disk gate false (body ∷ []) None × Only (seen disk) (crash disk).may_leave
+made_stands seen crash disk body gate is made = (
   record {
     file = made.file;
     told = made.told;
@@ -116,7 +114,7 @@ made_stands seen may_leave disk body gate is made = (
     repair = refl;
     rests = λ c left. subst (λ (l : List ℕ). Image l (body ∷ [])) (sym (made.only c left)) made.image;
   },
-  only_of (seen disk) (may_leave disk) made.file made.told made.only,
+  only_of (seen disk) (crash disk).may_leave made.file made.told made.only,
 )
 
 pub if_told : (o : Option (List ℕ)) (P : List ℕ → Type 0) → ((f : List ℕ) → o ≡ Some f → P f) → IfSome o P
@@ -128,10 +126,10 @@ when_told None P f e p = absurd (cc)
 when_told (Some o) P f e p = let is : o ≡ f = cc in subst P is p
 
 -- a journal that was just opened
-pub image_stands : {D : Type 0} (seen : D → Option (List ℕ)) (may_leave : D → List ℕ → Type 0) (disk : D) (file : List ℕ) (bodies : List (List ℕ)) (gate : ℕ) → seen disk ≡ Some file → Image file bodies → gate ≡ length (records bodies)
-    → ((c : List ℕ) → may_leave disk c → c ≡ file) → Image file bodies × StandsFor seen may_leave disk gate false bodies None × Only (seen disk) (may_leave disk)
-image_stands seen may_leave disk file bodies gate told image gate_is only = (
+pub image_stands : {D : Type 0} (seen : D → Option (List ℕ)) (crash : D → Crashes) (disk : D) (file : List ℕ) (bodies : List (List ℕ)) (gate : ℕ) → seen disk ≡ Some file → Image file bodies → gate ≡ length (records bodies)
+    → ((c : List ℕ) → (crash disk).may_leave c → c ≡ file) → Image file bodies × StandsFor seen crash disk gate false bodies None × Only (seen disk) (crash disk).may_leave
+image_stands seen crash disk file bodies gate told image gate_is only = (
   image,
   record { file = file; told = told; place = gate_is; repair = refl; rests = λ c left. subst (λ (l : List ℕ). Image l bodies) (sym (only c left)) image },
-  only_of (seen disk) (may_leave disk) file told only,
+  only_of (seen disk) (crash disk).may_leave file told only,
 )

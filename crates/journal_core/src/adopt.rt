@@ -77,9 +77,10 @@ fn read_record<D: Disk>(alloc: Global, disk: &mut D, at: u64, n: u64) -> Result<
     ensures syncs { D.syncs disk.new ≡ D.syncs disk.old }
     ensures step { IfOk result (λ step. Steps at step (D.seen disk.old)) }
     ensures bound { IfOk result (λ step. Ends at n step) }
-    ensures crash { Passes Same (D.moment disk.old) (D.moment disk.new) (D.may_leave disk.old) (D.left_since disk.old) (D.left_since disk.new) }
+    ensures crash { Passes Same (D.crash disk.old) (D.crash disk.new) }
     ensures later { D.faults disk.old ≤ D.faults disk.new }
-    ensures cause { IsErrOf result ReadFault.Failing → Rose (D.faults disk.old) (D.faults disk.new) }
+    ensures cause { IsErrOf result ReadFault.Failing
+        → Rose (D.faults disk.old) (D.faults disk.new) }
     ensures steady { OnOk result (D.faults disk.new ≡ D.faults disk.old) }
     ensures lacking { IsErrOf result ReadFault.Memory → D.faults disk.new ≡ D.faults disk.old }
 {
@@ -107,11 +108,13 @@ fn scan<D: Disk>(alloc: Global, disk: &mut D, n: u64) -> Result<Found, ReadFault
     requires { IsLength n (D.seen disk.old) }
     ensures seen { D.seen disk.new ≡ D.seen disk.old }
     ensures syncs { D.syncs disk.new ≡ D.syncs disk.old }
-    ensures found { (file : List ℕ) → D.seen disk.old ≡ Some file → (Fresh file → ⊥) → IfOk result (λ found. IsFound found file) }
+    ensures found { (file : List ℕ) → D.seen disk.old ≡ Some file → (Fresh file → ⊥) → IfOk result
+        (λ found. IsFound found file) }
     ensures gate { IfOk result IsGated }
-    ensures crash { Passes Same (D.moment disk.old) (D.moment disk.new) (D.may_leave disk.old) (D.left_since disk.old) (D.left_since disk.new) }
+    ensures crash { Passes Same (D.crash disk.old) (D.crash disk.new) }
     ensures later { D.faults disk.old ≤ D.faults disk.new }
-    ensures cause { IsErrOf result ReadFault.Failing → Rose (D.faults disk.old) (D.faults disk.new) }
+    ensures cause { IsErrOf result ReadFault.Failing
+        → Rose (D.faults disk.old) (D.faults disk.new) }
     ensures steady { OnOk result (D.faults disk.new ≡ D.faults disk.old) }
     ensures lacking { IsErrOf result ReadFault.Memory → D.faults disk.new ≡ D.faults disk.old }
 {
@@ -138,13 +141,18 @@ fn scan<D: Disk>(alloc: Global, disk: &mut D, n: u64) -> Result<Found, ReadFault
 // Makes what is there stable, and reads it.
 pub(crate) fn find<D: Disk>(alloc: Global, disk: &mut D) -> Result<Found, ReadFault>
     ensures seen { D.seen disk.new ≡ D.seen disk.old }
-    ensures found { (file : List ℕ) → D.seen disk.old ≡ Some file → IfOk result (λ found. IsFound found file) }
+    ensures found { (file : List ℕ) → D.seen disk.old ≡ Some file → IfOk result
+        (λ found. IsFound found file) }
     ensures gate { IfOk result IsGated }
-    ensures durable { (file : List ℕ) → D.seen disk.old ≡ Some file → OnOk result ((c : List ℕ) → D.may_leave disk.new c → c ≡ file) }
-    ensures settled { (file before : List ℕ) → D.seen disk.old ≡ Some file → D.syncs disk.old ≡ Some before → OnOk result (Settles D.moment D.left_since D.syncs before file disk.new) }
-    ensures crash { Passes Same (D.moment disk.old) (D.moment disk.new) (D.may_leave disk.old) (D.left_since disk.old) (D.left_since disk.new) }
+    ensures durable { (file : List ℕ) → D.seen disk.old ≡ Some file
+        → OnOk result ((c : List ℕ) → (D.crash disk.new).may_leave c → c ≡ file) }
+    ensures settled { (file before : List ℕ) → D.seen disk.old ≡ Some file
+        → D.syncs disk.old ≡ Some before
+        → OnOk result (Settles D.crash D.syncs before file disk.new) }
+    ensures crash { Passes Same (D.crash disk.old) (D.crash disk.new) }
     ensures later { D.faults disk.old ≤ D.faults disk.new }
-    ensures cause { IsErrOf result ReadFault.Failing → Rose (D.faults disk.old) (D.faults disk.new) }
+    ensures cause { IsErrOf result ReadFault.Failing
+        → Rose (D.faults disk.old) (D.faults disk.new) }
     ensures steady { OnOk result (D.faults disk.new ≡ D.faults disk.old) }
     ensures lacking { IsErrOf result ReadFault.Memory → D.faults disk.new ≡ D.faults disk.old }
 {

@@ -27,7 +27,7 @@ impl From<Failed> for AppendFault {
 }
 
 impl<D: Disk> Journal<D> {
-    /// Whether a body of so many bytes has room.
+    /// Whether a body of so many bytes has room: the file would have at most `LIMIT` bytes with it.
     pub fn room(&self, n: usize) -> bool
         ensures { IsTrue result ↔ (gate_of self.now + 6 + n ≤ 268435456) }
     {
@@ -35,38 +35,59 @@ impl<D: Disk> Journal<D> {
     }
 
     /// Adds a body. It takes no memory.
+    ///
+    /// # Errors
+    ///
+    /// `Full` where the file would have more than `LIMIT` bytes; nothing is done. `DiskFault` where a
+    /// call of the disk failed; this body, or the one that was so before, may be pending then.
     pub fn append(&mut self, body: &Packet) -> Result<(), AppendFault>
 
         // The file would be too long, and nothing is done.
-        ensures full { IsErrOf result AppendFault.Full ↔ (268435456 < gate_of self.old + 6 + length body.now) }
+        ensures full { IsErrOf result AppendFault.Full
+            ↔ (268435456 < gate_of self.old + 6 + length body.now) }
         ensures unchanged { IsErrOf result AppendFault.Full → self.new ≡ self.old }
 
         // The last gate moves behind the body's record, or stays where it is.
-        ensures gate { MatchResult result (λ _. gate_of self.new ≡ gate_of self.old + (length body.now + 5)) (λ _. gate_of self.new ≡ gate_of self.old) }
+        ensures gate { MatchResult result
+            (λ _. gate_of self.new ≡ gate_of self.old + (length body.now + 5))
+            (λ _. gate_of self.new ≡ gate_of self.old) }
 
         // The disk failed in this call.
         ensures later { D.faults (disk_of self.old) ≤ D.faults (disk_of self.new) }
-        ensures cause { IsErrOf result AppendFault.DiskFault → Rose (D.faults (disk_of self.old)) (D.faults (disk_of self.new)) }
+        ensures cause { IsErrOf result AppendFault.DiskFault
+            → Rose (D.faults (disk_of self.old)) (D.faults (disk_of self.new)) }
 
         // But for that the count of its faults is as before.
         ensures steady { OnOk result (D.faults (disk_of self.new) ≡ D.faults (disk_of self.old)) }
 
         // From now on each crash leaves the bodies with this one, and nothing is pending.
-        ensures ok { (bodies : List (List ℕ)) (pending : Option (List ℕ)) → Keeps D.seen D.may_leave self.old bodies pending
-            → OnOk result (Keeps D.seen D.may_leave self.new (bodies ++ body.now ∷ []) None × Only (D.seen (disk_of self.new)) (D.may_leave (disk_of self.new))) }
+        ensures ok { (bodies : List (List ℕ)) (pending : Option (List ℕ))
+            → Keeps D.seen D.crash self.old bodies pending
+            → OnOk result
+            (Keeps D.seen D.crash self.new (bodies ++ body.now ∷ []) None
+            × Only (D.seen (disk_of self.new)) (D.crash (disk_of self.new)).may_leave) }
 
-        // The body's record stands at the last gate, with a closed gate behind it, and no other byte is changed.
-        ensures written { (file : List ℕ) → D.seen (disk_of self.old) ≡ Some file → OnOk result (D.seen (disk_of self.new) ≡ Some (with_record (gate_of self.old) body.now file)) }
+        // The body's record stands at the last gate, with a closed gate behind it, and no other
+        // byte is changed.
+        ensures written { (file : List ℕ) → D.seen (disk_of self.old) ≡ Some file
+            → OnOk result
+            (D.seen (disk_of self.new) ≡ Some (with_record (gate_of self.old) body.now file)) }
 
-        // The bodies are as before, and at most one is pending, which was so before or is this one. A crash now
-        // leaves the bodies, or them with the pending one.
-        ensures failed { (bodies : List (List ℕ)) (pending : Option (List ℕ)) → Keeps D.seen D.may_leave self.old bodies pending
-            → IsErrOf result AppendFault.DiskFault → (next : Option (List ℕ)) × MayPend pending body.now next × Keeps D.seen D.may_leave self.new bodies next
-            × ((c : List ℕ) → D.may_leave (disk_of self.new) c → LeavesBodies bodies next c) }
+        // The bodies are as before, and at most one is pending, which was so before or is this one.
+        // A crash now leaves the bodies, or them with the pending one.
+        ensures failed { (bodies : List (List ℕ)) (pending : Option (List ℕ))
+            → Keeps D.seen D.crash self.old bodies pending
+            → IsErrOf result AppendFault.DiskFault → (next : Option (List ℕ))
+            × MayPend pending body.now next × Keeps D.seen D.crash self.new bodies next
+            × ((c : List ℕ) → (D.crash (disk_of self.new)).may_leave c
+            → LeavesBodies bodies next c) }
 
-        // A crash at any moment of the call leaves the bodies, with the one that was pending, with this one, or with neither.
-        ensures any_moment { (bodies : List (List ℕ)) (pending : Option (List ℕ)) → Keeps D.seen D.may_leave self.old bodies pending
-            → LeavesOnly D.moment D.left_since (disk_of self.old) (disk_of self.new) (IsOneOf bodies pending body.now) }
+        // A crash at any moment of the call leaves the bodies, with the one that was pending, with
+        // this one, or with neither.
+        ensures any_moment { (bodies : List (List ℕ)) (pending : Option (List ℕ))
+            → Keeps D.seen D.crash self.old bodies pending
+            → LeavesOnly (D.crash (disk_of self.old)) (D.crash (disk_of self.new))
+            (IsOneOf bodies pending body.now) }
     {
         if !self.room(body.len()) {
             return Err(AppendFault::Full);
@@ -79,15 +100,23 @@ impl<D: Disk> Journal<D> {
 
     // Closes the gate that may stand open since a fault.
     fn close(&mut self) -> Result<(), Failed>
-        ensures put { OnOk result ((D.seen self.new.disk ≡ D.seen self.old.disk) ⊎ (D.seen self.new.disk ≡ option_map (put self.old.gate (46 ∷ [])) (D.seen self.old.disk))) }
+        ensures put { OnOk result
+            ((D.seen self.new.disk ≡ D.seen self.old.disk)
+            ⊎ (D.seen self.new.disk
+            ≡ option_map (put self.old.gate (46 ∷ [])) (D.seen self.old.disk))) }
         ensures gate { self.new.gate ≡ self.old.gate }
-        ensures ok { (bodies : List (List ℕ)) (pending : Option (List ℕ)) → Keeps D.seen D.may_leave self.old bodies pending
-            → OnOk result (Keeps D.seen D.may_leave self.new bodies None) }
-        ensures err { (bodies : List (List ℕ)) (pending : Option (List ℕ)) → Keeps D.seen D.may_leave self.old bodies pending
-            → OnErr result (Keeps D.seen D.may_leave self.new bodies pending) }
-        ensures any_moment { (bodies : List (List ℕ)) (pending : Option (List ℕ)) → Keeps D.seen D.may_leave self.old bodies pending
-            → LeavesOnly D.moment D.left_since (disk_of self.old) (disk_of self.new) (Rests bodies pending) }
-        ensures cause { HasCause (D.faults (disk_of self.old)) (D.faults (disk_of self.new)) result }
+        ensures ok { (bodies : List (List ℕ)) (pending : Option (List ℕ))
+            → Keeps D.seen D.crash self.old bodies pending
+            → OnOk result (Keeps D.seen D.crash self.new bodies None) }
+        ensures err { (bodies : List (List ℕ)) (pending : Option (List ℕ))
+            → Keeps D.seen D.crash self.old bodies pending
+            → OnErr result (Keeps D.seen D.crash self.new bodies pending) }
+        ensures any_moment { (bodies : List (List ℕ)) (pending : Option (List ℕ))
+            → Keeps D.seen D.crash self.old bodies pending
+            → LeavesOnly (D.crash (disk_of self.old)) (D.crash (disk_of self.new))
+            (Rests bodies pending) }
+        ensures cause { HasCause (D.faults (disk_of self.old)) (D.faults (disk_of self.new))
+            result }
         ensures steady { OnOk result (D.faults (disk_of self.new) ≡ D.faults (disk_of self.old)) }
     {
         if self.unsure {
@@ -100,16 +129,21 @@ impl<D: Disk> Journal<D> {
     // Writes the body behind the closed gate.
     fn stage(&mut self, body: &Packet) -> Result<(), Failed>
         requires { self.old.gate + 6 + length body.now ≤ 268435456 }
-        ensures put { OnOk result (D.seen self.new.disk ≡ option_map (put (self.old.gate + 1) (framed body.now)) (D.seen self.old.disk)) }
-        ensures behind { OnOk result (IsWithin (self.new.gate + 6 + length body.now) (D.seen (disk_of self.new))) }
+        ensures put { OnOk result
+            (D.seen self.new.disk
+            ≡ option_map (put (self.old.gate + 1) (framed body.now)) (D.seen self.old.disk)) }
+        ensures behind { OnOk result
+            (IsWithin (self.new.gate + 6 + length body.now) (D.seen (disk_of self.new))) }
         ensures gate { self.new.gate ≡ self.old.gate }
-        ensures ok { (bodies : List (List ℕ)) → Keeps D.seen D.may_leave self.old bodies None
-            → OnOk result (IsStaged D.seen D.may_leave self.new.disk self.new.gate bodies body.now) }
-        ensures err { (bodies : List (List ℕ)) → Keeps D.seen D.may_leave self.old bodies None
-            → OnErr result (Keeps D.seen D.may_leave self.new bodies None) }
-        ensures any_moment { (bodies : List (List ℕ)) → Keeps D.seen D.may_leave self.old bodies None
-            → LeavesOnly D.moment D.left_since (disk_of self.old) (disk_of self.new) (λ c. Image c bodies) }
-        ensures cause { HasCause (D.faults (disk_of self.old)) (D.faults (disk_of self.new)) result }
+        ensures ok { (bodies : List (List ℕ)) → Keeps D.seen D.crash self.old bodies None
+            → OnOk result (IsStaged D.seen D.crash self.new.disk self.new.gate bodies body.now) }
+        ensures err { (bodies : List (List ℕ)) → Keeps D.seen D.crash self.old bodies None
+            → OnErr result (Keeps D.seen D.crash self.new bodies None) }
+        ensures any_moment { (bodies : List (List ℕ)) → Keeps D.seen D.crash self.old bodies None
+            → LeavesOnly (D.crash (disk_of self.old)) (D.crash (disk_of self.new))
+            (λ c. Image c bodies) }
+        ensures cause { HasCause (D.faults (disk_of self.old)) (D.faults (disk_of self.new))
+            result }
         ensures steady { OnOk result (D.faults (disk_of self.new) ≡ D.faults (disk_of self.old)) }
     {
         write_synced(&mut self.disk, self.gate + 1, body.framed())
@@ -117,17 +151,29 @@ impl<D: Disk> Journal<D> {
 
     // Opens the gate before the body that stands behind it.
     fn open(&mut self, body: &Packet) -> Result<(), Failed>
-        requires within { IsWithin (self.old.gate + 6 + length body.now) (D.seen (disk_of self.old)) }
+        requires within { IsWithin (self.old.gate + 6 + length body.now)
+            (D.seen (disk_of self.old)) }
         requires room { self.old.gate + 6 + length body.now ≤ 268435456 }
-        ensures put { OnOk result (D.seen self.new.disk ≡ option_map (put self.old.gate (71 ∷ [])) (D.seen self.old.disk)) }
-        ensures gate { MatchResult result (λ _. self.new.gate ≡ self.old.gate + (length body.now + 5)) (λ _. self.new.gate ≡ self.old.gate) }
-        ensures ok { (bodies : List (List ℕ)) → IsStaged D.seen D.may_leave self.old.disk self.old.gate bodies body.now
-            → OnOk result (Keeps D.seen D.may_leave self.new (bodies ++ body.now ∷ []) None × Only (D.seen (disk_of self.new)) (D.may_leave (disk_of self.new))) }
-        ensures err { (bodies : List (List ℕ)) → IsStaged D.seen D.may_leave self.old.disk self.old.gate bodies body.now
-            → OnErr result (Keeps D.seen D.may_leave self.new bodies (Some body.now)) }
-        ensures any_moment { (bodies : List (List ℕ)) → IsStaged D.seen D.may_leave self.old.disk self.old.gate bodies body.now
-            → LeavesOnly D.moment D.left_since (disk_of self.old) (disk_of self.new) (λ c. Half c bodies body.now) }
-        ensures cause { HasCause (D.faults (disk_of self.old)) (D.faults (disk_of self.new)) result }
+        ensures put { OnOk result
+            (D.seen self.new.disk
+            ≡ option_map (put self.old.gate (71 ∷ [])) (D.seen self.old.disk)) }
+        ensures gate { MatchResult result
+            (λ _. self.new.gate ≡ self.old.gate + (length body.now + 5))
+            (λ _. self.new.gate ≡ self.old.gate) }
+        ensures ok { (bodies : List (List ℕ))
+            → IsStaged D.seen D.crash self.old.disk self.old.gate bodies body.now
+            → OnOk result
+            (Keeps D.seen D.crash self.new (bodies ++ body.now ∷ []) None
+            × Only (D.seen (disk_of self.new)) (D.crash (disk_of self.new)).may_leave) }
+        ensures err { (bodies : List (List ℕ))
+            → IsStaged D.seen D.crash self.old.disk self.old.gate bodies body.now
+            → OnErr result (Keeps D.seen D.crash self.new bodies (Some body.now)) }
+        ensures any_moment { (bodies : List (List ℕ))
+            → IsStaged D.seen D.crash self.old.disk self.old.gate bodies body.now
+            → LeavesOnly (D.crash (disk_of self.old)) (D.crash (disk_of self.new))
+            (λ c. Half c bodies body.now) }
+        ensures cause { HasCause (D.faults (disk_of self.old)) (D.faults (disk_of self.new))
+            result }
         ensures steady { OnOk result (D.faults (disk_of self.new) ≡ D.faults (disk_of self.old)) }
     {
         self.unsure = true;

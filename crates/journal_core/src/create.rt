@@ -22,9 +22,11 @@ ghost use Rattle.journal_core.specs.Adopt.{Settles};
 pub(crate) fn look<D: Disk>(disk: &mut D) -> Result<Start, Failed>
     ensures seen { D.seen disk.new ≡ D.seen disk.old }
     ensures start { IfOk result (λ start. Starts start (D.seen disk.old)) }
-    ensures durable { OnOk result (Only (D.seen disk.new) (D.may_leave disk.new)) }
-    ensures settled { (file before : List ℕ) → D.seen disk.old ≡ Some file → D.syncs disk.old ≡ Some before → OnOk result (Settles D.moment D.left_since D.syncs before file disk.new) }
-    ensures crash { Passes Same (D.moment disk.old) (D.moment disk.new) (D.may_leave disk.old) (D.left_since disk.old) (D.left_since disk.new) }
+    ensures durable { OnOk result (Only (D.seen disk.new) (D.crash disk.new).may_leave) }
+    ensures settled { (file before : List ℕ) → D.seen disk.old ≡ Some file
+        → D.syncs disk.old ≡ Some before
+        → OnOk result (Settles D.crash D.syncs before file disk.new) }
+    ensures crash { Passes Same (D.crash disk.old) (D.crash disk.new) }
     ensures cause { HasCause (D.faults disk.old) (D.faults disk.new) result }
     ensures steady { OnOk result (D.faults disk.new ≡ D.faults disk.old) }
 {
@@ -50,10 +52,14 @@ ghost use Rattle.journal_core.specs.Written.{put, with_record};
 fn first<D: Disk>(disk: &mut D, body: &Packet) -> Result<(), Failed>
     requires within { IsWithin 1 (D.seen disk.old) }
     requires room { length body.now ≤ 268435450 }
-    ensures put { OnOk result (D.seen disk.new ≡ option_map (put 0 (71 ∷ [])) (option_map (put 1 (framed body.now)) (D.seen disk.old))) }
+    ensures put { OnOk result
+        (D.seen disk.new
+        ≡ option_map (put 0 (71 ∷ [])) (option_map (put 1 (framed body.now)) (D.seen disk.old))) }
     ensures within { OnOk result (IsWithin (length body.now + 6) (D.seen disk.new)) }
-    ensures made { IsBlank D.seen D.may_leave disk.old → OnOk result (IsMade D.seen D.may_leave disk.new body.now) }
-    ensures any_moment { IsBlank D.seen D.may_leave disk.old → LeavesOnly D.moment D.left_since disk.old disk.new (IsMaking body.now) }
+    ensures made { IsBlank D.seen D.crash disk.old
+        → OnOk result (IsMade D.seen D.crash disk.new body.now) }
+    ensures any_moment { IsBlank D.seen D.crash disk.old
+        → LeavesOnly (D.crash disk.old) (D.crash disk.new) (IsMaking body.now) }
     ensures cause { HasCause (D.faults disk.old) (D.faults disk.new) result }
     ensures steady { OnOk result (D.faults disk.new ≡ D.faults disk.old) }
 {
@@ -64,14 +70,21 @@ fn first<D: Disk>(disk: &mut D, body: &Packet) -> Result<(), Failed>
 // Makes a file of one body where the file is fresh. Answers whether it was.
 pub(crate) fn make<D: Disk>(disk: &mut D, body: &Packet) -> Result<bool, Failed>
     requires { length body.now ≤ 268435450 }
-    ensures fresh { (file : List ℕ) → D.seen disk.old ≡ Some file → IfOk result (λ made. IsTrue made ↔ Fresh file) }
+    ensures fresh { (file : List ℕ) → D.seen disk.old ≡ Some file → IfOk result
+        (λ made. IsTrue made ↔ Fresh file) }
     ensures same { IfOk result (λ made. IsTrue made ⊎ (D.seen disk.new ≡ D.seen disk.old)) }
-    ensures written { (file : List ℕ) → D.seen disk.old ≡ Some file → IfOk result (λ made. IsTrue made → D.seen disk.new ≡ Some (with_record 0 body.now file)) }
-    ensures untouched { IfOk result (λ made. made ≡ false → LeavesOnly D.moment D.left_since disk.old disk.new (D.may_leave disk.old)) }
-    ensures within { IfOk result (λ made. IsTrue made → IsWithin (length body.now + 6) (D.seen disk.new)) }
-    ensures made { (file : List ℕ) → D.seen disk.old ≡ Some file → IfOk result (λ made. IsTrue made → IsMade D.seen D.may_leave disk.new body.now) }
+    ensures written { (file : List ℕ) → D.seen disk.old ≡ Some file → IfOk result
+        (λ made. IsTrue made → D.seen disk.new ≡ Some (with_record 0 body.now file)) }
+    ensures untouched { IfOk result
+        (λ made. made ≡ false
+        → LeavesOnly (D.crash disk.old) (D.crash disk.new) (D.crash disk.old).may_leave) }
+    ensures within { IfOk result
+        (λ made. IsTrue made → IsWithin (length body.now + 6) (D.seen disk.new)) }
+    ensures made { (file : List ℕ) → D.seen disk.old ≡ Some file → IfOk result
+        (λ made. IsTrue made → IsMade D.seen D.crash disk.new body.now) }
     ensures any_moment { (file : List ℕ) → D.seen disk.old ≡ Some file
-        → LeavesOnly D.moment D.left_since disk.old disk.new (λ c. D.may_leave disk.old c ⊎ IsMaking body.now c) }
+        → LeavesOnly (D.crash disk.old) (D.crash disk.new)
+        (λ c. (D.crash disk.old).may_leave c ⊎ IsMaking body.now c) }
     ensures cause { HasCause (D.faults disk.old) (D.faults disk.new) result }
     ensures steady { OnOk result (D.faults disk.new ≡ D.faults disk.old) }
 {

@@ -12,7 +12,7 @@ pub enum AppendFault {
 #[derive(Clone, Copy, Debug, PartialEq, Eq)]
 pub enum AdoptFault {
     Fresh,
-    /// The place of the gate from which on the file is no journal.
+    /// The place of the gate, in bytes from 0, from which on the file is no journal.
     Damaged { at: u64 },
     DiskFault,
     OutOfMemory,

@@ -20,13 +20,20 @@ use hazard_types::{List, Text};
 use std::alloc::Global;
 
 impl<D: Disk> Journal<D> {
-    /// Whether a journal may be made in the file: it has no byte or one, or is only being made. Nothing is changed.
+    /// Whether a journal may be made in the file: it has no byte or one, or is only being made.
+    /// Nothing is changed.
+    ///
+    /// # Errors
+    ///
+    /// `Failed`; the disk's count of faults rose.
     pub fn is_fresh(disk: &mut D) -> Result<bool, Failed>
         ensures seen { D.seen disk.new ≡ D.seen disk.old }
-        ensures told { (file : List ℕ) → D.seen disk.old ≡ Some file → IfOk result (λ fresh. IsTrue fresh ↔ Fresh file) }
+        ensures told { (file : List ℕ) → D.seen disk.old ≡ Some file → IfOk result
+            (λ fresh. IsTrue fresh ↔ Fresh file) }
 
         // A crash since its start leaves what one at its start might have left.
-        ensures untouched { LeavesOnly D.moment D.left_since disk.old disk.new (D.may_leave disk.old) }
+        ensures untouched { LeavesOnly (D.crash disk.old) (D.crash disk.new)
+            (D.crash disk.old).may_leave }
 
         // The disk failed in this call.
         ensures cause { HasCause (D.faults disk.old) (D.faults disk.new) result }
@@ -41,39 +48,56 @@ impl<D: Disk> Journal<D> {
     }
 
     /// Makes a journal of one body on a fresh disk.
+    ///
+    /// # Errors
+    ///
+    /// The disk, with `NotFresh` where its file was not fresh and is as before, or with `DiskFault`
+    /// where a call of it failed; a crash then leaves what may stand there while one is made.
     pub fn create(mut disk: D, body: &Packet) -> Result<Journal<D>, (D, CreateFault)>
 
         // The file was fresh, and the journal has this body alone, on the disk.
         ensures fresh { (file : List ℕ) → D.seen disk ≡ Some file → OnOk result (Fresh file) }
         ensures ok { (file : List ℕ) → D.seen disk ≡ Some file
-            → IfOk result (λ journal. Keeps D.seen D.may_leave journal (body.now ∷ []) None × Only (D.seen (disk_of journal)) (D.may_leave (disk_of journal))) }
+            → IfOk result
+            (λ journal. Keeps D.seen D.crash journal (body.now ∷ []) None
+            × Only (D.seen (disk_of journal)) (D.crash (disk_of journal)).may_leave) }
 
-        // Its record stands at the begin of the file, with a closed gate behind it, and no other byte is changed.
-        ensures written { (file : List ℕ) → D.seen disk ≡ Some file → IfOk result (λ journal. D.seen (disk_of journal) ≡ Some (with_record 0 body.now file)) }
+        // Its record stands at the begin of the file, with a closed gate behind it, and no other
+        // byte is changed.
+        ensures written { (file : List ℕ) → D.seen disk ≡ Some file → IfOk result
+            (λ journal. D.seen (disk_of journal) ≡ Some (with_record 0 body.now file)) }
 
         // The last gate stands behind that record.
         ensures gate { IfOk result (λ journal. gate_of journal ≡ length body.now + 5) }
 
         // The file was not fresh, and is as before.
-        ensures not_fresh { (file : List ℕ) → D.seen disk ≡ Some file → IfErr result (λ e. e.1 ≡ CreateFault.NotFresh → (Fresh file → ⊥)) }
+        ensures not_fresh { (file : List ℕ) → D.seen disk ≡ Some file → IfErr result
+            (λ e. e.1 ≡ CreateFault.NotFresh → (Fresh file → ⊥)) }
         ensures same { IfErr result (λ e. e.1 ≡ CreateFault.NotFresh → D.seen e.0 ≡ D.seen disk) }
 
-        ensures untouched { IfErr result (λ e. e.1 ≡ CreateFault.NotFresh → LeavesOnly D.moment D.left_since disk e.0 (D.may_leave disk)) }
+        ensures untouched { IfErr result
+            (λ e. e.1 ≡ CreateFault.NotFresh
+            → LeavesOnly (D.crash disk) (D.crash e.0) (D.crash disk).may_leave) }
 
         // The disk failed in this call.
-        ensures cause { IfErr result (λ e. e.1 ≡ CreateFault.DiskFault → Rose (D.faults disk) (D.faults e.0)) }
-        ensures later { MatchResult result (λ journal. D.faults disk ≤ D.faults (disk_of journal)) (λ e. D.faults disk ≤ D.faults e.0) }
+        ensures cause { IfErr result
+            (λ e. e.1 ≡ CreateFault.DiskFault → Rose (D.faults disk) (D.faults e.0)) }
+        ensures later { MatchResult result (λ journal. D.faults disk ≤ D.faults (disk_of journal))
+            (λ e. D.faults disk ≤ D.faults e.0) }
 
         // But for that the count of its faults is as before.
         ensures steady { MatchResult result
             (λ journal. D.faults (disk_of journal) ≡ D.faults disk)
             (λ e. e.1 ≡ CreateFault.NotFresh → D.faults e.0 ≡ D.faults disk) }
 
-        // A crash at any moment of the call leaves what one at its start might have left, or a file that is being made.
+        // A crash at any moment of the call leaves what one at its start might have left, or a file
+        // that is being made.
         ensures any_moment { (file : List ℕ) → D.seen disk ≡ Some file
             → MatchResult result
-            (λ journal. LeavesOnly D.moment D.left_since disk (disk_of journal) (λ c. D.may_leave disk c ⊎ IsMaking body.now c))
-            (λ e. LeavesOnly D.moment D.left_since disk e.0 (λ c. D.may_leave disk c ⊎ IsMaking body.now c)) }
+            (λ journal. LeavesOnly (D.crash disk) (D.crash (disk_of journal))
+            (λ c. (D.crash disk).may_leave c ⊎ IsMaking body.now c))
+            (λ e. LeavesOnly (D.crash disk) (D.crash e.0)
+            (λ c. (D.crash disk).may_leave c ⊎ IsMaking body.now c)) }
     {
         let length = body.len();
         match make(&mut disk, body) {
@@ -87,37 +111,54 @@ impl<D: Disk> Journal<D> {
         }
     }
 
-    /// Opens the journal that a file holds, and answers its bodies.
+    /// Opens the journal that a file holds, and answers its bodies, in order.
+    ///
+    /// # Errors
+    ///
+    /// The disk, whose file is as before, with `Fresh` where no journal is made yet, `Damaged` with
+    /// a place in bytes where the file is none, `DiskFault` where a call of the disk failed, or
+    /// `OutOfMemory`.
     pub fn adopt(alloc: Global, mut disk: D) -> Result<(Journal<D>, List<Text>), (D, AdoptFault)>
 
-        // The file is an image of exactly these bodies, all of it is stable, and nothing is pending.
+        // The file is an image of exactly these bodies, all of it is stable, and nothing is
+        // pending.
         ensures ok { (file : List ℕ) → D.seen disk ≡ Some file
-            → IfOk result (λ r. Image file r.1 × Keeps D.seen D.may_leave r.0 r.1 None × Only (D.seen (disk_of r.0)) (D.may_leave (disk_of r.0))) }
+            → IfOk result
+            (λ r. Image file r.1 × Keeps D.seen D.crash r.0 r.1 None
+            × Only (D.seen (disk_of r.0)) (D.crash (disk_of r.0)).may_leave) }
 
         // The last gate stands behind the records of these bodies, of which there is one at least.
         ensures gate { IfOk result (λ r. (gate_of r.0 ≡ length (records r.1)) × (0 < length r.1)) }
 
-        ensures fresh { (file : List ℕ) → D.seen disk ≡ Some file → IfErr result (λ e. e.1 ≡ AdoptFault.Fresh → Fresh file) }
-        ensures damaged { (file : List ℕ) → D.seen disk ≡ Some file → IfErr result (λ e. (at : ℕ) → e.1 ≡ AdoptFault.Damaged at → DamagedAt file at) }
+        ensures fresh { (file : List ℕ) → D.seen disk ≡ Some file → IfErr result
+            (λ e. e.1 ≡ AdoptFault.Fresh → Fresh file) }
+        ensures damaged { (file : List ℕ) → D.seen disk ≡ Some file → IfErr result
+            (λ e. (at : ℕ) → e.1 ≡ AdoptFault.Damaged at → DamagedAt file at) }
 
-        // A crash since its first sync answered might have left what a read gives, and nothing else.
-        ensures settled { (file before : List ℕ) → D.seen disk ≡ Some file → D.syncs disk ≡ Some before
-            → IfOk result (λ r. Settles D.moment D.left_since D.syncs before file (disk_of r.0)) }
+        // A crash since its first sync answered might have left what a read gives, and nothing
+        // else.
+        ensures settled { (file before : List ℕ) → D.seen disk ≡ Some file
+            → D.syncs disk ≡ Some before
+            → IfOk result (λ r. Settles D.crash D.syncs before file (disk_of r.0)) }
 
         // The disk failed in this call.
-        ensures cause { IfErr result (λ e. e.1 ≡ AdoptFault.DiskFault → Rose (D.faults disk) (D.faults e.0)) }
-        ensures later { MatchResult result (λ r. D.faults disk ≤ D.faults (disk_of r.0)) (λ e. D.faults disk ≤ D.faults e.0) }
+        ensures cause { IfErr result
+            (λ e. e.1 ≡ AdoptFault.DiskFault → Rose (D.faults disk) (D.faults e.0)) }
+        ensures later { MatchResult result (λ r. D.faults disk ≤ D.faults (disk_of r.0))
+            (λ e. D.faults disk ≤ D.faults e.0) }
 
         // But for that the count of its faults is as before.
         ensures steady { MatchResult result
             (λ r. D.faults (disk_of r.0) ≡ D.faults disk)
             (λ e. (e.1 ≡ AdoptFault.DiskFault → ⊥) → D.faults e.0 ≡ D.faults disk) }
 
-        // Whatever it answers, a read gives the same, and a crash since its start leaves what one at its start might have left.
-        ensures seen { MatchResult result (λ r. D.seen (disk_of r.0) ≡ D.seen disk) (λ e. D.seen e.0 ≡ D.seen disk) }
+        // Whatever it answers, a read gives the same, and a crash since its start leaves what one
+        // at its start might have left.
+        ensures seen { MatchResult result (λ r. D.seen (disk_of r.0) ≡ D.seen disk)
+            (λ e. D.seen e.0 ≡ D.seen disk) }
         ensures any_moment { MatchResult result
-            (λ r. LeavesOnly D.moment D.left_since disk (disk_of r.0) (D.may_leave disk))
-            (λ e. LeavesOnly D.moment D.left_since disk e.0 (D.may_leave disk)) }
+            (λ r. LeavesOnly (D.crash disk) (D.crash (disk_of r.0)) (D.crash disk).may_leave)
+            (λ e. LeavesOnly (D.crash disk) (D.crash e.0) (D.crash disk).may_leave) }
     {
         match find(alloc, &mut disk) {
             Err(ReadFault::Failing) => Err((disk, AdoptFault::DiskFault)),

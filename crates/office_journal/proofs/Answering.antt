@@ -1,5 +1,6 @@
 -- What becomes of a kept office between the start of a request and its answer: what is prepared leaves the state as it was.
 use Rattle.std.proofs.Common.{◌≡◌, ◌≢◌, ◌⊎◌, ◌+◌, ◌-◌, ◌^◌, min, inl, inr, ⊎_elim, ℕ, ℤ, List, Option, Some, length, option_map, refl, sym, ◌∙◌, ap, subst}
+use Rattle.desk_traits.specs.Crash.{Crashes}
 use Rattle.desk_traits.specs.Faults.{Rose}
 use Rattle.hazard_types.specs.declared.refusal.Refusal.{Refusal}
 use Rattle.hazard_types.specs.declared.request.Request.{Request}
@@ -28,11 +29,11 @@ ready_offered o s desk seq r reading p same ready = record {
   entry = ready.entry ∙ ap (λ (z : State). entry_of z desk seq r p.entry.minute p.made) same;
 }
 
-module _ {D : Type 0} {d : _} (seen : D → Option (List ℕ)) (may_leave : D → List ℕ → Type 0) (old mid : KeptOffice D d)
+module _ {D : Type 0} {d : _} (seen : D → Option (List ℕ)) (crash : D → Crashes) (old mid : KeptOffice D d)
     (journal : mid.journal ≡ old.journal) (state : state_of mid ≡ state_of old) (entries : entries_of mid ≡ entries_of old) (notes : notes_of mid ≡ notes_of old) where
-  pub holds_on : (file : List ℕ) (h : History) (pending : Option Change) → Holds seen may_leave old file h pending → Holds seen may_leave mid file h pending
+  pub holds_on : (file : List ℕ) (h : History) (pending : Option Change) → Holds seen crash old file h pending → Holds seen crash mid file h pending
   holds_on file h pending holds = record {
-    journal = subst (λ j. Keeps seen may_leave j (bodies file h) (option_map body_of pending)) (sym journal) holds.journal;
+    journal = subst (λ j. Keeps seen crash j (bodies file h) (option_map body_of pending)) (sym journal) holds.journal;
     history = subst (λ (z : State). IsHistory file h z) (sym state) holds.history;
     entries = entries ∙ holds.entries;
     change = holds.change;
@@ -52,11 +53,11 @@ module _ {D : Type 0} {d : _} (seen : D → Option (List ℕ)) (may_leave : D �
   }
 
   -- with what was prepared, all is as it was
-  pub still_as_before : IsAsBefore seen may_leave old mid
+  pub still_as_before : IsAsBefore seen crash old mid
   still_as_before = record { disk = disk_same; gate = gate_same; state = state; entries = entries; notes = notes; held = holds_on }
 
   module _ (new : KeptOffice D d) where
-    as_before_on : IsAsBefore seen may_leave mid new → IsAsBefore seen may_leave old new
+    as_before_on : IsAsBefore seen crash mid new → IsAsBefore seen crash old new
     as_before_on is = record {
       disk = is.disk ∙ disk_same;
       gate = is.gate ∙ gate_same;
@@ -67,7 +68,7 @@ module _ {D : Type 0} {d : _} (seen : D → Option (List ℕ)) (may_leave : D �
     }
 
     module _ (faults : D → ℕ) where
-      entered_on : (x : Entered) → HasEntered seen may_leave faults mid new x → HasEntered seen may_leave faults old new x
+      entered_on : (x : Entered) → HasEntered seen crash faults mid new x → HasEntered seen crash faults old new x
       entered_on x is = record {
         steady = subst (λ (z : D). faults (disk_of new) ≡ faults z) disk_same is.steady;
         gate = is.gate ∙ ap (λ (n : ℕ). n + (5 + length (entry_body x))) gate_same;
@@ -79,7 +80,7 @@ module _ {D : Type 0} {d : _} (seen : D → Option (List ℕ)) (may_leave : D �
         held = λ file h pending holds. is.held file h pending (holds_on file h pending holds);
       }
 
-      failed_on : (x : Entered) → HasFailed seen may_leave faults mid new x → HasFailed seen may_leave faults old new x
+      failed_on : (x : Entered) → HasFailed seen crash faults mid new x → HasFailed seen crash faults old new x
       failed_on x is = record {
         cause = subst (λ (z : D). Rose (faults z) (faults (disk_of new))) disk_same is.cause;
         gate = is.gate ∙ gate_same;
@@ -95,7 +96,7 @@ module _ {D : Type 0} {d : _} (seen : D → Option (List ℕ)) (may_leave : D �
         is_offered x is = subst offered (sym is) so
 
         -- what becomes of it where what was prepared is kept
-        pub becomes_on : (answer : Answer) → Becomes seen may_leave faults mid new (λ x. x ≡ y) (λ text. ⊥) (λ x. ⊥) answer → Becomes seen may_leave faults old new offered kept broken answer
+        pub becomes_on : (answer : Answer) → Becomes seen crash faults mid new (λ x. x ≡ y) (λ text. ⊥) (λ x. ⊥) answer → Becomes seen crash faults old new offered kept broken answer
         becomes_on (Accepted text) (x, is, reply, has) = (x, is_offered x is, reply, entered_on x has)
         becomes_on (Repeated text) (never, same) = absurd never
         becomes_on (Refused r) (why, same) = (⊎_elim (λ never. absurd never) (λ full. inr (full.0, full.1, is_offered full.1 full.2, subst (λ (n : ℕ). IsTooLong n full.1) gate_same full.3)) why, as_before_on same)
@@ -104,9 +105,9 @@ module _ {D : Type 0} {d : _} (seen : D → Option (List ℕ)) (may_leave : D �
 
   -- what stands beside the answer
   pub names_on : (new : KeptOffice D d) (faults : D → ℕ) (p : Readied) (offered : Entered → Type 0) (kept : List ℕ → Type 0) (broken : Refusal → Type 0) → offered (entered p)
-      → (answer : Answer) (told : Option Readied) → Becomes seen may_leave faults mid new (λ x. x ≡ entered p) (λ text. ⊥) (λ x. ⊥) answer → StandsBeside answer p told → Names seen may_leave faults old new offered kept broken answer told
+      → (answer : Answer) (told : Option Readied) → Becomes seen crash faults mid new (λ x. x ≡ entered p) (λ text. ⊥) (λ x. ⊥) answer → StandsBeside answer p told → Names seen crash faults old new offered kept broken answer told
   names_on new faults p offered kept broken so (Accepted text) told (x, is, reply, has) beside =
-      (p, beside, so, reply ∙ ap (λ (y : Entered). reply_text y.entry.reply) is, subst (λ (y : Entered). HasEntered seen may_leave faults old new y) is (entered_on new faults x has))
+      (p, beside, so, reply ∙ ap (λ (y : Entered). reply_text y.entry.reply) is, subst (λ (y : Entered). HasEntered seen crash faults old new y) is (entered_on new faults x has))
   names_on new faults p offered kept broken so (Repeated text) told becomes beside = beside
   names_on new faults p offered kept broken so (Refused x) told becomes beside = beside
   names_on new faults p offered kept broken so DiskFault told becomes beside = beside
@@ -120,11 +121,11 @@ asked_less s desk seq r reading x so file h pending c left =
     (λ change is. ⊎_elim (λ was. inl was) (λ this. inr (x, so, this)) is) c left
 
 -- but for an entry and a disk fault the disk and what it holds are as they were
-pub untouched : {D : Type 0} {d : _} (seen : D → Option (List ℕ)) (may_leave : D → List ℕ → Type 0) (faults : D → ℕ) (old new : KeptOffice D d) (offered : Entered → Type 0) (kept : List ℕ → Type 0) (broken : Refusal → Type 0) (answer : Answer)
-    → Becomes seen may_leave faults old new offered kept broken answer → ((text : List ℕ) → answer ≢ Accepted text) → answer ≢ DiskFault
-    → (disk_of new ≡ disk_of old) × ((file : List ℕ) (h : History) (pending : Option Change) → Holds seen may_leave old file h pending → Holds seen may_leave new file h pending)
-untouched seen may_leave faults old new offered kept broken (Accepted text) is no_entry no_fault = absurd (no_entry text refl)
-untouched seen may_leave faults old new offered kept broken (Repeated text) is no_entry no_fault = (is.1.disk, is.1.held)
-untouched seen may_leave faults old new offered kept broken (Refused r) is no_entry no_fault = (is.1.disk, is.1.held)
-untouched seen may_leave faults old new offered kept broken DiskFault is no_entry no_fault = absurd (no_fault refl)
-untouched seen may_leave faults old new offered kept broken OutOfMemory is no_entry no_fault = (is.disk, is.held)
+pub untouched : {D : Type 0} {d : _} (seen : D → Option (List ℕ)) (crash : D → Crashes) (faults : D → ℕ) (old new : KeptOffice D d) (offered : Entered → Type 0) (kept : List ℕ → Type 0) (broken : Refusal → Type 0) (answer : Answer)
+    → Becomes seen crash faults old new offered kept broken answer → ((text : List ℕ) → answer ≢ Accepted text) → answer ≢ DiskFault
+    → (disk_of new ≡ disk_of old) × ((file : List ℕ) (h : History) (pending : Option Change) → Holds seen crash old file h pending → Holds seen crash new file h pending)
+untouched seen crash faults old new offered kept broken (Accepted text) is no_entry no_fault = absurd (no_entry text refl)
+untouched seen crash faults old new offered kept broken (Repeated text) is no_entry no_fault = (is.1.disk, is.1.held)
+untouched seen crash faults old new offered kept broken (Refused r) is no_entry no_fault = (is.1.disk, is.1.held)
+untouched seen crash faults old new offered kept broken DiskFault is no_entry no_fault = absurd (no_fault refl)
+untouched seen crash faults old new offered kept broken OutOfMemory is no_entry no_fault = (is.disk, is.held)

@@ -1,5 +1,6 @@
 -- What becomes of a kept office where the entry of what was prepared is appended.
 use Rattle.std.proofs.Common.{◌≡◌, ◌≤◌, ◌+◌, ◌⊎◌, inr, ℕ, ℤ, pos, List, [], ◌∷◌, ◌++◌, length, Option, None, Some, option_map, refl, sym, ◌∙◌, ap, subst, arith, length-append}
+use Rattle.desk_traits.specs.Crash.{Crashes}
 use Rattle.desk_traits.specs.File.{Only}
 use Rattle.hazard_types.specs.declared.request.Request.{Request}
 use Rattle.journal_core.specs.Image.{IsOneOf, records}
@@ -30,38 +31,38 @@ AreInTime = (s : State) (desk : List ℕ) (seq : ℕ) (r : Request) (reading : �
 one_more : (entries : List Entered) (x : Entered) (n m : ℕ) → n ≡ length entries → m ≡ n + 1 → m ≡ length (entries ++ x ∷ [])
 one_more entries x n m is more = omega (arith, is, more, length-append entries (x ∷ []))
 
-module _ {D : Type 0} {d : _} (seen : D → Option (List ℕ)) (may_leave : D → List ℕ → Type 0) (old : KeptOffice D d) (file : List ℕ) (h : History) (pending : Option Change) (holds : Holds seen may_leave old file h pending)
+module _ {D : Type 0} {d : _} (seen : D → Option (List ℕ)) (crash : D → Crashes) (old : KeptOffice D d) (file : List ℕ) (h : History) (pending : Option Change) (holds : Holds seen crash old file h pending)
     (this : Change) (body : List ℕ) (so : MayChange file h this) (written : body ≡ body_of this) where
   -- after a fault this change is pending, or what was pending is, or nothing
   pub still_held : (new : KeptOffice D d) → state_of new ≡ state_of old → entries_of new ≡ entries_of old
-      → (next : Option (List ℕ)) → MayPend (option_map body_of pending) body next → Keeps seen may_leave new.journal (bodies file h) next
-      → (next : Option Change) × MayTouch pending this next × Holds seen may_leave new file h next
+      → (next : Option (List ℕ)) → MayPend (option_map body_of pending) body next → Keeps seen crash new.journal (bodies file h) next
+      → (next : Option Change) × MayTouch pending this next × Holds seen crash new file h next
   still_held new state entries next touch kept =
       let then = pending_then file h old.office.state holds.history pending this body holds.change so written next touch in (
         then.0,
         then.1,
         record {
-          journal = subst (λ (o : Option (List ℕ)). Keeps seen may_leave new.journal (bodies file h) o) (sym then.2) kept;
+          journal = subst (λ (o : Option (List ℕ)). Keeps seen crash new.journal (bodies file h) o) (sym then.2) kept;
           history = subst (λ (z : State). IsHistory file h z) (sym state) holds.history;
           entries = entries ∙ holds.entries;
           change = then.3;
         },
       )
 
-module _ {D : Type 0} {d : _} (seen : D → Option (List ℕ)) (may_leave : D → List ℕ → Type 0) (old : KeptOffice D d) (p : Readied) (law : AreInTime) (may : MayEnter old.office p)
+module _ {D : Type 0} {d : _} (seen : D → Option (List ℕ)) (crash : D → Crashes) (old : KeptOffice D d) (p : Readied) (law : AreInTime) (may : MayEnter old.office p)
     (body : List ℕ) (written : body ≡ body_of (Change.entry (entered p))) (room : gate_of old + 6 + length body ≤ 268435456)
-    (file : List ℕ) (h : History) (pending : Option Change) (holds : Holds seen may_leave old file h pending) where
+    (file : List ℕ) (h : History) (pending : Option Change) (holds : Holds seen crash old file h pending) where
   behind : Follows file h old.office.state p
   behind = follows file h old.office holds.history may.desk may.seq may.request may.reading p may.form may.ready
       (law old.office.state may.desk may.seq may.request may.reading p.entry.minute p.made) (gate_of old) holds.journal.place body written room
 
   -- the entry stands in the journal
   pub held_then : (new : KeptOffice D d) → state_of new ≡ state_after (state_of old) p.entry p.made → entries_of new ≡ entries_of old + 1
-      → Keeps seen may_leave new.journal (bodies file h ++ body ∷ []) None × Only (seen (disk_of new)) (may_leave (disk_of new))
-      → Holds seen may_leave new file (changed h (Change.entry (entered p))) None × Only (seen (disk_of new)) (may_leave (disk_of new))
+      → Keeps seen crash new.journal (bodies file h ++ body ∷ []) None × Only (seen (disk_of new)) (crash (disk_of new)).may_leave
+      → Holds seen crash new file (changed h (Change.entry (entered p))) None × Only (seen (disk_of new)) (crash (disk_of new)).may_leave
   held_then new state entries kept = (
     record {
-      journal = grown_bodies file h old.office.state holds.history (Change.entry (entered p)) body behind.may written (λ (bs : List (List ℕ)). Keeps seen may_leave new.journal bs None) kept.0;
+      journal = grown_bodies file h old.office.state holds.history (Change.entry (entered p)) body behind.may written (λ (bs : List (List ℕ)). Keeps seen crash new.journal bs None) kept.0;
       history = subst (λ (z : State). IsHistory file (changed h (Change.entry (entered p))) z) (sym state) behind.after;
       entries = one_more h.entries (entered p) (entries_of old) (entries_of new) holds.entries entries;
       change = tt;
@@ -71,10 +72,10 @@ module _ {D : Type 0} {d : _} (seen : D → Option (List ℕ)) (may_leave : D �
 
   -- it is pending, or what was pending is, or nothing
   pub held_still : (new : KeptOffice D d) → state_of new ≡ state_of old → entries_of new ≡ entries_of old
-      → (next : Option (List ℕ)) → MayPend (option_map body_of pending) body next → Keeps seen may_leave new.journal (bodies file h) next
-      → (next : Option Change) × MayTouch pending (Change.entry (entered p)) next × Holds seen may_leave new file h next
+      → (next : Option (List ℕ)) → MayPend (option_map body_of pending) body next → Keeps seen crash new.journal (bodies file h) next
+      → (next : Option Change) × MayTouch pending (Change.entry (entered p)) next × Holds seen crash new file h next
   held_still new state entries next touch kept =
-      still_held seen may_leave old file h pending holds (Change.entry (entered p)) body behind.may written new state entries next touch kept
+      still_held seen crash old file h pending holds (Change.entry (entered p)) body behind.may written new state entries next touch kept
 
   -- what a crash leaves in between
   pub left_then : (c : List ℕ) → IsOneOf (bodies file h) (option_map body_of pending) body c → Leaves file h (λ change. (pending ≡ Some change) ⊎ (change ≡ Change.entry (entered p))) c
@@ -96,13 +97,13 @@ module _ {D : Type 0} {d : _} (old : KeptOffice D d) (p : Readied) (law : AreInT
       }
 
 -- where an entry is not appended, all is as it was
-pub as_before : {D : Type 0} {d : _} (seen : D → Option (List ℕ)) (may_leave : D → List ℕ → Type 0) (kept : KeptOffice D d) → IsAsBefore seen may_leave kept kept
-as_before seen may_leave kept = record { disk = refl; gate = refl; state = refl; entries = refl; notes = refl; held = λ file h pending holds. holds }
+pub as_before : {D : Type 0} {d : _} (seen : D → Option (List ℕ)) (crash : D → Crashes) (kept : KeptOffice D d) → IsAsBefore seen crash kept kept
+as_before seen crash kept = record { disk = refl; gate = refl; state = refl; entries = refl; notes = refl; held = λ file h pending holds. holds }
 
-pub becomes_unkept : {D : Type 0} {d : _} (seen : D → Option (List ℕ)) (may_leave : D → List ℕ → Type 0) (faults : D → ℕ) (kept : KeptOffice D d) (x : Entered) (answer : Answer) → IsUnkept (gate_of kept) x answer
-    → Becomes seen may_leave faults kept kept (λ y. y ≡ x) (λ text. ⊥) (λ broken. ⊥) answer
-becomes_unkept seen may_leave faults kept x (Accepted text) is = absurd is
-becomes_unkept seen may_leave faults kept x (Repeated text) is = absurd is
-becomes_unkept seen may_leave faults kept x (Refused broken) is = (inr (is.0, x, refl, is.1), as_before seen may_leave kept)
-becomes_unkept seen may_leave faults kept x DiskFault is = absurd is
-becomes_unkept seen may_leave faults kept x OutOfMemory is = as_before seen may_leave kept
+pub becomes_unkept : {D : Type 0} {d : _} (seen : D → Option (List ℕ)) (crash : D → Crashes) (faults : D → ℕ) (kept : KeptOffice D d) (x : Entered) (answer : Answer) → IsUnkept (gate_of kept) x answer
+    → Becomes seen crash faults kept kept (λ y. y ≡ x) (λ text. ⊥) (λ broken. ⊥) answer
+becomes_unkept seen crash faults kept x (Accepted text) is = absurd is
+becomes_unkept seen crash faults kept x (Repeated text) is = absurd is
+becomes_unkept seen crash faults kept x (Refused broken) is = (inr (is.0, x, refl, is.1), as_before seen crash kept)
+becomes_unkept seen crash faults kept x DiskFault is = absurd is
+becomes_unkept seen crash faults kept x OutOfMemory is = as_before seen crash kept

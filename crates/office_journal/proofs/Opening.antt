@@ -1,5 +1,6 @@
 -- The office that was opened holds the history of its journal.
 use Rattle.std.proofs.Common.{ℕ, List, Option, None, ◌≡◌, length, sym, ◌∙◌, ap, subst}
+use Rattle.desk_traits.specs.Crash.{Crashes}
 use Rattle.journal_core.specs.Image.{Image, records}
 use Rattle.journal_core.specs.Kept.{Keeps, gate_of}
 use Rattle.journal_core.specs.declared.journal.Journal.{Journal}
@@ -8,11 +9,11 @@ use Rattle.office_journal.specs.Histories.{ImageOf, bodies}
 use Rattle.office_journal.specs.Kept.{HasHistory, Holds}
 use Rattle.office_journal.specs.declared.kept.KeptOffice.{KeptOffice}
 
-pub holds_then : {D : Type 0} {d : _} (seen : D → Option (List ℕ)) (may_leave : D → List ℕ → Type 0) (journal : Journal D d) (all : List (List ℕ)) (kept : KeptOffice D d) (is : IsOpened journal all kept)
-    → Keeps seen may_leave journal all None → Holds seen may_leave kept is.file is.history None
-holds_then {D} {d} seen may_leave journal all kept is keeps = record {
-  journal = subst (λ (j : Journal D d). Keeps seen may_leave j (bodies is.file is.history) None) (sym is.same)
-      (subst (λ (bs : List (List ℕ)). Keeps seen may_leave journal bs None) is.are keeps);
+pub holds_then : {D : Type 0} {d : _} (seen : D → Option (List ℕ)) (crash : D → Crashes) (journal : Journal D d) (all : List (List ℕ)) (kept : KeptOffice D d) (is : IsOpened journal all kept)
+    → Keeps seen crash journal all None → Holds seen crash kept is.file is.history None
+holds_then {D} {d} seen crash journal all kept is keeps = record {
+  journal = subst (λ (j : Journal D d). Keeps seen crash j (bodies is.file is.history) None) (sym is.same)
+      (subst (λ (bs : List (List ℕ)). Keeps seen crash journal bs None) is.are keeps);
   history = is.state;
   entries = is.entries;
   change = tt;

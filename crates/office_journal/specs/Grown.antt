@@ -52,8 +52,8 @@ pub record KeepsHistory {D : Type 0} (d : Disks D) (disk opened next : D) (bytes
   pub told : d.seen next ≡ Some now
   pub image : Leaves file last (λ change. pending ≡ Some change) now
   -- and so does a crash now
-  pub left : (c : List ℕ) → d.may_leave next c → Leaves file last (λ change. pending ≡ Some change) c
+  pub left : (c : List ℕ) → (d.crash next).may_leave c → Leaves file last (λ change. pending ≡ Some change) c
   -- A crash at any moment since the start leaves what one at the start might have left, or a front of the last history that holds the first, with at most one change behind it.
-  pub crashes : LeavesOnly d.moment d.left_since disk next (λ c. d.may_leave disk c ⊎ IsBetween file h last c)
+  pub crashes : LeavesOnly (d.crash disk) (d.crash next) (λ c. (d.crash disk).may_leave c ⊎ IsBetween file h last c)
   -- Since the first sync that answered while the office was opened it leaves such a front alone.
-  pub settled : (before : List ℕ) (sync : Settles d.moment d.left_since d.syncs before bytes opened) (c : List ℕ) → d.left_since next sync.at c → IsBetween file h last c
+  pub settled : (before : List ℕ) (sync : Settles d.crash d.syncs before bytes opened) (c : List ℕ) → (d.crash next).left_since sync.at c → IsBetween file h last c

@@ -1,5 +1,6 @@
 -- What contracts see of a kept office.
 use Rattle.std.specs.Prelude.{◌≡◌, ℕ, List, Option, length, option_map, IfSome}
+use Rattle.desk_traits.specs.Crash.{Crashes}
 use Rattle.journal_core.specs.Image.{records}
 use Rattle.journal_core.specs.Kept.{Keeps}
 use Rattle.journal_core.specs.Kept as journal
@@ -29,8 +30,8 @@ abbrev pub notes_of : {D : Type 0} {d : _} → KeptOffice D d → ℕ
 notes_of kept = kept.notes
 
 -- The journal on the disk has the bodies of this history, and perhaps one of a change that met a disk fault behind a gate that may stand open; the office in memory is at the state of the history.
-pub record Holds {D : Type 0} {d : _} (seen : D → Option (List ℕ)) (may_leave : D → List ℕ → Type 0) (kept : KeptOffice D d) (file : List ℕ) (h : History) (pending : Option Change) : Type 0 where
-  pub journal : Keeps seen may_leave kept.journal (bodies file h) (option_map body_of pending)
+pub record Holds {D : Type 0} {d : _} (seen : D → Option (List ℕ)) (crash : D → Crashes) (kept : KeptOffice D d) (file : List ℕ) (h : History) (pending : Option Change) : Type 0 where
+  pub journal : Keeps seen crash kept.journal (bodies file h) (option_map body_of pending)
   pub history : IsHistory file h kept.office.state
   pub entries : kept.entries ≡ length h.entries
   pub change : IfSome pending (MayChange file h)

@@ -1,5 +1,6 @@
 -- What becomes of a kept office and its journal where a request is answered.
 use Rattle.std.specs.Prelude.{◌≡◌, ◌⊎◌, ◌+◌, ◌-◌, ◌^◌, ℕ, List, Option, None, Some, IfSome, length, min}
+use Rattle.desk_traits.specs.Crash.{Crashes}
 use Rattle.desk_traits.specs.Faults.{Rose}
 use Rattle.desk_traits.specs.File.{Only}
 use Rattle.hazard_types.specs.declared.refusal.Refusal.{Refusal}
@@ -20,16 +21,16 @@ use Rattle.office_journal.specs.declared.answers.Answer.TheVariants.{Accepted, R
 use Rattle.office_journal.specs.declared.kept.KeptOffice.{KeptOffice}
 
 -- the office and its disk are as they were
-pub record IsAsBefore {D : Type 0} {d : _} (seen : D → Option (List ℕ)) (may_leave : D → List ℕ → Type 0) (old new : KeptOffice D d) : Type 0 where
+pub record IsAsBefore {D : Type 0} {d : _} (seen : D → Option (List ℕ)) (crash : D → Crashes) (old new : KeptOffice D d) : Type 0 where
   pub disk : disk_of new ≡ disk_of old
   pub gate : gate_of new ≡ gate_of old
   pub state : state_of new ≡ state_of old
   pub entries : entries_of new ≡ entries_of old
   pub notes : notes_of new ≡ notes_of old
-  pub held : (file : List ℕ) (h : History) (pending : Option Change) → Holds seen may_leave old file h pending → Holds seen may_leave new file h pending
+  pub held : (file : List ℕ) (h : History) (pending : Option Change) → Holds seen crash old file h pending → Holds seen crash new file h pending
 
 -- the entry stands in the journal, durably, and the office is in the state behind it
-pub record HasEntered {D : Type 0} {d : _} (seen : D → Option (List ℕ)) (may_leave : D → List ℕ → Type 0) (faults : D → ℕ) (old new : KeptOffice D d) (x : Entered) : Type 0 where
+pub record HasEntered {D : Type 0} {d : _} (seen : D → Option (List ℕ)) (crash : D → Crashes) (faults : D → ℕ) (old new : KeptOffice D d) (x : Entered) : Type 0 where
   pub steady : faults (disk_of new) ≡ faults (disk_of old)
   pub gate : gate_of new ≡ gate_of old + (5 + length (entry_body x))
   pub state : state_of new ≡ state_after (state_of old) x.entry x.made
@@ -38,19 +39,19 @@ pub record HasEntered {D : Type 0} {d : _} (seen : D → Option (List ℕ)) (may
   pub reads : ReadsAsTheBoard (state_of new)
   -- whatever the disk tells, a history goes on by the entry
   pub legal : (file : List ℕ) (h : History) → HasHistory old file h → HasHistory new file (changed h (Change.entry x))
-  pub held : (file : List ℕ) (h : History) (pending : Option Change) → Holds seen may_leave old file h pending
-      → Holds seen may_leave new file (changed h (Change.entry x)) None × Only (seen (disk_of new)) (may_leave (disk_of new))
+  pub held : (file : List ℕ) (h : History) (pending : Option Change) → Holds seen crash old file h pending
+      → Holds seen crash new file (changed h (Change.entry x)) None × Only (seen (disk_of new)) (crash (disk_of new)).may_leave
 
 -- the disk failed under an entry that has room, and the office is as it was but for one note
-pub record HasFailed {D : Type 0} {d : _} (seen : D → Option (List ℕ)) (may_leave : D → List ℕ → Type 0) (faults : D → ℕ) (old new : KeptOffice D d) (x : Entered) : Type 0 where
+pub record HasFailed {D : Type 0} {d : _} (seen : D → Option (List ℕ)) (crash : D → Crashes) (faults : D → ℕ) (old new : KeptOffice D d) (x : Entered) : Type 0 where
   pub cause : Rose (faults (disk_of old)) (faults (disk_of new))
   pub room : IsTooLong (gate_of old) x → ⊥
   pub gate : gate_of new ≡ gate_of old
   pub state : state_of new ≡ state_of old
   pub entries : entries_of new ≡ entries_of old
   pub notes : notes_of new ≡ min (notes_of old + 1) (2 ^ 64 - 1)
-  pub held : (file : List ℕ) (h : History) (pending : Option Change) → Holds seen may_leave old file h pending
-      → (next : Option Change) × MayTouch pending (Change.entry x) next × Holds seen may_leave new file h next
+  pub held : (file : List ℕ) (h : History) (pending : Option Change) → Holds seen crash old file h pending
+      → (next : Option Change) × MayTouch pending (Change.entry x) next × Holds seen crash new file h next
 
 -- why an entry is not appended: it has no room, or there is no memory
 abbrev pub IsUnkept : ℕ → Entered → Answer → Type 0
@@ -69,17 +70,17 @@ IsAgain said DiskFault = ⊥
 IsAgain said OutOfMemory = Unit {0}
 
 -- what an answer says, where entries of these may be offered, these texts may be kept replies, and these rules may be broken
-module _ {D : Type 0} {d : _} (seen : D → Option (List ℕ)) (may_leave : D → List ℕ → Type 0) (faults : D → ℕ) (old new : KeptOffice D d) (offered : Entered → Type 0) (kept : List ℕ → Type 0) (broken : Refusal → Type 0) where
+module _ {D : Type 0} {d : _} (seen : D → Option (List ℕ)) (crash : D → Crashes) (faults : D → ℕ) (old new : KeptOffice D d) (offered : Entered → Type 0) (kept : List ℕ → Type 0) (broken : Refusal → Type 0) where
   abbrev pub Becomes : Answer → Type 0
-  Becomes (Accepted text) = (x : Entered) × offered x × (text ≡ reply_text x.entry.reply) × HasEntered seen may_leave faults old new x
-  Becomes (Repeated text) = kept text × IsAsBefore seen may_leave old new
-  Becomes (Refused x) = (broken x ⊎ ((x ≡ JournalFull) × (e : Entered) × offered e × IsTooLong (gate_of old) e)) × IsAsBefore seen may_leave old new
-  Becomes DiskFault = (x : Entered) × offered x × HasFailed seen may_leave faults old new x
-  Becomes OutOfMemory = IsAsBefore seen may_leave old new
+  Becomes (Accepted text) = (x : Entered) × offered x × (text ≡ reply_text x.entry.reply) × HasEntered seen crash faults old new x
+  Becomes (Repeated text) = kept text × IsAsBefore seen crash old new
+  Becomes (Refused x) = (broken x ⊎ ((x ≡ JournalFull) × (e : Entered) × offered e × IsTooLong (gate_of old) e)) × IsAsBefore seen crash old new
+  Becomes DiskFault = (x : Entered) × offered x × HasFailed seen crash faults old new x
+  Becomes OutOfMemory = IsAsBefore seen crash old new
 
   -- beside an answer that accepts stands what was prepared, and its entry is the one that was added; beside another answer nothing stands
   abbrev pub Names : Answer → Option Readied → Type 0
-  Names (Accepted text) told = (p : Readied) × (told ≡ Some p) × offered (entered p) × (text ≡ reply_text p.entry.reply) × HasEntered seen may_leave faults old new (entered p)
+  Names (Accepted text) told = (p : Readied) × (told ≡ Some p) × offered (entered p) × (text ≡ reply_text p.entry.reply) × HasEntered seen crash faults old new (entered p)
   Names (Repeated text) told = told ≡ None
   Names (Refused x) told = told ≡ None
   Names DiskFault told = told ≡ None

@@ -24,21 +24,27 @@ use journal_core::Journal;
 use std::alloc::Global;
 
 impl<D: Disk> KeptOffice<D> {
-    /// Opens the office whose journal a file holds: its requests are judged again, one after another.
+    /// Opens the office whose journal a file holds: its requests are judged again, one after
+    /// another.
     ///
     /// # Errors
     ///
-    /// `Fresh`; `Damaged` with the first place that is no journal's of an office; `DiskFault`; `OutOfMemory`. The disk
-    /// comes back with it.
+    /// `Fresh`; `Damaged` with the first place, in bytes, that is no office's journal; `DiskFault`;
+    /// `OutOfMemory`. The disk comes back with it.
     pub fn adopt(alloc: Global, disk: D) -> Result<KeptOffice<D>, (D, KeepFault)>
 
-        // The file is an image of exactly this history, all of it is stable, and nothing is pending.
+        // The file is an image of exactly this history, all of it is stable, and nothing is
+        // pending.
         ensures ok { (bytes : List ℕ) → D.seen disk ≡ Some bytes
-            → IfOk result (λ kept. (file : List ℕ) × (h : History) × ImageOf bytes file h × Holds D.seen D.may_leave kept file h None × (D.seen (disk_of kept) ≡ Some bytes)
-            × Only (D.seen (disk_of kept)) (D.may_leave (disk_of kept))) }
+            → IfOk result
+            (λ kept. (file : List ℕ) × (h : History) × ImageOf bytes file h
+            × Holds D.seen D.crash kept file h None × (D.seen (disk_of kept) ≡ Some bytes)
+            × Only (D.seen (disk_of kept)) (D.crash (disk_of kept)).may_leave) }
 
-        // Whatever the disk tells, the office is at the state of a legal history, whose records end at the last gate.
-        ensures legal { IfOk result (λ kept. (file : List ℕ) × (h : History) × HasHistory kept file h) }
+        // Whatever the disk tells, the office is at the state of a legal history, whose records end
+        // at the last gate.
+        ensures legal { IfOk result
+            (λ kept. (file : List ℕ) × (h : History) × HasHistory kept file h) }
 
         // Someone who has the texts alone finds the board.
         ensures reads { IfOk result (λ kept. ReadsAsTheBoard (state_of kept)) }
@@ -46,26 +52,38 @@ impl<D: Disk> KeptOffice<D> {
         // No append has met a disk fault yet.
         ensures notes { IfOk result (λ kept. notes_of kept ≡ 0) }
 
-        ensures fresh { (bytes : List ℕ) → D.seen disk ≡ Some bytes → IfErr result (λ e. e.1 ≡ keep.Fresh → Fresh bytes) }
-        ensures damaged { (bytes : List ℕ) → D.seen disk ≡ Some bytes → IfErr result (λ e. (at : ℕ) → e.1 ≡ Damaged at → IsDamagedAt bytes at) }
+        ensures fresh { (bytes : List ℕ) → D.seen disk ≡ Some bytes → IfErr result
+            (λ e. e.1 ≡ keep.Fresh → Fresh bytes) }
+        ensures damaged { (bytes : List ℕ) → D.seen disk ≡ Some bytes → IfErr result
+            (λ e. (at : ℕ) → e.1 ≡ Damaged at → IsDamagedAt bytes at) }
 
         // No other reason is told here.
-        ensures reasons { IfErr result (λ e. (e.1 ≡ keep.NotFresh → ⊥) × ((fault : Fault) → e.1 ≡ keep.Settings fault → ⊥)) }
+        ensures reasons { IfErr result
+            (λ e. (e.1 ≡ keep.NotFresh → ⊥) × ((fault : Fault) → e.1 ≡ keep.Settings fault → ⊥)) }
 
-        // A crash since its first sync answered might have left what a read gives, and nothing else.
-        ensures settled { (bytes before : List ℕ) → D.seen disk ≡ Some bytes → D.syncs disk ≡ Some before
-            → IfOk result (λ kept. Settles D.moment D.left_since D.syncs before bytes (disk_of kept)) }
+        // A crash since its first sync answered might have left what a read gives, and nothing
+        // else.
+        ensures settled { (bytes before : List ℕ) → D.seen disk ≡ Some bytes
+            → D.syncs disk ≡ Some before
+            → IfOk result (λ kept. Settles D.crash D.syncs before bytes (disk_of kept)) }
 
         // The disk failed in this call.
-        ensures cause { IfErr result (λ e. e.1 ≡ keep.DiskFault → Rose (D.faults disk) (D.faults e.0)) }
-        ensures later { MatchResult result (λ kept. D.faults disk ≤ D.faults (disk_of kept)) (λ e. D.faults disk ≤ D.faults e.0) }
+        ensures cause { IfErr result
+            (λ e. e.1 ≡ keep.DiskFault → Rose (D.faults disk) (D.faults e.0)) }
+        ensures later { MatchResult result (λ kept. D.faults disk ≤ D.faults (disk_of kept))
+            (λ e. D.faults disk ≤ D.faults e.0) }
 
         // But for that the count of its faults is as before.
-        ensures steady { MatchResult result (λ kept. D.faults (disk_of kept) ≡ D.faults disk) (λ e. (e.1 ≡ keep.DiskFault → ⊥) → D.faults e.0 ≡ D.faults disk) }
+        ensures steady { MatchResult result (λ kept. D.faults (disk_of kept) ≡ D.faults disk)
+            (λ e. (e.1 ≡ keep.DiskFault → ⊥) → D.faults e.0 ≡ D.faults disk) }
 
-        // Whatever it answers, a read gives the same, and a crash since its start leaves what one at its start might have left.
-        ensures seen { MatchResult result (λ kept. D.seen (disk_of kept) ≡ D.seen disk) (λ e. D.seen e.0 ≡ D.seen disk) }
-        ensures any_moment { MatchResult result (λ kept. LeavesOnly D.moment D.left_since disk (disk_of kept) (D.may_leave disk)) (λ e. LeavesOnly D.moment D.left_since disk e.0 (D.may_leave disk)) }
+        // Whatever it answers, a read gives the same, and a crash since its start leaves what one
+        // at its start might have left.
+        ensures seen { MatchResult result (λ kept. D.seen (disk_of kept) ≡ D.seen disk)
+            (λ e. D.seen e.0 ≡ D.seen disk) }
+        ensures any_moment { MatchResult result
+            (λ kept. LeavesOnly (D.crash disk) (D.crash (disk_of kept)) (D.crash disk).may_leave)
+            (λ e. LeavesOnly (D.crash disk) (D.crash e.0) (D.crash disk).may_leave) }
     {
         match Journal::adopt(alloc, disk) {
             Ok((journal, bodies)) => match office_of(alloc, journal, bodies.as_slice()) {

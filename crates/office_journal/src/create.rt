@@ -30,12 +30,13 @@ use office_core::Office;
 use std::alloc::Global;
 
 impl<D: Disk> KeptOffice<D> {
-    /// Makes the journal of an office with these settings on a fresh disk, and goes over to edition Two.
+    /// Makes the journal of an office with these settings on a fresh disk, and goes over to edition
+    /// Two.
     ///
     /// # Errors
     ///
-    /// `Settings` with their first fault, where the disk is fresh; `NotFresh`; `DiskFault`; `OutOfMemory`. The disk comes
-    /// back with it.
+    /// `Settings` with their first fault, where the disk is fresh; `NotFresh`; `DiskFault`;
+    /// `OutOfMemory`. The disk comes back with it.
     pub fn create(
         alloc: Global,
         mut disk: D,
@@ -45,7 +46,9 @@ impl<D: Disk> KeptOffice<D> {
         // The file was fresh, and the office has the empty history in edition Two, on the disk.
         ensures fresh { (bytes : List ℕ) → D.seen disk ≡ Some bytes → OnOk result (Fresh bytes) }
         ensures ok { (bytes : List ℕ) → D.seen disk ≡ Some bytes
-            → IfOk result (λ kept. Holds D.seen D.may_leave kept settings.now (empty Two) None × Only (D.seen (disk_of kept)) (D.may_leave (disk_of kept))) }
+            → IfOk result
+            (λ kept. Holds D.seen D.crash kept settings.now (empty Two) None
+            × Only (D.seen (disk_of kept)) (D.crash (disk_of kept)).may_leave) }
 
         // The office in memory, whatever the disk tells.
         ensures made { IfOk result (λ kept. IsMadeFor settings.now kept) }
@@ -54,31 +57,47 @@ impl<D: Disk> KeptOffice<D> {
         ensures notes { IfOk result (λ kept. notes_of kept ≡ 0) }
 
         // The settings have this fault first, and the file is fresh.
-        ensures settings { (fault : Fault) → IfErr result (λ e. e.1 ≡ keep.Settings fault → settings_of settings.now ≡ Err fault) }
-        ensures settings_fresh { (bytes : List ℕ) (fault : Fault) → D.seen disk ≡ Some bytes → IfErr result (λ e. e.1 ≡ keep.Settings fault → Fresh bytes) }
+        ensures settings { (fault : Fault) → IfErr result
+            (λ e. e.1 ≡ keep.Settings fault → settings_of settings.now ≡ Err fault) }
+        ensures settings_fresh { (bytes : List ℕ) (fault : Fault) → D.seen disk ≡ Some bytes
+            → IfErr result (λ e. e.1 ≡ keep.Settings fault → Fresh bytes) }
 
         // The file was not fresh.
-        ensures not_fresh { (bytes : List ℕ) → D.seen disk ≡ Some bytes → IfErr result (λ e. e.1 ≡ keep.NotFresh → Fresh bytes → ⊥) }
+        ensures not_fresh { (bytes : List ℕ) → D.seen disk ≡ Some bytes → IfErr result
+            (λ e. e.1 ≡ keep.NotFresh → Fresh bytes → ⊥) }
 
         // No other reason is told here.
-        ensures reasons { IfErr result (λ e. (e.1 ≡ keep.Fresh → ⊥) × ((at : ℕ) → e.1 ≡ Damaged at → ⊥)) }
+        ensures reasons { IfErr result
+            (λ e. (e.1 ≡ keep.Fresh → ⊥) × ((at : ℕ) → e.1 ≡ Damaged at → ⊥)) }
 
-        // After a fault of the settings, where the file was not fresh, and where memory lacked, it is as before.
-        ensures same { IfErr result (λ e. ((fault : Fault) × (e.1 ≡ keep.Settings fault)) ⊎ (e.1 ≡ keep.NotFresh) ⊎ (e.1 ≡ keep.OutOfMemory) → D.seen e.0 ≡ D.seen disk) }
-        ensures untouched { IfErr result (λ e. ((fault : Fault) × (e.1 ≡ keep.Settings fault)) ⊎ (e.1 ≡ keep.NotFresh) ⊎ (e.1 ≡ keep.OutOfMemory) → LeavesOnly D.moment D.left_since disk e.0 (D.may_leave disk)) }
+        // After a fault of the settings, where the file was not fresh, and where memory lacked, it
+        // is as before.
+        ensures same { IfErr result
+            (λ e. ((fault : Fault) × (e.1 ≡ keep.Settings fault)) ⊎ (e.1 ≡ keep.NotFresh)
+            ⊎ (e.1 ≡ keep.OutOfMemory) → D.seen e.0 ≡ D.seen disk) }
+        ensures untouched { IfErr result
+            (λ e. ((fault : Fault) × (e.1 ≡ keep.Settings fault)) ⊎ (e.1 ≡ keep.NotFresh)
+            ⊎ (e.1 ≡ keep.OutOfMemory)
+            → LeavesOnly (D.crash disk) (D.crash e.0) (D.crash disk).may_leave) }
 
         // The disk failed in this call.
-        ensures cause { IfErr result (λ e. e.1 ≡ keep.DiskFault → Rose (D.faults disk) (D.faults e.0)) }
-        ensures later { MatchResult result (λ kept. D.faults disk ≤ D.faults (disk_of kept)) (λ e. D.faults disk ≤ D.faults e.0) }
+        ensures cause { IfErr result
+            (λ e. e.1 ≡ keep.DiskFault → Rose (D.faults disk) (D.faults e.0)) }
+        ensures later { MatchResult result (λ kept. D.faults disk ≤ D.faults (disk_of kept))
+            (λ e. D.faults disk ≤ D.faults e.0) }
 
         // But for that the count of its faults is as before.
-        ensures steady { MatchResult result (λ kept. D.faults (disk_of kept) ≡ D.faults disk) (λ e. (e.1 ≡ keep.DiskFault → ⊥) → D.faults e.0 ≡ D.faults disk) }
+        ensures steady { MatchResult result (λ kept. D.faults (disk_of kept) ≡ D.faults disk)
+            (λ e. (e.1 ≡ keep.DiskFault → ⊥) → D.faults e.0 ≡ D.faults disk) }
 
-        // A crash at any moment of the call leaves what one at its start might have left, or a file that is being made.
+        // A crash at any moment of the call leaves what one at its start might have left, or a file
+        // that is being made.
         ensures any_moment { (bytes : List ℕ) → D.seen disk ≡ Some bytes
             → MatchResult result
-            (λ kept. LeavesOnly D.moment D.left_since disk (disk_of kept) (λ c. D.may_leave disk c ⊎ IsMakingOf settings.now c))
-            (λ e. LeavesOnly D.moment D.left_since disk e.0 (λ c. D.may_leave disk c ⊎ IsMakingOf settings.now c)) }
+            (λ kept. LeavesOnly (D.crash disk) (D.crash (disk_of kept))
+            (λ c. (D.crash disk).may_leave c ⊎ IsMakingOf settings.now c))
+            (λ e. LeavesOnly (D.crash disk) (D.crash e.0)
+            (λ c. (D.crash disk).may_leave c ⊎ IsMakingOf settings.now c)) }
     {
         match read_settings(alloc, settings) {
             Ok(read) => make(alloc, disk, settings, read),
@@ -122,20 +141,30 @@ fn make<D: Disk>(
     requires size { length text.now ≤ 1048576 }
     ensures fresh { (bytes : List ℕ) → D.seen disk ≡ Some bytes → OnOk result (Fresh bytes) }
     ensures ok { (bytes : List ℕ) → D.seen disk ≡ Some bytes
-        → IfOk result (λ kept. Holds D.seen D.may_leave kept text.now (empty Two) None × Only (D.seen (disk_of kept)) (D.may_leave (disk_of kept))) }
+        → IfOk result
+        (λ kept. Holds D.seen D.crash kept text.now (empty Two) None
+        × Only (D.seen (disk_of kept)) (D.crash (disk_of kept)).may_leave) }
     ensures made { IfOk result (λ kept. IsMadeFor text.now kept) }
     ensures notes { IfOk result (λ kept. notes_of kept ≡ 0) }
-    ensures not_fresh { (bytes : List ℕ) → D.seen disk ≡ Some bytes → IfErr result (λ e. e.1 ≡ keep.NotFresh → Fresh bytes → ⊥) }
+    ensures not_fresh { (bytes : List ℕ) → D.seen disk ≡ Some bytes → IfErr result
+        (λ e. e.1 ≡ keep.NotFresh → Fresh bytes → ⊥) }
     ensures reasons { IfErr result (λ e. IsMakingFault e.1) }
-    ensures same { IfErr result (λ e. (e.1 ≡ keep.NotFresh) ⊎ (e.1 ≡ keep.OutOfMemory) → D.seen e.0 ≡ D.seen disk) }
-    ensures untouched { IfErr result (λ e. (e.1 ≡ keep.NotFresh) ⊎ (e.1 ≡ keep.OutOfMemory) → LeavesOnly D.moment D.left_since disk e.0 (D.may_leave disk)) }
+    ensures same { IfErr result
+        (λ e. (e.1 ≡ keep.NotFresh) ⊎ (e.1 ≡ keep.OutOfMemory) → D.seen e.0 ≡ D.seen disk) }
+    ensures untouched { IfErr result
+        (λ e. (e.1 ≡ keep.NotFresh) ⊎ (e.1 ≡ keep.OutOfMemory)
+        → LeavesOnly (D.crash disk) (D.crash e.0) (D.crash disk).may_leave) }
     ensures cause { IfErr result (λ e. e.1 ≡ keep.DiskFault → Rose (D.faults disk) (D.faults e.0)) }
-    ensures later { MatchResult result (λ kept. D.faults disk ≤ D.faults (disk_of kept)) (λ e. D.faults disk ≤ D.faults e.0) }
-    ensures steady { MatchResult result (λ kept. D.faults (disk_of kept) ≡ D.faults disk) (λ e. (e.1 ≡ keep.DiskFault → ⊥) → D.faults e.0 ≡ D.faults disk) }
+    ensures later { MatchResult result (λ kept. D.faults disk ≤ D.faults (disk_of kept))
+        (λ e. D.faults disk ≤ D.faults e.0) }
+    ensures steady { MatchResult result (λ kept. D.faults (disk_of kept) ≡ D.faults disk)
+        (λ e. (e.1 ≡ keep.DiskFault → ⊥) → D.faults e.0 ≡ D.faults disk) }
     ensures any_moment { (bytes : List ℕ) → D.seen disk ≡ Some bytes
         → MatchResult result
-        (λ kept. LeavesOnly D.moment D.left_since disk (disk_of kept) (λ c. D.may_leave disk c ⊎ IsMakingOf text.now c))
-        (λ e. LeavesOnly D.moment D.left_since disk e.0 (λ c. D.may_leave disk c ⊎ IsMakingOf text.now c)) }
+        (λ kept. LeavesOnly (D.crash disk) (D.crash (disk_of kept))
+        (λ c. (D.crash disk).may_leave c ⊎ IsMakingOf text.now c))
+        (λ e. LeavesOnly (D.crash disk) (D.crash e.0)
+        (λ c. (D.crash disk).may_leave c ⊎ IsMakingOf text.now c)) }
 {
     let Ok((office, body, second)) = beginnings(alloc, text, settings) else {
         return Err((disk, KeepFault::OutOfMemory));
@@ -149,19 +178,28 @@ fn make<D: Disk>(
 /// The journal of the settings' file alone.
 fn first_journal<D: Disk>(disk: D, body: &Packet) -> Result<Journal<D>, (D, KeepFault)>
     ensures fresh { (bytes : List ℕ) → D.seen disk ≡ Some bytes → OnOk result (Fresh bytes) }
-    ensures ok { (bytes : List ℕ) → D.seen disk ≡ Some bytes → IfOk result (λ journal. Keeps D.seen D.may_leave journal (body.now ∷ []) None) }
+    ensures ok { (bytes : List ℕ) → D.seen disk ≡ Some bytes → IfOk result
+        (λ journal. Keeps D.seen D.crash journal (body.now ∷ []) None) }
     ensures gate { IfOk result (λ journal. journal_gate journal ≡ length body.now + 5) }
-    ensures not_fresh { (bytes : List ℕ) → D.seen disk ≡ Some bytes → IfErr result (λ e. e.1 ≡ keep.NotFresh → Fresh bytes → ⊥) }
+    ensures not_fresh { (bytes : List ℕ) → D.seen disk ≡ Some bytes → IfErr result
+        (λ e. e.1 ≡ keep.NotFresh → Fresh bytes → ⊥) }
     ensures reasons { IfErr result (λ e. IsMakingFault e.1) }
-    ensures same { IfErr result (λ e. (e.1 ≡ keep.NotFresh) ⊎ (e.1 ≡ keep.OutOfMemory) → D.seen e.0 ≡ D.seen disk) }
-    ensures untouched { IfErr result (λ e. (e.1 ≡ keep.NotFresh) ⊎ (e.1 ≡ keep.OutOfMemory) → LeavesOnly D.moment D.left_since disk e.0 (D.may_leave disk)) }
+    ensures same { IfErr result
+        (λ e. (e.1 ≡ keep.NotFresh) ⊎ (e.1 ≡ keep.OutOfMemory) → D.seen e.0 ≡ D.seen disk) }
+    ensures untouched { IfErr result
+        (λ e. (e.1 ≡ keep.NotFresh) ⊎ (e.1 ≡ keep.OutOfMemory)
+        → LeavesOnly (D.crash disk) (D.crash e.0) (D.crash disk).may_leave) }
     ensures cause { IfErr result (λ e. e.1 ≡ keep.DiskFault → Rose (D.faults disk) (D.faults e.0)) }
-    ensures later { MatchResult result (λ journal. D.faults disk ≤ D.faults (journal_disk journal)) (λ e. D.faults disk ≤ D.faults e.0) }
-    ensures steady { MatchResult result (λ journal. D.faults (journal_disk journal) ≡ D.faults disk) (λ e. (e.1 ≡ keep.DiskFault → ⊥) → D.faults e.0 ≡ D.faults disk) }
+    ensures later { MatchResult result (λ journal. D.faults disk ≤ D.faults (journal_disk journal))
+        (λ e. D.faults disk ≤ D.faults e.0) }
+    ensures steady { MatchResult result (λ journal. D.faults (journal_disk journal) ≡ D.faults disk)
+        (λ e. (e.1 ≡ keep.DiskFault → ⊥) → D.faults e.0 ≡ D.faults disk) }
     ensures any_moment { (bytes : List ℕ) → D.seen disk ≡ Some bytes
         → MatchResult result
-        (λ journal. LeavesOnly D.moment D.left_since disk (journal_disk journal) (λ c. D.may_leave disk c ⊎ IsMaking body.now c))
-        (λ e. LeavesOnly D.moment D.left_since disk e.0 (λ c. D.may_leave disk c ⊎ IsMaking body.now c)) }
+        (λ journal. LeavesOnly (D.crash disk) (D.crash (journal_disk journal))
+        (λ c. (D.crash disk).may_leave c ⊎ IsMaking body.now c))
+        (λ e. LeavesOnly (D.crash disk) (D.crash e.0)
+        (λ c. (D.crash disk).may_leave c ⊎ IsMaking body.now c)) }
 {
     match Journal::create(disk, body) {
         Ok(journal) => Ok(journal),
@@ -183,16 +221,22 @@ fn go_over<D: Disk>(
     ensures state { IfOk result (λ kept. state_of kept ≡ in_edition Two office.state) }
     ensures entries { IfOk result (λ kept. entries_of kept ≡ 0) }
     ensures notes { IfOk result (λ kept. notes_of kept ≡ 0) }
-    ensures ok { (all : List (List ℕ)) → Keeps D.seen D.may_leave journal all None
-        → IfOk result (λ kept. Keeps D.seen D.may_leave kept.journal (all ++ mark ∷ []) None × Only (D.seen (disk_of kept)) (D.may_leave (disk_of kept))) }
+    ensures ok { (all : List (List ℕ)) → Keeps D.seen D.crash journal all None
+        → IfOk result
+        (λ kept. Keeps D.seen D.crash kept.journal (all ++ mark ∷ []) None
+        × Only (D.seen (disk_of kept)) (D.crash (disk_of kept)).may_leave) }
     ensures err { IfErr result (λ e. e.1 ≡ keep.DiskFault) }
     ensures cause { IfErr result (λ e. Rose (D.faults (journal_disk journal)) (D.faults e.0)) }
-    ensures later { MatchResult result (λ kept. D.faults (journal_disk journal) ≤ D.faults (disk_of kept)) (λ e. D.faults (journal_disk journal) ≤ D.faults e.0) }
-    ensures steady { IfOk result (λ kept. D.faults (disk_of kept) ≡ D.faults (journal_disk journal)) }
-    ensures any_moment { (all : List (List ℕ)) → Keeps D.seen D.may_leave journal all None
+    ensures later { MatchResult result
+        (λ kept. D.faults (journal_disk journal) ≤ D.faults (disk_of kept))
+        (λ e. D.faults (journal_disk journal) ≤ D.faults e.0) }
+    ensures steady { IfOk result
+        (λ kept. D.faults (disk_of kept) ≡ D.faults (journal_disk journal)) }
+    ensures any_moment { (all : List (List ℕ)) → Keeps D.seen D.crash journal all None
         → MatchResult result
-        (λ kept. LeavesOnly D.moment D.left_since (journal_disk journal) (disk_of kept) (IsOneOf all None mark))
-        (λ e. LeavesOnly D.moment D.left_since (journal_disk journal) e.0 (IsOneOf all None mark)) }
+        (λ kept. LeavesOnly (D.crash (journal_disk journal)) (D.crash (disk_of kept))
+        (IsOneOf all None mark))
+        (λ e. LeavesOnly (D.crash (journal_disk journal)) (D.crash e.0) (IsOneOf all None mark)) }
 {
     match journal.append(second) {
         Ok(()) => {

@@ -7,7 +7,8 @@ use office_core::Prepared;
 use request_json::text_of_request;
 use std::alloc::Global;
 
-/// The body of the entry of what was prepared. The desk, the number and the request are those that were prepared.
+/// The body of the entry of what was prepared. The desk, the number and the request are those that
+/// were prepared.
 pub(crate) fn entry_body(
     alloc: Global,
     desk: &Desk,
@@ -20,7 +21,8 @@ pub(crate) fn entry_body(
     requires seq { p.now.entry.seq ≡ seq }
     requires request { p.now.entry.request ≡ r.now }
     requires edition { p.now.entry.edition ≡ edition }
-    ensures { IfOk result (λ body. body ≡ entry_body (record { entry = p.now.entry; made = p.now.made })) }
+    ensures { IfOk result
+        (λ body. body ≡ entry_body (record { entry = p.now.entry; made = p.now.made })) }
 {
     let mut body = Text::from_slice(alloc, &stamp(p.minute()))?;
     body.push(b' ')?;

@@ -14,7 +14,7 @@ pub enum KeepFault {
     NotFresh,
     /// The file is fresh, so there is nothing to open.
     Fresh,
-    /// The place of the gate from which on the file is no journal of an office.
+    /// The place of the gate, in bytes from 0, from which on the file is no journal of an office.
     Damaged { at: u64 },
     DiskFault,
     OutOfMemory,

@@ -15,19 +15,24 @@ use request_json::canonical_texts_are_lines;
 impl<D: Disk> KeptOffice<D> {
     /// A crash now leaves an image of the history, or of it with the pending change.
     pub fn a_crash_leaves_the_history(&self)
-        ensures { (file : List ℕ) (h : History) (pending : Option Change) (c : List ℕ) → Holds D.seen D.may_leave self.now file h pending
-            → D.may_leave (disk_of self.now) c → Leaves file h (λ change. pending ≡ Some change) c }
+        ensures { (file : List ℕ) (h : History) (pending : Option Change) (c : List ℕ)
+            → Holds D.seen D.crash self.now file h pending
+            → (D.crash (disk_of self.now)).may_leave c → Leaves file h
+            (λ change. pending ≡ Some change) c }
     {
         a_crash_leaves_the_bodies();
     }
 }
 
-/// A file stands for one settings' file and one history, and is then neither damaged nor fresh. A damaged one is damaged
-/// at one place.
+/// A file stands for one settings' file and one history, and is then neither damaged nor fresh. A
+/// damaged one is damaged at one place.
 pub fn files_hold_one_history()
-    ensures one { (bytes file other : List ℕ) (h g : History) → ImageOf bytes file h → ImageOf bytes other g → (file ≡ other) × (h ≡ g) }
-    ensures damaged { (bytes file : List ℕ) (h : History) (at : ℕ) → ImageOf bytes file h → IsDamagedAt bytes at → ⊥ }
-    ensures place { (bytes : List ℕ) (at other : ℕ) → IsDamagedAt bytes at → IsDamagedAt bytes other → at ≡ other }
+    ensures one { (bytes file other : List ℕ) (h g : History) → ImageOf bytes file h
+        → ImageOf bytes other g → (file ≡ other) × (h ≡ g) }
+    ensures damaged { (bytes file : List ℕ) (h : History) (at : ℕ) → ImageOf bytes file h
+        → IsDamagedAt bytes at → ⊥ }
+    ensures place { (bytes : List ℕ) (at other : ℕ) → IsDamagedAt bytes at → IsDamagedAt bytes other
+        → at ≡ other }
     ensures fresh { (bytes file : List ℕ) (h : History) → ImageOf bytes file h → Fresh bytes → ⊥ }
 {
     a_request_has_one_answer();

@@ -39,16 +39,17 @@ impl<D: Disk> KeptOffice<D> {
         self.office.edition()
     }
 
-    /// The text of what is looked at: the board at the reading, a product as it was sent, a draft as JSON, or what a send
-    /// of a draft would give now.
+    /// The text of what is looked at: the board at the reading, a product as it was sent, a draft
+    /// as JSON, or what a send of a draft would give now.
     ///
     /// # Errors
     ///
-    /// `ClockOut` at the board and a preview, `NoProduct`, `NoDraft`, the first rule that a preview's lines or text break,
-    /// or out of memory.
+    /// `ClockOut` at the board and a preview, `NoProduct`, `NoDraft`, the first rule that a
+    /// preview's lines or text break, or out of memory.
     pub fn look(&self, alloc: Global, q: &Query, reading: i64) -> Result<Text, Or<Refusal>>
         ensures shows { IfOk result (λ text. Shows (state_of self.now) q.now reading text) }
-        ensures refused { (x : Refused) → result ≡ Err (No x) → RefusesLook (state_of self.now) q.now reading x }
+        ensures refused { (x : Refused) → result ≡ Err (No x)
+            → RefusesLook (state_of self.now) q.now reading x }
     {
         self.office.look(alloc, q, reading)
     }

@@ -18,7 +18,8 @@ use office_core::{Office, Prepared, Ready, a_request_has_one_answer, offices_beg
 use request_json::{Asked, canonical_texts_are_lines};
 use std::alloc::Global;
 
-/// An office that was read from bodies, how many entries they had, and how many bytes their records have.
+/// An office that was read from bodies, how many entries they had, and how many bytes their records
+/// have.
 #[derive(Drop)]
 pub(crate) struct Replayed {
     pub(crate) office: Office,
@@ -26,7 +27,8 @@ pub(crate) struct Replayed {
     pub(crate) size: u64,
 }
 
-/// Reads an office from the bodies of its journal, or returns the place of the first one that fails.
+/// Reads an office from the bodies of its journal, or returns the place of the first one that
+/// fails.
 pub(crate) fn replay(alloc: Global, all: &[Text]) -> Result<Replayed, Or<u64>>
     requires some { 0 < length all.now }
     ensures { Replays all.now result }
@@ -119,7 +121,8 @@ fn judge_body(alloc: Global, office: &mut Office, body: &[u8]) -> Result<Option<
     }
 }
 
-/// What an office prepares for a request that was read from a body, where the body is that of its entry.
+/// What an office prepares for a request that was read from a body, where the body is that of its
+/// entry.
 fn judge_as(
     alloc: Global,
     office: &mut Office,
@@ -152,7 +155,8 @@ fn judge_as(
 }
 
 impl Replayed {
-    /// The office of the settings' file, before any request. None where that does not read as settings.
+    /// The office of the settings' file, before any request. None where that does not read as
+    /// settings.
     fn first(alloc: Global, file: &[u8]) -> Result<Option<Self>, Oom>
         ensures { IfOk result (Begins file.now) }
     {

@@ -38,8 +38,8 @@ fn beside(answer: Answer, p: Snapshot<Prepared>) -> (Answer, Option<Snapshot<Pre
 }
 
 impl<D: Disk> KeptOffice<D> {
-    /// Submits a request of a desk under its number, at a reading of the clock. All memory is taken before the first call
-    /// of the disk.
+    /// Submits a request of a desk under its number, at a reading of the clock. All memory is taken
+    /// before the first call of the disk.
     pub fn submit(
         &mut self,
         alloc: Global,
@@ -50,22 +50,32 @@ impl<D: Disk> KeptOffice<D> {
     ) -> Answer
         requires form { HasForm (record { desk = desk; seq = seq; request = r.now }) }
 
-        // What each answer says: accepted, and durably in the journal; the desk's last request again, with the kept reply; the first rule that it breaks, the last of which is that its entry has room; the disk failed in this call, on a request that would be accepted; or memory lacked. But for the first and the fourth nothing has changed.
-        ensures becomes { Becomes D.seen D.may_leave D.faults self.old self.new (IsOffered (state_of self.old) desk seq r.now reading)
-            (λ text. (kept : Answered) × Repeats (state_of self.old) desk seq r.now kept × (text ≡ reply_text kept)) (Refuses (state_of self.old) desk seq r.now reading) result }
+        // What each answer says: accepted, and durably in the journal; the desk's last request
+        // again, with the kept reply; the first rule that it breaks, the last of which is that its
+        // entry has room; the disk failed in this call, on a request that would be accepted; or
+        // memory lacked. But for the first and the fourth nothing has changed.
+        ensures becomes { Becomes D.seen D.crash D.faults self.old self.new
+            (IsOffered (state_of self.old) desk seq r.now reading)
+            (λ text. (kept : Answered) × Repeats (state_of self.old) desk seq r.now kept
+            × (text ≡ reply_text kept)) (Refuses (state_of self.old) desk seq r.now reading)
+            result }
         ensures later { D.faults (disk_of self.old) ≤ D.faults (disk_of self.new) }
 
-        // A crash at any moment of the call leaves an image of the history, of it with the change that was pending, or of it with the entry of this request.
-        ensures any_moment { (file : List ℕ) (h : History) (pending : Option Change) → Holds D.seen D.may_leave self.old file h pending
-            → LeavesOnly D.moment D.left_since (disk_of self.old) (disk_of self.new)
-            (Leaves file h (λ change. (pending ≡ Some change) ⊎ IsAsked (state_of self.old) desk seq r.now reading change)) }
+        // A crash at any moment of the call leaves an image of the history, of it with the change
+        // that was pending, or of it with the entry of this request.
+        ensures any_moment { (file : List ℕ) (h : History) (pending : Option Change)
+            → Holds D.seen D.crash self.old file h pending
+            → LeavesOnly (D.crash (disk_of self.old)) (D.crash (disk_of self.new))
+            (Leaves file h
+            (λ change. (pending ≡ Some change)
+            ⊎ IsAsked (state_of self.old) desk seq r.now reading change)) }
     {
         let (answer, _told) = self.submit_told(alloc, desk, seq, r, reading);
         answer
     }
 
-    /// `submit`, and beside an answer that accepts what was prepared, for callers whose contracts name its entry. That has
-    /// no bytes.
+    /// `submit`, and beside an answer that accepts what was prepared, for callers whose contracts
+    /// name its entry. That has no bytes.
     pub fn submit_told(
         &mut self,
         alloc: Global,
@@ -76,16 +86,26 @@ impl<D: Disk> KeptOffice<D> {
     ) -> (Answer, Option<Snapshot<Prepared>>)
         requires form { HasForm (record { desk = desk; seq = seq; request = r.now }) }
 
-        ensures becomes { Becomes D.seen D.may_leave D.faults self.old self.new (IsOffered (state_of self.old) desk seq r.now reading)
-            (λ text. (kept : Answered) × Repeats (state_of self.old) desk seq r.now kept × (text ≡ reply_text kept)) (Refuses (state_of self.old) desk seq r.now reading) result.0 }
+        ensures becomes { Becomes D.seen D.crash D.faults self.old self.new
+            (IsOffered (state_of self.old) desk seq r.now reading)
+            (λ text. (kept : Answered) × Repeats (state_of self.old) desk seq r.now kept
+            × (text ≡ reply_text kept)) (Refuses (state_of self.old) desk seq r.now reading)
+            result.0 }
 
-        // The entry that was added is that of what was prepared; beside another answer there is nothing.
-        ensures told { Names D.seen D.may_leave D.faults self.old self.new (IsOffered (state_of self.old) desk seq r.now reading)
-            (λ text. (kept : Answered) × Repeats (state_of self.old) desk seq r.now kept × (text ≡ reply_text kept)) (Refuses (state_of self.old) desk seq r.now reading) result.0 (option_map (λ told. told.value) result.1) }
+        // The entry that was added is that of what was prepared; beside another answer there is
+        // nothing.
+        ensures told { Names D.seen D.crash D.faults self.old self.new
+            (IsOffered (state_of self.old) desk seq r.now reading)
+            (λ text. (kept : Answered) × Repeats (state_of self.old) desk seq r.now kept
+            × (text ≡ reply_text kept)) (Refuses (state_of self.old) desk seq r.now reading)
+            result.0 (option_map (λ told. told.value) result.1) }
         ensures later { D.faults (disk_of self.old) ≤ D.faults (disk_of self.new) }
-        ensures any_moment { (file : List ℕ) (h : History) (pending : Option Change) → Holds D.seen D.may_leave self.old file h pending
-            → LeavesOnly D.moment D.left_since (disk_of self.old) (disk_of self.new)
-            (Leaves file h (λ change. (pending ≡ Some change) ⊎ IsAsked (state_of self.old) desk seq r.now reading change)) }
+        ensures any_moment { (file : List ℕ) (h : History) (pending : Option Change)
+            → Holds D.seen D.crash self.old file h pending
+            → LeavesOnly (D.crash (disk_of self.old)) (D.crash (disk_of self.new))
+            (Leaves file h
+            (λ change. (pending ≡ Some change)
+            ⊎ IsAsked (state_of self.old) desk seq r.now reading change)) }
     {
         self.a_crash_leaves_the_history();
         match self.office.prepare(alloc, desk, seq, r, reading) {
@@ -117,7 +137,9 @@ impl<D: Disk> KeptOffice<D> {
     /// The text of a desk's kept reply.
     fn kept_reply(&self, alloc: Global, desk: Desk) -> Result<Text, Oom>
         requires { is_some (said_by (state_of self.now) desk) ≡ true }
-        ensures { IfOk result (λ text. IfSome (said_by (state_of self.now) desk) (λ said. text ≡ reply_text said.reply)) }
+        ensures { IfOk result
+            (λ text. IfSome (said_by (state_of self.now) desk)
+            (λ said. text ≡ reply_text said.reply)) }
     {
         match self.office.kept(desk) {
             Some(reply) => reply_text(alloc, reply),
@@ -134,7 +156,8 @@ impl<D: Disk> KeptOffice<D> {
         r: &Request,
         p: &Prepared,
     ) -> Result<(Text, Text), Oom>
-        requires { p.now.entry ≡ entry_of (state_of self.now) desk.now seq r.now p.now.entry.minute p.now.made }
+        requires { p.now.entry
+            ≡ entry_of (state_of self.now) desk.now seq r.now p.now.entry.minute p.now.made }
         ensures reply { IfOk result (λ texts. texts.0 ≡ reply_text p.now.entry.reply) }
         ensures body { IfOk result (λ texts. texts.1 ≡ body_of (Change.entry (entered p.now))) }
     {
@@ -143,7 +166,8 @@ impl<D: Disk> KeptOffice<D> {
         Ok((reply, body))
     }
 
-    /// The reply to what was prepared, and its entry ready to be appended where it has room; or the answer where it has none.
+    /// The reply to what was prepared, and its entry ready to be appended where it has room; or the
+    /// answer where it has none.
     fn reply_and_packet(
         &self,
         alloc: Global,
@@ -152,10 +176,12 @@ impl<D: Disk> KeptOffice<D> {
         r: &Request,
         p: &Prepared,
     ) -> Result<(Text, Packet), Answer>
-        requires { p.now.entry ≡ entry_of (state_of self.now) desk.now seq r.now p.now.entry.minute p.now.made }
+        requires { p.now.entry
+            ≡ entry_of (state_of self.now) desk.now seq r.now p.now.entry.minute p.now.made }
         ensures reply { IfOk result (λ written. written.0 ≡ reply_text p.now.entry.reply) }
         ensures body { IfOk result (λ written. written.1 ≡ body_of (Change.entry (entered p.now))) }
-        ensures room { IfOk result (λ written. gate_of self.now + 6 + length written.1 ≤ 268435456) }
+        ensures room { IfOk result
+            (λ written. gate_of self.now + 6 + length written.1 ≤ 268435456) }
         ensures unkept { IfErr result (IsUnkept (gate_of self.now) (entered p.now)) }
     {
         let Ok((reply, body)) = self.reply_and_body(alloc, desk, seq, r, p) else {
@@ -181,10 +207,14 @@ impl<D: Disk> KeptOffice<D> {
     ) -> Answer
         requires form { HasForm (record { desk = desk; seq = seq; request = r.now }) }
         requires ready { (reading : ℤ) × IsReady self.old.office desk seq r.now reading p }
-        ensures becomes { Becomes D.seen D.may_leave D.faults self.old self.new (λ x. x ≡ entered p) (λ text. ⊥) (λ x. ⊥) result }
+        ensures becomes { Becomes D.seen D.crash D.faults self.old self.new (λ x. x ≡ entered p)
+            (λ text. ⊥) (λ x. ⊥) result }
         ensures later { D.faults (disk_of self.old) ≤ D.faults (disk_of self.new) }
-        ensures any_moment { (file : List ℕ) (h : History) (pending : Option Change) → Holds D.seen D.may_leave self.old file h pending
-            → LeavesOnly D.moment D.left_since (disk_of self.old) (disk_of self.new) (Leaves file h (λ change. (pending ≡ Some change) ⊎ (change ≡ Change.entry (entered p)))) }
+        ensures any_moment { (file : List ℕ) (h : History) (pending : Option Change)
+            → Holds D.seen D.crash self.old file h pending
+            → LeavesOnly (D.crash (disk_of self.old)) (D.crash (disk_of self.new))
+            (Leaves file h
+            (λ change. (pending ≡ Some change) ⊎ (change ≡ Change.entry (entered p)))) }
     {
         self.a_crash_leaves_the_history();
         match self.reply_and_packet(alloc, &desk, seq, r, &p) {
@@ -200,10 +230,14 @@ impl<D: Disk> KeptOffice<D> {
         requires body { packet.now ≡ body_of (Change.entry (entered p)) }
         requires room { gate_of self.old + 6 + length packet.now ≤ 268435456 }
         requires reply { reply ≡ reply_text p.entry.reply }
-        ensures becomes { Becomes D.seen D.may_leave D.faults self.old self.new (λ x. x ≡ entered p) (λ text. ⊥) (λ x. ⊥) result }
+        ensures becomes { Becomes D.seen D.crash D.faults self.old self.new (λ x. x ≡ entered p)
+            (λ text. ⊥) (λ x. ⊥) result }
         ensures later { D.faults (disk_of self.old) ≤ D.faults (disk_of self.new) }
-        ensures any_moment { (file : List ℕ) (h : History) (pending : Option Change) → Holds D.seen D.may_leave self.old file h pending
-            → LeavesOnly D.moment D.left_since (disk_of self.old) (disk_of self.new) (Leaves file h (λ change. (pending ≡ Some change) ⊎ (change ≡ Change.entry (entered p)))) }
+        ensures any_moment { (file : List ℕ) (h : History) (pending : Option Change)
+            → Holds D.seen D.crash self.old file h pending
+            → LeavesOnly (D.crash (disk_of self.old)) (D.crash (disk_of self.new))
+            (Leaves file h
+            (λ change. (pending ≡ Some change) ⊎ (change ≡ Change.entry (entered p)))) }
     {
         accepted_requests_are_accepted_at_their_minute();
         match self.journal.append(packet) {

@@ -21,34 +21,52 @@ impl<D: Disk> KeptOffice<D> {
     /// Appends the mark, after which texts are of edition Two.
     pub fn upgrade(&mut self, alloc: Global) -> Upgrade
 
-        // The edition was One, and is Two now. The journal has the mark, durably, and nothing is pending.
-        ensures done { result ≡ Upgrade.Done → ((state_of self.old).edition ≡ One) × (state_of self.new ≡ in_edition Two (state_of self.old))
-            × ((file : List ℕ) (h : History) (pending : Option Change) → Holds D.seen D.may_leave self.old file h pending
-            → Holds D.seen D.may_leave self.new file (changed h Change.marked) None × Only (D.seen (disk_of self.new)) (D.may_leave (disk_of self.new))) }
+        // The edition was One, and is Two now. The journal has the mark, durably, and nothing is
+        // pending.
+        ensures done { result ≡ Upgrade.Done → ((state_of self.old).edition ≡ One)
+            × (state_of self.new ≡ in_edition Two (state_of self.old))
+            × ((file : List ℕ) (h : History) (pending : Option Change)
+            → Holds D.seen D.crash self.old file h pending
+            → Holds D.seen D.crash self.new file (changed h Change.marked) None
+            × Only (D.seen (disk_of self.new)) (D.crash (disk_of self.new)).may_leave) }
         ensures already { (result ≡ Upgrade.Already) ↔ ((state_of self.old).edition ≡ Two) }
-        ensures full { result ≡ Upgrade.Full → ((state_of self.old).edition ≡ One) × (268435456 < gate_of self.old + 15) }
-        ensures room { (state_of self.old).edition ≡ One → 268435456 < gate_of self.old + 15 → (result ≡ Upgrade.Full) ⊎ (result ≡ Upgrade.OutOfMemory) }
+        ensures full { result ≡ Upgrade.Full → ((state_of self.old).edition ≡ One)
+            × (268435456 < gate_of self.old + 15) }
+        ensures room { (state_of self.old).edition ≡ One → 268435456 < gate_of self.old + 15
+            → (result ≡ Upgrade.Full) ⊎ (result ≡ Upgrade.OutOfMemory) }
 
-        // The disk failed in this call. The office is as before, and at most one change is pending, which was so before or is the mark.
-        ensures cause { result ≡ Upgrade.DiskFault → ((state_of self.old).edition ≡ One) × Rose (D.faults (disk_of self.old)) (D.faults (disk_of self.new)) }
-        ensures failed { result ≡ Upgrade.DiskFault → (file : List ℕ) (h : History) (pending : Option Change) → Holds D.seen D.may_leave self.old file h pending
-            → (next : Option Change) × MayTouch pending Change.marked next × Holds D.seen D.may_leave self.new file h next }
+        // The disk failed in this call. The office is as before, and at most one change is pending,
+        // which was so before or is the mark.
+        ensures cause { result ≡ Upgrade.DiskFault → ((state_of self.old).edition ≡ One)
+            × Rose (D.faults (disk_of self.old)) (D.faults (disk_of self.new)) }
+        ensures failed { result ≡ Upgrade.DiskFault
+            → (file : List ℕ) (h : History) (pending : Option Change)
+            → Holds D.seen D.crash self.old file h pending
+            → (next : Option Change) × MayTouch pending Change.marked next
+            × Holds D.seen D.crash self.new file h next }
         ensures state { result ≢ Upgrade.Done → state_of self.new ≡ state_of self.old }
         ensures entries { entries_of self.new ≡ entries_of self.old }
         ensures notes { notes_of self.new ≡ notes_of self.old }
 
         // Otherwise nothing is changed.
-        ensures untouched { result ≢ Upgrade.Done → result ≢ Upgrade.DiskFault → (disk_of self.new ≡ disk_of self.old)
-            × ((file : List ℕ) (h : History) (pending : Option Change) → Holds D.seen D.may_leave self.old file h pending → Holds D.seen D.may_leave self.new file h pending) }
+        ensures untouched { result ≢ Upgrade.Done → result ≢ Upgrade.DiskFault
+            → (disk_of self.new ≡ disk_of self.old)
+            × ((file : List ℕ) (h : History) (pending : Option Change)
+            → Holds D.seen D.crash self.old file h pending
+            → Holds D.seen D.crash self.new file h pending) }
         ensures later { D.faults (disk_of self.old) ≤ D.faults (disk_of self.new) }
 
         // But for that the count of its faults is as before.
-        ensures steady { result ≢ Upgrade.DiskFault → D.faults (disk_of self.new) ≡ D.faults (disk_of self.old) }
+        ensures steady { result ≢ Upgrade.DiskFault
+            → D.faults (disk_of self.new) ≡ D.faults (disk_of self.old) }
 
-        // A crash at any moment of the call leaves an image of the history, of it with the change that was pending, or of it with the mark.
-        ensures any_moment { (file : List ℕ) (h : History) (pending : Option Change) → Holds D.seen D.may_leave self.old file h pending
-            → LeavesOnly D.moment D.left_since (disk_of self.old) (disk_of self.new)
-            (Leaves file h (λ change. (pending ≡ Some change) ⊎ ((change ≡ Change.marked) × (h.edition ≡ One)))) }
+        // A crash at any moment of the call leaves an image of the history, of it with the change
+        // that was pending, or of it with the mark.
+        ensures any_moment { (file : List ℕ) (h : History) (pending : Option Change)
+            → Holds D.seen D.crash self.old file h pending
+            → LeavesOnly (D.crash (disk_of self.old)) (D.crash (disk_of self.new))
+            (Leaves file h
+            (λ change. (pending ≡ Some change) ⊎ ((change ≡ Change.marked) × (h.edition ≡ One)))) }
     {
         self.a_crash_leaves_the_history();
         if self.office.edition() == Edition::Two {

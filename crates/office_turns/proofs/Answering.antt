@@ -2,7 +2,7 @@
 use Rattle.std.proofs.Common.{ℕ, ℤ, ◌≡◌, ◌≤◌, ◌⊎◌, inl, inr, List, [], ◌∷◌, ◌++◌, Option, None, Some, IfSome, option_map, refl, ap, sym, ◌∙◌, subst, arith}
 use Rattle.std.proofs.lemmas.List.{append-nil}
 use Rattle.std.specs.declared.snapshot.Snapshot.{Snapshot}
-use Rattle.desk_traits.specs.Crash.{LeavesOnly}
+use Rattle.desk_traits.specs.Crash.{AreCrashes, LeavesOnly}
 use Rattle.desk_traits.specs.declared.disk.Disk.{Ghosts as Disks}
 use Rattle.desk_traits.proofs.Moments.{weaker}
 use Rattle.hazard_types.specs.declared.refusal.Refusal.{Refusal}
@@ -56,13 +56,13 @@ Broken old a reading = Refuses (state_of old) a.desk a.seq a.request reading
 
 -- what a crash leaves at any moment of the call
 abbrev pub AnyMoment : {D : Type 0} (d : Disks D) → KeptOffice D d → KeptOffice D d → Asked → ℤ → Type 0
-AnyMoment d old new a reading = (file : List ℕ) (h : History) (pending : Option Change) → Holds d.seen d.may_leave old file h pending
-    → LeavesOnly d.moment d.left_since (disk_of old) (disk_of new) (Leaves file h (λ change. (pending ≡ Some change) ⊎ IsAsked (state_of old) a.desk a.seq a.request reading change))
+AnyMoment d old new a reading = (file : List ℕ) (h : History) (pending : Option Change) → Holds d.seen d.crash old file h pending
+    → LeavesOnly (d.crash (disk_of old)) (d.crash (disk_of new)) (Leaves file h (λ change. (pending ≡ Some change) ⊎ IsAsked (state_of old) a.desk a.seq a.request reading change))
 
 -- what the kept office tells of a request that was submitted
 pub record Told {D : Type 0} (d : Disks D) (old new : KeptOffice D d) (a : Asked) (reading : ℤ) (answer : Answer) (told : Option (Snapshot Readied)) : Type 0 where
-  pub becomes : Becomes d.seen d.may_leave d.faults old new (Offered old a reading) (Replied old a) (Broken old a reading) answer
-  pub names : Names d.seen d.may_leave d.faults old new (Offered old a reading) (Replied old a) (Broken old a reading) answer (option_map (λ (t : Snapshot Readied). t.value) told)
+  pub becomes : Becomes d.seen d.crash d.faults old new (Offered old a reading) (Replied old a) (Broken old a reading) answer
+  pub names : Names d.seen d.crash d.faults old new (Offered old a reading) (Replied old a) (Broken old a reading) answer (option_map (λ (t : Snapshot Readied). t.value) told)
   pub later : d.faults (disk_of old) ≤ d.faults (disk_of new)
   pub moments : AnyMoment d old new a reading
 
@@ -73,29 +73,27 @@ pub record CameOf {D : Type 0} (d : Disks D) (opened new : KeptOffice D d) (a : 
   pub grows : GrowsByOneAtMost xs zs
 
 module _ {D : Type 0} (d : Disks D)
-    (counts_now : (x : D) (c : List ℕ) → d.may_leave x c → d.left_since x (d.moment x) c)
-    (only_now : (x : D) (c : List ℕ) → d.left_since x (d.moment x) c → d.may_leave x c)
-    (earlier : (x : D) (t u : ℕ) (c : List ℕ) → t ≤ u → u ≤ d.moment x → d.left_since x u c → d.left_since x t c) where
+    (are_crashes : (x : D) → AreCrashes (d.crash x)) where
   module _ (old new : KeptOffice D d) (a : Asked) (reading : ℤ) where
     is_entry : (x : Entered) → Offered old a reading x → IsEntryAt (state_of old) x
     is_entry x offered = record { desk = a.desk; seq = a.seq; request = a.request; reading = reading; offered = offered }
 
     -- a crash leaves a front of what the history is then
-    between : AnyMoment d old new a reading → (file : List ℕ) (h : History) (entries : List Entered) (pending : Option Change) → Holds d.seen d.may_leave old file h pending
-        → LeavesOnly d.moment d.left_since (disk_of old) (disk_of new) (IsBetween file h (grown h entries))
+    between : AnyMoment d old new a reading → (file : List ℕ) (h : History) (entries : List Entered) (pending : Option Change) → Holds d.seen d.crash old file h pending
+        → LeavesOnly (d.crash (disk_of old)) (d.crash (disk_of new)) (IsBetween file h (grown h entries))
     between moments file h entries pending holds =
         let P : Change → Type 0 = λ change. (pending ≡ Some change) ⊎ IsAsked (state_of old) a.desk a.seq a.request reading change in
-        weaker d.moment d.left_since d.may_leave counts_now only_now earlier (disk_of old) (disk_of new) (Leaves file h P) (IsBetween file h (grown h entries))
+        weaker d.crash are_crashes (disk_of old) (disk_of new) (Leaves file h P) (IsBetween file h (grown h entries))
         (λ c leaves. at_start file h (grown h entries) P c (grown_follows h entries) leaves) (moments file h pending holds)
 
-    has_still : IsAsBefore d.seen d.may_leave old new → (file : List ℕ) (h : History) → HasHistory old file h → HasHistory new file (grown h [])
+    has_still : IsAsBefore d.seen d.crash old new → (file : List ℕ) (h : History) → HasHistory old file h → HasHistory new file (grown h [])
     has_still same file h has = subst (λ (g : History). HasHistory new file g) (sym (grown_none h)) (record {
       history = subst (IsHistory file h) (sym same.state) has.history;
       entries = same.entries ∙ has.entries;
       gate = same.gate ∙ has.gate;
     })
 
-    since_nothing : IsAsBefore d.seen d.may_leave old new → AnyMoment d old new a reading → IsSince d old new []
+    since_nothing : IsAsBefore d.seen d.crash old new → AnyMoment d old new a reading → IsSince d old new []
     since_nothing same moments = record {
       state = same.state;
       gate = same.gate;
@@ -108,13 +106,13 @@ module _ {D : Type 0} (d : Disks D)
       steady = λ none. ap d.faults same.disk;
       held = λ file h was holds. record {
         pending = was;
-        holds = subst (λ (g : History). Holds d.seen d.may_leave new file g was) (sym (grown_none h)) (same.held file h was holds);
+        holds = subst (λ (g : History). Holds d.seen d.crash new file g was) (sym (grown_none h)) (same.held file h was holds);
         which = still_pends was (state_of new);
         crashes = between moments file h [] was holds;
       };
     }
 
-    since_entry : (p : Snapshot Readied) → Offered old a reading (entered p.value) → HasEntered d.seen d.may_leave d.faults old new (entered p.value) → AnyMoment d old new a reading → IsSince d old new (Entry p ∷ [])
+    since_entry : (p : Snapshot Readied) → Offered old a reading (entered p.value) → HasEntered d.seen d.crash d.faults old new (entered p.value) → AnyMoment d old new a reading → IsSince d old new (Entry p ∷ [])
     since_entry p offered has moments = record {
       state = has.state;
       gate = has.gate;
@@ -133,7 +131,7 @@ module _ {D : Type 0} (d : Disks D)
       };
     }
 
-    since_fault : (x : Entered) → Offered old a reading x → HasFailed d.seen d.may_leave d.faults old new x → d.faults (disk_of old) ≤ d.faults (disk_of new) → AnyMoment d old new a reading → IsSince d old new (Fault ∷ [])
+    since_fault : (x : Entered) → Offered old a reading x → HasFailed d.seen d.crash d.faults old new x → d.faults (disk_of old) ≤ d.faults (disk_of new) → AnyMoment d old new a reading → IsSince d old new (Fault ∷ [])
     since_fault x offered failed later moments = record {
       state = failed.state;
       gate = failed.gate;
@@ -152,7 +150,7 @@ module _ {D : Type 0} (d : Disks D)
           let then = failed.held file h was holds in
           record {
             pending = then.0;
-            holds = subst (λ (g : History). Holds d.seen d.may_leave new file g then.0) (sym (grown_none h)) then.2;
+            holds = subst (λ (g : History). Holds d.seen d.crash new file g then.0) (sym (grown_none h)) then.2;
             which = pends_failed was then.0 (state_of new) x (subst (λ (s : State). IsEntryAt s x) (sym failed.state) (is_entry x offered)) then.1;
             crashes = between moments file h [] was holds;
           };
@@ -163,27 +161,27 @@ module _ {D : Type 0} (d : Disks D)
     there : (P : State → Type 0) → P (state_of old) → P (state_at opened xs)
     there P p = subst P first.state p
 
-    stays : IsAsBefore d.seen d.may_leave old new → AnyMoment d old new a reading → zs ≡ xs → IsSince d opened new zs
-    stays same moments is = subst (IsSince d opened new) (append-nil xs ∙ sym is) (since_both d counts_now only_now earlier opened old new xs [] first (since_nothing old new a reading same moments))
+    stays : IsAsBefore d.seen d.crash old new → AnyMoment d old new a reading → zs ≡ xs → IsSince d opened new zs
+    stays same moments is = subst (IsSince d opened new) (append-nil xs ∙ sym is) (since_both d are_crashes opened old new xs [] first (since_nothing old new a reading same moments))
 
-    entered_as : (text : List ℕ) (p : Snapshot Readied) (r : Readied) → p.value ≡ r → zs ≡ xs ++ Entry p ∷ [] → Offered old a reading (entered r) → text ≡ reply_text r.entry.reply → HasEntered d.seen d.may_leave d.faults old new (entered r) → AnyMoment d old new a reading
+    entered_as : (text : List ℕ) (p : Snapshot Readied) (r : Readied) → p.value ≡ r → zs ≡ xs ++ Entry p ∷ [] → Offered old a reading (entered r) → text ≡ reply_text r.entry.reply → HasEntered d.seen d.crash d.faults old new (entered r) → AnyMoment d old new a reading
         → CameOf d opened new a reading (Accepted text) xs zs
     entered_as text p r same is offered said has moments =
         let offered' : Offered old a reading (entered p.value) = subst (λ (q : Readied). Offered old a reading (entered q)) (sym same) offered in
-        let has' = subst (λ (q : Readied). HasEntered d.seen d.may_leave d.faults old new (entered q)) (sym same) has in
+        let has' = subst (λ (q : Readied). HasEntered d.seen d.crash d.faults old new (entered q)) (sym same) has in
         record {
-          since = subst (IsSince d opened new) (sym is) (since_both d counts_now only_now earlier opened old new xs (Entry p ∷ []) first (since_entry old new a reading p offered' has' moments));
+          since = subst (IsSince d opened new) (sym is) (since_both d are_crashes opened old new xs (Entry p ∷ []) first (since_entry old new a reading p offered' has' moments));
           submitted = (p, is, there (λ (s : State). IsOffered s a.desk a.seq a.request reading (entered p.value)) offered', subst (λ (q : Readied). text ≡ reply_text q.entry.reply) (sym same) said);
           grows = inr (Entry p, is);
         }
 
-    came_accepted : (text : List ℕ) (told : Option (Snapshot Readied)) → Names d.seen d.may_leave d.faults old new (Offered old a reading) (Replied old a) (Broken old a reading) (Accepted text) (option_map (λ (t : Snapshot Readied). t.value) told)
+    came_accepted : (text : List ℕ) (told : Option (Snapshot Readied)) → Names d.seen d.crash d.faults old new (Offered old a reading) (Replied old a) (Broken old a reading) (Accepted text) (option_map (λ (t : Snapshot Readied). t.value) told)
         → AnyMoment d old new a reading → Notes (Accepted text) told xs zs → CameOf d opened new a reading (Accepted text) xs zs
     came_accepted text None names moments notes = absurd (let e = names.1 in cc)
     came_accepted text (Some t) names moments notes = entered_as text t names.0 (let e = names.1 in cc) (notes t refl) names.2 names.3 names.4 moments
 
-    came_by : (answer : Answer) (told : Option (Snapshot Readied)) → Becomes d.seen d.may_leave d.faults old new (Offered old a reading) (Replied old a) (Broken old a reading) answer
-        → Names d.seen d.may_leave d.faults old new (Offered old a reading) (Replied old a) (Broken old a reading) answer (option_map (λ (t : Snapshot Readied). t.value) told)
+    came_by : (answer : Answer) (told : Option (Snapshot Readied)) → Becomes d.seen d.crash d.faults old new (Offered old a reading) (Replied old a) (Broken old a reading) answer
+        → Names d.seen d.crash d.faults old new (Offered old a reading) (Replied old a) (Broken old a reading) answer (option_map (λ (t : Snapshot Readied). t.value) told)
         → d.faults (disk_of old) ≤ d.faults (disk_of new) → AnyMoment d old new a reading → Notes answer told xs zs → CameOf d opened new a reading answer xs zs
     came_by (Accepted text) told becomes names later moments notes = came_accepted text told names moments notes
     came_by (Repeated text) told becomes names later moments notes =
@@ -205,7 +203,7 @@ module _ {D : Type 0} (d : Disks D)
     }
     came_by DiskFault told becomes names later moments notes =
         let x = becomes.0 in record {
-          since = subst (IsSince d opened new) (sym notes) (since_both d counts_now only_now earlier opened old new xs (Fault ∷ []) first (since_fault old new a reading x becomes.1 becomes.2 later moments));
+          since = subst (IsSince d opened new) (sym notes) (since_both d are_crashes opened old new xs (Fault ∷ []) first (since_fault old new a reading x becomes.1 becomes.2 later moments));
           submitted = (x, there (λ (s : State). IsOffered s a.desk a.seq a.request reading x) becomes.1, subst (λ (n : ℕ). IsTooLong n x → ⊥) first.gate becomes.2.room, notes);
           grows = inr (Fault, notes);
         }

@@ -1,6 +1,6 @@
 -- What has become of an office since one moment, and then since a later one.
-use Rattle.std.proofs.Common.{ℕ, ◌≡◌, ◌≤◌, inl, inr, List, [], ◌++◌, Option, None, Some, IfSome, length, refl, ap, sym, ◌∙◌, subst, arith, length-append}
-use Rattle.desk_traits.specs.Crash.{LeavesOnly}
+use Rattle.std.proofs.Common.{ℕ, ◌≡◌, inl, inr, List, [], ◌++◌, Option, None, Some, IfSome, length, refl, ap, sym, ◌∙◌, subst, arith, length-append}
+use Rattle.desk_traits.specs.Crash.{AreCrashes, LeavesOnly}
 use Rattle.desk_traits.specs.declared.disk.Disk.{Ghosts as Disks}
 use Rattle.desk_traits.proofs.Moments.{both, nothing, weaker}
 use Rattle.office_core.specs.Histories.{Entered}
@@ -35,23 +35,21 @@ pends_then was mid None xs ys s now first is then = tt
 pends_then was mid (Some change) xs ys s now first is then = pends_on was mid xs ys s now change first is then
 
 module _ {D : Type 0} (d : Disks D)
-    (counts_now : (x : D) (c : List ℕ) → d.may_leave x c → d.left_since x (d.moment x) c)
-    (only_now : (x : D) (c : List ℕ) → d.left_since x (d.moment x) c → d.may_leave x c)
-    (earlier : (x : D) (t u : ℕ) (c : List ℕ) → t ≤ u → u ≤ d.moment x → d.left_since x u c → d.left_since x t c) where
+    (are_crashes : (x : D) → AreCrashes (d.crash x)) where
   -- a crash now leaves the history that a kept office holds, or that with the pending change
   abbrev pub CrashLaw : KeptOffice D d → Type 0
-  CrashLaw kept = (file : List ℕ) (h : History) (pending : Option Change) (c : List ℕ) → Holds d.seen d.may_leave kept file h pending → d.may_leave (disk_of kept) c → Leaves file h (λ change. pending ≡ Some change) c
+  CrashLaw kept = (file : List ℕ) (h : History) (pending : Option Change) (c : List ℕ) → Holds d.seen d.crash kept file h pending → (d.crash (disk_of kept)).may_leave c → Leaves file h (λ change. pending ≡ Some change) c
 
-  held_none : (kept : KeptOffice D d) → CrashLaw kept → (file : List ℕ) (h : History) (was pending : Option Change) → was ≡ pending → Holds d.seen d.may_leave kept file h was → IfSome pending (MayPend was [] (state_of kept)) → IsHeld d kept kept file h [] was
+  held_none : (kept : KeptOffice D d) → CrashLaw kept → (file : List ℕ) (h : History) (was pending : Option Change) → was ≡ pending → Holds d.seen d.crash kept file h was → IfSome pending (MayPend was [] (state_of kept)) → IsHeld d kept kept file h [] was
   held_none kept law file h was pending same holds which = record {
     pending = pending;
-    holds = subst (λ (g : History). Holds d.seen d.may_leave kept file g pending) (sym (grown_none h)) (subst (λ (o : Option Change). Holds d.seen d.may_leave kept file h o) same holds);
+    holds = subst (λ (g : History). Holds d.seen d.crash kept file g pending) (sym (grown_none h)) (subst (λ (o : Option Change). Holds d.seen d.crash kept file h o) same holds);
     which = which;
-    crashes = nothing d.moment d.left_since d.may_leave counts_now only_now earlier (disk_of kept) (IsBetween file h (grown h []))
+    crashes = nothing d.crash are_crashes (disk_of kept) (IsBetween file h (grown h []))
         (λ c left. at_start file h (grown h []) (λ (change : Change). was ≡ Some change) c (grown_follows h []) (law file h was c holds left));
   }
 
-  held_at_once : (kept : KeptOffice D d) → CrashLaw kept → (file : List ℕ) (h : History) (was : Option Change) → Holds d.seen d.may_leave kept file h was → IsHeld d kept kept file h [] was
+  held_at_once : (kept : KeptOffice D d) → CrashLaw kept → (file : List ℕ) (h : History) (was : Option Change) → Holds d.seen d.crash kept file h was → IsHeld d kept kept file h [] was
   held_at_once kept law file h None holds = held_none kept law file h None None refl holds tt
   held_at_once kept law file h (Some change) holds = held_none kept law file h (Some change) (Some change) refl holds (inl (refl, refl))
 
@@ -80,15 +78,15 @@ module _ {D : Type 0} (d : Disks D)
     held_on file h was is first then =
         let between = grown h (entries_in xs) in
         let end = grown between (entries_in ys) in
-        let run = both d.moment d.left_since d.may_leave counts_now only_now earlier (disk_of opened) (disk_of mid) (disk_of kept) (IsBetween file h between) (IsBetween file h end) first.crashes
-        (weaker d.moment d.left_since d.may_leave counts_now only_now earlier (disk_of mid) (disk_of kept) (IsBetween file between end) (IsBetween file h end)
+        let run = both d.crash are_crashes (disk_of opened) (disk_of mid) (disk_of kept) (IsBetween file h between) (IsBetween file h end) first.crashes
+        (weaker d.crash are_crashes (disk_of mid) (disk_of kept) (IsBetween file between end) (IsBetween file h end)
         (λ c left. sooner file h between end c (grown_follows h (entries_in xs)) left) then.crashes)
         (λ c left. longer file h between end c (grown_follows between (entries_in ys)) left) in
         record {
           pending = then.pending;
-          holds = subst (λ (g : History). Holds d.seen d.may_leave kept file g then.pending) (whole h) then.holds;
+          holds = subst (λ (g : History). Holds d.seen d.crash kept file g then.pending) (whole h) then.holds;
           which = pends_then was first.pending then.pending xs ys (state_of mid) (state_of kept) first.which is then.which;
-          crashes = subst (λ (g : History). LeavesOnly d.moment d.left_since (disk_of opened) (disk_of kept) (IsBetween file h g)) (whole h) run;
+          crashes = subst (λ (g : History). LeavesOnly (d.crash (disk_of opened)) (d.crash (disk_of kept)) (IsBetween file h g)) (whole h) run;
         }
 
     pub since_both : IsSince d opened mid xs → IsSince d mid kept ys → IsSince d opened kept (xs ++ ys)

@@ -39,10 +39,10 @@ module _ {D : Type 0} (d : Disks D) (opened kept : KeptOffice D d) where
   -- the history that the journal held at the opening, with this change pending, has grown by what has happened
   pub record IsHeld (file : List ℕ) (h : History) (happenings : List Happening) (was : Option Change) : Type 0 where
     pub pending : Option Change
-    pub holds : Holds d.seen d.may_leave kept file (grown h (entries_in happenings)) pending
+    pub holds : Holds d.seen d.crash kept file (grown h (entries_in happenings)) pending
     pub which : IfSome pending (MayPend was happenings (state_of kept))
     -- a crash at any moment since leaves a front of it that holds the first, with at most one change behind it
-    pub crashes : LeavesOnly d.moment d.left_since (disk_of opened) (disk_of kept) (IsBetween file h (grown h (entries_in happenings)))
+    pub crashes : LeavesOnly (d.crash (disk_of opened)) (d.crash (disk_of kept)) (IsBetween file h (grown h (entries_in happenings)))
 
   -- the office is what was opened, after what has happened
   pub record IsSince (happenings : List Happening) : Type 0 where
@@ -58,4 +58,4 @@ module _ {D : Type 0} (d : Disks D) (opened kept : KeptOffice D d) where
     pub counted : min (d.faults (disk_of opened) + faults_in happenings) (2 ^ 64 - 1) ≤ d.faults (disk_of kept)
     pub steady : faults_in happenings ≡ 0 → d.faults (disk_of kept) ≡ d.faults (disk_of opened)
     -- where the disk tells what it holds
-    pub held : (file : List ℕ) (h : History) (was : Option Change) → Holds d.seen d.may_leave opened file h was → IsHeld file h happenings was
+    pub held : (file : List ℕ) (h : History) (was : Option Change) → Holds d.seen d.crash opened file h was → IsHeld file h happenings was

@@ -24,7 +24,8 @@ impl<'a, D: Disk> Job<Tied<KeptOffice<D>, Story<D>>> for Submit<'a> {
 
     ghost may_run = { λ job. HasForm job.asked.now };
 
-    ghost meets = { λ job base before after answer. Submitted base before after job.asked.now job.reading answer };
+    ghost meets = { λ job base before after answer. Submitted base before after job.asked.now
+        job.reading answer };
 
     fn run(self, value: &mut Tied<KeptOffice<D>, Story<D>>) -> Answer {
         value.submit(self.alloc, self.asked, self.reading)
@@ -46,7 +47,8 @@ impl<'a, D: Disk> Job<Tied<KeptOffice<D>, Story<D>>> for Look<'a> {
 
     ghost may_run = { λ _. Unit {0} };
 
-    ghost meets = { λ job base before after answer. Looked base before after job.query.now job.reading answer };
+    ghost meets = { λ job base before after answer. Looked base before after job.query.now
+        job.reading answer };
 
     fn run(self, value: &mut Tied<KeptOffice<D>, Story<D>>) -> Result<Text, Or<Refusal>> {
         value.look(self.alloc, self.query, self.reading)

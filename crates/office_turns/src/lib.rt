@@ -1,4 +1,5 @@
-//! A kept office that passes share by turns: beside it stands what has happened to it since it was opened.
+//! A kept office that passes share by turns: beside it stands what has happened to it since it was
+//! opened.
 #![tactic(auto)]
 
 mod happening;

@@ -16,7 +16,8 @@ use request_json::Asked;
 use std::alloc::Global;
 use std::snapshot::Snapshot;
 
-/// Notes what an answer says to have happened. What was prepared stands beside an answer that accepts.
+/// Notes what an answer says to have happened. What was prepared stands beside an answer that
+/// accepts.
 fn note(happenings: &mut Vec<Happening>, answer: &Answer, told: Option<Snapshot<Prepared>>)
     requires room { vec_len happenings.old < vec_capacity happenings.old }
     ensures { Notes answer.now told happenings.old.items happenings.new.items }
@@ -33,15 +34,18 @@ fn note(happenings: &mut Vec<Happening>, answer: &Answer, told: Option<Snapshot<
 }
 
 impl<D: Disk> Tied<KeptOffice<D>, Story<D>> {
-    /// Submits a request at a reading of the clock. All memory is taken before the first call of the disk.
+    /// Submits a request at a reading of the clock. All memory is taken before the first call of
+    /// the disk.
     pub fn submit(&mut self, alloc: Global, asked: &Asked, reading: i64) -> Answer
         requires form { HasForm asked.now }
         ensures opened { self.new.story.opened.value ≡ self.old.story.opened.value }
 
-        // What each answer says is true after what had happened, and one happening more stands behind that at most.
+        // What each answer says is true after what had happened, and one happening more stands
+        // behind that at most.
         ensures submitted { Submitted self.old.story.opened.value self.old.story.happenings.items
             self.new.story.happenings.items asked.now reading result }
-        ensures grows { GrowsByOneAtMost self.old.story.happenings.items self.new.story.happenings.items }
+        ensures grows { GrowsByOneAtMost self.old.story.happenings.items
+            self.new.story.happenings.items }
     {
         if self.story.happenings.reserve(1).is_err() {
             return Answer::OutOfMemory;
@@ -59,7 +63,8 @@ impl<D: Disk> Tied<KeptOffice<D>, Story<D>> {
     ///
     /// Those of the kept office's `look`.
     pub fn look(&self, alloc: Global, q: &Query, reading: i64) -> Result<Text, Or<Refusal>>
-        ensures { Shown self.now.story.opened.value self.now.story.happenings.items q.now reading result }
+        ensures { Shown self.now.story.opened.value self.now.story.happenings.items q.now reading
+            result }
     {
         self.kept.look(alloc, q, reading)
     }

@@ -7,7 +7,8 @@ pub trait Told<S> {
     ghost ties: { Self → S → Type 0 };
 }
 
-/// A value, and what is told of it. Both are type parameters, so that one that is large may cross threads.
+/// A value, and what is told of it. Both are type parameters, so that one that is large may cross
+/// threads.
 #[derive(Drop)]
 pub struct Tied<K: Told<S>, S> {
     pub(crate) kept: K,

@@ -1,6 +1,6 @@
 -- Lines that are answered one after another.
 use Rattle.std.proofs.Common.{ℕ, ◌≡◌, ◌⊎◌, inl, inr, List, [], ◌∷◌, ◌++◌, refl, ap, sym, ◌∙◌, subst, append_assoc, append-nil, Option, None, Some}
-use Rattle.byte_streams.specs.Flows.{Adds}
+use Rattle.byte_streams.specs.Flows.{Adds, Outflow}
 use Rattle.byte_streams.proofs.Pieces.{adds_both}
 use Rattle.program_ends.specs.declared.reading.Stop.{Stop}
 use Rattle.program_ends.specs.declared.reading.Stop.TheVariants as stop
@@ -37,8 +37,8 @@ module _ {A : Type 0} (answers : A → Option (List ℕ) → List ℕ → A → 
     written_is = ap (λ (t : List ℕ). v ++ t) breaks.written_is ∙ sym (append_assoc v breaks.whole breaks.front);
   }
 
-  unfoldable pub halts_after : (a b z : A) (xs ys : List (List ℕ)) (v : List ℕ) (taken mid taken' : Option (List ℕ)) (why : Stop) → Answered answers a xs v b → Adds taken mid v → Halts answers lacks b z ys mid taken' why → Halts answers lacks a z (xs ++ ys) taken taken' why
-  halts_after a b z xs ys v taken mid taken' why p adds halts = record {
+  unfoldable pub halts_after : (a b z : A) (xs ys : List (List ℕ)) (v : List ℕ) (before mid after : Outflow) (why : Stop) → Answered answers a xs v b → Adds before.taken mid.taken v → Halts answers lacks b z ys mid after why → Halts answers lacks a z (xs ++ ys) before after why
+  halts_after a b z xs ys v before mid after why p adds halts = record {
     done = xs ++ halts.done;
     others = halts.others;
     told = v ++ halts.told;
@@ -57,8 +57,8 @@ module _ {A : Type 0} (answers : A → Option (List ℕ) → List ℕ → A → 
   pub lacks_within : (last : A) (others ys : List (List ℕ)) (z : A) → LacksNext lacks last others z → LacksNext lacks last (others ++ ys) z
   lacks_within last others ys z (line, more, is, at) = (line, more ++ ys, ap (λ (l : List (List ℕ)). l ++ ys) is, at)
 
-  unfoldable pub halts_within : (a z : A) (xs ys all : List (List ℕ)) (taken taken' : Option (List ℕ)) (why : Stop) → all ≡ xs ++ ys → Halts answers lacks a z xs taken taken' why → Halts answers lacks a z all taken taken' why
-  halts_within a z xs ys all taken taken' why is halts = record {
+  unfoldable pub halts_within : (a z : A) (xs ys all : List (List ℕ)) (before after : Outflow) (why : Stop) → all ≡ xs ++ ys → Halts answers lacks a z xs before after why → Halts answers lacks a z all before after why
+  halts_within a z xs ys all before after why is halts = record {
     done = halts.done;
     others = halts.others ++ ys;
     told = halts.told;
@@ -74,8 +74,8 @@ module _ {A : Type 0} (answers : A → Option (List ℕ) → List ℕ → A → 
   }
 
   -- at the next of the lines
-  unfoldable pub halts_next : (a z : A) (line : List ℕ) (more : List (List ℕ)) (taken taken' : Option (List ℕ)) (why : Stop) → HaltsAt answers lacks a z (fit line) taken taken' why → ((why ≡ stop.OutOfMemory) ⊎ (why ≡ stop.Write)) → Halts answers lacks a z (line ∷ more) taken taken' why
-  halts_next a z line more taken taken' why at (inl memory) =
+  unfoldable pub halts_next : (a z : A) (line : List ℕ) (more : List (List ℕ)) (before after : Outflow) (why : Stop) → HaltsAt answers lacks a z (fit line) before after why → ((why ≡ stop.OutOfMemory) ⊎ (why ≡ stop.Write)) → Halts answers lacks a z (line ∷ more) before after why
+  halts_next a z line more before after why at (inl memory) =
       let was = at.no_memory memory in
       record {
         done = [];
@@ -85,13 +85,13 @@ module _ {A : Type 0} (answers : A → Option (List ℕ) → List ℕ → A → 
         written = [];
         first = refl;
         answered = (refl, refl);
-        adds = rw was.0 (adds_none taken);
+        adds = rw was.0 (adds_none before.taken);
         begins = ([], refl);
         no_memory = λ _. (refl, (line, more, refl, was.1));
         write_fault = λ e. absurd (cc);
         reasons = inl memory;
       }
-  halts_next a z line more taken taken' why at (inr write) =
+  halts_next a z line more before after why at (inr write) =
       let was = at.write_fault write in
       record {
         done = line ∷ [];

@@ -1,15 +1,15 @@
 -- A run over lines whose end was told.
-use Rattle.std.proofs.Common.{ℕ, ◌≡◌, ◌≢◌, List, [], ◌∷◌, ◌++◌, Option, Some, Result, Ok, Err, IsErrOf, refl, ap, sym, ◌∙◌, ◌⊎◌, inl, inr, rules, arith}
+use Rattle.std.proofs.Common.{ℕ, ◌≡◌, ◌≢◌, List, [], ◌∷◌, ◌++◌, Option, Some, Result, Ok, Err, IsErrOf, refl, ap, sym, subst, ◌∙◌, ◌⊎◌, inl, inr, rules, arith}
 use Rattle.std.proofs.lemmas.Bool.Decides.{eqb_tells}
 use Rattle.desk_traits.specs.Faults.{Rose}
-use Rattle.byte_streams.specs.Flows.{Adds, Outflow, Streams, outflow}
+use Rattle.byte_streams.specs.Flows.{Adds, Outflow, Streams, outflow, streams}
 use Rattle.byte_streams.proofs.Pieces.{adds_both}
 use Rattle.program_ends.specs.declared.ends.End.{End}
 use Rattle.program_ends.specs.declared.ends.End.TheVariants.{ReadFault, WriteFault}
 use Rattle.program_ends.specs.declared.reading.Stop.{Stop}
 use Rattle.program_ends.specs.declared.reading.Stop.TheVariants as stop
-use Rattle.program_ends.specs.Ends.{own_line, own_status, HasWritten, IsCut, Telling}
-use Rattle.program_ends.specs.Runs.{Breaks, IsBroken, IsLinesRun, end_in}
+use Rattle.program_ends.specs.Ends.{own_line, own_status, Begins, HasWritten, IsCut, Telling}
+use Rattle.program_ends.specs.Runs.{Breaks, IsBroken, IsLinesRun, end_in, end_of}
 use Rattle.program_ends.specs.Steps.{Runs, IsCauseOf}
 use Rattle.program_ends.proofs.Answering.{adds_none}
 use Rattle.program_ends.proofs.Telling.{begins_self}
@@ -101,20 +101,34 @@ module _ (begun mid after : Outflow) (end : Option End) (status : ℕ) (tells : 
     adds = adds_both _ _ _ _ _ _ adds nothing.adds (ap (λ (l : List ℕ). written ++ l) alone);
   }
 
-module _ {A T : Type 0} (answers : A → Option (List ℕ) → List ℕ → A → Type 0) (lacks : A → Option (List ℕ) → A → Type 0) (limit : ℕ) (a z : A) (before after : Streams) (mid : Outflow) (r : Result T Stop) (status : ℕ) where
-  has_written : (run : Runs answers lacks limit a z before.input.left after.input.left before.output.taken mid.taken r) → IsCauseOf stop.Write before.output.faults mid.faults r
-      → HasWritten run.told run.written before.output mid (end_in r)
-  has_written run cause = record {
-    adds = run.adds;
-    whole = λ no. (cause.steady (λ is. no (is_write r is)), run.whole (λ is. no (is_write r is)));
-    cut = λ e. (cause.rose (write_is r e), run.begins);
-  }
+-- what a run has written when it ends, well or for a reason
+pub has_written : {T : Type 0} (r : Result T Stop) (told written : List ℕ) (before mid : Outflow) → Adds before.taken mid.taken written → Begins written told → ((IsErrOf r stop.Write → ⊥) → written ≡ told)
+    → IsCauseOf stop.Write before.faults mid.faults r → HasWritten told written before mid (end_in r)
+has_written r told written before mid adds begins whole cause = record {
+  adds = adds;
+  whole = λ no. (cause.steady (λ is. no (is_write r is)), whole (λ is. no (is_write r is)));
+  cut = λ e. (cause.rose (write_is r e), begins);
+}
 
-  pub run_told : Runs answers lacks limit a z before.input.left after.input.left before.output.taken mid.taken r → IsCauseOf stop.Read before.input.faults after.input.faults r
+-- how it is told that a run ended for this reason
+pub told_by : (why : Stop) (end : End) (text written : List ℕ) (before mid after : Outflow) (status : ℕ) → HasWritten text written before mid (Some (end_of why)) → end ≡ end_of why → Tells mid after (Some end) status
+    → Telling text before after (Some (end_of why)) status
+told_by why end text written before mid after status has is tells = subst (λ (e : End). Tells mid after (Some e) status) is tells before text written has
+
+-- a status is that of a write fault, or not
+pub eight : (status : ℕ) → (status ≡ 8) ⊎ (status ≢ 8)
+eight status = elim (eqb_tells status 8) [ inl h ↦ inl h.1 | inr h ↦ inr h.1 ]
+
+-- but for a write fault a run has no other status than its own
+pub no_other : (status own k : ℕ) → (status ≢ 8 → status ≡ own) → own ≢ k → k ≢ 8 → status ≡ k → ⊥
+no_other status own k told p q e = p (sym (told (λ h. q (sym e ∙ h))) ∙ e)
+
+module _ {A T : Type 0} (answers : A → Option (List ℕ) → List ℕ → A → Type 0) (lacks : A → Option (List ℕ) → A → Type 0) (limit : ℕ) (a z : A) (before after : Streams) (mid : Outflow) (r : Result T Stop) (status : ℕ) where
+  pub run_told : Runs answers lacks limit a z before (streams after.input mid) r → IsCauseOf stop.Read before.input.faults after.input.faults r
       → IsCauseOf stop.Write before.output.faults mid.faults r → Tells mid after.output (end_in r) status
       → IsLinesRun answers lacks limit a z before after status
   run_told run cause writing tells =
-      let telling = tells before.output run.told run.written (has_written run writing) in
+      let telling = tells before.output run.told run.written (has_written r run.told run.written before.output mid run.adds run.begins run.whole writing) in
       record {
         end = end_in r;
         told = run.told;

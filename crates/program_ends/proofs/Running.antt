@@ -1,16 +1,16 @@
--- Chunks that are read one after another, and how a run ends.
-use Rattle.std.proofs.Common.{ℕ, ◌≡◌, ◌≤◌, ◌<◌, ◌+◌, ◌==◌, true, false, cond, List, [], ◌∷◌, ◌++◌, length, take, drop, refl, ap, sym, ◌∙◌, append_assoc, append-nil, Option, None, Some, Result, Ok, Err, IsErrAnd, OnOk, IfErr, ◌⊎◌, inl, inr, rules, arith, length-append}
-use Rattle.std.proofs.lemmas.Bool.Decides.{leb_tells}
-use Rattle.std.proofs.lemmas.List.{take-append-drop, take-append-le, length-take, take_all}
-use Rattle.std.proofs.Math.Seq.{take-append-add}
-use Rattle.byte_streams.specs.Flows.{Adds, Takes, IsAtEnd}
-use Rattle.byte_streams.proofs.Pieces.{adds_both, takes_both}
+-- Pieces that are read one after another, and how a run ends.
+use Rattle.std.proofs.Common.{ℕ, ◌≡◌, ◌≤◌, ◌+◌, ◌==◌, true, false, cond, List, [], ◌∷◌, ◌++◌, length, take, drop, refl, ap, sym, ◌∙◌, append_assoc, append-nil, Option, Result, Ok, Err, OnOk, IfErr, ◌⊎◌, inl, inr, rules, arith}
+use Rattle.std.proofs.lemmas.List.{take-append-drop, take_all}
+use Rattle.byte_streams.specs.Flows.{Adds, Takes, IsAtEnd, Inflow, Outflow, Streams, streams}
+use Rattle.byte_streams.proofs.Pieces.{adds_both}
 use Rattle.program_ends.specs.declared.reading.Stop.{Stop}
 use Rattle.program_ends.specs.declared.reading.Stop.TheVariants as stop
 use Rattle.program_ends.specs.Lines.{Pending, pending_of, lines_from, rest_from, lines_of, ended_lines, without_return, fit}
+use Rattle.program_ends.specs.Pieces.{Extent, extent, HasRead, IsPiece, IsStopped, IsWhole}
 use Rattle.program_ends.specs.Runs.{Answered, IsUnbegun, LacksNext}
 use Rattle.program_ends.specs.Steps.{Feeds, Halts, HaltsAt, Replies, Runs}
 use Rattle.program_ends.proofs.Telling.{begins_self}
+use Rattle.program_ends.proofs.Piecewise.{read_none, takes_none, all_within, read_more, read_whole}
 use Rattle.program_ends.proofs.Answering.{adds_none, answered_append, answered_one, halts_after, halts_within, halts_next}
 
 pub lines_append : (line a b : List ℕ) → lines_from line (a ++ b) ≡ lines_from line a ++ lines_from (rest_from line a) b
@@ -30,34 +30,29 @@ rest_append line (c ∷ a) b =
     elim (c == 10) as (λ t. cond t (rest_from [] (a ++ b)) (rest_from (line ++ c ∷ []) (a ++ b)) ≡ rest_from (cond t (rest_from [] a) (rest_from (line ++ c ∷ []) a)) b)
     [ true ↦ ended | false ↦ goes_on ]
 
--- the reason of a result that has it
-pub stops_by : {T : Type 0} (result : Result T Stop) (why : Stop) → IsErrAnd result (λ e. e ≡ why) → result ≡ Err why
-stops_by (Ok x) why h = absurd h
-stops_by (Err e) why h = ap (λ (s : Stop). Err s) h
-
--- a front of a chunk that stands in a buffer
-pub front_part : (buffer : List ℕ) (count n : ℕ) → n ≤ count → count ≤ length buffer → take n buffer ≡ take n (take count buffer)
-front_part buffer count n few fits =
-    let short : n ≤ length (take count buffer) = omega (arith, length-take count buffer) in
-    ap (λ (l : List ℕ). take n l) (sym (take-append-drop count buffer)) ∙ take-append-le n (take count buffer) (drop count buffer) short
-
 -- these bytes were read, and the lines that end in them answered
-pub record Ran {A : Type 0} (answers : A → Option (List ℕ) → List ℕ → A → Type 0) (a z : A) (left left' taken taken' : Option (List ℕ)) (line : Pending) (total : ℕ) : Type 0 where
-  pub read : List ℕ
+pub record Ran {A : Type 0} (answers : A → Option (List ℕ) → List ℕ → A → Type 0) (limit : ℕ) (a z : A) (before after : Streams) (line : Pending) (now : Extent) : Type 0 where
+  pub seen : List ℕ
   pub written : List ℕ
-  pub takes : Takes left left' read
-  pub adds : Adds taken taken' written
-  pub answered : Answered answers a (lines_from [] read) written z
-  pub line_is : line ≡ pending_of (rest_from [] read)
-  pub total_is : total ≡ length read
+  pub has : HasRead limit now before.input.left after.input.left seen
+  pub adds : Adds before.output.taken after.output.taken written
+  pub answered : Answered answers a (lines_from [] seen) written z
+  pub line_is : line ≡ pending_of (rest_from [] seen)
 
-takes_none : (left : Option (List ℕ)) → Takes left left []
-takes_none None = refl
-takes_none (Some bytes) = refl
+-- nothing was read yet
+pub ran_none : {A : Type 0} (answers : A → Option (List ℕ) → List ℕ → A → Type 0) (limit : ℕ) (a : A) (before : Streams) (line : Pending) → line ≡ pending_of [] → Ran answers limit a a before before line (extent limit 0)
+ran_none answers limit a before line is = record {
+  seen = [];
+  written = [];
+  has = read_none limit before.input.left;
+  adds = adds_none before.output.taken;
+  answered = (refl, refl);
+  line_is = is;
+}
 
 -- memory lacked before the first read
-pub unbegun : {A T : Type 0} (answers : A → Option (List ℕ) → List ℕ → A → Type 0) (lacks : A → Option (List ℕ) → A → Type 0) (limit : ℕ) (a : A) (left taken : Option (List ℕ)) → Runs {A = A} {T = T} answers lacks limit a a left left taken taken (Err stop.OutOfMemory)
-unbegun answers lacks limit a left taken = record {
+pub unbegun : {A T : Type 0} (answers : A → Option (List ℕ) → List ℕ → A → Type 0) (lacks : A → Option (List ℕ) → A → Type 0) (limit : ℕ) (a : A) (before : Streams) → Runs {A = A} {T = T} answers lacks limit a a before before (Err stop.OutOfMemory)
+unbegun answers lacks limit a before = record {
   told = [];
   written = [];
   run = record {
@@ -65,7 +60,7 @@ unbegun answers lacks limit a left taken = record {
     lines = [];
     others = [] ∷ [];
     last = a;
-    takes = takes_none left;
+    takes = takes_none before.input.left;
     within = omega arith;
     first = refl;
     answered = (refl, refl);
@@ -78,106 +73,130 @@ unbegun answers lacks limit a left taken = record {
     next = λ _. inl (record { none = refl; unread = refl; unanswered = refl; same = refl });
     reasons = search rules;
   };
-  adds = adds_none taken;
+  adds = adds_none before.output.taken;
   begins = begins_self [];
   whole = λ _. refl;
   broken = λ e. absurd (cc);
 }
 
-module _ {A : Type 0} (answers : A → Option (List ℕ) → List ℕ → A → Type 0) (lacks : A → Option (List ℕ) → A → Type 0) (limit : ℕ) (a z : A) (left mid taken mid' : Option (List ℕ)) (line : Pending) (total : ℕ)
-    (ran : Ran answers a z left mid taken mid' line total) where
-  -- the lines that end in a chunk, behind those before
-  lines_more : (part : List ℕ) → lines_from [] (ran.read ++ part) ≡ lines_from [] ran.read ++ lines_from (rest_from [] ran.read) part
-  lines_more part = lines_append [] ran.read part
+-- the lines of what was read, behind those that end within the limit
+abbrev behind : (limit : ℕ) (seen read : List ℕ) → List (List ℕ)
+behind limit seen read = lines_from (rest_from [] seen) (drop limit read) ++ rest_from [] read ∷ []
 
-  -- a part of a chunk was fed
-  fed_answered : (part : List ℕ) (y : A) (begun : Pending) (taken' : Option (List ℕ)) → (feeds : Feeds answers z y (rest_from [] ran.read) part begun mid' taken') → Answered answers a (lines_from [] (ran.read ++ part)) (ran.written ++ feeds.written) y
-  fed_answered part y begun taken' feeds =
-      rw (lines_more part) (answered_append answers lacks a z y (lines_from [] ran.read) (lines_from (rest_from [] ran.read) part) ran.written feeds.written ran.answered feeds.answered)
+lines_parted : (limit : ℕ) (seen read : List ℕ) → seen ≡ take limit read → lines_of read ≡ ended_lines seen ++ behind limit seen read
+lines_parted limit seen read is =
+    let over = drop limit read in
+    let whole : seen ++ over ≡ read = ap (λ (l : List ℕ). l ++ over) is ∙ take-append-drop limit read in
+    let all : lines_from [] read ≡ lines_from [] seen ++ lines_from (rest_from [] seen) over = ap (λ (l : List ℕ). lines_from [] l) (sym whole) ∙ lines_append [] seen over in
+    ap (λ (l : List (List ℕ)). l ++ rest_from [] read ∷ []) all ∙ append_assoc (lines_from [] seen) _ _
 
-  -- a chunk more, all of it within the limit
-  pub ran_next : (chunk part : List ℕ) (n : ℕ) → part ≡ take n chunk → length chunk ≤ n → (y : A) (begun : Pending) (more : ℕ) (left' taken' : Option (List ℕ))
-      → Takes mid left' chunk → Feeds answers z y (rest_from [] ran.read) part begun mid' taken' → more ≡ total + length chunk → Ran answers a y left left' taken taken' begun more
-  ran_next chunk part n part_is whole y begun more left' taken' takes feeds more_is =
-      let same : part ≡ chunk = part_is ∙ take_all n chunk whole in
-      record {
-        read = ran.read ++ part;
-        written = ran.written ++ feeds.written;
-        takes = takes_both _ _ _ _ _ _ ran.takes takes (ap (λ (l : List ℕ). ran.read ++ l) (sym same));
-        adds = adds_both _ _ _ _ _ _ ran.adds feeds.adds refl;
-        answered = fed_answered part y begun taken' feeds;
-        line_is = feeds.rest ∙ ap pending_of (sym (rest_append [] ran.read part));
-        total_is = omega (arith, more_is, ran.total_is, length-append ran.read part, ap length same);
-      }
+module _ {A : Type 0} (answers : A → Option (List ℕ) → List ℕ → A → Type 0) (lacks : A → Option (List ℕ) → A → Type 0) (limit : ℕ) (a z : A) (before mid : Streams) (line : Pending) (now : Extent) (ran : Ran answers limit a z before mid line now) where
+  -- the lines that end in a piece, behind those before
+  lines_more : (part : List ℕ) → lines_from [] (ran.seen ++ part) ≡ lines_from [] ran.seen ++ lines_from (rest_from [] ran.seen) part
+  lines_more part = lines_append [] ran.seen part
 
-  -- a part of a chunk is what stands within the limit
-  cut_front : (chunk part : List ℕ) (n : ℕ) → part ≡ take n chunk → total + n ≤ limit → (total + n < limit → length chunk ≤ n) → take limit (ran.read ++ chunk) ≡ ran.read ++ part
-  cut_front chunk part n part_is few all =
-      elim (leb_tells limit (total + n)) [
-        | inl h ↦
-            let to_limit : limit ≡ length ran.read + n = omega (arith, ran.total_is, few, h.1) in
-            ap (λ (k : ℕ). take k (ran.read ++ chunk)) to_limit ∙ take-append-add ran.read chunk n ∙ ap (λ (l : List ℕ). ran.read ++ l) (sym part_is)
-        | inr h ↦
-            let short : length chunk ≤ n = all h.1 in
-            let fits : length (ran.read ++ chunk) ≤ limit = omega (arith, ran.total_is, h.1, short, length-append ran.read chunk) in
-            take_all limit (ran.read ++ chunk) fits ∙ ap (λ (l : List ℕ). ran.read ++ l) (sym (part_is ∙ take_all n chunk short))
-      ]
+  -- a piece more, whose lines were answered
+  pub ran_next : (new : Extent) (part : List ℕ) (y : A) (begun : Pending) (after : Streams)
+      → IsPiece now new mid.input.left after.input.left part → Feeds answers z y (rest_from [] ran.seen) part begun mid.output after.output → Ran answers limit a y before after begun new
+  ran_next new part y begun after next feeds = record {
+    seen = ran.seen ++ part;
+    written = ran.written ++ feeds.written;
+    has = read_more limit now before.input.left mid.input.left ran.seen ran.has new after.input.left part next;
+    adds = adds_both _ _ _ _ _ _ ran.adds feeds.adds refl;
+    answered = rw (lines_more part) (answered_append answers lacks a z y (lines_from [] ran.seen) (lines_from (rest_from [] ran.seen) part) ran.written feeds.written ran.answered feeds.answered);
+    line_is = feeds.rest ∙ ap pending_of (sym (rest_append [] ran.seen part));
+  }
 
   -- the line for which memory lacked is among those of the bytes
   next_within : {P Q : Type 0} (last y : A) (bytes : List ℕ) (done others : List (List ℕ)) → ended_lines bytes ≡ done ++ others → LacksNext lacks last others y
       → P ⊎ ((line : List ℕ) × (more : List (List ℕ)) × (ended_lines bytes ≡ done ++ line ∷ more)) ⊎ Q
   next_within last y bytes done others first (line, more, is, at) = inr (inl (line, more, first ∙ ap (λ (l : List (List ℕ)). done ++ l) is))
 
-  -- what was read within the limit
-  read_front_all : total ≤ limit → take limit ran.read ≡ ran.read
-  read_front_all few = take_all limit ran.read (omega (arith, ran.total_is, few))
+  module _ {T : Type 0} (input : Inflow) (unread : input.left ≡ mid.input.left) where
+    -- a read failed
+    ends_read : now.total ≤ now.limit → Runs {A = A} {T = T} answers lacks limit a z before (streams input mid.output) (Err stop.Read)
+    ends_read low =
+        let all = all_within limit now before.input.left mid.input.left ran.seen ran.has low in
+        record {
+          told = ran.written;
+          written = ran.written;
+          run = record {
+            read = ran.has.read;
+            lines = ended_lines ran.seen;
+            others = behind limit ran.seen ran.has.read;
+            last = z;
+            takes = rw unread ran.has.takes;
+            within = ran.has.most;
+            first = lines_parted limit ran.seen ran.has.read ran.has.front;
+            answered = ran.answered;
+            whole = inr ([], ap ended_lines (sym ran.has.front) ∙ sym (append-nil (ended_lines ran.seen)));
+            ended = λ e. absurd (cc);
+            read_fault = λ _. (omega (arith, low, ran.has.limit_is, ran.has.total_is), ap ended_lines all);
+            too_long = λ e. absurd (cc);
+            state = λ _. refl;
+            no_memory = λ e. absurd (cc);
+            next = λ e. absurd (cc);
+            reasons = search rules;
+          };
+          adds = ran.adds;
+          begins = begins_self ran.written;
+          whole = λ _. refl;
+          broken = λ e. absurd (cc);
+        }
 
-  -- a read failed
-  pub ends_read : {T : Type 0} → total ≤ limit → (left' : Option (List ℕ)) → left' ≡ mid → Runs {A = A} {T = T} answers lacks limit a z left left' taken mid' (Err stop.Read)
-  ends_read few left' same = record {
-    told = ran.written;
-    written = ran.written;
-    run = record {
-      read = ran.read;
-      lines = ended_lines ran.read;
-      others = rest_from [] ran.read ∷ [];
-      last = z;
-      takes = rw same ran.takes;
-      within = omega (arith, ran.total_is);
-      first = refl;
-      answered = ran.answered;
-      whole = inr ([], ap ended_lines (read_front_all few) ∙ sym (append-nil (ended_lines ran.read)));
-      ended = λ e. absurd (cc);
-      read_fault = λ _. (omega (arith, ran.total_is), refl);
-      too_long = λ e. absurd (cc);
-      state = λ _. refl;
-      no_memory = λ e. absurd (cc);
-      next = λ e. absurd (cc);
-      reasons = search rules;
-    };
-    adds = ran.adds;
-    begins = begins_self ran.written;
-    whole = λ _. refl;
-    broken = λ e. absurd (cc);
-  }
+    -- more bytes were read than the limit
+    ends_long : now.total ≡ now.limit + 1 → Runs {A = A} {T = T} answers lacks limit a z before (streams input mid.output) (Err stop.TooLong)
+    ends_long over = record {
+      told = ran.written;
+      written = ran.written;
+      run = record {
+        read = ran.has.read;
+        lines = ended_lines ran.seen;
+        others = behind limit ran.seen ran.has.read;
+        last = z;
+        takes = rw unread ran.has.takes;
+        within = ran.has.most;
+        first = lines_parted limit ran.seen ran.has.read ran.has.front;
+        answered = ran.answered;
+        whole = inr ([], ap ended_lines (sym ran.has.front) ∙ sym (append-nil (ended_lines ran.seen)));
+        ended = λ e. absurd (cc);
+        read_fault = λ e. absurd (cc);
+        too_long = λ _. (omega (arith, over, ran.has.limit_is, ran.has.total_is), ap ended_lines ran.has.front);
+        state = λ _. refl;
+        no_memory = λ e. absurd (cc);
+        next = λ e. absurd (cc);
+        reasons = search rules;
+      };
+      adds = ran.adds;
+      begins = begins_self ran.written;
+      whole = λ _. refl;
+      broken = λ e. absurd (cc);
+    }
+
+  -- there was no further piece
+  pub ends_stopped : {T : Type 0} (new : Extent) (input : Inflow) (why : Stop) → IsStopped now new mid.input.left input.left why → Runs {A = A} {T = T} answers lacks limit a z before (streams input mid.output) (Err why)
+  ends_stopped new input why stopped = elim stopped.reasons [
+    | inl h ↦ rw h.0 (ends_read input stopped.unread h.1)
+    | inr h ↦ rw h.0 (ends_long input stopped.unread h.1)
+  ]
 
   -- the input's end was read, and its last line answered
-  pub ends_done : {T : Type 0} (x : T) → total ≤ limit → (left' : Option (List ℕ)) → Takes mid left' [] → IsAtEnd left' → (y : A) (taken' : Option (List ℕ)) → Replies answers z y (fit (rest_from [] ran.read)) mid' taken'
-      → Runs answers lacks limit a y left left' taken taken' (Ok x)
-  ends_done x few left' takes at_end y taken' told = record {
+  ends_done : {T : Type 0} (x : T) (after : Streams) → Takes before.input.left after.input.left ran.seen → length ran.seen ≤ limit → IsAtEnd after.input.left → (y : A) → Replies answers z y (fit (rest_from [] ran.seen)) mid.output after.output
+      → Runs answers lacks limit a y before after (Ok x)
+  ends_done x after takes low at_end y told = record {
     told = ran.written ++ told.text;
     written = ran.written ++ told.text;
     run = record {
-      read = ran.read;
-      lines = lines_of ran.read;
+      read = ran.seen;
+      lines = lines_of ran.seen;
       others = [];
       last = y;
-      takes = takes_both _ _ _ _ _ _ ran.takes takes (append-nil ran.read);
-      within = omega (arith, ran.total_is);
-      first = sym (append-nil (lines_of ran.read));
-      answered = answered_append answers lacks a z y (lines_from [] ran.read) (rest_from [] ran.read ∷ []) ran.written told.text ran.answered (answered_one answers lacks z y (rest_from [] ran.read) told.text told.answered);
-      whole = inl (refl, at_end, omega (arith, ran.total_is));
-      ended = λ _. (at_end, omega (arith, ran.total_is), refl);
+      takes = takes;
+      within = omega (arith, low);
+      first = sym (append-nil (lines_of ran.seen));
+      answered = answered_append answers lacks a z y (lines_from [] ran.seen) (rest_from [] ran.seen ∷ []) ran.written told.text ran.answered (answered_one answers lacks z y (rest_from [] ran.seen) told.text told.answered);
+      whole = inl (refl, at_end, low);
+      ended = λ _. (at_end, low, refl);
       read_fault = λ e. absurd (cc);
       too_long = λ e. absurd (cc);
       state = λ _. refl;
@@ -191,12 +210,12 @@ module _ {A : Type 0} (answers : A → Option (List ℕ) → List ℕ → A → 
     broken = λ e. absurd (cc);
   }
 
-  ends_halted : {T : Type 0} → (bytes : List ℕ) (left' : Option (List ℕ)) → Takes left left' bytes → length bytes ≤ limit + 1 → (y : A) (taken' : Option (List ℕ)) (why : Stop)
-      → ((why ≡ stop.OutOfMemory) ⊎ (why ≡ stop.Write)) → (halts : Halts answers lacks a y (lines_of bytes) taken taken' why)
-      → (((halts.others ≡ []) × IsAtEnd left' × (length bytes ≤ limit)) ⊎ ((more : List (List ℕ)) × (ended_lines (take limit bytes) ≡ halts.done ++ more)))
-      → (why ≡ stop.OutOfMemory → IsUnbegun a y left left' bytes halts.done ⊎ ((line : List ℕ) × (more : List (List ℕ)) × (ended_lines (take limit bytes) ≡ halts.done ++ line ∷ more)) ⊎ ((line : List ℕ) × (halts.others ≡ line ∷ []) × IsAtEnd left' × (length bytes ≤ limit)))
-      → Runs {A = A} {T = T} answers lacks limit a y left left' taken taken' (Err why)
-  ends_halted bytes left' takes within y taken' why (inl memory) halts whole next =
+  ends_halted : {T : Type 0} → (bytes : List ℕ) (after : Streams) → Takes before.input.left after.input.left bytes → length bytes ≤ limit + 1 → (y : A) (why : Stop)
+      → ((why ≡ stop.OutOfMemory) ⊎ (why ≡ stop.Write)) → (halts : Halts answers lacks a y (lines_of bytes) before.output after.output why)
+      → (((halts.others ≡ []) × IsAtEnd after.input.left × (length bytes ≤ limit)) ⊎ ((more : List (List ℕ)) × (ended_lines (take limit bytes) ≡ halts.done ++ more)))
+      → (why ≡ stop.OutOfMemory → IsUnbegun a y before.input.left after.input.left bytes halts.done ⊎ ((line : List ℕ) × (more : List (List ℕ)) × (ended_lines (take limit bytes) ≡ halts.done ++ line ∷ more)) ⊎ ((line : List ℕ) × (halts.others ≡ line ∷ []) × IsAtEnd after.input.left × (length bytes ≤ limit)))
+      → Runs {A = A} {T = T} answers lacks limit a y before after (Err why)
+  ends_halted bytes after takes within y why (inl memory) halts whole next =
       rw memory (record {
         told = halts.told;
         written = halts.written;
@@ -223,7 +242,7 @@ module _ {A : Type 0} (answers : A → Option (List ℕ) → List ℕ → A → 
         whole = λ _. (halts.no_memory memory).0;
         broken = λ e. absurd (cc);
       })
-  ends_halted bytes left' takes within y taken' why (inr write) halts whole next =
+  ends_halted bytes after takes within y why (inr write) halts whole next =
       rw write (record {
         told = halts.told;
         written = halts.written;
@@ -252,94 +271,51 @@ module _ {A : Type 0} (answers : A → Option (List ℕ) → List ℕ → A → 
       })
 
   -- the last line was not answered
-  last_halts : (y : A) (taken' : Option (List ℕ)) (why : Stop) → HaltsAt answers lacks z y (fit (rest_from [] ran.read)) mid' taken' why → ((why ≡ stop.OutOfMemory) ⊎ (why ≡ stop.Write)) → Halts answers lacks a y (lines_of ran.read) taken taken' why
-  last_halts y taken' why at reasons = halts_after answers lacks a z y (lines_from [] ran.read) (rest_from [] ran.read ∷ []) ran.written taken mid' taken' why ran.answered ran.adds (halts_next answers lacks z y (rest_from [] ran.read) [] mid' taken' why at reasons)
+  last_halts : (y : A) (after : Outflow) (why : Stop) → HaltsAt answers lacks z y (fit (rest_from [] ran.seen)) mid.output after why → ((why ≡ stop.OutOfMemory) ⊎ (why ≡ stop.Write)) → Halts answers lacks a y (lines_of ran.seen) before.output after why
+  last_halts y after why at reasons = halts_after answers lacks a z y (lines_from [] ran.seen) (rest_from [] ran.seen ∷ []) ran.written before.output mid.output after why ran.answered ran.adds (halts_next answers lacks z y (rest_from [] ran.seen) [] mid.output after why at reasons)
 
-  last_whole : total ≤ limit → (left' : Option (List ℕ)) → IsAtEnd left' → (y : A) (taken' : Option (List ℕ)) (why : Stop) (at : HaltsAt answers lacks z y (fit (rest_from [] ran.read)) mid' taken' why) (reasons : (why ≡ stop.OutOfMemory) ⊎ (why ≡ stop.Write))
-      → (((last_halts y taken' why at reasons).others ≡ []) × IsAtEnd left' × (length ran.read ≤ limit)) ⊎ ((more : List (List ℕ)) × (ended_lines (take limit ran.read) ≡ (last_halts y taken' why at reasons).done ++ more))
-  unfolding last_halts halts_after halts_next
-  last_whole few left' at_end y taken' why at (inl memory) =
-      let lines = lines_from [] ran.read in
-      inr ([], ap ended_lines (read_front_all few) ∙ sym (append-nil lines) ∙ sym (append-nil (lines ++ [])))
-  last_whole few left' at_end y taken' why at (inr write) = inl (refl, at_end, omega (arith, ran.total_is))
+  module _ (low : length ran.seen ≤ limit) (after : Streams) (at_end : IsAtEnd after.input.left) (y : A) (why : Stop) (at : HaltsAt answers lacks z y (fit (rest_from [] ran.seen)) mid.output after.output why) where
+    last_whole : (reasons : (why ≡ stop.OutOfMemory) ⊎ (why ≡ stop.Write))
+        → (((last_halts y after.output why at reasons).others ≡ []) × IsAtEnd after.input.left × (length ran.seen ≤ limit)) ⊎ ((more : List (List ℕ)) × (ended_lines (take limit ran.seen) ≡ (last_halts y after.output why at reasons).done ++ more))
+    unfolding last_halts halts_after halts_next
+    last_whole (inl memory) =
+        let lines = lines_from [] ran.seen in
+        inr ([], ap ended_lines (take_all limit ran.seen low) ∙ sym (append-nil lines) ∙ sym (append-nil (lines ++ [])))
+    last_whole (inr write) = inl (refl, at_end, low)
 
-  last_next : total ≤ limit → (left' : Option (List ℕ)) → IsAtEnd left' → (y : A) (taken' : Option (List ℕ)) (why : Stop) (at : HaltsAt answers lacks z y (fit (rest_from [] ran.read)) mid' taken' why) (reasons : (why ≡ stop.OutOfMemory) ⊎ (why ≡ stop.Write))
-      → why ≡ stop.OutOfMemory → IsUnbegun a y left left' ran.read (last_halts y taken' why at reasons).done ⊎ ((line : List ℕ) × (more : List (List ℕ)) × (ended_lines (take limit ran.read) ≡ (last_halts y taken' why at reasons).done ++ line ∷ more))
-      ⊎ ((line : List ℕ) × ((last_halts y taken' why at reasons).others ≡ line ∷ []) × IsAtEnd left' × (length ran.read ≤ limit))
-  unfolding last_halts halts_after halts_next
-  last_next few left' at_end y taken' why at (inl memory) e = inr (inr (rest_from [] ran.read, refl, at_end, omega (arith, ran.total_is)))
-  last_next few left' at_end y taken' why at (inr write) e = absurd (cc)
+    last_next : (reasons : (why ≡ stop.OutOfMemory) ⊎ (why ≡ stop.Write))
+        → why ≡ stop.OutOfMemory → IsUnbegun a y before.input.left after.input.left ran.seen (last_halts y after.output why at reasons).done ⊎ ((line : List ℕ) × (more : List (List ℕ)) × (ended_lines (take limit ran.seen) ≡ (last_halts y after.output why at reasons).done ++ line ∷ more))
+        ⊎ ((line : List ℕ) × ((last_halts y after.output why at reasons).others ≡ line ∷ []) × IsAtEnd after.input.left × (length ran.seen ≤ limit))
+    unfolding last_halts halts_after halts_next
+    last_next (inl memory) e = inr (inr (rest_from [] ran.seen, refl, at_end, low))
+    last_next (inr write) e = absurd (cc)
 
-  pub ends_last : {T : Type 0} → total ≤ limit → (left' : Option (List ℕ)) → Takes mid left' [] → IsAtEnd left' → (y : A) (taken' : Option (List ℕ)) (why : Stop) → HaltsAt answers lacks z y (fit (rest_from [] ran.read)) mid' taken' why
-      → Runs {A = A} {T = T} answers lacks limit a y left left' taken taken' (Err why)
-  ends_last few left' takes at_end y taken' why at =
-      ends_halted ran.read left' (takes_both _ _ _ _ _ _ ran.takes takes (append-nil ran.read)) (omega (arith, ran.total_is)) y taken' why at.reasons (last_halts y taken' why at at.reasons)
-      (last_whole few left' at_end y taken' why at at.reasons) (last_next few left' at_end y taken' why at at.reasons)
+    ends_last : {T : Type 0} → Takes before.input.left after.input.left ran.seen → Runs {A = A} {T = T} answers lacks limit a y before after (Err why)
+    ends_last takes = ends_halted ran.seen after takes (omega (arith, low)) y why at.reasons (last_halts y after.output why at at.reasons) (last_whole at.reasons) (last_next at.reasons)
 
   -- the input's end was read
-  pub ends_reply : {T : Type 0} (r : Result T Stop) → total ≤ limit → (left' : Option (List ℕ)) → Takes mid left' [] → IsAtEnd left' → (y : A) (taken' : Option (List ℕ)) → OnOk r (Replies answers z y (fit (rest_from [] ran.read)) mid' taken')
-      → IfErr r (λ why. HaltsAt answers lacks z y (fit (rest_from [] ran.read)) mid' taken' why) → Runs answers lacks limit a y left left' taken taken' r
-  ends_reply (Ok x) few left' takes at_end y taken' told at = ends_done x few left' takes at_end y taken' told
-  ends_reply (Err why) few left' takes at_end y taken' told at = ends_last few left' takes at_end y taken' why at
+  pub ends_reply : {T : Type 0} (r : Result T Stop) (new : Extent) (after : Streams) → IsWhole now new mid.input.left after.input.left → (y : A) → OnOk r (Replies answers z y (fit (rest_from [] ran.seen)) mid.output after.output)
+      → IfErr r (HaltsAt answers lacks z y (fit (rest_from [] ran.seen)) mid.output after.output) → Runs answers lacks limit a y before after r
+  ends_reply (Ok x) new after whole y told at =
+      let all = read_whole limit now before.input.left mid.input.left ran.seen ran.has new after.input.left whole in
+      ends_done x after all.0 all.1 whole.ended y told
+  ends_reply (Err why) new after whole y told at =
+      let all = read_whole limit now before.input.left mid.input.left ran.seen ran.has new after.input.left whole in
+      ends_last all.1 after whole.ended y why at all.0
 
-  -- the lines behind those that end in a part of a chunk
-  abbrev behind : (chunk part : List ℕ) (n : ℕ) → List (List ℕ)
-  behind chunk part n = lines_from (rest_from [] (ran.read ++ part)) (drop n chunk) ++ rest_from [] (ran.read ++ chunk) ∷ []
+  -- the lines of a piece
+  part_halts : (part : List ℕ) (y : A) (after : Outflow) (why : Stop) → Halts answers lacks z y (lines_from (rest_from [] ran.seen) part) mid.output after why → Halts answers lacks a y (ended_lines (ran.seen ++ part)) before.output after why
+  part_halts part y after why halts = rw (lines_more part) (halts_after answers lacks a z y (lines_from [] ran.seen) (lines_from (rest_from [] ran.seen) part) ran.written before.output mid.output after why ran.answered ran.adds halts)
 
-  lines_parted : (chunk part : List ℕ) (n : ℕ) → part ≡ take n chunk → lines_of (ran.read ++ chunk) ≡ ended_lines (ran.read ++ part) ++ behind chunk part n
-  lines_parted chunk part n part_is =
-      let rest = drop n chunk in
-      let whole : part ++ rest ≡ chunk = ap (λ (l : List ℕ). l ++ rest) part_is ∙ take-append-drop n chunk in
-      let all : lines_from [] (ran.read ++ chunk) ≡ lines_from [] (ran.read ++ part) ++ lines_from (rest_from [] (ran.read ++ part)) rest =
-      ap (λ (l : List ℕ). lines_from [] l) (ap (λ (l : List ℕ). ran.read ++ l) (sym whole) ∙ sym (append_assoc ran.read part rest)) ∙ lines_append [] (ran.read ++ part) rest in
-      ap (λ (l : List (List ℕ)). l ++ rest_from [] (ran.read ++ chunk) ∷ []) all ∙ append_assoc (lines_from [] (ran.read ++ part)) _ _
-
-  -- the lines of a chunk within the limit
-  part_halts : (part : List ℕ) (y : A) (taken' : Option (List ℕ)) (why : Stop) → Halts answers lacks z y (lines_from (rest_from [] ran.read) part) mid' taken' why → Halts answers lacks a y (ended_lines (ran.read ++ part)) taken taken' why
-  part_halts part y taken' why halts = rw (lines_more part) (halts_after answers lacks a z y (lines_from [] ran.read) (lines_from (rest_from [] ran.read) part) ran.written taken mid' taken' why ran.answered ran.adds halts)
-
-  -- a line of a chunk was not answered
-  pub ends_within : {T : Type 0} → (chunk part : List ℕ) (n : ℕ) → part ≡ take n chunk → total + n ≤ limit → (total + n < limit → length chunk ≤ n) → (left' : Option (List ℕ)) → Takes mid left' chunk → total + length chunk ≤ limit + 1
-      → (y : A) (taken' : Option (List ℕ)) (why : Stop) → Halts answers lacks z y (lines_from (rest_from [] ran.read) part) mid' taken' why → Runs {A = A} {T = T} answers lacks limit a y left left' taken taken' (Err why)
+  -- a line of a piece was not answered
+  pub ends_within : {T : Type 0} (new : Extent) (part : List ℕ) (after : Streams) → IsPiece now new mid.input.left after.input.left part → (y : A) (why : Stop) → Halts answers lacks z y (lines_from (rest_from [] ran.seen) part) mid.output after.output why
+      → Runs {A = A} {T = T} answers lacks limit a y before after (Err why)
   unfolding halts_within part_halts
-  ends_within chunk part n part_is few all left' takes within y taken' why halts =
-      let bytes = ran.read ++ chunk in
-      let front : take limit bytes ≡ ran.read ++ part = cut_front chunk part n part_is few all in
-      let some = part_halts part y taken' why halts in
-      let first : ended_lines (take limit bytes) ≡ some.done ++ some.others = ap ended_lines front ∙ some.first in
-      ends_halted bytes left' (takes_both _ _ _ _ _ _ ran.takes takes refl) (omega (arith, ran.total_is, within, length-append ran.read chunk)) y taken' why halts.reasons
-      (halts_within answers lacks a y (ended_lines (ran.read ++ part)) (behind chunk part n) (lines_of bytes) taken taken' why (lines_parted chunk part n part_is) some)
-      (inr (some.others, first)) (λ e. next_within some.last y (take limit bytes) some.done some.others first (some.no_memory e).1)
-
-  -- more bytes were read than the limit
-  pub ends_long : {T : Type 0} → (chunk part : List ℕ) (n : ℕ) → part ≡ take n chunk → total + n ≡ limit → total + length chunk ≡ limit + 1 → (left' : Option (List ℕ)) → Takes mid left' chunk
-      → (y : A) (begun : Pending) (taken' : Option (List ℕ)) → Feeds answers z y (rest_from [] ran.read) part begun mid' taken' → Runs {A = A} {T = T} answers lacks limit a y left left' taken taken' (Err stop.TooLong)
-  ends_long chunk part n part_is to_limit over left' takes y begun taken' feeds =
-      let front : take limit (ran.read ++ chunk) ≡ ran.read ++ part = cut_front chunk part n part_is (omega (arith, to_limit)) (λ h. omega (arith, to_limit, h)) in
-      let told = ran.written ++ feeds.written in
-      record {
-        told = told;
-        written = told;
-        run = record {
-          read = ran.read ++ chunk;
-          lines = ended_lines (ran.read ++ part);
-          others = behind chunk part n;
-          last = y;
-          takes = takes_both _ _ _ _ _ _ ran.takes takes refl;
-          within = omega (arith, ran.total_is, length-append ran.read chunk);
-          first = lines_parted chunk part n part_is;
-          answered = fed_answered part y begun taken' feeds;
-          whole = inr ([], ap ended_lines front ∙ sym (append-nil (ended_lines (ran.read ++ part))));
-          ended = λ e. absurd (cc);
-          read_fault = λ e. absurd (cc);
-          too_long = λ _. (omega (arith, ran.total_is, length-append ran.read chunk), ap ended_lines (sym front));
-          state = λ _. refl;
-          no_memory = λ e. absurd (cc);
-          next = λ e. absurd (cc);
-          reasons = search rules;
-        };
-        adds = adds_both _ _ _ _ _ _ ran.adds feeds.adds refl;
-        begins = begins_self told;
-        whole = λ _. refl;
-        broken = λ e. absurd (cc);
-      }
+  ends_within new part after next y why halts =
+      let has = read_more limit now before.input.left mid.input.left ran.seen ran.has new after.input.left part next in
+      let seen = ran.seen ++ part in
+      let some = part_halts part y after.output why halts in
+      let first : ended_lines (take limit has.read) ≡ some.done ++ some.others = ap ended_lines (sym has.front) ∙ some.first in
+      ends_halted has.read after has.takes has.most y why halts.reasons
+      (halts_within answers lacks a y (ended_lines seen) (behind limit seen has.read) (lines_of has.read) before.output after.output why (lines_parted limit seen has.read has.front) some)
+      (inr (some.others, first)) (λ e. next_within some.last y (take limit has.read) some.done some.others first (some.no_memory e).1)

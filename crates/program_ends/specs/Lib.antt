@@ -2,6 +2,7 @@ pub mod Ends
 pub mod Lines
 pub mod Numbers
 pub mod Parting
+pub mod Pieces
 pub mod Replies
 pub mod Runs
 pub mod Steps

@@ -10,7 +10,8 @@ use itoa::Buffer;
 
 // Writes two pieces, or a front of them before a fault.
 pub(crate) fn write_both<K: Sink>(output: &mut K, first: &[u8], second: &[u8]) -> Result<(), Failed>
-    ensures { WritesText (K.outflow output.old) (K.outflow output.new) result (first.now ++ second.now) }
+    ensures { WritesText (K.outflow output.old) (K.outflow output.new) result
+        (first.now ++ second.now) }
 {
     write_whole(output, first)?;
     write_whole(output, second)
@@ -18,7 +19,8 @@ pub(crate) fn write_both<K: Sink>(output: &mut K, first: &[u8], second: &[u8]) -
 
 // Writes a front, a value and LF.
 fn write_line<K: Sink>(output: &mut K, front: &[u8], value: &[u8]) -> Result<(), Failed>
-    ensures { WritesText (K.outflow output.old) (K.outflow output.new) result (front.now ++ value.now ++ codes "\n") }
+    ensures { WritesText (K.outflow output.old) (K.outflow output.new) result
+        (front.now ++ value.now ++ codes "\n") }
 {
     write_both(output, front, value)?;
     write_whole(output, b"\n")
@@ -49,8 +51,8 @@ fn tell_write_fault<K: Sink>(output: &mut K) -> u8
 }
 
 /// Ends a run that went well, or for a reason, and returns the program's status. The line of the
-/// reason is written. A write fault, of that line too, has a line of its own, of which a front may be
-/// written.
+/// reason is written. A write fault, of that line too, has a line of its own, of which a front may
+/// be written.
 pub fn end_run<K: Sink>(output: &mut K, end: Option<End>) -> u8
     ensures { (begun : Outflow) (defined written : List ℕ)
         → HasWritten defined written begun (K.outflow output.old) end

@@ -9,7 +9,8 @@ use std::marker::Model;
 /// The most bytes of a line.
 const MOST_BYTES: usize = 65_536;
 
-/// The line that is being read: its first 65,537 bytes, the last of which may be a CR that is dropped, and whether it has more.
+/// The line that is being read: its first 65,537 bytes, the last of which may be a CR that is
+/// dropped, and whether it has more.
 #[derive(Debug, Drop)]
 pub struct Line {
     kept: Vec<u8>,
@@ -69,7 +70,8 @@ impl Line {
 
     /// One byte more of the line.
     pub fn push(&mut self, byte: u8)
-        ensures { (line : List ℕ) → self.old ≡ pending_of line → self.new ≡ pending_of (line ++ byte ∷ []) }
+        ensures { (line : List ℕ) → self.old ≡ pending_of line
+            → self.new ≡ pending_of (line ++ byte ∷ []) }
     {
         if self.kept.len() <= MOST_BYTES {
             self.kept.push_reserved(byte);
@@ -89,7 +91,8 @@ impl Line {
 
     /// The line, where an LF ended it, unless it is too long.
     pub fn line_at_end(&self) -> Option<&[u8]>
-        ensures { (line : List ℕ) → self.now ≡ pending_of line → option_map (λ bytes. bytes.now) result ≡ fit (without_return line) }
+        ensures { (line : List ℕ) → self.now ≡ pending_of line
+            → option_map (λ bytes. bytes.now) result ≡ fit (without_return line) }
     {
         if self.is_longer {
             None
@@ -100,7 +103,8 @@ impl Line {
 
     /// The line, where the input's end ended it, unless it is too long.
     pub fn unended(&self) -> Option<&[u8]>
-        ensures { (line : List ℕ) → self.now ≡ pending_of line → option_map (λ bytes. bytes.now) result ≡ fit line }
+        ensures { (line : List ℕ) → self.now ≡ pending_of line
+            → option_map (λ bytes. bytes.now) result ≡ fit line }
     {
         if self.is_longer {
             None

@@ -1,5 +1,5 @@
 //! The run over the lines of a source.
-ghost use Rattle.std.specs.Prelude.{◌≡◌, ◌≤◌, ◌<◌, ◌+◌, ◌^◌, [], ℕ, List, Option, length, option_map, IfOk, OnOk, OnErr, IfErr};
+ghost use Rattle.std.specs.Prelude.{◌≡◌, ◌<◌, ◌+◌, ◌^◌, ℕ, List, Option, option_map, IfOk, OnOk, OnErr, IfErr};
 ghost use Rattle.byte_streams.specs.Flows.{streams};
 ghost use Rattle.program_ends.specs.Lines.{pending_of, lines_from};
 ghost use Rattle.program_ends.specs.Replies.{bytes_of};
@@ -9,7 +9,8 @@ ghost use Rattle.program_ends.specs.Steps.{Feeds, Halts, Replies, HaltsAt, IsCau
 use crate::ending::end_run;
 use crate::ends::End;
 use crate::line::Line;
-use crate::reading::{Stop, read_front};
+use crate::pieces::Pieces;
+use crate::reading::Stop;
 use crate::reply::Reply;
 use byte_streams::{Sink, Source};
 use desk_traits::Failed;
@@ -18,7 +19,8 @@ use std::alloc::Global;
 
 /// What answers the lines of an input, one after another.
 pub trait Answers {
-    /// A line is answered with this text, which makes this of the state. A line that is too long is handed on as nothing.
+    /// A line is answered with this text, which makes this of the state. A line that is too long is
+    /// handed on as nothing.
     ghost answers: { Self → Option (List ℕ) → List ℕ → Self → Type 0 };
 
     /// Memory lacked for the answer to a line, which made this of the state.
@@ -30,8 +32,10 @@ pub trait Answers {
     ///
     /// Out of memory for the answer, which ends the run.
     fn answer(&mut self, alloc: Global, line: Option<&[u8]>) -> Result<Reply, Oom>
-        ensures answered { IfOk result (λ reply. answers self.old (option_map (λ bytes. bytes.now) line.entry) (bytes_of reply) self.new) }
-        ensures lacked { OnErr result (lacks self.old (option_map (λ bytes. bytes.now) line.entry) self.new) };
+        ensures answered { IfOk result (λ reply. answers self.old
+            (option_map (λ bytes. bytes.now) line.entry) (bytes_of reply) self.new) }
+        ensures lacked { OnErr result (lacks self.old
+            (option_map (λ bytes. bytes.now) line.entry) self.new) };
 }
 
 // Answers the line that ended, and writes the text.
@@ -41,9 +45,14 @@ fn reply<K: Sink, A: Answers>(
     line: Option<&[u8]>,
     output: &mut K,
 ) -> Result<(), Stop>
-    ensures told { OnOk result (Replies A.answers answers.old answers.new (option_map (λ bytes. bytes.now) line.entry) (K.outflow output.old).taken (K.outflow output.new).taken) }
-    ensures halted { IfErr result (λ why. HaltsAt A.answers A.lacks answers.old answers.new (option_map (λ bytes. bytes.now) line.entry) (K.outflow output.old).taken (K.outflow output.new).taken why) }
-    ensures cause { IsCauseOf Stop.Write (K.outflow output.old).faults (K.outflow output.new).faults result }
+    ensures told { OnOk result (Replies A.answers answers.old answers.new
+        (option_map (λ bytes. bytes.now) line.entry)
+        (K.outflow output.old) (K.outflow output.new)) }
+    ensures halted { IfErr result (HaltsAt A.answers A.lacks answers.old answers.new
+        (option_map (λ bytes. bytes.now) line.entry)
+        (K.outflow output.old) (K.outflow output.new)) }
+    ensures cause { IsCauseOf Stop.Write
+        (K.outflow output.old).faults (K.outflow output.new).faults result }
 {
     let reply = answers.answer(alloc, line)?;
     match reply.write(output) {
@@ -61,10 +70,13 @@ fn feed<K: Sink, A: Answers>(
     output: &mut K,
 ) -> Result<(), Stop>
     ensures fed { OnOk result ((begun : List ℕ) → line.old ≡ pending_of begun
-        → Feeds A.answers answers.old answers.new begun chunk.now line.new (K.outflow output.old).taken (K.outflow output.new).taken) }
+        → Feeds A.answers answers.old answers.new begun chunk.now line.new
+        (K.outflow output.old) (K.outflow output.new)) }
     ensures halted { IfErr result (λ why. (begun : List ℕ) → line.old ≡ pending_of begun
-        → Halts A.answers A.lacks answers.old answers.new (lines_from begun chunk.now) (K.outflow output.old).taken (K.outflow output.new).taken why) }
-    ensures cause { IsCauseOf Stop.Write (K.outflow output.old).faults (K.outflow output.new).faults result }
+        → Halts A.answers A.lacks answers.old answers.new (lines_from begun chunk.now)
+        (K.outflow output.old) (K.outflow output.new) why) }
+    ensures cause { IsCauseOf Stop.Write
+        (K.outflow output.old).faults (K.outflow output.new).faults result }
 {
     for byte in chunk {
         if *byte == b'\n' {
@@ -89,37 +101,27 @@ fn answer_lines<S: Source, K: Sink, A: Answers>(
     output: &mut K,
 ) -> Result<(), Stop>
     requires { limit + 1 < 2 ^ 64 }
-    ensures run { Runs A.answers A.lacks limit answers.old answers.new (S.inflow input.old).left (S.inflow input.new).left (K.outflow output.old).taken (K.outflow output.new).taken result }
-    ensures read { IsCauseOf Stop.Read (S.inflow input.old).faults (S.inflow input.new).faults result }
-    ensures write { IsCauseOf Stop.Write (K.outflow output.old).faults (K.outflow output.new).faults result }
+    ensures run { Runs A.answers A.lacks limit answers.old answers.new
+        (streams (S.inflow input.old) (K.outflow output.old))
+        (streams (S.inflow input.new) (K.outflow output.new)) result }
+    ensures read { IsCauseOf Stop.Read
+        (S.inflow input.old).faults (S.inflow input.new).faults result }
+    ensures write { IsCauseOf Stop.Write
+        (K.outflow output.old).faults (K.outflow output.new).faults result }
 {
     let mut line = Line::new(alloc)?;
+    let mut pieces = Pieces::up_to(limit);
     let mut buffer = [0u8; 4096];
-    let mut total = 0usize;
-    // Each turn but the last reads a byte or more, so the turns are no more than the bytes.
-    for _turn in 0..limit + 1 {
-        let room = (limit + 1 - total).min(buffer.len());
-        let count = match read_front(input, &mut buffer, room) {
-            Ok(count) => count,
-            Err(Failed) => return Err(Stop::Read),
-        };
-        if count == 0 {
-            return reply(alloc, answers, line.unended(), output);
-        }
-        let within = count.min(limit - total);
-        feed(alloc, answers, &mut line, &buffer[..within], output)?;
-        if within < count {
-            return Err(Stop::TooLong);
-        }
-        total += count;
+    while let Some(count) = pieces.next(input, &mut buffer)? {
+        feed(alloc, answers, &mut line, &buffer[..count], output)?;
     }
-    unreachable!()
+    reply(alloc, answers, line.unended(), output)
 }
 
-/// Reads an input of at most `limit` bytes to its end, answers each line, and tells the end of the run.
-/// Returns the program's status. All lines that ended in a piece are answered before the next read, and
-/// no more than one line is kept. One byte more than the limit is read, and the line that it belongs to
-/// gets no answer.
+/// Reads an input of at most `limit` bytes to its end, answers each line, and tells the end of the
+/// run. Returns the program's status. All lines that ended in a piece are answered before the next
+/// read, and no more than one line is kept. One byte more than the limit is read, and the line that
+/// it belongs to gets no answer.
 pub fn run_lines<S: Source, K: Sink, A: Answers>(
     alloc: Global,
     limit: usize,

@@ -21,7 +21,8 @@ fn are_digits(word: &[u8]) -> bool
 /// The number with one digit more, unless it is above `most` then.
 fn with_digit(number: u64, digit: u8, most: u64) -> Option<u64>
     requires { number ≤ most }
-    ensures { result ≡ (if nat_le (with_digit number digit) most then Some (with_digit number digit) else None) }
+    ensures { result ≡ (if nat_le (with_digit number digit) most
+        then Some (with_digit number digit) else None) }
 {
     let digit = u64::from(digit.saturating_sub(b'0'));
     if digit <= most && number <= (most - digit) / 10 {
@@ -31,8 +32,8 @@ fn with_digit(number: u64, digit: u8, most: u64) -> Option<u64>
     }
 }
 
-/// The number that one or more decimal digits spell, with or without zeros before it. None exactly where these are no
-/// digits, or the number is above `most`.
+/// The number that one or more decimal digits spell, with or without zeros before it. None exactly
+/// where these are no digits, or the number is above `most`.
 pub fn number_in(word: &[u8], most: u64) -> Option<u64>
     ensures value { result ≡ number_in most word.now }
     ensures within { IfSome result (λ n. n ≤ most) }
@@ -50,8 +51,8 @@ pub fn number_in(word: &[u8], most: u64) -> Option<u64>
     Some(number)
 }
 
-/// The number from 1 to `most` that decimal digits spell, with or without zeros before it. None exactly where they spell
-/// none of these.
+/// The number from 1 to `most` that decimal digits spell, with or without zeros before it. None
+/// exactly where they spell none of these.
 pub fn count_in(word: &[u8], most: u64) -> Option<u64>
     ensures value { result ≡ count_in most word.now }
     ensures within { IfSome result (λ n. (1 ≤ n) × (n ≤ most)) }

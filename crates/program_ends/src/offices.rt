@@ -13,7 +13,8 @@ fn are_office_letters(word: &[u8]) -> bool
         .all(|c| c.is_ascii_uppercase() || c.is_ascii_digit())
 }
 
-/// The office that a word names: four capital letters or digits. None exactly where the word names none.
+/// The office that a word names: four capital letters or digits. None exactly where the word names
+/// none.
 #[tactic(auto, using(crate::proofs::Shapes::four_is))]
 pub fn office_of(word: &[u8]) -> Option<[u8; 4]>
     ensures value { result ≡ (if is_office word.now then Some word.now else None) }

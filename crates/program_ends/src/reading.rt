@@ -41,7 +41,12 @@ impl From<Stop> for End {
     }
 }
 
-/// Reads at most `room` bytes into the front of the buffer.
+/// Reads at most `room` bytes into the front of the buffer. Returns how many there are: none only at
+/// the input's end, or where there is no room.
+///
+/// # Errors
+///
+/// The read failed.
 pub fn read_front<S: Source>(input: &mut S, buffer: &mut [u8], room: usize) -> Result<usize, Failed>
     requires { room ≤ length buffer.old }
     ensures { ReadsFront (S.inflow input.old) (S.inflow input.new) room result buffer.new }

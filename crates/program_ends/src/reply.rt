@@ -23,7 +23,8 @@ pub enum Reply {
 impl Reply {
     /// Writes the reply, or a front of it before a fault.
     pub(crate) fn write<K: Sink>(&self, output: &mut K) -> Result<(), Failed>
-        ensures { WritesText (K.outflow output.old) (K.outflow output.new) result (bytes_of self.now) }
+        ensures { WritesText (K.outflow output.old) (K.outflow output.new) result
+            (bytes_of self.now) }
     {
         match self {
             Reply::Nothing => Ok(()),

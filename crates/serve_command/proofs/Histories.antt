@@ -1,5 +1,6 @@
 -- An office that was opened, and has become another by what happened, keeps the history of its disk.
 use Rattle.std.proofs.Common.{ℕ, ◌≡◌, ◌≤◌, inl, inr, ◌+◌, ◌-◌, ◌^◌, min, List, Option, None, Some, IfSome, IsSome, subst, arith}
+use Rattle.desk_traits.specs.Crash.{AreCrashes}
 use Rattle.desk_traits.specs.declared.disk.Disk.{Ghosts as Disks}
 use Rattle.desk_traits.specs.Faults.{Rose}
 use Rattle.office_core.specs.State.{State}
@@ -30,11 +31,9 @@ rose None happenings s before now which counted some = absurd (cc)
 rose (Some change) happenings s before now which counted some = rose_by change happenings s before now which counted
 
 module _ {D : Type 0} (d : Disks D)
-    (seen_is_left : (x : D) (file : List ℕ) → d.seen x ≡ Some file → d.may_leave x file)
-    (counts_now : (x : D) (c : List ℕ) → d.may_leave x c → d.left_since x (d.moment x) c)
-    (only_now : (x : D) (c : List ℕ) → d.left_since x (d.moment x) c → d.may_leave x c)
-    (earlier : (x : D) (t u : ℕ) (c : List ℕ) → t ≤ u → u ≤ d.moment x → d.left_since x u c → d.left_since x t c) where
-  pub has_grown : RequestsStandOnce → (kept : KeptOffice D d) → CrashLaw d seen_is_left counts_now only_now earlier kept → (disk : D) (opened : KeptOffice D d) (happenings : List Happening)
+    (seen_is_left : (x : D) (file : List ℕ) → d.seen x ≡ Some file → (d.crash x).may_leave file)
+    (are_crashes : (x : D) → AreCrashes (d.crash x)) where
+  pub has_grown : RequestsStandOnce → (kept : KeptOffice D d) → CrashLaw d seen_is_left are_crashes kept → (disk : D) (opened : KeptOffice D d) (happenings : List Happening)
       → IsOpened d disk opened → IsSince d opened kept happenings → HasGrown d disk opened kept happenings
   has_grown stand_once kept law disk opened happenings first since = λ bytes seen.
       let found = first.found bytes seen in
@@ -54,6 +53,6 @@ module _ {D : Type 0} (d : Disks D)
       } in (
         file,
         h,
-        keeps d seen_is_left counts_now only_now earlier stand_once bytes file h last (MayPend None happenings (state_of kept)) disk opened kept law first found.2 (grown_follows h (entries_in happenings)) carries held.crashes,
+        keeps d seen_is_left are_crashes stand_once bytes file h last (MayPend None happenings (state_of kept)) disk opened kept law first found.2 (grown_follows h (entries_in happenings)) carries held.crashes,
         held.holds.entries,
       )

@@ -6,5 +6,5 @@ mod serving;
 mod words;
 
 pub use growing::an_opened_office_keeps_its_history;
-pub use serving::run_serve;
+pub use serving::{Means, run_serve};
 pub use words::{Serving, serving_of};

@@ -19,6 +19,18 @@ use std::sync::Wait;
 use std::thread::Threads;
 use warn_serve::{ServeEnd, serve};
 
+/// What a service stands on: the runtime, the allocator, and the clock and the gate that its
+/// workers share.
+#[derive(Drop)]
+pub struct Means<'a, R, C, G> {
+    pub rt: &'a R,
+    pub alloc: Global,
+    /// Asked for the minute once a call.
+    pub clock: &'a C,
+    /// Called before each call is judged and after its answer was written.
+    pub gate: &'a G,
+}
+
 /// The line of an office with so many requests and products.
 #[tactic(auto, unfolding(crate::specs::Serving::summary))]
 fn summary(alloc: Global, requests: u64, products: u32) -> Result<Text, Oom>
@@ -62,35 +74,32 @@ fn serve_office<
     C: Clock + Sync,
     G: Gate + Sync,
 >(
-    rt: &R,
-    alloc: Global,
+    means: &Means<'_, R, C, G>,
     serving: &Serving,
     output: &mut K,
     kept: KeptOffice<D>,
     port: &mut P,
-    clock: &C,
-    gate: &G,
 ) -> Ended<D>
     requires form { IsServing serving.now }
     requires unused { (P.state port.old).returned ≡ 0 }
     ensures { (disk : D) → IsOpened D.Disk disk kept →
-        IsServeRun D.Disk (C.gives clock.now) serving.now disk result.disk
+        IsServeRun D.Disk (C.gives means.now.clock.now) serving.now disk result.disk
         (P.state port.old) (P.state port.new) (K.outflow output.old) (K.outflow output.new)
         result.status }
 {
     let (kept, end) = serve(
-        rt,
-        alloc,
+        means.rt,
+        means.alloc,
         kept,
         port,
         serving.port,
         usize::from(serving.workers),
         u64::from(serving.connections),
-        clock,
-        gate,
+        means.clock,
+        means.gate,
     );
     an_opened_office_keeps_its_history(&kept);
-    let status = tell_served(alloc, output, &kept, end);
+    let status = tell_served(means.alloc, output, &kept, end);
     Ended {
         status,
         disk: kept.into_disk(),
@@ -106,24 +115,15 @@ pub fn run_serve<
     P: Port,
     C: Clock + Sync,
     G: Gate + Sync,
->(
-    rt: &R,
-    alloc: Global,
-    serving: &Serving,
-    output: &mut K,
-    disk: D,
-    port: &mut P,
-    clock: &C,
-    gate: &G,
-) -> Ended<D>
+>(means: &Means<'_, R, C, G>, serving: &Serving, output: &mut K, disk: D, port: &mut P) -> Ended<D>
     requires form { IsServing serving.now }
     requires unused { (P.state port.old).returned ≡ 0 }
-    ensures { Serves D.Disk (C.gives clock.now) serving.now disk result.disk
+    ensures { Serves D.Disk (C.gives means.now.clock.now) serving.now disk result.disk
         (P.state port.old) (P.state port.new) (K.outflow output.old) (K.outflow output.new)
         result.status }
 {
-    match open(alloc, disk) {
-        Ok(kept) => serve_office(rt, alloc, serving, output, kept, port, clock, gate),
+    match open(means.alloc, disk) {
+        Ok(kept) => serve_office(means, serving, output, kept, port),
         Err((disk, end)) => Ended {
             status: end_at_once(output, end),
             disk,

@@ -1,14 +1,16 @@
 //! The words of the command.
 ghost use Rattle.std.specs.Prelude.{◌≡◌, ◌≤◌, IfSome, length};
 ghost use Rattle.serve_command.specs.declared.words.Given.TheVariants.{Port, Workers, Connections};
-ghost use Rattle.serve_command.specs.Words.{IsGiven, IsServing, first_given, joined_by, named_by, one_of, options_given, serving_given, serving_of};
-ghost use Rattle.serve_command.specs.Words.{connections_in, connections_of, port_in, port_of, workers_in, workers_of};
+ghost use Rattle.serve_command.specs.Words.{IsGiven, IsServing, first_given, joined_by, named_by};
+ghost use Rattle.serve_command.specs.Words.{one_of, options_given, serving_given, serving_of};
+ghost use Rattle.serve_command.specs.Words.{connections_in, connections_of, port_in};
+ghost use Rattle.serve_command.specs.Words.{port_of, workers_in, workers_of};
 
 use hazard_types::{List, Text};
 use program_ends::count_in;
 
-/// A port of this machine, from 1, how many workers serve it, 1 to 16, and how many connections they serve together, 1 to
-/// 1,000,000.
+/// A port of this machine, from 1, how many workers serve it, 1 to 16, and how many connections
+/// they serve together, 1 to 1,000,000.
 #[derive(Clone, Copy, Debug)]
 pub struct Serving {
     pub port: u16,
@@ -164,7 +166,8 @@ fn connections_of(first: &Given, second: &Given, third: &Given) -> Option<u32>
         .or(third.connections())
 }
 
-/// What three options give together. None where one is not among them, so that another stands twice.
+/// What three options give together. None where one is not among them, so that another stands
+/// twice.
 fn serving_given(first: &Given, second: &Given, third: &Given) -> Option<Serving>
     requires { IsGiven first.now × IsGiven second.now × IsGiven third.now }
     ensures value { result ≡ serving_given first.now second.now third.now }

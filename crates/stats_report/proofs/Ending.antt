@@ -1,13 +1,11 @@
 -- A whole run, once its end was told.
-use Rattle.std.proofs.Common.{◌≡◌, ◌≢◌, ◌∙◌, ◌⊎◌, inl, inr, ℕ, ◌+◌, ◌≤◌, ◌==◌, List, [], ◌++◌, length, map, refl, ap, sym, subst, append-nil, arith, Option, Some, Result, Ok, Err}
-use Rattle.std.proofs.lemmas.Bool.{cases_Bool}
-use Rattle.std.proofs.lemmas.Bool.Decides.{nat_tests}
+use Rattle.std.proofs.Common.{◌≡◌, ◌≢◌, ◌∙◌, ◌⊎◌, inl, inr, ℕ, ◌+◌, ◌≤◌, List, [], ◌++◌, length, map, refl, ap, sym, subst, append-nil, arith, Option, Some, Result, Ok, Err}
 use Rattle.desk_traits.specs.Faults.{Rose}
-use Rattle.byte_streams.specs.Flows.{Takes, Adds, Outflow, Streams, streams}
+use Rattle.byte_streams.specs.Flows.{Takes, Adds, Outflow, Streams}
 use Rattle.event_life.specs.Products.{Product}
 use Rattle.product_decoder.specs.Decoded.{decode}
 use Rattle.product_decoder.specs.Feeding.{products_in}
-use Rattle.program_ends.specs.Ends.{fault_line, Begins, HasWritten, Telling, IsCut}
+use Rattle.program_ends.specs.Ends.{fault_line, Begins, Telling, IsCut}
 use Rattle.program_ends.specs.Runs.{end_of}
 use Rattle.program_ends.specs.Steps.{IsCauseOf}
 use Rattle.program_ends.specs.declared.ends.End.{End}
@@ -15,6 +13,7 @@ use Rattle.program_ends.specs.declared.ends.End.TheVariants.{ReadFault, WriteFau
 use Rattle.program_ends.specs.declared.reading.Stop.{Stop}
 use Rattle.program_ends.specs.declared.reading.Stop.TheVariants as stop
 use Rattle.program_ends.proofs.Answering.{adds_none}
+use Rattle.program_ends.proofs.Finishing.{Tells, eight, has_written, no_other, told_by}
 use Rattle.program_ends.proofs.Telling.{begins_self}
 use Rattle.archive_report.specs.declared.words.Asked.{Asked}
 use Rattle.archive_report.specs.Report.{products_of, faults_in}
@@ -107,24 +106,7 @@ module _ (asked : Asked) (limit : ℕ) (left left' taken : Option (List ℕ)) (t
         whole = λ no. absurd (no refl);
       }
 
-eight : (status : ℕ) → (status ≡ 8) ⊎ (status ≢ 8)
-eight status = elim (cases_Bool (status == 8)) [
-  | inl h ↦ inl (grind (arith, nat_tests))
-  | inr h ↦ inr (λ e. grind (arith, nat_tests))
-]
-
-no_other : (status own k : ℕ) → (status ≢ 8 → status ≡ own) → own ≢ k → k ≢ 8 → status ≡ k → ⊥
-no_other status own k told p q e = p (sym (told (λ h. q (sym e ∙ h))) ∙ e)
-
 module _ {T : Type 0} (asked : Asked) (limit : ℕ) (before after : Streams) where
-  -- what a run has written when it halts
-  pub has_told : (why : Stop) → (t : TellsTo {T = T} asked limit before.input.left after.input.left before.output.taken after.output.taken (Err why)) → IsCauseOf {T = T} stop.Write before.output.faults after.output.faults (Err why)
-      → HasWritten t.text t.written before.output after.output (Some (end_of why))
-  has_told stop.Read t cause = record { adds = t.adds; whole = λ _. (cause.steady (λ e. absurd (cc)), t.whole (λ e. absurd (cc))); cut = λ e. absurd (cc) }
-  has_told stop.Write t cause = record { adds = t.adds; whole = λ no. absurd (no refl); cut = λ _. (cause.rose refl, t.begins) }
-  has_told stop.TooLong t cause = record { adds = t.adds; whole = λ _. (cause.steady (λ e. absurd (cc)), t.whole (λ e. absurd (cc))); cut = λ e. absurd (cc) }
-  has_told stop.OutOfMemory t cause = record { adds = t.adds; whole = λ _. (cause.steady (λ e. absurd (cc)), t.whole (λ e. absurd (cc))); cut = λ e. absurd (cc) }
-
   -- a run that told all
   pub run_whole : (x : T) → TellsTo asked limit before.input.left after.input.left before.output.taken after.output.taken (Ok x) → after.input.faults ≡ before.input.faults → after.output.faults ≡ before.output.faults → IsStatsRun asked limit before after 0
   run_whole x t read_steady write_steady = record {
@@ -259,9 +241,8 @@ module _ (asked : Asked) (limit : ℕ) (before after : Streams) (status : ℕ) (
 pub run_ended : {T : Type 0} (asked : Asked) (limit : ℕ) (before after : Streams) (mid : Outflow) (status : ℕ) (why : Stop) (end : End) → TellsTo {T = T} asked limit before.input.left after.input.left before.output.taken mid.taken (Err why)
     → IsCauseOf {T = T} stop.Read before.input.faults after.input.faults (Err why) → IsCauseOf {T = T} stop.Write before.output.faults mid.faults (Err why)
     → end ≡ end_of why
-    → ((begun : Outflow) (defined written : List ℕ) → HasWritten defined written begun mid (Some end) → Telling defined begun after.output (Some end) status)
+    → Tells mid after.output (Some end) status
     → IsStatsRun asked limit before after status
-run_ended asked limit before after mid status why end t read write is tells =
-    let has = has_told asked limit before (streams after.input mid) why t write in
-    let told = tells before.output t.text t.written (subst (λ (e : End). HasWritten t.text t.written before.output mid (Some e)) (sym is) has) in
-    run_halted asked limit before after mid status why t read (subst (λ (e : End). Telling t.text before.output after.output (Some e) status) is told)
+run_ended {T} asked limit before after mid status why end t read write is tells =
+    let has = has_written {T = T} (Err why) t.text t.written before.output mid t.adds t.begins t.whole write in
+    run_halted asked limit before after mid status why t read (told_by why end t.text t.written before.output mid after.output status has is tells)

@@ -1,130 +1,128 @@
--- Sums that are read off what was counted are those of the products.
-use Rattle.std.proofs.Common.{◌≡◌, ◌∙◌, ℕ, ◌+◌, Bool, true, cond, List, [], ◌∷◌, ◌++◌, fold, map, refl, ap, arith}
-use Rattle.std.specs.List.{flat_map}
-use Rattle.std.specs.BTreeSet.{insert_key}
-use Rattle.std.specs.Map.{values_of}
+-- What is kept of products tells their statistics.
+use Rattle.std.proofs.Common.{◌≡◌, ◌∙◌, ◌||◌, ℕ, ◌+◌, Bool, true, false, cond, length, List, [], ◌∷◌, ◌++◌, fold, Ordering, Equal, refl, ap, sym, arith}
+use Rattle.std.proofs.lemmas.Map.Lookups.{btree_set_from_contains}
+use Rattle.std.specs.BTreeMap.{is_at}
+use Rattle.std.specs.BTreeSet.{BTreeSet, insert_key}
+use Rattle.std.specs.Cmp.{IsTotalOrder}
+use Rattle.std.specs.List.{flat_map, list_any}
+use Rattle.std.specs.List.Sorted.{IsStrictlySortedBy}
+use Rattle.std.specs.Map.{keys_of, values_of}
 use Rattle.hazard_types.specs.Orders.{by_hazard, by_event}
 use Rattle.hazard_types.specs.Places.{Place, by_place}
-use Rattle.hazard_types.specs.Same.{same_zone, same_hazard}
 use Rattle.hazard_types.specs.declared.hazard.Event.{Event}
 use Rattle.hazard_types.specs.declared.hazard.Hazard.{Hazard}
 use Rattle.hazard_types.specs.declared.line.Row.{Row}
+use Rattle.hazard_types.proofs.OrderLaws.{by_place_total, by_place_ties, by_hazard_total, by_hazard_ties, by_event_total, by_event_ties}
 use Rattle.event_life.specs.Products.{Product, rows_of}
 use Rattle.product_decoder.specs.Openings.{openings_of}
 use Rattle.product_decoder.specs.declared.types.Opening.{Opening}
-use Rattle.stats_report.specs.Adding.{sum_where, sum_at, lead_of, IsOpened, hazards_with, zones_with, events_with, with_event, minutes_with, IsTotal}
-use Rattle.stats_report.specs.Minutes.{minutes_of}
+use Rattle.row_index.proofs.Tests.{any_insert, insert-sorted}
+use Rattle.stats_report.specs.Adding.{sum_where, sum_at, with_event}
+use Rattle.stats_report.specs.Minutes.{greatest, minutes_of}
 use Rattle.stats_report.specs.Report.{events_in, hazards_in, zones_in, minutes_in, events_of, hazard_openings, hazard_lead, hazard_minutes, zone_openings, zone_minutes, total_minutes, hazard_text, zone_line_text, total_text, faults_text, hazard_line, zone_line, stats_text}
-use Rattle.stats_report.specs.Spots.{Spots, rows_in, AreExact, IsCounted}
-use Rattle.stats_report.specs.Told.{hazard_told, zone_told, hazards_told, zones_told, all_told}
-use Rattle.stats_report.specs.declared.opened.Opened.{Opened}
-use Rattle.stats_report.specs.declared.standing.Counted.{Counted}
-use Rattle.stats_report.specs.declared.totals.Totals.{Totals}
-use Rattle.stats_report.proofs.Amounts.{hazard_folded, zone_folded}
-
-abbrev row_of : Counted → Row
-row_of c = c.row
-
-rows_counted : (es : Spots) → map row_of (values_of es) ≡ rows_in es
-rows_counted [] = refl
-rows_counted (e ∷ es) = ap (λ (rows : List Row). e.1.row ∷ rows) (rows_counted es)
-
-fold_rows : {A : Type 0} (f : A → Row → A) (a : A) (cs : List Counted) → fold (λ (x : A) (c : Counted). f x c.row) a cs ≡ fold f a (map row_of cs)
-fold_rows {A} f a [] = refl
-fold_rows {A} f a (c ∷ cs) = fold_rows f (f a c.row) cs
+use Rattle.stats_report.specs.Spells.{Kept, sums_at}
+use Rattle.stats_report.specs.Spots.{Spots, Counted, rows_in, AreExact, IsCounted}
+use Rattle.stats_report.specs.Summed.{Test, passes, in_zone, of_hazard, of_any, AreKeysOf, event_of, zone_of, hazard_of, IsSummed, AreKeyed}
+use Rattle.stats_report.specs.Told.{hazard_told, zone_told, all_told}
+use Rattle.stats_report.proofs.Amounts.{hazard_folded}
 
 -- the minutes that are counted are those of the rows
-sum_exact : (stamp : ℕ) (products : List Product) (p : Row → Bool) (es : Spots) → AreExact stamp products es
-    → sum_where (λ (c : Counted). p c.row) (λ (c : Counted). c.minutes) (values_of es) ≡ sum_where p (minutes_in stamp products) (rows_in es)
-sum_exact stamp products p [] exact = refl
-sum_exact stamp products p (e ∷ es) exact =
-    ap (λ (n : ℕ). cond (p e.1.row) n 0 + sum_where (λ (c : Counted). p c.row) (λ (c : Counted). c.minutes) (values_of es)) exact.0
-    ∙ ap (λ (n : ℕ). cond (p e.1.row) (minutes_of stamp products e.1.row.event e.1.row.zone) 0 + n) (sum_exact stamp products p es exact.1)
+sum_exact : (stamp : ℕ) (products : List Product) (test : Test) (es : Spots) → AreExact stamp products es
+    → sum_where (passes test) (λ (c : Counted). c.minutes) (values_of es) ≡ sum_where (λ (r : Row). test r.event r.zone) (minutes_in stamp products) (rows_in es)
+sum_exact stamp products test [] exact = refl
+sum_exact stamp products test (e ∷ es) exact =
+    ap (λ (n : ℕ). cond (test e.1.row.event e.1.row.zone) n 0 + sum_where (passes test) (λ (c : Counted). c.minutes) (values_of es)) exact.0
+    ∙ ap (λ (n : ℕ). cond (test e.1.row.event e.1.row.zone) (minutes_of stamp products e.1.row.event e.1.row.zone) 0 + n) (sum_exact stamp products test es exact.1)
 
-sum_all : (n : ℕ) (cs : List Counted) → fold minutes_with n cs ≡ n + sum_where (λ (c : Counted). true) (λ (c : Counted). c.minutes) cs
-sum_all n [] = omega arith
-sum_all n (c ∷ cs) = let later = sum_all (n + c.minutes) cs in omega (arith, later)
+-- keys of rows are those that are put row by row
 
-module _ (stamp : ℕ) (products : List Product) (es : Spots) (counted : IsCounted stamp products es) where
-  abbrev cs : List Counted
-  cs = values_of es
+module _ {K : Type 0} (R : K → K → Ordering) (total : IsTotalOrder R) (ties : (a b : K) → R a b ≡ Equal → a ≡ b) (key : Row → K) where
+  abbrev keys_from : List K → List Row → List K
+  keys_from ks rows = fold (λ (ks : List K) (r : Row). insert_key R ks (key r)) ks rows
 
-  rows_are : map row_of cs ≡ rows_of products
-  rows_are = rows_counted es ∙ counted.rows
+  or_none : (b : Bool) → b ≡ (b || false)
+  or_none true = refl
+  or_none false = refl
 
-  folded : {A : Type 0} (f : A → Row → A) (a : A) → fold (λ (x : A) (c : Counted). f x c.row) a cs ≡ fold f a (rows_of products)
-  folded {A} f a = fold_rows f a cs ∙ ap (fold f a) rows_are
+  or_moved : (a h t : Bool) → ((a || h) || t) ≡ (h || (a || t))
+  or_moved true true t = refl
+  or_moved true false t = refl
+  or_moved false true t = refl
+  or_moved false false t = refl
 
-  summed : (p : Row → Bool) → sum_where (λ (c : Counted). p c.row) (λ (c : Counted). c.minutes) cs ≡ sum_where p (minutes_in stamp products) (rows_of products)
-  summed p = sum_exact stamp products p es counted.exact ∙ ap (sum_where p (minutes_in stamp products)) counted.rows
+  from_has : (q : K) (ks : List K) (rows : List Row) → list_any (is_at (R q)) (keys_from ks rows) ≡ (list_any (is_at (R q)) ks || list_any (λ (r : Row). is_at (R q) (key r)) rows)
+  from_has q ks [] = or_none (list_any (is_at (R q)) ks)
+  from_has q ks (r ∷ rows) =
+      from_has q (insert_key R ks (key r)) rows
+      ∙ ap (λ (b : Bool). b || list_any (λ (r : Row). is_at (R q) (key r)) rows) (any_insert R total ties (is_at (R q)) (key r) ks)
+      ∙ or_moved (is_at (R q) (key r)) (list_any (is_at (R q)) ks) (list_any (λ (r : Row). is_at (R q) (key r)) rows)
 
-  hazards_are : fold hazards_with [] cs ≡ hazards_in (rows_of products)
-  hazards_are = folded (λ (hs : List Hazard) (r : Row). insert_key by_hazard hs r.event.hazard) []
+  from_up : (ks : List K) (rows : List Row) → IsStrictlySortedBy R ks → IsStrictlySortedBy R (keys_from ks rows)
+  from_up ks [] up = up
+  from_up ks (r ∷ rows) up = from_up (insert_key R ks (key r)) rows (insert-sorted R total ties (key r) ks up)
 
-  zones_are : fold zones_with [] cs ≡ zones_in (rows_of products)
-  zones_are = folded (λ (zs : List Place) (r : Row). insert_key by_place zs r.zone) []
+  none_up : IsStrictlySortedBy R []
+  unfolding IsStrictlySortedBy
+  none_up = tt
 
-  events_are : fold events_with [] cs ≡ events_in (rows_of products)
-  events_are = folded (λ (es : List Event) (r : Row). insert_key by_event es r.event) []
+  pub keys_are : (rows : List Row) (ks : List K) → AreKeysOf R key rows ks → ks ≡ keys_from [] rows
+  keys_are rows ks is =
+      let one : BTreeSet K = record { keys = ks } in
+      let two : BTreeSet K = record { keys = keys_from [] rows } in
+      btree_set_from_contains total one two is.order (from_up [] rows none_up) (λ q. is.there q ∙ sym (from_has q [] rows)) ties
 
-  module _ (totals : Totals) (opened : Opened) (total : IsTotal cs totals) (open_is : IsOpened (openings_of products) opened) where
-    events_at : (h : Hazard) → sum_at by_hazard totals.events.entries h ≡ events_of h products
+-- the lines
+
+module _ (stamp : ℕ) (products : List Product) (k : Kept) (es : Spots) (counted : IsCounted stamp products es) (sums_are : IsSummed stamp (greatest products) es (openings_of products) k) (keyed : AreKeyed (rows_of products) k) where
+  summed : (test : Test) → sum_where (passes test) (λ (c : Counted). c.minutes) (values_of es) ≡ sum_where (λ (r : Row). test r.event r.zone) (minutes_in stamp products) (rows_of products)
+  summed test = sum_exact stamp products test es counted.exact ∙ ap (sum_where (λ (r : Row). test r.event r.zone) (minutes_in stamp products)) counted.rows
+
+  hazards_are : keys_of k.hazards ≡ hazards_in (rows_of products)
+  hazards_are = keys_are by_hazard by_hazard_total by_hazard_ties hazard_of (rows_of products) (keys_of k.hazards) keyed.hazards
+
+  zones_are : keys_of k.zones ≡ zones_in (rows_of products)
+  zones_are = keys_are by_place by_place_total by_place_ties zone_of (rows_of products) (keys_of k.zones) keyed.zones
+
+  events_are : keys_of k.spells ≡ events_in (rows_of products)
+  events_are = keys_are by_event by_event_total by_event_ties event_of (rows_of products) (keys_of k.spells) keyed.events
+
+  module _ (events : List (Hazard × ℕ)) (told : events ≡ fold with_event [] (keys_of k.spells)) where
+    events_at : (h : Hazard) → sum_at by_hazard events h ≡ events_of h products
     events_at h =
-        ap (λ (s : List (Hazard × ℕ)). sum_at by_hazard s h) (total.events ∙ ap (fold with_event []) events_are)
+        ap (λ (s : List (Hazard × ℕ)). sum_at by_hazard s h) (told ∙ ap (fold with_event []) events_are)
         ∙ hazard_folded (λ (e : Event). e.hazard) (λ (e : Event). 1) (events_in (rows_of products)) h
 
-    openings_at : (h : Hazard) → sum_at by_hazard opened.hazards.entries h ≡ hazard_openings h products
-    openings_at h = ap (λ (s : List (Hazard × ℕ)). sum_at by_hazard s h) open_is.hazards ∙ hazard_folded (λ (o : Opening). o.event.hazard) (λ (o : Opening). 1) (openings_of products) h
-
-    leads_at : (h : Hazard) → sum_at by_hazard opened.leads.entries h ≡ hazard_lead h products
-    leads_at h = ap (λ (s : List (Hazard × ℕ)). sum_at by_hazard s h) open_is.leads ∙ hazard_folded (λ (o : Opening). o.event.hazard) lead_of (openings_of products) h
-
-    minutes_at : (h : Hazard) → sum_at by_hazard totals.hazard_minutes.entries h ≡ hazard_minutes stamp h products
-    minutes_at h =
-        ap (λ (s : List (Hazard × ℕ)). sum_at by_hazard s h) total.hazard_minutes
-        ∙ hazard_folded (λ (c : Counted). c.row.event.hazard) (λ (c : Counted). c.minutes) cs h
-        ∙ summed (λ (r : Row). same_hazard r.event.hazard h)
-
-    zone_openings_at : (z : Place) → sum_at by_place opened.zones.entries z ≡ zone_openings z products
-    zone_openings_at z = ap (λ (s : List (Place × ℕ)). sum_at by_place s z) open_is.zones ∙ zone_folded (λ (o : Opening). o.zone) (λ (o : Opening). 1) (openings_of products) z
-
-    zone_minutes_at : (z : Place) → sum_at by_place totals.zone_minutes.entries z ≡ zone_minutes stamp z products
-    zone_minutes_at z =
-        ap (λ (s : List (Place × ℕ)). sum_at by_place s z) total.zone_minutes
-        ∙ zone_folded (λ (c : Counted). c.row.zone) (λ (c : Counted). c.minutes) cs z
-        ∙ summed (λ (r : Row). same_zone r.zone z)
-
-    hazard_is : (h : Hazard) → hazard_told totals opened h ≡ hazard_line stamp products h
+    hazard_is : (h : Hazard) → hazard_told events k h ≡ hazard_line stamp products h
     hazard_is h =
-        let e = events_at h in
-        let o = openings_at h in
-        let l = leads_at h in
-        let m = minutes_at h in
+        let sums = sums_are.hazards h in
+        let e : sum_at by_hazard events h ≡ events_of h products = events_at h in
+        let o : (sums_at by_hazard k.hazards h).openings ≡ hazard_openings h products = sums.openings in
+        let l : (sums_at by_hazard k.hazards h).lead ≡ hazard_lead h products = sums.lead in
+        let m : (sums_at by_hazard k.hazards h).minutes ≡ hazard_minutes stamp h products = sums.minutes ∙ summed (of_hazard h) in
         λ i. hazard_text h (e i) (o i) (l i) (m i)
 
-    zone_is : (z : Place) → zone_told totals opened z ≡ zone_line stamp products z
+    zone_is : (z : Place) → zone_told k z ≡ zone_line stamp products z
     zone_is z =
-        let o = zone_openings_at z in
-        let m = zone_minutes_at z in
+        let sums = sums_are.zones z in
+        let o : (sums_at by_place k.zones z).openings ≡ zone_openings z products = sums.openings in
+        let m : (sums_at by_place k.zones z).minutes ≡ zone_minutes stamp z products = sums.minutes ∙ summed (in_zone z) in
         λ i. zone_line_text z (o i) (m i)
 
-    hazards_are_told : hazards_told totals opened (fold hazards_with [] cs) ≡ flat_map (hazard_line stamp products) (hazards_in (rows_of products))
-    hazards_are_told = ap (λ (f : Hazard → List ℕ). flat_map f (fold hazards_with [] cs)) (λ i h. hazard_is h i) ∙ ap (flat_map (hazard_line stamp products)) hazards_are
+    hazards_told : flat_map (hazard_told events k) (keys_of k.hazards) ≡ flat_map (hazard_line stamp products) (hazards_in (rows_of products))
+    hazards_told = ap (λ (f : Hazard → List ℕ). flat_map f (keys_of k.hazards)) (λ i h. hazard_is h i) ∙ ap (flat_map (hazard_line stamp products)) hazards_are
 
-    zones_are_told : zones_told totals opened (fold zones_with [] cs) ≡ flat_map (zone_line stamp products) (zones_in (rows_of products))
-    zones_are_told = ap (λ (f : Place → List ℕ). flat_map f (fold zones_with [] cs)) (λ i z. zone_is z i) ∙ ap (flat_map (zone_line stamp products)) zones_are
+    zones_told : flat_map (zone_told k) (keys_of k.zones) ≡ flat_map (zone_line stamp products) (zones_in (rows_of products))
+    zones_told = ap (λ (f : Place → List ℕ). flat_map f (keys_of k.zones)) (λ i z. zone_is z i) ∙ ap (flat_map (zone_line stamp products)) zones_are
 
-    total_is : totals.minutes ≡ total_minutes stamp products
-    total_is = total.minutes ∙ sum_all 0 cs ∙ zero_more (sum_where (λ (c : Counted). true) (λ (c : Counted). c.minutes) cs) ∙ summed (λ (r : Row). true)
-      where
-        zero_more : (n : ℕ) → 0 + n ≡ n
-        zero_more n = omega arith
+    all_openings : (os : List Opening) → sum_where (λ (o : Opening). true) (λ (o : Opening). 1) os ≡ length os
+    all_openings [] = refl
+    all_openings (o ∷ os) = let later = all_openings os in omega (arith, later)
 
-    pub text_told : (hs : List Hazard) (zs : List Place) (faults : ℕ) → hs ≡ fold hazards_with [] cs → zs ≡ fold zones_with [] cs → all_told totals opened hs zs faults ≡ stats_text stamp products faults
+    pub text_told : (faults : ℕ) → all_told events k faults ≡ stats_text stamp products faults
     unfolding stats_text
-    text_told hs zs faults hs_are zs_are =
-        let a = ap (hazards_told totals opened) hs_are ∙ hazards_are_told in
-        let b = ap (zones_told totals opened) zs_are ∙ zones_are_told in
-        let o = open_is.count in
-        let m = total_is in
+    text_told faults =
+        let a = hazards_told in
+        let b = zones_told in
+        let o : k.all.openings ≡ length (openings_of products) = sums_are.all.openings ∙ all_openings (openings_of products) in
+        let m : k.all.minutes ≡ total_minutes stamp products = sums_are.all.minutes ∙ summed of_any in
         λ i. a i ++ (b i ++ (total_text (o i) (m i) ++ faults_text faults))

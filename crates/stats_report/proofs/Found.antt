@@ -18,9 +18,7 @@ use Rattle.hazard_types.proofs.OrderLaws.{by_place_total, by_place_ties, by_even
 use Rattle.event_life.specs.Products.{by_key, placed, put, row_at}
 use Rattle.event_life.proofs.Keys.{by_key-total, key_exact}
 use Rattle.event_life.proofs.Puts.{at_key, at_key-parts}
-use Rattle.stats_report.specs.Spots.{Spots, by_spot, spot_at, spot_of, rows_in, AreSpotted}
-use Rattle.stats_report.specs.declared.standing.Spot.{Spot}
-use Rattle.stats_report.specs.declared.standing.Counted.{Counted}
+use Rattle.stats_report.specs.Spots.{Spots, by_spot, spot_at, spot_of, rows_in, AreSpotted, Spot, Counted}
 
 -- rows stand by their spots
 
@@ -37,7 +35,7 @@ rows_put v (e ∷ es) at =
     rows_by (by_spot (spot_of v.row) e.0) (spot_of v.row) v e es (insert_entry by_spot es (spot_of v.row) v) (rows_put v es at.1)
     ∙ ap (λ (o : Ordering). placed o v.row e.1.row (rows_in es) (put v.row (rows_in es))) (ap (by_spot (spot_of v.row)) at.0)
 
-spot_one : (r s : Row) → by_key r s ≡ Equal → spot_of s ≡ spot_of r
+pub spot_one : (r s : Row) → by_key r s ≡ Equal → spot_of s ≡ spot_of r
 spot_one r s h =
     let p = key_exact r s h in
     let zone_is = p.0 in
@@ -77,7 +75,7 @@ zone_by Equal z y h = let e = by_place_ties z y h in sym (subst (λ (x : Place).
 zone_by Less z y h = sym (false_from_ne_true _ (λ g. let e = zone_one y z g in let f : Less ≡ Equal = sym h ∙ ap (by_place z) e ∙ tied_itself by_place_total z in cc))
 zone_by Greater z y h = sym (false_from_ne_true _ (λ g. let e = zone_one y z g in let f : Greater ≡ Equal = sym h ∙ ap (by_place z) e ∙ tied_itself by_place_total z in cc))
 
-event_by : (o : Ordering) (e d : Event) → by_event e d ≡ o → is_eq o ≡ same_event d e
+pub event_by : (o : Ordering) (e d : Event) → by_event e d ≡ o → is_eq o ≡ same_event d e
 event_by Equal e d h = let i = by_event_ties e d h in sym (subst (λ (x : Event). same_event x e ≡ true) i (event_itself e))
 event_by Less e d h = sym (false_from_ne_true _ (λ g. let i = event_one d e g in let f : Less ≡ Equal = sym h ∙ ap (by_event e) i ∙ tied_itself by_event_total e in cc))
 event_by Greater e d h = sym (false_from_ne_true _ (λ g. let i = event_one d e g in let f : Greater ≡ Equal = sym h ∙ ap (by_event e) i ∙ tied_itself by_event_total e in cc))

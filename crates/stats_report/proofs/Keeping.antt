@@ -1,32 +1,59 @@
 -- A tally keeps what its products come to.
-use Rattle.std.proofs.Common.{◌≡◌, ◌∙◌, ℕ, ◌+◌, List, [], ◌∷◌, ◌++◌, fold, Option, Result, Ok, Err, refl, ap, sym, subst, arith, append_assoc, append-nil, length-append}
+use Rattle.std.proofs.Common.{◌≡◌, ◌∙◌, ℕ, ◌+◌, ◌≤◌, List, [], ◌∷◌, ◌++◌, fold, Ordering, Option, Result, Ok, Err, refl, ap, sym, subst, arith, append_assoc, append-nil}
+use Rattle.std.specs.List.Sorted.{IsStrictlySortedBy}
 use Rattle.std.specs.Prelude.{max}
 use Rattle.std.proofs.lemmas.Grind.{fold-append}
-use Rattle.hazard_types.specs.Places.{Place}
-use Rattle.hazard_types.specs.declared.hazard.Hazard.{Hazard}
+use Rattle.hazard_types.specs.Orders.{by_hazard, by_event}
+use Rattle.hazard_types.specs.Places.{by_place}
 use Rattle.hazard_types.specs.declared.line.Line.{Line}
 use Rattle.hazard_types.specs.declared.line.Row.{Row}
 use Rattle.event_life.specs.declared.life.Breach.{Breach}
 use Rattle.event_life.specs.Lives.{judged_product}
 use Rattle.event_life.specs.Products.{Product, judged, lawful_of, put_all, lines_of, rows_after, rows_with, rows_of}
-use Rattle.product_decoder.specs.Openings.{openings_in, lawful_lines, openings_with, openings_from, openings_of}
+use Rattle.product_decoder.specs.Openings.{lawful_lines, openings_with, openings_from, openings_of}
 use Rattle.product_decoder.specs.ReaderModel.{product_of}
 use Rattle.product_decoder.specs.declared.types.Decoded.{Decoded}
 use Rattle.product_decoder.specs.declared.types.Opening.{Opening}
 use Rattle.product_frame.specs.declared.frame.FrameFault.{FrameFault}
 use Rattle.archive_report.specs.declared.words.Asked.{Asked}
-use Rattle.stats_report.specs.Adding.{with_opening, with_lead, with_zone, CountsMore, IsOpened}
 use Rattle.stats_report.specs.Minutes.{greatest}
-use Rattle.stats_report.specs.Spots.{Spots, IsCounted, changed}
+use Rattle.stats_report.specs.Spells.{no_sums, Kept, kept_of, moment_of}
+use Rattle.stats_report.specs.Spots.{Spots, rows_in, IsCounted}
+use Rattle.stats_report.specs.Summed.{Test, in_zone, of_hazard, of_any, AreSums, IsSummed, AreKeysOf, event_of, zone_of, hazard_of, AreKeyed, after_line, TakesLines}
 use Rattle.stats_report.specs.Tallies.{IsKept, Counts, TakesOne, TakesReading}
-use Rattle.stats_report.specs.declared.opened.Opened.{Opened}
 use Rattle.stats_report.proofs.Governing.{greatest-push}
-use Rattle.stats_report.proofs.Moving.{counted_next}
+use Rattle.stats_report.proofs.Moving.{counted_next, lawful_fit}
 use Rattle.stats_report.specs.declared.tally.Tally.{Tally}
 
 -- nothing is counted of no products
-pub none_counted : (stamp : ℕ) → IsCounted stamp [] []
+none_counted : (stamp : ℕ) → IsCounted stamp [] []
 none_counted stamp = record { rows = refl; spotted = tt; exact = tt }
+
+no_sums_of : (test : Test) → AreSums [] [] test no_sums
+no_sums_of test = record { minutes = refl; openings = refl; lead = refl }
+
+no_keys : {K : Type 0} (R : K → K → Ordering) (key : Row → K) → AreKeysOf R key [] []
+unfolding IsStrictlySortedBy
+no_keys R key = record { there = λ q. refl; order = tt }
+
+abbrev nothing : Kept
+nothing = record { spells = []; zones = []; hazards = []; all = no_sums }
+
+-- nothing is kept of no products
+pub none_kept : (stamp : ℕ) (tally : Tally) → tally.rows ≡ [] → tally.latest ≡ 0 → kept_of tally.standing ≡ nothing → IsKept stamp [] tally
+none_kept stamp tally rows latest standing = record {
+  rows = rows;
+  latest = latest;
+  es = [];
+  counted = none_counted stamp;
+  summed = subst (λ (k : Kept). IsSummed stamp 0 [] [] k) (sym standing) (record {
+    spells = λ e z from lt. refl;
+    zones = λ z. no_sums_of (in_zone z);
+    hazards = λ h. no_sums_of (of_hazard h);
+    all = no_sums_of of_any;
+  });
+  keyed = subst (λ (k : Kept). AreKeyed [] k) (sym standing) (record { events = no_keys by_event event_of; zones = no_keys by_place zone_of; hazards = no_keys by_hazard hazard_of });
+}
 
 openings_push : (rows : List Row) (products : List Product) (p : Product) → openings_from rows (products ++ p ∷ []) ≡ openings_from rows products ++ openings_with (fold rows_with rows products) p
 openings_push rows [] p = append-nil (openings_with rows p)
@@ -38,14 +65,6 @@ openings_push rows (q ∷ products) p =
 openings_next : (products : List Product) (p : Product) → openings_of (products ++ p ∷ []) ≡ openings_of products ++ openings_with (rows_of products) p
 openings_next products p = openings_push [] products p
 
-opened_more : (openings more all : List Opening) (old new : Opened) → all ≡ openings ++ more → IsOpened openings old → CountsMore more old new → IsOpened all new
-opened_more openings more all old new all_are is counts = subst (λ (os : List Opening). IsOpened os new) (sym all_are) (record {
-  count = omega (arith, is.count, counts.count, length-append openings more);
-  hazards = counts.hazards ∙ ap (λ (es : List (Hazard × ℕ)). fold with_opening es more) is.hazards ∙ sym (fold-append with_opening [] openings more);
-  leads = counts.leads ∙ ap (λ (es : List (Hazard × ℕ)). fold with_lead es more) is.leads ∙ sym (fold-append with_lead [] openings more);
-  zones = counts.zones ∙ ap (λ (es : List (Place × ℕ)). fold with_zone es more) is.zones ∙ sym (fold-append with_zone [] openings more);
-})
-
 -- the rows that the lawful lines of a product leave are those after it
 rows_left : (rows : List Row) (p : Product) (lines : List Line) (judges : List (Line × Option Breach)) → lines ≡ lines_of rows p.issue p.said → judges ≡ judged rows p.issue lines
     → put_all rows p.issue (lawful_of judges) rows ≡ rows_with rows p
@@ -54,48 +73,73 @@ rows_left rows p lines judges lines_are judges_are = ap (λ (js : List (Line × 
 
 -- what was done with the judged lines of a product is what the product does
 pub takes_told : (stamp : ℕ) (p : Product) (old new : Tally) (lines : List Line) (judges : List (Line × Option Breach)) → lines ≡ lines_of old.rows p.issue p.said → judges ≡ judged old.rows p.issue lines
-    → new.rows ≡ put_all old.rows p.issue (lawful_of judges) old.rows → new.latest ≡ max old.latest p.issue → new.standing.entries ≡ fold (changed stamp new.latest p.issue) old.standing.entries (lawful_of judges)
-    → CountsMore (openings_in p.issue (lawful_of judges)) old.opened new.opened → (new.count ≡ old.count) × (new.faults ≡ old.faults) → TakesOne stamp p old new
-takes_told stamp p old new lines judges lines_are judges_are rows latest standing opened same =
+    → new.rows ≡ put_all old.rows p.issue (lawful_of judges) old.rows → new.latest ≡ max old.latest p.issue → TakesLines (moment_of stamp new.latest p.issue) judges (kept_of old.standing) (kept_of new.standing)
+    → (new.count ≡ old.count) × (new.faults ≡ old.faults) → TakesOne stamp p old new
+takes_told stamp p old new lines judges lines_are judges_are rows latest standing same =
     let all : judges ≡ judged_product old.rows p = judges_are ∙ ap (judged old.rows p.issue) lines_are in
     record {
       rows = rows ∙ rows_left old.rows p lines judges lines_are judges_are;
       latest = latest;
-      standing = standing ∙ ap (λ (js : List (Line × Option Breach)). fold (changed stamp new.latest p.issue) old.standing.entries (lawful_of js)) all;
-      opened = subst (λ (js : List (Line × Option Breach)). CountsMore (openings_in p.issue (lawful_of js)) old.opened new.opened) all opened;
+      standing = subst (λ (js : List (Line × Option Breach)). TakesLines (moment_of stamp new.latest p.issue) js (kept_of old.standing) (kept_of new.standing)) all standing;
       same = same;
     }
+
+-- what is summed up from one minute on is from a later one
+later_summed : (stamp latest from : ℕ) (es : Spots) (openings : List Opening) (k : Kept) → latest ≤ from → IsSummed stamp latest es openings k → IsSummed stamp from es openings k
+later_summed stamp latest from es openings k lt is = record {
+  spells = λ e z later le. is.spells e z later (both later le);
+  zones = is.zones;
+  hazards = is.hazards;
+  all = is.all;
+}
+  where
+    both : (later : ℕ) → from ≤ later → latest ≤ later
+    both later le = omega (arith, lt, le)
 
 -- behind whatever products were counted, one more is
 pub kept_next : (stamp : ℕ) (p : Product) (old new : Tally) → TakesOne stamp p old new → (products : List Product) → IsKept stamp products old → IsKept stamp (products ++ p ∷ []) new
 kept_next stamp p old new takes products kept =
     let from = new.latest in
+    let m = moment_of stamp from p.issue in
+    let all : List Product = products ++ p ∷ [] in
+    let es : Spots = kept.es in
+    let k : Kept = kept_of new.standing in
     let is : from ≡ max (greatest products) p.issue = takes.latest ∙ ap (λ (n : ℕ). max n p.issue) kept.latest in
-    let lines : lawful_lines old.rows p ≡ lawful_lines (rows_of products) p = ap (λ (rows : List Row). lawful_lines rows p) kept.rows in
-    let new_is = takes.standing ∙ ap (fold (changed stamp from p.issue) old.standing.entries) lines in
-    let openings = subst (λ (rows : List Row). CountsMore (openings_with rows p) old.opened new.opened) kept.rows takes.opened in
+    let latest : from ≡ greatest all = is ∙ sym (greatest-push products p) in
+    let judges : judged_product old.rows p ≡ judged_product (rows_of products) p = ap (λ (rows : List Row). judged_product rows p) kept.rows in
+    let lines : List Line = lawful_lines (rows_of products) p in
+    let before : IsSummed stamp from es (openings_of products) (kept_of old.standing) = later_summed stamp (greatest products) from es (openings_of products) (kept_of old.standing) (omega (arith, is)) kept.summed in
+    let keyed : AreKeyed (rows_in es) (kept_of old.standing) = subst (λ (rows : List Row). AreKeyed rows (kept_of old.standing)) (sym kept.counted.rows) kept.keyed in
+    let takes_all = subst (λ (js : List (Line × Option Breach)). TakesLines m js (kept_of old.standing) k) judges takes.standing in
+    let after = takes_all (omega (arith, is)) es (openings_of products) (before, keyed) (lawful_fit stamp from products p is es kept.counted) in
+    let counted : IsCounted stamp all (fold (after_line m) es lines) = counted_next stamp from products p is es kept.counted in
     record {
       rows = takes.rows ∙ ap (λ (rows : List Row). rows_with rows p) kept.rows ∙ sym (fold-append rows_with [] products (p ∷ []));
-      latest = is ∙ sym (greatest-push products p);
-      counted = subst (λ (es : Spots). IsCounted stamp (products ++ p ∷ []) es) (sym new_is) (counted_next stamp from products p is old.standing.entries kept.counted);
-      opened = opened_more (openings_of products) (openings_with (rows_of products) p) (openings_of (products ++ p ∷ [])) old.opened new.opened (openings_next products p) kept.opened openings;
+      latest = latest;
+      es = fold (after_line m) es lines;
+      counted = counted;
+      summed = subst (λ (n : ℕ). IsSummed stamp n (fold (after_line m) es lines) (openings_of all) k) latest
+          (subst (λ (os : List Opening). IsSummed stamp from (fold (after_line m) es lines) os k) (sym (openings_next products p)) after.0);
+      keyed = subst (λ (rows : List Row). AreKeyed rows k) counted.rows after.1;
     }
 
--- what is kept is of the rows and of what was counted alone
-kept_alike : (stamp : ℕ) (products : List Product) (old new : Tally) → new.rows ≡ old.rows → new.latest ≡ old.latest → new.standing.entries ≡ old.standing.entries → new.opened ≡ old.opened → IsKept stamp products old → IsKept stamp products new
-kept_alike stamp products old new rows latest standing opened kept = record {
+-- what is kept is of the rows and of what was summed up alone
+kept_alike : (stamp : ℕ) (products : List Product) (old new : Tally) → new.rows ≡ old.rows → new.latest ≡ old.latest → kept_of new.standing ≡ kept_of old.standing → IsKept stamp products old → IsKept stamp products new
+kept_alike stamp products old new rows latest standing kept = record {
   rows = rows ∙ kept.rows;
   latest = latest ∙ kept.latest;
-  counted = subst (λ (es : Spots). IsCounted stamp products es) (sym standing) kept.counted;
-  opened = subst (λ (o : Opened). IsOpened (openings_of products) o) (sym opened) kept.opened;
+  es = kept.es;
+  counted = kept.counted;
+  summed = subst (λ (k : Kept). IsSummed stamp (greatest products) kept.es (openings_of products) k) (sym standing) kept.summed;
+  keyed = subst (λ (k : Kept). AreKeyed (rows_of products) k) (sym standing) kept.keyed;
 }
 
 -- a tally with one product more in its count
 abbrev pub begun : Tally → Tally
-begun old = record { rows = old.rows; latest = old.latest; standing = old.standing; opened = old.opened; count = old.count + 1; faults = old.faults }
+begun old = record { rows = old.rows; latest = old.latest; standing = old.standing; count = old.count + 1; faults = old.faults }
 
 kept_begun : (stamp : ℕ) (products : List Product) (old : Tally) → IsKept stamp products old → IsKept stamp products (begun old)
-kept_begun stamp products old kept = kept_alike stamp products old (begun old) refl refl refl refl kept
+kept_begun stamp products old kept = kept_alike stamp products old (begun old) refl refl refl kept
 
 -- what was read of a product was counted
 pub counts_told : (asked : Asked) (r : Result Decoded FrameFault) (old new : Tally) → TakesReading asked r (begun old) new → Counts asked r old new
@@ -109,7 +153,7 @@ counts_told asked (Ok d) old new takes =
     }
 counts_told asked (Err f) old new takes = record {
   kept = λ products kept. subst (λ (ps : List Product). IsKept asked.minute ps new) (sym (append-nil products))
-      (kept_alike asked.minute products (begun old) new takes.rows takes.latest takes.standing takes.opened (kept_begun asked.minute products old kept));
+      (kept_alike asked.minute products (begun old) new takes.rows takes.latest takes.standing (kept_begun asked.minute products old kept));
   count = takes.count;
   faults = takes.faults;
 }

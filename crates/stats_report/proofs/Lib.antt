@@ -1,9 +1,11 @@
 pub mod Counting
 pub mod Governing
 pub mod Found
-pub mod Own
 pub mod Moving
 pub mod Amounts
+pub mod Summing
+pub mod Turning
+pub mod Running
 pub mod Folding
 pub mod Keeping
 pub mod Taking

@@ -1,24 +1,33 @@
 -- The lawful lines of a product change what is counted to what is to be counted after it.
-use Rattle.std.proofs.Common.{◌≡◌, ◌∙◌, ◌≤◌, ℕ, ◌+◌, Bool, true, false, cond, List, [], ◌∷◌, ◌++◌, length, fold, Option, Some, None, refl, ap, sym, subst, arith, append_assoc, append-nil, length-append}
+use Rattle.std.proofs.Common.{◌≡◌, ◌∙◌, ◌≤◌, ℕ, ◌+◌, ◌&&◌, not, Bool, true, false, cond, List, [], ◌∷◌, ◌++◌, length, fold, Option, Some, None, refl, ap, sym, subst, arith, append_assoc, append-nil, length-append}
 use Rattle.std.specs.BTreeMap.{insert_entry, is_at}
-use Rattle.std.specs.List.{filter}
+use Rattle.std.specs.List.{AllByRecursion, filter}
 use Rattle.std.specs.List.Sorted.{IsStrictlySortedBy}
-use Rattle.std.specs.Prelude.{nat_le, max, IfSome}
+use Rattle.std.specs.Option.{is_none}
+use Rattle.std.specs.Prelude.{nat_le, max, option_map, IfSome}
 use Rattle.std.proofs.lemmas.Grind.{fold-append}
 use Rattle.hazard_types.specs.Places.{Place}
+use Rattle.hazard_types.specs.declared.codes.Action.{Action}
+use Rattle.hazard_types.specs.declared.codes.Action.TheVariants.{New, Con, Exa, Ext, Exb, Upg, Can, Exp, Cor, Rou}
 use Rattle.hazard_types.specs.declared.hazard.Event.{Event}
 use Rattle.hazard_types.specs.declared.line.Line.{Line}
 use Rattle.hazard_types.specs.declared.line.Row.{Row}
 use Rattle.hazard_types.proofs.Equality.{zone_itself, event_itself}
 use Rattle.event_life.specs.Firsts.{is_lawful, first_line, row_by_first}
-use Rattle.event_life.specs.Products.{Product, by_key, put, row_at, row_after, is_routine, speaks_of, judged, lawful_of, put_all, lines_of, rows_after, rows_with, rows_of}
+use Rattle.event_life.specs.Lives.{ends}
+use Rattle.event_life.specs.Table.{first_of, on_nothing, breach_of_line}
+use Rattle.event_life.specs.declared.life.Around.{Around}
+use Rattle.event_life.specs.declared.life.Breach.{Breach}
+use Rattle.event_life.specs.declared.life.Life.{Life}
+use Rattle.event_life.specs.Products.{Product, by_key, put, row_at, life_at, life_of, row_after, is_routine, is_second, around_of, breach_in, speaks_of, judged_from, judged, lawful_of, put_all, lines_of, rows_after, rows_with, rows_of}
 use Rattle.event_life.proofs.Members.{find_in}
-use Rattle.event_life.proofs.Puts.{at_key, at_key-parts, rows_after-sorted}
-use Rattle.event_life.proofs.Spoken.{AreTouching, lawful_of-touches, lawful_first, spoken, row_by_last, row_at-put_all, row_at-rows_after}
+use Rattle.event_life.proofs.Puts.{at_key, at_key-parts, rows_after-sorted, put_all-sorted}
+use Rattle.event_life.proofs.Spoken.{breach_in-second, breach_in-first, AreTouching, lawful_of-touches, lawful_first, spoken, row_by_last, row_at-put_all, row_at-rows_after}
 use Rattle.stats_report.specs.Minutes.{greatest, governing, has_effect, in_effect, minutes_of, minutes_left}
-use Rattle.stats_report.specs.Spots.{Spots, by_spot, spot_of, spot_said, rows_in, AreSpotted, AreExact, IsCounted, counted_at, row_counted, minutes_counted, row_left, counted_after, changed}
-use Rattle.stats_report.specs.declared.standing.Spot.{Spot}
-use Rattle.stats_report.specs.declared.standing.Counted.{Counted}
+use Rattle.stats_report.specs.Spots.{Spots, by_spot, spot_of, spot_said, rows_in, AreSpotted, AreExact, IsCounted, counted_at, row_counted, minutes_counted, row_left, counted_after, changed, Spot, Counted}
+use Rattle.stats_report.specs.Spells.{moment_of}
+use Rattle.stats_report.specs.Summed.{IsFit, AreFit}
+use Rattle.stats_report.specs.declared.standing.Moment.{Moment}
 use Rattle.stats_report.proofs.Counting.{count_none}
 use Rattle.stats_report.proofs.Found.{rows_put, spotted_put, Each, each_put, row_found, OfFound, of_found, Own, own_rows}
 use Rattle.stats_report.proofs.Governing.{minutes_step, left_within}
@@ -258,3 +267,81 @@ module _ (stamp from : ℕ) (products : List Product) (p : Product) (is : from �
           spotted = moved.spotted;
           exact = exact_by (rows_of products') (fold (changed stamp from p.issue) es all_lawful) refl moved.moved (subst (Own (rows_of products')) (sym rows_are) (own_rows (rows_of products') up));
         }
+
+  -- so each lawful line fits what is counted before it
+
+  abbrev m : Moment
+  m = moment_of stamp from p.issue
+
+  going_by : (a : Action) (line : Line) (around : Around) → first_of (on_nothing a line p.issue around) ≡ None → ends a ≡ false
+  going_by New line around h = refl
+  going_by Con line around h = cc
+  going_by Exa line around h = refl
+  going_by Ext line around h = cc
+  going_by Exb line around h = refl
+  going_by Upg line around h = cc
+  going_by Can line around h = cc
+  going_by Exp line around h = cc
+  going_by Cor line around h = cc
+  going_by Rou line around h = refl
+
+  -- a lawful line has no breach on the life of its row
+  abbrev IsLawful : Line → Type 0
+  IsLawful line = (around : Around) × (breach_of_line (life_at before line) line p.issue around ≡ None)
+
+  breach_none : (b : Option Breach) → is_none b ≡ true → b ≡ None
+  breach_none None h = refl
+  breach_none (Some b) h = cc
+
+  lawful_by : (earlier : List Line) (line : Line) (r s : Bool) → is_routine line.action ≡ r → is_second earlier line ≡ s → (not r && is_none (breach_in before p.issue spoken_lines earlier line)) ≡ true → IsLawful line
+  lawful_by earlier line true s h g t = cc
+  lawful_by earlier line false true h g t = let e = breach_none (breach_in before p.issue spoken_lines earlier line) t in let f = sym (breach_in-second before p.issue spoken_lines earlier line h g) ∙ e in cc
+  lawful_by earlier line false false h g t =
+      let e = breach_none (breach_in before p.issue spoken_lines earlier line) t in
+      (around_of before p.issue spoken_lines line, sym (breach_in-first before p.issue spoken_lines earlier line h g) ∙ e)
+
+  lawful_test : (b : Bool) (earlier : List Line) (line : Line) (more : List Line) → (not (is_routine line.action) && is_none (breach_in before p.issue spoken_lines earlier line)) ≡ b → AllByRecursion IsLawful more
+      → AllByRecursion IsLawful (cond b (line ∷ more) more)
+  lawful_test true earlier line more h later = (lawful_by earlier line (is_routine line.action) (is_second earlier line) refl refl h, later)
+  lawful_test false earlier line more h later = later
+
+  all_lawful_from : (earlier lines : List Line) → AllByRecursion IsLawful (lawful_of (judged_from before p.issue spoken_lines earlier lines))
+  all_lawful_from earlier [] = tt
+  all_lawful_from earlier (line ∷ lines) =
+      lawful_test (not (is_routine line.action) && is_none (breach_in before p.issue spoken_lines earlier line)) earlier line (lawful_of (judged_from before p.issue spoken_lines (earlier ++ line ∷ []) lines)) refl
+      (all_lawful_from (earlier ++ line ∷ []) lines)
+
+  all_of_next : (P : Line → Type 0) (done : List Line) (line : Line) (lines : List Line) → AllByRecursion P (done ++ line ∷ lines) → P line
+  all_of_next P [] line lines all = all.0
+  all_of_next P (d ∷ done) line lines all = all_of_next P done line lines all.1
+
+  ends_none : (line : Line) (o : Option Life) (around : Around) → o ≡ None → breach_of_line o line p.issue around ≡ None → ends line.action ≡ false
+  unfolding breach_of_line
+  ends_none line None around h g = going_by line.action line around g
+  ends_none line (Some life) around h g = cc
+
+  fits : (done : List Line) (line : Line) (lines : List Line) (es : Spots) → all_lawful ≡ done ++ line ∷ lines → Moved (put_all before p.issue done before) es → IsFit m es line
+  fits done line lines es parts moved =
+      let found : Option Counted = counted_at es line in
+      let row : row_counted found ≡ row_at before line.event line.zone = row_found es moved.spotted line.event line.zone ∙ ap (λ (rows : List Row). row_at rows line.event line.zone) moved.rows ∙ unmoved before p.issue spoken_lines done line lines parts in
+      let own : IsOwn line (row_counted found) = subst (IsOwn line) (sym row) (own_by line (row_at before line.event line.zone) refl) in
+      let minutes = found_minutes line found row own (of_found IsMoved (is_at (by_spot (spot_said line))) es moved.moved) in
+      let left = ap (minutes_left stamp from) row in
+      let within = left_within products p line.event line.zone from is stamp in
+      let lawful_line : IsLawful line = all_of_next IsLawful done line lines (subst (AllByRecursion IsLawful) parts (all_lawful_from [] spoken_lines)) in
+      record {
+        spotted = moved.spotted;
+        order = subst (IsStrictlySortedBy by_key) (sym moved.rows) (put_all-sorted before p.issue done before (rows_sorted products));
+        within = omega (arith, minutes, left, within);
+        going = λ none. ends_none line (life_at before line) lawful_line.0 (ap (option_map life_of) (sym row ∙ none)) lawful_line.1;
+      }
+
+  all_fit : (done lines : List Line) (es : Spots) → all_lawful ≡ done ++ lines → Moved (put_all before p.issue done before) es → AreFit m es lines
+  all_fit done [] es parts moved = tt
+  all_fit done (line ∷ lines) es parts moved = (
+    fits done line lines es parts moved,
+    all_fit (done ++ line ∷ []) lines (changed stamp from p.issue es line) (parts ∙ sym (append_assoc done (line ∷ []) lines)) (step done line lines es parts moved),
+  )
+
+  pub lawful_fit : (es : Spots) → IsCounted stamp products es → AreFit m es all_lawful
+  lawful_fit es counted = all_fit [] all_lawful es refl (first es counted)

@@ -1,5 +1,5 @@
 -- Sums over lists, and sums kept by a key.
-use Rattle.std.specs.Prelude.{◌≡◌, ℕ, ◌+◌, ◌-◌, Bool, List, [], ◌∷◌, fold, length, if◌then◌else◌, unwrap_or}
+use Rattle.std.specs.Prelude.{ℕ, ◌+◌, ◌-◌, Bool, List, [], ◌∷◌, if◌then◌else◌, unwrap_or}
 use Rattle.std.specs.BTreeMap.{insert_entry, is_at}
 use Rattle.std.specs.BTreeSet.{insert_key}
 use Rattle.std.specs.Map.{lookup}
@@ -9,9 +9,7 @@ use Rattle.hazard_types.specs.Places.{Place, by_place}
 use Rattle.hazard_types.specs.declared.hazard.Event.{Event}
 use Rattle.hazard_types.specs.declared.hazard.Hazard.{Hazard}
 use Rattle.product_decoder.specs.declared.types.Opening.{Opening}
-use Rattle.stats_report.specs.declared.opened.Opened.{Opened}
-use Rattle.stats_report.specs.declared.standing.Counted.{Counted}
-use Rattle.stats_report.specs.declared.totals.Totals.{Totals}
+use Rattle.stats_report.specs.Spots.{Counted}
 
 -- the sum of the amounts of those that pass
 abbrev pub sum_where : {A : Type 0} → (A → Bool) → (A → ℕ) → List A → ℕ
@@ -36,29 +34,6 @@ with_amount cmp es k n = insert_entry cmp es k (sum_at cmp es k + n)
 abbrev pub lead_of : Opening → ℕ
 lead_of o = o.period.begin - o.issue
 
-abbrev pub with_opening : List (Hazard × ℕ) → Opening → List (Hazard × ℕ)
-with_opening es o = with_amount by_hazard es o.event.hazard 1
-
-abbrev pub with_lead : List (Hazard × ℕ) → Opening → List (Hazard × ℕ)
-with_lead es o = with_amount by_hazard es o.event.hazard (lead_of o)
-
-abbrev pub with_zone : List (Place × ℕ) → Opening → List (Place × ℕ)
-with_zone es o = with_amount by_place es o.zone 1
-
--- these openings more were counted
-pub record CountsMore (openings : List Opening) (old new : Opened) : Type 0 where
-  pub count : new.count ≡ old.count + length openings
-  pub hazards : new.hazards.entries ≡ fold with_opening old.hazards.entries openings
-  pub leads : new.leads.entries ≡ fold with_lead old.leads.entries openings
-  pub zones : new.zones.entries ≡ fold with_zone old.zones.entries openings
-
--- these openings were counted
-pub record IsOpened (openings : List Opening) (opened : Opened) : Type 0 where
-  pub count : opened.count ≡ length openings
-  pub hazards : opened.hazards.entries ≡ fold with_opening [] openings
-  pub leads : opened.leads.entries ≡ fold with_lead [] openings
-  pub zones : opened.zones.entries ≡ fold with_zone [] openings
-
 -- Rows.
 
 abbrev pub hazards_with : List Hazard → Counted → List Hazard
@@ -72,19 +47,3 @@ events_with es c = insert_key by_event es c.row.event
 
 abbrev pub with_event : List (Hazard × ℕ) → Event → List (Hazard × ℕ)
 with_event es e = with_amount by_hazard es e.hazard 1
-
-abbrev pub with_row : List (Hazard × ℕ) → Counted → List (Hazard × ℕ)
-with_row es c = with_amount by_hazard es c.row.event.hazard c.minutes
-
-abbrev pub with_row_zone : List (Place × ℕ) → Counted → List (Place × ℕ)
-with_row_zone es c = with_amount by_place es c.row.zone c.minutes
-
-abbrev pub minutes_with : ℕ → Counted → ℕ
-minutes_with n c = n + c.minutes
-
--- what rows come to
-pub record IsTotal (rows : List Counted) (totals : Totals) : Type 0 where
-  pub events : totals.events.entries ≡ fold with_event [] (fold events_with [] rows)
-  pub hazard_minutes : totals.hazard_minutes.entries ≡ fold with_row [] rows
-  pub zone_minutes : totals.zone_minutes.entries ≡ fold with_row_zone [] rows
-  pub minutes : totals.minutes ≡ fold minutes_with 0 rows

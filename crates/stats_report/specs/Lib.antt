@@ -1,6 +1,8 @@
 pub mod Minutes
 pub mod Spots
 pub mod Adding
+pub mod Spells
+pub mod Summed
 pub mod Report
 pub mod Told
 pub mod Tallies

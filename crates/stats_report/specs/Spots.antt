@@ -13,8 +13,16 @@ use Rattle.hazard_types.specs.declared.line.Row.{Row}
 use Rattle.event_life.specs.Products.{Product, life_of, row_of, rows_of}
 use Rattle.event_life.specs.Table.{life_after}
 use Rattle.stats_report.specs.Minutes.{minutes_of, minutes_left}
-use Rattle.stats_report.specs.declared.standing.Spot.{Spot}
-use Rattle.stats_report.specs.declared.standing.Counted.{Counted}
+
+-- an event in a zone
+pub record Spot : Type 0 where
+  pub zone : Place
+  pub event : Event
+
+-- a row, and its minutes in effect before the stamp
+pub record Counted : Type 0 where
+  pub row : Row
+  pub minutes : ℕ
 
 -- by zone, then event
 abbrev pub by_spot : Spot → Spot → Ordering
@@ -61,10 +69,6 @@ row_counted before = option_map (λ (c : Counted). c.row) before
 abbrev pub minutes_counted : Option Counted → ℕ
 minutes_counted None = 0
 minutes_counted (Some c) = c.minutes
-
--- a row of a line's event in its zone that stands as another does
-abbrev pub own_row : Line → Row → Row
-own_row line r = record { event = line.event; zone = line.zone; period = r.period; flood = r.flood; ended = r.ended }
 
 -- the row that a line leaves
 unfoldable pub row_left : Option Row → Line → ℕ → Row

@@ -1,30 +1,33 @@
 -- What a tally keeps of products, of which it holds none.
-use Rattle.std.specs.Prelude.{◌≡◌, ℕ, ◌+◌, List, ◌++◌, fold, length, max, Result, Ok, Err}
+use Rattle.std.specs.Prelude.{◌≡◌, ℕ, ◌+◌, List, ◌++◌, length, max, Result, Ok, Err}
 use Rattle.event_life.specs.Products.{Product, rows_with, rows_of}
-use Rattle.product_decoder.specs.Openings.{lawful_lines, openings_with, openings_of}
+use Rattle.event_life.specs.Lives.{judged_product}
+use Rattle.product_decoder.specs.Openings.{openings_of}
 use Rattle.product_decoder.specs.ReaderModel.{product_of}
 use Rattle.product_decoder.specs.declared.types.Decoded.{Decoded}
 use Rattle.product_frame.specs.declared.frame.FrameFault.{FrameFault}
 use Rattle.archive_report.specs.declared.words.Asked.{Asked}
 use Rattle.archive_report.specs.Report.{taken_in, products_of, fault_in, faults_in}
-use Rattle.stats_report.specs.Adding.{CountsMore, IsOpened}
 use Rattle.stats_report.specs.Minutes.{greatest}
-use Rattle.stats_report.specs.Spots.{IsCounted, changed}
+use Rattle.stats_report.specs.Spells.{kept_of, moment_of}
+use Rattle.stats_report.specs.Spots.{Spots, IsCounted}
+use Rattle.stats_report.specs.Summed.{IsSummed, AreKeyed, TakesLines}
 use Rattle.stats_report.specs.declared.tally.Tally.{Tally}
 
--- the rows of the products, with their minutes before the stamp, and the openings are counted
+-- the rows of the products, with their minutes before the stamp, and the openings are summed up
 pub record IsKept (stamp : ℕ) (products : List Product) (tally : Tally) : Type 0 where
   pub rows : tally.rows ≡ rows_of products
   pub latest : tally.latest ≡ greatest products
-  pub counted : IsCounted stamp products tally.standing.entries
-  pub opened : IsOpened (openings_of products) tally.opened
+  pub es : Spots
+  pub counted : IsCounted stamp products es
+  pub summed : IsSummed stamp (greatest products) es (openings_of products) (kept_of tally.standing)
+  pub keyed : AreKeyed (rows_of products) (kept_of tally.standing)
 
--- A product was taken: what its lawful lines change was changed, and what they open counted.
+-- A product was taken: its judged lines were.
 pub record TakesOne (stamp : ℕ) (p : Product) (old new : Tally) : Type 0 where
   pub rows : new.rows ≡ rows_with old.rows p
   pub latest : new.latest ≡ max old.latest p.issue
-  pub standing : new.standing.entries ≡ fold (changed stamp new.latest p.issue) old.standing.entries (lawful_lines old.rows p)
-  pub opened : CountsMore (openings_with old.rows p) old.opened new.opened
+  pub standing : TakesLines (moment_of stamp new.latest p.issue) (judged_product old.rows p) (kept_of old.standing) (kept_of new.standing)
   pub same : (new.count ≡ old.count) × (new.faults ≡ old.faults)
 
 -- so was one without a fault, as the reader of the office and class sees it
@@ -35,8 +38,7 @@ TakesProduct asked d old new = TakesOne asked.minute (product_of asked.office as
 pub record CountsFault (old new : Tally) : Type 0 where
   pub rows : new.rows ≡ old.rows
   pub latest : new.latest ≡ old.latest
-  pub standing : new.standing.entries ≡ old.standing.entries
-  pub opened : new.opened ≡ old.opened
+  pub standing : kept_of new.standing ≡ kept_of old.standing
   pub count : new.count ≡ old.count
   pub faults : new.faults ≡ old.faults + 1
 

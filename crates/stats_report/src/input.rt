@@ -10,11 +10,10 @@ ghost use Rattle.stats_report.specs.Readings.{IsFresh, TakesNext, TakesEach, Rea
 use crate::tally::{Reading, Tally};
 use archive_report::Asked;
 use byte_streams::Source;
-use desk_traits::Failed;
 use hazard_types::{Oom, Or};
 use product_decoder::Feed;
 use product_frame::read_frame;
-use program_ends::{Stop, read_front};
+use program_ends::{Pieces, Stop};
 use std::alloc::Global;
 
 /// What is read of a product: its frame, or its first fault.
@@ -57,7 +56,8 @@ fn take_each(alloc: Global, asked: &Asked, feed: &mut Feed, tally: &mut Tally) -
     Ok(())
 }
 
-/// Reads an input of at most `limit` bytes to its end, and counts its products. One byte more than the limit is read, and is no product's.
+/// Reads an input of at most `limit` bytes to its end, and counts its products. One byte more than
+/// the limit is read, and is no product's.
 pub fn count_input<S: Source>(
     alloc: Global,
     asked: &Asked,
@@ -67,30 +67,19 @@ pub fn count_input<S: Source>(
 ) -> Result<(), Stop>
     requires limit { limit ≤ most_bytes }
     requires fresh { IsFresh asked.now tally.old }
-    ensures run { ReadsTo asked.now limit (S.inflow input.old).left (S.inflow input.new).left tally.new result }
-    ensures read { IsCauseOf Stop.Read (S.inflow input.old).faults (S.inflow input.new).faults result }
+    ensures run { ReadsTo asked.now limit (S.inflow input.old).left (S.inflow input.new).left
+        tally.new result }
+    ensures read { IsCauseOf Stop.Read
+        (S.inflow input.old).faults (S.inflow input.new).faults result }
 {
     let mut feed = Feed::new(alloc);
+    let mut pieces = Pieces::up_to(limit);
     let mut buffer = [0u8; 65_536];
-    let mut total = 0usize;
-    // Each turn but the last reads a byte or more, so the turns are no more than the bytes.
-    for _turn in 0..limit + 1 {
-        let room = (limit + 1 - total).min(buffer.len());
-        let count = match read_front(input, &mut buffer, room) {
-            Ok(count) => count,
-            Err(Failed) => return Err(Stop::Read),
-        };
-        if count == 0 {
-            feed.end();
-            take_each(alloc, asked, &mut feed, tally)?;
-            return Ok(());
-        }
-        if count > limit - total {
-            return Err(Stop::TooLong);
-        }
+    while let Some(count) = pieces.next(input, &mut buffer)? {
         feed.push(alloc, &buffer[..count])?;
         take_each(alloc, asked, &mut feed, tally)?;
-        total += count;
     }
-    unreachable!()
+    feed.end();
+    take_each(alloc, asked, &mut feed, tally)?;
+    Ok(())
 }

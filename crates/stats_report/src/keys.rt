@@ -1,4 +1,4 @@
-//! Zones and hazards as keys: compared part by part, letters as bytes.
+//! Hazards as keys: compared part by part, letters as bytes.
 ghost use Rattle.std.specs.Prelude.{◌≡◌};
 ghost use Rattle.std.specs.Cmp.{partial_order_from_own_ties};
 ghost use Rattle.std.specs.Cmp.Lexicographic.{slice_cmp};
@@ -6,9 +6,8 @@ ghost use Rattle.std.specs.Cmp.Rules.{comparing};
 ghost use Rattle.std.specs.Ordering.{as_partial_cmp, nat_cmp};
 ghost use Rattle.std.proofs.Common.{rules};
 ghost use Rattle.hazard_types.specs.Orders.{by_hazard};
-ghost use Rattle.hazard_types.specs.Places.{by_place};
 
-use hazard_types::{Hazard, Zone};
+use hazard_types::Hazard;
 use std::cmp::Ordering;
 use std::marker::Model;
 
@@ -23,22 +22,6 @@ fn letter_order(a: [u8; 2], b: [u8; 2]) -> Ordering
     }
 }
 
-/// How two zones stand in order.
-fn zone_order(a: &Zone, b: &Zone) -> Ordering
-    ensures { result ≡ by_place a.now b.now }
-{
-    match letter_order(a.state(), b.state()) {
-        Ordering::Equal => {
-            if a.kind() == b.kind() {
-                a.number().cmp(&b.number())
-            } else {
-                a.kind().cmp(&b.kind())
-            }
-        }
-        order => order,
-    }
-}
-
 /// How two hazards stand in order.
 fn hazard_order(a: &Hazard, b: &Hazard) -> Ordering
     ensures { result ≡ by_hazard a.now b.now }
@@ -46,54 +29,6 @@ fn hazard_order(a: &Hazard, b: &Hazard) -> Ordering
     match letter_order(a.phen.letters(), b.phen.letters()) {
         Ordering::Equal => a.sig.letter().cmp(&b.sig.letter()),
         order => order,
-    }
-}
-
-/// A zone as a key.
-#[derive(Clone, Copy, PartialEq, Eq)]
-pub struct ZoneKey {
-    pub zone: Zone,
-}
-
-impl Model for ZoneKey {
-    ghost use Rattle.hazard_types.specs.Places.{Place};
-
-    ghost Value = { Place };
-
-    ghost view = { λ k. k.zone };
-
-    ghost inverse = { λ z. record { zone = z } };
-}
-
-impl ZoneKey {
-    pub fn of(zone: &Zone) -> Self
-        ensures { result ≡ zone.now }
-    {
-        ZoneKey { zone: *zone }
-    }
-}
-
-impl Ord for ZoneKey {
-    ghost cmp = { by_place };
-
-    ghost total = { Prim.search (comparing, rules) };
-
-    ghost matches_partial_cmp = { Prim.search (comparing, rules) };
-
-    ghost matches_eq = { Prim.search (comparing, rules) };
-
-    fn cmp(&self, other: &ZoneKey) -> Ordering {
-        zone_order(&self.zone, &other.zone)
-    }
-}
-
-impl PartialOrd for ZoneKey {
-    ghost partial_cmp = { as_partial_cmp by_place };
-
-    ghost laws = { partial_order_from_own_ties (Prim.search (comparing, rules)) (Prim.search (comparing, rules)) };
-
-    fn partial_cmp(&self, other: &ZoneKey) -> Option<Ordering> {
-        Some(self.cmp(other))
     }
 }
 
@@ -138,7 +73,8 @@ impl Ord for HazardKey {
 impl PartialOrd for HazardKey {
     ghost partial_cmp = { as_partial_cmp by_hazard };
 
-    ghost laws = { partial_order_from_own_ties (Prim.search (comparing, rules)) (Prim.search (comparing, rules)) };
+    ghost laws = { partial_order_from_own_ties (Prim.search (comparing, rules))
+        (Prim.search (comparing, rules)) };
 
     fn partial_cmp(&self, other: &HazardKey) -> Option<Ordering> {
         Some(self.cmp(other))

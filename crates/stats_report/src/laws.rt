@@ -5,19 +5,25 @@ ghost use Rattle.stats_report.specs.Adding.{sum_where};
 ghost use Rattle.stats_report.specs.Minutes.{greatest, governing};
 ghost use Rattle.stats_report.specs.Report.{hazards_in, zones_in, hazard_minutes, zone_minutes, total_minutes};
 
-/// The products that govern a minute are the first k, for the greatest k such that the greatest issue minute of the first k is at
-/// most the minute.
+/// The products that govern a minute are the first k, for the greatest k such that the greatest
+/// issue minute of the first k is at most the minute.
 #[tactic(auto, using(crate::proofs::Governing::governing_front, crate::proofs::Governing::governing_greatest))]
 pub fn the_greatest_issue_minute_governs()
-    ensures front { (m : ℕ) (products : List Product) → governing m products ≡ take (length (governing m products)) products }
-    ensures greatest { (m k : ℕ) (products : List Product) → k ≤ length products → (greatest (take k products) ≤ m) ↔ (k ≤ length (governing m products)) }
+    ensures front { (m : ℕ) (products : List Product)
+        → governing m products ≡ take (length (governing m products)) products }
+    ensures greatest { (m k : ℕ) (products : List Product) → k ≤ length products
+        → (greatest (take k products) ≤ m) ↔ (k ≤ length (governing m products)) }
 {}
 
 /// The total of minutes is the sum over the hazards, and also the sum over the zones.
 #[tactic(auto, using(crate::proofs::Sharing::hazards_shared, crate::proofs::Sharing::zones_shared))]
 pub fn minutes_add_up()
     ensures hazards { (stamp : ℕ) (products : List Product) →
-        sum_where (λ h. true) (λ h. hazard_minutes stamp h products) (hazards_in (rows_of products)) ≡ total_minutes stamp products }
+        sum_where (λ h. true)
+        (λ h. hazard_minutes stamp h products) (hazards_in (rows_of products))
+        ≡ total_minutes stamp products }
     ensures zones { (stamp : ℕ) (products : List Product) →
-        sum_where (λ z. true) (λ z. zone_minutes stamp z products) (zones_in (rows_of products)) ≡ total_minutes stamp products }
+        sum_where (λ z. true)
+        (λ z. zone_minutes stamp z products) (zones_in (rows_of products))
+        ≡ total_minutes stamp products }
 {}

@@ -1,18 +1,18 @@
-//! Statistics of an office's texts: the minutes in effect, the openings and their leads, by hazard and by zone.
+//! Statistics of an office's texts: the minutes in effect, the openings and their leads, by hazard
+//! and by zone.
 #![tactic(auto)]
 
+mod events;
 mod input;
 mod keys;
 mod laws;
 mod lines;
-mod opened;
 mod product_lines;
 mod run;
 mod standing;
 mod stats;
 mod sums;
 mod tally;
-mod totals;
 
 pub use laws::{minutes_add_up, the_greatest_issue_minute_governs};
 pub use run::{run_program, stats_run};

@@ -1,18 +1,19 @@
 //! The lines of the statistics. Each is added to a text, or, when memory runs out, its beginning.
-ghost use Rattle.std.specs.Prelude.{◌≡◌, ◌++◌, ℕ, List as Seq, IfOk, OnOk};
+ghost use Rattle.std.specs.Prelude.{◌≡◌, ◌++◌, ℕ, List as Seq, flat_map, IfOk, OnOk};
+ghost use Rattle.std.specs.Map.{keys_of};
 ghost use Rattle.event_life.specs.Products.{Product};
 ghost use Rattle.stats_report.specs.Report.{named, total_text, faults_text, stats_text};
-ghost use Rattle.stats_report.specs.Told.{hazard_told, zone_told, hazards_told, zones_told};
+ghost use Rattle.stats_report.specs.Spells.{kept_of};
+ghost use Rattle.stats_report.specs.Told.{hazard_told, zone_told};
 ghost use Rattle.stats_report.specs.Tallies.{IsKept};
 
-use crate::keys::{HazardKey, ZoneKey};
-use crate::opened::Opened;
-use crate::sums::sum_at;
+use crate::events::{Events, events_by_hazard, events_of};
+use crate::keys::HazardKey;
+use crate::standing::{Standing, hazard_sums, zone_sums};
+use crate::sums::Sums;
 use crate::tally::Tally;
-use crate::totals::{Totals, all_counted, hazards_in, zones_in};
-use hazard_types::{List, Oom, Text, hazard_text, zone_text};
+use hazard_types::{List, Oom, Text, Zone, hazard_text, zone_text};
 use std::alloc::Global;
-use std::collections::BTreeSet;
 
 /// A word and a number.
 fn put_named(alloc: Global, out: &mut Text, word: &[u8], n: u128) -> Result<(), Oom>
@@ -27,51 +28,54 @@ fn put_named(alloc: Global, out: &mut Text, word: &[u8], n: u128) -> Result<(), 
 fn put_hazard(
     alloc: Global,
     out: &mut Text,
-    totals: &Totals,
-    opened: &Opened,
+    events: &Events,
+    standing: &Standing,
     hazard: &HazardKey,
 ) -> Result<(), Oom>
-    ensures { OnOk result (out.new ≡ out.old ++ hazard_told totals.now opened.now hazard.now) }
+    ensures { OnOk result (out.new ≡ out.old
+        ++ hazard_told events.now.entries (kept_of standing.now) hazard.now) }
 {
+    let sums = hazard_sums(&standing.hazards, hazard);
     out.extend(b"hazard ")?;
     out.extend(&hazard_text(&hazard.hazard))?;
-    put_named(alloc, out, b" events ", sum_at(&totals.events, hazard))?;
-    put_named(alloc, out, b" openings ", sum_at(&opened.hazards, hazard))?;
-    put_named(alloc, out, b" lead ", sum_at(&opened.leads, hazard))?;
-    let minutes = sum_at(&totals.hazard_minutes, hazard);
-    put_named(alloc, out, b" minutes ", minutes)?;
+    put_named(alloc, out, b" events ", events_of(events, hazard))?;
+    put_named(alloc, out, b" openings ", sums.openings)?;
+    put_named(alloc, out, b" lead ", sums.lead)?;
+    put_named(alloc, out, b" minutes ", sums.minutes)?;
     out.push(b'\n')
 }
 
-/// The line of a zone.
+/// The line of a zone. `near` is a guess of its place.
 fn put_zone(
     alloc: Global,
     out: &mut Text,
-    totals: &Totals,
-    opened: &Opened,
-    zone: &ZoneKey,
+    standing: &Standing,
+    near: &mut usize,
+    zone: &Zone,
 ) -> Result<(), Oom>
-    ensures { OnOk result (out.new ≡ out.old ++ zone_told totals.now opened.now zone.now) }
+    ensures { OnOk result (out.new ≡ out.old ++ zone_told (kept_of standing.now) zone.now) }
 {
+    let sums = zone_sums(&standing.zones, near, zone);
     out.extend(b"zone ")?;
-    out.extend(&zone_text(&zone.zone))?;
-    put_named(alloc, out, b" openings ", sum_at(&opened.zones, zone))?;
-    put_named(alloc, out, b" minutes ", sum_at(&totals.zone_minutes, zone))?;
+    out.extend(&zone_text(zone))?;
+    put_named(alloc, out, b" openings ", sums.openings)?;
+    put_named(alloc, out, b" minutes ", sums.minutes)?;
     out.push(b'\n')
 }
 
-/// The lines of hazards.
+/// The lines of the hazards that have rows.
 fn put_hazards(
     alloc: Global,
     out: &mut Text,
-    totals: &Totals,
-    opened: &Opened,
-    hazards: BTreeSet<HazardKey>,
+    events: &Events,
+    standing: &Standing,
 ) -> Result<(), Oom>
-    ensures { OnOk result (out.new ≡ out.old ++ hazards_told totals.now opened.now hazards.keys) }
+    ensures { OnOk result (out.new ≡ out.old
+        ++ flat_map (hazard_told events.now.entries (kept_of standing.now))
+        (keys_of standing.now.hazards.entries)) }
 {
-    for hazard in hazards {
-        put_hazard(alloc, out, totals, opened, &hazard)?;
+    for hazard in standing.hazards.keys() {
+        put_hazard(alloc, out, events, standing, hazard)?;
     }
     Ok(())
 }
@@ -80,14 +84,15 @@ fn put_hazards(
 fn put_zones(
     alloc: Global,
     out: &mut Text,
-    totals: &Totals,
-    opened: &Opened,
-    zones: BTreeSet<ZoneKey>,
+    standing: &Standing,
+    zones: &[(Zone, Sums)],
 ) -> Result<(), Oom>
-    ensures { OnOk result (out.new ≡ out.old ++ zones_told totals.now opened.now zones.keys) }
+    ensures { OnOk result (out.new ≡ out.old
+        ++ flat_map (zone_told (kept_of standing.now)) (keys_of zones.now)) }
 {
-    for zone in zones {
-        put_zone(alloc, out, totals, opened, &zone)?;
+    let mut near = 0;
+    for entry in zones {
+        put_zone(alloc, out, standing, &mut near, &entry.0)?;
     }
     Ok(())
 }
@@ -117,7 +122,8 @@ fn put_end(
     minutes: u128,
     faults: usize,
 ) -> Result<(), Oom>
-    ensures { OnOk result (out.new ≡ out.old ++ (total_text openings minutes ++ faults_text faults)) }
+    ensures { OnOk result
+        (out.new ≡ out.old ++ (total_text openings minutes ++ faults_text faults)) }
 {
     put_total(alloc, out, openings, minutes)?;
     put_faults(alloc, out, faults)
@@ -125,16 +131,16 @@ fn put_end(
 
 /// The text of the statistics.
 pub fn text_of(alloc: Global, tally: &Tally) -> Result<Text, Oom>
-    ensures { (stamp : ℕ) (products : Seq Product) → IsKept stamp products tally.now → IfOk result (λ text. text ≡ stats_text stamp products tally.now.faults) }
+    ensures { (stamp : ℕ) (products : Seq Product) → IsKept stamp products tally.now → IfOk result
+        (λ text. text ≡ stats_text stamp products tally.now.faults) }
 {
-    let rows = all_counted(alloc, &tally.standing)?;
-    let totals = Totals::of_rows(alloc, &rows)?;
-    let hazards = hazards_in(alloc, &rows)?;
-    let zones = zones_in(alloc, &rows)?;
-    let opened = &tally.opened;
+    let standing = &tally.standing;
+    let all = standing.all;
+    let events = events_by_hazard(alloc, &standing.spells)?;
+    let zones = standing.zones.list(alloc)?;
     let mut out = List::new(alloc);
-    put_hazards(alloc, &mut out, &totals, opened, hazards)?;
-    put_zones(alloc, &mut out, &totals, opened, zones)?;
-    put_end(alloc, &mut out, opened.count, totals.minutes, tally.faults)?;
+    put_hazards(alloc, &mut out, &events, standing)?;
+    put_zones(alloc, &mut out, standing, zones.as_slice())?;
+    put_end(alloc, &mut out, all.openings, all.minutes, tally.faults)?;
     Ok(out)
 }

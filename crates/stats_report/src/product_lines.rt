@@ -46,7 +46,10 @@ fn zone_lines(
     zone: &Zone,
     pairs: &[Pair],
 ) -> Result<List<Line>, Oom>
-    ensures { IfOk result (λ lines. lines ≡ map (line_in zone.now) (event_pairs asked.now.office asked.now.class rows.now t pairs.now)) }
+    ensures { IfOk result
+        (λ lines. lines
+        ≡ map (line_in zone.now)
+        (event_pairs asked.now.office asked.now.class rows.now t pairs.now)) }
 {
     let mut lines = List::new(alloc);
     for pair in pairs {
@@ -92,7 +95,8 @@ fn put_zones(out: &mut Vec<Line>, zones: &[Zone], lines: &[Line]) -> Result<(), 
     Ok(())
 }
 
-/// Adds what the pairs of a segment say, zone by zone: each P-VTEC line is looked up once, for all zones.
+/// Adds what the pairs of a segment say, zone by zone: each P-VTEC line is looked up once, for all
+/// zones.
 fn put_segment(
     alloc: Global,
     asked: &Asked,
@@ -101,7 +105,10 @@ fn put_segment(
     out: &mut Vec<Line>,
     segment: &FrameSegment,
 ) -> Result<(), Oom>
-    ensures { OnOk result (out.new.items ≡ out.old.items ++ lines_in segment.now.zones (event_pairs asked.now.office asked.now.class rows.now t segment.now.pairs)) }
+    ensures { OnOk result
+        (out.new.items
+        ≡ out.old.items ++ lines_in segment.now.zones
+        (event_pairs asked.now.office asked.now.class rows.now t segment.now.pairs)) }
 {
     let zones = segment.zones.as_slice();
     match zones.first() {
@@ -122,7 +129,9 @@ fn segment_lines(
     t: Minute,
     segments: &[FrameSegment],
 ) -> Result<List<Line>, Oom>
-    ensures { IfOk result (λ lines. lines ≡ lines_in_segments asked.now.office asked.now.class rows.now t segments.now) }
+    ensures { IfOk result
+        (λ lines. lines
+        ≡ lines_in_segments asked.now.office asked.now.class rows.now t segments.now) }
 {
     let mut lines = Vec::new(alloc);
     for segment in segments {
@@ -131,7 +140,8 @@ fn segment_lines(
     Ok(List::from_vec(lines))
 }
 
-/// What a product says of the events of the office and class, by its frame. `rows` are those just before it.
+/// What a product says of the events of the office and class, by its frame. `rows` are those just
+/// before it.
 #[tactic(auto, using(product_decoder::proofs::FrameLemmas::frame_told))]
 pub fn lines_by_frame(
     alloc: Global,
@@ -139,7 +149,10 @@ pub fn lines_by_frame(
     rows: &RowIndex,
     frame: &Frame,
 ) -> Result<List<Line>, Oom>
-    ensures { IfOk result (λ lines. lines ≡ lines_of rows.now frame.now.issue (said_by asked.now.office asked.now.class (decoded_of frame.now).pairs)) }
+    ensures { IfOk result
+        (λ lines. lines
+        ≡ lines_of rows.now frame.now.issue
+        (said_by asked.now.office asked.now.class (decoded_of frame.now).pairs)) }
 {
     segment_lines(alloc, asked, rows, frame.issue, frame.segments.as_slice())
 }

@@ -1,37 +1,62 @@
-//! The rows so far, each with the minutes that it comes to if nothing changes it any more.
-ghost use Rattle.std.specs.Prelude.{◌≡◌, ◌<◌, ◌+◌, ◌-◌, fold, Some, IfOk, OnOk};
+//! What is kept of rows: the minutes that each still has, and what zones and hazards come to.
+ghost use Rattle.std.specs.Prelude.{◌≡◌, ◌≤◌, ◌<◌, ◌-◌, [], true, fold, length, take, IfOk, OnOk};
 ghost use Rattle.std.specs.BTreeMap.{insert_entry};
+ghost use Rattle.std.specs.List.{AllByRecursion};
+ghost use Rattle.event_life.specs.Lives.{opens, ends};
 ghost use Rattle.event_life.specs.Products.{lawful_of};
-ghost use Rattle.stats_report.specs.Minutes.{cut_at, minutes_left};
-ghost use Rattle.stats_report.specs.Spots.{spot_said, counted_at, row_counted, minutes_counted, own_row, row_left, changed};
+ghost use Rattle.hazard_types.specs.Orders.{by_hazard};
+ghost use Rattle.hazard_types.specs.Places.{by_place};
+ghost use Rattle.stats_report.specs.Minutes.{cut_at};
+ghost use Rattle.stats_report.specs.Spells.{begin_printed, spell_left, left_of, spell_after, gain_of, gained};
+ghost use Rattle.stats_report.specs.Spells.{no_sums, sums_at, turn_of, turned, kept_of, turn_at, with_turn, IsOf};
+ghost use Rattle.stats_report.specs.Summed.{TakesLines};
 
-use crate::keys::ZoneKey;
-use event_life::{Breach, is_lawful, row_after};
-use hazard_types::{End, Line, Minute, Oom, Row};
+use crate::keys::HazardKey;
+use crate::sums::{Gain, Sums, gained, no_sums};
+use event_life::{Breach, is_lawful};
+use hazard_types::{Action, End, Event, Line, Minute, Oom, Zone};
 use row_index::EventKey;
+use std::alloc::Global;
 use std::collections::BTreeMap;
+use zone_map::ZoneMap;
 
-/// An event in a zone. Spots are in order by zone, then event.
-#[derive(Clone, Copy, PartialEq, Eq, PartialOrd, Ord)]
-pub struct Spot {
-    pub zone: ZoneKey,
-    pub event: EventKey,
+/// The minutes that a row has from a product on: those from `start` on and before `stop`.
+#[derive(Clone, Copy)]
+pub struct Spell {
+    pub start: u32,
+    pub stop: u32,
 }
 
-/// A row, and its minutes in effect before the stamp.
-#[derive(Clone, Copy, Debug)]
-pub struct Counted {
-    pub row: Row,
-    pub minutes: u64,
+/// The stamp, the first minute that a product governs, and the minute in which it was issued.
+#[derive(Clone, Copy)]
+pub struct Moment {
+    pub stamp: Minute,
+    pub from: u32,
+    pub issue: Minute,
 }
 
-/// The rows by their spots.
-pub type Standing = BTreeMap<Spot, Counted>;
+/// The minutes that rows still have, by event and zone.
+pub type Spells = BTreeMap<EventKey, ZoneMap<Spell>>;
+
+/// What the hazard of an event comes to, and what all come to.
+#[derive(Clone, Copy)]
+pub struct Totals {
+    pub own: Sums,
+    pub all: Sums,
+}
+
+/// The spells of rows, and what the zones, the hazards and all come to.
+#[derive(Drop)]
+pub struct Standing {
+    pub spells: Spells,
+    pub zones: ZoneMap<Sums>,
+    pub hazards: BTreeMap<HazardKey, Sums>,
+    pub all: Sums,
+}
 
 /// The stamp, or the end where it comes first.
 fn cut_at(stamp: Minute, end: &End) -> u32
-    ensures value { result ≡ cut_at stamp end.now }
-    ensures range { result < 52596000 }
+    ensures { result ≡ cut_at stamp end.now }
 {
     match end {
         End::At(minute) => stamp.get().min(minute.get()),
@@ -39,133 +64,268 @@ fn cut_at(stamp: Minute, end: &End) -> u32
     }
 }
 
-/// How many minutes from this one on and before the stamp a row has effect.
-fn minutes_left(stamp: Minute, from: u32, row: &Row) -> u64
-    ensures value { result ≡ minutes_left stamp from (Some row.now) }
-    ensures range { result < 52596000 }
+/// The begin that a line prints; none is the issue minute.
+fn begin_printed(line: &Line, t: Minute) -> u32
+    ensures { result ≡ begin_printed line.now t }
 {
-    if row.ended {
-        return 0;
-    }
-    let begin = from.max(row.period.begin.get());
-    u64::from(cut_at(stamp, &row.period.end).saturating_sub(begin))
-}
-
-/// A row of a line's event in its zone that stands as another does.
-fn own_row(line: &Line, row: &Row) -> Row
-    ensures { result ≡ own_row line.now row.now }
-{
-    Row {
-        event: line.event,
-        zone: line.zone,
-        period: row.period,
-        flood: row.flood,
-        ended: row.ended,
+    match line.begin {
+        Some(minute) => minute.get(),
+        None => t.get(),
     }
 }
 
-/// The row that a line of a product that was issued at `t` leaves.
-#[tactic(auto, using(crate::proofs::Own::row_told, crate::proofs::Own::none_told))]
-fn row_left(t: Minute, line: &Line, before: &Option<Counted>) -> Row
-    ensures { result ≡ row_left (row_counted before.now) line.now t }
+/// Whether a line ends the row of its event in its zone.
+fn ends(action: &Action) -> bool
+    ensures { result ≡ ends action.now }
 {
-    match before {
-        Some(counted) => row_after(&[own_row(line, &counted.row)], t, line),
-        None => row_after(&[], t, line),
+    matches!(action, Action::Can | Action::Exp | Action::Upg)
+}
+
+/// Whether a line opens an event in its zone.
+fn opens(action: &Action) -> bool
+    ensures { result ≡ opens action.now }
+{
+    matches!(action, Action::New | Action::Exa | Action::Exb)
+}
+
+/// The minutes that the row of a lawful line has from its product on.
+fn spell_after(moment: &Moment, line: &Line) -> Spell
+    ensures { result ≡ spell_after moment.now line.now }
+{
+    if ends(&line.action) {
+        return Spell { start: 0, stop: 0 };
+    }
+    Spell {
+        start: begin_printed(line, moment.issue),
+        stop: cut_at(moment.stamp, &line.end),
     }
 }
 
-/// What is counted that a change of the row from this minute on can't touch.
-fn minutes_passed(stamp: Minute, from: u32, before: &Option<Counted>) -> u64
-    ensures { result ≡ minutes_counted before.now - minutes_left stamp from (row_counted before.now) }
+/// How many minutes of a spell are from this one on.
+fn spell_left(from: u32, spell: &Spell) -> u128
+    ensures { result ≡ spell_left from spell.now }
 {
-    match before {
-        Some(counted) => counted
-            .minutes
-            .saturating_sub(minutes_left(stamp, from, &counted.row)),
+    u128::from(spell.stop.saturating_sub(from.max(spell.start)))
+}
+
+/// How many minutes of a spell are from this one on, none where there is no spell.
+fn left_of(from: u32, spell: &Option<Spell>) -> u128
+    ensures { result ≡ left_of from spell.now }
+{
+    match spell {
+        Some(spell) => spell_left(from, spell),
         None => 0,
     }
 }
 
-/// The sum of minutes. It never wraps: there is none only where it would come to the end of its type.
-fn minutes_more(minutes: u64, more: u64) -> Result<u64, Oom>
-    ensures { IfOk result (λ n. n ≡ minutes + more) }
+/// The minutes from the issue to the begin, of a line that opens an event.
+fn lead_of(moment: &Moment, line: &Line) -> u128
+    ensures { result ≡ begin_printed line.now moment.now.issue - moment.now.issue }
 {
-    match minutes.checked_add(more) {
-        Some(sum) => Ok(sum),
-        None => Err(Oom),
+    let begin = begin_printed(line, moment.issue);
+    u128::from(begin.saturating_sub(moment.issue.get()))
+}
+
+/// What a lawful line adds to the sums, where `before` was the row's spell.
+fn gain_of(moment: &Moment, line: &Line, before: &Option<Spell>) -> Gain
+    ensures { result ≡ gain_of moment.now line.now before.now }
+{
+    let opened = opens(&line.action);
+    Gain {
+        openings: if opened { 1 } else { 0 },
+        lead: if opened { lead_of(moment, line) } else { 0 },
+        minutes: spell_left(moment.from, &spell_after(moment, line)),
+        gone: left_of(moment.from, before),
     }
 }
 
-/// What the minutes at a spot come to where this row is left there, and the product governs the minutes from this one on.
-fn minutes_after(stamp: Minute, from: u32, before: &Option<Counted>, row: &Row) -> Result<u64, Oom>
-    ensures { IfOk result (λ n. n ≡ (minutes_counted before.now - minutes_left stamp from (row_counted before.now)) + minutes_left stamp from (Some row.now)) }
+/// What a zone comes to. `near` is a guess of its place.
+pub fn zone_sums(zones: &ZoneMap<Sums>, near: &mut usize, zone: &Zone) -> Sums
+    ensures { result ≡ sums_at by_place zones.now zone.now }
 {
-    let left = minutes_left(stamp, from, row);
-    minutes_more(minutes_passed(stamp, from, before), left)
-}
-
-fn spot_said(line: &Line) -> Spot
-    ensures { result ≡ spot_said line.now }
-{
-    Spot {
-        zone: ZoneKey { zone: line.zone },
-        event: EventKey { event: line.event },
+    match zones.get(near, zone) {
+        Some(sums) => sums,
+        None => no_sums(),
     }
 }
 
-/// What is counted at the spot of a line.
-fn counted_at(standing: &Standing, line: &Line) -> Option<Counted>
-    ensures { result ≡ counted_at standing.now.entries line.now }
+/// What a hazard comes to.
+pub fn hazard_sums(hazards: &BTreeMap<HazardKey, Sums>, hazard: &HazardKey) -> Sums
+    ensures { result ≡ sums_at by_hazard hazards.now.entries hazard.now }
 {
-    match standing.get(&spot_said(line)) {
-        Some(counted) => Some(*counted),
-        None => None,
+    match hazards.get(hazard) {
+        Some(sums) => *sums,
+        None => no_sums(),
     }
 }
 
-/// Sets the value at a key.
-fn put<K: Ord + Drop, V: Copy + Drop>(
-    map: &mut BTreeMap<K, V>,
-    key: K,
-    value: &V,
+/// A zone comes to more. `near` is a guess of its place.
+fn change_zone(
+    zones: &mut ZoneMap<Sums>,
+    near: &mut usize,
+    zone: &Zone,
+    gain: &Gain,
 ) -> Result<(), Oom>
-    ensures { OnOk result (map.new.entries ≡ insert_entry K.cmp map.old.entries key value.now) }
+    ensures { OnOk result (zones.new ≡ insert_entry by_place zones.old zone.now
+        (gained (sums_at by_place zones.old zone.now) gain.now)) }
 {
-    map.insert(key, *value)?;
+    let sums = gained(&zone_sums(zones, near, zone), gain)?;
+    let mut before = None;
+    zones.set(*zone, sums, &mut before)
+}
+
+/// A hazard and all come to more.
+fn change_totals(totals: &mut Totals, gain: &Gain) -> Result<(), Oom>
+    ensures own { OnOk result (totals.new.own ≡ gained totals.old.own gain.now) }
+    ensures all { OnOk result (totals.new.all ≡ gained totals.old.all gain.now) }
+{
+    totals.own = gained(&totals.own, gain)?;
+    totals.all = gained(&totals.all, gain)?;
     Ok(())
 }
 
-/// A lawful line changes its row.
-fn change(
-    standing: &mut Standing,
-    stamp: Minute,
-    from: u32,
-    t: Minute,
+/// A lawful line of an event changes its row. `near` is a guess of the place of its zone.
+fn change_line(
+    spells: &mut ZoneMap<Spell>,
+    zones: &mut ZoneMap<Sums>,
+    near: &mut usize,
+    moment: &Moment,
     line: &Line,
+    totals: &mut Totals,
 ) -> Result<(), Oom>
-    ensures { OnOk result (standing.new.entries ≡ changed stamp from t standing.old.entries line.now) }
+    ensures { OnOk result (turn_of spells.new zones.new totals.new
+        ≡ turned moment.now (turn_of spells.old zones.old totals.old) line.now) }
 {
-    let before = counted_at(standing, line);
-    let row = row_left(t, line, &before);
-    let minutes = minutes_after(stamp, from, &before, &row)?;
-    put(standing, spot_said(line), &Counted { row, minutes })
+    let mut before = None;
+    spells.set(line.zone, spell_after(moment, line), &mut before)?;
+    let gain = gain_of(moment, line, &before);
+    change_zone(zones, near, &line.zone, &gain)?;
+    change_totals(totals, &gain)
 }
 
-/// The lawful lines of a product that was issued at `t` change their rows, where it governs the minutes from this one on.
-pub fn change_all(
-    standing: &mut Standing,
-    stamp: Minute,
-    from: u32,
-    t: Minute,
+/// The lawful lines of an event change their rows.
+fn change_lines(
+    spells: &mut ZoneMap<Spell>,
+    zones: &mut ZoneMap<Sums>,
+    moment: &Moment,
     judged: &[(Line, Option<Breach>)],
+    totals: &mut Totals,
 ) -> Result<(), Oom>
-    ensures { OnOk result (standing.new.entries ≡ fold (changed stamp from t) standing.old.entries (lawful_of judged.now)) }
+    ensures { OnOk result (turn_of spells.new zones.new totals.new
+        ≡ fold (turned moment.now) (turn_of spells.old zones.old totals.old)
+        (lawful_of judged.now)) }
 {
+    let mut near = 0;
     for found in judged {
         if is_lawful(found) {
-            change(standing, stamp, from, t, &found.0)?;
+            change_line(spells, zones, &mut near, moment, &found.0, totals)?;
         }
     }
     Ok(())
+}
+
+/// Whether a judged line is of an event.
+fn is_of(event: &Event, found: &(Line, Option<Breach>)) -> bool
+    ensures { result ≡ true → IsOf event.now found.now }
+{
+    found.0.event == *event
+}
+
+/// How many of these lines come before one that is not of the event.
+fn count_of(event: &Event, judged: &[(Line, Option<Breach>)]) -> usize
+    ensures within { result ≤ length judged.now }
+    ensures own { AllByRecursion (IsOf event.now) (take result judged.now) }
+{
+    let mut count = 0usize;
+    for found in judged {
+        if !is_of(event, found) {
+            return count;
+        }
+        count += 1;
+    }
+    count
+}
+
+impl Standing {
+    /// There are no rows.
+    pub fn new(alloc: Global) -> Self
+        ensures spells { result.spells.entries ≡ [] }
+        ensures zones { result.zones ≡ [] }
+        ensures hazards { result.hazards.entries ≡ [] }
+        ensures all { result.all ≡ no_sums }
+    {
+        Standing {
+            spells: BTreeMap::new(alloc),
+            zones: ZoneMap::new(alloc),
+            hazards: BTreeMap::new(alloc),
+            all: no_sums(),
+        }
+    }
+
+    /// The lawful lines of an event change their rows.
+    fn change_run(
+        &mut self,
+        alloc: Global,
+        moment: &Moment,
+        event: &Event,
+        judged: &[(Line, Option<Breach>)],
+    ) -> Result<(), Oom>
+        ensures { OnOk result (kept_of self.new ≡ with_turn (kept_of self.old) event.now
+            (fold (turned moment.now) (turn_at (kept_of self.old) event.now)
+            (lawful_of judged.now))) }
+    {
+        let hazard = HazardKey::of(&event.hazard);
+        let mut totals = Totals {
+            own: hazard_sums(&self.hazards, &hazard),
+            all: self.all,
+        };
+        let spells = self
+            .spells
+            .entry(EventKey { event: *event })?
+            .or_insert(ZoneMap::new(alloc));
+        change_lines(spells, &mut self.zones, moment, judged, &mut totals)?;
+        self.hazards.insert(hazard, totals.own)?;
+        self.all = totals.all;
+        Ok(())
+    }
+
+    /// The first line changes its row, and those behind it that are of its event. Returns how many
+    /// these are; a first line that is not lawful is passed over.
+    fn change_first(
+        &mut self,
+        alloc: Global,
+        moment: &Moment,
+        judged: &[(Line, Option<Breach>)],
+    ) -> Result<usize, Oom>
+        requires { 0 < length judged.now }
+        ensures some { IfOk result (λ count. (0 < count) × (count ≤ length judged.now)) }
+        ensures takes { IfOk result (λ count.
+            TakesLines moment.now (take count judged.now) (kept_of self.old) (kept_of self.new)) }
+    {
+        let first = &judged[0];
+        if !is_lawful(first) {
+            return Ok(1);
+        }
+        let event = first.0.event;
+        let count = 1 + count_of(&event, &judged[1..]);
+        self.change_run(alloc, moment, &event, &judged[..count])?;
+        Ok(count)
+    }
+
+    /// The lawful lines of a product change their rows.
+    pub fn change_all(
+        &mut self,
+        alloc: Global,
+        moment: &Moment,
+        judged: &[(Line, Option<Breach>)],
+    ) -> Result<(), Oom>
+        ensures { OnOk result
+            (TakesLines moment.now judged.now (kept_of self.old) (kept_of self.new)) }
+    {
+        let mut count = 0;
+        while count < judged.len() {
+            count += self.change_first(alloc, moment, &judged[count..])?;
+        }
+        Ok(())
+    }
 }

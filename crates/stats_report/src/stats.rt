@@ -25,9 +25,12 @@ fn tell_stats<S: Source, K: Sink>(
     output: &mut K,
 ) -> Result<(), Stop>
     requires { limit ≤ most_bytes }
-    ensures run { TellsTo asked.now limit (S.inflow input.old).left (S.inflow input.new).left (K.outflow output.old).taken (K.outflow output.new).taken result }
-    ensures read { IsCauseOf Stop.Read (S.inflow input.old).faults (S.inflow input.new).faults result }
-    ensures write { IsCauseOf Stop.Write (K.outflow output.old).faults (K.outflow output.new).faults result }
+    ensures run { TellsTo asked.now limit (S.inflow input.old).left (S.inflow input.new).left
+        (K.outflow output.old).taken (K.outflow output.new).taken result }
+    ensures read { IsCauseOf Stop.Read (S.inflow input.old).faults (S.inflow input.new).faults
+        result }
+    ensures write { IsCauseOf Stop.Write (K.outflow output.old).faults (K.outflow output.new).faults
+        result }
 {
     let mut tally = Tally::new(alloc);
     count_input(alloc, asked, limit, &mut tally, input)?;
@@ -38,7 +41,8 @@ fn tell_stats<S: Source, K: Sink>(
     }
 }
 
-/// Does what the words say, with an input of at most `limit` bytes, and returns the status of the program.
+/// Does what the words say, with an input of at most `limit` bytes, and returns the status of the
+/// program.
 pub fn stats_within<S: Source, K: Sink>(
     alloc: Global,
     words: &List<Text>,

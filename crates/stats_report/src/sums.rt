@@ -1,15 +1,42 @@
-//! Sums that are kept by a key. A sum has 128 bits: an input has less than 2^32 products, each of less than 2^64 lines
-//! of less than 2^26 minutes, so that no sum comes to its type's end; the additions are checked nevertheless.
-ghost use Rattle.std.specs.Prelude.{◌≡◌, ◌≤◌, ◌+◌, ◌^◌, IfOk, OnOk, OnErr};
-ghost use Rattle.stats_report.specs.Adding.{sum_at, with_amount};
+//! Sums, and what a line adds to them. A sum has 128 bits: an input has less than 2^32 products,
+//! each of less than 2^64 lines of less than 2^26 minutes, so that no sum comes to its type's end;
+//! the additions are checked nevertheless.
+ghost use Rattle.std.specs.Prelude.{◌≡◌, ◌≤◌, ◌+◌, ◌^◌, IfOk, OnErr};
+ghost use Rattle.stats_report.specs.Spells.{gained, no_sums};
 
 use hazard_types::Oom;
-use std::collections::BTreeMap;
 
-/// A sum at each key that it was added to.
-pub type Sums<K> = BTreeMap<K, u128>;
+/// Openings, the minutes from issue to begin of these, and minutes in effect.
+#[derive(Clone, Copy)]
+pub struct Sums {
+    pub openings: u128,
+    pub lead: u128,
+    pub minutes: u128,
+}
 
-/// The sum and an amount. It never wraps: there is none only where it would come to the end of its type.
+/// What a line adds to sums: an opening and its lead, or none, and the minutes that its row has
+/// from the product on. Those that the row had before are gone.
+#[derive(Clone, Copy)]
+pub struct Gain {
+    pub openings: u128,
+    pub lead: u128,
+    pub minutes: u128,
+    pub gone: u128,
+}
+
+/// The sums of nothing.
+pub fn no_sums() -> Sums
+    ensures { result ≡ no_sums }
+{
+    Sums {
+        openings: 0,
+        lead: 0,
+        minutes: 0,
+    }
+}
+
+/// The sum and an amount. It never wraps: there is none only where it would come to the end of its
+/// type.
 pub fn more(sum: u128, amount: u128) -> Result<u128, Oom>
     ensures ok { IfOk result (λ n. n ≡ sum + amount) }
     ensures err { OnErr result (2 ^ 128 ≤ sum + amount) }
@@ -20,21 +47,21 @@ pub fn more(sum: u128, amount: u128) -> Result<u128, Oom>
     }
 }
 
-/// The sum at a key, 0 where nothing was added.
-pub fn sum_at<K: Ord>(sums: &Sums<K>, key: &K) -> u128
-    ensures { result ≡ sum_at K.cmp sums.now.entries key.now }
+/// The sums with what a line adds, and without what is gone.
+pub fn gained(sums: &Sums, gain: &Gain) -> Result<Sums, Oom>
+    ensures { IfOk result (λ s. s ≡ gained sums.now gain.now) }
 {
-    match sums.get(key) {
-        Some(sum) => *sum,
-        None => 0,
+    let minutes = more(sums.minutes, gain.minutes)?.saturating_sub(gain.gone);
+    if gain.openings == 0 && gain.lead == 0 {
+        return Ok(Sums {
+            openings: sums.openings,
+            lead: sums.lead,
+            minutes,
+        });
     }
-}
-
-/// Adds an amount to the sum at a key.
-pub fn add<K: Ord + Drop>(sums: &mut Sums<K>, key: K, amount: u128) -> Result<(), Oom>
-    ensures { OnOk result (sums.new.entries ≡ with_amount K.cmp sums.old.entries key amount) }
-{
-    let sum = more(sum_at(sums, &key), amount)?;
-    sums.insert(key, sum)?;
-    Ok(())
+    Ok(Sums {
+        openings: more(sums.openings, gain.openings)?,
+        lead: more(sums.lead, gain.lead)?,
+        minutes,
+    })
 }

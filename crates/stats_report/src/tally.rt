@@ -4,15 +4,13 @@ ghost use Rattle.product_decoder.specs.Decoded.{decoded_of};
 ghost use Rattle.archive_report.specs.Readings.{said_of};
 ghost use Rattle.stats_report.specs.Tallies.{IsKept, Counts, CountsFault, TakesProduct, TakesReading};
 
-use crate::opened::Opened;
 use crate::product_lines::lines_by_frame;
-use crate::standing::{Standing, change_all};
+use crate::standing::{Moment, Standing};
 use archive_report::Asked;
 use hazard_types::Oom;
 use product_frame::{Frame, FrameFault};
 use row_index::RowIndex;
 use std::alloc::Global;
-use std::collections::BTreeMap;
 use std::mem;
 
 /// What is read of a product: its frame, or its first fault.
@@ -25,10 +23,8 @@ pub struct Tally {
     pub rows: RowIndex,
     /// The greatest issue minute of these.
     pub latest: u32,
-    /// Their rows, with the minutes of each.
+    /// What their rows and openings come to.
     pub standing: Standing,
-    /// Their openings.
-    pub opened: Opened,
     /// How many products there are.
     pub count: usize,
     /// How many of them have a fault.
@@ -47,7 +43,7 @@ fn one_more(count: usize) -> Result<usize, Oom>
 
 impl Tally {
     /// There are no products yet.
-    #[tactic(auto, using(crate::proofs::Keeping::none_counted))]
+    #[tactic(auto, using(crate::proofs::Keeping::none_kept))]
     pub fn new(alloc: Global) -> Self
         ensures kept { (stamp : ℕ) → IsKept stamp [] result }
         ensures count { result.count ≡ 0 }
@@ -56,8 +52,7 @@ impl Tally {
         Tally {
             rows: RowIndex::new(alloc),
             latest: 0,
-            standing: BTreeMap::new(alloc),
-            opened: Opened::new(alloc),
+            standing: Standing::new(alloc),
             count: 0,
             faults: 0,
         }
@@ -74,9 +69,12 @@ impl Tally {
         let rows = mem::replace(&mut self.rows, RowIndex::new(alloc));
         self.rows = rows.leave(alloc, issue, judged)?;
         self.latest = self.latest.max(issue.get());
-        let from = self.latest;
-        change_all(&mut self.standing, asked.minute, from, issue, judged)?;
-        self.opened.count_all(issue, judged)
+        let moment = Moment {
+            stamp: asked.minute,
+            from: self.latest,
+            issue,
+        };
+        self.standing.change_all(alloc, &moment, judged)
     }
 
     /// Counts a product that has a fault.

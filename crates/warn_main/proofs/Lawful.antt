@@ -41,7 +41,7 @@ module _ {D : Type 0} (d : Disks D) where
         subst ReadsAsTheBoard (sym state) carries.1,
       )
 
-  as_before : (kept next : KeptOffice D d) (file : List ℕ) (h : History) → IsAsBefore d.seen d.may_leave kept next → Carries kept file h → Carries next file (grown h [])
+  as_before : (kept next : KeptOffice D d) (file : List ℕ) (h : History) → IsAsBefore d.seen d.crash kept next → Carries kept file h → Carries next file (grown h [])
   as_before kept next file h is carries = same kept next file h is.state is.entries is.gate carries
 
   -- behind a line that gave this to the disk

@@ -1,7 +1,7 @@
 -- The promise follows from what a run has done, on each disk that keeps the laws of disks.
-use Rattle.std.proofs.Common.{ℕ, ◌≡◌, ◌≤◌, ◌⊎◌, inl, inr, ◌++◌, List, [], Option, None, Some, IfSome, IsSome, ◌≢◌, refl, sym, ap, ◌∙◌, subst, append-nil}
+use Rattle.std.proofs.Common.{ℕ, ◌≡◌, ◌⊎◌, inl, inr, ◌++◌, List, [], Option, None, Some, IfSome, IsSome, ◌≢◌, refl, sym, ap, ◌∙◌, subst, append-nil}
 use Rattle.std.specs.Prelude.{MatchOption}
-use Rattle.desk_traits.specs.Crash.{LeavesOnly}
+use Rattle.desk_traits.specs.Crash.{AreCrashes, LeavesOnly}
 use Rattle.desk_traits.specs.Faults.{Rose}
 use Rattle.desk_traits.specs.declared.clocks.Clock.{Ghosts as Clocks}
 use Rattle.desk_traits.specs.declared.disk.Disk.{Ghosts as Disks}
@@ -205,24 +205,22 @@ module _ {D C : Type 0} (d : Disks D) (before after : World D C) where
         lawful_in (Some serving) does = lawful_served serving does
 
   -- a run that opened no office
-  module _ (counts_now : (x : D) (c : List ℕ) → d.may_leave x c → d.left_since x (d.moment x) c)
-      (only_now : (x : D) (c : List ℕ) → d.left_since x (d.moment x) c → d.may_leave x c)
-      (earlier : (x : D) (t u : ℕ) (c : List ℕ) → t ≤ u → u ≤ d.moment x → d.left_since x u c → d.left_since x t c)
+  module _ (are_crashes : (x : D) → AreCrashes (d.crash x))
       (k : Clocks C) (words : List (List ℕ)) (limit status : ℕ) where
     abbrev May : List ℕ → Type 0
-    May c = d.may_leave before.disk c ⊎ ((command_of words ≡ Some command.Init) × (settings : List ℕ) × IsMakingOf settings c)
+    May c = (d.crash before.disk).may_leave c ⊎ ((command_of words ≡ Some command.Init) × (settings : List ℕ) × IsMakingOf settings c)
 
     abbrev Untouched : Type 0
-    Untouched = (bytes : List ℕ) → d.seen before.disk ≡ Some bytes → LeavesOnly d.moment d.left_since before.disk after.disk May
+    Untouched = (bytes : List ℕ) → d.seen before.disk ≡ Some bytes → LeavesOnly (d.crash before.disk) (d.crash after.disk) May
 
     same_disk : after.disk ≡ before.disk → Untouched
     same_disk same = λ bytes seen.
-        subst (λ (x : D). LeavesOnly d.moment d.left_since before.disk x May) (sym same)
-        (nothing d.moment d.left_since d.may_leave counts_now only_now earlier before.disk May (λ c left. inl left))
+        subst (λ (x : D). LeavesOnly (d.crash before.disk) (d.crash x) May) (sym same)
+        (nothing d.crash are_crashes before.disk May (λ c left. inl left))
 
     not_opened : IsUnopened d (without_port before) (without_port after) status → Untouched
     not_opened run = λ bytes seen.
-        weaker d.moment d.left_since d.may_leave counts_now only_now earlier before.disk after.disk (d.may_leave before.disk) May (λ c left. inl left) run.unopened.moments
+        weaker d.crash are_crashes before.disk after.disk (d.crash before.disk).may_leave May (λ c left. inl left) run.unopened.moments
 
     not_exported : (does : IsUnopened d (without_port before) (without_port after) status ⊎ Exports d (without_port before) (without_port after) status)
         → office_exported d (without_port before) (without_port after) status does ≡ None → Untouched
@@ -243,7 +241,7 @@ module _ {D C : Type 0} (d : Disks D) (before after : World D C) where
         → office_by d (without_port before) (without_port after) status k limit command does ≡ None → Untouched
     untouched_by command.Init is does none = λ bytes seen.
         let run = does.0 in
-        weaker d.moment d.left_since d.may_leave counts_now only_now earlier before.disk after.disk (λ (c : List ℕ). d.may_leave before.disk c ⊎ IsMakingOf run.read c) May
+        weaker d.crash are_crashes before.disk after.disk (λ (c : List ℕ). (d.crash before.disk).may_leave c ⊎ IsMakingOf run.read c) May
         (λ c left. elim left [
           | inl was ↦ inl was
           | inr making ↦ inr (is, run.read, making)

@@ -58,17 +58,17 @@ pub record OutlastsCrashes {D C : Type 0} (d : Disks D) (before after : World D 
   -- "and a crash at any moment leaves a prefix of that history": one at any moment of the run leaves
   -- what one at the start might have left, or a prefix that holds all that was found, with at most
   -- one change behind it.
-  pub crash : LeavesOnly d.moment d.left_since before.disk after.disk
-      (λ c. d.may_leave before.disk c ⊎ IsBetween file found last c)
+  pub crash : LeavesOnly (d.crash before.disk) (d.crash after.disk)
+      (λ c. (d.crash before.disk).may_leave c ⊎ IsBetween file found last c)
   -- On a disk that tells its syncs: from a moment of the opening on such a prefix alone.
   pub settled : (earlier : List ℕ) → d.syncs before.disk ≡ Some earlier
-      → (at : ℕ) × (at ≤ d.moment (disk_of office.opened))
-      × ((c : List ℕ) → d.left_since after.disk at c → IsBetween file found last c)
+      → (at : ℕ) × (at ≤ (d.crash (disk_of office.opened)).moment)
+      × ((c : List ℕ) → (d.crash after.disk).left_since at c → IsBetween file found last c)
   -- "holding every acknowledged request": all of them at the end of the run, with one change more
   -- only where the disk failed. Not said: that a crash before the end leaves those that were
   -- acknowledged until then, nor that an answer goes out after its entry is synced. That an entry is
   -- durable once its `submit` returned is a clause of that call (`HasEntered`); the rest is tested.
-  pub held : (c : List ℕ) → d.may_leave after.disk c
+  pub held : (c : List ℕ) → (d.crash after.disk).may_leave c
       → Leaves file last (λ change. Rose (d.faults before.disk) (d.faults after.disk)) c
 
 module _ {D C : Type 0} (d : Disks D) (k : Clocks C) where
@@ -91,6 +91,6 @@ module _ {D C : Type 0} (d : Disks D) (k : Clocks C) where
     -- might have left, or, under `init`, a journal that is being made.
     pub unopened : office_of d k before after status words limit done ≡ None
         → (bytes : List ℕ) → d.seen before.disk ≡ Some bytes
-        → LeavesOnly d.moment d.left_since before.disk after.disk
-        (λ c. d.may_leave before.disk c
+        → LeavesOnly (d.crash before.disk) (d.crash after.disk)
+        (λ c. (d.crash before.disk).may_leave c
         ⊎ ((command_of words ≡ Some Init) × (settings : List ℕ) × IsMakingOf settings c))

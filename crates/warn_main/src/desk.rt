@@ -15,13 +15,13 @@ use desk_program::desk_within;
 use desk_traits::{Clock, Disk};
 use hazard_types::{List, Text};
 use program_ends::LIMIT;
-use serve_command::{run_serve, serving_of};
+use serve_command::{Means, run_serve, serving_of};
 use std::alloc::Global;
 use std::sync::Wait;
 use std::thread::Threads;
 
-/// Does what the words say that are no `serve`, with an input of at most 1,073,741,824 bytes. Returns
-/// the status of the program, and the disk.
+/// Does what the words say that are no `serve`, with an input of at most 1,073,741,824 bytes.
+/// Returns the status of the program, and the disk.
 pub fn desk_alone<S: Source, K: Sink, D: Disk, C: Clock>(
     alloc: Global,
     words: &List<Text>,
@@ -71,7 +71,15 @@ pub fn desk_run<
 {
     what_was_done_keeps_the_promise::<D, C>();
     match serving_of(words) {
-        Some(serving) => run_serve(rt, alloc, &serving, output, disk, port, clock, gate),
+        Some(serving) => {
+            let means = Means {
+                rt,
+                alloc,
+                clock,
+                gate,
+            };
+            run_serve(&means, &serving, output, disk, port)
+        }
         None => desk_alone(alloc, words, input, output, disk, clock),
     }
 }

@@ -24,7 +24,8 @@ fn named_place(word: &str) -> Place<'_>
     }
 }
 
-/// Where a command line, of which the program's name is the first word, says that the journal is kept.
+/// Where a command line, of which the program's name is the first word, says that the journal is
+/// kept.
 pub fn place_of(command_line: &[String]) -> Place<'_>
     ensures { IsPlace (option_map string_bytes (slice_get command_line.now 1)) result }
 {

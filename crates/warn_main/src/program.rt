@@ -22,8 +22,17 @@ use std::thread::Threads;
 const ROOM: usize = 1_048_700;
 
 /// The words of the program, a line each.
-const USAGE: &str =
-    "warn_main PATH init\nwarn_main PATH script\nwarn_main PATH export\nwarn_main PATH board\nwarn_main PATH board --at STAMP\nwarn_main PATH upgrade\nwarn_main PATH dry OFFICE STAMP\nwarn_main PATH drill NUMBER COUNT\nwarn_main PATH serve --port N --workers W --connections M\n";
+const USAGE: &str = "\
+warn_main PATH init
+warn_main PATH script
+warn_main PATH export
+warn_main PATH board
+warn_main PATH board --at STAMP
+warn_main PATH upgrade
+warn_main PATH dry OFFICE STAMP
+warn_main PATH drill NUMBER COUNT
+warn_main PATH serve --port N --workers W --connections M
+";
 
 /// What a desk's program uses beside its words, its input and its output.
 #[derive(Drop)]
@@ -38,32 +47,32 @@ fn run_over<
     R: Threads + Wait + Sync,
     S: Source,
     K: Sink,
+    M,
     D: Disk + Send + Drop,
     P: Port,
     C: Clock + Sync,
     G: Gate + Sync,
 >(
     rt: &R,
-    alloc: Global,
+    outside: &mut Outside<S, K, M>,
     words: &List<Text>,
-    input: &mut S,
-    output: &mut K,
     disk: D,
     desk: &mut Desk<P, C, G>,
 ) -> u8
     requires { (P.state desk.old.port).returned ≡ 0 }
-    ensures { KeepsOver D.Disk C.Clock words.now disk
-        (around (S.inflow input.old) (K.outflow output.old) desk.old.clock
+    ensures ran { KeepsOver D.Disk C.Clock words.now disk
+        (around (S.inflow outside.old.input) (K.outflow outside.old.output) desk.old.clock
         (P.state desk.old.port))
-        (around (S.inflow input.new) (K.outflow output.new) desk.new.clock
+        (around (S.inflow outside.new.input) (K.outflow outside.new.output) desk.new.clock
         (P.state desk.new.port)) result }
+    ensures silent { outside.new.messages ≡ outside.old.messages }
 {
     let ended = desk_run(
         rt,
-        alloc,
+        outside.alloc,
         words,
-        input,
-        output,
+        &mut outside.input,
+        &mut outside.output,
         disk,
         &mut desk.port,
         &mut desk.clock,
@@ -100,16 +109,15 @@ fn run_words<
     let Ok(words) = given_words(alloc, command_line, 2) else {
         return End::OutOfMemory.status();
     };
-    let (input, output) = (&mut outside.input, &mut outside.output);
     match place_of(command_line) {
-        Place::Unnamed => run_over(rt, alloc, &words, input, output, FileDisk::new(None), desk),
+        Place::Unnamed => run_over(rt, outside, &words, FileDisk::new(None), desk),
         Place::Memory => match SureDisk::new(alloc, ROOM) {
-            Ok(disk) => run_over(rt, alloc, &words, input, output, disk, desk),
+            Ok(disk) => run_over(rt, outside, &words, disk, desk),
             Err(_) => End::OutOfMemory.status(),
         },
         Place::File(path) => {
             let disk = files.open(path, access_of(&words));
-            run_over(rt, alloc, &words, input, output, disk, desk)
+            run_over(rt, outside, &words, disk, desk)
         }
     }
 }

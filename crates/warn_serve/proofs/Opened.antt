@@ -38,7 +38,7 @@ module _ {D : Type 0} (d : Disks D) (gives : ℤ → Type 0) (opened kept : Kept
     returned = omega arith;
     links = (takes_none port).links;
     later = (takes_none port).later;
-    ends = inl some;
+    ends = (inl some, omega arith);
   }
 
   pub served_all : (base : KeptOffice D d) (given : List ℕ) (number workers connections : ℕ) (first last : PortState) (end : ServeEnd) (old new : PassRecord (KeptOffice D d) Happening) (happenings : List Happening)

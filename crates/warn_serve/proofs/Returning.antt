@@ -2,9 +2,9 @@
 use Rattle.std.proofs.Common.{ℕ, zero, suc, ◌≡◌, ◌+◌, ◌-◌, ◌^◌, ◌≤◌, inl, inr, min, List, [], ◌∷◌, ◌++◌, length, map, refl, ap, sym, ◌∙◌, subst, arith, append_assoc, append-nil, length-append, Option, None, Some, IfSome, option_map, Result, Err}
 use Rattle.std.proofs.lemmas.List.{map-append}
 use Rattle.desk_links.specs.Links.{DoorState, IsNone, IsUnused, LinkState, PortState, behind, with_door}
-use Rattle.desk_links.specs.Listening.{MayFail}
+use Rattle.desk_links.specs.Listening.{RoseAsTold}
+use Rattle.desk_traits.specs.Faults.{Rose}
 use Rattle.hazard_types.specs.declared.or.Or.{Or}
-use Rattle.hazard_types.specs.declared.or.Or.TheVariants.{No}
 use Rattle.warn_http.specs.Calls.{Called}
 use Rattle.warn_serve.specs.Gathered.{TakesBack, end_after, short_of}
 use Rattle.warn_serve.specs.Shares.{total_of}
@@ -15,9 +15,9 @@ use Rattle.warn_serve.specs.declared.serving.ServeEnd.TheVariants.{Done, PortFau
 use Rattle.warn_serve.specs.declared.workers.WorkerEnd.{WorkerEnd}
 use Rattle.warn_serve.specs.declared.workers.WorkerEnd.TheVariants.{Done as Worked, PortFault as Failed}
 
--- why a port that failed gave no doors
-pub failed_so : {T E : Type 0} (cause : Type 0) (r : Result T (Or E)) (e : Or E) (failed : E) → r ≡ Err e → e ≡ No failed → MayFail {T = T} {E = E} cause r → cause
-failed_so {T = T} {E = E} cause r e failed at is h = subst (λ (z : Or E). MayFail {T = T} {E = E} cause (Err z)) is (subst (λ (z : Result T (Or E)). MayFail {T = T} {E = E} cause z) at h)
+-- the count of a port that gave no doors: it rose where the port failed, and not where memory ran out
+pub counted_so : {T E : Type 0} (before now : ℕ) (r : Result T (Or E)) (e is : Or E) → r ≡ Err e → e ≡ is → RoseAsTold {T = T} {E = E} before now r → RoseAsTold {T = T} {E = E} before now (Err is)
+counted_so {T = T} {E = E} before now r e is at same h = subst (λ (z : Or E). RoseAsTold {T = T} {E = E} before now (Err z)) same (subst (λ (z : Result T (Or E)). RoseAsTold {T = T} {E = E} before now z) at h)
 
 pub total_on : {W : Type 0} (share : W → ℕ) (ws : List W) (w : W) → total_of (map share (ws ++ w ∷ [])) ≡ total_of (map share ws) + share w
 total_on share [] w = omega arith
@@ -64,6 +64,10 @@ takes_door first last door visits is count told = record {
   later = omega (arith, ap (λ (p : PortState). p.faults) is);
 }
 
+-- a door that was not used adds no fault
+pub steady_unused : (first mid last : PortState) (door : DoorState) → mid.faults ≤ first.faults → IsUnused door → last ≡ with_door mid door → last.faults ≤ first.faults
+steady_unused first mid last door was unused is = omega (arith, was, unused.no_fault, ap (λ (p : PortState). p.faults) is)
+
 -- a door that was not used adds nothing
 pub takes_unused : (first mid last : PortState) (door : DoorState) → TakesBack first mid [] → IsUnused door → last ≡ with_door mid door → TakesBack first last []
 takes_unused first mid last door was unused is = takes_on first mid last [] [] was (takes_door mid last door [] is unused.none_returned (none_told door.links unused.no_link))
@@ -74,11 +78,11 @@ lacks_both (x ∷ xs) ys = let h = lacks_both xs ys in omega arith
 
 -- the end where for so many links no worker could be had
 pub ends_short : (first last : PortState) (shares left connections : ℕ) (visits : List Visit) (end : ServeEnd) → shares + left ≡ connections → length visits ≤ shares → EndsAs first last shares visits end → EndsAs first last connections visits (short_of end left)
-ends_short first last shares zero connections visits Done all within e = (omega (arith, all, e.0), e.1)
-ends_short first last shares (suc left) connections visits Done all within e = inl (omega (arith, all, e.0))
+ends_short first last shares zero connections visits Done all within e = (omega (arith, all, e.0), e.1, e.2)
+ends_short first last shares (suc left) connections visits Done all within e = (inl (omega (arith, all, e.0)), e.2)
 ends_short first last shares left connections visits PortFault all within e = (omega (arith, all, e.0), e.1)
-ends_short first last shares left connections visits OutOfMemory all within (inl less) = inl (omega (arith, all, less))
-ends_short first last shares left connections visits OutOfMemory all within (inr lacks) = inr lacks
+ends_short first last shares left connections visits OutOfMemory all within (inl less, steady) = (inl (omega (arith, all, less)), steady)
+ends_short first last shares left connections visits OutOfMemory all within (inr lacks, steady) = (inr lacks, steady)
 
 module _ {P : Type 0} (answers : Called → P → P → List ℕ → Type 0) (first mid last : PortState) (old new : DoorState) (shares share : ℕ) (xs ys : List Visit) (sound : old.faults ≡ 0) (faults : last.faults ≡ min (mid.faults + new.faults) (2 ^ 64 - 1)) (later : min first.faults (2 ^ 64 - 1) ≤ mid.faults) (within : length xs ≤ shares) where
   long : length (xs ++ ys) ≡ length xs + length ys
@@ -86,11 +90,11 @@ module _ {P : Type 0} (answers : Called → P → P → List ℕ → Type 0) (fi
 
   -- the end after one worker more
   pub ends_on : (end : ServeEnd) (worked : WorkerEnd) → EndsAs first mid shares xs end → EndsWith answers old new share ys worked → EndsAs first last (shares + share) (xs ++ ys) (end_after end worked)
-  ends_on Done (Worked zero) e h = (omega (arith, long, e.0, h.0), omega (arith, lacks_both xs ys, e.1, h.1))
-  ends_on Done (Worked (suc lacks)) e h = inr (omega (arith, lacks_both xs ys, e.1, h.1))
+  ends_on Done (Worked zero) e h = (omega (arith, long, e.0, h.0), omega (arith, lacks_both xs ys, e.1, h.1), omega (arith, sound, faults, h.2, e.2))
+  ends_on Done (Worked (suc lacks)) e h = (inr (omega (arith, lacks_both xs ys, e.1, h.1)), omega (arith, sound, faults, h.2, e.2))
   ends_on PortFault (Worked lacks) e h = (omega (arith, long, e.0, h.0), omega (arith, e.1, faults))
-  ends_on OutOfMemory (Worked lacks) (inl less) h = inl (omega (arith, long, less, h.0))
-  ends_on OutOfMemory (Worked lacks) (inr some) h = inr (omega (arith, lacks_both xs ys, some))
+  ends_on OutOfMemory (Worked lacks) (inl less, steady) h = (inl (omega (arith, long, less, h.0)), omega (arith, sound, faults, h.2, steady))
+  ends_on OutOfMemory (Worked lacks) (inr some, steady) h = (inr (omega (arith, lacks_both xs ys, some)), omega (arith, sound, faults, h.2, steady))
   ends_on Done Failed e h = (omega (arith, long, within, h.0), omega (arith, h.1, sound, faults, later))
   ends_on PortFault Failed e h = (omega (arith, long, within, h.0), omega (arith, h.1, sound, faults, later))
   ends_on OutOfMemory Failed e h = (omega (arith, long, within, h.0), omega (arith, h.1, sound, faults, later))

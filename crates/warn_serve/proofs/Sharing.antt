@@ -22,11 +22,11 @@ visits_on : {P : Type 0} (parts : List (Part P)) (p : Part P) → visits_of (par
 visits_on [] p = append-nil p.visits
 visits_on (q ∷ parts) p = ap (λ (l : List Visit). q.visits ++ l) (visits_on parts p) ∙ sym (append_assoc q.visits (visits_of parts) p.visits)
 
--- the end, of a port that had failed no more before
-ends_from : (first mid last : PortState) (shares : ℕ) (visits : List Visit) (end : ServeEnd) → min first.faults (2 ^ 64 - 1) ≤ mid.faults → EndsAs mid last shares visits end → EndsAs first last shares visits end
-ends_from first mid last shares visits Done later e = e
-ends_from first mid last shares visits PortFault later e = (e.0, omega (arith, later, e.1))
-ends_from first mid last shares visits OutOfMemory later e = e
+-- the end, of a port that had not failed before
+ends_from : (first mid last : PortState) (shares : ℕ) (visits : List Visit) (end : ServeEnd) → min first.faults (2 ^ 64 - 1) ≤ mid.faults → mid.faults ≤ first.faults → EndsAs mid last shares visits end → EndsAs first last shares visits end
+ends_from first mid last shares visits Done later steady e = (e.0, e.1, omega (arith, steady, e.2))
+ends_from first mid last shares visits PortFault later steady e = (e.0, omega (arith, later, e.1))
+ends_from first mid last shares visits OutOfMemory later steady e = (e.0, omega (arith, steady, e.1))
 
 pub takes_same : (first last : PortState) → last.returned ≡ first.returned → last.links ≡ first.links → first.faults ≤ last.faults → TakesBack first last []
 takes_same first last returned links later = record {
@@ -56,7 +56,7 @@ module _ {B E : Type 0} (answers : Called → PassRecord B E → PassRecord B E 
       omega (arith, few_returned h.first door share work.visits end work.ends, work.gives_back.returned, h.unused.none_returned)
 
   pub gathered_none : (port : PortState) (pass : PassRecord B E) → IsGathered answers [] 0 port port pass pass Done
-  gathered_none port pass = record { parts = []; given_is = refl; passes = gathers_none pass; served = λ k d less. absurd (omega (arith, less)); back = takes_none port; within = omega arith; ends = (refl, refl) }
+  gathered_none port pass = record { parts = []; given_is = refl; passes = gathers_none pass; served = λ k d less. absurd (omega (arith, less)); back = takes_none port; within = omega arith; ends = (refl, refl, omega arith) }
 
   -- nobody served a link
   pub gathered_not : (shares : ℕ) (first last : PortState) (pass : PassRecord B E) (end : ServeEnd) → TakesBack first last [] → EndsAs first last shares [] end → IsGathered answers [] shares first last pass pass end
@@ -94,13 +94,13 @@ module _ {B E : Type 0} (answers : Called → PassRecord B E → PassRecord B E 
   part_before old pass p kept h = record { start = h.start; is_share = first_share old pass h.start kept h.is_share; visits = h.visits; ends = h.ends }
 
   -- the same with the pass and the port before workers were hired, and with the links that none had to serve
-  pub gathered_short : (given : List ℕ) (shares left connections : ℕ) (first mid last : PortState) (old pass new : PassRecord B E) (end next : ServeEnd) → IsGathered answers given shares mid last pass new end → KeepsWhole old pass → TakesBack first mid [] → shares + left ≡ connections → next ≡ short_of end left → IsGathered answers given connections first last old new next
-  gathered_short given shares left connections first mid last old pass new end next g kept back all is = record {
+  pub gathered_short : (given : List ℕ) (shares left connections : ℕ) (first mid last : PortState) (old pass new : PassRecord B E) (end next : ServeEnd) → IsGathered answers given shares mid last pass new end → KeepsWhole old pass → TakesBack first mid [] → mid.faults ≤ first.faults → shares + left ≡ connections → next ≡ short_of end left → IsGathered answers given connections first last old new next
+  gathered_short given shares left connections first mid last old pass new end next g kept back steady all is = record {
     parts = g.parts;
     given_is = g.given_is;
     passes = gathers_from old pass new (passes_of g.parts) kept g.passes;
     served = λ k d less. part_before old pass _ kept (g.served k d less);
     back = takes_on first mid last [] (visits_of g.parts) back g.back;
     within = (let h = g.within in omega arith);
-    ends = subst (λ (e : ServeEnd). EndsAs first last connections (visits_of g.parts) e) (sym is) (ends_short first last shares left connections (visits_of g.parts) end all g.within (ends_from first mid last shares (visits_of g.parts) end back.later g.ends));
+    ends = subst (λ (e : ServeEnd). EndsAs first last connections (visits_of g.parts) e) (sym is) (ends_short first last shares left connections (visits_of g.parts) end all g.within (ends_from first mid last shares (visits_of g.parts) end back.later steady g.ends));
   }

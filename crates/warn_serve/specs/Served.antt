@@ -43,11 +43,13 @@ abbrev pub TellsBehind : Option (List LinkState) → Option (List LinkState) →
 TellsBehind first None more = Unit {0}
 TellsBehind first (Some last) more = (before : List LinkState) × (first ≡ Some before) × (last ≡ before ++ more)
 
--- All links were served, and none of them ended for want of memory; or the port or a door failed, and links are missing; or links are missing, or one ended for want of memory.
+-- All links were served, and none of them ended for want of memory; or the port or a door failed, and
+-- links are missing; or links are missing, or one ended for want of memory. Only where the port or a
+-- door failed has the port's count of faults risen.
 abbrev pub EndsAs : PortState → PortState → ℕ → List Visit → ServeEnd → Type 0
-EndsAs first last connections visits Done = (length visits ≡ connections) × (lacks_of visits ≡ 0)
+EndsAs first last connections visits Done = (length visits ≡ connections) × (lacks_of visits ≡ 0) × (last.faults ≤ first.faults)
 EndsAs first last connections visits PortFault = (length visits < connections) × Rose first.faults last.faults
-EndsAs first last connections visits OutOfMemory = (length visits < connections) ⊎ (0 < lacks_of visits)
+EndsAs first last connections visits OutOfMemory = ((length visits < connections) ⊎ (0 < lacks_of visits)) × (last.faults ≤ first.faults)
 
 module _ {D : Type 0} (d : Disks D) (gives : ℤ → Type 0) (opened : KeptOffice D d) where
   -- a worker that had seen nothing since the opening made its visits

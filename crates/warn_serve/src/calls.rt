@@ -48,7 +48,9 @@ impl<R: Wait, D: Disk, C: Clock, G> Service<'_, R, D, C, G> {
         requires pass { pass.old.lock ≡ self.now.lock.now }
         requires form { HasForm asked.now }
         ensures kept { KeepsRights pass.old pass.new }
-        ensures submitted { (answer : List ℕ) × Submits last pass.old pass.new answer (C.gives self.now.clock.now) asked.now × Yields result answer }
+        ensures submitted { (answer : List ℕ)
+            × Submits last pass.old pass.new answer (C.gives self.now.clock.now) asked.now
+            × Yields result answer }
     {
         let reading = self.clock.minute();
         let outcome = submit_in_turn(self.rt, self.lock, pass, self.alloc, asked, reading);
@@ -64,7 +66,9 @@ impl<R: Wait, D: Disk, C: Clock, G> Service<'_, R, D, C, G> {
     ) -> Result<AnswerBytes, Oom>
         requires pass { pass.old.lock ≡ self.now.lock.now }
         ensures kept { KeepsRights pass.old pass.new }
-        ensures looked { (answer : List ℕ) × IsLooked last pass.old pass.new answer (C.gives self.now.clock.now) query × Yields result answer }
+        ensures looked { (answer : List ℕ)
+            × IsLooked last pass.old pass.new answer (C.gives self.now.clock.now) query
+            × Yields result answer }
     {
         let reading = self.clock.minute();
         let shown = self.look_in_turn(pass, &query, reading);
@@ -80,7 +84,9 @@ impl<R: Wait, D: Disk, C: Clock, G> Service<'_, R, D, C, G> {
     ) -> Result<AnswerBytes, Oom>
         requires pass { pass.old.lock ≡ self.now.lock.now }
         ensures kept { KeepsRights pass.old pass.new }
-        ensures posted { (answer : List ℕ) × AnswersPost last pass.old pass.new answer (C.gives self.now.clock.now) posted.now × Yields result answer }
+        ensures posted { (answer : List ℕ)
+            × AnswersPost last pass.old pass.new answer (C.gives self.now.clock.now) posted.now
+            × Yields result answer }
     {
         match read_request(self.alloc, posted) {
             Ok(asked) => self.answer_request(pass, &asked, last),
@@ -104,7 +110,10 @@ impl<R: Wait, D: Disk, C: Clock, G> Service<'_, R, D, C, G> {
         requires pass { pass.old.lock ≡ self.now.lock.now }
         requires within { LiesIn (length bytes.now) call }
         ensures kept { KeepsRights pass.old pass.new }
-        ensures judged { (answer : List ℕ) × AnswersAsked last pass.old pass.new answer (C.gives self.now.clock.now) call (posted_in bytes.now call) × Yields result answer }
+        ensures judged { (answer : List ℕ)
+            × AnswersAsked last pass.old pass.new answer (C.gives self.now.clock.now) call
+            (posted_in bytes.now call)
+            × Yields result answer }
     {
         match call {
             Call::Post(span) => {

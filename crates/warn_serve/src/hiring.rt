@@ -1,5 +1,6 @@
 //! Workers, each with a share of one pass and of the links.
-ghost use Rattle.std.specs.Prelude.{◌≡◌, ◌≤◌, ◌<◌, ◌+◌, ◌-◌, [], ℕ, All, IfOk, OnErr, OnOk, length, map, slice_index_or, vec_len};
+ghost use Rattle.std.specs.Prelude.{◌≡◌, ◌≤◌, ◌<◌, ◌+◌, ◌-◌, [], ℕ, All, IfOk, OnErr, OnOk};
+ghost use Rattle.std.specs.Prelude.{length, map, slice_index_or, vec_capacity, vec_len};
 ghost use Rattle.turn_lock.specs.Passes.{one_share_fewer, one_share_of};
 ghost use Rattle.warn_serve.specs.Calls.{AnswersCall};
 ghost use Rattle.warn_serve.specs.Gathered.{DoesShare, IsFresh, KeepsWhole, TakesBack};
@@ -28,8 +29,8 @@ pub(crate) struct Worker<T: Storied, Dr> {
     pub(crate) end: WorkerEnd,
 }
 
-/// The share of the next worker, the whole part of the quotient and one link more while some are left
-/// over; and how many are left over for those after it.
+/// The share of the next worker, the whole part of the quotient and one link more while some are
+/// left over; and how many are left over for those after it.
 fn share_of(whole: u64, more: u64) -> (u64, u64)
     requires { whole ≤ 1000000 }
     ensures share { result.0 ≡ share_at whole more }
@@ -43,14 +44,21 @@ fn share_of(whole: u64, more: u64) -> (u64, u64)
 }
 
 impl<R, D: Disk, C, G> Service<'_, R, D, C, G> {
-    /// What one more worker needs: a share of the pass, and an inbox.
-    fn equip(&self, pass: &mut Pass<SharedOffice<D>>) -> Result<(Pass<SharedOffice<D>>, Inbox), Oom>
+    /// What one more worker needs: room among the workers, an inbox, and a share of the pass.
+    fn equip<Dr>(
+        &self,
+        pass: &mut Pass<SharedOffice<D>>,
+        workers: &mut Vec<Worker<SharedOffice<D>, Dr>>,
+    ) -> Result<(Pass<SharedOffice<D>>, Inbox), Oom>
         requires lock { pass.old.lock ≡ self.now.lock.now }
         requires shares { 1 < pass.old.shares }
         ensures part { IfOk result (λ made. made.0 ≡ one_share_of pass.old) }
         ensures fewer { OnOk result (pass.new ≡ one_share_fewer pass.old) }
         ensures kept { OnErr result (pass.new ≡ pass.old) }
+        ensures workers { workers.new.items ≡ workers.old.items }
+        ensures room { OnOk result (length workers.new.items < vec_capacity workers.new) }
     {
+        workers.reserve(1)?;
         let inbox = Inbox::new(self.alloc)?;
         let part = self.lock.split(pass)?;
         Ok((part, inbox))
@@ -81,6 +89,7 @@ impl<R, D: Disk, C, G> Service<'_, R, D, C, G> {
         ensures even { result.1 ≡ 0 → with_links (map (λ w. w.share) result.0.items)
             ≡ with_links (shares_of (vec_len doors) connections) }
         ensures port { TakesBack (P.state port.old) (P.state port.new) [] }
+        ensures steady { (P.state port.new).faults ≤ (P.state port.old).faults }
         ensures numbers { (P.state port.new).numbers ≡ (P.state port.old).numbers }
     {
         let count = doors.len() as u64;
@@ -91,12 +100,7 @@ impl<R, D: Disk, C, G> Service<'_, R, D, C, G> {
         for door in doors {
             let (share, rest) = share_of(whole, more);
             more = rest;
-            if workers.reserve(1).is_err() {
-                port.return_door(door);
-                lost += share;
-                continue;
-            }
-            let Ok((part, inbox)) = self.equip(pass) else {
+            let Ok((part, inbox)) = self.equip(pass, &mut workers) else {
                 port.return_door(door);
                 lost += share;
                 continue;

@@ -12,17 +12,22 @@ ghost use Rattle.warn_serve.specs.declared.links.LinkEnd.{LinkEnd};
 
 use desk_traits::{Clock, Disk};
 
-/// A link ends only by the cause of its end, and of the same bytes the causes of `Closed`, `Cut` and
-/// `Spent` exclude one another: a link that did not fail, and for which memory did not run out, ends so
-/// exactly where the cause holds. So two such links of which the same bytes were read end alike. There
-/// is one exception: bytes that end within the target of a head that is bad already may be refused, by
-/// which the link closes, or cut by the end of the input.
+/// A link ends only by the cause of its end, and of the same bytes the causes of `Closed`, `Cut`
+/// and `Spent` exclude one another: a link that did not fail, and for which memory did not run out,
+/// ends so exactly where the cause holds. So two such links of which the same bytes were read end
+/// alike. There is one exception: bytes that end within the target of a head that is bad already
+/// may be refused, by which the link closes, or cut by the end of the input.
 pub fn links_end_by_their_causes<D: Disk, C: Clock>()
-    ensures cause { (clock : C) (old new : LinkState) (pass pass' : PassRecord (KeptOffice D D.Disk) Happening) (end : LinkEnd)
-        (served : IsServedLink (AnswersCall (C.gives clock)) old new pass pass' end) → HasCause old new served.read end }
-    ensures apart { (old new old' new' : LinkState) (read : List ℕ) (end other : LinkEnd) → IsWhole end → IsWhole other →
-        HasCause old new read end → HasCause old' new' read other → EndAlike read end other }
-    ensures alike { (clock clock' : C) (old new old' new' : LinkState) (pass pass' next next' : PassRecord (KeptOffice D D.Disk) Happening) (end other : LinkEnd)
-        (one : IsServedLink (AnswersCall (C.gives clock)) old new pass pass' end) (two : IsServedLink (AnswersCall (C.gives clock')) old' new' next next' other) →
-        one.read ≡ two.read → IsWhole end → IsWhole other → EndAlike one.read end other }
+    ensures cause { (clock : C) (old new : LinkState)
+        (pass pass' : PassRecord (KeptOffice D D.Disk) Happening) (end : LinkEnd)
+        (served : IsServedLink (AnswersCall (C.gives clock)) old new pass pass' end)
+        → HasCause old new served.read end }
+    ensures apart { (old new old' new' : LinkState) (read : List ℕ) (end other : LinkEnd)
+        → IsWhole end → IsWhole other
+        → HasCause old new read end → HasCause old' new' read other → EndAlike read end other }
+    ensures alike { (clock clock' : C) (old new old' new' : LinkState)
+        (pass pass' next next' : PassRecord (KeptOffice D D.Disk) Happening) (end other : LinkEnd)
+        (one : IsServedLink (AnswersCall (C.gives clock)) old new pass pass' end)
+        (two : IsServedLink (AnswersCall (C.gives clock')) old' new' next next' other)
+        → one.read ≡ two.read → IsWhole end → IsWhole other → EndAlike one.read end other }
 {}

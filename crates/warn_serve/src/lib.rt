@@ -1,5 +1,5 @@
-//! The office served over links: the answer to a call, the calls of one link, a worker over the links
-//! of a door, and workers over the doors of a port who share one kept office.
+//! The office served over links: the answer to a call, the calls of one link, a worker over the
+//! links of a door, and workers over the doors of a port who share one kept office.
 #![tactic(auto)]
 
 mod answers;

@@ -154,48 +154,11 @@ impl<R: Threads + Wait + Sync, D: Disk + Send, C: Clock + Sync, G: Gate + Sync> 
     }
 }
 
-/// Makes the routes, and then serves the links of the port.
-fn serve_routed<R: Threads + Wait + Sync, D: Disk + Send, P: Port, C: Clock + Sync, G: Gate + Sync>(
-    rt: &R,
-    alloc: Global,
-    lock: &TurnLock<SharedOffice<D>>,
-    pass: &mut Pass<SharedOffice<D>>,
-    port: &mut P,
-    number: u16,
-    workers: usize,
-    connections: u64,
-    clock: &C,
-    gate: &G,
-) -> ServeEnd
-    requires lock { pass.old.lock ≡ lock.now }
-    requires shares { pass.old.shares ≡ 1024 }
-    requires workers { (1 ≤ workers) × (workers ≤ 16) }
-    requires connections { (1 ≤ connections) × (connections ≤ 1000000) }
-    requires unused { (P.state port.old).returned ≡ 0 }
-    ensures shares { pass.new.shares ≡ 1024 }
-    ensures listened { HasListened number (P.state port.old) (P.state port.new) }
-    ensures gathered { (given : List ℕ) × IsGathered (AnswersCall (C.gives clock.now))
-        given connections (P.state port.old) (P.state port.new) pass.old pass.new result
-        × SharesOut workers connections given result }
-{
-    let Ok(routes) = Routes::new(alloc) else {
-        return ServeEnd::OutOfMemory;
-    };
-    let service = Service {
-        rt,
-        alloc,
-        lock,
-        routes: &routes,
-        clock,
-        gate,
-    };
-    service.serve_port(pass, port, number, workers, connections)
-}
-
 /// Serves so many links of the doors of a port, 1 to 1,000,000, which listens at the number, over
 /// one kept office, by 1 to 16 workers, each with its share, and returns how that ended. The office
-/// comes back, after all that happened to it. Where memory runs out for a worker its links are served
-/// by nobody, and the end is `OutOfMemory`.
+/// comes back, after all that happened to it. Where memory runs out for a worker its links are
+/// served by nobody, and the end is `OutOfMemory`. The end is `PortFault` where the port can't be
+/// had or an accept failed, and only there the port's count of faults has risen.
 pub fn serve<R: Threads + Wait + Sync, D: Disk + Send, P: Port, C: Clock + Sync, G: Gate + Sync>(
     rt: &R,
     alloc: Global,
@@ -214,22 +177,22 @@ pub fn serve<R: Threads + Wait + Sync, D: Disk + Send, P: Port, C: Clock + Sync,
         (P.state port.old) (P.state port.new) result.1 }
 {
     let shared = SharedOffice::open(alloc, kept);
+    let Ok(routes) = Routes::new(alloc) else {
+        return (shared.into_kept(), ServeEnd::OutOfMemory);
+    };
     let (lock, mut pass) = match TurnLock::start(alloc, shared) {
         Ok(made) => made,
         Err(shared) => return (shared.into_kept(), ServeEnd::OutOfMemory),
     };
-    let end = serve_routed(
+    let service = Service {
         rt,
         alloc,
-        &lock,
-        &mut pass,
-        port,
-        number,
-        workers,
-        connections,
+        lock: &lock,
+        routes: &routes,
         clock,
         gate,
-    );
+    };
+    let end = service.serve_port(&mut pass, port, number, workers, connections);
     let closed = lock.close(pass);
     (closed.into_kept(), end)
 }

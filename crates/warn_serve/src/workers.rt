@@ -57,8 +57,8 @@ impl<R: Wait, D: Disk, C: Clock, G: Gate> Service<'_, R, D, C, G> {
         Ok(end)
     }
 
-    /// Serves so many links of a door, at most 1,000,000, one after another, with one inbox. Each goes
-    /// back to the door.
+    /// Serves so many links of a door, at most 1,000,000, one after another, with one inbox. Each
+    /// goes back to the door.
     pub fn worker<Dr: Door>(
         &self,
         pass: &mut Pass<SharedOffice<D>>,

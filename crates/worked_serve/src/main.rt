@@ -1,8 +1,10 @@
-//! Worked serving, following and turns: a script whose lines `rows of NAME` say what the lines behind them are: calls on links
-//! and what a server does with them, answers on links and what a follower does with them, or threads that take turns.
+//! Worked serving, following and turns: a script whose lines `rows of NAME` say what the lines
+//! behind them are: calls on links and what a server does with them, answers on links and what a
+//! follower does with them, or threads that take turns.
 #![tactic(auto)]
 
 mod follow;
+mod offices;
 mod serve;
 mod turns;
 
@@ -56,8 +58,9 @@ impl Rows {
     }
 }
 
-/// Works each line of the input, and prints what it is answered; a line that names rows is said again. What serves over
-/// threads is no trait's method, so the main that other programs of rows share is of no use here.
+/// Works each line of the input, and prints what it is answered; a line that names rows is said
+/// again. What serves over threads is no trait's method, so the main that other programs of rows
+/// share is of no use here.
 fn run<
     R: AllocGlobal
         + Input

@@ -1,13 +1,10 @@
 //! The other end: an office on a disk in memory, served over one link.
-use desk_links::{MemLink, OpenGate};
+use crate::offices::{created, serve_over};
+use desk_links::MemLink;
 use desk_traits::{MemDisk, SetClock};
 use hazard_types::{List, Oom, Text};
-use office_journal::KeptOffice;
-use office_turns::SharedOffice;
 use std::alloc::Global;
 use std::sync::Wait;
-use turn_lock::TurnLock;
-use warn_serve::serve_link;
 
 /// The settings, the journal, and the reading of the clock.
 #[derive(Drop)]
@@ -38,13 +35,12 @@ impl Office {
     pub fn make_journal(&mut self, alloc: Global) -> Result<bool, Oom> {
         let none = List::new(alloc);
         let disk = MemDisk::new(alloc, b"", &none, None, 0)?;
-        match KeptOffice::create(alloc, disk, self.settings.as_slice()) {
-            Ok(kept) => {
-                let disk = kept.into_disk();
+        match created(alloc, disk, self.settings.as_slice()) {
+            Some(disk) => {
                 self.journal = disk.file().clone()?;
                 Ok(true)
             }
-            Err(_refused) => Ok(false),
+            None => Ok(false),
         }
     }
 
@@ -59,17 +55,12 @@ impl Office {
         let disk = MemDisk::new(alloc, self.journal.as_slice(), &none, None, 0)?;
         let clock = SetClock::new(&List::from_slice(alloc, &[self.reading])?)?;
         let mut link = MemLink::new(alloc, bytes, usize::MAX, &none)?;
-        let Ok(kept) = KeptOffice::adopt(alloc, disk) else {
+        let Some(left) = serve_over(rt, alloc, disk, &mut link, &clock)? else {
             return Ok(None);
         };
-        let Ok((lock, mut pass)) = TurnLock::start(alloc, SharedOffice::open(alloc, kept)) else {
-            return Err(Oom);
-        };
-        let _ = serve_link(rt, alloc, &lock, &mut pass, &mut link, &clock, &OpenGate);
-        let disk = lock.close(pass).into_kept().into_disk();
         Ok(Some(Served {
             written: link.written().clone()?,
-            journal: disk.file().clone()?,
+            journal: left.disk.file().clone()?,
         }))
     }
 }

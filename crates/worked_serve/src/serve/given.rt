@@ -1,10 +1,11 @@
 //! What a run stands on.
+use crate::offices::created;
 use desk_traits::{MemDisk, SetClock};
 use hazard_types::{List, Oom, Text, read_stamp};
-use office_journal::KeptOffice;
 use std::alloc::Global;
 
-/// The file of a run's disk, the readings of its clock, and the calls of its disk and of each of its links that fail.
+/// The file of a run's disk, the readings of its clock, and the calls of its disk and of each of
+/// its links that fail.
 #[derive(Drop)]
 pub struct Given {
     pub file: Text,
@@ -38,13 +39,12 @@ impl Given {
 
     /// Makes the file the journal of a new office. Answers whether the settings are those of one.
     pub fn make_journal(&mut self, alloc: Global, settings: &[u8]) -> Result<bool, Oom> {
-        match KeptOffice::create(alloc, self.disk(alloc)?, settings) {
-            Ok(kept) => {
-                let disk = kept.into_disk();
+        match created(alloc, self.disk(alloc)?, settings) {
+            Some(disk) => {
                 self.file = disk.file().clone()?;
                 Ok(true)
             }
-            Err(_refused) => Ok(false),
+            None => Ok(false),
         }
     }
 }

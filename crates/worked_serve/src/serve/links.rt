@@ -1,18 +1,17 @@
 //! One link, served over the office of a journal.
 ghost use Rattle.std.specs.Prelude.{◌≤◌};
 
+use crate::offices::serve_over;
 use crate::serve::answers::{add_bytes, count_answers, end_name};
 use crate::serve::given::Given;
-use desk_links::{MemLink, OpenGate};
+use desk_links::MemLink;
 use hazard_types::{Oom, Text};
-use office_journal::KeptOffice;
-use office_turns::SharedOffice;
 use std::alloc::Global;
 use std::sync::Wait;
-use turn_lock::TurnLock;
-use warn_serve::{LinkEnd, serve_link};
+use warn_serve::LinkEnd;
 
-/// How a link ended, what was written on it, the file that the disk then has, and how many requests the office has.
+/// How a link ended, what was written on it, the file that the disk then has, and how many requests
+/// the office has.
 #[derive(Drop)]
 pub struct LinkRun {
     pub end: LinkEnd,
@@ -33,21 +32,14 @@ pub fn run_link<R: Wait>(
 {
     let clock = given.clock(alloc)?;
     let mut link = MemLink::new(alloc, bytes, piece, &given.broken)?;
-    let Ok(kept) = KeptOffice::adopt(alloc, given.disk(alloc)?) else {
+    let Some(left) = serve_over(rt, alloc, given.disk(alloc)?, &mut link, &clock)? else {
         return Ok(None);
     };
-    let Ok((lock, mut pass)) = TurnLock::start(alloc, SharedOffice::open(alloc, kept)) else {
-        return Err(Oom);
-    };
-    let end = serve_link(rt, alloc, &lock, &mut pass, &mut link, &clock, &OpenGate);
-    let kept = lock.close(pass).into_kept();
-    let requests = kept.entries();
-    let disk = kept.into_disk();
     Ok(Some(LinkRun {
-        end,
+        end: left.end,
         written: link.written().clone()?,
-        file: disk.file().clone()?,
-        requests,
+        file: left.disk.file().clone()?,
+        requests: left.requests,
     }))
 }
 

@@ -3,6 +3,7 @@ ghost use Rattle.std.specs.Prelude.{◌≡◌, [], All, IfOk};
 ghost use Rattle.desk_links.specs.LinkMemory.{IsUntouched};
 ghost use Rattle.serve_command.specs.Words.{IsServing};
 
+use crate::offices::serve_port;
 use crate::serve::answers::{add_bytes, count_answers};
 use crate::serve::gate::HoldingGate;
 use crate::serve::given::Given;
@@ -10,7 +11,7 @@ use byte_streams::MemSink;
 use desk_commands::Ended;
 use desk_links::{MemLink, MemPort};
 use hazard_types::{List, Oom, Text};
-use serve_command::{Serving, run_serve};
+use serve_command::{Means, Serving};
 use std::alloc::Global;
 use std::sync::Wait;
 use std::thread::Threads;
@@ -58,7 +59,8 @@ fn port_of(alloc: Global, given: &Given, doors: &[DoorGiven]) -> Result<MemPort,
     MemPort::new(alloc, links, &failing)
 }
 
-/// How the links of a port are shown: by what was written on each, or by how many answers that were.
+/// How the links of a port are shown: by what was written on each, or by how many answers that
+/// were.
 #[derive(Clone, Copy, Debug, PartialEq, Eq)]
 pub enum Shown {
     Texts,
@@ -103,10 +105,12 @@ pub fn add_output(
     Ok(())
 }
 
-/// What a service is answered by, and the file that the disk then has.
+/// The port after a run, what the program wrote, its status, and the file that the disk then has.
 #[derive(Drop)]
-pub struct Served {
-    pub answer: String,
+pub struct PortRun {
+    pub port: MemPort,
+    pub output: Text,
+    pub status: u8,
     pub file: Text,
 }
 
@@ -118,8 +122,7 @@ pub fn serve_doors<R: Threads + Wait + Sync>(
     doors: &[DoorGiven],
     serving: &Serving,
     gate: &HoldingGate,
-    shown: Shown,
-) -> Result<Served, Oom>
+) -> Result<PortRun, Oom>
     requires { IsServing serving.now }
 {
     let none = List::new(alloc);
@@ -127,22 +130,27 @@ pub fn serve_doors<R: Threads + Wait + Sync>(
     let mut port = port_of(alloc, given, doors)?;
     let clock = given.clock(alloc)?;
     let disk = given.disk(alloc)?;
-    let Ended { status, disk } = run_serve(
+    let means = Means {
         rt,
         alloc,
-        serving,
-        &mut output,
-        disk,
-        &mut port,
-        &clock,
+        clock: &clock,
         gate,
-    );
-    let mut answer = String::new(alloc);
-    add_numbers(alloc, &mut answer, &port)?;
-    add_links(alloc, &mut answer, &port, shown)?;
-    add_output(alloc, &mut answer, output.taken(), status)?;
-    Ok(Served {
-        answer,
+    };
+    let Ended { status, disk } = serve_port(&means, serving, &mut output, disk, &mut port);
+    Ok(PortRun {
+        output: output.taken().clone()?,
+        port,
+        status,
         file: disk.file().clone()?,
     })
+}
+
+/// The numbers at which a port listened, what was written on its links, what the program wrote, and
+/// its status.
+pub fn port_answer(alloc: Global, run: &PortRun, shown: Shown) -> Result<String, Oom> {
+    let mut answer = String::new(alloc);
+    add_numbers(alloc, &mut answer, &run.port)?;
+    add_links(alloc, &mut answer, &run.port, shown)?;
+    add_output(alloc, &mut answer, &run.output, run.status)?;
+    Ok(answer)
 }

@@ -3,6 +3,7 @@ ghost use Rattle.std.specs.Prelude.{IfOk, IfSome};
 ghost use Rattle.std.specs.Thread.{IsSync};
 ghost use Rattle.serve_command.specs.Words.{IsServing};
 
+use crate::offices::serve_port;
 use crate::serve::answers::add_bytes;
 use crate::serve::gate::HoldingGate;
 use crate::serve::given::Given;
@@ -12,14 +13,15 @@ use byte_streams::{MemSink, write_whole};
 use desk_commands::Ended;
 use desk_links::{Dialer, Peer, Port, TcpDialer, TcpDoor, TcpPeer, TcpPort};
 use hazard_types::{List, Oom, Text};
-use serve_command::{Serving, run_serve};
+use serve_command::{Means, Serving};
 use std::alloc::Global;
 use std::net::{Net, TcpListener, TcpStream};
 use std::sync::Wait;
 use std::thread::{self, Threads, join};
 use std::time::{Clock, SystemTime};
 
-/// The first of the numbers at which a port may be looked for, of which none is given to those that dial.
+/// The first of the numbers at which a port may be looked for, of which none is given to those that
+/// dial.
 const FIRST: u16 = 21_000;
 
 /// How many these are.
@@ -59,7 +61,7 @@ fn free_port<R: Clock + Sync + Net<Listener = TcpListener, Stream = TcpStream>>(
 }
 
 /// Serves a port of this machine, and adds what the program wrote.
-fn serve_port<R: Clock + Threads + Wait + Sync + Net<Listener = TcpListener, Stream = TcpStream>>(
+fn serve_host<R: Clock + Threads + Wait + Sync + Net<Listener = TcpListener, Stream = TcpStream>>(
     rt: &R,
     alloc: Global,
     given: &Given,
@@ -73,16 +75,13 @@ fn serve_port<R: Clock + Threads + Wait + Sync + Net<Listener = TcpListener, Str
     let clock = given.clock(alloc)?;
     let disk = given.disk(alloc)?;
     let gate = HoldingGate::new(false);
-    let Ended { status, disk } = run_serve(
+    let means = Means {
         rt,
         alloc,
-        serving,
-        &mut output,
-        disk,
-        &mut port,
-        &clock,
-        &gate,
-    );
+        clock: &clock,
+        gate: &gate,
+    };
+    let Ended { status, disk } = serve_port(&means, serving, &mut output, disk, &mut port);
     drop(disk);
     let mut answer = String::new(alloc);
     add_output(alloc, &mut answer, output.taken(), status)?;
@@ -129,7 +128,8 @@ fn ask<C: Clock>(alloc: Global, peer: &mut TcpPeer<C>, bytes: &[u8]) -> Result<T
     Ok(heard)
 }
 
-/// What two clients hear that are there at once and ask the same. The one that came last asks first.
+/// What two clients hear that are there at once and ask the same. The one that came last asks
+/// first.
 fn ask_both<R: Clock + Sync + Net<Listener = TcpListener, Stream = TcpStream>>(
     rt: &R,
     alloc: Global,
@@ -156,7 +156,7 @@ fn serve_clients<
         rt,
         || -> Result<String, Oom>
             requires { IsSync R.row × IsServing serving.now }
-        { serve_port(rt, alloc, given, serving) },
+        { serve_host(rt, alloc, given, serving) },
         || -> Result<String, Oom> { ask_both(rt, alloc, number, bytes) },
     );
     let mut answer = heard?;
@@ -182,7 +182,7 @@ pub fn taken_answer<
     let Some(serving) = serving_at(alloc, number)? else {
         return Ok(String::from_str(alloc, "no words\n")?);
     };
-    let answer = serve_port(rt, alloc, given, &serving)?;
+    let answer = serve_host(rt, alloc, given, &serving)?;
     drop(doors);
     Ok(answer)
 }

@@ -6,7 +6,7 @@ use crate::serve::calls::add_calls;
 use crate::serve::gate::HoldingGate;
 use crate::serve::given::{Given, minutes_of, numbers_of};
 use crate::serve::links::{LinkRun, link_answer, run_link, tally_answer};
-use crate::serve::ports::{DoorGiven, Served, Shown, serve_doors};
+use crate::serve::ports::{DoorGiven, Shown, port_answer, serve_doors};
 use crate::serve::real::{clients_answer, taken_answer};
 use crate::serve::sweeps::{sweep_ends, sweep_pieces};
 use crate::serve::words::{serving_in, words_answer};
@@ -152,16 +152,9 @@ impl<'a, R: Clock + Threads + Wait + Sync + Net<Listener = TcpListener, Stream =
         };
         let gate = HoldingGate::new(self.holds);
         let doors = self.doors.as_slice();
-        let Served { mut answer, file } = serve_doors(
-            self.rt,
-            alloc,
-            &self.given,
-            doors,
-            &serving,
-            &gate,
-            shown,
-        )?;
-        self.given.file = file;
+        let run = serve_doors(self.rt, alloc, &self.given, doors, &serving, &gate)?;
+        let mut answer = port_answer(alloc, &run, shown)?;
+        self.given.file = run.file.clone()?;
         if gate.is_spent() {
             answer.push_str("held in vain\n")?;
         }

@@ -6,6 +6,6 @@ use Rattle.archive_report.proofs.findings.tell_breaches.Given as goal
 -- the lines so far were told, and the count is as before
 abbrev pub invariant-loop-found : goal.invariant-loop-found
 invariant-loop-found g l = record {
-  pages : Pages (g.K.Sink.outflow l.fn.output).taken (g.K.Sink.outflow l.output).taken l.fn.out l.out (flat_map (breach_line l.numbers) (take l.found-index l.breaches));
+  pages : Pages (g.K.Sink.outflow l.fn.output) (g.K.Sink.outflow l.output) l.fn.out l.out (flat_map (breach_line l.numbers) (take l.found-index l.breaches));
   steady : (g.K.Sink.outflow l.output).faults ≡ (g.K.Sink.outflow l.fn.output).faults;
 }

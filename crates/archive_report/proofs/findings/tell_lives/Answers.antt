@@ -9,9 +9,9 @@ use Rattle.archive_report.proofs.findings.tell_lives.Goals as goal
 pub returns-clause-told : goal.returns-clause-told
 returns-clause-told g c =
     let all = ap (λ (events : List (List Track)). flat_map lives_text events) c.as_slice.ensures ∙ flat_twice life_line c.in_ok-events.events ∙ ap (λ (lives : List Track). flat_map life_line lives) c.in_ok-events.ensures.value in
-    subst (λ (text : List ℕ). OnOk c.tell_events.result (Pages (g.K.Sink.outflow c.args.output.now).taken (g.K.Sink.outflow c.tell_events.new.output).taken c.args.out.now c.tell_events.new.out text)) all c.tell_events.ensures.told
+    subst (λ (text : List ℕ). OnOk c.tell_events.result (Pages (g.K.Sink.outflow c.args.output.now) (g.K.Sink.outflow c.tell_events.new.output) c.args.out.now c.tell_events.new.out text)) all c.tell_events.ensures.told
 
 pub returns-clause-halted : goal.returns-clause-halted
 returns-clause-halted g c =
     let all = ap (λ (events : List (List Track)). flat_map lives_text events) c.as_slice.ensures ∙ flat_twice life_line c.in_ok-events.events ∙ ap (λ (lives : List Track). flat_map life_line lives) c.in_ok-events.ensures.value in
-    subst (λ (text : List ℕ). IfErr c.tell_events.result (Halts (g.K.Sink.outflow c.args.output.now).taken (g.K.Sink.outflow c.tell_events.new.output).taken (c.args.out.now ++ text))) all c.tell_events.ensures.halted
+    subst (λ (text : List ℕ). IfErr c.tell_events.result (Halts (g.K.Sink.outflow c.args.output.now) (g.K.Sink.outflow c.tell_events.new.output) (c.args.out.now ++ text))) all c.tell_events.ensures.halted

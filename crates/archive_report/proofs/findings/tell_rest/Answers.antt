@@ -2,7 +2,7 @@ use Rattle.std.proofs.Common.{[]}
 use Rattle.archive_report.specs.Pieces.{end_text}
 use Rattle.archive_report.specs.Report.{findings_text}
 use Rattle.archive_report.proofs.Paging.{halts_then}
-use Rattle.archive_report.proofs.Reading.{stops_by}
+use Rattle.program_ends.proofs.Piecewise.{stops_by}
 use Rattle.archive_report.proofs.findings.tell_rest.Goals as goal
 
 pub returns-in_err-tell_end-clause-halted : goal.returns-in_err-tell_end-clause-halted
@@ -10,5 +10,5 @@ returns-in_err-tell_end-clause-halted g c =
     let tally = c.args.tally.now in
     let why = c.in_err-tell_end.field-0.0 in
     rw (stops_by c.from_residual-in_err-tell_end.result why c.from_residual-in_err-tell_end.ensures.1)
-    (halts_then (g.K.Sink.outflow c.args.output.now).taken (g.K.Sink.outflow c.tell_findings.new.output).taken (g.K.Sink.outflow c.tell_end.new.output).taken [] c.tell_findings.new.out (findings_text tally.numbers tally.reader.products) (end_text c.args.asked.now tally) why
+    (halts_then (g.K.Sink.outflow c.args.output.now) (g.K.Sink.outflow c.tell_findings.new.output) (g.K.Sink.outflow c.tell_end.new.output) [] c.tell_findings.new.out (findings_text tally.numbers tally.reader.products) (end_text c.args.asked.now tally) why
     (rw c.new-out.ensures at c.in_ok-listed.ensures.told) c.in_err-tell_end.ensures.halted)

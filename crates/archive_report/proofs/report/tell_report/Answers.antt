@@ -1,4 +1,5 @@
 use Rattle.std.proofs.Common.{map}
+use Rattle.byte_streams.specs.Flows.{streams}
 use Rattle.product_decoder.specs.Decoded.{decode}
 use Rattle.product_decoder.specs.Feeding.{products_in}
 use Rattle.archive_report.proofs.Ending.{ends_rest}
@@ -12,5 +13,7 @@ tell_rest-requires-clause-numbered g c =
 
 pub returns-clause-run : goal.returns-clause-run
 returns-clause-run g c =
-    ends_rest c.args.asked.now c.args.limit c.tell_input.new.tally (g.S.Source.inflow c.args.input.now).left (g.S.Source.inflow c.tell_input.new.input).left (g.K.Sink.outflow c.args.output.now).taken (g.K.Sink.outflow c.tell_input.new.output).taken _ c.in_ok-tell_input.ensures.run
-    (g.K.Sink.outflow c.tell_rest.new.output).taken c.tell_rest.result c.tell_rest.ensures.told c.tell_rest.ensures.count c.tell_rest.ensures.halted
+    let reads = g.S.Source.inflow in
+    let writes = g.K.Sink.outflow in
+    ends_rest c.args.asked.now c.args.limit c.tell_input.new.tally (streams (reads c.args.input.now) (writes c.args.output.now)) (streams (reads c.tell_input.new.input) (writes c.tell_input.new.output)) _ c.in_ok-tell_input.ensures.run
+    (writes c.tell_rest.new.output) c.tell_rest.result c.tell_rest.ensures.told c.tell_rest.ensures.count c.tell_rest.ensures.halted

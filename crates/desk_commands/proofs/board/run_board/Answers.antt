@@ -20,6 +20,6 @@ returns-in-Ok g c =
       reading = c.board_at-at.ensures;
       told = told_at (state_of c.in-Ok.kept) _ c.board_at-at.result _ _ _ (to_z-of_z w64 c.board_at-at.result fits) c.tell_board-status.ensures;
       handed = c.into_disk.ensures;
-      history = subst (λ next. Stays d c.args.disk next c.in-Ok.kept) (sym c.into_disk.ensures) (unchanged d m.seen_is_left m.counts_now m.only_now m.earlier c.requests_stand_once.ensures c.args.disk c.in-Ok.kept c.a_crash_leaves_the_history.ensures opened);
+      history = subst (λ next. Stays d c.args.disk next c.in-Ok.kept) (sym c.into_disk.ensures) (unchanged d m.seen_is_left m.are_crashes c.requests_stand_once.ensures c.args.disk c.in-Ok.kept c.a_crash_leaves_the_history.ensures opened);
       later = subst (λ next. d.faults c.args.disk ≤ d.faults next) (sym c.into_disk.ensures) opened.later;
     })

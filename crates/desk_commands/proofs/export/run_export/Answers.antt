@@ -21,6 +21,6 @@ returns-in-Ok g c =
         telling = c.end_run.ensures (sink.outflow c.args.output.now) (joined exported.first) exported.written exported.has;
       };
       handed = refl;
-      history = unchanged d laws.seen_is_left laws.counts_now laws.only_now laws.earlier c.requests_stand_once.ensures c.args.disk c.in-Ok.kept c.a_crash_leaves_the_history.ensures c.in-Ok.ensures.opened;
+      history = unchanged d laws.seen_is_left laws.are_crashes c.requests_stand_once.ensures c.args.disk c.in-Ok.kept c.a_crash_leaves_the_history.ensures c.in-Ok.ensures.opened;
       later = c.in-Ok.ensures.opened.later;
     }))

@@ -41,12 +41,12 @@ returns g c disk opened =
           let h = found.1 in
           let grew = grown h (entries_in said) in
           let may = MayPend (failed_from [] said) in
-          let start = opened_carries d m.seen_is_left m.counts_now m.only_now m.earlier file h (MayPend []) disk c.args.kept c.a_crash_leaves_the_history.ensures opened found.3 in
-          let went = lines_go d (d.faults disk) m.counts_now m.only_now m.earlier k file h [] first run.run.lines said after goes start in (
+          let start = opened_carries d m.seen_is_left m.are_crashes file h (MayPend []) disk c.args.kept c.a_crash_leaves_the_history.ensures opened found.3 in
+          let went = lines_go d (d.faults disk) m.are_crashes k file h [] first run.run.lines said after goes start in (
             file,
             h,
             subst (λ next. KeepsHistory d disk (disk_of c.args.kept) next bytes file h grew may (state_of after.kept)) (sym c.into_disk.ensures)
-                (keeps d m.seen_is_left m.counts_now m.only_now m.earlier c.requests_stand_once.ensures bytes file h grew may disk c.args.kept after.kept c.a_crash_leaves_the_history-2.ensures opened found.2
+                (keeps d m.seen_is_left m.are_crashes c.requests_stand_once.ensures bytes file h grew may disk c.args.kept after.kept c.a_crash_leaves_the_history-2.ensures opened found.2
                 (grown_follows h (entries_in said)) went.0 went.1),
           );
       faults = subst (λ next. min (d.faults disk + faults_in said) (2 ^ 64 - 1) ≤ d.faults next) (sym c.into_disk.ensures) rises.counted;

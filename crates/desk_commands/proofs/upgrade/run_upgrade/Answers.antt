@@ -33,18 +33,18 @@ returns-in-Ok g c =
       after = new;
       outcome = outcome_of d _ _ old new _ _ _ (sym c.into_disk.ensures) (outcome d old new c.upgrade-upgrade.result _ _ _ says c.tell_upgrade-status.ensures);
       handed = c.into_disk.ensures;
-      marked = λ file h holds. marked d old new (d.faults c.args.disk) m.counts_now m.only_now m.earlier c.upgrade-upgrade.result file h says holds;
+      marked = λ file h holds. marked d old new (d.faults c.args.disk) m.are_crashes c.upgrade-upgrade.result file h says holds;
       later = subst (λ next. d.faults c.args.disk ≤ d.faults next) (sym c.into_disk.ensures) (omega (arith, opened.later, says.later));
       history = λ bytes told.
           let found = opened.found bytes told in
           let may : Change → Type 0 = λ change. change ≡ Change.marked in
-          let start = opened_carries d m.seen_is_left m.counts_now m.only_now m.earlier found.0 found.1 may c.args.disk old c.a_crash_leaves_the_history.ensures opened found.3 in
-          let up = upgraded d old new (d.faults c.args.disk) m.counts_now m.only_now m.earlier c.upgrade-upgrade.result found.0 found.1 says start in (
+          let start = opened_carries d m.seen_is_left m.are_crashes found.0 found.1 may c.args.disk old c.a_crash_leaves_the_history.ensures opened found.3 in
+          let up = upgraded d old new (d.faults c.args.disk) m.are_crashes c.upgrade-upgrade.result found.0 found.1 says start in (
             found.0,
             found.1,
             up.last,
             subst (λ next. KeepsHistory d c.args.disk (disk_of old) next bytes found.0 found.1 up.last may (state_of new)) (sym c.into_disk.ensures)
-                (keeps d m.seen_is_left m.counts_now m.only_now m.earlier c.requests_stand_once.ensures bytes found.0 found.1 up.last may c.args.disk old new c.a_crash_leaves_the_history-in-Ok.ensures opened found.2
+                (keeps d m.seen_is_left m.are_crashes c.requests_stand_once.ensures bytes found.0 found.1 up.last may c.args.disk old new c.a_crash_leaves_the_history-in-Ok.ensures opened found.2
                 up.follows up.carries up.run),
             up.same,
             sym (ap (λ (s : State). s.edition) up.carries.holds.history.state),

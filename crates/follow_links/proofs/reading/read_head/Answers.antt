@@ -6,8 +6,8 @@ use Rattle.follow_links.proofs.Sizes.{none_in_nothing}
 use Rattle.byte_streams.specs.Flows.{Takes}
 use Rattle.follow_links.proofs.reading.read_head.Goals as goal
 
-pub loop-link-init : goal.loop-link-init
-loop-link-init g c = record {
+pub loop-byte-init : goal.loop-byte-init
+loop-byte-init g c = record {
   few = omega (arith, ap length c.requires.none);
   room = c.requires.room;
   takes = subst (Takes (g.L.Link.state c.args.link.now).input.left (g.L.Link.state c.args.link.now).input.left) (sym c.requires.none) (takes_none (g.L.Link.state c.args.link.now).input.left);
@@ -18,13 +18,13 @@ loop-link-init g c = record {
   beside = (refl, refl);
 }
 
-pub loop-link-preserved : goal.loop-link-preserved
-loop-link-preserved g c =
+pub loop-byte-preserved : goal.loop-byte-preserved
+loop-byte-preserved g c =
     let first = (g.L.Link.state c.args.link.now).input.left in
-    let mid = (g.L.Link.state c.loop-link.link).input.left in
+    let mid = (g.L.Link.state c.loop-byte.link).input.left in
     let last = (g.L.Link.state c.read_more.new.link).input.left in
-    let old = c.loop-link.invariant in
-    let now = c.loop-link.bytes in
+    let old = c.loop-byte.invariant in
+    let now = c.loop-byte.bytes in
     let new = c.read_more.new.bytes in
     record {
       few = few_more first mid last now new (omega arith) (search rules);
@@ -40,22 +40,22 @@ loop-link-preserved g c =
 pub returns-in-Bad-clause-read : goal.returns-in-Bad-clause-read
 returns-in-Bad-clause-read g c =
     let first = (g.L.Link.state c.args.link.now).input.left in
-    let mid = (g.L.Link.state c.loop-link.link).input.left in
+    let mid = (g.L.Link.state c.loop-byte.link).input.left in
     let last = (g.L.Link.state c.read_more.new.link).input.left in (
-      byte_taken first mid last c.loop-link.bytes c.read_more.new.bytes c.loop-link.invariant.takes (search rules),
-      bad_head first mid last c.loop-link.bytes c.read_more.new.bytes c.loop-link.invariant.headless (omega arith) c.loop-link.invariant.may (search rules) (search rules),
+      byte_taken first mid last c.loop-byte.bytes c.read_more.new.bytes c.loop-byte.invariant.takes (search rules),
+      bad_head first mid last c.loop-byte.bytes c.read_more.new.bytes c.loop-byte.invariant.headless (omega arith) c.loop-byte.invariant.may (search rules) (search rules),
     )
 
 pub returns-in-Whole-clause-read : goal.returns-in-Whole-clause-read
 returns-in-Whole-clause-read g c =
     let first = (g.L.Link.state c.args.link.now).input.left in
-    let mid = (g.L.Link.state c.loop-link.link).input.left in
+    let mid = (g.L.Link.state c.loop-byte.link).input.left in
     let last = (g.L.Link.state c.read_more.new.link).input.left in (
-      byte_taken first mid last c.loop-link.bytes c.read_more.new.bytes c.loop-link.invariant.takes (search rules),
-      whole_head first mid last c.loop-link.bytes c.read_more.new.bytes c.loop-link.invariant.headless (omega arith) (search rules) c.in-Whole.shape (search rules),
+      byte_taken first mid last c.loop-byte.bytes c.read_more.new.bytes c.loop-byte.invariant.takes (search rules),
+      whole_head first mid last c.loop-byte.bytes c.read_more.new.bytes c.loop-byte.invariant.headless (omega arith) (search rules) c.in-Whole.shape (search rules),
     )
 
 pub returns-in-Err-clause-read : goal.returns-in-Err-clause-read
 returns-in-Err-clause-read g c =
-    head_stops (g.L.Link.state c.args.link.now).input.left (g.L.Link.state c.loop-link.link).input.left (g.L.Link.state c.read_more.new.link).input.left c.loop-link.bytes c.read_more.new.bytes 1 c.in-Err.miss
-    c.loop-link.invariant.takes c.loop-link.invariant.headless c.loop-link.invariant.may (search rules) c.in-Err.ensures.read
+    head_stops (g.L.Link.state c.args.link.now).input.left (g.L.Link.state c.loop-byte.link).input.left (g.L.Link.state c.read_more.new.link).input.left c.loop-byte.bytes c.read_more.new.bytes 1 c.in-Err.miss
+    c.loop-byte.invariant.takes c.loop-byte.invariant.headless c.loop-byte.invariant.may (search rules) c.in-Err.ensures.read

@@ -6,8 +6,8 @@ use Rattle.desk_links.specs.Links.{KeepsOutput}
 use Rattle.follow_links.proofs.reading.read_head.Given as goal
 
 -- no head stands in the bytes that were read
-abbrev pub invariant-loop-link : goal.invariant-loop-link
-invariant-loop-link g l = record {
+abbrev pub invariant-loop-byte : goal.invariant-loop-byte
+invariant-loop-byte g l = record {
   few : length l.bytes ≤ 8192;
   room : length l.fields ≡ 2731;
   takes : Takes (g.L.Link.state l.fn.link).input.left (g.L.Link.state l.link).input.left l.bytes;
@@ -18,5 +18,5 @@ invariant-loop-link g l = record {
   beside : KeepsOutput (g.L.Link.state l.fn.link) (g.L.Link.state l.link);
 }
 
-abbrev pub decreases-loop-link : goal.decreases-loop-link
-decreases-loop-link g l = 8192 - length l.bytes
+abbrev pub decreases-loop-byte : goal.decreases-loop-byte
+decreases-loop-byte g l = 8192 - length l.bytes

@@ -8,6 +8,6 @@ pub returns-in_ok-n-in-Other-clause-settled : goal.returns-in_ok-n-in-Other-clau
 returns-in_ok-n-in-Other-clause-settled g c f before told synced =
     let d = g.D.Disk in
     let m = g.met.D.Disk in
-    let reads = same_both d.moment d.left_since d.may_leave m.counts_now m.earlier c.look.new.disk c.len.new.self c.scan.new.disk c.len.ensures.crash c.scan.ensures.crash in
-    on_ok c.scan.result (settles_on d.moment d.left_since d.may_leave d.syncs before f c.look.new.disk c.scan.new.disk (c.in_ok-look.ensures.settled f before told synced) reads (c.scan.ensures.syncs ∙ c.len.ensures.syncs)
-    (only_told (d.seen c.look.new.disk) (d.may_leave c.look.new.disk) f (c.look.ensures.seen ∙ told) c.in_ok-look.ensures.durable))
+    let reads = same_both d.crash m.are_crashes c.look.new.disk c.len.new.self c.scan.new.disk c.len.ensures.crash c.scan.ensures.crash in
+    on_ok c.scan.result (settles_on d.crash d.syncs before f c.look.new.disk c.scan.new.disk (c.in_ok-look.ensures.settled f before told synced) reads (c.scan.ensures.syncs ∙ c.len.ensures.syncs)
+    (only_told (d.seen c.look.new.disk) (d.crash c.look.new.disk).may_leave f (c.look.ensures.seen ∙ told) c.in_ok-look.ensures.durable))

@@ -18,13 +18,13 @@ pub returns-then-n-at-clause-crash : goal.returns-then-n-at-clause-crash
 returns-then-n-at-clause-crash g c =
     let d = g.D.Disk in
     let m = g.met.D.Disk in
-    same_both d.moment d.left_since d.may_leave m.counts_now m.earlier c.args.disk.now c.read_at.new.self c.read_at-2.new.self c.read_at.ensures.crash c.read_at-2.ensures.crash
+    same_both d.crash m.are_crashes c.args.disk.now c.read_at.new.self c.read_at-2.new.self c.read_at.ensures.crash c.read_at-2.ensures.crash
 
 pub returns-in_err-read_at-3-clause-crash : goal.returns-in_err-read_at-3-clause-crash
 returns-in_err-read_at-3-clause-crash g c =
     let d = g.D.Disk in
     let m = g.met.D.Disk in
-    same_both d.moment d.left_since d.may_leave m.counts_now m.earlier c.args.disk.now c.read_at-2.new.self c.read_at-3.new.self (same_both d.moment d.left_since d.may_leave m.counts_now m.earlier c.args.disk.now c.read_at.new.self c.read_at-2.new.self c.read_at.ensures.crash c.read_at-2.ensures.crash) c.read_at-3.ensures.crash
+    same_both d.crash m.are_crashes c.args.disk.now c.read_at-2.new.self c.read_at-3.new.self (same_both d.crash m.are_crashes c.args.disk.now c.read_at.new.self c.read_at-2.new.self c.read_at.ensures.crash c.read_at-2.ensures.crash) c.read_at-3.ensures.crash
 
 pub returns-clause-step : goal.returns-clause-step
 returns-clause-step g c =
@@ -43,4 +43,4 @@ pub returns-clause-crash : goal.returns-clause-crash
 returns-clause-crash g c =
     let d = g.D.Disk in
     let m = g.met.D.Disk in
-    same_both d.moment d.left_since d.may_leave m.counts_now m.earlier c.args.disk.now c.read_at-2.new.self c.read_at-3.new.self (same_both d.moment d.left_since d.may_leave m.counts_now m.earlier c.args.disk.now c.read_at.new.self c.read_at-2.new.self c.read_at.ensures.crash c.read_at-2.ensures.crash) c.read_at-3.ensures.crash
+    same_both d.crash m.are_crashes c.args.disk.now c.read_at-2.new.self c.read_at-3.new.self (same_both d.crash m.are_crashes c.args.disk.now c.read_at.new.self c.read_at-2.new.self c.read_at.ensures.crash c.read_at-2.ensures.crash) c.read_at-3.ensures.crash

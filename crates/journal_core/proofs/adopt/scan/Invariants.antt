@@ -11,7 +11,7 @@ invariant-loop-at g l =
     record {
       seen : d.seen l.disk ≡ d.seen l.fn.disk;
       syncs : d.syncs l.disk ≡ d.syncs l.fn.disk;
-      crash : Passes Same (d.moment l.fn.disk) (d.moment l.disk) (d.may_leave l.fn.disk) (d.left_since l.fn.disk) (d.left_since l.disk);
+      crash : Passes Same (d.crash l.fn.disk) (d.crash l.disk);
       later : d.faults l.fn.disk ≤ d.faults l.disk;
       steady : d.faults l.disk ≡ d.faults l.fn.disk;
       place : l.at ≡ length (records l.bodies);

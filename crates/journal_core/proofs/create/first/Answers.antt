@@ -9,13 +9,13 @@ returns-clause-made g c b =
     let d = g.D.Disk in
     let m = g.met.D.Disk in
     let fits : Fits c.args.body.now = omega arith in
-    let w = written d.seen d.moment d.left_since d.may_leave m.counts_now m.only_now m.earlier Failed tt c.args.disk.now c.write_synced.new.disk c.framed.result.now c.args.body.now c.framed.ensures.value b c.in_ok-write_synced.ensures.seen c.in_ok-write_synced.ensures.durable in
-    made d.seen d.moment d.left_since d.may_leave m.counts_now m.only_now m.earlier c.write_synced-2.result c.write_synced.new.disk c.write_synced-2.new.disk c.args.body.now fits w c.write_synced-2.ensures.seen c.write_synced-2.ensures.durable
+    let w = written d.seen d.crash m.are_crashes Failed tt c.args.disk.now c.write_synced.new.disk c.framed.result.now c.args.body.now c.framed.ensures.value b c.in_ok-write_synced.ensures.seen c.in_ok-write_synced.ensures.durable in
+    made d.seen d.crash m.are_crashes c.write_synced-2.result c.write_synced.new.disk c.write_synced-2.new.disk c.args.body.now fits w c.write_synced-2.ensures.seen c.write_synced-2.ensures.durable
 
 pub returns-clause-any_moment : goal.returns-clause-any_moment
 returns-clause-any_moment g c b =
     let d = g.D.Disk in
     let m = g.met.D.Disk in
     let fits : Fits c.args.body.now = omega arith in
-    let w = written d.seen d.moment d.left_since d.may_leave m.counts_now m.only_now m.earlier Failed tt c.args.disk.now c.write_synced.new.disk c.framed.result.now c.args.body.now c.framed.ensures.value b c.in_ok-write_synced.ensures.seen c.in_ok-write_synced.ensures.durable in
-    making d.seen d.moment d.left_since d.may_leave m.counts_now m.only_now m.earlier c.args.disk.now c.write_synced.new.disk c.write_synced-2.new.disk _ c.args.body.now fits b c.write_synced.ensures.crash w c.write_synced-2.ensures.crash
+    let w = written d.seen d.crash m.are_crashes Failed tt c.args.disk.now c.write_synced.new.disk c.framed.result.now c.args.body.now c.framed.ensures.value b c.in_ok-write_synced.ensures.seen c.in_ok-write_synced.ensures.durable in
+    making d.seen d.crash m.are_crashes c.args.disk.now c.write_synced.new.disk c.write_synced-2.new.disk _ c.args.body.now fits b c.write_synced.ensures.crash w c.write_synced-2.ensures.crash

@@ -15,13 +15,13 @@ returns-in_err-first-in-Short-clause-any_moment g c file told =
     let d = g.D.Disk in
     let m = g.met.D.Disk in
     let told' = c.look.ensures.seen ∙ told in
-    let only = only_told (d.seen c.look.new.disk) (d.may_leave c.look.new.disk) file told' c.in_ok-look.ensures.durable in
+    let only = only_told (d.seen c.look.new.disk) (d.crash c.look.new.disk).may_leave file told' c.in_ok-look.ensures.durable in
     let short = starts_told Short (d.seen c.args.disk.now) file told (subst (λ (s : Start). Starts s (d.seen c.args.disk.now)) c.in-Short.is c.in_ok-look.ensures.start) in
-    let ready = blank d.seen d.moment d.left_since d.may_leave m.counts_now m.only_now m.earlier Failed tt c.look.new.disk c.write_synced.new.disk file told' short c.in_ok-write_synced-in-Short.ensures.seen c.in_ok-write_synced-in-Short.ensures.durable in
-    goes_on d.seen d.moment d.left_since d.may_leave m.counts_now m.only_now m.earlier c.args.disk.now c.write_synced.new.disk c.first-in-Short.new.disk c.args.body.now
-    (goes_on d.seen d.moment d.left_since d.may_leave m.counts_now m.only_now m.earlier c.args.disk.now c.look.new.disk c.write_synced.new.disk c.args.body.now
-    (looked d.seen d.moment d.left_since d.may_leave m.counts_now m.only_now m.earlier c.args.disk.now c.look.new.disk c.args.body.now c.look.ensures.crash)
-    (dotted d.seen d.moment d.left_since d.may_leave m.counts_now m.only_now m.earlier c.look.new.disk c.write_synced.new.disk file c.args.body.now only short c.write_synced.ensures.crash))
+    let ready = blank d.seen d.crash m.are_crashes Failed tt c.look.new.disk c.write_synced.new.disk file told' short c.in_ok-write_synced-in-Short.ensures.seen c.in_ok-write_synced-in-Short.ensures.durable in
+    goes_on d.seen d.crash m.are_crashes c.args.disk.now c.write_synced.new.disk c.first-in-Short.new.disk c.args.body.now
+    (goes_on d.seen d.crash m.are_crashes c.args.disk.now c.look.new.disk c.write_synced.new.disk c.args.body.now
+    (looked d.seen d.crash m.are_crashes c.args.disk.now c.look.new.disk c.args.body.now c.look.ensures.crash)
+    (dotted d.seen d.crash m.are_crashes c.look.new.disk c.write_synced.new.disk file c.args.body.now only short c.write_synced.ensures.crash))
     (c.first-in-Short.ensures.any_moment ready)
 
 pub returns-in_ok-first-in-Short-clause-any_moment : goal.returns-in_ok-first-in-Short-clause-any_moment
@@ -29,13 +29,13 @@ returns-in_ok-first-in-Short-clause-any_moment g c file told =
     let d = g.D.Disk in
     let m = g.met.D.Disk in
     let told' = c.look.ensures.seen ∙ told in
-    let only = only_told (d.seen c.look.new.disk) (d.may_leave c.look.new.disk) file told' c.in_ok-look.ensures.durable in
+    let only = only_told (d.seen c.look.new.disk) (d.crash c.look.new.disk).may_leave file told' c.in_ok-look.ensures.durable in
     let short = starts_told Short (d.seen c.args.disk.now) file told (subst (λ (s : Start). Starts s (d.seen c.args.disk.now)) c.in-Short.is c.in_ok-look.ensures.start) in
-    let ready = blank d.seen d.moment d.left_since d.may_leave m.counts_now m.only_now m.earlier Failed tt c.look.new.disk c.write_synced.new.disk file told' short c.in_ok-write_synced-in-Short.ensures.seen c.in_ok-write_synced-in-Short.ensures.durable in
-    goes_on d.seen d.moment d.left_since d.may_leave m.counts_now m.only_now m.earlier c.args.disk.now c.write_synced.new.disk c.first-in-Short.new.disk c.args.body.now
-    (goes_on d.seen d.moment d.left_since d.may_leave m.counts_now m.only_now m.earlier c.args.disk.now c.look.new.disk c.write_synced.new.disk c.args.body.now
-    (looked d.seen d.moment d.left_since d.may_leave m.counts_now m.only_now m.earlier c.args.disk.now c.look.new.disk c.args.body.now c.look.ensures.crash)
-    (dotted d.seen d.moment d.left_since d.may_leave m.counts_now m.only_now m.earlier c.look.new.disk c.write_synced.new.disk file c.args.body.now only short c.write_synced.ensures.crash))
+    let ready = blank d.seen d.crash m.are_crashes Failed tt c.look.new.disk c.write_synced.new.disk file told' short c.in_ok-write_synced-in-Short.ensures.seen c.in_ok-write_synced-in-Short.ensures.durable in
+    goes_on d.seen d.crash m.are_crashes c.args.disk.now c.write_synced.new.disk c.first-in-Short.new.disk c.args.body.now
+    (goes_on d.seen d.crash m.are_crashes c.args.disk.now c.look.new.disk c.write_synced.new.disk c.args.body.now
+    (looked d.seen d.crash m.are_crashes c.args.disk.now c.look.new.disk c.args.body.now c.look.ensures.crash)
+    (dotted d.seen d.crash m.are_crashes c.look.new.disk c.write_synced.new.disk file c.args.body.now only short c.write_synced.ensures.crash))
     (c.first-in-Short.ensures.any_moment ready)
 
 pub returns-in_ok-first-in-Begun-clause-written : goal.returns-in_ok-first-in-Begun-clause-written
@@ -52,8 +52,8 @@ returns-in_ok-first-in-Begun-clause-any_moment g c file told =
     let d = g.D.Disk in
     let m = g.met.D.Disk in
     let told' = c.look.ensures.seen ∙ told in
-    let only = only_told (d.seen c.look.new.disk) (d.may_leave c.look.new.disk) file told' c.in_ok-look.ensures.durable in
+    let only = only_told (d.seen c.look.new.disk) (d.crash c.look.new.disk).may_leave file told' c.in_ok-look.ensures.durable in
     let begins = starts_told Begun (d.seen c.args.disk.now) file told (subst (λ (s : Start). Starts s (d.seen c.args.disk.now)) c.in-Begun.is c.in_ok-look.ensures.start) in
-    goes_on d.seen d.moment d.left_since d.may_leave m.counts_now m.only_now m.earlier c.args.disk.now c.look.new.disk c.first.new.disk c.args.body.now
-    (looked d.seen d.moment d.left_since d.may_leave m.counts_now m.only_now m.earlier c.args.disk.now c.look.new.disk c.args.body.now c.look.ensures.crash)
-    (c.first.ensures.any_moment (blank_begun d.seen d.may_leave c.look.new.disk file told' only begins))
+    goes_on d.seen d.crash m.are_crashes c.args.disk.now c.look.new.disk c.first.new.disk c.args.body.now
+    (looked d.seen d.crash m.are_crashes c.args.disk.now c.look.new.disk c.args.body.now c.look.ensures.crash)
+    (c.first.ensures.any_moment (blank_begun d.seen d.crash c.look.new.disk file told' only begins))

@@ -19,14 +19,14 @@ returns-in-Ok-first_journal-clause-any_moment g c bytes told =
     let d = g.D.Disk in
     let m = g.met.D.Disk in
     let file = c.args.text.now in
-    let Q : List ℕ → Type 0 = λ x. d.may_leave c.args.disk x ⊎ IsMakingOf file x in
-    let first : LeavesOnly d.moment d.left_since c.args.disk c.in-Ok-first_journal.journal.disk (λ x. d.may_leave c.args.disk x ⊎ IsMaking file x) =
-    subst (λ (b : List ℕ). LeavesOnly d.moment d.left_since c.args.disk c.in-Ok-first_journal.journal.disk (λ x. d.may_leave c.args.disk x ⊎ IsMaking b x)) c.in-Ok.ensures.text (c.in-Ok-first_journal.ensures.any_moment bytes told) in
-    let keeps : Keeps d.seen d.may_leave c.in-Ok-first_journal.journal (file ∷ []) None =
-    subst (λ (b : List ℕ). Keeps d.seen d.may_leave c.in-Ok-first_journal.journal (b ∷ []) None) c.in-Ok.ensures.text (c.in-Ok-first_journal.ensures.ok bytes told) in
-    let step : (new : _) → LeavesOnly d.moment d.left_since c.in-Ok-first_journal.journal.disk new (IsOneOf (file ∷ []) None mark) → LeavesOnly d.moment d.left_since c.args.disk new Q =
-    λ new second. both d.moment d.left_since d.may_leave m.counts_now m.only_now m.earlier c.args.disk c.in-Ok-first_journal.journal.disk new (λ x. d.may_leave c.args.disk x ⊎ IsMaking file x) Q first
-    (weaker d.moment d.left_since d.may_leave m.counts_now m.only_now m.earlier c.in-Ok-first_journal.journal.disk new (IsOneOf (file ∷ []) None mark) Q (λ x one. inr (while_marked file c.args.settings c.requires.read x one)) second)
+    let Q : List ℕ → Type 0 = λ x. (d.crash c.args.disk).may_leave x ⊎ IsMakingOf file x in
+    let first : LeavesOnly (d.crash c.args.disk) (d.crash c.in-Ok-first_journal.journal.disk) (λ x. (d.crash c.args.disk).may_leave x ⊎ IsMaking file x) =
+    subst (λ (b : List ℕ). LeavesOnly (d.crash c.args.disk) (d.crash c.in-Ok-first_journal.journal.disk) (λ x. (d.crash c.args.disk).may_leave x ⊎ IsMaking b x)) c.in-Ok.ensures.text (c.in-Ok-first_journal.ensures.any_moment bytes told) in
+    let keeps : Keeps d.seen d.crash c.in-Ok-first_journal.journal (file ∷ []) None =
+    subst (λ (b : List ℕ). Keeps d.seen d.crash c.in-Ok-first_journal.journal (b ∷ []) None) c.in-Ok.ensures.text (c.in-Ok-first_journal.ensures.ok bytes told) in
+    let step : (new : _) → LeavesOnly (d.crash c.in-Ok-first_journal.journal.disk) (d.crash new) (IsOneOf (file ∷ []) None mark) → LeavesOnly (d.crash c.args.disk) (d.crash new) Q =
+    λ new second. both d.crash m.are_crashes c.args.disk c.in-Ok-first_journal.journal.disk new (λ x. (d.crash c.args.disk).may_leave x ⊎ IsMaking file x) Q first
+    (weaker d.crash m.are_crashes c.in-Ok-first_journal.journal.disk new (IsOneOf (file ∷ []) None mark) Q (λ x one. inr (while_marked file c.args.settings c.requires.read x one)) second)
     (λ x made. ⊎_elim (λ was. inl was) (λ making. inr (while_made file c.args.settings c.requires.read x making)) made) in
     each_way c.go_over.result _ _ _ _ (λ kept second. step (disk_of kept) second) (λ e second. step e.0 second) (c.go_over.ensures.any_moment (file ∷ []) keeps)
 
@@ -35,8 +35,8 @@ returns-in-Err-clause-any_moment g c bytes told =
     let d = g.D.Disk in
     let m = g.met.D.Disk in
     let file = c.args.text.now in
-    let Q : List ℕ → Type 0 = λ x. d.may_leave c.args.disk x ⊎ IsMakingOf file x in
-    let first : LeavesOnly d.moment d.left_since c.args.disk c.in-Err.failed.0 (λ x. d.may_leave c.args.disk x ⊎ IsMaking file x) =
-    subst (λ (b : List ℕ). LeavesOnly d.moment d.left_since c.args.disk c.in-Err.failed.0 (λ x. d.may_leave c.args.disk x ⊎ IsMaking b x)) c.in-Ok.ensures.text (c.in-Err.ensures.any_moment bytes told) in
-    weaker d.moment d.left_since d.may_leave m.counts_now m.only_now m.earlier c.args.disk c.in-Err.failed.0 (λ x. d.may_leave c.args.disk x ⊎ IsMaking file x) Q
+    let Q : List ℕ → Type 0 = λ x. (d.crash c.args.disk).may_leave x ⊎ IsMakingOf file x in
+    let first : LeavesOnly (d.crash c.args.disk) (d.crash c.in-Err.failed.0) (λ x. (d.crash c.args.disk).may_leave x ⊎ IsMaking file x) =
+    subst (λ (b : List ℕ). LeavesOnly (d.crash c.args.disk) (d.crash c.in-Err.failed.0) (λ x. (d.crash c.args.disk).may_leave x ⊎ IsMaking b x)) c.in-Ok.ensures.text (c.in-Err.ensures.any_moment bytes told) in
+    weaker d.crash m.are_crashes c.args.disk c.in-Err.failed.0 (λ x. (d.crash c.args.disk).may_leave x ⊎ IsMaking file x) Q
     (λ x made. ⊎_elim (λ was. inl was) (λ making. inr (while_made file c.args.settings c.requires.read x making)) made) first

@@ -1,6 +1,6 @@
 use Rattle.std.proofs.Common.{◌∙◌, ◌++◌, ◌∷◌, [], get_or}
 use Rattle.program_ends.proofs.Feeding.{fed_end, fed_byte, fed_halts}
-use Rattle.program_ends.proofs.Running.{stops_by}
+use Rattle.program_ends.proofs.Piecewise.{stops_by}
 use Rattle.program_ends.proofs.lines.feed.Goals as goal
 use Rattle.program_ends.proofs.lines.feed.Goals.{then-byte-eq10+in_ok-reply, else-byte-eq10}
 
@@ -10,8 +10,8 @@ returns-in_err-reply-clause-halted g c =
     (λ begun e.
     let fed = c.loop-byte.invariant.fed begun e in
     let fits = c.line_at_end.ensures fed.0 fed.1 in
-    fed_halts g.A.Answers.answers g.A.Answers.lacks c.args.answers.now begun c.args.chunk.now (g.K.Sink.outflow c.args.output.now).taken c.loop-byte.answers c.loop-byte.byte-index fed.0 (g.K.Sink.outflow c.loop-byte.output).taken
-    fed.2 c.loop-byte-test.true c.if-byte-eq10.true c.reply.new.answers (g.K.Sink.outflow c.reply.new.output).taken c.in_err-reply.field-0.0 (rw fits at c.in_err-reply.ensures.halted))
+    fed_halts g.A.Answers.answers g.A.Answers.lacks c.args.answers.now begun c.args.chunk.now (g.K.Sink.outflow c.args.output.now) c.loop-byte.answers c.loop-byte.byte-index fed.0 (g.K.Sink.outflow c.loop-byte.output)
+    fed.2 c.loop-byte-test.true c.if-byte-eq10.true c.reply.new.answers (g.K.Sink.outflow c.reply.new.output) c.in_err-reply.field-0.0 (rw fits at c.in_err-reply.ensures.halted))
 
 pub loop-byte-preserved : goal.loop-byte-preserved
 loop-byte-preserved g c =
@@ -25,8 +25,8 @@ loop-byte-preserved g c =
                 let fits = w.line_at_end.ensures fed.0 fed.1 in (
                   [],
                   w.clear.ensures,
-                  fed_end g.A.Answers.answers g.A.Answers.lacks c.args.answers.now begun chunk (g.K.Sink.outflow c.args.output.now).taken c.loop-byte.answers at fed.0 (g.K.Sink.outflow c.loop-byte.output).taken
-                      fed.2 c.loop-byte-test.true w.if-byte-eq10.true w.reply.new.answers (g.K.Sink.outflow w.reply.new.output).taken (rw fits at w.in_ok-reply.ensures.told),
+                  fed_end g.A.Answers.answers g.A.Answers.lacks c.args.answers.now begun chunk (g.K.Sink.outflow c.args.output.now) c.loop-byte.answers at fed.0 (g.K.Sink.outflow c.loop-byte.output)
+                      fed.2 c.loop-byte-test.true w.if-byte-eq10.true w.reply.new.answers (g.K.Sink.outflow w.reply.new.output) (rw fits at w.in_ok-reply.ensures.told),
                 );
             steady = w.in_ok-reply.ensures.cause.steady (λ e. absurd (cc)) ∙ c.loop-byte.invariant.steady;
           })
@@ -36,7 +36,7 @@ loop-byte-preserved g c =
                 let fed = c.loop-byte.invariant.fed begun e in (
                   fed.0 ++ get_or chunk at 0 ∷ [],
                   w.push.ensures fed.0 fed.1,
-                  fed_byte g.A.Answers.answers g.A.Answers.lacks c.args.answers.now begun chunk (g.K.Sink.outflow c.args.output.now).taken c.loop-byte.answers at fed.0 (g.K.Sink.outflow c.loop-byte.output).taken
+                  fed_byte g.A.Answers.answers g.A.Answers.lacks c.args.answers.now begun chunk (g.K.Sink.outflow c.args.output.now) c.loop-byte.answers at fed.0 (g.K.Sink.outflow c.loop-byte.output)
                       fed.2 c.loop-byte-test.true w.if-byte-eq10.false,
                 );
             steady = c.loop-byte.invariant.steady;

@@ -4,4 +4,4 @@ use Rattle.serve_command.proofs.growing.an_opened_office_keeps_its_history.Goals
 pub returns : goal.returns
 returns g c =
     let m = g.met.D.Disk in
-    has_grown g.D.Disk m.seen_is_left m.counts_now m.only_now m.earlier c.requests_stand_once.ensures c.args.kept.now c.a_crash_leaves_the_history.ensures
+    has_grown g.D.Disk m.seen_is_left m.are_crashes c.requests_stand_once.ensures c.args.kept.now c.a_crash_leaves_the_history.ensures

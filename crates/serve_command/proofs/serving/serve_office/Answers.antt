@@ -10,7 +10,7 @@ returns g c disk opened =
     let last = port c.serve-kept.new.port in
     let closed = c.serve-kept.result.0 in
     let served_by : ℕ → ℕ → Type 0 =
-    λ workers links. IsServed d (g.C.Clock.gives c.args.clock.now) c.args.kept closed c.args.serving.now.port workers links first last c.serve-kept.result.1 in
+    λ workers links. IsServed d (g.C.Clock.gives c.args.means.now.clock.now) c.args.kept closed c.args.serving.now.port workers links first last c.serve-kept.result.1 in
     let served = subst (served_by c.args.serving.now.workers) c.from-2.ensures (subst (λ (n : ℕ). served_by n c.from-2.result) c.from.ensures c.serve-kept.ensures) in
     record {
       opened = c.args.kept;

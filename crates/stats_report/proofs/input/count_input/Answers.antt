@@ -1,63 +1,72 @@
-use Rattle.std.proofs.Common.{◌≡◌, ◌+◌, ◌∙◌, [], ap, arith, length, take, ℕ, refl, Ok}
-use Rattle.std.proofs.lemmas.List.{length-take}
+use Rattle.std.proofs.Common.{◌≡◌, ◌∙◌, take, refl, None, Some}
 use Rattle.program_ends.specs.declared.reading.Stop.TheVariants as stop
-use Rattle.archive_report.proofs.Reading.{stops_by}
-use Rattle.stats_report.proofs.Reading.{ran_none, ran_next, ends_memory, ends_long, ends_well}
+use Rattle.program_ends.proofs.Piecewise.{found_none, found_some, stops_by}
+use Rattle.stats_report.proofs.Reading.{ran_none, ran_next, ends_stopped, ends_memory, ends_lacking, ends_well}
 use Rattle.stats_report.proofs.input.count_input.Goals as goal
 
-pub loop-turn-init : goal.loop-turn-init
-loop-turn-init g c = record {
-  ran = ran_none c.args.asked.now c.args.tally.now (g.S.Source.inflow c.args.input.now).left c.new-feed.result c.requires.fresh c.new-feed.ensures.rest c.new-feed.ensures.going;
-  within = omega arith;
-  turns = omega arith;
+pub loop-feed-init : goal.loop-feed-init
+loop-feed-init g c = record {
+  ran = rw c.up_to-pieces.ensures (ran_none c.args.asked.now c.args.limit c.args.tally.now (g.S.Source.inflow c.args.input.now).left c.new-feed.result c.requires.fresh c.new-feed.ensures.rest c.new-feed.ensures.going);
   steady = refl;
 }
 
-pub loop-turn-preserved : goal.loop-turn-preserved
-loop-turn-preserved g c =
-    let bytes = c.in-Ok.ensures.taken in
-    let buffer = c.read_front.new.buffer in
-    let count = c.in-Ok.count in
-    let size : length (take count buffer) ≡ count = omega (arith, bytes.1, length-take count buffer) in
+pub loop-feed-preserved : goal.loop-feed-preserved
+loop-feed-preserved g c =
+    let reads = g.S.Source.inflow in
+    let buffer = c.next.new.buffer in
+    let count = c.in-Some.count in
+    let e = c.in-Some.is in
+    let is : c.in_ok-count.field-0 ≡ Some count = cc in
+    let piece = found_some c.loop-feed.pieces c.next.new.self (reads c.loop-feed.input) (reads c.next.new.input) buffer c.in_ok-count.field-0 c.in_ok-count.ensures.found count is in
     record {
-      ran = ran_next c.args.asked.now c.args.limit c.loop-turn.tally (g.S.Source.inflow c.args.input.now).left (g.S.Source.inflow c.loop-turn.input).left c.loop-turn.feed c.loop-turn.total c.loop-turn.invariant.ran
-          (take count buffer) c.push.new.self c.take_each-in-loop-turn.new.feed c.take_each-in-loop-turn.new.tally (g.S.Source.inflow c.read_front.new.input).left (c.loop-turn.total + count)
-          bytes.2 c.in_ok-push.ensures.ok c.push.ensures.going c.in_ok-take_each-2.ensures (omega (arith, size));
-      within = omega (arith, c.if-count-limit.false, c.loop-turn.invariant.within);
-      turns = omega (arith, c.loop-turn.invariant.turns, c.if-count-eq0.false);
-      steady = c.in-Ok.ensures.steady ∙ c.loop-turn.invariant.steady;
+      ran = ran_next c.args.asked.now c.args.limit c.loop-feed.tally (reads c.args.input.now).left (reads c.loop-feed.input).left c.loop-feed.feed c.loop-feed.pieces c.loop-feed.invariant.ran
+          c.next.new.self (take count buffer) c.push.new.self c.take_each.new.feed c.take_each.new.tally (reads c.next.new.input).left piece c.in_ok-push.ensures.ok c.push.ensures.going c.in_ok-take_each.ensures;
+      steady = c.in_ok-count.ensures.cause.steady (λ e. absurd (cc)) ∙ c.loop-feed.invariant.steady;
     }
 
-pub returns-then-count-eq0-clause-run : goal.returns-then-count-eq0-clause-run
-returns-then-count-eq0-clause-run g c =
-    let bytes = c.in-Ok.ensures.taken in
-    let none : take c.in-Ok.count c.read_front.new.buffer ≡ [] = rw c.if-count-eq0.true refl in
-    ends_well c.args.asked.now c.args.limit c.loop-turn.tally (g.S.Source.inflow c.args.input.now).left (g.S.Source.inflow c.loop-turn.input).left c.loop-turn.feed c.loop-turn.total c.loop-turn.invariant.ran
-    tt c.end.new.self c.take_each.new.feed c.take_each.new.tally (g.S.Source.inflow c.read_front.new.input).left c.end.ensures.rest c.end.ensures.ended c.in_ok-take_each.ensures
-    (rw none at bytes.2) (c.in-Ok.ensures.ended (ap (λ (k : ℕ). Ok k) c.if-count-eq0.true) (omega (arith, c.min-room.ensures, c.loop-turn.invariant.within))) c.loop-turn.invariant.within
-
-pub returns-then-count-limit-clause-run : goal.returns-then-count-limit-clause-run
-returns-then-count-limit-clause-run g c =
-    let bytes = c.in-Ok.ensures.taken in
-    let chunk = take c.in-Ok.count c.read_front.new.buffer in
-    ends_long c.args.asked.now c.args.limit c.loop-turn.tally (g.S.Source.inflow c.args.input.now).left (g.S.Source.inflow c.loop-turn.input).left c.loop-turn.feed c.loop-turn.total c.loop-turn.invariant.ran
-    c.loop-turn.tally chunk (g.S.Source.inflow c.read_front.new.input).left bytes.2
-    (omega (arith, c.loop-turn.invariant.within, bytes.0, bytes.1, c.min-room.ensures, c.if-count-limit.true, length-take c.in-Ok.count c.read_front.new.buffer))
+pub returns-in_err-count-clause-run : goal.returns-in_err-count-clause-run
+returns-in_err-count-clause-run g c =
+    let reads = g.S.Source.inflow in
+    let why = c.in_err-count.field-0.0 in
+    rw (stops_by c.from_residual.result why c.from_residual.ensures.1)
+    (ends_stopped c.args.asked.now c.args.limit c.loop-feed.tally (reads c.args.input.now).left (reads c.loop-feed.input).left c.loop-feed.feed c.loop-feed.pieces c.loop-feed.invariant.ran c.loop-feed.tally c.next.new.self (reads c.next.new.input).left why c.in_err-count.ensures.stopped)
 
 pub returns-in_err-push-clause-run : goal.returns-in_err-push-clause-run
 returns-in_err-push-clause-run g c =
-    let bytes = c.in-Ok.ensures.taken in
-    let chunk = take c.in-Ok.count c.read_front.new.buffer in
+    let reads = g.S.Source.inflow in
+    let buffer = c.next.new.buffer in
+    let count = c.in-Some.count in
+    let e = c.in-Some.is in
+    let is : c.in_ok-count.field-0 ≡ Some count = cc in
+    let piece = found_some c.loop-feed.pieces c.next.new.self (reads c.loop-feed.input) (reads c.next.new.input) buffer c.in_ok-count.field-0 c.in_ok-count.ensures.found count is in
     rw (stops_by c.from_residual-in_err-push.result stop.OutOfMemory c.from_residual-in_err-push.ensures.1)
-    (ends_memory c.args.asked.now c.args.limit c.loop-turn.tally (g.S.Source.inflow c.args.input.now).left (g.S.Source.inflow c.loop-turn.input).left c.loop-turn.feed c.loop-turn.total c.loop-turn.invariant.ran
-    c.loop-turn.tally chunk (g.S.Source.inflow c.read_front.new.input).left bytes.2
-    (omega (arith, c.loop-turn.invariant.within, bytes.0, bytes.1, c.min-room.ensures, length-take c.in-Ok.count c.read_front.new.buffer)))
+    (ends_memory c.args.asked.now c.args.limit c.loop-feed.tally (reads c.args.input.now).left (reads c.loop-feed.input).left c.loop-feed.feed c.loop-feed.pieces c.loop-feed.invariant.ran c.loop-feed.tally c.next.new.self (take count buffer) (reads c.next.new.input).left piece)
+
+pub returns-in_err-take_each-clause-run : goal.returns-in_err-take_each-clause-run
+returns-in_err-take_each-clause-run g c =
+    let reads = g.S.Source.inflow in
+    let buffer = c.next.new.buffer in
+    let count = c.in-Some.count in
+    let e = c.in-Some.is in
+    let is : c.in_ok-count.field-0 ≡ Some count = cc in
+    let piece = found_some c.loop-feed.pieces c.next.new.self (reads c.loop-feed.input) (reads c.next.new.input) buffer c.in_ok-count.field-0 c.in_ok-count.ensures.found count is in
+    rw (stops_by c.from_residual-in_err-take_each.result stop.OutOfMemory c.from_residual-in_err-take_each.ensures.1)
+    (ends_memory c.args.asked.now c.args.limit c.loop-feed.tally (reads c.args.input.now).left (reads c.loop-feed.input).left c.loop-feed.feed c.loop-feed.pieces c.loop-feed.invariant.ran c.take_each.new.tally c.next.new.self (take count buffer) (reads c.next.new.input).left piece)
 
 pub returns-in_err-take_each-2-clause-run : goal.returns-in_err-take_each-2-clause-run
 returns-in_err-take_each-2-clause-run g c =
-    let bytes = c.in-Ok.ensures.taken in
-    let chunk = take c.in-Ok.count c.read_front.new.buffer in
+    let reads = g.S.Source.inflow in
+    let e = c.in_default.is in
+    let is : c.in_ok-count.field-0 ≡ None = cc in
+    let whole = found_none c.loop-feed.pieces c.next.new.self (reads c.loop-feed.input) (reads c.next.new.input) c.next.new.buffer c.in_ok-count.field-0 c.in_ok-count.ensures.found is in
     rw (stops_by c.from_residual-in_err-take_each-2.result stop.OutOfMemory c.from_residual-in_err-take_each-2.ensures.1)
-    (ends_memory c.args.asked.now c.args.limit c.loop-turn.tally (g.S.Source.inflow c.args.input.now).left (g.S.Source.inflow c.loop-turn.input).left c.loop-turn.feed c.loop-turn.total c.loop-turn.invariant.ran
-    c.take_each-in-loop-turn.new.tally chunk (g.S.Source.inflow c.read_front.new.input).left bytes.2
-    (omega (arith, c.loop-turn.invariant.within, bytes.0, bytes.1, c.min-room.ensures, length-take c.in-Ok.count c.read_front.new.buffer)))
+    (ends_lacking c.args.asked.now c.args.limit c.loop-feed.tally (reads c.args.input.now).left (reads c.loop-feed.input).left c.loop-feed.feed c.loop-feed.pieces c.loop-feed.invariant.ran c.next.new.self (reads c.next.new.input).left whole c.take_each-2.new.tally)
+
+pub returns-clause-run : goal.returns-clause-run
+returns-clause-run g c =
+    let reads = g.S.Source.inflow in
+    let e = c.in_default.is in
+    let is : c.in_ok-count.field-0 ≡ None = cc in
+    let whole = found_none c.loop-feed.pieces c.next.new.self (reads c.loop-feed.input) (reads c.next.new.input) c.next.new.buffer c.in_ok-count.field-0 c.in_ok-count.ensures.found is in
+    ends_well c.args.asked.now c.args.limit c.loop-feed.tally (reads c.args.input.now).left (reads c.loop-feed.input).left c.loop-feed.feed c.loop-feed.pieces c.loop-feed.invariant.ran c.next.new.self (reads c.next.new.input).left whole
+    tt c.end.new.self c.take_each-2.new.feed c.take_each-2.new.tally c.end.ensures.rest c.end.ensures.ended c.in_ok-take_each-2.ensures

@@ -1,7 +1,10 @@
-use Rattle.std.proofs.Common.{◌≡◌, ◌++◌}
-use Rattle.stats_report.specs.Told.{zones_told}
+use Rattle.std.proofs.Common.{◌≡◌, ◌++◌, drop}
+use Rattle.std.specs.List.{flat_map}
+use Rattle.std.specs.Map.{keys_of}
+use Rattle.stats_report.specs.Spells.{kept_of}
+use Rattle.stats_report.specs.Told.{zone_told}
 use Rattle.stats_report.proofs.lines.put_zones.Given as goal
 
--- the lines so far
-abbrev pub invariant-loop-zone : goal.invariant-loop-zone
-invariant-loop-zone l = l.out ≡ l.fn.out ++ zones_told l.totals l.opened l.yielded
+-- the lines so far, with those of the zones that are left, are all
+abbrev pub invariant-loop-entry : goal.invariant-loop-entry
+invariant-loop-entry l = l.out ++ flat_map (zone_told (kept_of l.standing)) (keys_of (drop l.entry-index l.zones)) ≡ l.fn.out ++ flat_map (zone_told (kept_of l.standing)) (keys_of l.zones)

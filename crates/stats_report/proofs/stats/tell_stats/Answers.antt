@@ -1,7 +1,7 @@
 use Rattle.std.proofs.Common.{◌∙◌, sym, take, drop}
 use Rattle.std.proofs.lemmas.List.{take-append-drop}
 use Rattle.program_ends.specs.declared.reading.Stop.TheVariants as stop
-use Rattle.archive_report.proofs.Reading.{stops_by}
+use Rattle.program_ends.proofs.Piecewise.{stops_by}
 use Rattle.stats_report.proofs.Ending.{ends_reading, ends_texting, ends_whole, ends_writing}
 use Rattle.stats_report.proofs.stats.tell_stats.Goals as goal
 

@@ -6,5 +6,5 @@ use Rattle.warn_main.proofs.laws.what_was_done_keeps_the_promise.Goals as goal
 pub returns : goal.returns
 returns g c words limit before after status done =
     let m = g.met.D.Disk in
-    promised g.D.Disk before after m.counts_now m.only_now m.earlier g.C.Clock words limit status
+    promised g.D.Disk before after m.are_crashes g.C.Clock words limit status
     (λ file h s legal. c.requests_stand_once.ensures (fits file) legal.settings O h.entries legal.last legal.legal) done

@@ -7,4 +7,4 @@ returns-in-Ok-new-clause-ran g c =
     c.in-Ok.command_line c.deref-2.result.now c.deref.result.now c.place_of.result _ c.in-Ok-new.disk
     c.args.files.now _ _ c.run_over-in-Ok-new.result c.in-Ok.is c.deref-2.ensures.value
     c.deref.ensures.value c.in-Memory.is c.place_of.ensures c.in-Ok-given_words.ensures
-    c.run_over-in-Ok-new.ensures
+    c.run_over-in-Ok-new.ensures.ran

@@ -6,22 +6,22 @@ pub returns-in_err-write_synced-clause-err : goal.returns-in_err-write_synced-cl
 returns-in_err-write_synced-clause-err g c bodies pending s =
     let d = g.D.Disk in
     let m = g.met.D.Disk in
-    on_err c.from_residual.result (close_err d.seen d.moment d.left_since d.may_leave m.seen_is_left m.counts_now m.only_now m.earlier c.args.self.now.disk c.args.self.now.gate c.args.self.now.unsure c.write_synced.new.disk bodies c.write_synced.result pending c.if-self.true s c.write_synced.ensures.seen c.write_synced.ensures.crash)
+    on_err c.from_residual.result (close_err d.seen d.crash m.seen_is_left m.are_crashes c.args.self.now.disk c.args.self.now.gate c.args.self.now.unsure c.write_synced.new.disk bodies c.write_synced.result pending c.if-self.true s c.write_synced.ensures.seen c.write_synced.ensures.crash)
 
 pub returns-in_err-write_synced-clause-any_moment : goal.returns-in_err-write_synced-clause-any_moment
 returns-in_err-write_synced-clause-any_moment g c bodies pending s =
     let d = g.D.Disk in
     let m = g.met.D.Disk in
-    close_moments d.seen d.moment d.left_since d.may_leave m.seen_is_left m.counts_now m.only_now m.earlier c.args.self.now.disk c.args.self.now.gate c.args.self.now.unsure c.write_synced.new.disk bodies pending c.if-self.true s c.write_synced.ensures.crash
+    close_moments d.seen d.crash m.seen_is_left m.are_crashes c.args.self.now.disk c.args.self.now.gate c.args.self.now.unsure c.write_synced.new.disk bodies pending c.if-self.true s c.write_synced.ensures.crash
 
 pub returns-in_ok-write_synced-clause-ok : goal.returns-in_ok-write_synced-clause-ok
 returns-in_ok-write_synced-clause-ok g c bodies pending s =
     let d = g.D.Disk in
     let m = g.met.D.Disk in
-    close_ok d.seen d.moment d.left_since d.may_leave m.seen_is_left m.counts_now m.only_now m.earlier c.args.self.now.disk c.args.self.now.gate c.args.self.now.unsure c.write_synced.new.disk bodies Failed tt pending c.if-self.true s c.in_ok-write_synced.ensures.seen c.in_ok-write_synced.ensures.durable
+    close_ok d.seen d.crash m.seen_is_left m.are_crashes c.args.self.now.disk c.args.self.now.gate c.args.self.now.unsure c.write_synced.new.disk bodies Failed tt pending c.if-self.true s c.in_ok-write_synced.ensures.seen c.in_ok-write_synced.ensures.durable
 
 pub returns-in_ok-write_synced-clause-any_moment : goal.returns-in_ok-write_synced-clause-any_moment
 returns-in_ok-write_synced-clause-any_moment g c bodies pending s =
     let d = g.D.Disk in
     let m = g.met.D.Disk in
-    close_moments d.seen d.moment d.left_since d.may_leave m.seen_is_left m.counts_now m.only_now m.earlier c.args.self.now.disk c.args.self.now.gate c.args.self.now.unsure c.write_synced.new.disk bodies pending c.if-self.true s c.write_synced.ensures.crash
+    close_moments d.seen d.crash m.seen_is_left m.are_crashes c.args.self.now.disk c.args.self.now.gate c.args.self.now.unsure c.write_synced.new.disk bodies pending c.if-self.true s c.write_synced.ensures.crash

@@ -7,22 +7,22 @@ pub returns-in_err-write_synced-clause-err : goal.returns-in_err-write_synced-cl
 returns-in_err-write_synced-clause-err g c bodies s =
     let d = g.D.Disk in
     let m = g.met.D.Disk in
-    on_err c.from_residual.result (open_err d.seen d.moment d.left_since d.may_leave m.seen_is_left m.counts_now m.only_now m.earlier c.args.self.now.disk c.args.self.now.gate c.args.self.now.unsure c.write_synced.new.disk bodies c.write_synced.result c.args.body.now s c.write_synced.ensures.seen c.write_synced.ensures.crash)
+    on_err c.from_residual.result (open_err d.seen d.crash m.seen_is_left m.are_crashes c.args.self.now.disk c.args.self.now.gate c.args.self.now.unsure c.write_synced.new.disk bodies c.write_synced.result c.args.body.now s c.write_synced.ensures.seen c.write_synced.ensures.crash)
 
 pub returns-in_err-write_synced-clause-any_moment : goal.returns-in_err-write_synced-clause-any_moment
 returns-in_err-write_synced-clause-any_moment g c bodies s =
     let d = g.D.Disk in
     let m = g.met.D.Disk in
-    open_moments d.seen d.moment d.left_since d.may_leave m.seen_is_left m.counts_now m.only_now m.earlier c.args.self.now.disk c.args.self.now.gate c.args.self.now.unsure c.write_synced.new.disk bodies c.args.body.now s c.write_synced.ensures.crash
+    open_moments d.seen d.crash m.seen_is_left m.are_crashes c.args.self.now.disk c.args.self.now.gate c.args.self.now.unsure c.write_synced.new.disk bodies c.args.body.now s c.write_synced.ensures.crash
 
 pub returns-clause-ok : goal.returns-clause-ok
 returns-clause-ok g c bodies s =
     let d = g.D.Disk in
     let m = g.met.D.Disk in
-    (open_ok d.seen d.moment d.left_since d.may_leave m.seen_is_left m.counts_now m.only_now m.earlier c.args.self.now.disk c.args.self.now.gate c.args.self.now.unsure c.write_synced.new.disk bodies Failed tt _ c.args.body.now (length-push bodies c.args.body.now c.args.self.now.gate _ s.place (ap length c.framed.ensures.value)) s c.in_ok-write_synced.ensures.seen c.in_ok-write_synced.ensures.durable, c.in_ok-write_synced.ensures.durable)
+    (open_ok d.seen d.crash m.seen_is_left m.are_crashes c.args.self.now.disk c.args.self.now.gate c.args.self.now.unsure c.write_synced.new.disk bodies Failed tt _ c.args.body.now (length-push bodies c.args.body.now c.args.self.now.gate _ s.place (ap length c.framed.ensures.value)) s c.in_ok-write_synced.ensures.seen c.in_ok-write_synced.ensures.durable, c.in_ok-write_synced.ensures.durable)
 
 pub returns-clause-any_moment : goal.returns-clause-any_moment
 returns-clause-any_moment g c bodies s =
     let d = g.D.Disk in
     let m = g.met.D.Disk in
-    open_moments d.seen d.moment d.left_since d.may_leave m.seen_is_left m.counts_now m.only_now m.earlier c.args.self.now.disk c.args.self.now.gate c.args.self.now.unsure c.write_synced.new.disk bodies c.args.body.now s c.write_synced.ensures.crash
+    open_moments d.seen d.crash m.seen_is_left m.are_crashes c.args.self.now.disk c.args.self.now.gate c.args.self.now.unsure c.write_synced.new.disk bodies c.args.body.now s c.write_synced.ensures.crash

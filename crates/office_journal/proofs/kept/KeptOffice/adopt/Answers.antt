@@ -16,13 +16,13 @@ returns-in-Ok-office_of-clause-ok g c bytes stands =
     let is : IsOpened journal all kept = c.in-Ok-office_of.ensures in
     let read = c.in-Ok.ensures.ok bytes stands in
     let image = subst (λ (bs : List (List ℕ)). Image bytes bs) (sym c.as_slice.ensures) read.0 in
-    let keeps = subst (λ (bs : List (List ℕ)). Keeps d.seen d.may_leave journal bs None) (sym c.as_slice.ensures) read.1 in (
+    let keeps = subst (λ (bs : List (List ℕ)). Keeps d.seen d.crash journal bs None) (sym c.as_slice.ensures) read.1 in (
       is.file,
       is.history,
       image_then journal all kept is bytes image,
-      holds_then d.seen d.may_leave journal all kept is keeps,
+      holds_then d.seen d.crash journal all kept is keeps,
       subst (λ (j : Journal g.row.D.Denot d). d.seen (disk_of j) ≡ Some bytes) (sym is.same) (c.in-Ok.ensures.seen ∙ stands),
-      subst (λ (j : Journal g.row.D.Denot d). Only (d.seen (disk_of j)) (d.may_leave (disk_of j))) (sym is.same) read.2,
+      subst (λ (j : Journal g.row.D.Denot d). Only (d.seen (disk_of j)) (d.crash (disk_of j)).may_leave) (sym is.same) read.2,
     )
 
 pub returns-in-Ok-office_of-clause-legal : goal.returns-in-Ok-office_of-clause-legal

@@ -22,7 +22,7 @@ returns-in-Ok-clause-becomes g c =
         reads = c.commit.ensures.reads;
         legal = λ file h has. legal_then c.args.self.now c.args.p c.accepted_requests_are_accepted_at_their_minute.ensures c.requires.ready c.args.packet.now c.requires.body c.requires.room file h has _ c.commit.ensures.state refl c.in-Ok.ensures.gate;
         held = λ file h pending holds.
-            held_then d.seen d.may_leave c.args.self.now c.args.p c.accepted_requests_are_accepted_at_their_minute.ensures c.requires.ready c.args.packet.now c.requires.body c.requires.room
+            held_then d.seen d.crash c.args.self.now c.args.p c.accepted_requests_are_accepted_at_their_minute.ensures c.requires.ready c.args.packet.now c.requires.body c.requires.room
             file h pending holds _ c.commit.ensures.state refl (c.in-Ok.ensures.ok (bodies file h) (option_map body_of pending) holds.journal);
       },
     )
@@ -31,9 +31,9 @@ pub returns-in-Ok-clause-any_moment : goal.returns-in-Ok-clause-any_moment
 returns-in-Ok-clause-any_moment g c file h pending holds =
     let d = g.D.Disk in
     let m = g.met.D.Disk in
-    weaker d.moment d.left_since d.may_leave m.counts_now m.only_now m.earlier c.args.self.now.journal.disk c.append.new.self.disk (IsOneOf (bodies file h) (option_map body_of pending) c.args.packet.now)
+    weaker d.crash m.are_crashes c.args.self.now.journal.disk c.append.new.self.disk (IsOneOf (bodies file h) (option_map body_of pending) c.args.packet.now)
     (Leaves file h (λ change. (pending ≡ Some change) ⊎ (change ≡ Change.entry (entered c.args.p))))
-    (left_then d.seen d.may_leave c.args.self.now c.args.p c.accepted_requests_are_accepted_at_their_minute.ensures c.requires.ready c.args.packet.now c.requires.body c.requires.room file h pending holds)
+    (left_then d.seen d.crash c.args.self.now c.args.p c.accepted_requests_are_accepted_at_their_minute.ensures c.requires.ready c.args.packet.now c.requires.body c.requires.room file h pending holds)
     (c.append.ensures.any_moment (bodies file h) (option_map body_of pending) holds.journal)
 
 pub returns-in-Err-DiskFault-clause-becomes : goal.returns-in-Err-DiskFault-clause-becomes
@@ -50,7 +50,7 @@ returns-in-Err-DiskFault-clause-becomes g c =
         notes = c.saturating_add-self.ensures;
         held = λ file h pending holds.
             let failed = c.in-Err-DiskFault.ensures.failed (bodies file h) (option_map body_of pending) holds.journal (ap Err c.in-Err-DiskFault.field-0-is) in
-            held_still d.seen d.may_leave c.args.self.now c.args.p c.accepted_requests_are_accepted_at_their_minute.ensures c.requires.ready c.args.packet.now c.requires.body c.requires.room
+            held_still d.seen d.crash c.args.self.now c.args.p c.accepted_requests_are_accepted_at_their_minute.ensures c.requires.ready c.args.packet.now c.requires.body c.requires.room
             file h pending holds _ refl refl failed.0 failed.1 failed.2;
       },
     )
@@ -59,7 +59,7 @@ pub returns-in-Err-DiskFault-clause-any_moment : goal.returns-in-Err-DiskFault-c
 returns-in-Err-DiskFault-clause-any_moment g c file h pending holds =
     let d = g.D.Disk in
     let m = g.met.D.Disk in
-    weaker d.moment d.left_since d.may_leave m.counts_now m.only_now m.earlier c.args.self.now.journal.disk c.append.new.self.disk (IsOneOf (bodies file h) (option_map body_of pending) c.args.packet.now)
+    weaker d.crash m.are_crashes c.args.self.now.journal.disk c.append.new.self.disk (IsOneOf (bodies file h) (option_map body_of pending) c.args.packet.now)
     (Leaves file h (λ change. (pending ≡ Some change) ⊎ (change ≡ Change.entry (entered c.args.p))))
-    (left_then d.seen d.may_leave c.args.self.now c.args.p c.accepted_requests_are_accepted_at_their_minute.ensures c.requires.ready c.args.packet.now c.requires.body c.requires.room file h pending holds)
+    (left_then d.seen d.crash c.args.self.now c.args.p c.accepted_requests_are_accepted_at_their_minute.ensures c.requires.ready c.args.packet.now c.requires.body c.requires.room file h pending holds)
     (c.append.ensures.any_moment (bodies file h) (option_map body_of pending) holds.journal)

@@ -24,8 +24,8 @@ returns-in-New-clause-becomes g c =
     let kept : List ℕ → Type 0 = λ text. (kept : Reply) × Repeats s c.args.desk c.args.seq c.args.r.now kept × (text ≡ reply_text kept) in
     let offered = IsOffered s c.args.desk c.args.seq c.args.r.now c.args.reading in
     let broken = Refuses s c.args.desk c.args.seq c.args.r.now c.args.reading in
-    subst (λ (a : Answer). Becomes d.seen d.may_leave d.faults c.args.self.now c.append_prepared.new.self offered kept broken a) (sym c.beside.ensures.answer)
-    (becomes_on d.seen d.may_leave c.args.self.now _ refl c.prepare.ensures.state refl refl c.append_prepared.new.self d.faults (entered c.in-New.p) offered kept broken
+    subst (λ (a : Answer). Becomes d.seen d.crash d.faults c.args.self.now c.append_prepared.new.self offered kept broken a) (sym c.beside.ensures.answer)
+    (becomes_on d.seen d.crash c.args.self.now _ refl c.prepare.ensures.state refl refl c.append_prepared.new.self d.faults (entered c.in-New.p) offered kept broken
     (ready_offered c.prepare.new.self s c.args.desk c.args.seq c.args.r.now c.args.reading c.in-New.p c.prepare.ensures.state ready) c.append_prepared.result c.append_prepared.ensures.becomes)
 
 pub returns-in-New-clause-told : goal.returns-in-New-clause-told
@@ -38,8 +38,8 @@ returns-in-New-clause-told g c =
     let broken = Refuses s c.args.desk c.args.seq c.args.r.now c.args.reading in
     let told = option_map (λ t. t.value) c.beside.result.1 in
     let beside = subst (λ (p : Readied). StandsBeside c.append_prepared.result p told) c.of-told.ensures c.beside.ensures.told in
-    subst (λ (a : Answer). Names d.seen d.may_leave d.faults c.args.self.now c.append_prepared.new.self offered kept broken a told) (sym c.beside.ensures.answer)
-    (names_on d.seen d.may_leave c.args.self.now _ refl c.prepare.ensures.state refl refl c.append_prepared.new.self d.faults c.in-New.p offered kept broken
+    subst (λ (a : Answer). Names d.seen d.crash d.faults c.args.self.now c.append_prepared.new.self offered kept broken a told) (sym c.beside.ensures.answer)
+    (names_on d.seen d.crash c.args.self.now _ refl c.prepare.ensures.state refl refl c.append_prepared.new.self d.faults c.in-New.p offered kept broken
     (ready_offered c.prepare.new.self s c.args.desk c.args.seq c.args.r.now c.args.reading c.in-New.p c.prepare.ensures.state ready) c.append_prepared.result told c.append_prepared.ensures.becomes beside)
 
 pub returns-in-New-clause-any_moment : goal.returns-in-New-clause-any_moment
@@ -49,18 +49,18 @@ returns-in-New-clause-any_moment g c file h pending holds =
     let s = c.args.self.now.office.state in
     let ready : IsReady c.prepare.new.self c.args.desk c.args.seq c.args.r.now c.args.reading c.in-New.p = subst (λ (z : ℤ). IsReady c.prepare.new.self c.args.desk c.args.seq c.args.r.now z c.in-New.p) (to_z-of_z w64 c.args.reading c.ranges.reading) (c.prepare.ensures.ready c.in-New.p (c.in-Ok.is ∙ ap (λ z. Ok z) c.in-New.is)) in
     let offered : IsOffered s c.args.desk c.args.seq c.args.r.now c.args.reading (entered c.in-New.p) = ready_offered c.prepare.new.self s c.args.desk c.args.seq c.args.r.now c.args.reading c.in-New.p c.prepare.ensures.state ready in
-    weaker d.moment d.left_since d.may_leave m.counts_now m.only_now m.earlier c.args.self.now.journal.disk c.append_prepared.new.self.journal.disk
+    weaker d.crash m.are_crashes c.args.self.now.journal.disk c.append_prepared.new.self.journal.disk
     (Leaves file h (λ change. (pending ≡ Some change) ⊎ (change ≡ Change.entry (entered c.in-New.p))))
     (Leaves file h (λ change. (pending ≡ Some change) ⊎ IsAsked s c.args.desk c.args.seq c.args.r.now c.args.reading change))
     (asked_less s c.args.desk c.args.seq c.args.r.now c.args.reading (entered c.in-New.p) offered file h pending)
-    (c.append_prepared.ensures.any_moment file h pending (holds_on d.seen d.may_leave c.args.self.now _ refl c.prepare.ensures.state refl refl file h pending holds))
+    (c.append_prepared.ensures.any_moment file h pending (holds_on d.seen d.crash c.args.self.now _ refl c.prepare.ensures.state refl refl file h pending holds))
 
 pub returns-in-Again-clause-any_moment : goal.returns-in-Again-clause-any_moment
 returns-in-Again-clause-any_moment g c file h pending holds =
     let d = g.D.Disk in
     let m = g.met.D.Disk in
     let P : Change → Type 0 = λ change. (pending ≡ Some change) ⊎ IsAsked c.args.self.now.office.state c.args.desk c.args.seq c.args.r.now c.args.reading change in
-    nothing d.moment d.left_since d.may_leave m.counts_now m.only_now m.earlier c.args.self.now.journal.disk (Leaves file h P)
+    nothing d.crash m.are_crashes c.args.self.now.journal.disk (Leaves file h P)
     (λ f left. leaves_less file h (λ change. pending ≡ Some change) P (λ change now. inl now) f (c.a_crash_leaves_the_history.ensures file h pending f holds left))
 
 pub returns-in-No-clause-becomes : goal.returns-in-No-clause-becomes
@@ -70,14 +70,14 @@ returns-in-No-clause-becomes g c =
     let refuses : Refuses s c.args.desk c.args.seq c.args.r.now c.args.reading c.in-No.refusal =
     subst (λ (z : ℤ). Refuses s c.args.desk c.args.seq c.args.r.now z c.in-No.refusal) (to_z-of_z w64 c.args.reading c.ranges.reading)
     (c.prepare.ensures.refused c.in-No.refusal (c.in-Err.is ∙ ap (λ z. Err z) c.in-No.is)) in
-    (inl refuses, still_as_before d.seen d.may_leave c.args.self.now _ refl c.prepare.ensures.state refl refl)
+    (inl refuses, still_as_before d.seen d.crash c.args.self.now _ refl c.prepare.ensures.state refl refl)
 
 pub returns-in-No-clause-any_moment : goal.returns-in-No-clause-any_moment
 returns-in-No-clause-any_moment g c file h pending holds =
     let d = g.D.Disk in
     let m = g.met.D.Disk in
     let P : Change → Type 0 = λ change. (pending ≡ Some change) ⊎ IsAsked c.args.self.now.office.state c.args.desk c.args.seq c.args.r.now c.args.reading change in
-    nothing d.moment d.left_since d.may_leave m.counts_now m.only_now m.earlier c.args.self.now.journal.disk (Leaves file h P)
+    nothing d.crash m.are_crashes c.args.self.now.journal.disk (Leaves file h P)
     (λ f left. leaves_less file h (λ change. pending ≡ Some change) P (λ change now. inl now) f (c.a_crash_leaves_the_history.ensures file h pending f holds left))
 
 pub returns-in-OutOfMemory-clause-any_moment : goal.returns-in-OutOfMemory-clause-any_moment
@@ -85,5 +85,5 @@ returns-in-OutOfMemory-clause-any_moment g c file h pending holds =
     let d = g.D.Disk in
     let m = g.met.D.Disk in
     let P : Change → Type 0 = λ change. (pending ≡ Some change) ⊎ IsAsked c.args.self.now.office.state c.args.desk c.args.seq c.args.r.now c.args.reading change in
-    nothing d.moment d.left_since d.may_leave m.counts_now m.only_now m.earlier c.args.self.now.journal.disk (Leaves file h P)
+    nothing d.crash m.are_crashes c.args.self.now.journal.disk (Leaves file h P)
     (λ f left. leaves_less file h (λ change. pending ≡ Some change) P (λ change now. inl now) f (c.a_crash_leaves_the_history.ensures file h pending f holds left))

@@ -16,7 +16,7 @@ returns-then-eq-clause-any_moment g c file h pending holds =
     let d = g.D.Disk in
     let m = g.met.D.Disk in
     let P : Change → Type 0 = λ change. (pending ≡ Some change) ⊎ ((change ≡ Change.marked) × (h.edition ≡ One)) in
-    nothing d.moment d.left_since d.may_leave m.counts_now m.only_now m.earlier c.args.self.now.journal.disk (Leaves file h P)
+    nothing d.crash m.are_crashes c.args.self.now.journal.disk (Leaves file h P)
     (λ f left. leaves_less file h (λ change. pending ≡ Some change) P (λ change now. inl now) f (c.a_crash_leaves_the_history.ensures file h pending f holds left))
 
 pub returns-in_default-clause-any_moment : goal.returns-in_default-clause-any_moment
@@ -24,7 +24,7 @@ returns-in_default-clause-any_moment g c file h pending holds =
     let d = g.D.Disk in
     let m = g.met.D.Disk in
     let P : Change → Type 0 = λ change. (pending ≡ Some change) ⊎ ((change ≡ Change.marked) × (h.edition ≡ One)) in
-    nothing d.moment d.left_since d.may_leave m.counts_now m.only_now m.earlier c.args.self.now.journal.disk (Leaves file h P)
+    nothing d.crash m.are_crashes c.args.self.now.journal.disk (Leaves file h P)
     (λ f left. leaves_less file h (λ change. pending ≡ Some change) P (λ change now. inl now) f (c.a_crash_leaves_the_history.ensures file h pending f holds left))
 
 pub returns-in-Ok-append-clause-done : goal.returns-in-Ok-append-clause-done
@@ -38,7 +38,7 @@ returns-in-Ok-append-clause-done g c is =
           let marked : h.edition ≡ One = sym (ap (λ (z : State). z.edition) holds.history.state) ∙ one in
           let kept = c.in-Ok-append.ensures.ok (bodies file h) (option_map body_of pending) holds.journal in (
             record {
-              journal = grown_bodies file h s holds.history Change.marked c.in-Ok.mark marked c.in-Ok.ensures (λ (bs : List (List ℕ)). Keeps d.seen d.may_leave c.append.new.self bs None) kept.0;
+              journal = grown_bodies file h s holds.history Change.marked c.in-Ok.mark marked c.in-Ok.ensures (λ (bs : List (List ℕ)). Keeps d.seen d.crash c.append.new.self bs None) kept.0;
               history = subst (λ (z : State). IsHistory file (changed h Change.marked) z) (sym c.set_edition.ensures.state) (history_marked file h s holds.history marked);
               entries = holds.entries;
               change = tt;
@@ -55,7 +55,7 @@ returns-in-Ok-append-clause-any_moment g c file h pending holds =
     let one : s.edition ≡ One = search rules in
     let marked : h.edition ≡ One = sym (ap (λ (z : State). z.edition) holds.history.state) ∙ one in
     let Q : Change → Type 0 = λ change. (change ≡ Change.marked) × (h.edition ≡ One) in
-    weaker d.moment d.left_since d.may_leave m.counts_now m.only_now m.earlier c.args.self.now.journal.disk c.append.new.self.disk (IsOneOf (bodies file h) (option_map body_of pending) c.in-Ok.mark)
+    weaker d.crash m.are_crashes c.args.self.now.journal.disk c.append.new.self.disk (IsOneOf (bodies file h) (option_map body_of pending) c.in-Ok.mark)
     (Leaves file h (λ change. (pending ≡ Some change) ⊎ Q change))
     (left_between file h s holds.history pending Change.marked c.in-Ok.mark holds.change marked c.in-Ok.ensures Q (refl, marked))
     (c.append.ensures.any_moment (bodies file h) (option_map body_of pending) holds.journal)
@@ -68,7 +68,7 @@ returns-in-Err-Full-clause-any_moment g c file h pending holds =
     let one : s.edition ≡ One = search rules in
     let marked : h.edition ≡ One = sym (ap (λ (z : State). z.edition) holds.history.state) ∙ one in
     let Q : Change → Type 0 = λ change. (change ≡ Change.marked) × (h.edition ≡ One) in
-    weaker d.moment d.left_since d.may_leave m.counts_now m.only_now m.earlier c.args.self.now.journal.disk c.append.new.self.disk (IsOneOf (bodies file h) (option_map body_of pending) c.in-Ok.mark)
+    weaker d.crash m.are_crashes c.args.self.now.journal.disk c.append.new.self.disk (IsOneOf (bodies file h) (option_map body_of pending) c.in-Ok.mark)
     (Leaves file h (λ change. (pending ≡ Some change) ⊎ Q change))
     (left_between file h s holds.history pending Change.marked c.in-Ok.mark holds.change marked c.in-Ok.ensures Q (refl, marked))
     (c.append.ensures.any_moment (bodies file h) (option_map body_of pending) holds.journal)
@@ -81,7 +81,7 @@ returns-clause-any_moment g c file h pending holds =
     let one : s.edition ≡ One = search rules in
     let marked : h.edition ≡ One = sym (ap (λ (z : State). z.edition) holds.history.state) ∙ one in
     let Q : Change → Type 0 = λ change. (change ≡ Change.marked) × (h.edition ≡ One) in
-    weaker d.moment d.left_since d.may_leave m.counts_now m.only_now m.earlier c.args.self.now.journal.disk c.append.new.self.disk (IsOneOf (bodies file h) (option_map body_of pending) c.in-Ok.mark)
+    weaker d.crash m.are_crashes c.args.self.now.journal.disk c.append.new.self.disk (IsOneOf (bodies file h) (option_map body_of pending) c.in-Ok.mark)
     (Leaves file h (λ change. (pending ≡ Some change) ⊎ Q change))
     (left_between file h s holds.history pending Change.marked c.in-Ok.mark holds.change marked c.in-Ok.ensures Q (refl, marked))
     (c.append.ensures.any_moment (bodies file h) (option_map body_of pending) holds.journal)
@@ -93,4 +93,4 @@ returns-clause-failed g c is file h pending holds =
     let one : s.edition ≡ One = search rules in
     let marked : h.edition ≡ One = sym (ap (λ (z : State). z.edition) holds.history.state) ∙ one in
     let failed = c.in-Err-DiskFault.ensures.failed (bodies file h) (option_map body_of pending) holds.journal (ap Err c.in-Err-DiskFault.field-0-is) in
-    still_held d.seen d.may_leave c.args.self.now file h pending holds Change.marked c.in-Ok.mark marked c.in-Ok.ensures _ refl refl failed.0 failed.1 failed.2
+    still_held d.seen d.crash c.args.self.now file h pending holds Change.marked c.in-Ok.mark marked c.in-Ok.ensures _ refl refl failed.0 failed.1 failed.2

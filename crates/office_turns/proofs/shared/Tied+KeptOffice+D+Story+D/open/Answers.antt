@@ -11,4 +11,4 @@ invariant_of-result g c =
     let m = g.met.D.Disk in
     subst (λ (l : List Happening). IsSince d c.of-opened.result.value c.args.kept l) (sym c.new.ensures.items)
     (subst (λ (k : KeptOffice g.row.D.Denot d). IsSince d k c.args.kept []) (sym c.of-opened.ensures)
-    (since_opened d m.counts_now m.only_now m.earlier c.args.kept c.a_crash_leaves_the_history.ensures))
+    (since_opened d m.are_crashes c.args.kept c.a_crash_leaves_the_history.ensures))

@@ -15,7 +15,7 @@ invariant_of-self-2 g c =
     let story = c.self.inside.story in
     let said = c.submit_told-answer.result in
     let is = c.submit_told-answer.ensures in
-    let came = came_of d m.counts_now m.only_now m.earlier story.opened.value c.self.inside.kept c.submit_told-answer.new.self c.args.asked.now c.args.reading story.happenings.items c.note.new.happenings.items c.self.invariant
+    let came = came_of d m.are_crashes story.opened.value c.self.inside.kept c.submit_told-answer.new.self c.args.asked.now c.args.reading story.happenings.items c.note.new.happenings.items c.self.invariant
     _ _ said.0 said.1 (to_z-of_z w64 c.args.reading c.ranges.reading) c.reserve.ensures.items (record { becomes = is.becomes; names = is.told; later = is.later; moments = is.any_moment }) c.note.ensures in
     came.since
 
@@ -26,7 +26,7 @@ returns-clause-submitted g c =
     let story = c.self.inside.story in
     let said = c.submit_told-answer.result in
     let is = c.submit_told-answer.ensures in
-    let came = came_of d m.counts_now m.only_now m.earlier story.opened.value c.self.inside.kept c.submit_told-answer.new.self c.args.asked.now c.args.reading story.happenings.items c.note.new.happenings.items c.self.invariant
+    let came = came_of d m.are_crashes story.opened.value c.self.inside.kept c.submit_told-answer.new.self c.args.asked.now c.args.reading story.happenings.items c.note.new.happenings.items c.self.invariant
     _ _ said.0 said.1 (to_z-of_z w64 c.args.reading c.ranges.reading) c.reserve.ensures.items (record { becomes = is.becomes; names = is.told; later = is.later; moments = is.any_moment }) c.note.ensures in
     subst (λ (b : Beside (KeptOffice g.row.D.Denot d) (Story g.row.D.Denot d)). Submitted b.story.opened.value b.story.happenings.items c.note.new.happenings.items c.args.asked.now c.args.reading said.0) c.self.view_is came.submitted
 
@@ -37,6 +37,6 @@ returns-clause-grows g c =
     let story = c.self.inside.story in
     let said = c.submit_told-answer.result in
     let is = c.submit_told-answer.ensures in
-    let came = came_of d m.counts_now m.only_now m.earlier story.opened.value c.self.inside.kept c.submit_told-answer.new.self c.args.asked.now c.args.reading story.happenings.items c.note.new.happenings.items c.self.invariant
+    let came = came_of d m.are_crashes story.opened.value c.self.inside.kept c.submit_told-answer.new.self c.args.asked.now c.args.reading story.happenings.items c.note.new.happenings.items c.self.invariant
     _ _ said.0 said.1 (to_z-of_z w64 c.args.reading c.ranges.reading) c.reserve.ensures.items (record { becomes = is.becomes; names = is.told; later = is.later; moments = is.any_moment }) c.note.ensures in
     subst (λ (b : Beside (KeptOffice g.row.D.Denot d) (Story g.row.D.Denot d)). GrowsByOneAtMost b.story.happenings.items c.note.new.happenings.items) c.self.view_is came.grows

@@ -15,8 +15,8 @@ returns c =
     let asked = c.args.asked.now in
     let p : Product = product_of asked.office asked.class (decoded_of c.args.frame.now) in
     let judges = c.as_slice-judged.result.now in
-    let new : Tally = record { rows = c.in_ok-self.field-0; latest = c.max-self.result; standing = c.change_all.new.standing; opened = c.count_all.new.self; count = self.count; faults = self.faults } in
+    let new : Tally = record { rows = c.in_ok-self.field-0; latest = c.max-self.result; standing = c.change_all.new.self; count = self.count; faults = self.faults } in
     let latest : c.max-self.result ≡ max self.latest p.issue = omega (arith, c.max-self.ensures, c.get.ensures.value) in
     let rows = c.in_ok-self.ensures ∙ ap (λ (rows : List Row). put_all rows p.issue (lawful_of judges) rows) c.replace-rows.ensures.value in
-    on_ok_weaker c.count_all.result (λ counts. takes_told asked.minute p self new c.as_slice.result.now judges (c.as_slice.ensures ∙ c.in_ok-lines.ensures) (c.as_slice-judged.ensures ∙ c.in_ok-found.ensures)
-    rows latest c.in_ok-change_all.ensures counts (refl, refl)) c.count_all.ensures
+    on_ok_weaker c.change_all.result (λ takes. takes_told asked.minute p self new c.as_slice.result.now judges (c.as_slice.ensures ∙ c.in_ok-lines.ensures) (c.as_slice-judged.ensures ∙ c.in_ok-found.ensures)
+    rows latest takes (refl, refl)) c.change_all.ensures

@@ -18,5 +18,6 @@ invariant-loop-door g l =
       fresh : All (λ w. IsFresh l.initial.pass w.pass (door.state w.door) w.share l.fn.connections) l.workers.items;
       sharing : IsSharing (map (λ w. w.share) l.workers.items) l.lost (length l.door-iterator.rest.items) l.whole l.more (length l.fn.doors.items) l.fn.connections;
       back : TakesBack (port l.initial.port) (port l.port) [];
+      steady : (port l.port).faults ≤ (port l.initial.port).faults;
       numbers : (g.P.Port.state l.port).numbers ≡ (g.P.Port.state l.initial.port).numbers;
     }

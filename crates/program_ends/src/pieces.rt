@@ -1,0 +1,68 @@
+//! An input is read piece by piece, up to a limit.
+ghost use Rattle.std.specs.Prelude.{◌≡◌, ◌<◌, ◌+◌, ◌^◌, length};
+ghost use Rattle.program_ends.specs.Pieces.{ReadsNext, extent};
+
+use crate::reading::{Stop, read_front};
+use byte_streams::Source;
+use desk_traits::Failed;
+use std::marker::Model;
+
+/// How much was read of an input, and how many bytes it may have.
+#[derive(Debug, Drop)]
+pub struct Pieces {
+    limit: usize,
+    total: usize,
+}
+
+impl Model for Pieces {
+    ghost use Rattle.std.specs.Prelude.{◌≤◌, ◌<◌, ◌+◌, ◌^◌};
+    ghost use Rattle.program_ends.specs.Pieces.{Extent};
+
+    ghost Value = { Extent };
+
+    ghost invariant = { λ p. (p.total ≤ p.limit + 1) × (p.limit + 1 < 2 ^ 64) };
+
+    ghost view = { λ p. record { limit = p.limit; total = p.total } };
+}
+
+impl Pieces {
+    /// Nothing was read of an input that may have so many bytes.
+    pub fn up_to(limit: usize) -> Self
+        requires { limit + 1 < 2 ^ 64 }
+        ensures { result ≡ extent limit 0 }
+    {
+        Pieces { limit, total: 0 }
+    }
+
+    /// Reads the next piece of the input into the front of the buffer. Returns how many bytes of it
+    /// lie within the limit, and nothing at the input's end. One byte more than the limit is read,
+    /// to see that there is one.
+    ///
+    /// # Errors
+    ///
+    /// The read failed; or the piece before this one went beyond the limit.
+    pub fn next<S: Source>(
+        &mut self,
+        input: &mut S,
+        buffer: &mut [u8],
+    ) -> Result<Option<usize>, Stop>
+        requires { 0 < length buffer.old }
+        ensures { ReadsNext self.old self.new (S.inflow input.old) (S.inflow input.new)
+            buffer.new result }
+    {
+        if self.limit < self.total {
+            return Err(Stop::TooLong);
+        }
+        let within = self.limit - self.total;
+        let room = buffer.len().min(within + 1);
+        let count = match read_front(input, buffer, room) {
+            Ok(count) => count,
+            Err(Failed) => return Err(Stop::Read),
+        };
+        if count == 0 {
+            return Ok(None);
+        }
+        self.total += count;
+        Ok(Some(count.min(within)))
+    }
+}

@@ -1,0 +1,47 @@
+//! How many events have rows, by hazard.
+ghost use Rattle.std.specs.Prelude.{◌≡◌, [], fold, IfOk, OnOk};
+ghost use Rattle.std.specs.Map.{keys_of};
+ghost use Rattle.hazard_types.specs.Orders.{by_hazard};
+ghost use Rattle.stats_report.specs.Adding.{sum_at, with_event};
+
+use crate::keys::HazardKey;
+use crate::standing::Spells;
+use crate::sums::more;
+use hazard_types::{Event, Oom};
+use std::alloc::Global;
+use std::collections::BTreeMap;
+
+/// How many events each hazard has.
+pub type Events = BTreeMap<HazardKey, u128>;
+
+/// How many events a hazard has.
+pub fn events_of(events: &Events, hazard: &HazardKey) -> u128
+    ensures { result ≡ sum_at by_hazard events.now.entries hazard.now }
+{
+    match events.get(hazard) {
+        Some(count) => *count,
+        None => 0,
+    }
+}
+
+/// One event more.
+fn add_event(events: &mut Events, event: &Event) -> Result<(), Oom>
+    ensures { OnOk result (events.new.entries ≡ with_event events.old.entries event.now) }
+{
+    let hazard = HazardKey::of(&event.hazard);
+    let count = more(events_of(events, &hazard), 1)?;
+    events.insert(hazard, count)?;
+    Ok(())
+}
+
+/// How many events that have spells each hazard has.
+pub fn events_by_hazard(alloc: Global, spells: &Spells) -> Result<Events, Oom>
+    ensures { IfOk result (λ events.
+        events.entries ≡ fold with_event [] (keys_of spells.now.entries)) }
+{
+    let mut events = BTreeMap::new(alloc);
+    for key in spells.keys() {
+        add_event(&mut events, &key.event)?;
+    }
+    Ok(events)
+}
