@@ -10,4 +10,5 @@ pub mod Parts
 pub mod Replaying
 pub mod Damage
 pub mod Adopting
+pub mod Given
 pub mod Grown

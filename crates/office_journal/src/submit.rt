@@ -26,13 +26,14 @@ use request_json::reply_text;
 use std::alloc::Global;
 use std::snapshot::Snapshot;
 
-/// An answer, and what was prepared beside it where it accepts.
+/// An answer, and what was prepared beside it where it accepts or the disk failed.
 fn beside(answer: Answer, p: Snapshot<Prepared>) -> (Answer, Option<Snapshot<Prepared>>)
     ensures answer { result.0 ≡ answer }
     ensures told { StandsBeside answer p.value (option_map (λ told. told.value) result.1) }
 {
     match answer {
         Answer::Accepted(text) => (Answer::Accepted(text), Some(p)),
+        Answer::DiskFault => (Answer::DiskFault, Some(p)),
         other => (other, None),
     }
 }
@@ -74,8 +75,8 @@ impl<D: Disk> KeptOffice<D> {
         answer
     }
 
-    /// `submit`, and beside an answer that accepts what was prepared, for callers whose contracts
-    /// name its entry. That has no bytes.
+    /// `submit`, and beside an answer that accepts or tells a disk fault what was prepared, for
+    /// callers whose contracts name its entry. That has no bytes.
     pub fn submit_told(
         &mut self,
         alloc: Global,
@@ -92,8 +93,8 @@ impl<D: Disk> KeptOffice<D> {
             × (text ≡ reply_text kept)) (Refuses (state_of self.old) desk seq r.now reading)
             result.0 }
 
-        // The entry that was added is that of what was prepared; beside another answer there is
-        // nothing.
+        // The entry that was added, or under which the disk failed, is that of what was prepared;
+        // beside another answer there is nothing.
         ensures told { Names D.seen D.crash D.faults self.old self.new
             (IsOffered (state_of self.old) desk seq r.now reading)
             (λ text. (kept : Answered) × Repeats (state_of self.old) desk seq r.now kept
