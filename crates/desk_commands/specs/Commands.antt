@@ -1,5 +1,5 @@
 -- What the commands over a journal read, write and leave.
-use Rattle.std.specs.Prelude.{◌≡◌, ◌⊎◌, ◌++◌, ◌≤◌, ◌<◌, ◌+◌, ◌-◌, ◌^◌, min, ℕ, ℤ, pos, nat_abs, true, false, List, [], length, Option, None, Some, Result, Ok, Err, IfSome, codes}
+use Rattle.std.specs.Prelude.{◌≡◌, ◌⊎◌, ◌++◌, ◌≤◌, ◌<◌, ◌+◌, ◌-◌, ◌^◌, min, ℕ, ℤ, pos, nat_abs, true, false, List, [], ◌∷◌, length, Option, None, Some, Result, Ok, Err, IfSome, codes}
 use Rattle.std.specs.List.{flat_map}
 use Rattle.desk_settings.specs.Reading.{settings_of}
 use Rattle.desk_settings.specs.declared.fault.SettingsFault.{SettingsFault}
@@ -19,7 +19,8 @@ use Rattle.office_core.specs.State.{State}
 use Rattle.board_text.specs.Rows.{board_text}
 use Rattle.event_life.specs.Shown.{shown_at}
 use Rattle.office_journal.specs.Changes.{Change, Leaves}
-use Rattle.office_journal.specs.Grown.{KeepsHistory, grown}
+use Rattle.office_journal.specs.Given.{Gave, history_behind}
+use Rattle.office_journal.specs.Grown.{KeepsHistory}
 use Rattle.office_journal.specs.Histories.{History, ImageOf, empty}
 use Rattle.office_journal.specs.Kept.{Holds, disk_of, gate_of, state_of}
 use Rattle.office_journal.specs.Making.{IsMakingOf}
@@ -33,7 +34,7 @@ use Rattle.program_ends.specs.declared.reading.Stop.{Stop}
 use Rattle.program_ends.specs.declared.reading.Stop.TheVariants as stop
 use Rattle.program_ends.specs.declared.ends.End.TheVariants.{WriteFault, OutOfMemory, ClockOut, DiskFault, JournalFull, SettingsRefused, AlreadyKept, ReadFault}
 use Rattle.desk_commands.specs.Opening.{IsOpened}
-use Rattle.desk_commands.specs.Scripts.{Answers, Goes, HaveReadings, IsRead, MayPend, Said, Scripted, entries_in, failed_from, faults_in, texts_in}
+use Rattle.desk_commands.specs.Scripts.{Answers, Goes, HasAnswered, HaveReadings, IsRead, Said, Scripted, faults_in, given_by, texts_in}
 
 -- texts one after another
 abbrev pub joined : List (List ℕ) → List ℕ
@@ -105,7 +106,7 @@ AnswersLines d k limit s z old new status = IsLinesRun (Answers d k) (λ x line 
 module _ {D : Type 0} (d : Disks D) where
   -- Nothing was added: the history is the one that was found, and the disk stands as it did.
   abbrev pub Stays : D → D → KeptOffice D d → Type 0
-  Stays disk next kept = (bytes : List ℕ) → d.seen disk ≡ Some bytes → (file : List ℕ) × (h : History) × KeepsHistory d disk (disk_of kept) next bytes file h h (λ change. ⊥) (state_of kept)
+  Stays disk next kept = (bytes : List ℕ) → d.seen disk ≡ Some bytes → (file : List ℕ) × (h : History) × KeepsHistory d disk (disk_of kept) next bytes file h [] (λ held at. ⊥) (state_of kept)
 
   -- the input's lines were answered one after another by the office that was found
   pub record IsScriptRun {C : Type 0} (k : Clocks C) (disk next : D) (clock clock' : C) (limit : ℕ) (old new : Streams) (status : ℕ) : Type 0 where
@@ -120,8 +121,9 @@ module _ {D : Type 0} (d : Disks D) where
     pub goes : Goes d k (record { kept = opened; clock = clock }) run.run.lines said after
     pub told : run.told ≡ texts_in said
     pub handed : next ≡ disk_of after.kept
-    -- one legal history, which holds the entries of the accepted lines behind what was found, and the disk
-    pub history : (bytes : List ℕ) → d.seen disk ≡ Some bytes → (file : List ℕ) × (h : History) × KeepsHistory d disk (disk_of opened) next bytes file h (grown h (entries_in said)) (MayPend (failed_from [] said)) (state_of after.kept)
+    -- one legal history, which holds the entries of the accepted lines behind what was found, and the disk; and what was answered stays, line by line
+    pub history : (bytes : List ℕ) → d.seen disk ≡ Some bytes → (file : List ℕ) × (h : History)
+        × KeepsHistory d disk (disk_of opened) next bytes file h (given_by said) (HasAnswered d k (record { kept = opened; clock = clock }) run.run.lines said after) (state_of after.kept)
     -- no more lines are told that the disk failed than its count rose
     pub faults : min (d.faults disk + faults_in said) (2 ^ 64 - 1) ≤ d.faults next
     pub later : d.faults disk ≤ d.faults next
@@ -158,6 +160,10 @@ module _ {D : Type 0} (d : Disks D) where
     pub holds : Holds d.seen d.crash after file (record { entries = h.entries; edition = (state_of after).edition }) pending
     pub moments : LeavesOnly (d.crash (disk_of opened)) (d.crash (disk_of after)) (Leaves file h (λ change. (change ≡ Change.marked) × (h.edition ≡ One)))
 
+  -- nothing was given to the disk but the mark, if that
+  abbrev pub GivesMark : List Gave → Type 0
+  GivesMark given = (given ≡ []) ⊎ ((given ≡ Gave.added Change.marked ∷ []) ⊎ (given ≡ Gave.faulted Change.marked ∷ []))
+
   -- the journal has the mark
   pub record IsUpgradeRun (disk next : D) (old new : Outflow) (status : ℕ) : Type 0 where
     pub opened : KeptOffice D d
@@ -167,7 +173,8 @@ module _ {D : Type 0} (d : Disks D) where
     pub handed : next ≡ disk_of after
     pub marked : (file : List ℕ) (h : History) → Holds d.seen d.crash opened file h None → IsMarked opened after file h
     pub later : d.faults disk ≤ d.faults next
-    pub history : (bytes : List ℕ) → d.seen disk ≡ Some bytes → (file : List ℕ) × (h last : History) × KeepsHistory d disk (disk_of opened) next bytes file h last (λ change. change ≡ Change.marked) (state_of after) × (last.entries ≡ h.entries) × (last.edition ≡ (state_of after).edition)
+    pub history : (bytes : List ℕ) → d.seen disk ≡ Some bytes → (file : List ℕ) × (h : History) × (given : List Gave) × GivesMark given
+        × KeepsHistory d disk (disk_of opened) next bytes file h given (λ held at. ⊥) (state_of after) × ((history_behind h given).edition ≡ (state_of after).edition)
 
   -- the file is as it was, and so are what a crash leaves, at any moment, and the count of faults
   abbrev pub IsLeft : D → D → Type 0

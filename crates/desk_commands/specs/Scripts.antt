@@ -1,7 +1,6 @@
 -- What the lines of a script are answered, and how the kept office grows by them.
 use Rattle.std.specs.Prelude.{◌≡◌, ◌⊎◌, ◌++◌, ◌+◌, ◌≤◌, ℕ, ℤ, List, [], ◌∷◌, Option, None, Some, Result, Ok, Err}
 use Rattle.desk_traits.specs.Clocks.{GivesTheSame, Ticks}
-use Rattle.desk_traits.specs.Crash.{LeavesOnly}
 use Rattle.desk_traits.specs.declared.clocks.Clock.{Ghosts as Clocks}
 use Rattle.desk_traits.specs.declared.disk.Disk.{Ghosts as Disks}
 use Rattle.hazard_types.specs.declared.refusal.Refusal.{Refusal}
@@ -12,11 +11,11 @@ use Rattle.request_json.specs.Replies.{disk_fault_text, out_of_memory_text, repl
 use Rattle.request_json.specs.declared.asked.Asked.{Asked}
 use Rattle.office_core.specs.Histories.{Entered}
 use Rattle.office_core.specs.Step.{Refuses, Repeats}
-use Rattle.office_journal.specs.Changes.{Change, Leaves}
-use Rattle.office_journal.specs.Histories.{History}
-use Rattle.office_journal.specs.Kept.{Holds, disk_of, state_of}
-use Rattle.office_journal.specs.Outcomes.{Becomes}
-use Rattle.office_journal.specs.Submitting.{IsAsked, IsOffered}
+use Rattle.office_journal.specs.Changes.{Change}
+use Rattle.office_journal.specs.Given.{Gave, Gives, entries_given}
+use Rattle.office_journal.specs.Kept.{disk_of, state_of}
+use Rattle.office_journal.specs.Outcomes.{AtAnyMoment, Becomes}
+use Rattle.office_journal.specs.Submitting.{IsOffered}
 use Rattle.office_journal.specs.declared.answers.Answer.{Answer}
 use Rattle.office_journal.specs.declared.answers.Answer.TheVariants.{Accepted, Repeated, Refused, DiskFault, OutOfMemory}
 use Rattle.office_journal.specs.declared.kept.KeptOffice.{KeptOffice}
@@ -27,12 +26,6 @@ use Rattle.desk_commands.specs.Lines.{ended, refusal_line}
 pub record Scripted (K C : Type 0) : Type 0 where
   pub kept : K
   pub clock : C
-
--- what a line gave to the disk: nothing, an entry that stands in the journal since, or an entry under which the disk failed
-pub data Gave : Type 0 where
-  nothing : Gave
-  added : Entered → Gave
-  faulted : Entered → Gave
 
 -- what came of a line: the text of its answer, the reading at which it was judged, unless it is empty, and what it gave to the disk
 pub record Said : Type 0 where
@@ -45,39 +38,19 @@ abbrev pub texts_in : List Said → List ℕ
 texts_in [] = []
 texts_in (w ∷ said) = w.text ++ texts_in said
 
-abbrev pub with_added : Gave → List Entered → List Entered
-with_added Gave.nothing entries = entries
-with_added (Gave.added x) entries = x ∷ entries
-with_added (Gave.faulted x) entries = entries
+-- what lines gave to the disk, in order
+abbrev pub given_by : List Said → List Gave
+given_by [] = []
+given_by (w ∷ said) = w.gave ∷ given_by said
 
--- the entries that lines added, in order
+-- the entries that they added
 abbrev pub entries_in : List Said → List Entered
-entries_in [] = []
-entries_in (w ∷ said) = with_added w.gave (entries_in said)
-
--- the entries under which the disk failed since an entry was last added
-abbrev pub failed_after : List Entered → Gave → List Entered
-failed_after failed Gave.nothing = failed
-failed_after failed (Gave.added x) = []
-failed_after failed (Gave.faulted x) = x ∷ failed
-
-abbrev pub failed_from : List Entered → List Said → List Entered
-failed_from failed [] = failed
-failed_from failed (w ∷ said) = failed_from (failed_after failed w.gave) said
-
-abbrev pub IsAmong : Entered → List Entered → Type 0
-IsAmong x [] = ⊥
-IsAmong x (y ∷ entries) = (x ≡ y) ⊎ IsAmong x entries
-
--- What may be pending behind these lines: an entry under which the disk failed, since an entry was last added. So nothing is where the last entry that was given to the disk was added.
-abbrev pub MayPend : List Entered → Change → Type 0
-MayPend failed (Change.entry x) = IsAmong x failed
-MayPend failed Change.marked = ⊥
+entries_in said = entries_given (given_by said)
 
 abbrev pub one_if_failed : Gave → ℕ
 one_if_failed Gave.nothing = 0
-one_if_failed (Gave.added x) = 0
-one_if_failed (Gave.faulted x) = 1
+one_if_failed (Gave.added change) = 0
+one_if_failed (Gave.faulted change) = 1
 
 -- how many lines were answered that the disk failed
 abbrev pub faults_in : List Said → ℕ
@@ -130,21 +103,20 @@ module _ {D : Type 0} (d : Disks D) where
 
   -- what it gives to the disk: its entry, where it is accepted or the disk fails
   abbrev pub gave_in : (a : Asked) (reading : ℤ) (kept next : KeptOffice D d) (answer : Answer) → Submits a reading kept next answer → Gave
-  gave_in a reading kept next (Accepted text) becomes = Gave.added becomes.0
+  gave_in a reading kept next (Accepted text) becomes = Gave.added (Change.entry becomes.0)
   gave_in a reading kept next (Repeated text) becomes = Gave.nothing
   gave_in a reading kept next (Refused x) becomes = Gave.nothing
-  gave_in a reading kept next DiskFault becomes = Gave.faulted becomes.0
+  gave_in a reading kept next DiskFault becomes = Gave.faulted (Change.entry becomes.0)
   gave_in a reading kept next OutOfMemory becomes = Gave.nothing
 
-  -- The request was submitted; its answer is told, and this was given to the disk. A crash at any moment of it leaves the history that the journal stands for, or that with one change, which was pending or is this request's entry.
+  -- The request was submitted; its answer is told, and this was given to the disk. A crash at any moment of it leaves the history that the journal stands for, or that with one change, which was pending or is what it gave.
   pub record IsJudged (a : Asked) (reading : ℤ) (kept : KeptOffice D d) (text : List ℕ) (next : KeptOffice D d) (gave : Gave) : Type 0 where
     pub answer : Answer
     pub becomes : Submits a reading kept next answer
     pub told : text ≡ answer_line answer
     pub given : gave ≡ gave_in a reading kept next answer becomes
     pub later : d.faults (disk_of kept) ≤ d.faults (disk_of next)
-    pub moments : (file : List ℕ) (h : History) (pending : Option Change) → Holds d.seen d.crash kept file h pending
-        → LeavesOnly (d.crash (disk_of kept)) (d.crash (disk_of next)) (Leaves file h (λ change. (pending ≡ Some change) ⊎ IsAsked (state_of kept) a.desk a.seq a.request reading change))
+    pub moments : AtAnyMoment d.seen d.crash kept next (Gives gave)
 
   -- what is no request gets its fault
   abbrev pub AnswersAsked : ℤ → KeptOffice D d → Result Asked Refusal → List ℕ → KeptOffice D d → Gave → Type 0
@@ -170,3 +142,17 @@ module _ {D : Type 0} (d : Disks D) where
     Goes s [] [] z = z ≡ s
     Goes s (line ∷ lines) (w ∷ said) z = (next : Scripted (KeptOffice D d) C) × AnswersLine s (fit line) w next × Goes next lines said z
     Goes s _ _ z = ⊥
+
+    -- the script's disk stood so when the first of these lines had been answered, and this was all that they had given to it
+    pub record HasAnswered (s : Scripted (KeptOffice D d) C) (lines : List (List ℕ)) (said : List Said) (z : Scripted (KeptOffice D d) C) (held : List Gave) (at : D) : Type 0 where
+      pub done : List (List ℕ)
+      pub ahead : List (List ℕ)
+      pub lines_are : lines ≡ done ++ ahead
+      pub first : List Said
+      pub rest : List Said
+      pub said_are : said ≡ first ++ rest
+      pub there : Scripted (KeptOffice D d) C
+      pub came : Goes s done first there
+      pub goes : Goes there ahead rest z
+      pub gave : held ≡ given_by first
+      pub disk : at ≡ disk_of there.kept

@@ -21,6 +21,10 @@ pub record Follows (h last : History) : Type 0 where
 abbrev pub NonePends : Change → Type 0
 NonePends change = ⊥
 
+-- Since the disk stood as at `at` a crash leaves a front of the history that holds this.
+abbrev pub StaysSince : {D : Type 0} (d : Disks D) → D → D → (Change → Type 0) → List Gave → List Gave → List ℕ → History → Type 0
+StaysSince d at next may given held file h = ((d.crash at).moment ≤ (d.crash next).moment) × ((c : List ℕ) → (d.crash next).left_since (d.crash at).moment c → IsFront may given held file h c)
+
 -- Whatever was asked: what the history was and has become by what was given to the disk, what its texts say, and what the disk holds of it. The disk is told as the run began, as the office was opened, and as it is next; and as it stood when so much of it had been answered.
 pub record KeepsHistory {D : Type 0} (d : Disks D) (disk opened next : D) (bytes file : List ℕ) (h : History) (given : List Gave) (answered : List Gave → D → Type 0) (s : State) : Type 0 where
   -- the file that was found is an image of the first history
@@ -48,4 +52,4 @@ pub record KeepsHistory {D : Type 0} (d : Disks D) (disk opened next : D) (bytes
   -- Since the first sync that answered while the office was opened it leaves such a front alone.
   pub settled : (before : List ℕ) (sync : Settles d.crash d.syncs before bytes opened) (c : List ℕ) → (d.crash next).left_since sync.at c → IsFront NonePends given [] file h c
   -- What was answered stays: from then on a crash leaves a front that holds it.
-  pub stays : (held : List Gave) (at : D) → answered held at → ((d.crash at).moment ≤ (d.crash next).moment) × ((c : List ℕ) → (d.crash next).left_since (d.crash at).moment c → IsFront NonePends given held file h c)
+  pub stays : (held : List Gave) (at : D) → answered held at → StaysSince d at next NonePends given held file h
