@@ -34,7 +34,7 @@ use Rattle.program_ends.specs.declared.reading.Stop.{Stop}
 use Rattle.program_ends.specs.declared.reading.Stop.TheVariants as stop
 use Rattle.program_ends.specs.declared.ends.End.TheVariants.{WriteFault, OutOfMemory, ClockOut, DiskFault, JournalFull, SettingsRefused, AlreadyKept, ReadFault}
 use Rattle.desk_commands.specs.Opening.{IsOpened}
-use Rattle.desk_commands.specs.Scripts.{Answers, Goes, HasAnswered, HaveReadings, IsRead, Said, Scripted, faults_in, given_by, texts_in}
+use Rattle.desk_commands.specs.Scripts.{Answers, Goes, HaveReadings, IsRead, Said, Scripted, faults_in, given_by, stood_in, texts_in}
 
 -- texts one after another
 abbrev pub joined : List (List ℕ) → List ℕ
@@ -106,7 +106,7 @@ AnswersLines d k limit s z old new status = IsLinesRun (Answers d k) (λ x line 
 module _ {D : Type 0} (d : Disks D) where
   -- Nothing was added: the history is the one that was found, and the disk stands as it did.
   abbrev pub Stays : D → D → KeptOffice D d → Type 0
-  Stays disk next kept = (bytes : List ℕ) → d.seen disk ≡ Some bytes → (file : List ℕ) × (h : History) × KeepsHistory d disk (disk_of kept) next bytes file h [] (λ held at. ⊥) (state_of kept)
+  Stays disk next kept = (bytes : List ℕ) → d.seen disk ≡ Some bytes → (file : List ℕ) × (h : History) × KeepsHistory d disk (disk_of kept) next bytes file h [] [] (state_of kept)
 
   -- the input's lines were answered one after another by the office that was found
   pub record IsScriptRun {C : Type 0} (k : Clocks C) (disk next : D) (clock clock' : C) (limit : ℕ) (old new : Streams) (status : ℕ) : Type 0 where
@@ -123,7 +123,7 @@ module _ {D : Type 0} (d : Disks D) where
     pub handed : next ≡ disk_of after.kept
     -- one legal history, which holds the entries of the accepted lines behind what was found, and the disk; and what was answered stays, line by line
     pub history : (bytes : List ℕ) → d.seen disk ≡ Some bytes → (file : List ℕ) × (h : History)
-        × KeepsHistory d disk (disk_of opened) next bytes file h (given_by said) (HasAnswered d k (record { kept = opened; clock = clock }) run.run.lines said after) (state_of after.kept)
+        × KeepsHistory d disk (disk_of opened) next bytes file h (given_by said) (stood_in d k [] (record { kept = opened; clock = clock }) run.run.lines said after goes) (state_of after.kept)
     -- no more lines are told that the disk failed than its count rose
     pub faults : min (d.faults disk + faults_in said) (2 ^ 64 - 1) ≤ d.faults next
     pub later : d.faults disk ≤ d.faults next
@@ -174,7 +174,7 @@ module _ {D : Type 0} (d : Disks D) where
     pub marked : (file : List ℕ) (h : History) → Holds d.seen d.crash opened file h None → IsMarked opened after file h
     pub later : d.faults disk ≤ d.faults next
     pub history : (bytes : List ℕ) → d.seen disk ≡ Some bytes → (file : List ℕ) × (h : History) × (given : List Gave) × GivesMark given
-        × KeepsHistory d disk (disk_of opened) next bytes file h given (λ held at. ⊥) (state_of after) × ((history_behind h given).edition ≡ (state_of after).edition)
+        × KeepsHistory d disk (disk_of opened) next bytes file h given [] (state_of after) × ((history_behind h given).edition ≡ (state_of after).edition)
 
   -- the file is as it was, and so are what a crash leaves, at any moment, and the count of faults
   abbrev pub IsLeft : D → D → Type 0

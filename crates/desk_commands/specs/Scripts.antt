@@ -13,6 +13,7 @@ use Rattle.office_core.specs.Histories.{Entered}
 use Rattle.office_core.specs.Step.{Refuses, Repeats}
 use Rattle.office_journal.specs.Changes.{Change}
 use Rattle.office_journal.specs.Given.{Gave, Gives, entries_given}
+use Rattle.office_journal.specs.Grown.{Stood}
 use Rattle.office_journal.specs.Kept.{disk_of, state_of}
 use Rattle.office_journal.specs.Outcomes.{AtAnyMoment, Becomes}
 use Rattle.office_journal.specs.Submitting.{IsOffered}
@@ -143,16 +144,9 @@ module _ {D : Type 0} (d : Disks D) where
     Goes s (line ∷ lines) (w ∷ said) z = (next : Scripted (KeptOffice D d) C) × AnswersLine s (fit line) w next × Goes next lines said z
     Goes s _ _ z = ⊥
 
-    -- the script's disk stood so when the first of these lines had been answered, and this was all that they had given to it
-    pub record HasAnswered (s : Scripted (KeptOffice D d) C) (lines : List (List ℕ)) (said : List Said) (z : Scripted (KeptOffice D d) C) (held : List Gave) (at : D) : Type 0 where
-      pub done : List (List ℕ)
-      pub ahead : List (List ℕ)
-      pub lines_are : lines ≡ done ++ ahead
-      pub first : List Said
-      pub rest : List Said
-      pub said_are : said ≡ first ++ rest
-      pub there : Scripted (KeptOffice D d) C
-      pub came : Goes s done first there
-      pub goes : Goes there ahead rest z
-      pub gave : held ≡ given_by first
-      pub disk : at ≡ disk_of there.kept
+    -- the disk as each of these lines had been answered, and what had been given to it then
+    abbrev pub stood_in : List Gave → (s : Scripted (KeptOffice D d) C) (lines : List (List ℕ)) (said : List Said) (z : Scripted (KeptOffice D d) C) → Goes s lines said z → List (Stood D)
+    stood_in held s [] [] z goes = []
+    stood_in held s (line ∷ lines) (w ∷ said) z goes =
+        let held' = held ++ w.gave ∷ [] in record { held = held'; disk = disk_of goes.0.kept } ∷ stood_in held' goes.0 lines said z goes.2
+    stood_in held s _ _ z goes = []

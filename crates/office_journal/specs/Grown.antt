@@ -1,5 +1,5 @@
 -- What a run over a kept office leaves of its history, and what a crash leaves of it: the promise of the program.
-use Rattle.std.specs.Prelude.{◌≡◌, ◌⊎◌, ◌++◌, ◌≤◌, ℕ, List, [], Option, Some, IfSome, IsSome}
+use Rattle.std.specs.Prelude.{◌≡◌, ◌⊎◌, ◌++◌, ◌≤◌, ℕ, All, List, [], Option, Some, IfSome, IsSome}
 use Rattle.desk_traits.specs.Crash.{LeavesOnly}
 use Rattle.desk_traits.specs.Faults.{Rose}
 use Rattle.desk_traits.specs.declared.disk.Disk.{Ghosts as Disks}
@@ -21,12 +21,20 @@ pub record Follows (h last : History) : Type 0 where
 abbrev pub NonePends : Change → Type 0
 NonePends change = ⊥
 
--- Since the disk stood as at `at` a crash leaves a front of the history that holds this.
-abbrev pub StaysSince : {D : Type 0} (d : Disks D) → D → D → (Change → Type 0) → List Gave → List Gave → List ℕ → History → Type 0
-StaysSince d at next may given held file h = ((d.crash at).moment ≤ (d.crash next).moment) × ((c : List ℕ) → (d.crash next).left_since (d.crash at).moment c → IsFront may given held file h c)
+-- the disk as it stood when this had been given to it, and was answered
+pub record Stood (D : Type 0) : Type 0 where
+  pub held : List Gave
+  pub disk : D
 
--- Whatever was asked: what the history was and has become by what was given to the disk, what its texts say, and what the disk holds of it. The disk is told as the run began, as the office was opened, and as it is next; and as it stood when so much of it had been answered.
-pub record KeepsHistory {D : Type 0} (d : Disks D) (disk opened next : D) (bytes file : List ℕ) (h : History) (given : List Gave) (answered : List Gave → D → Type 0) (s : State) : Type 0 where
+-- What the disk held then stays, of all that was given: each crash from that moment on leaves a front of the history that holds it.
+pub record StaysSince {D : Type 0} (d : Disks D) (then : Stood D) (next : D) (may : Change → Type 0) (given : List Gave) (file : List ℕ) (h : History) : Type 0 where
+  pub more : List Gave
+  pub are : given ≡ then.held ++ more
+  pub later : (d.crash then.disk).moment ≤ (d.crash next).moment
+  pub leaves : (c : List ℕ) → (d.crash next).left_since (d.crash then.disk).moment c → IsFront may given then.held file h c
+
+-- Whatever was asked: what the history was and has become by what was given to the disk, what its texts say, and what the disk holds of it. The disk is told as the run began, as the office was opened, and as it is next; and as it stood at each answer.
+pub record KeepsHistory {D : Type 0} (d : Disks D) (disk opened next : D) (bytes file : List ℕ) (h : History) (given : List Gave) (answered : List (Stood D)) (s : State) : Type 0 where
   -- the file that was found is an image of the first history
   pub found : ImageOf bytes file h
   -- the one behind what was given is a legal history, which leads to this state
@@ -51,5 +59,5 @@ pub record KeepsHistory {D : Type 0} (d : Disks D) (disk opened next : D) (bytes
   pub crashes : LeavesOnly (d.crash disk) (d.crash next) (λ c. (d.crash disk).may_leave c ⊎ IsFront NonePends given [] file h c)
   -- Since the first sync that answered while the office was opened it leaves such a front alone.
   pub settled : (before : List ℕ) (sync : Settles d.crash d.syncs before bytes opened) (c : List ℕ) → (d.crash next).left_since sync.at c → IsFront NonePends given [] file h c
-  -- What was answered stays: from then on a crash leaves a front that holds it.
-  pub stays : (held : List Gave) (at : D) → answered held at → StaysSince d at next NonePends given held file h
+  -- what was answered stays
+  pub stays : All (λ then. StaysSince d then next NonePends given file h) answered
