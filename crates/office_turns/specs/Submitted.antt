@@ -21,24 +21,25 @@ use Rattle.office_turns.specs.Happenings.{gate_at, state_at}
 use Rattle.office_turns.specs.declared.happening.Happening.{Happening}
 use Rattle.office_turns.specs.declared.happening.Happening.TheVariants.{Entry, Fault}
 
-module _ {D : Type 0} {d : _} (base : KeptOffice D d) (before : List Happening) where
+module _ {D : Type 0} {d : _} (base : KeptOffice D d) (before : List (Happening D d)) where
   -- a look shows the state after what had happened, or is refused there, or there is no memory
   abbrev pub Shown : Query → ℤ → Result (List ℕ) (Or Refusal) → Type 0
   Shown q reading (Ok text) = Shows (state_at base before) q reading text
   Shown q reading (Err (or.No broken)) = RefusesLook (state_at base before) q reading broken
   Shown q reading (Err or.OutOfMemory) = Unit {0}
 
-module _ {D : Type 0} {d : _} (base : KeptOffice D d) (before after : List Happening) where
-  -- The answer is the office's at the state after what had happened. An accepted request adds its entry, one under which the disk failed a fault, each other one nothing.
+module _ {D : Type 0} {d : _} (base : KeptOffice D d) (before after : List (Happening D d)) where
+  -- The answer is the office's at the state after what had happened. An accepted request adds its entry, beside which the office stands as it was at the answer; one under which the disk failed adds a fault, each other one nothing.
   abbrev pub Submitted : Asked → ℤ → Answer → Type 0
   Submitted a reading (Accepted text) =
-      (p : Snapshot Readied) × (after ≡ before ++ Entry p ∷ []) × IsOffered (state_at base before) a.desk a.seq a.request reading (entered p.value) × (text ≡ reply_text p.value.entry.reply)
+      (p : Snapshot Readied) × (then : Snapshot (KeptOffice D d)) × (after ≡ before ++ Entry p then ∷ []) × IsOffered (state_at base before) a.desk a.seq a.request reading (entered p.value) × (text ≡ reply_text p.value.entry.reply)
   Submitted a reading (Repeated text) = (kept : Reply) × Repeats (state_at base before) a.desk a.seq a.request kept × (text ≡ reply_text kept) × (after ≡ before)
   Submitted a reading (Refused broken) =
       (Refuses (state_at base before) a.desk a.seq a.request reading broken
       ⊎ ((broken ≡ JournalFull) × (x : Entered) × IsOffered (state_at base before) a.desk a.seq a.request reading x × IsTooLong (gate_at base before) x))
       × (after ≡ before)
-  Submitted a reading DiskFault = (x : Entered) × IsOffered (state_at base before) a.desk a.seq a.request reading x × (IsTooLong (gate_at base before) x → ⊥) × (after ≡ before ++ Fault ∷ [])
+  Submitted a reading DiskFault =
+      (p : Snapshot Readied) × IsOffered (state_at base before) a.desk a.seq a.request reading (entered p.value) × (IsTooLong (gate_at base before) (entered p.value) → ⊥) × (after ≡ before ++ Fault p ∷ [])
   Submitted a reading OutOfMemory = after ≡ before
 
   -- a look is answered so, and adds nothing

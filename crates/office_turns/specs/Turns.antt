@@ -9,9 +9,9 @@ use Rattle.office_turns.specs.Submitted.{Submitted}
 use Rattle.office_turns.specs.declared.happening.Happening.{Happening}
 
 -- The request was submitted once, after happenings that begin with all that the pass had seen. The pass has seen what it added since, and has its place.
-pub record SubmitsInTurn {D : Type 0} {d : _} (a : Asked) (reading : ℤ) (old new : PassRecord (KeptOffice D d) Happening) (answer : Answer) : Type 0 where
+pub record SubmitsInTurn {D : Type 0} {d : _} (a : Asked) (reading : ℤ) (old new : PassRecord (KeptOffice D d) (Happening D d)) (answer : Answer) : Type 0 where
   pub kept : KeepsRights old new
-  pub before : List Happening
+  pub before : List (Happening D d)
   pub begins : IsPrefix old.seen before
   -- a pass with all shares is the only one
   pub alone : old.shares ≡ 1024 → before ≡ old.seen

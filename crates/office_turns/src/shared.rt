@@ -14,7 +14,7 @@ use turn_lock::Storied;
 #[derive(Drop)]
 pub struct Story<D: Disk> {
     pub opened: Snapshot<KeptOffice<D>>,
-    pub happenings: Vec<Happening>,
+    pub happenings: Vec<Happening<D>>,
 }
 
 impl<D: Disk> Told<Story<D>> for KeptOffice<D> {
@@ -55,7 +55,7 @@ impl<D: Disk> Tied<KeptOffice<D>, Story<D>> {
 impl<D: Disk> Storied for Tied<KeptOffice<D>, Story<D>> {
     type Base = KeptOffice<D>;
 
-    type Entry = Happening;
+    type Entry = Happening<D>;
 
     ghost base = { λ t. t.story.opened.value };
 

@@ -16,19 +16,28 @@ use request_json::Asked;
 use std::alloc::Global;
 use std::snapshot::Snapshot;
 
-/// Notes what an answer says to have happened. What was prepared stands beside an answer that
-/// accepts.
-fn note(happenings: &mut Vec<Happening>, answer: &Answer, told: Option<Snapshot<Prepared>>)
+/// Notes what an answer says to have happened, at the office as it stands now. What was prepared
+/// stands beside an answer that accepts and beside a disk fault.
+fn note<D: Disk>(
+    happenings: &mut Vec<Happening<D>>,
+    answer: &Answer,
+    told: Option<Snapshot<Prepared>>,
+    kept: &KeptOffice<D>,
+)
     requires room { vec_len happenings.old < vec_capacity happenings.old }
-    ensures { Notes answer.now told happenings.old.items happenings.new.items }
+    ensures { Notes answer.now told kept.now happenings.old.items happenings.new.items }
 {
     match answer {
         Answer::Accepted(_) => {
             if let Some(entry) = told {
-                happenings.push_reserved(Happening::Entry(entry));
+                happenings.push_reserved(Happening::Entry(entry, Snapshot::of(kept)));
             }
         }
-        Answer::DiskFault => happenings.push_reserved(Happening::Fault),
+        Answer::DiskFault => {
+            if let Some(entry) = told {
+                happenings.push_reserved(Happening::Fault(entry));
+            }
+        }
         Answer::Repeated(_) | Answer::Refused(_) | Answer::OutOfMemory => {}
     }
 }
@@ -53,7 +62,7 @@ impl<D: Disk> Tied<KeptOffice<D>, Story<D>> {
         let (answer, told) = self
             .kept
             .submit_told(alloc, asked.desk, asked.seq, &asked.request, reading);
-        note(&mut self.story.happenings, &answer, told);
+        note(&mut self.story.happenings, &answer, told, &self.kept);
         answer
     }
 

@@ -12,7 +12,7 @@ use office_journal::KeptOffice;
 
 /// An office that was opened keeps the history of its disk, with all that has happened since.
 pub fn an_opened_office_keeps_its_history<D: Disk>(kept: &KeptOffice<D>)
-    ensures { (disk : D) (opened : Kept D D.Disk) (happenings : List Happening)
+    ensures { (disk : D) (opened : Kept D D.Disk) (happenings : List (Happening D D.Disk))
         → IsOpened D.Disk disk opened → IsSince D.Disk opened kept.now happenings
         → HasGrown D.Disk disk opened kept.now happenings }
 {

@@ -17,11 +17,11 @@ use Rattle.warn_serve.proofs.Gathering.{is_shared}
 use Rattle.warn_serve.proofs.Returning.{takes_none}
 
 module _ {D : Type 0} (d : Disks D) (gives : ℤ → Type 0) (opened kept : KeptOffice D d) where
-  part_since : (old : PassRecord (KeptOffice D d) Happening) (p : Part (PassRecord (KeptOffice D d) Happening)) → old.base ≡ opened → old.seen ≡ [] → IsPartOf (AnswersCall gives) old p → HasPart d gives opened p
+  part_since : (old : PassRecord (KeptOffice D d) (Happening D d)) (p : Part (PassRecord (KeptOffice D d) (Happening D d))) → old.base ≡ opened → old.seen ≡ [] → IsPartOf (AnswersCall gives) old p → HasPart d gives opened p
   part_since old p base none h = record { start = h.start; base = h.is_share.base ∙ base; unseen = h.is_share.seen ∙ none; none_added = h.is_share.mine; visits = h.visits; ends = h.ends }
 
   -- nobody could be had
-  pub served_none : (number workers connections : ℕ) (port : PortState) (happenings : List Happening) → happenings ≡ [] → 0 < connections → IsSince d opened kept happenings → IsServed d gives opened kept number workers connections port port OutOfMemory
+  pub served_none : (number workers connections : ℕ) (port : PortState) (happenings : List (Happening D d)) → happenings ≡ [] → 0 < connections → IsSince d opened kept happenings → IsServed d gives opened kept number workers connections port port OutOfMemory
   served_none number workers connections port happenings none some since = record {
     happenings = happenings;
     since = since;
@@ -41,7 +41,7 @@ module _ {D : Type 0} (d : Disks D) (gives : ℤ → Type 0) (opened kept : Kept
     ends = (inl some, omega arith);
   }
 
-  pub served_all : (base : KeptOffice D d) (given : List ℕ) (number workers connections : ℕ) (first last : PortState) (end : ServeEnd) (old new : PassRecord (KeptOffice D d) Happening) (happenings : List Happening)
+  pub served_all : (base : KeptOffice D d) (given : List ℕ) (number workers connections : ℕ) (first last : PortState) (end : ServeEnd) (old new : PassRecord (KeptOffice D d) (Happening D d)) (happenings : List (Happening D d))
       → old.base ≡ opened → old.seen ≡ [] → old.first ≡ 0 → old.mine ≡ []
       → HasListened number first last → IsGathered (AnswersCall gives) given connections first last old new end → SharesOut workers connections given end → Closes new base happenings → IsSince d opened kept happenings → IsServed d gives opened kept number workers connections first last end
   served_all base given number workers connections first last end old new happenings b s f m listened g out closes since = record {

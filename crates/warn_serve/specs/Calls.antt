@@ -18,15 +18,15 @@ use Rattle.warn_http.specs.declared.read.Call.TheVariants.{Post, Look}
 use Rattle.warn_serve.specs.Answers.{look_answer, no_memory_answer, refused_answer, submit_answer}
 
 -- One look was taken, after happenings that begin with all that the pass had seen. It adds nothing.
-pub record LooksInTurn {D : Type 0} {d : _} (query : Query) (reading : ℤ) (old new : PassRecord (KeptOffice D d) Happening) (shown : Result (List ℕ) (Or Refusal)) : Type 0 where
+pub record LooksInTurn {D : Type 0} {d : _} (query : Query) (reading : ℤ) (old new : PassRecord (KeptOffice D d) (Happening D d)) (shown : Result (List ℕ) (Or Refusal)) : Type 0 where
   pub kept : KeepsRights old new
-  pub before : List Happening
+  pub before : List (Happening D d)
   pub begins : IsPrefix old.seen before
   pub alone : old.shares ≡ 1024 → before ≡ old.seen
   pub looked : Looked old.base before new.seen query reading shown
   pub places : PlacesAfter before new.seen old.mine new.mine
 
-module _ {D : Type 0} {d : _} (last : Bool) (old new : PassRecord (KeptOffice D d) Happening) (answer : List ℕ) where
+module _ {D : Type 0} {d : _} (last : Bool) (old new : PassRecord (KeptOffice D d) (Happening D d)) (answer : List ℕ) where
   -- what is posted is no request, which is told, and no turn was taken
   pub record IsMisread (posted : List ℕ) : Type 0 where
     pub broken : Refusal
@@ -72,5 +72,5 @@ module _ {D : Type 0} {d : _} (last : Bool) (old new : PassRecord (KeptOffice D 
     AnswersAsked (Look query) posted = IsLooked query
 
 -- the answer to a call, and what it leaves of a pass
-abbrev pub AnswersCall : {D : Type 0} {d : _} → (ℤ → Type 0) → Called → PassRecord (KeptOffice D d) Happening → PassRecord (KeptOffice D d) Happening → List ℕ → Type 0
+abbrev pub AnswersCall : {D : Type 0} {d : _} → (ℤ → Type 0) → Called → PassRecord (KeptOffice D d) (Happening D d) → PassRecord (KeptOffice D d) (Happening D d) → List ℕ → Type 0
 AnswersCall gives c old new answer = AnswersAsked c.last old new answer gives c.call c.posted

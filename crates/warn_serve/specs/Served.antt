@@ -53,8 +53,8 @@ EndsAs first last connections visits OutOfMemory = ((length visits < connections
 
 module _ {D : Type 0} (d : Disks D) (gives : ℤ → Type 0) (opened : KeptOffice D d) where
   -- a worker that had seen nothing since the opening made its visits
-  pub record HasPart (p : Part (PassRecord (KeptOffice D d) Happening)) : Type 0 where
-    pub start : PassRecord (KeptOffice D d) Happening
+  pub record HasPart (p : Part (PassRecord (KeptOffice D d) (Happening D d))) : Type 0 where
+    pub start : PassRecord (KeptOffice D d) (Happening D d)
     pub base : start.base ≡ opened
     pub unseen : start.seen ≡ []
     pub none_added : start.mine ≡ []
@@ -63,9 +63,9 @@ module _ {D : Type 0} (d : Disks D) (gives : ℤ → Type 0) (opened : KeptOffic
 
   -- There is one list of happenings since the opening, those of the calls on these links, each once; the links were shared out among the workers; and they went back to the port, which had listened at the number.
   pub record IsServed (kept : KeptOffice D d) (number workers connections : ℕ) (first last : PortState) (end : ServeEnd) : Type 0 where
-    pub happenings : List Happening
+    pub happenings : List (Happening D d)
     pub since : IsSince d opened kept happenings
-    pub parts : List (Part (PassRecord (KeptOffice D d) Happening))
+    pub parts : List (Part (PassRecord (KeptOffice D d) (Happening D d)))
     pub shared : IsShared 0 happenings (passes_of parts)
     pub served : All HasPart parts
     pub shares : SharesOut workers connections (shares_in parts) end

@@ -19,14 +19,14 @@ use desk_traits::{Clock, Disk};
 /// may be refused, by which the link closes, or cut by the end of the input.
 pub fn links_end_by_their_causes<D: Disk, C: Clock>()
     ensures cause { (clock : C) (old new : LinkState)
-        (pass pass' : PassRecord (KeptOffice D D.Disk) Happening) (end : LinkEnd)
+        (pass pass' : PassRecord (KeptOffice D D.Disk) (Happening D D.Disk)) (end : LinkEnd)
         (served : IsServedLink (AnswersCall (C.gives clock)) old new pass pass' end)
         → HasCause old new served.read end }
     ensures apart { (old new old' new' : LinkState) (read : List ℕ) (end other : LinkEnd)
         → IsWhole end → IsWhole other
         → HasCause old new read end → HasCause old' new' read other → EndAlike read end other }
     ensures alike { (clock clock' : C) (old new old' new' : LinkState)
-        (pass pass' next next' : PassRecord (KeptOffice D D.Disk) Happening) (end other : LinkEnd)
+        (pass pass' next next' : PassRecord (KeptOffice D D.Disk) (Happening D D.Disk)) (end other : LinkEnd)
         (one : IsServedLink (AnswersCall (C.gives clock)) old new pass pass' end)
         (two : IsServedLink (AnswersCall (C.gives clock')) old' new' next next' other)
         → one.read ≡ two.read → IsWhole end → IsWhole other → EndAlike one.read end other }
