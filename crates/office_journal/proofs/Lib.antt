@@ -1,5 +1,5 @@
 pub mod Growing
-pub mod Between
+pub mod Fronts
 mod Carrying
 mod Beginning
 mod InTime
