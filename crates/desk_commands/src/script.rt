@@ -53,8 +53,8 @@ impl<'a, D: Disk, C: Clock> Script<'a, D, C> {
             .kept
             .submit(alloc, asked.desk, asked.seq, &asked.request, reading)
         {
-            Answer::Accepted(text) => Reply::Line(text),
-            Answer::Repeated(text) => Reply::Line(text),
+            Answer::Accepted(reply) => Reply::Line(reply.into_text()),
+            Answer::Repeated(reply) => Reply::Line(reply.into_text()),
             Answer::Refused(refusal) => refusal_reply(alloc, &refusal),
             Answer::DiskFault => Reply::Fixed(disk_fault_text()),
             Answer::OutOfMemory => Reply::Fixed(out_of_memory_text()),
