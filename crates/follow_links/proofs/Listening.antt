@@ -1,6 +1,6 @@
 -- What is read of an answer, step by step.
-use Rattle.std.proofs.Common.{◌≡◌, ◌∙◌, ◌≤◌, ◌<◌, ◌+◌, ◌⊎◌, inl, inr, true, ℕ, List, [], ◌∷◌, ◌++◌, length, take, drop, Option, Some, None, Ok, Err, refl, sym, ap, arith, subst, append-nil, append_assoc, length-append}
-use Rattle.std.proofs.lemmas.List.{take_at, take-take, take-append-le, take-append-drop, length-take-le}
+use Rattle.std.proofs.Common.{◌≡◌, ◌∙◌, ◌≤◌, ◌<◌, ◌+◌, ◌-◌, ◌⊎◌, inl, inr, true, ℕ, List, [], ◌∷◌, ◌++◌, length, take, drop, Option, Some, None, Ok, Err, refl, sym, ap, arith, subst, append-nil, append_assoc, length-append}
+use Rattle.std.proofs.lemmas.List.{take_at, take-append-le, take-append-drop}
 use Rattle.std.proofs.Math.Seq.{take-append-add}
 use Rattle.std.proofs.Math.Decide.{dec_lt}
 use Rattle.byte_streams.specs.Flows.{Takes}
@@ -23,13 +23,6 @@ body_stops left mid end old now new wanted most miss.Failed p few h =
     (p.0, subst (λ (e : Option (List ℕ)). Takes left e p.0) (sym h.0) p.1, h.1 ∙ p.2, omega (arith, few, ap length h.1))
 body_stops left mid end old now new wanted most miss.Bad p few h = absurd h
 body_stops left mid end old now new wanted most miss.OutOfMemory p few h = (p.0 ++ h.0, takes_more left mid end p.0 h.0 p.1 h.1)
-
--- a read of more that failed
-pub on_stops : (left left' : Option (List ℕ)) (old new : List ℕ) (most : ℕ) (m : Miss)
-    → ReadsMore left left' old new most (Err m) → ReadsOn left left' old new (Err m)
-on_stops left left' old new most miss.Failed h = h
-on_stops left left' old new most miss.Bad h = absurd h
-on_stops left left' old new most miss.OutOfMemory h = h
 
 pub gains_wide : (left left' : Option (List ℕ)) (old new : List ℕ) (most : ℕ) → most ≤ 8192 → Gains left left' old new most → Gains left left' old new 8192
 gains_wide left left' old new most le g = record {
@@ -92,32 +85,6 @@ pub foreseen : (bytes waiting : List ℕ) (head : Head) → HasNoResponse bytes 
 foreseen bytes waiting More none says = says
 foreseen bytes waiting Bad none says = tt
 foreseen bytes waiting (Whole s) none says = whole_foreseen bytes waiting none s says.0 says.1 says.2 says.3
-
--- the bytes that were heard are the first of those that waited
-
-pub more_heard : (left left' : Option (List ℕ)) (old new held : List ℕ) (count : ℕ)
-    → count ≤ length held → count ≤ 8192 → length old + count ≤ 8192 → new ≡ old ++ take count held → Gains left left' old new count → Foresees old (take count held) More
-    → ReadsOn left left' old new (Ok None)
-more_heard left left' old new held count le most short is g f = (
-  gains_wide left left' old new count most g,
-  omega (arith, short, g.few, ap length g.behind, length-append old g.piece),
-  subst HasNoResponse (sym is) f.0,
-  subst MayBecomeResponse (sym is) f.1,
-)
-
-pub head_heard : (left left' : Option (List ℕ)) (old new held : List ℕ) (count : ℕ) (s : Shape)
-    → count ≤ length held → length old + count ≤ 8192 → new ≡ old ++ take (s.from - length old) held → Gains left left' old new (s.from - length old) → Foresees old (take count held) (Whole s)
-    → ReadsOn left left' old new (Ok (Some s))
-head_heard left left' old new held count s le short is g f =
-    let size : length (take count held) ≡ count = length-take-le count held le in
-    let n = s.from - length old in
-    let few : n ≤ count = omega (arith, f.0, f.1, size) in
-    let same : take n (take count held) ≡ take n held = take-take-le n count held few in
-    let reads : ReadsResponse new f.2.0 [] =
-    subst (λ (b : List ℕ). ReadsResponse b f.2.0 []) (ap (λ (l : List ℕ). old ++ l) same ∙ sym is) f.2.1 in (
-      gains_wide left left' old new n (omega (arith, few, short)) g,
-      (f.2.0, reads, omega (arith, f.1, size, short, f.2.2.from), f.2.2),
-    )
 
 -- a part of a head behind what was read before
 
