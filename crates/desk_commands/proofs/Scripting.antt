@@ -160,9 +160,11 @@ module _ {D : Type 0} (d : Disks D) (start : ℕ) where
 
       no_lines : (file : List ℕ) (h : History) (may : Change → Type 0) (kept next : KeptOffice D d) → next ≡ kept → Carries file h may kept → Went file h may [] kept next
       no_lines file h may kept next same carries =
-          subst (λ (x : KeptOffice D d). Went file h may [] kept x) (sym same)
-          (carries, nothing d.crash are_crashes (disk_of kept) (IsFront may [] [] file h)
-          (λ c left. at_start may [] file h c (less file h may (λ change. may change ⊎ ⊥) (λ change was. inl was) c (carries.now c left))))
+          subst (λ (x : KeptOffice D d). Went file h may [] kept x) (sym same) (
+            carries,
+            nothing d.crash are_crashes (disk_of kept) (IsFront may [] [] file h)
+                (λ c left. at_start may [] file h c (less file h may (λ change. may change ⊎ ⊥) (λ change was. inl was) c (carries.now c left))),
+          )
 
       pub lines_go : (file : List ℕ) (h : History) (may : Change → Type 0) (s : Scripted (KeptOffice D d) C) (lines : List (List ℕ)) (said : List Said) (z : Scripted (KeptOffice D d) C)
           → Goes d k s lines said z → Carries file h may s.kept → Went file h may (given_by said) s.kept z.kept

@@ -30,7 +30,13 @@ impl Given {
     }
 
     pub fn disk(&self, alloc: Global) -> Result<MemDisk, Oom> {
-        MemDisk::new(alloc, self.file.as_slice(), &self.failing, self.stop, self.pick)
+        MemDisk::new(
+            alloc,
+            self.file.as_slice(),
+            &self.failing,
+            self.stop,
+            self.pick,
+        )
     }
 
     /// The same, with a disk that stops behind a call.

@@ -2,8 +2,8 @@
 //! stops behind each call.
 ghost use Rattle.serve_command.specs.Words.{IsServing};
 
-use crate::serve::answers::end_name;
 use crate::offices::requests_in;
+use crate::serve::answers::end_name;
 use crate::serve::gate::HoldingGate;
 use crate::serve::given::Given;
 use crate::serve::links::{LinkRun, run_link};
@@ -115,7 +115,14 @@ pub fn sweep_crashes<R: Threads + Wait + Sync>(
     for call in 1..=calls {
         for pick in PICKS {
             let stopping = given.stopping(call, pick)?;
-            let run = serve_doors(rt, alloc, &stopping, doors, serving, &HoldingGate::new(false))?;
+            let run = serve_doors(
+                rt,
+                alloc,
+                &stopping,
+                doors,
+                serving,
+                &HoldingGate::new(false),
+            )?;
             runs = runs.saturating_add(1);
             if !is_left(alloc, &run)? {
                 differ = differ.saturating_add(1);
