@@ -5,8 +5,8 @@ ghost use Rattle.byte_streams.specs.Flows.{Takes};
 ghost use Rattle.desk_links.specs.Links.{KeepsOutput};
 ghost use Rattle.httparse.specs.Grammar.{HasNoResponse};
 ghost use Rattle.follow_links.specs.Answers.{IsCutHead};
-ghost use Rattle.follow_links.specs.Readings.{ReadsMore, ReadsBody, ReadsHead, ReadsAnswer, IsCause};
-ghost use Rattle.follow_links.specs.Readings.{Foresees, ReadsOn};
+ghost use Rattle.follow_links.specs.Readings.{Foresees, IsCause, ReadsAnswer, ReadsBody};
+ghost use Rattle.follow_links.specs.Readings.{ReadsHead, ReadsMore, ReadsOn};
 
 use crate::answers::{Head, MOST_BYTES, Shape, head_of};
 use desk_links::Peer;
@@ -82,11 +82,7 @@ fn read_more<L: Peer>(
 }
 
 /// The head at the front of the bytes that were read and those that wait.
-fn look_ahead(
-    bytes: &Text,
-    waiting: &[u8],
-    fields: &mut [HeaderSpan],
-) -> Result<Head, Oom>
+fn look_ahead(bytes: &Text, waiting: &[u8], fields: &mut [HeaderSpan]) -> Result<Head, Oom>
     requires short { length bytes.now + length waiting.now ≤ 8192 }
     requires none { HasNoResponse bytes.now }
     requires room { length fields.old ≡ 2731 }
@@ -124,8 +120,8 @@ fn read_byte<L: Peer>(
     }
 }
 
-/// Reads of a head what waits, or one byte where nothing waits or a bad head does: then each byte is
-/// read by itself from there on, so that nothing behind the one that decides it is read.
+/// Reads of a head what waits, or one byte where nothing waits or a bad head does: then each byte
+/// is read alone from there on, so that nothing behind the one that decides it is read.
 fn read_on<L: Peer>(
     link: &mut L,
     fields: &mut [HeaderSpan],

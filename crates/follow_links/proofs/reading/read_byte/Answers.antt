@@ -1,4 +1,4 @@
-use Rattle.std.proofs.Common.{rules, arith, length}
+use Rattle.std.proofs.Common.{rules, arith}
 use Rattle.follow_links.proofs.Listening.{gains_wide, bad_head, whole_head}
 use Rattle.follow_links.proofs.reading.read_byte.Goals as goal
 

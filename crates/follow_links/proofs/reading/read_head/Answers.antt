@@ -1,4 +1,4 @@
-use Rattle.std.proofs.Common.{refl, sym, subst, inl, arith, rules, ap, length}
+use Rattle.std.proofs.Common.{refl, sym, subst, inl, arith, ap, length}
 use Rattle.byte_streams.specs.Flows.{Takes}
 use Rattle.httparse.specs.Grammar.{HasNoResponse}
 use Rattle.follow_links.proofs.Joining.{takes_none}
