@@ -29,10 +29,10 @@ still_pends None = tt
 still_pends (Some change) = refl
 
 -- of what is pending this is said
-said_of : (P : Change → Type 0) (pending : Option Change) → IfSome pending P → (change : Change) → Was pending change → P change
+pub said_of : (P : Change → Type 0) (pending : Option Change) → IfSome pending P → (change : Change) → Was pending change → P change
 said_of P pending which change is = subst (λ (o : Option Change). IfSome o P) is which
 
-some_less : (P Q : Change → Type 0) → ((change : Change) → P change → Q change) → (pending : Option Change) → IfSome pending P → IfSome pending Q
+pub some_less : (P Q : Change → Type 0) → ((change : Change) → P change → Q change) → (pending : Option Change) → IfSome pending P → IfSome pending Q
 some_less P Q f None which = tt
 some_less P Q f (Some change) which = f change which
 
