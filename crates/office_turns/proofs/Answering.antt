@@ -246,8 +246,9 @@ module _ {D : Type 0} (d : Disks D)
       grows = inl notes;
     }
 
-    -- the reading and the list of before may be told by other terms
-    pub came_of : (z : ℤ) (ys : List (Happening D d)) (answer : Answer) (told : Option (Snapshot Readied)) → z ≡ reading → ys ≡ xs → Told d old new a z answer told → Notes answer told new ys zs → CameOf d opened new a reading answer xs zs
-    came_of z ys answer told at begin is notes =
+    -- the reading, the list of before and the office of now may be told by other terms
+    pub came_of : (z : ℤ) (ys : List (Happening D d)) (now : KeptOffice D d) (answer : Answer) (told : Option (Snapshot Readied)) → z ≡ reading → ys ≡ xs → now ≡ new → Told d old new a z answer told → Notes answer told now ys zs → CameOf d opened new a reading answer xs zs
+    came_of z ys now answer told at begin stands is notes =
         let is' = subst (λ (n : ℤ). Told d old new a n answer told) at is in
-        came_by answer told is'.becomes is'.names is'.later (subst (λ (l : List (Happening D d)). Notes answer told new l zs) begin notes)
+        let notes' = subst (λ (k : KeptOffice D d). Notes answer told k ys zs) stands notes in
+        came_by answer told is'.becomes is'.names is'.later (subst (λ (l : List (Happening D d)). Notes answer told new l zs) begin notes')
