@@ -1,21 +1,23 @@
 -- What becomes of a kept office between the start of a request and its answer: what is prepared leaves the state as it was.
-use Rattle.std.proofs.Common.{◌≡◌, ◌≢◌, ◌⊎◌, ◌+◌, ◌-◌, ◌^◌, min, inl, inr, ⊎_elim, ℕ, ℤ, List, Option, Some, length, option_map, refl, sym, ◌∙◌, ap, subst}
-use Rattle.desk_traits.specs.Crash.{Crashes}
+use Rattle.std.proofs.Common.{◌≡◌, ◌≢◌, ◌⊎◌, ◌+◌, ◌-◌, ◌^◌, min, inl, inr, ⊎_elim, ℕ, ℤ, List, Option, Some, IfSome, length, option_map, refl, sym, ◌∙◌, ap, subst}
+use Rattle.desk_traits.specs.Crash.{Crashes, LeavesOnly}
 use Rattle.desk_traits.specs.Faults.{Rose}
 use Rattle.hazard_types.specs.declared.refusal.Refusal.{Refusal}
+use Rattle.hazard_types.specs.declared.request.Reply.{Reply}
 use Rattle.hazard_types.specs.declared.request.Request.{Request}
 use Rattle.journal_core.specs.Kept.{Keeps}
 use Rattle.request_json.specs.Replies.{reply_text}
 use Rattle.office_core.specs.Histories.{Entered}
 use Rattle.office_core.specs.Prepared.{IsReady, Readied}
-use Rattle.office_core.specs.State.{State}
-use Rattle.office_core.specs.Step.{Accepts, entry_of, state_after}
+use Rattle.office_core.specs.State.{State, said_by}
+use Rattle.office_core.specs.Step.{Accepts, Repeats, entry_of, state_after}
 use Rattle.office_core.specs.Views.{OfficeView}
+use Rattle.office_core.specs.declared.heard.Said.{Said}
 use Rattle.office_journal.specs.Bodies.{entry_body}
 use Rattle.office_journal.specs.Changes.{Change, Leaves, body_of}
 use Rattle.office_journal.specs.Histories.{History, IsHistory, bodies}
 use Rattle.office_journal.specs.Kept.{HasHistory, Holds, disk_of, entries_of, gate_of, notes_of, state_of}
-use Rattle.office_journal.specs.Outcomes.{Becomes, HasEntered, HasFailed, IsAsBefore, Names, StandsBeside}
+use Rattle.office_journal.specs.Outcomes.{AtAnyMoment, Becomes, HasEntered, HasFailed, IsAgain, IsAsBefore, Names, StandsBeside}
 use Rattle.office_journal.specs.Submitting.{IsAsked, IsOffered, IsTooLong, entered}
 use Rattle.office_journal.specs.declared.answers.Answer.{Answer}
 use Rattle.office_journal.specs.declared.answers.Answer.TheVariants.{Accepted, Repeated, Refused, DiskFault, OutOfMemory}
@@ -53,10 +55,21 @@ module _ {D : Type 0} {d : _} (seen : D → Option (List ℕ)) (crash : D → Cr
   }
 
   -- with what was prepared, all is as it was
-  pub still_as_before : IsAsBefore seen crash old mid
-  still_as_before = record { disk = disk_same; gate = gate_same; state = state; entries = entries; notes = notes; held = holds_on }
+  pub still_as_before : AtAnyMoment seen crash old old (λ change. ⊥) → IsAsBefore seen crash old mid
+  still_as_before now = record {
+    disk = disk_same;
+    gate = gate_same;
+    state = state;
+    entries = entries;
+    notes = notes;
+    held = holds_on;
+    moments = λ file h pending holds. subst (λ (z : D). LeavesOnly (crash (disk_of old)) (crash z) (Leaves file h (λ change. (pending ≡ Some change) ⊎ ⊥))) (sym disk_same) (now file h pending holds);
+  }
 
   module _ (new : KeptOffice D d) where
+    moments_on : (gives : Change → Type 0) → AtAnyMoment seen crash mid new gives → AtAnyMoment seen crash old new gives
+    moments_on gives is file h pending holds = subst (λ (z : D). LeavesOnly (crash z) (crash (disk_of new)) (Leaves file h (λ change. (pending ≡ Some change) ⊎ gives change))) disk_same (is file h pending (holds_on file h pending holds))
+
     as_before_on : IsAsBefore seen crash mid new → IsAsBefore seen crash old new
     as_before_on is = record {
       disk = is.disk ∙ disk_same;
@@ -65,6 +78,7 @@ module _ {D : Type 0} {d : _} (seen : D → Option (List ℕ)) (crash : D → Cr
       entries = is.entries ∙ entries;
       notes = is.notes ∙ notes;
       held = λ file h pending holds. is.held file h pending (holds_on file h pending holds);
+      moments = moments_on (λ change. ⊥) is.moments;
     }
 
     module _ (faults : D → ℕ) where
@@ -78,6 +92,7 @@ module _ {D : Type 0} {d : _} (seen : D → Option (List ℕ)) (crash : D → Cr
         reads = is.reads;
         legal = λ file h has. is.legal file h (history_on file h has);
         held = λ file h pending holds. is.held file h pending (holds_on file h pending holds);
+        moments = moments_on (λ change. change ≡ Change.entry x) is.moments;
       }
 
       failed_on : (x : Entered) → HasFailed seen crash faults mid new x → HasFailed seen crash faults old new x
@@ -89,6 +104,7 @@ module _ {D : Type 0} {d : _} (seen : D → Option (List ℕ)) (crash : D → Cr
         entries = is.entries ∙ entries;
         notes = is.notes ∙ ap (λ (n : ℕ). min (n + 1) (2 ^ 64 - 1)) notes;
         held = λ file h pending holds. is.held file h pending (holds_on file h pending holds);
+        moments = moments_on (λ change. change ≡ Change.entry x) is.moments;
       }
 
       module _ (y : Entered) (offered : Entered → Type 0) (kept : List ℕ → Type 0) (broken : Refusal → Type 0) (so : offered y) where
@@ -110,8 +126,20 @@ module _ {D : Type 0} {d : _} (seen : D → Option (List ℕ)) (crash : D → Cr
       (p, beside, so, reply ∙ ap (λ (y : Entered). reply_text y.entry.reply) is, subst (λ (y : Entered). HasEntered seen crash faults old new y) is (entered_on new faults x has))
   names_on new faults p offered kept broken so (Repeated text) told becomes beside = beside
   names_on new faults p offered kept broken so (Refused x) told becomes beside = beside
-  names_on new faults p offered kept broken so DiskFault told becomes beside = beside
+  names_on new faults p offered kept broken so DiskFault told (x, is, has) beside =
+      (p, beside, so, subst (λ (y : Entered). HasFailed seen crash faults old new y) is (failed_on new faults x has))
   names_on new faults p offered kept broken so OutOfMemory told becomes beside = beside
+
+  -- what becomes of it where the kept reply is answered
+  module _ (faults : D → ℕ) (offered : Entered → Type 0) (broken : Refusal → Type 0) (desk : List ℕ) (seq : ℕ) (r : Request) (kept : Reply) (repeats : Repeats (state_of old) desk seq r kept) (now : AtAnyMoment seen crash old old (λ change. ⊥)) where
+    pub becomes_again : (answer : Answer) → IsAgain (said_by (state_of mid) desk) answer → Becomes seen crash faults old mid offered (λ text. (kept : Reply) × Repeats (state_of old) desk seq r kept × (text ≡ reply_text kept)) broken answer
+    becomes_again (Accepted text) is = absurd is
+    becomes_again (Repeated text) is =
+        let said : said_by (state_of mid) desk ≡ Some (record { seq = seq; request = r; reply = kept }) = ap (λ (z : State). said_by z desk) state ∙ repeats.same in
+        ((kept, repeats, subst (λ (o : Option Said). IfSome o (λ (s : Said). text ≡ reply_text s.reply)) said is), still_as_before now)
+    becomes_again (Refused x) is = absurd is
+    becomes_again DiskFault is = absurd is
+    becomes_again OutOfMemory is = still_as_before now
 
 -- what a crash leaves while what was prepared is kept
 pub asked_less : (s : State) (desk : List ℕ) (seq : ℕ) (r : Request) (reading : ℤ) (x : Entered) → IsOffered s desk seq r reading x → (file : List ℕ) (h : History) (pending : Option Change) (c : List ℕ)

@@ -1,7 +1,8 @@
 -- What becomes of a kept office where the entry of what was prepared is appended.
-use Rattle.std.proofs.Common.{◌≡◌, ◌≤◌, ◌+◌, ◌⊎◌, inr, ℕ, ℤ, pos, List, [], ◌∷◌, ◌++◌, length, Option, None, Some, option_map, refl, sym, ◌∙◌, ap, subst, arith, length-append}
-use Rattle.desk_traits.specs.Crash.{Crashes}
+use Rattle.std.proofs.Common.{◌≡◌, ◌≤◌, ◌+◌, ◌⊎◌, inl, inr, ℕ, ℤ, pos, List, [], ◌∷◌, ◌++◌, length, Option, None, Some, option_map, refl, sym, ◌∙◌, ap, subst, arith, length-append}
+use Rattle.desk_traits.specs.Crash.{AreCrashes, Crashes}
 use Rattle.desk_traits.specs.File.{Only}
+use Rattle.desk_traits.proofs.Moments.{nothing}
 use Rattle.hazard_types.specs.declared.request.Request.{Request}
 use Rattle.journal_core.specs.Image.{IsOneOf, records}
 use Rattle.journal_core.specs.Journal.{MayPend}
@@ -15,12 +16,12 @@ use Rattle.office_journal.specs.Bodies.{entry_body}
 use Rattle.office_journal.specs.Changes.{Change, Leaves, MayChange, body_of, changed}
 use Rattle.office_journal.specs.Histories.{History, IsHistory, bodies}
 use Rattle.office_journal.specs.Kept.{HasHistory, Holds, disk_of, entries_of, gate_of, state_of}
-use Rattle.office_journal.specs.Outcomes.{Becomes, IsAsBefore, IsUnkept}
+use Rattle.office_journal.specs.Outcomes.{AtAnyMoment, Becomes, IsAsBefore, IsUnkept}
 use Rattle.office_journal.specs.Submitting.{MayEnter, MayTouch, entered}
 use Rattle.office_journal.specs.declared.answers.Answer.{Answer}
 use Rattle.office_journal.specs.declared.answers.Answer.TheVariants.{Accepted, Repeated, Refused, DiskFault, OutOfMemory}
 use Rattle.office_journal.specs.declared.kept.KeptOffice.{KeptOffice}
-use Rattle.office_journal.proofs.Carrying.{grown_bodies, left_between, pending_then}
+use Rattle.office_journal.proofs.Carrying.{grown_bodies, leaves_less, left_between, pending_then}
 use Rattle.office_journal.proofs.Entering.{Follows, follows}
 use Rattle.office_journal.proofs.Growing.{bodies_grow, records_push}
 
@@ -96,14 +97,22 @@ module _ {D : Type 0} {d : _} (old : KeptOffice D d) (p : Readied) (law : AreInT
         gate = omega (arith, gate, ap length written, has.gate, records_push (bodies file h) (entry_body (entered p)), grows);
       }
 
--- where an entry is not appended, all is as it was
-pub as_before : {D : Type 0} {d : _} (seen : D → Option (List ℕ)) (crash : D → Crashes) (kept : KeptOffice D d) → IsAsBefore seen crash kept kept
-as_before seen crash kept = record { disk = refl; gate = refl; state = refl; entries = refl; notes = refl; held = λ file h pending holds. holds }
+-- what a crash leaves while nothing is done
+pub at_rest : {D : Type 0} {d : _} (seen : D → Option (List ℕ)) (crash : D → Crashes) (are_crashes : (d : D) → AreCrashes (crash d)) (kept : KeptOffice D d)
+    → ((file : List ℕ) (h : History) (pending : Option Change) (c : List ℕ) → Holds seen crash kept file h pending → (crash (disk_of kept)).may_leave c → Leaves file h (λ change. pending ≡ Some change) c)
+    → (gives : Change → Type 0) → AtAnyMoment seen crash kept kept gives
+at_rest seen crash are_crashes kept rests gives file h pending holds =
+    let P : Change → Type 0 = λ change. (pending ≡ Some change) ⊎ gives change in
+    nothing crash are_crashes (disk_of kept) (Leaves file h P) (λ c left. leaves_less file h (λ change. pending ≡ Some change) P (λ change now. inl now) c (rests file h pending c holds left))
 
-pub becomes_unkept : {D : Type 0} {d : _} (seen : D → Option (List ℕ)) (crash : D → Crashes) (faults : D → ℕ) (kept : KeptOffice D d) (x : Entered) (answer : Answer) → IsUnkept (gate_of kept) x answer
-    → Becomes seen crash faults kept kept (λ y. y ≡ x) (λ text. ⊥) (λ broken. ⊥) answer
-becomes_unkept seen crash faults kept x (Accepted text) is = absurd is
-becomes_unkept seen crash faults kept x (Repeated text) is = absurd is
-becomes_unkept seen crash faults kept x (Refused broken) is = (inr (is.0, x, refl, is.1), as_before seen crash kept)
-becomes_unkept seen crash faults kept x DiskFault is = absurd is
-becomes_unkept seen crash faults kept x OutOfMemory is = as_before seen crash kept
+-- where an entry is not appended, all is as it was
+module _ {D : Type 0} {d : _} (seen : D → Option (List ℕ)) (crash : D → Crashes) (kept : KeptOffice D d) (now : AtAnyMoment seen crash kept kept (λ change. ⊥)) where
+  pub as_before : IsAsBefore seen crash kept kept
+  as_before = record { disk = refl; gate = refl; state = refl; entries = refl; notes = refl; held = λ file h pending holds. holds; moments = now }
+
+  pub becomes_unkept : (faults : D → ℕ) (x : Entered) (answer : Answer) → IsUnkept (gate_of kept) x answer → Becomes seen crash faults kept kept (λ y. y ≡ x) (λ text. ⊥) (λ broken. ⊥) answer
+  becomes_unkept faults x (Accepted text) is = absurd is
+  becomes_unkept faults x (Repeated text) is = absurd is
+  becomes_unkept faults x (Refused broken) is = (inr (is.0, x, refl, is.1), as_before)
+  becomes_unkept faults x DiskFault is = absurd is
+  becomes_unkept faults x OutOfMemory is = as_before

@@ -1,5 +1,5 @@
 pub mod Growing
-pub mod Between
+pub mod Fronts
 mod Carrying
 mod Beginning
 mod InTime
@@ -13,3 +13,4 @@ mod Placing
 mod Replays
 mod Taking
 mod Opening
+mod Hearing

@@ -9,7 +9,8 @@ use Rattle.office_journal.proofs.kept.KeptOffice.append.Goals as goal
 
 pub returns-in-Ok-clause-becomes : goal.returns-in-Ok-clause-becomes
 returns-in-Ok-clause-becomes g c =
-    let d = g.D.Disk in (
+    let d = g.D.Disk in
+    let m = g.met.D.Disk in (
       entered c.args.p,
       refl,
       c.requires.reply,
@@ -24,6 +25,11 @@ returns-in-Ok-clause-becomes g c =
         held = λ file h pending holds.
             held_then d.seen d.crash c.args.self.now c.args.p c.accepted_requests_are_accepted_at_their_minute.ensures c.requires.ready c.args.packet.now c.requires.body c.requires.room
             file h pending holds _ c.commit.ensures.state refl (c.in-Ok.ensures.ok (bodies file h) (option_map body_of pending) holds.journal);
+        moments = λ file h pending holds.
+            weaker d.crash m.are_crashes c.args.self.now.journal.disk c.append.new.self.disk (IsOneOf (bodies file h) (option_map body_of pending) c.args.packet.now)
+            (Leaves file h (λ change. (pending ≡ Some change) ⊎ (change ≡ Change.entry (entered c.args.p))))
+            (left_then d.seen d.crash c.args.self.now c.args.p c.accepted_requests_are_accepted_at_their_minute.ensures c.requires.ready c.args.packet.now c.requires.body c.requires.room file h pending holds)
+            (c.append.ensures.any_moment (bodies file h) (option_map body_of pending) holds.journal);
       },
     )
 
@@ -38,7 +44,8 @@ returns-in-Ok-clause-any_moment g c file h pending holds =
 
 pub returns-in-Err-DiskFault-clause-becomes : goal.returns-in-Err-DiskFault-clause-becomes
 returns-in-Err-DiskFault-clause-becomes g c =
-    let d = g.D.Disk in (
+    let d = g.D.Disk in
+    let m = g.met.D.Disk in (
       entered c.args.p,
       refl,
       record {
@@ -52,6 +59,11 @@ returns-in-Err-DiskFault-clause-becomes g c =
             let failed = c.in-Err-DiskFault.ensures.failed (bodies file h) (option_map body_of pending) holds.journal (ap Err c.in-Err-DiskFault.field-0-is) in
             held_still d.seen d.crash c.args.self.now c.args.p c.accepted_requests_are_accepted_at_their_minute.ensures c.requires.ready c.args.packet.now c.requires.body c.requires.room
             file h pending holds _ refl refl failed.0 failed.1 failed.2;
+        moments = λ file h pending holds.
+            weaker d.crash m.are_crashes c.args.self.now.journal.disk c.append.new.self.disk (IsOneOf (bodies file h) (option_map body_of pending) c.args.packet.now)
+            (Leaves file h (λ change. (pending ≡ Some change) ⊎ (change ≡ Change.entry (entered c.args.p))))
+            (left_then d.seen d.crash c.args.self.now c.args.p c.accepted_requests_are_accepted_at_their_minute.ensures c.requires.ready c.args.packet.now c.requires.body c.requires.room file h pending holds)
+            (c.append.ensures.any_moment (bodies file h) (option_map body_of pending) holds.journal);
       },
     )
 

@@ -1,6 +1,6 @@
 use Rattle.std.proofs.Common.{◌≡◌, ◌⊎◌, ◌∙◌, inl, ℕ, ℤ, List, Some, Ok, Err, option_map, refl, sym, ap, subst, w64}
 use Rattle.std.proofs.lemmas.Int.{to_z-of_z}
-use Rattle.desk_traits.proofs.Moments.{nothing, weaker}
+use Rattle.desk_traits.proofs.Moments.{weaker}
 use Rattle.hazard_types.specs.declared.request.Reply.{Reply}
 use Rattle.request_json.specs.Replies.{reply_text}
 use Rattle.office_core.specs.Prepared.{IsReady, Readied}
@@ -9,8 +9,8 @@ use Rattle.office_journal.specs.Changes.{Change, Leaves}
 use Rattle.office_journal.specs.Outcomes.{Becomes, Names, StandsBeside}
 use Rattle.office_journal.specs.Submitting.{IsAsked, IsOffered, entered}
 use Rattle.office_journal.specs.declared.answers.Answer.{Answer}
-use Rattle.office_journal.proofs.Answering.{asked_less, becomes_on, holds_on, names_on, ready_offered, still_as_before}
-use Rattle.office_journal.proofs.Carrying.{leaves_less}
+use Rattle.office_journal.proofs.Appending.{at_rest}
+use Rattle.office_journal.proofs.Answering.{asked_less, becomes_again, becomes_on, holds_on, names_on, ready_offered, still_as_before}
 use Rattle.office_journal.proofs.kept.KeptOffice.submit_told.Goals as goal
 
 pub append_prepared-requires-clause-ready : goal.append_prepared-requires-clause-ready
@@ -55,35 +55,48 @@ returns-in-New-clause-any_moment g c file h pending holds =
     (asked_less s c.args.desk c.args.seq c.args.r.now c.args.reading (entered c.in-New.p) offered file h pending)
     (c.append_prepared.ensures.any_moment file h pending (holds_on d.seen d.crash c.args.self.now _ refl c.prepare.ensures.state refl refl file h pending holds))
 
-pub returns-in-Again-clause-any_moment : goal.returns-in-Again-clause-any_moment
-returns-in-Again-clause-any_moment g c file h pending holds =
+pub returns-in-Again-clause-becomes : goal.returns-in-Again-clause-becomes
+returns-in-Again-clause-becomes g c =
     let d = g.D.Disk in
     let m = g.met.D.Disk in
-    let P : Change → Type 0 = λ change. (pending ≡ Some change) ⊎ IsAsked c.args.self.now.office.state c.args.desk c.args.seq c.args.r.now c.args.reading change in
-    nothing d.crash m.are_crashes c.args.self.now.journal.disk (Leaves file h P)
-    (λ f left. leaves_less file h (λ change. pending ≡ Some change) P (λ change now. inl now) f (c.a_crash_leaves_the_history.ensures file h pending f holds left))
+    let s = c.args.self.now.office.state in
+    let again = c.prepare.ensures.again (c.in-Ok.is ∙ ap (λ z. Ok z) c.in-Again.is) in
+    becomes_again d.seen d.crash c.args.self.now _ refl c.prepare.ensures.state refl refl d.faults (IsOffered s c.args.desk c.args.seq c.args.r.now c.args.reading) (Refuses s c.args.desk c.args.seq c.args.r.now c.args.reading)
+    c.args.desk c.args.seq c.args.r.now again.0 again.1 (at_rest d.seen d.crash m.are_crashes c.args.self.now c.a_crash_leaves_the_history.ensures (λ change. ⊥)) c.again.result c.again.ensures
+
+pub returns-in-Again-clause-any_moment : goal.returns-in-Again-clause-any_moment
+returns-in-Again-clause-any_moment g c =
+    let d = g.D.Disk in
+    let m = g.met.D.Disk in
+    let s = c.args.self.now.office.state in
+    at_rest d.seen d.crash m.are_crashes c.args.self.now c.a_crash_leaves_the_history.ensures (IsAsked s c.args.desk c.args.seq c.args.r.now c.args.reading)
 
 pub returns-in-No-clause-becomes : goal.returns-in-No-clause-becomes
 returns-in-No-clause-becomes g c =
     let d = g.D.Disk in
+    let m = g.met.D.Disk in
     let s = c.args.self.now.office.state in
     let refuses : Refuses s c.args.desk c.args.seq c.args.r.now c.args.reading c.in-No.refusal =
     subst (λ (z : ℤ). Refuses s c.args.desk c.args.seq c.args.r.now z c.in-No.refusal) (to_z-of_z w64 c.args.reading c.ranges.reading)
     (c.prepare.ensures.refused c.in-No.refusal (c.in-Err.is ∙ ap (λ z. Err z) c.in-No.is)) in
-    (inl refuses, still_as_before d.seen d.crash c.args.self.now _ refl c.prepare.ensures.state refl refl)
+    (inl refuses, still_as_before d.seen d.crash c.args.self.now _ refl c.prepare.ensures.state refl refl (at_rest d.seen d.crash m.are_crashes c.args.self.now c.a_crash_leaves_the_history.ensures (λ change. ⊥)))
 
 pub returns-in-No-clause-any_moment : goal.returns-in-No-clause-any_moment
-returns-in-No-clause-any_moment g c file h pending holds =
+returns-in-No-clause-any_moment g c =
     let d = g.D.Disk in
     let m = g.met.D.Disk in
-    let P : Change → Type 0 = λ change. (pending ≡ Some change) ⊎ IsAsked c.args.self.now.office.state c.args.desk c.args.seq c.args.r.now c.args.reading change in
-    nothing d.crash m.are_crashes c.args.self.now.journal.disk (Leaves file h P)
-    (λ f left. leaves_less file h (λ change. pending ≡ Some change) P (λ change now. inl now) f (c.a_crash_leaves_the_history.ensures file h pending f holds left))
+    let s = c.args.self.now.office.state in
+    at_rest d.seen d.crash m.are_crashes c.args.self.now c.a_crash_leaves_the_history.ensures (IsAsked s c.args.desk c.args.seq c.args.r.now c.args.reading)
+
+pub returns-in-OutOfMemory-clause-becomes : goal.returns-in-OutOfMemory-clause-becomes
+returns-in-OutOfMemory-clause-becomes g c =
+    let d = g.D.Disk in
+    let m = g.met.D.Disk in
+    still_as_before d.seen d.crash c.args.self.now _ refl c.prepare.ensures.state refl refl (at_rest d.seen d.crash m.are_crashes c.args.self.now c.a_crash_leaves_the_history.ensures (λ change. ⊥))
 
 pub returns-in-OutOfMemory-clause-any_moment : goal.returns-in-OutOfMemory-clause-any_moment
-returns-in-OutOfMemory-clause-any_moment g c file h pending holds =
+returns-in-OutOfMemory-clause-any_moment g c =
     let d = g.D.Disk in
     let m = g.met.D.Disk in
-    let P : Change → Type 0 = λ change. (pending ≡ Some change) ⊎ IsAsked c.args.self.now.office.state c.args.desk c.args.seq c.args.r.now c.args.reading change in
-    nothing d.crash m.are_crashes c.args.self.now.journal.disk (Leaves file h P)
-    (λ f left. leaves_less file h (λ change. pending ≡ Some change) P (λ change now. inl now) f (c.a_crash_leaves_the_history.ensures file h pending f holds left))
+    let s = c.args.self.now.office.state in
+    at_rest d.seen d.crash m.are_crashes c.args.self.now c.a_crash_leaves_the_history.ensures (IsAsked s c.args.desk c.args.seq c.args.r.now c.args.reading)
