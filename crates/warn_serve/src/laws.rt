@@ -26,7 +26,8 @@ pub fn links_end_by_their_causes<D: Disk, C: Clock>()
         → IsWhole end → IsWhole other
         → HasCause old new read end → HasCause old' new' read other → EndAlike read end other }
     ensures alike { (clock clock' : C) (old new old' new' : LinkState)
-        (pass pass' next next' : PassRecord (KeptOffice D D.Disk) (Happening D D.Disk)) (end other : LinkEnd)
+        (pass pass' next next' : PassRecord (KeptOffice D D.Disk) (Happening D D.Disk))
+        (end other : LinkEnd)
         (one : IsServedLink (AnswersCall (C.gives clock)) old new pass pass' end)
         (two : IsServedLink (AnswersCall (C.gives clock')) old' new' next next' other)
         → one.read ≡ two.read → IsWhole end → IsWhole other → EndAlike one.read end other }
