@@ -1,6 +1,7 @@
 -- What the commands over a journal read, write and leave.
 use Rattle.std.specs.Prelude.{◌≡◌, ◌⊎◌, ◌++◌, ◌≤◌, ◌<◌, ◌+◌, ◌-◌, ◌^◌, min, ℕ, ℤ, pos, nat_abs, true, false, List, [], ◌∷◌, length, Option, None, Some, Result, Ok, Err, IfSome, codes}
 use Rattle.std.specs.List.{flat_map}
+use Rattle.std.proofs.Common.{inl, inr}
 use Rattle.desk_settings.specs.Reading.{settings_of}
 use Rattle.desk_settings.specs.declared.fault.SettingsFault.{SettingsFault}
 use Rattle.desk_settings.specs.declared.settings.Settings.{Settings}
@@ -11,6 +12,7 @@ use Rattle.desk_traits.specs.declared.disk.Disk.{Ghosts as Disks}
 use Rattle.desk_traits.specs.Faults.{Rose}
 use Rattle.desk_traits.specs.File.{Only}
 use Rattle.byte_streams.specs.Flows.{Inflow, IsAtEnd, Outflow, Streams, Takes}
+use Rattle.hazard_types.specs.declared.request.Edition.{Edition}
 use Rattle.hazard_types.specs.declared.request.Edition.TheVariants.{One, Two}
 use Rattle.journal_core.specs.Image.{Fresh}
 use Rattle.office_core.specs.Agreement.{texts_of}
@@ -87,6 +89,19 @@ UpgradeOutcome d next opened after old new status =
     ⊎ (((state_of after).edition ≡ One) × ((state_of opened).edition ≡ One) × Rose (d.faults (disk_of opened)) (d.faults next) × Telling [] old new (Some DiskFault) status)
     ⊎ (((state_of after).edition ≡ (state_of opened).edition) × (next ≡ disk_of opened) × Telling [] old new (Some OutOfMemory) status)
 
+-- what an upgrade gives to the disk, from an edition to Two
+abbrev pub marks_from : Edition → List Gave
+marks_from One = Gave.added Change.marked ∷ []
+marks_from Two = []
+
+-- what an upgrade gave to the disk: the mark, unless it was there, had no room, or memory lacked
+module _ {D : Type 0} (d : Disks D) (next : D) (opened after : KeptOffice D d) (old new : Outflow) (status : ℕ) where
+  abbrev pub mark_given : UpgradeOutcome d next opened after old new status → List Gave
+  mark_given (inl done) = marks_from (state_of opened).edition
+  mark_given (inr (inl full)) = []
+  mark_given (inr (inr (inl failed))) = Gave.faulted Change.marked ∷ []
+  mark_given (inr (inr (inr lacks))) = []
+
 -- The board at a minute: its text, or the clock's fault where the minute is out; or memory lacked.
 abbrev pub TellsBoard : State → ℤ → Outflow → Outflow → ℕ → Type 0
 TellsBoard s at old new status =
@@ -160,10 +175,6 @@ module _ {D : Type 0} (d : Disks D) where
     pub holds : Holds d.seen d.crash after file (record { entries = h.entries; edition = (state_of after).edition }) pending
     pub moments : LeavesOnly (d.crash (disk_of opened)) (d.crash (disk_of after)) (Leaves file h (λ change. (change ≡ Change.marked) × (h.edition ≡ One)))
 
-  -- nothing was given to the disk but the mark, if that
-  abbrev pub GivesMark : List Gave → Type 0
-  GivesMark given = (given ≡ []) ⊎ ((given ≡ Gave.added Change.marked ∷ []) ⊎ (given ≡ Gave.faulted Change.marked ∷ []))
-
   -- the journal has the mark
   pub record IsUpgradeRun (disk next : D) (old new : Outflow) (status : ℕ) : Type 0 where
     pub opened : KeptOffice D d
@@ -173,8 +184,8 @@ module _ {D : Type 0} (d : Disks D) where
     pub handed : next ≡ disk_of after
     pub marked : (file : List ℕ) (h : History) → Holds d.seen d.crash opened file h None → IsMarked opened after file h
     pub later : d.faults disk ≤ d.faults next
-    pub history : (bytes : List ℕ) → d.seen disk ≡ Some bytes → (file : List ℕ) × (h : History) × (given : List Gave) × GivesMark given
-        × KeepsHistory d disk (disk_of opened) next bytes file h given [] (state_of after) × ((history_behind h given).edition ≡ (state_of after).edition)
+    pub history : (bytes : List ℕ) → d.seen disk ≡ Some bytes → (file : List ℕ) × (h : History)
+        × KeepsHistory d disk (disk_of opened) next bytes file h (mark_given d next opened after old new status outcome) [] (state_of after) × ((history_behind h (mark_given d next opened after old new status outcome)).edition ≡ (state_of after).edition)
 
   -- the file is as it was, and so are what a crash leaves, at any moment, and the count of faults
   abbrev pub IsLeft : D → D → Type 0

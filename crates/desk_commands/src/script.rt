@@ -6,7 +6,8 @@ ghost use Rattle.request_json.specs.Replies.{out_of_memory_text};
 ghost use Rattle.program_ends.specs.Replies.{bytes_of};
 ghost use Rattle.desk_commands.specs.Opening.{IsOpened, IsUnopenedRun, IsUnread};
 ghost use Rattle.desk_commands.specs.Lines.{ended, refusal_line};
-ghost use Rattle.desk_commands.specs.Scripts.{Gave, IsJudged};
+ghost use Rattle.office_journal.specs.Given.{Gave};
+ghost use Rattle.desk_commands.specs.Scripts.{IsJudged};
 ghost use Rattle.desk_commands.specs.Commands.{AnswersLines, IsScriptRun};
 ghost use Rattle.desk_commands.specs.Held.{HasReferences, scripted};
 
@@ -53,8 +54,8 @@ impl<'a, D: Disk, C: Clock> Script<'a, D, C> {
             .kept
             .submit(alloc, asked.desk, asked.seq, &asked.request, reading)
         {
-            Answer::Accepted(text) => Reply::Line(text),
-            Answer::Repeated(text) => Reply::Line(text),
+            Answer::Accepted(reply) => Reply::Line(reply.into_text()),
+            Answer::Repeated(reply) => Reply::Line(reply.into_text()),
             Answer::Refused(refusal) => refusal_reply(alloc, &refusal),
             Answer::DiskFault => Reply::Fixed(disk_fault_text()),
             Answer::OutOfMemory => Reply::Fixed(out_of_memory_text()),

@@ -1,13 +1,14 @@
 //! What a kept office answers.
-use hazard_types::{Refusal, Text};
+use crate::submit::KeptReply;
+use hazard_types::Refusal;
 
 /// The answer to a request.
 #[derive(Debug, Drop, PartialEq, Eq)]
 pub enum Answer {
     /// It is in the journal, durably. The text of the reply.
-    Accepted(Text),
+    Accepted(KeptReply),
     /// It is the desk's last request again. The text of the kept reply.
-    Repeated(Text),
+    Repeated(KeptReply),
     /// The first rule that it breaks.
     Refused(Refusal),
     /// The disk failed, and the request is not accepted.

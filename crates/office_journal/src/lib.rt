@@ -18,3 +18,4 @@ pub use answers::{Answer, Upgrade};
 pub use faults::KeepFault;
 pub use kept::KeptOffice;
 pub use laws::files_hold_one_history;
+pub use submit::KeptReply;

@@ -24,7 +24,36 @@ use journal_core::{AppendFault, Packet};
 use office_core::{Prepared, Ready, accepted_requests_are_accepted_at_their_minute};
 use request_json::reply_text;
 use std::alloc::Global;
+use std::marker::Model;
 use std::snapshot::Snapshot;
+
+/// The text of the reply to a request whose entry is in the journal, durably. Only a request that
+/// was submitted makes one, behind its append, so that nobody can write a reply before that.
+#[derive(Debug, Drop, PartialEq, Eq)]
+pub struct KeptReply {
+    text: Text,
+}
+
+impl Model for KeptReply {
+    ghost use Rattle.std.specs.Prelude.{ℕ, List};
+
+    ghost Value = { List ℕ };
+
+    ghost view = { λ kept. kept.text };
+
+    ghost inverse = { λ text. record { text = text } };
+}
+
+impl KeptReply {
+    ghost use Rattle.std.specs.Prelude.{◌≡◌};
+
+    /// The text, to be written.
+    pub fn into_text(self) -> Text
+        ensures { result ≡ self }
+    {
+        self.text
+    }
+}
 
 /// An answer, and what was prepared beside it where it accepts or the disk failed.
 fn beside(answer: Answer, p: Snapshot<Prepared>) -> (Answer, Option<Snapshot<Prepared>>)
@@ -130,7 +159,7 @@ impl<D: Disk> KeptOffice<D> {
         ensures { IsAgain (said_by (state_of self.now) desk) result }
     {
         match self.kept_reply(alloc, desk) {
-            Ok(text) => Answer::Repeated(text),
+            Ok(text) => Answer::Repeated(KeptReply { text }),
             Err(_) => Answer::OutOfMemory,
         }
     }
@@ -245,7 +274,7 @@ impl<D: Disk> KeptOffice<D> {
             Ok(()) => {
                 self.office.commit(p);
                 self.entries += 1;
-                Answer::Accepted(reply)
+                Answer::Accepted(KeptReply { text: reply })
             }
             Err(AppendFault::Full) => unreachable!(),
             Err(AppendFault::DiskFault) => {

@@ -1,5 +1,5 @@
 -- The promise follows from what a run has done, on each disk that keeps the laws of disks.
-use Rattle.std.proofs.Common.{ℕ, ◌≡◌, ◌⊎◌, inl, inr, ◌++◌, List, [], Option, None, Some, IfSome, IsSome, ◌≢◌, refl, sym, ap, ◌∙◌, subst, append-nil}
+use Rattle.std.proofs.Common.{ℕ, ◌≡◌, ◌⊎◌, inl, inr, ◌++◌, List, [], Option, None, Some, IfSome, IsSome, ◌≢◌, refl, sym, ap, ◌∙◌, subst}
 use Rattle.std.specs.Prelude.{MatchOption}
 use Rattle.desk_traits.specs.Crash.{AreCrashes, LeavesOnly}
 use Rattle.desk_traits.specs.Faults.{Rose}
@@ -10,15 +10,14 @@ use Rattle.office_core.specs.Agreement.{ReadsAsTheBoard}
 use Rattle.office_core.specs.Histories.{StandOnce, entries_of}
 use Rattle.office_core.specs.State.{State}
 use Rattle.office_journal.specs.Changes.{Change, Leaves}
-use Rattle.office_journal.specs.Grown.{KeepsHistory, grown}
+use Rattle.office_journal.specs.Given.{MayPend, history_behind}
+use Rattle.office_journal.specs.Grown.{KeepsHistory, NonePends}
 use Rattle.office_journal.specs.Histories.{History, IsHistory}
 use Rattle.office_journal.specs.Kept.{HasHistory, disk_of, state_of}
 use Rattle.office_journal.specs.Making.{IsMakingOf}
 use Rattle.office_journal.specs.declared.kept.KeptOffice.{KeptOffice}
 use Rattle.office_turns.specs.Happenings as turns
-use Rattle.office_turns.specs.Since.{MayPend}
 use Rattle.desk_commands.specs.Opening.{IsOpened}
-use Rattle.desk_commands.specs.Scripts as scripts
 use Rattle.desk_program.specs.Commands.{Boards, Exports, IsNoCommand, IsUnopened, SameClock, SameDisk, Upgrades}
 use Rattle.desk_program.specs.Runs.{Does}
 use Rattle.desk_program.specs.Runs as alone
@@ -27,23 +26,24 @@ use Rattle.desk_program.specs.declared.words.Command.{Command}
 use Rattle.desk_program.specs.declared.words.Command.TheVariants as command
 use Rattle.serve_command.specs.Words.{serving_of}
 use Rattle.serve_command.specs.declared.words.Serving.{Serving}
-use Rattle.office_journal.proofs.Between.{grown_none}
+use Rattle.office_journal.proofs.Fronts.{entries_behind}
 use Rattle.warn_main.specs.Offices.{Office, office_by, office_exported, office_if, office_in, office_served, office_shown, office_upgraded, unchanged}
 use Rattle.warn_main.specs.Promise.{IsOneHistory, OutlastsCrashes, Promise}
 use Rattle.warn_main.proofs.Lawful.{Carries, RequestsStandOnce, lines_go}
 use Rattle.warn_main.specs.Runs.{DoesAsAsked, DoesServe, SamePort}
 use Rattle.warn_main.specs.Worlds.{World, without_port}
 
--- one change more stands there only where the disk failed
-rose : (failed : Type 0) (pending : Option Change) (file : List ℕ) (last : History) (c : List ℕ) → (IsSome pending → failed) → Leaves file last (λ change. pending ≡ Some change) c → Leaves file last (λ change. failed) c
-rose failed pending file last c cause (inl image) = inl image
-rose failed None file last c cause (inr (change, is, image)) = absurd (cc)
-rose failed (Some one) file last c cause (inr (change, is, image)) = inr (change, cause refl, image)
+-- one change more stands there only where the disk failed under it
+rose : (may : Change → Type 0) (failed : Type 0) (pending : Option Change) (file : List ℕ) (last : History) (c : List ℕ) → IfSome pending may → (IsSome pending → failed) → Leaves file last (λ change. pending ≡ Some change) c
+    → Leaves file last (λ change. may change × failed) c
+rose may failed pending file last c which cause (inl image) = inl image
+rose may failed None file last c which cause (inr (change, is, image)) = absurd (cc)
+rose may failed (Some one) file last c which cause (inr (change, is, image)) = inr (change, (subst (λ (o : Option Change). IfSome o may) is which, cause refl), image)
 
-one_history : {D : Type 0} {d : Disks D} (office : Office d) (file : List ℕ) (found last : History) → last.entries ≡ found.entries ++ office.accepted → IsHistory file last office.state
-    → StandOnce (entries_of last.entries) → ReadsAsTheBoard office.state → IsOneHistory office file found last
-one_history office file found last accepted legal once reads = record {
-  accepted = accepted;
+one_history : {D : Type 0} {d : Disks D} (office : Office d) (file : List ℕ) (found : History) → IsHistory file (history_behind found office.given) office.state
+    → StandOnce (entries_of (history_behind found office.given).entries) → ReadsAsTheBoard office.state → IsOneHistory office file found
+one_history office file found legal once reads = record {
+  accepted = entries_behind found office.given;
   legal = legal;
   once = once;
   decoded = reads.whole;
@@ -55,28 +55,23 @@ one_history office file found last accepted legal once reads = record {
 
 module _ {D C : Type 0} (d : Disks D) (before after : World D C) where
   -- what crashes leave, by what is kept of a history
-  phrases : (bytes file : List ℕ) (found last : History) (may : Change → Type 0) (office : Office d) → IsOpened d before.disk office.opened → d.seen before.disk ≡ Some bytes
-      → KeepsHistory d before.disk (disk_of office.opened) after.disk bytes file found last may office.state → last.entries ≡ found.entries ++ office.accepted
-      → OutlastsCrashes d before after office bytes
-  phrases bytes file found last may office opened seen keeps accepted = record {
+  phrases : (bytes file : List ℕ) (found : History) (office : Office d) → IsOpened d before.disk office.opened → d.seen before.disk ≡ Some bytes
+      → KeepsHistory d before.disk (disk_of office.opened) after.disk bytes file found office.given office.answered office.state → OutlastsCrashes d before after office bytes
+  phrases bytes file found office opened seen keeps = record {
     file = file;
     found = found;
-    last = last;
     image = keeps.found;
-    history = one_history office file found last accepted keeps.legal keeps.once keeps.reads;
+    history = one_history office file found keeps.legal keeps.once keeps.reads;
     crash = keeps.crashes;
     settled = λ earlier tells.
         let sync = opened.settled bytes earlier seen tells in
         (sync.at, sync.past, λ c left. keeps.settled earlier sync c left);
-    held = λ c left. rose (Rose (d.faults before.disk) (d.faults after.disk)) keeps.pending file last c keeps.cause (keeps.left c left);
+    stays = keeps.stays;
+    held = λ c left. rose (MayPend NonePends office.given) (Rose (d.faults before.disk) (d.faults after.disk)) keeps.pending file (history_behind found office.given) c keeps.which keeps.cause (keeps.left c left);
   }
 
   abbrev Phrases : Office d → Type 0
   Phrases office = (bytes : List ℕ) → d.seen before.disk ≡ Some bytes → OutlastsCrashes d before after office bytes
-
-  -- nothing was accepted
-  unadded : (h : History) → h.entries ≡ h.entries ++ []
-  unadded h = sym (append-nil h.entries)
 
   -- an office that a command opened
   module _ (k : Clocks C) (limit status : ℕ) where
@@ -85,21 +80,21 @@ module _ {D C : Type 0} (d : Disks D) (before after : World D C) where
     exported (inl unopened) = tt
     exported (inr run) = λ bytes seen.
         let held = run.history bytes seen in
-        phrases bytes held.0 held.1 held.1 _ _ run.first seen held.2 (unadded held.1)
+        phrases bytes held.0 held.1 (unchanged run.opened) run.first seen held.2
 
     upgraded : (does : IsUnopened d (without_port before) (without_port after) status ⊎ Upgrades d (without_port before) (without_port after) status)
         → IfSome (office_upgraded d (without_port before) (without_port after) status does) Phrases
     upgraded (inl unopened) = tt
     upgraded (inr run) = λ bytes seen.
         let held = run.history bytes seen in
-        phrases bytes held.0 held.1 held.2 _ _ run.first seen held.3 (held.4 ∙ unadded held.1)
+        phrases bytes held.0 held.1 _ run.first seen held.2
 
     shown : (minute : Option ℕ) (does : (IsUnopened d (without_port before) (without_port after) status × SameClock (without_port before) (without_port after)) ⊎ Boards d (without_port before) (without_port after) k minute status)
         → IfSome (office_shown d (without_port before) (without_port after) status k minute does) Phrases
     shown minute (inl unopened) = tt
     shown minute (inr run) = λ bytes seen.
         let held = run.history bytes seen in
-        phrases bytes held.0 held.1 held.1 _ _ run.first seen held.2 (unadded held.1)
+        phrases bytes held.0 held.1 (unchanged run.opened) run.first seen held.2
 
     kept_by : (command : Command) (does : Does d k limit (without_port before) (without_port after) status command)
         → IfSome (office_by d (without_port before) (without_port after) status k limit command does) Phrases
@@ -107,7 +102,7 @@ module _ {D C : Type 0} (d : Disks D) (before after : World D C) where
     kept_by command.Script (inl unopened) = tt
     kept_by command.Script (inr run) = λ bytes seen.
         let held = run.history bytes seen in
-        phrases bytes held.0 held.1 _ _ _ run.first seen held.2 refl
+        phrases bytes held.0 held.1 _ run.first seen held.2
     kept_by command.Export does = exported does.2
     kept_by command.Upgrade does = upgraded does.2
     kept_by (command.Board minute) does = shown minute does.1
@@ -126,10 +121,10 @@ module _ {D C : Type 0} (d : Disks D) (before after : World D C) where
       kept_served serving (unread, same, inr run) = λ bytes seen.
           let held = run.history bytes seen in
           let happenings = run.served.happenings in
-          let last = grown held.1 (turns.entries_in happenings) in
-          let may = MayPend None happenings (state_of run.closed) in
-          phrases bytes held.0 held.1 last may (record { opened = run.opened; accepted = turns.entries_in happenings; state = state_of run.closed }) run.first seen
-          (subst (λ (x : D). KeepsHistory d before.disk (disk_of run.opened) x bytes held.0 held.1 last may (state_of run.closed)) (sym run.handed) held.2) refl
+          let given = turns.given_by happenings in
+          let answered = turns.stood_by [] happenings in
+          phrases bytes held.0 held.1 (record { opened = run.opened; given = given; answered = answered; state = state_of run.closed }) run.first seen
+          (subst (λ (x : D). KeepsHistory d before.disk (disk_of run.opened) x bytes held.0 held.1 given answered (state_of run.closed)) (sym run.handed) held.2)
 
       kept_in : (asked : Option Serving) (does : MatchOption asked (alone.DoesAsAsked d k words limit (without_port before) (without_port after) status × SamePort before after) (DoesServe d k before after status))
           → IfSome (office_in d k before after status words limit asked does) Phrases
@@ -139,25 +134,21 @@ module _ {D C : Type 0} (d : Disks D) (before after : World D C) where
   -- the first phrases, whatever the disk tells
   module _ (stand_once : RequestsStandOnce) where
     abbrev Lawful : Office d → Type 0
-    Lawful office = (file : List ℕ) × (found : History) × (last : History) × HasHistory office.opened file found × IsOneHistory office file found last
+    Lawful office = (file : List ℕ) × (found : History) × HasHistory office.opened file found × IsOneHistory office file found
 
-    carried : (office : Office d) (kept : KeptOffice D d) (file : List ℕ) (h : History) → HasHistory office.opened file h → Carries d kept file (grown h office.accepted) → office.state ≡ state_of kept → Lawful office
+    carried : (office : Office d) (kept : KeptOffice D d) (file : List ℕ) (h : History) → HasHistory office.opened file h → Carries d kept file (history_behind h office.given) → office.state ≡ state_of kept → Lawful office
     carried office kept file h opened carries is =
-        let last = grown h office.accepted in
+        let last = history_behind h office.given in
         let legal : IsHistory file last office.state = subst (λ (s : State). IsHistory file last s) (sym is) carries.0.history in (
           file,
           h,
-          last,
           opened,
-          one_history office file h last refl legal (stand_once file last office.state legal) (subst ReadsAsTheBoard (sym is) carries.1),
+          one_history office file h legal (stand_once file last office.state legal) (subst ReadsAsTheBoard (sym is) carries.1),
         )
 
     -- as it was opened
-    opened_lawful : (disk : D) (opened : KeptOffice D d) → IsOpened d disk opened → Lawful (unchanged opened (state_of opened))
-    opened_lawful disk opened first =
-        let history = first.legal.2 in
-        let h = first.legal.1 in
-        carried (unchanged opened (state_of opened)) opened first.legal.0 h history (subst (λ (g : History). Carries d opened first.legal.0 g) (sym (grown_none h)) (history, first.reads)) refl
+    opened_lawful : (disk : D) (opened : KeptOffice D d) → IsOpened d disk opened → Lawful (unchanged opened)
+    opened_lawful disk opened first = carried (unchanged opened) opened first.legal.0 first.legal.1 first.legal.2 (first.legal.2, first.reads) refl
 
     module _ (k : Clocks C) (limit status : ℕ) where
       lawful_exported : (does : IsUnopened d (without_port before) (without_port after) status ⊎ Exports d (without_port before) (without_port after) status)
@@ -176,7 +167,7 @@ module _ {D C : Type 0} (d : Disks D) (before after : World D C) where
       lawful_by command.Script other (inl unopened) = tt
       lawful_by command.Script other (inr run) =
           let first = run.first in
-          carried (record { opened = run.opened; accepted = scripts.entries_in run.said; state = state_of run.after.kept }) run.after.kept first.legal.0 first.legal.1 first.legal.2
+          carried _ run.after.kept first.legal.0 first.legal.1 first.legal.2
           (lines_go d k (record { kept = run.opened; clock = before.clock }) run.run.run.lines run.said run.after first.legal.0 first.legal.1 run.goes (first.legal.2, first.reads)) refl
       lawful_by command.Export other does = lawful_exported does.2
       lawful_by command.Upgrade other does = absurd (other refl)
@@ -196,7 +187,7 @@ module _ {D C : Type 0} (d : Disks D) (before after : World D C) where
         lawful_served serving (unread, same, inr run) =
             let first = run.first in
             let since = run.served.since in
-            carried (record { opened = run.opened; accepted = turns.entries_in run.served.happenings; state = state_of run.closed }) run.closed first.legal.0 first.legal.1 first.legal.2
+            carried _ run.closed first.legal.0 first.legal.1 first.legal.2
             (since.legal first.legal.0 first.legal.1 first.legal.2, since.reads first.reads) refl
 
         lawful_in : (asked : Option Serving) (does : MatchOption asked (alone.DoesAsAsked d k words limit (without_port before) (without_port after) status × SamePort before after) (DoesServe d k before after status))

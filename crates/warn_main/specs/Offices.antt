@@ -3,11 +3,13 @@ use Rattle.std.proofs.Common.{inl, inr}
 use Rattle.std.specs.Prelude.{◌⊎◌, ℕ, List, [], Option, None, Some, MatchOption}
 use Rattle.desk_traits.specs.declared.clocks.Clock.{Ghosts as Clocks}
 use Rattle.desk_traits.specs.declared.disk.Disk.{Ghosts as Disks}
-use Rattle.office_core.specs.Histories.{Entered}
 use Rattle.office_core.specs.State.{State}
+use Rattle.office_journal.specs.Given.{Gave}
+use Rattle.office_journal.specs.Grown.{Stood}
 use Rattle.office_journal.specs.Kept.{state_of}
 use Rattle.office_journal.specs.declared.kept.KeptOffice.{KeptOffice}
 use Rattle.office_turns.specs.Happenings as turns
+use Rattle.desk_commands.specs.Commands.{mark_given}
 use Rattle.desk_commands.specs.Scripts as scripts
 use Rattle.desk_program.specs.Commands.{Boards, Exports, IsNoCommand, IsUnopened, SameClock, SameDisk, Upgrades}
 use Rattle.desk_program.specs.Runs.{Does}
@@ -21,29 +23,36 @@ use Rattle.serve_command.specs.declared.words.Serving.{Serving}
 use Rattle.warn_main.specs.Runs.{DoesAsAsked, DoesServe, SamePort}
 use Rattle.warn_main.specs.Worlds.{World, without_port}
 
--- an office as it was opened, the requests that were accepted since, in order, and its state at the
--- end
+-- an office as it was opened, what was given to its disk since, in order, the disk as it stood at each
+-- answer, and the office's state at the end
 pub record Office {D : Type 0} (d : Disks D) : Type 0 where
   pub opened : KeptOffice D d
-  pub accepted : List Entered
+  pub given : List Gave
+  pub answered : List (Stood D)
   pub state : State
 
 module _ {D : Type 0} {d : Disks D} where
-  -- nothing was accepted
-  abbrev pub unchanged : KeptOffice D d → State → Office d
-  unchanged opened state = record { opened = opened; accepted = []; state = state }
+  -- nothing was given to it
+  abbrev pub unchanged : KeptOffice D d → Office d
+  unchanged opened = record { opened = opened; given = []; answered = []; state = state_of opened }
 
 -- that of a command, where it opened one
 module _ {D C : Type 0} (d : Disks D) (before after : alone_worlds.World D C) (status : ℕ) where
   abbrev pub office_exported : IsUnopened d before after status ⊎ Exports d before after status
       → Option (Office d)
   office_exported (inl unopened) = None
-  office_exported (inr run) = Some (unchanged run.opened (state_of run.opened))
+  office_exported (inr run) = Some (unchanged run.opened)
 
   abbrev pub office_upgraded : IsUnopened d before after status ⊎ Upgrades d before after status
       → Option (Office d)
   office_upgraded (inl unopened) = None
-  office_upgraded (inr run) = Some (unchanged run.opened (state_of run.after))
+  office_upgraded (inr run) =
+      Some (record {
+        opened = run.opened;
+        given = mark_given d after.disk run.opened run.after before.output after.output status run.outcome;
+        answered = [];
+        state = state_of run.after;
+      })
 
   module _ (k : Clocks C) where
     abbrev pub office_shown : (minute : Option ℕ)
@@ -51,7 +60,7 @@ module _ {D C : Type 0} (d : Disks D) (before after : alone_worlds.World D C) (s
         ⊎ Boards d before after k minute status
         → Option (Office d)
     office_shown minute (inl unopened) = None
-    office_shown minute (inr run) = Some (unchanged run.opened (state_of run.opened))
+    office_shown minute (inr run) = Some (unchanged run.opened)
 
     module _ (limit : ℕ) where
       abbrev pub office_by : (command : Command) → Does d k limit before after status command
@@ -61,7 +70,8 @@ module _ {D C : Type 0} (d : Disks D) (before after : alone_worlds.World D C) (s
       office_by command.Script (inr run) =
           Some (record {
             opened = run.opened;
-            accepted = scripts.entries_in run.said;
+            given = scripts.given_by run.said;
+            answered = scripts.stood_in d k [] _ run.run.run.lines run.said run.after run.goes;
             state = state_of run.after.kept;
           })
       office_by command.Export does = office_exported does.2
@@ -86,7 +96,8 @@ module _ {D C : Type 0} (d : Disks D) (k : Clocks C) (before after : World D C) 
   office_served serving (unread, same, inr run) =
       Some (record {
         opened = run.opened;
-        accepted = turns.entries_in run.served.happenings;
+        given = turns.given_by run.served.happenings;
+        answered = turns.stood_by [] run.served.happenings;
         state = state_of run.closed;
       })
 

@@ -3,7 +3,7 @@
 -- finds for every event and zone a lawful life, numbers from 1 without gaps, and exactly the hazards
 -- on the board; and a crash at any moment leaves a prefix of that history holding every acknowledged
 -- request." Each phrase stands in quotes over the fields that say what is proved of it.
-use Rattle.std.specs.Prelude.{◌≡◌, ◌≢◌, ◌≤◌, ◌⊎◌, ◌++◌, ℕ, List, None, Some, IfSome, IsOk}
+use Rattle.std.specs.Prelude.{◌≡◌, ◌≢◌, ◌≤◌, ◌⊎◌, ◌++◌, ℕ, List, [], None, Some, IfSome, IsOk}
 use Rattle.std.specs.List.{All}
 use Rattle.desk_traits.specs.Crash.{LeavesOnly}
 use Rattle.desk_traits.specs.Faults.{Rose}
@@ -19,7 +19,8 @@ use Rattle.product_frame.specs.Splitting.{IsOneProduct}
 use Rattle.office_core.specs.Agreement.{products_read, texts_of}
 use Rattle.office_core.specs.Histories.{StandOnce, entries_of}
 use Rattle.office_journal.specs.Changes.{Leaves}
-use Rattle.office_journal.specs.Grown.{IsBetween}
+use Rattle.office_journal.specs.Given.{IsFront, MayPend, entries_given, history_behind}
+use Rattle.office_journal.specs.Grown.{NonePends, StaysSince}
 use Rattle.office_journal.specs.Histories.{History, ImageOf, IsHistory}
 use Rattle.office_journal.specs.Kept.{HasHistory, disk_of}
 use Rattle.office_journal.specs.Making.{IsMakingOf}
@@ -29,15 +30,15 @@ use Rattle.warn_main.specs.Offices.{Office, office_of}
 use Rattle.warn_main.specs.Runs.{DoesAsAsked}
 use Rattle.warn_main.specs.Worlds.{World}
 
--- Of an office that a run opened, whose journal has this settings' file, held one history when it was
--- found, and has another at the end.
-pub record IsOneHistory {D : Type 0} {d : Disks D} (office : Office d) (file : List ℕ) (found last : History) : Type 0 where
+-- Of an office that a run opened, whose journal has this settings' file and held this history when it
+-- was found. The one at the end is `history_behind found office.given`.
+pub record IsOneHistory {D : Type 0} {d : Disks D} (office : Office d) (file : List ℕ) (found : History) : Type 0 where
   -- "their accepted requests": those of this run, in order, and no others, behind what was found
-  pub accepted : last.entries ≡ found.entries ++ office.accepted
+  pub accepted : (history_behind found office.given).entries ≡ found.entries ++ entries_given office.given
   -- "stand in one legal history": each is accepted at the state of those before it
-  pub legal : IsHistory file last office.state
+  pub legal : IsHistory file (history_behind found office.given) office.state
   -- "each once"
-  pub once : StandOnce (entries_of last.entries)
+  pub once : StandOnce (entries_of (history_behind found office.given).entries)
   -- "a reader of the transmitted texts alone": each text decodes, and is one product
   pub decoded : All (λ (text : List ℕ). IsOk (decode text)) (texts_of office.state)
   pub parted : All IsOneProduct (texts_of office.state)
@@ -52,24 +53,26 @@ pub record IsOneHistory {D : Type 0} {d : Disks D} (office : Office d) (file : L
 pub record OutlastsCrashes {D C : Type 0} (d : Disks D) (before after : World D C) (office : Office d) (bytes : List ℕ) : Type 0 where
   pub file : List ℕ
   pub found : History
-  pub last : History
   pub image : ImageOf bytes file found
-  pub history : IsOneHistory office file found last
+  pub history : IsOneHistory office file found
   -- "and a crash at any moment leaves a prefix of that history": one at any moment of the run leaves
-  -- what one at the start might have left, or a prefix that holds all that was found, with at most
-  -- one change behind it.
+  -- what one at the start might have left, or a prefix that holds all that was found. At most one
+  -- change stands behind it, and that was sent in this run: it is what the next request gave to the
+  -- disk, or one under which the disk failed since the prefix's last.
   pub crash : LeavesOnly (d.crash before.disk) (d.crash after.disk)
-      (λ c. (d.crash before.disk).may_leave c ⊎ IsBetween file found last c)
+      (λ c. (d.crash before.disk).may_leave c ⊎ IsFront NonePends office.given [] file found c)
   -- On a disk that tells its syncs: from a moment of the opening on such a prefix alone.
   pub settled : (earlier : List ℕ) → d.syncs before.disk ≡ Some earlier
       → (at : ℕ) × (at ≤ (d.crash (disk_of office.opened)).moment)
-      × ((c : List ℕ) → (d.crash after.disk).left_since at c → IsBetween file found last c)
-  -- "holding every acknowledged request": all of them at the end of the run, with one change more
-  -- only where the disk failed. Not said: that a crash before the end leaves those that were
-  -- acknowledged until then, nor that an answer goes out after its entry is synced. That an entry is
-  -- durable once its `submit` returned is a clause of that call (`HasEntered`); the rest is tested.
+      × ((c : List ℕ) → (d.crash after.disk).left_since at c
+      → IsFront NonePends office.given [] file found c)
+  -- "holding every acknowledged request": from each answer on, whatever crash comes later in the run
+  -- leaves a prefix that holds all that had been answered then,
+  pub stays : All (λ then. StaysSince d then after.disk NonePends office.given file found) office.answered
+  -- and at the end of the run all of them, with one change more only where the disk failed under it.
   pub held : (c : List ℕ) → (d.crash after.disk).may_leave c
-      → Leaves file last (λ change. Rose (d.faults before.disk) (d.faults after.disk)) c
+      → Leaves file (history_behind found office.given)
+      (λ change. MayPend NonePends office.given change × Rose (d.faults before.disk) (d.faults after.disk)) c
 
 module _ {D C : Type 0} (d : Disks D) (k : Clocks C) where
   -- Of one run of the program.
@@ -81,8 +84,8 @@ module _ {D C : Type 0} (d : Disks D) (k : Clocks C) where
     -- up to the board, whatever the disk tells, and so over a file; but under `upgrade`,
     pub lawful : command_of words ≢ Some Upgrade
         → IfSome (office_of d k before after status words limit done)
-        (λ office. (file : List ℕ) × (found : History) × (last : History)
-        × HasHistory office.opened file found × IsOneHistory office file found last)
+        (λ office. (file : List ℕ) × (found : History)
+        × HasHistory office.opened file found × IsOneHistory office file found)
     -- and all phrases, under each command, where the disk tells the bytes of its journal.
     pub kept : IfSome (office_of d k before after status words limit done)
         (λ office. (bytes : List ℕ) → d.seen before.disk ≡ Some bytes

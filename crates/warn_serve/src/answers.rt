@@ -57,8 +57,12 @@ pub(crate) fn submit_answer(alloc: Global, answer: Answer, last: bool) -> Result
     ensures { IfOk result (λ bytes. bytes_of bytes ≡ submit_answer answer last) }
 {
     match answer {
-        Answer::Accepted(text) => answer_with(alloc, &Outcome::Replied, &text, last),
-        Answer::Repeated(text) => answer_with(alloc, &Outcome::Replied, &text, last),
+        Answer::Accepted(reply) => {
+            answer_with(alloc, &Outcome::Replied, &reply.into_text(), last)
+        }
+        Answer::Repeated(reply) => {
+            answer_with(alloc, &Outcome::Replied, &reply.into_text(), last)
+        }
         Answer::Refused(refusal) => refused_answer(alloc, refusal, last),
         Answer::DiskFault => Ok(AnswerBytes::Fixed(disk_fault_answer(last))),
         Answer::OutOfMemory => Ok(AnswerBytes::Fixed(no_memory_answer(last))),

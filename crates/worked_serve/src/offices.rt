@@ -35,6 +35,11 @@ fn opened<D: Disk + Drop>(alloc: Global, disk: D) -> Option<KeptOffice<D>> {
     }
 }
 
+/// How many requests the office has that a disk holds. None where it holds none.
+pub fn requests_in<D: Disk + Drop>(alloc: Global, disk: D) -> Option<u64> {
+    Some(opened(alloc, disk)?.entries())
+}
+
 /// A lock over an office, with its whole pass.
 fn started<D: Disk + Drop>(
     alloc: Global,

@@ -5,13 +5,15 @@ use hazard_types::{List, Oom, Text, read_stamp};
 use std::alloc::Global;
 
 /// The file of a run's disk, the readings of its clock, and the calls of its disk and of each of
-/// its links that fail.
+/// its links that fail. And the call behind which the disk stops, with what a crash then leaves.
 #[derive(Drop)]
 pub struct Given {
     pub file: Text,
     pub readings: List<i64>,
     pub failing: List<u64>,
     pub broken: List<u64>,
+    pub stop: Option<u64>,
+    pub pick: u64,
 }
 
 impl Given {
@@ -22,11 +24,25 @@ impl Given {
             readings: List::new(alloc),
             failing: List::new(alloc),
             broken: List::new(alloc),
+            stop: None,
+            pick: 0,
         }
     }
 
     pub fn disk(&self, alloc: Global) -> Result<MemDisk, Oom> {
-        MemDisk::new(alloc, self.file.as_slice(), &self.failing, None, 0)
+        MemDisk::new(alloc, self.file.as_slice(), &self.failing, self.stop, self.pick)
+    }
+
+    /// The same, with a disk that stops behind a call.
+    pub fn stopping(&self, stop: u64, pick: u64) -> Result<Self, Oom> {
+        Ok(Given {
+            file: self.file.clone()?,
+            readings: self.readings.clone()?,
+            failing: self.failing.clone()?,
+            broken: self.broken.clone()?,
+            stop: Some(stop),
+            pick,
+        })
     }
 
     pub fn clock(&self, alloc: Global) -> Result<SetClock, Oom> {

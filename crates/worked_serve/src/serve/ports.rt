@@ -105,13 +105,15 @@ pub fn add_output(
     Ok(())
 }
 
-/// The port after a run, what the program wrote, its status, and the file that the disk then has.
+/// The port after a run, what the program wrote, its status, the file that the disk then has, and
+/// the one that a crash leaves.
 #[derive(Drop)]
 pub struct PortRun {
     pub port: MemPort,
     pub output: Text,
     pub status: u8,
     pub file: Text,
+    pub left: Text,
 }
 
 /// Serves a port with these doors, at a gate that may hold the first call.
@@ -142,6 +144,7 @@ pub fn serve_doors<R: Threads + Wait + Sync>(
         port,
         status,
         file: disk.file().clone()?,
+        left: disk.crashed()?,
     })
 }
 

@@ -8,7 +8,7 @@ use crate::serve::given::{Given, minutes_of, numbers_of};
 use crate::serve::links::{LinkRun, link_answer, run_link, tally_answer};
 use crate::serve::ports::{DoorGiven, Shown, port_answer, serve_doors};
 use crate::serve::real::{clients_answer, taken_answer};
-use crate::serve::sweeps::{sweep_ends, sweep_pieces};
+use crate::serve::sweeps::{sweep_crashes, sweep_ends, sweep_pieces};
 use crate::serve::words::{serving_in, words_answer};
 use hazard_types::{List, Oom, Text};
 use std::alloc::Global;
@@ -161,6 +161,17 @@ impl<'a, R: Clock + Threads + Wait + Sync + Net<Listener = TcpListener, Stream =
         Ok(answer)
     }
 
+    /// Serves the doors over a disk that stops behind each of so many calls, as the line says.
+    fn sweep_crashes(&mut self, alloc: Global, line: &str) -> Result<String, Oom> {
+        self.end_door(alloc)?;
+        let (calls, words) = line.split_once(' ').unwrap_or((line, ""));
+        let (Ok(calls), Some(serving)) = (calls.parse::<u64>(), serving_in(alloc, words)?) else {
+            return unread(alloc, line);
+        };
+        let doors = self.doors.as_slice();
+        sweep_crashes(self.rt, alloc, &self.given, doors, &serving, calls)
+    }
+
     /// What a run is answered.
     fn run(&mut self, alloc: Global, line: &str) -> Result<String, Oom> {
         let (word, rest) = line.split_once(' ').unwrap_or((line, ""));
@@ -178,6 +189,7 @@ impl<'a, R: Clock + Threads + Wait + Sync + Net<Listener = TcpListener, Stream =
             "ends" => sweep_ends(self.rt, alloc, &self.given, self.bytes.as_slice()),
             "serve" => self.serve_doors(alloc, line, Shown::Texts),
             "count" => self.serve_doors(alloc, rest, Shown::Counts),
+            "crashes" => self.sweep_crashes(alloc, rest),
             "words" => words_answer(alloc, rest),
             "taken" => taken_answer(self.rt, alloc, &self.given),
             "clients" => clients_answer(self.rt, alloc, &self.given, self.bytes.as_slice()),
