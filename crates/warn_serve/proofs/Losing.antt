@@ -21,6 +21,10 @@ pub on_err : {T E : Type 0} (r : Result T E) (P Q : Type 0) → (P → Q) → On
 on_err (Ok x) P Q so p = tt
 on_err (Err e) P Q so p = so p
 
+pub always_on_err : {T E : Type 0} (r : Result T E) (P : Type 0) → P → OnErr r P
+always_on_err (Ok x) P p = tt
+always_on_err (Err e) P p = p
+
 module _ {D : Type 0} {d : _} (old new : PassRecord (KeptOffice D d) (Happening D d)) (reading : ℤ) where
   pub submit_lost : (asked : Asked) (answer : Answer) → SubmitsInTurn asked reading old new answer → MayBeLost answer → new.mine ≡ old.mine
   submit_lost asked (Accepted text) turn may = absurd may
