@@ -36,11 +36,13 @@ work=$(mktemp -d)
 ended() {
   trap - EXIT INT TERM HUP
   [ -z "$served" ] || kill -- "-$served" 2> /dev/null
-  [ ! -s "$work/nginx.pid" ] || kill "$(cat "$work/nginx.pid")" 2> /dev/null
+  [ -z "$proxy" ] || kill "$proxy" 2> /dev/null
+  # Both are children of this script, so that no port is answered any more once it has ended.
   wait 2> /dev/null
   rm -rf "$work"
 }
 served=
+proxy=
 trap 'ended; exit 0' INT TERM HUP
 trap ended EXIT
 
@@ -75,9 +77,11 @@ else
   setsid rt try --seconds 86400 --cases "$work/steps" > "$work/log" 2>&1 &
 fi
 served=$!
-nginx -e "$work/error.log" -p "$work" -c "$work/nginx.conf" || exit 1
+nginx -e "$work/error.log" -p "$work" -c "$work/nginx.conf" -g 'daemon off;' &
+proxy=$!
 until curl -sf "http://127.0.0.1:$page/products/1" > "$work/text"; do
   kill -0 "$served" 2> /dev/null || { cat "$work/log" >&2; exit 1; }
+  kill -0 "$proxy" 2> /dev/null || { cat "$work/error.log" >&2; exit 1; }
   sleep 0.2
 done
 grep -q '^Demonstration office' "$work/text" || { echo "page_demo: another office answers at port $office: end it first" >&2; exit 1; }

@@ -1,40 +1,42 @@
 -- What comes of a line that is judged.
 use Rattle.std.proofs.Common.{ℕ, ℤ, ◌==◌, length, ◌≡◌, ◌≤◌, ◌⊎◌, inl, inr, List, [], ◌∷◌, Bool, true, false, Option, None, Some, Result, Ok, Err, refl, ap, sym, ◌∙◌, subst}
 use Rattle.std.proofs.lemmas.Bool.{eqb-true}
-use Rattle.desk_traits.specs.Crash.{LeavesOnly}
 use Rattle.desk_traits.specs.declared.clocks.Clock.{Ghosts as Clocks}
 use Rattle.desk_traits.specs.declared.disk.Disk.{Ghosts as Disks}
 use Rattle.hazard_types.specs.declared.refusal.Refusal.{Refusal}
 use Rattle.request_json.specs.Form.{asked_of}
 use Rattle.request_json.specs.Replies.{out_of_memory_text}
 use Rattle.request_json.specs.declared.asked.Asked.{Asked}
-use Rattle.office_journal.specs.Changes.{Change, Leaves}
-use Rattle.office_journal.specs.Histories.{History}
-use Rattle.office_journal.specs.Kept.{Holds, disk_of, state_of}
-use Rattle.office_journal.specs.Submitting.{IsAsked}
+use Rattle.office_journal.specs.Given.{Gave, Gives}
+use Rattle.office_journal.specs.Kept.{disk_of}
+use Rattle.office_journal.specs.Outcomes.{AtAnyMoment}
 use Rattle.office_journal.specs.declared.answers.Answer.{Answer}
-use Rattle.office_journal.specs.declared.answers.Answer.TheVariants.{OutOfMemory, Refused}
+use Rattle.office_journal.specs.declared.answers.Answer.TheVariants.{Accepted, DiskFault, OutOfMemory, Refused, Repeated}
 use Rattle.office_journal.specs.declared.kept.KeptOffice.{KeptOffice}
 use Rattle.desk_commands.specs.Lines.{ended, refusal_line}
-use Rattle.desk_commands.specs.Scripts.{Answers, AnswersAsked, AnswersLine, Gave, IsJudged, IsRead, Said, Scripted, Submits, answer_line, gave_in, line_asks}
+use Rattle.desk_commands.specs.Scripts.{Answers, AnswersAsked, AnswersLine, IsJudged, IsRead, Said, Scripted, Submits, answer_line, gave_in, line_asks}
 
 module _ {D : Type 0} (d : Disks D) (a : Asked) (reading : ℤ) (kept next : KeptOffice D d) where
   abbrev pub Told : List ℕ → Type 0
   Told text = (gave : Gave) × IsJudged d a reading kept text next gave
 
-  abbrev pub Moments : Type 0
-  Moments = (file : List ℕ) (h : History) (pending : Option Change) → Holds d.seen d.crash kept file h pending
-      → LeavesOnly (d.crash (disk_of kept)) (d.crash (disk_of next)) (Leaves file h (λ change. (pending ≡ Some change) ⊎ IsAsked (state_of kept) a.desk a.seq a.request reading change))
+  -- a crash at any moment leaves what was there, or that with what the request gave
+  at_moments : (answer : Answer) (becomes : Submits d a reading kept next answer) → AtAnyMoment d.seen d.crash kept next (Gives (gave_in d a reading kept next answer becomes))
+  at_moments (Accepted text) becomes = becomes.3.moments
+  at_moments (Repeated text) becomes = becomes.1.moments
+  at_moments (Refused x) becomes = becomes.1.moments
+  at_moments DiskFault becomes = becomes.2.moments
+  at_moments OutOfMemory becomes = becomes.moments
 
   -- the line of the answer
-  pub told : (answer : Answer) (text : List ℕ) → Submits d a reading kept next answer → text ≡ answer_line answer → d.faults (disk_of kept) ≤ d.faults (disk_of next) → Moments → Told text
-  told answer text becomes is later moments =
-      (gave_in d a reading kept next answer becomes, record { answer = answer; becomes = becomes; told = is; given = refl; later = later; moments = moments })
+  pub told : (answer : Answer) (text : List ℕ) → Submits d a reading kept next answer → text ≡ answer_line answer → d.faults (disk_of kept) ≤ d.faults (disk_of next) → Told text
+  told answer text becomes is later =
+      (gave_in d a reading kept next answer becomes, record { answer = answer; becomes = becomes; told = is; given = refl; later = later; moments = at_moments answer becomes })
 
   -- nothing has changed, so where memory lacks for the text of a refusal that is told
-  pub told_or : (x : Refusal) (text : List ℕ) → Submits d a reading kept next (Refused x) → (text ≡ refusal_line x) ⊎ (text ≡ ended out_of_memory_text) → d.faults (disk_of kept) ≤ d.faults (disk_of next) → Moments → Told text
-  told_or x text becomes (inl is) later moments = told (Refused x) text becomes is later moments
-  told_or x text becomes (inr lack) later moments = told OutOfMemory text becomes.1 lack later moments
+  pub told_or : (x : Refusal) (text : List ℕ) → Submits d a reading kept next (Refused x) → (text ≡ refusal_line x) ⊎ (text ≡ ended out_of_memory_text) → d.faults (disk_of kept) ≤ d.faults (disk_of next) → Told text
+  told_or x text becomes (inl is) later = told (Refused x) text becomes is later
+  told_or x text becomes (inr lack) later = told OutOfMemory text becomes.1 lack later
 
 module _ {D C : Type 0} (d : Disks D) (k : Clocks C) where
   said : List ℕ → ℤ → Gave → Said

@@ -1,5 +1,5 @@
 -- What a run over a kept office leaves of its history.
-use Rattle.std.proofs.Common.{ℕ, ◌≡◌, ◌⊎◌, inl, inr, Bool, List, Option, None, Some, sym, subst}
+use Rattle.std.proofs.Common.{ℕ, ◌≡◌, ◌⊎◌, inl, inr, All, Bool, List, [], Option, None, Some, sym, subst}
 use Rattle.desk_settings.specs.declared.settings.Settings.{Settings}
 use Rattle.desk_traits.specs.Crash.{AreCrashes, LeavesOnly}
 use Rattle.desk_traits.specs.declared.disk.Disk.{Ghosts as Disks}
@@ -9,13 +9,14 @@ use Rattle.hazard_types.specs.declared.codes.Class.TheVariants.{O}
 use Rattle.office_core.specs.Histories.{Entered, IsLegal, StandOnce, entries_of}
 use Rattle.office_core.specs.State.{State}
 use Rattle.office_journal.specs.Changes.{Change, Leaves}
-use Rattle.office_journal.specs.Grown.{Follows, IsBetween, KeepsHistory}
+use Rattle.office_journal.specs.Given.{Gave, IsFront, MayPend, history_behind}
+use Rattle.office_journal.specs.Grown.{KeepsHistory, NonePends, StaysSince, Stood}
 use Rattle.office_journal.specs.Histories.{History, ImageOf, fits}
 use Rattle.office_journal.specs.Kept.{Holds, disk_of, state_of}
 use Rattle.office_journal.specs.declared.kept.KeptOffice.{KeptOffice}
-use Rattle.office_journal.proofs.Between.{Any, at_start, loosened}
+use Rattle.office_journal.proofs.Fronts.{at_start, follows_given}
 use Rattle.desk_commands.specs.Opening.{IsOpened}
-use Rattle.desk_commands.proofs.Scripting.{Carries}
+use Rattle.desk_commands.proofs.Scripting.{Carries, less}
 
 -- the office's law that requests stand once
 abbrev pub RequestsStandOnce : Type 0
@@ -33,34 +34,38 @@ module _ {D : Type 0} (d : Disks D)
   opened_carries file h may disk kept law opened holds = record {
     pending = None;
     holds = holds;
-    now = λ c left. loosened file h (λ (change : Change). None ≡ Some change) c (law file h None c holds left);
+    now = λ c left. less file h (λ (change : Change). None ≡ Some change) may (λ change never. absurd (cc)) c (law file h None c holds left);
     reads = opened.reads;
     since = opened.later;
     which = tt;
     cause = λ some. absurd (cc);
   }
 
-  pub keeps : RequestsStandOnce → (bytes file : List ℕ) (h last : History) (may : Change → Type 0) (disk : D) (opened kept : KeptOffice D d) → CrashLaw kept → IsOpened d disk opened → ImageOf bytes file h
-      → Follows h last → Carries d (d.faults disk) file last may kept → LeavesOnly (d.crash (disk_of opened)) (d.crash (disk_of kept)) (IsBetween file h last)
-      → KeepsHistory d disk (disk_of opened) (disk_of kept) bytes file h last may (state_of kept)
-  keeps stand_once bytes file h last may disk opened kept law first found follows carries run = record {
-    found = found;
-    legal = carries.holds.history;
-    follows = follows;
-    once = stand_once (fits file) carries.holds.history.settings O last.entries carries.holds.history.last carries.holds.history.legal;
-    reads = carries.reads;
-    pending = carries.pending;
-    which = carries.which;
-    cause = carries.cause;
-    now = carries.holds.journal.file;
-    told = carries.holds.journal.told;
-    image = law file last carries.pending carries.holds.journal.file carries.holds (seen_is_left (disk_of kept) carries.holds.journal.file carries.holds.journal.told);
-    left = λ c left. law file last carries.pending c carries.holds left;
-    crashes = both d.crash are_crashes disk (disk_of opened) (disk_of kept) (d.crash disk).may_leave (λ (c : List ℕ). (d.crash disk).may_leave c ⊎ IsBetween file h last c) first.moments
-        (weaker d.crash are_crashes (disk_of opened) (disk_of kept) (IsBetween file h last) (λ (c : List ℕ). (d.crash disk).may_leave c ⊎ IsBetween file h last c) (λ c between. inr between) run)
-        (λ c left. inl left);
-    settled = λ before sync c left. elim (run.joins sync.at c sync.past left) [
-      | inl was ↦ at_start file h last Any c follows (inl (subst (λ (b : List ℕ). ImageOf b file h) (sym (sync.only c was)) found))
-      | inr now ↦ run.each c now
-    ];
-  }
+  pub keeps : RequestsStandOnce → (bytes file : List ℕ) (h : History) (given : List Gave) (answered : List (Stood D)) (disk : D) (opened kept : KeptOffice D d) → CrashLaw kept → IsOpened d disk opened → ImageOf bytes file h
+      → Carries d (d.faults disk) file (history_behind h given) (MayPend NonePends given) kept → LeavesOnly (d.crash (disk_of opened)) (d.crash (disk_of kept)) (IsFront NonePends given [] file h)
+      → All (λ stood. StaysSince d stood (disk_of kept) NonePends given file h) answered → KeepsHistory d disk (disk_of opened) (disk_of kept) bytes file h given answered (state_of kept)
+  keeps stand_once bytes file h given answered disk opened kept law first found carries run stay =
+      let last = history_behind h given in
+      let front = IsFront NonePends given [] file h in
+      record {
+        found = found;
+        legal = carries.holds.history;
+        follows = follows_given h given;
+        once = stand_once (fits file) carries.holds.history.settings O last.entries carries.holds.history.last carries.holds.history.legal;
+        reads = carries.reads;
+        pending = carries.pending;
+        which = carries.which;
+        cause = carries.cause;
+        now = carries.holds.journal.file;
+        told = carries.holds.journal.told;
+        image = law file last carries.pending carries.holds.journal.file carries.holds (seen_is_left (disk_of kept) carries.holds.journal.file carries.holds.journal.told);
+        left = λ c left. law file last carries.pending c carries.holds left;
+        crashes = both d.crash are_crashes disk (disk_of opened) (disk_of kept) (d.crash disk).may_leave (λ (c : List ℕ). (d.crash disk).may_leave c ⊎ front c) first.moments
+            (weaker d.crash are_crashes (disk_of opened) (disk_of kept) front (λ (c : List ℕ). (d.crash disk).may_leave c ⊎ front c) (λ c is. inr is) run)
+            (λ c left. inl left);
+        settled = λ before sync c left. elim (run.joins sync.at c sync.past left) [
+          | inl was ↦ at_start NonePends given file h c (inl (subst (λ (b : List ℕ). ImageOf b file h) (sym (sync.only c was)) found))
+          | inr now ↦ run.each c now
+        ];
+        stays = stay;
+      }

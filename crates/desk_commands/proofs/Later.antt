@@ -4,12 +4,13 @@ use Rattle.desk_traits.specs.declared.clocks.Clock.{Ghosts as Clocks}
 use Rattle.desk_traits.specs.declared.disk.Disk.{Ghosts as Disks}
 use Rattle.hazard_types.specs.declared.refusal.Refusal.{Refusal}
 use Rattle.request_json.specs.declared.asked.Asked.{Asked}
+use Rattle.office_journal.specs.Given.{Gave}
 use Rattle.office_journal.specs.Kept.{disk_of}
 use Rattle.office_journal.specs.declared.answers.Answer.{Answer}
 use Rattle.office_journal.specs.declared.answers.Answer.TheVariants.{Accepted, Repeated, Refused, DiskFault, OutOfMemory}
 use Rattle.office_journal.specs.declared.kept.KeptOffice.{KeptOffice}
 use Rattle.program_ends.specs.Lines.{fit}
-use Rattle.desk_commands.specs.Scripts.{AnswersAsked, AnswersLine, Gave, Goes, LacksMemory, Said, Scripted, Submits, faults_in, gave_in, line_asks, one_if_failed}
+use Rattle.desk_commands.specs.Scripts.{AnswersAsked, AnswersLine, Goes, LacksMemory, Said, Scripted, Submits, faults_in, gave_in, line_asks, one_if_failed}
 
 pub record Rises (n before now : ℕ) : Type 0 where
   pub later : before ≤ now

@@ -1,18 +1,18 @@
 -- What an upgrade leaves of the history.
-use Rattle.std.proofs.Common.{ℕ, ◌≡◌, ◌≢◌, ◌≤◌, ◌<◌, ◌+◌, ◌⊎◌, ◌↔◌, inl, inr, List, [], Option, None, Some, IsSome, IfSome, refl, ap, sym, ◌∙◌, subst, arith}
+use Rattle.std.proofs.Common.{ℕ, ◌≡◌, ◌≢◌, ◌≤◌, ◌<◌, ◌+◌, ◌⊎◌, ◌↔◌, inl, inr, ⊎_elim, List, [], ◌∷◌, Option, None, Some, IfSome, refl, ap, sym, ◌∙◌, subst, arith}
 use Rattle.std.proofs.Math.Nat.{lt_of_not-le}
-use Rattle.std.proofs.lemmas.List.{append-nil}
 use Rattle.desk_traits.specs.Crash.{AreCrashes, LeavesOnly}
 use Rattle.desk_traits.specs.Faults.{Rose}
 use Rattle.desk_traits.specs.File.{Only}
 use Rattle.desk_traits.specs.declared.disk.Disk.{Ghosts as Disks}
-use Rattle.desk_traits.proofs.Moments.{weaker}
+use Rattle.desk_traits.proofs.Moments.{ends, nothing, weaker}
 use Rattle.hazard_types.specs.declared.request.Edition.{Edition}
 use Rattle.hazard_types.specs.declared.request.Edition.TheVariants.{One, Two}
 use Rattle.office_core.specs.Agreement.{ReadsAsTheBoard}
 use Rattle.office_core.specs.State.{State, in_edition}
 use Rattle.office_journal.specs.Changes.{Change, Leaves, changed}
-use Rattle.office_journal.specs.Grown.{Follows, IsBetween, grown}
+use Rattle.office_journal.specs.Given.{Gave, IsFront, MayPend, history_behind}
+use Rattle.office_journal.specs.Grown.{NonePends}
 use Rattle.office_journal.specs.Histories.{History}
 use Rattle.office_journal.specs.Kept.{Holds, disk_of, gate_of, state_of}
 use Rattle.office_journal.specs.Submitting.{MayTouch}
@@ -20,13 +20,15 @@ use Rattle.office_journal.specs.declared.answers.Upgrade.{Upgrade}
 use Rattle.office_journal.specs.declared.answers.Upgrade.TheVariants as upgrade
 use Rattle.office_journal.specs.declared.kept.KeptOffice.{KeptOffice}
 use Rattle.byte_streams.specs.Flows.{Outflow}
-use Rattle.desk_commands.specs.Commands.{IsMarked, TellsUpgrade, UpgradeOutcome}
-use Rattle.office_journal.proofs.Between.{at_start, grown_follows}
-use Rattle.office_journal.proofs.Growing.{two_follows}
-use Rattle.desk_commands.proofs.Scripting.{Carries, unadded}
+use Rattle.desk_commands.specs.Commands.{IsMarked, TellsUpgrade, UpgradeOutcome, mark_given, marks_from}
+use Rattle.office_journal.proofs.Fronts.{at_start}
+use Rattle.desk_commands.proofs.Scripting.{Carries, less, pending_may, touched}
 
 in_two : (s : State) → ReadsAsTheBoard s → ReadsAsTheBoard (in_edition Two s)
 in_two s reads = record { whole = reads.whole; apart = reads.apart; lives = reads.lives; gapless = reads.gapless; rows = reads.rows }
+
+abbrev pub OnlyMark : Change → Type 0
+OnlyMark change = NonePends change ⊎ (change ≡ Change.marked)
 
 module _ {D : Type 0} (d : Disks D) (old new : KeptOffice D d) where
   -- what `upgrade` says
@@ -53,59 +55,61 @@ module _ {D : Type 0} (d : Disks D) (old new : KeptOffice D d) where
       let less = lt_of_not-le (λ (h : 268435457 ≤ gate_of old + 15). elim (says.room (says.done refl).0 (omega (arith, h))) [ inl q ↦ absurd (cc) | inr q ↦ absurd (cc) ]) in
       omega (arith, less)
 
-  -- what it comes to
-  pub outcome : (u : Upgrade) (before after : Outflow) (status : ℕ) → Says u → TellsUpgrade u before after status
-      → UpgradeOutcome d (disk_of new) old new before after status
-  outcome upgrade.Done before after status says told = inl (ap (λ (s : State). s.edition) (says.done refl).1, inr (has_room says), told)
-  outcome upgrade.Already before after status says told =
-      inl (ap (λ (s : State). s.edition) (says.state (λ q. absurd (cc))) ∙ says.already.0 refl, inl (says.already.0 refl, (says.untouched (λ q. absurd (cc)) (λ q. absurd (cc))).0), told)
-  outcome upgrade.Full before after status says told =
-      inr (inl (ap (λ (s : State). s.edition) (says.state (λ q. absurd (cc))) ∙ (says.full refl).0, (says.full refl).0, (says.full refl).1, (says.untouched (λ q. absurd (cc)) (λ q. absurd (cc))).0, told))
-  outcome upgrade.DiskFault before after status says told =
-      inr (inr (inl (ap (λ (s : State). s.edition) (says.state (λ q. absurd (cc))) ∙ (says.cause refl).0, (says.cause refl).0, (says.cause refl).1, told)))
-  outcome upgrade.OutOfMemory before after status says told =
-      inr (inr (inr (ap (λ (s : State). s.edition) (says.state (λ q. absurd (cc))), (says.untouched (λ q. absurd (cc)) (λ q. absurd (cc))).0, told)))
+  -- what it comes to, told of the disk that is handed back
+  pub outcome : (u : Upgrade) (next : D) (before after : Outflow) (status : ℕ) → Says u → next ≡ disk_of new → TellsUpgrade u before after status → UpgradeOutcome d next old new before after status
+  outcome upgrade.Done next before after status says is told = inl (ap (λ (s : State). s.edition) (says.done refl).1, inr (has_room says), told)
+  outcome upgrade.Already next before after status says is told =
+      inl (ap (λ (s : State). s.edition) (says.state (λ q. absurd (cc))) ∙ says.already.0 refl, inl (says.already.0 refl, is ∙ (says.untouched (λ q. absurd (cc)) (λ q. absurd (cc))).0), told)
+  outcome upgrade.Full next before after status says is told =
+      inr (inl (ap (λ (s : State). s.edition) (says.state (λ q. absurd (cc))) ∙ (says.full refl).0, (says.full refl).0, (says.full refl).1, is ∙ (says.untouched (λ q. absurd (cc)) (λ q. absurd (cc))).0, told))
+  outcome upgrade.DiskFault next before after status says is told =
+      inr (inr (inl (ap (λ (s : State). s.edition) (says.state (λ q. absurd (cc))) ∙ (says.cause refl).0, (says.cause refl).0, subst (λ (x : D). Rose (d.faults (disk_of old)) (d.faults x)) (sym is) (says.cause refl).1, told)))
+  outcome upgrade.OutOfMemory next before after status says is told =
+      inr (inr (inr (ap (λ (s : State). s.edition) (says.state (λ q. absurd (cc))), is ∙ (says.untouched (λ q. absurd (cc)) (λ q. absurd (cc))).0, told)))
 
   module _ (start : ℕ) (are_crashes : (x : D) → AreCrashes (d.crash x)) where
-    abbrev pub IsMark : Change → Type 0
-    IsMark change = change ≡ Change.marked
+    -- the history behind what was given
+    pub record Upgraded (file : List ℕ) (h : History) (given : List Gave) : Type 0 where
+      pub carries : Carries d start file (history_behind h given) (MayPend NonePends given) new
+      pub run : LeavesOnly (d.crash (disk_of old)) (d.crash (disk_of new)) (IsFront NonePends given [] file h)
 
-    -- the history after it
-    pub record Upgraded (file : List ℕ) (h : History) : Type 0 where
-      pub last : History
-      pub same : last.entries ≡ h.entries
-      pub follows : Follows h last
-      pub carries : Carries d start file last IsMark new
-      pub run : LeavesOnly (d.crash (disk_of old)) (d.crash (disk_of new)) (IsBetween file h last)
-
-    marks : (p next : Option Change) → IfSome p IsMark → MayTouch p Change.marked next → IfSome next IsMark
-    marks p None which may = tt
-    marks p (Some change) which (inl was) = subst (λ (o : Option Change). IfSome o IsMark) was which
-    marks p (Some change) which (inr is) = is
-
-    unmarked : (u : Upgrade) (file : List ℕ) (h : History) (pending : Option Change) → Says u → u ≢ upgrade.Done → Carries d start file h IsMark old → Holds d.seen d.crash new file h pending → IfSome pending IsMark
-        → (IsSome pending → Rose start (d.faults (disk_of new))) → Upgraded file h
-    unmarked u file h pending says not carries holds which cause =
-        let one = unadded d start are_crashes file h (λ (change : Change). (carries.pending ≡ Some change) ⊎ ((change ≡ Change.marked) × (h.edition ≡ One))) IsMark old new pending holds
-        (subst ReadsAsTheBoard (sym (says.state not)) carries.reads) (omega (arith, carries.since, says.later)) which cause (says.any_moment file h carries.pending carries.holds) in
-        record { last = grown h []; same = append-nil h.entries; follows = grown_follows h []; carries = one.0; run = one.1 }
-
-    as_it_was : (u : Upgrade) (file : List ℕ) (h : History) → Says u → u ≢ upgrade.Done → u ≢ upgrade.DiskFault → Carries d start file h IsMark old → Upgraded file h
+    -- nothing was given
+    as_it_was : (u : Upgrade) (file : List ℕ) (h : History) → Says u → u ≢ upgrade.Done → u ≢ upgrade.DiskFault → Carries d start file h NonePends old → Upgraded file h []
     as_it_was u file h says done failed carries =
         let same = says.untouched done failed in
-        unmarked u file h carries.pending says done carries (same.1 file h carries.pending carries.holds) carries.which (λ some. subst (λ (x : D). Rose start (d.faults x)) (sym same.0) (carries.cause some))
+        let front = IsFront NonePends [] [] file h in
+        record {
+          carries = record {
+            pending = carries.pending;
+            holds = same.1 file h carries.pending carries.holds;
+            now = λ c left. carries.now c (subst (λ (x : D). (d.crash x).may_leave c) same.0 left);
+            reads = subst ReadsAsTheBoard (sym (says.state done)) carries.reads;
+            since = omega (arith, carries.since, says.later);
+            which = carries.which;
+            cause = λ some. subst (λ (x : D). Rose start (d.faults x)) (sym same.0) (carries.cause some);
+          };
+          run = subst (λ (x : D). LeavesOnly (d.crash (disk_of old)) (d.crash x) front) (sym same.0)
+              (nothing d.crash are_crashes (disk_of old) front
+              (λ c left. at_start NonePends [] file h c (less file h NonePends (λ change. NonePends change ⊎ ⊥) (λ change was. inl was) c (carries.now c left))));
+        }
 
-    pub upgraded : (u : Upgrade) (file : List ℕ) (h : History) → Says u → Carries d start file h IsMark old → Upgraded file h
-    upgraded upgrade.Done file h says carries =
+    module _ (u : Upgrade) (file : List ℕ) (h : History) (says : Says u) (carries : Carries d start file h NonePends old) where
+      -- a crash at any moment leaves the history, or it with the mark
+      ran : LeavesOnly (d.crash (disk_of old)) (d.crash (disk_of new)) (Leaves file h OnlyMark)
+      ran =
+          let P : Change → Type 0 = λ change. (carries.pending ≡ Some change) ⊎ ((change ≡ Change.marked) × (h.edition ≡ One)) in
+          weaker d.crash are_crashes (disk_of old) (disk_of new) (Leaves file h P) (Leaves file h OnlyMark)
+          (less file h P OnlyMark (λ change is. ⊎_elim (λ was. inl (pending_may carries.pending NonePends carries.which change was)) (λ mark. inr mark.0) is))
+          (says.any_moment file h carries.pending carries.holds)
+
+    pub upgraded : (u : Upgrade) (file : List ℕ) (h : History) (next : D) (before after : Outflow) (status : ℕ) (says : Says u) (is : next ≡ disk_of new) (told : TellsUpgrade u before after status)
+        → Carries d start file h NonePends old → Upgraded file h (mark_given d next old new before after status (outcome u next before after status says is told))
+    unfolding outcome
+    upgraded upgrade.Done file h next before after status says is told carries =
         let done = says.done refl in
         let held = (done.2 file h carries.pending carries.holds).0 in
-        let P : Change → Type 0 = λ change. (carries.pending ≡ Some change) ⊎ ((change ≡ Change.marked) × (h.edition ≡ One)) in
-        let last = changed h Change.marked in
-        let follows : Follows h last = record { entries = []; behind = sym (append-nil h.entries); edition = two_follows h.edition } in
-        record {
-          last = last;
-          same = refl;
-          follows = follows;
+        let given : List Gave = Gave.added Change.marked ∷ [] in
+        subst (λ (gave : List Gave). Upgraded file h gave) (sym (ap marks_from done.0)) (record {
           carries = record {
             pending = None;
             holds = held;
@@ -115,16 +119,31 @@ module _ {D : Type 0} (d : Disks D) (old new : KeptOffice D d) where
             which = tt;
             cause = λ some. absurd (cc);
           };
-          run = weaker d.crash are_crashes (disk_of old) (disk_of new) (Leaves file h P) (IsBetween file h last)
-              (λ c leaves. at_start file h last P c follows leaves)
-              (says.any_moment file h carries.pending carries.holds);
-        }
-    upgraded upgrade.Already file h says carries = as_it_was upgrade.Already file h says (λ q. absurd (cc)) (λ q. absurd (cc)) carries
-    upgraded upgrade.Full file h says carries = as_it_was upgrade.Full file h says (λ q. absurd (cc)) (λ q. absurd (cc)) carries
-    upgraded upgrade.DiskFault file h says carries =
+          run = weaker d.crash are_crashes (disk_of old) (disk_of new) (Leaves file h OnlyMark) (IsFront NonePends given [] file h)
+              (λ c leaves. at_start NonePends given file h c leaves) (ran upgrade.Done file h says carries);
+        })
+    upgraded upgrade.Already file h next before after status says is told carries =
+        subst (λ (gave : List Gave). Upgraded file h gave) (sym (ap marks_from (says.already.0 refl)))
+        (as_it_was upgrade.Already file h says (λ q. absurd (cc)) (λ q. absurd (cc)) carries)
+    upgraded upgrade.Full file h next before after status says is told carries = as_it_was upgrade.Full file h says (λ q. absurd (cc)) (λ q. absurd (cc)) carries
+    upgraded upgrade.DiskFault file h next before after status says is told carries =
         let held = says.failed refl file h carries.pending carries.holds in
-        unmarked upgrade.DiskFault file h held.0 says (λ q. absurd (cc)) carries held.2 (marks carries.pending held.0 carries.which held.1) (λ some. omega (arith, carries.since, (says.cause refl).1))
-    upgraded upgrade.OutOfMemory file h says carries = as_it_was upgrade.OutOfMemory file h says (λ q. absurd (cc)) (λ q. absurd (cc)) carries
+        let given : List Gave = Gave.faulted Change.marked ∷ [] in
+        let P = Leaves file h OnlyMark in
+        let run = ran upgrade.DiskFault file h says carries in
+        record {
+          carries = record {
+            pending = held.0;
+            holds = held.2;
+            now = λ c left. ends d.crash are_crashes (disk_of old) (disk_of new) P run c left;
+            reads = subst ReadsAsTheBoard (sym (says.state (λ q. absurd (cc)))) carries.reads;
+            since = omega (arith, carries.since, says.later);
+            which = touched NonePends Change.marked carries.pending held.0 carries.which held.1;
+            cause = λ some. omega (arith, carries.since, (says.cause refl).1);
+          };
+          run = weaker d.crash are_crashes (disk_of old) (disk_of new) P (IsFront NonePends given [] file h) (λ c leaves. at_start NonePends given file h c leaves) run;
+        }
+    upgraded upgrade.OutOfMemory file h next before after status says is told carries = as_it_was upgrade.OutOfMemory file h says (λ q. absurd (cc)) (λ q. absurd (cc)) carries
 
     only_mark : (h : History) (file : List ℕ) (c : List ℕ) → Leaves file h (λ (change : Change). (None ≡ Some change) ⊎ ((change ≡ Change.marked) × (h.edition ≡ One))) c → Leaves file h (λ (change : Change). (change ≡ Change.marked) × (h.edition ≡ One)) c
     only_mark h file c (inl image) = inl image
@@ -137,10 +156,10 @@ module _ {D : Type 0} (d : Disks D) (old new : KeptOffice D d) where
         weaker d.crash are_crashes (disk_of old) (disk_of new) (Leaves file h (λ (change : Change). (None ≡ Some change) ⊎ ((change ≡ Change.marked) × (h.edition ≡ One)))) (Leaves file h (λ (change : Change). (change ≡ Change.marked) × (h.edition ≡ One)))
         (λ c leaves. only_mark h file c leaves) (says.any_moment file h None holds)
 
-    touched : (p : Option Change) → MayTouch None Change.marked p → IfSome p (λ (change : Change). change ≡ Change.marked)
-    touched None may = tt
-    touched (Some change) (inl never) = absurd (cc)
-    touched (Some change) (inr is) = is
+    mark_alone : (p : Option Change) → MayTouch None Change.marked p → IfSome p (λ (change : Change). change ≡ Change.marked)
+    mark_alone None may = tt
+    mark_alone (Some change) (inl never) = absurd (cc)
+    mark_alone (Some change) (inr is) = is
 
     -- the history is held in the edition of the office
     in_its_edition : (file : List ℕ) (h : History) (p : Option Change) → Holds d.seen d.crash new file h p → Holds d.seen d.crash new file (record { entries = h.entries; edition = (state_of new).edition }) p
@@ -172,7 +191,7 @@ module _ {D : Type 0} (d : Disks D) (old new : KeptOffice D d) where
         let one : (state_of new).edition ≡ One = ap (λ (s : State). s.edition) (says.state (λ q. absurd (cc))) ∙ (says.cause refl).0 in
         record {
           pending = failed.0;
-          mark = touched failed.0 failed.1;
+          mark = mark_alone failed.0 failed.1;
           none = λ q. absurd (let f = sym one ∙ q in cc);
           holds = in_its_edition file h failed.0 failed.2;
           moments = moments_of upgrade.DiskFault file h says holds;

@@ -1,5 +1,5 @@
 -- How an office is opened from the journal that a disk holds.
-use Rattle.std.specs.Prelude.{◌≡◌, ◌≤◌, ℕ, List, [], Option, None, Some}
+use Rattle.std.specs.Prelude.{◌≡◌, ◌≤◌, ℕ, List, [], None, Some}
 use Rattle.byte_streams.specs.Flows.{Inflow, Outflow}
 use Rattle.desk_traits.specs.Crash.{LeavesOnly}
 use Rattle.desk_traits.specs.declared.disk.Disk.{Ghosts as Disks}

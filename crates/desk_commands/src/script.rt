@@ -6,7 +6,8 @@ ghost use Rattle.request_json.specs.Replies.{out_of_memory_text};
 ghost use Rattle.program_ends.specs.Replies.{bytes_of};
 ghost use Rattle.desk_commands.specs.Opening.{IsOpened, IsUnopenedRun, IsUnread};
 ghost use Rattle.desk_commands.specs.Lines.{ended, refusal_line};
-ghost use Rattle.desk_commands.specs.Scripts.{Gave, IsJudged};
+ghost use Rattle.office_journal.specs.Given.{Gave};
+ghost use Rattle.desk_commands.specs.Scripts.{IsJudged};
 ghost use Rattle.desk_commands.specs.Commands.{AnswersLines, IsScriptRun};
 ghost use Rattle.desk_commands.specs.Held.{HasReferences, scripted};
 

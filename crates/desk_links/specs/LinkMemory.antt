@@ -1,9 +1,9 @@
 -- What links, doors and ports in memory hold.
-use Rattle.std.proofs.Common.{◌≡◌, ◌⊎◌, ◌↔◌, ◌+◌, ◌-◌, ◌^◌, ℕ, zero, suc, List, [], ◌∷◌, ◌++◌, length, map, min, drop, Bool, Some, Result, IfOk, OnErr, IsErr, false, refl, ◌∙◌, ap}
+use Rattle.std.proofs.Common.{◌≡◌, ◌⊎◌, ◌↔◌, ◌+◌, ◌-◌, ◌^◌, ℕ, zero, suc, List, [], ◌∷◌, ◌++◌, length, map, min, take, drop, Bool, Some, Result, IfOk, OnErr, IsErr, false, refl, sym, ◌∙◌, ap, take-append-drop}
 use Rattle.std.specs.Prelude.{Contains}
 use Rattle.desk_traits.specs.Faults.{next_count}
 use Rattle.byte_streams.specs.Flows.{Inflow, Outflow, inflow, outflow}
-use Rattle.desk_links.specs.Links.{DoorState, EndsIn, IsNew, IsUnused, KeepsInput, KeepsOutput, LinkState, PortState}
+use Rattle.desk_links.specs.Links.{BeginsLeft, DoorState, EndsIn, IsNew, IsUnused, KeepsInput, KeepsOutput, LinkState, PortState}
 
 -- a link in memory: the bytes read and those left, the bytes written, the most that it gives at once, the calls that fail, how many were made, how many reads and how many writes failed, and whether memory has lacked for a write
 pub record LinkInMemory : Type 0 where
@@ -182,6 +182,13 @@ keeps_input old new k = (
   inflows old.left new.left old.read_faults new.read_faults k.left k.faults,
   ap (λ (l : List ℕ). Some l) (ap (λ (l : List ℕ). l ++ new.left) k.read ∙ ap (λ (l : List ℕ). old.read ++ l) k.left),
 )
+
+-- the bytes that its next read may give
+abbrev pub next_piece : LinkInMemory → List ℕ
+next_piece l = take l.piece l.left
+
+pub begins_left : (l : LinkInMemory) → BeginsLeft (Some l.left) (next_piece l)
+begins_left l = (drop l.piece l.left, sym (take-append-drop l.piece l.left))
 
 pub ends_in : (l : LinkInMemory) → EndsIn (Some (l.read ++ l.left)) (Some l.left)
 ends_in l = (l.read, l.left, refl, refl)

@@ -1,5 +1,5 @@
 -- What links, doors, dialers and ports show, and what is done to that.
-use Rattle.std.specs.Prelude.{◌≡◌, ◌≤◌, ◌+◌, ◌-◌, ◌^◌, ℕ, List, [], ◌∷◌, ◌++◌, length, min, take, Option, None, Some, option_map, Result, IfOk, OnOk, OnErr}
+use Rattle.std.specs.Prelude.{◌≡◌, ◌≤◌, ◌+◌, ◌-◌, ◌^◌, ℕ, List, [], ◌∷◌, ◌++◌, length, min, take, Option, None, Some, option_map, Result, Ok, Err, IfOk, OnOk, OnErr}
 use Rattle.desk_traits.specs.Faults.{HasCause}
 use Rattle.byte_streams.specs.Flows.{Adds, Gives, Inflow, Outflow}
 
@@ -33,6 +33,16 @@ pub record ReadsLink {E : Type 0} (old new : LinkState) (result : Result ℕ E) 
   pub steady : OnOk result (new.input.faults ≡ old.input.faults)
   pub came : new.came ≡ old.came
   pub output : new.output ≡ old.output
+
+-- where what is left is told, the bytes begin it
+abbrev pub BeginsLeft : Option (List ℕ) → List ℕ → Type 0
+BeginsLeft None bytes = Unit {0}
+BeginsLeft (Some left) bytes = (rest : List ℕ) × (left ≡ bytes ++ rest)
+
+-- a read for no more bytes than are held gives just these
+abbrev pub HandsOut : {E : Type 0} → List ℕ → Result ℕ E → List ℕ → Type 0
+HandsOut held (Ok n) buffer = length buffer ≤ length held → (n ≡ length buffer) × (buffer ≡ take n held)
+HandsOut held (Err e) buffer = Unit {0}
 
 -- a write of a whole text on a link, or of a front of it before a fault
 pub record WritesLink {E : Type 0} (old new : LinkState) (result : Result (Unit {0}) E) (bytes : List ℕ) : Type 0 where

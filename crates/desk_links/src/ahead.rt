@@ -47,6 +47,13 @@ impl Ahead {
         self.bytes[self.from..self.to].is_empty()
     }
 
+    /// The bytes that are left.
+    pub fn as_slice(&self) -> &[u8]
+        ensures { result.now ≡ self.now }
+    {
+        &self.bytes[self.from..self.to]
+    }
+
     /// Reads a source once, where no byte is left. Then none is left exactly at the source's end.
     ///
     /// # Errors

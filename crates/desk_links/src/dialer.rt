@@ -1,12 +1,20 @@
 //! A dialer, which gives links to the other side of a port.
-ghost use Rattle.std.specs.Prelude.{◌≡◌, ◌<◌, ◌+◌, ◌^◌, length, IfOk};
-ghost use Rattle.desk_links.specs.Links.{DialerState, GivesLink, ReadsLink, with_count};
+ghost use Rattle.std.specs.Prelude.{◌≡◌, ◌<◌, ◌+◌, ◌^◌, ℕ, List, length, IfOk};
+ghost use Rattle.desk_links.specs.Links.{BeginsLeft, DialerState, GivesLink, HandsOut, ReadsLink};
+ghost use Rattle.desk_links.specs.Links.{with_count};
 
 use crate::link::Link;
 use desk_traits::Failed;
 
 /// A link of which a read fails where the other side's bytes end, so that the end is counted.
 pub trait Peer: Link {
+    /// The bytes that it holds already, which the next reads hand out.
+    ghost held: { Self → List ℕ };
+
+    /// The bytes that it holds already. There may be none.
+    fn waiting(&self) -> &[u8]
+        ensures { result.now ≡ held self.now };
+
     /// Its read, for a buffer that has room: it gives at least one byte.
     ///
     /// # Errors
@@ -15,7 +23,12 @@ pub trait Peer: Link {
     fn read_some(&mut self, into: &mut [u8]) -> Result<usize, Failed>
         requires { 0 < length into.old }
         ensures read { ReadsLink (Self.state self.old) (Self.state self.new) result into.new }
-        ensures some { IfOk result (λ n. 0 < n) };
+        ensures some { IfOk result (λ n. 0 < n) }
+        ensures waited { HandsOut (held self.old) result into.new };
+
+    /// Where what is left is told, what it holds begins it.
+    ghost held_first: { (peer : Self)
+        → BeginsLeft (Self.Link.state peer).input.left (held peer) };
 }
 
 /// Gives links, one at a time, and takes each back with its count.

@@ -3,9 +3,10 @@ ghost use Rattle.std.specs.Prelude.{◌≡◌, ◌⊎◌, ◌<◌, ◌+◌, ◌+
 ghost use Rattle.std.specs.Prelude.{length, min, Some, Contains, IfOk, OnOk, OnErr, IsErr};
 ghost use Rattle.desk_traits.specs.Faults.{next_count};
 ghost use Rattle.byte_streams.specs.Flows.{Reads};
-ghost use Rattle.desk_links.specs.Links.{GivesLink, with_count};
+ghost use Rattle.desk_links.specs.Links.{GivesLink, HandsOut, with_count};
 ghost use Rattle.desk_links.specs.LinkMemory.{IsUntouched, KeepsIn, KeepsOut, Lends, door_state};
 ghost use Rattle.desk_links.specs.LinkMemory.{door_with, link_input, link_output, link_state};
+ghost use Rattle.desk_links.specs.LinkMemory.{next_piece};
 
 use crate::dialer::{Dialer, Peer};
 use crate::lent::LentLinks;
@@ -63,6 +64,9 @@ impl Source for MemPeer {
         ensures amount { IfOk result
             (λ n. n ≡ min (min (length self.old.left) self.old.piece) (length into.old)) }
         ensures called { self.new.calls ≡ next_count self.old.calls }
+
+        // A read for no more than the next piece has is given its front.
+        ensures waited { HandsOut (next_piece self.old) result into.new }
     {
         if !into.is_empty() && self.link.is_at_end() {
             self.link.fail_read();
@@ -106,6 +110,16 @@ impl Link for MemPeer {
 }
 
 impl Peer for MemPeer {
+    ghost use Rattle.desk_links.specs.LinkMemory.{begins_left};
+
+    ghost held = { next_piece };
+
+    ghost held_first = { begins_left };
+
+    fn waiting(&self) -> &[u8] {
+        self.link.next_piece()
+    }
+
     fn read_some(&mut self, into: &mut [u8]) -> Result<usize, Failed> {
         self.read(into)
     }

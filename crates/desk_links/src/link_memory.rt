@@ -5,7 +5,7 @@ ghost use Rattle.desk_traits.specs.Faults.{next_count};
 ghost use Rattle.byte_streams.specs.Flows.{Reads, Writes};
 ghost use Rattle.byte_streams.specs.StreamMemory.{FailsAsTold};
 ghost use Rattle.desk_links.specs.LinkMemory.{KeepsIn, KeepsOut, link_input, link_output};
-ghost use Rattle.desk_links.specs.LinkMemory.{link_with, with_failed_read};
+ghost use Rattle.desk_links.specs.LinkMemory.{link_with, next_piece, with_failed_read};
 
 use crate::link::Link;
 use byte_streams::{Sink, Source};
@@ -82,6 +82,14 @@ impl MemLink {
         ensures { IsTrue result ↔ (self.now.left ≡ []) }
     {
         self.bytes.as_slice()[self.at..].is_empty()
+    }
+
+    // The bytes that its next read may give.
+    pub(crate) fn next_piece(&self) -> &[u8]
+        ensures { result.now ≡ next_piece self.now }
+    {
+        let rest = &self.bytes.as_slice()[self.at..];
+        &rest[..rest.len().min(self.piece)]
     }
 
     // Counts a read, and that it failed.

@@ -1,6 +1,7 @@
 //! The dialer of the system, over TCP on this machine's own address. It is trusted.
 ghost use Rattle.std.specs.Prelude.{◌≡◌, ◌≢◌, ◌<◌, ◌++◌, [], take, None, length, IfOk, OnOk};
 ghost use Rattle.byte_streams.specs.Flows.{Reads};
+ghost use Rattle.desk_links.specs.Links.{HandsOut};
 ghost use Rattle.desk_links.specs.LinkLaws.{untold_input, untold_output};
 
 use crate::ahead::Ahead;
@@ -35,6 +36,7 @@ impl<C: Clock> Source for TcpPeer<C> {
         // What waits is handed out first, in its order, and nothing of it is lost.
         ensures waiting { self.old.ahead ≢ []
             → IfOk result (λ n. self.old.ahead ≡ take n into.new ++ self.new.ahead) }
+        ensures waited { HandsOut self.old.ahead result into.new }
     {
         if self.ahead.is_empty() && !into.is_empty() {
             self.ahead.fill(&mut self.link)?;
@@ -86,6 +88,14 @@ impl<C: Clock> Link for TcpPeer<C> {
 }
 
 impl<C: Clock> Peer for TcpPeer<C> {
+    ghost held = { λ p. p.ahead };
+
+    ghost held_first = { λ _. tt };
+
+    fn waiting(&self) -> &[u8] {
+        self.ahead.as_slice()
+    }
+
     fn read_some(&mut self, into: &mut [u8]) -> Result<usize, Failed> {
         self.read(into)
     }

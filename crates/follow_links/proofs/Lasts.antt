@@ -4,7 +4,7 @@ use Rattle.std.proofs.lemmas.List.{same_from_push}
 use Rattle.httparse.specs.Grammar.{ResponseHead, print_response, ReadsResponse, HasNoResponse}
 
 -- a list that has a last one
-parted : (x : ℕ) (xs : List ℕ) → (front : List ℕ) × (last : ℕ) × (x ∷ xs ≡ front ++ last ∷ [])
+pub parted : (x : ℕ) (xs : List ℕ) → (front : List ℕ) × (last : ℕ) × (x ∷ xs ≡ front ++ last ∷ [])
 parted x [] = ([], x, refl)
 parted x (y ∷ ys) = let p = parted y ys in (x ∷ p.0, p.1, ap (λ (l : List ℕ). x ∷ l) p.2)
 

@@ -1,15 +1,19 @@
 -- What is read of an answer, step by step.
-use Rattle.std.proofs.Common.{◌≡◌, ◌∙◌, ◌≤◌, ◌<◌, ◌+◌, ◌⊎◌, inl, inr, true, ℕ, List, [], ◌∷◌, ◌++◌, length, take, drop, Option, Some, Ok, Err, refl, sym, ap, arith, subst, append-nil, length-append}
+use Rattle.std.proofs.Common.{◌≡◌, ◌∙◌, ◌≤◌, ◌<◌, ◌+◌, ◌-◌, ◌⊎◌, inl, inr, true, ℕ, List, [], ◌∷◌, ◌++◌, length, take, drop, Option, Some, None, Ok, Err, refl, sym, ap, arith, subst, append-nil, append_assoc, length-append}
+use Rattle.std.proofs.lemmas.List.{take_at, take-append-le, take-append-drop}
+use Rattle.std.proofs.Math.Seq.{take-append-add}
+use Rattle.std.proofs.Math.Decide.{dec_lt}
 use Rattle.byte_streams.specs.Flows.{Takes}
 use Rattle.httparse.specs.Grammar.{ResponseHead, print_response, ReadsResponse, HasNoResponse, MayBecomeResponse}
-use Rattle.follow_links.specs.Answers.{HasBadHead, WasCutHead, IsFront, is_known}
-use Rattle.follow_links.specs.Readings.{HasShape, Says, Gains, ReadsMore, ReadsBody, ReadsHead, ReadsAnswer}
-use Rattle.follow_links.specs.declared.answers.Head.TheVariants.{Bad, Whole}
+use Rattle.follow_links.specs.Answers.{HasBadHead, IsCutHead, WasCutHead, IsFront, is_known}
+use Rattle.follow_links.specs.Readings.{HasShape, Says, Gains, Foresees, ReadsMore, ReadsOn, ReadsBody, ReadsHead, ReadsAnswer}
+use Rattle.follow_links.specs.declared.answers.Head.{Head}
+use Rattle.follow_links.specs.declared.answers.Head.TheVariants.{More, Bad, Whole}
 use Rattle.follow_links.specs.declared.answers.Shape.{Shape}
 use Rattle.follow_links.specs.declared.reading.Miss.{Miss}
 use Rattle.follow_links.specs.declared.reading.Miss.TheVariants as miss
 use Rattle.follow_links.proofs.Joining.{takes_more}
-use Rattle.follow_links.proofs.Lasts.{nothing_behind}
+use Rattle.follow_links.proofs.Lasts.{nothing_behind, parted}
 
 -- a read that failed behind what was read
 pub body_stops : (left mid end : Option (List ℕ)) (old now new : List ℕ) (wanted most : ℕ) (m : Miss)
@@ -20,15 +24,81 @@ body_stops left mid end old now new wanted most miss.Failed p few h =
 body_stops left mid end old now new wanted most miss.Bad p few h = absurd h
 body_stops left mid end old now new wanted most miss.OutOfMemory p few h = (p.0 ++ h.0, takes_more left mid end p.0 h.0 p.1 h.1)
 
-pub head_stops : (left mid end : Option (List ℕ)) (now new : List ℕ) (most : ℕ) (m : Miss)
-    → Takes left mid now → HasNoResponse now → (now ≡ []) ⊎ MayBecomeResponse now → length now < 8192
-    → ReadsMore mid end now new most (Err m) → ReadsHead left end new (Err m)
-head_stops left mid end now new most miss.Failed t none may few h = (
-  subst (λ (e : Option (List ℕ)). Takes left e new) (sym h.0) (subst (Takes left mid) (sym h.1) t),
-  subst IsFront (sym h.1) (inl (none, few, may)),
+pub gains_wide : (left left' : Option (List ℕ)) (old new : List ℕ) (most : ℕ) → most ≤ 8192 → Gains left left' old new most → Gains left left' old new 8192
+gains_wide left left' old new most le g = record {
+  piece = g.piece;
+  takes = g.takes;
+  behind = g.behind;
+  some = g.some;
+  few = omega (arith, g.few, le);
+}
+
+-- a front of what is no head yet
+
+pub front_none : (front more : List ℕ) → HasNoResponse (front ++ more) → HasNoResponse front
+front_none front more none h rest r =
+    none h (rest ++ more) (r.0, ap (λ (l : List ℕ). l ++ more) r.1 ∙ append_assoc (print_response h) rest more)
+
+pub front_may : (front more : List ℕ) → MayBecomeResponse (front ++ more) → MayBecomeResponse front
+front_may front more may = (more ++ may.0, may.1, (may.2.0, sym (append_assoc front more may.0) ∙ may.2.1))
+
+-- 8,192 bytes that are no head
+pub full_is_bad : (bytes : List ℕ) → 8192 ≤ length bytes → length bytes ≤ 8192 → HasNoResponse bytes → (bytes ≡ []) ⊎ MayBecomeResponse bytes → HasBadHead bytes
+full_is_bad bytes many few none (inl empty) = absurd (omega (arith, many, ap length empty))
+full_is_bad [] many few none (inr may) = absurd (omega (arith, many))
+full_is_bad (x ∷ xs) many few none (inr may) =
+    let p = parted x xs in
+    let none' = subst HasNoResponse p.2 none in
+    let may' = subst MayBecomeResponse p.2 may in (
+      inr (inl (many, none)),
+      (p.0, p.1, p.2, (front_none p.0 (p.1 ∷ []) none', omega (arith, few, ap length p.2, length-append p.0 (p.1 ∷ [])), inr (front_may p.0 (p.1 ∷ []) may'))),
+    )
+
+-- the head that the bytes that were read and those that wait begin with ends among the latter
+module _ (bytes waiting : List ℕ) (none : HasNoResponse bytes) (s : Shape) (h : ResponseHead) (rest : List ℕ) (reads : ReadsResponse (bytes ++ waiting) h rest) (is : HasShape h s) where
+  first_ones : take s.from (bytes ++ waiting) ≡ print_response h
+  first_ones = ap (take s.from) reads.1 ∙ take_at (print_response h) rest s.from (sym is.from)
+
+  not_before : s.from ≤ length bytes → ⊥
+  not_before le =
+      let front : take s.from bytes ≡ print_response h = sym (take-append-le s.from bytes waiting le) ∙ first_ones in
+      none h (drop s.from bytes) (reads.0, sym (take-append-drop s.from bytes) ∙ ap (λ (l : List ℕ). l ++ drop s.from bytes) front)
+
+  ends_behind : Dec (length bytes < s.from) → length bytes < s.from
+  ends_behind (yes lt) = lt
+  ends_behind (no ge) = absurd (not_before (omega (arith, ge)))
+
+  within : s.from ≤ length bytes + length waiting
+  within = omega (arith, ap length reads.1, length-append bytes waiting, length-append (print_response h) rest, is.from)
+
+  just_head : length bytes < s.from → bytes ++ take (s.from - length bytes) waiting ≡ print_response h
+  just_head lt =
+      let parts : length bytes + (s.from - length bytes) ≡ s.from = omega (arith, lt) in
+      sym (take-append-add bytes waiting (s.from - length bytes)) ∙ (ap (λ (n : ℕ). take n (bytes ++ waiting)) parts ∙ first_ones)
+
+  whole_foreseen : Foresees bytes waiting (Whole s)
+  whole_foreseen =
+      let lt = ends_behind (dec_lt (length bytes) s.from) in
+      (lt, within, (h, (reads.0, just_head lt ∙ sym (append-nil (print_response h))), is))
+
+pub foreseen : (bytes waiting : List ℕ) (head : Head) → HasNoResponse bytes → Says (bytes ++ waiting) head → Foresees bytes waiting head
+foreseen bytes waiting More none says = says
+foreseen bytes waiting Bad none says = tt
+foreseen bytes waiting (Whole s) none says = whole_foreseen bytes waiting none s says.0 says.1 says.2 says.3
+
+-- a part of a head behind what was read before
+
+pub on_taken : (first mid last : Option (List ℕ)) (now new : List ℕ) → Takes first mid now → Gains mid last now new 8192 → Takes first last new
+on_taken first mid last now new t g = subst (Takes first last) (sym g.behind) (takes_more first mid last now g.piece t g.takes)
+
+pub head_stops : (first mid last : Option (List ℕ)) (now new : List ℕ) (m : Miss)
+    → Takes first mid now → IsCutHead now → ReadsOn mid last now new (Err m) → ReadsHead first last new (Err m)
+head_stops first mid last now new miss.Failed t cut h = (
+  subst (λ (e : Option (List ℕ)). Takes first e new) (sym h.0) (subst (Takes first mid) (sym h.1) t),
+  subst IsFront (sym h.1) (inl cut),
 )
-head_stops left mid end now new most miss.Bad t none may few h = absurd h
-head_stops left mid end now new most miss.OutOfMemory t none may few h = (now ++ h.0, takes_more left mid end now h.0 t h.1)
+head_stops first mid last now new miss.Bad t cut h = (on_taken first mid last now new t h.0, h.1)
+head_stops first mid last now new miss.OutOfMemory t cut h = (now ++ h.0, takes_more first mid last now h.0 t h.1)
 
 one_byte : (piece : List ℕ) → 1 ≤ length piece → length piece ≤ 1 → (byte : ℕ) × (piece ≡ byte ∷ [])
 one_byte [] some few = absurd (omega (arith, some))

@@ -1,5 +1,5 @@
 -- What the parts of a reading say of the bytes that were read.
-use Rattle.std.specs.Prelude.{◌≡◌, ◌≤◌, ◌<◌, ◌⊎◌, ◌++◌, ℕ, true, List, [], length, Option, Some, Result, Ok, Err, IsErrOf}
+use Rattle.std.specs.Prelude.{◌≡◌, ◌≤◌, ◌<◌, ◌⊎◌, ◌++◌, ◌+◌, ◌-◌, ℕ, true, List, [], length, take, Option, None, Some, Result, Ok, Err, IsErrOf}
 use Rattle.desk_traits.specs.Faults.{Rose}
 use Rattle.byte_streams.specs.Flows.{Takes}
 use Rattle.httparse.specs.Grammar.{ResponseHead, print_response, ReadsResponse, HasNoResponse, NeverHasResponse, MayBecomeResponse, status_code}
@@ -63,6 +63,28 @@ ReadsBody left left' old new wanted (Ok u) = (piece : List ℕ) × Takes left le
 ReadsBody left left' old new wanted (Err miss.Failed) = (piece : List ℕ) × Takes left left' piece × (new ≡ old ++ piece) × (length new < wanted)
 ReadsBody left left' old new wanted (Err miss.Bad) = ⊥
 ReadsBody left left' old new wanted (Err miss.OutOfMemory) = TakesSome left left'
+
+-- what the head at the front of the bytes that were read and those that wait says of the first of
+-- these: all are read; so many, which end it; or nothing
+abbrev pub Foresees : List ℕ → List ℕ → Head → Type 0
+Foresees bytes waiting More = HasNoResponse (bytes ++ waiting) × MayBecomeResponse (bytes ++ waiting)
+Foresees bytes waiting Bad = Unit {0}
+Foresees bytes waiting (Whole shape) =
+    (length bytes < shape.from) × (shape.from ≤ length bytes + length waiting)
+    × ((h : ResponseHead) × ReadsResponse (bytes ++ take (shape.from - length bytes) waiting) h [] × HasShape h shape)
+
+-- the bytes are a head of this shape, which is short
+abbrev pub IsHead : List ℕ → Shape → Type 0
+IsHead bytes shape = (h : ResponseHead) × ReadsResponse bytes h [] × (length (print_response h) ≤ 8192) × HasShape h shape
+
+-- bytes of a head were read behind those before: it may still come, it ends with them, or they decide
+-- that it is bad
+abbrev pub ReadsOn : Option (List ℕ) → Option (List ℕ) → List ℕ → List ℕ → Result (Option Shape) Miss → Type 0
+ReadsOn left left' old new (Ok None) = Gains left left' old new 8192 × (length new ≤ 8192) × HasNoResponse new × MayBecomeResponse new
+ReadsOn left left' old new (Ok (Some shape)) = Gains left left' old new 8192 × IsHead new shape
+ReadsOn left left' old new (Err miss.Failed) = (left' ≡ left) × (new ≡ old)
+ReadsOn left left' old new (Err miss.Bad) = Gains left left' old new 8192 × HasBadHead new
+ReadsOn left left' old new (Err miss.OutOfMemory) = TakesSome left left'
 
 -- all bytes that were read of a link, none before, and what they are
 abbrev pub ReadsHead : Option (List ℕ) → Option (List ℕ) → List ℕ → Result Shape Miss → Type 0

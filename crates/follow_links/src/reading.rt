@@ -1,15 +1,21 @@
 //! One answer is read off a link, and nothing behind it.
-ghost use Rattle.std.specs.Prelude.{◌≡◌, ◌≤◌, ◌<◌, [], length, take, IfOk, OnOk, OnErr};
+ghost use Rattle.std.specs.Prelude.{◌≡◌, ◌≤◌, ◌<◌, ◌+◌, ◌++◌, [], length, take, IfOk, OnOk, OnErr};
 ghost use Rattle.desk_traits.specs.Faults.{HasCause};
 ghost use Rattle.byte_streams.specs.Flows.{Takes};
 ghost use Rattle.desk_links.specs.Links.{KeepsOutput};
+ghost use Rattle.httparse.specs.Grammar.{HasNoResponse};
+ghost use Rattle.follow_links.specs.Answers.{IsCutHead};
 ghost use Rattle.follow_links.specs.Readings.{ReadsMore, ReadsBody, ReadsHead, ReadsAnswer, IsCause};
+ghost use Rattle.follow_links.specs.Readings.{Foresees, ReadsOn};
 
 use crate::answers::{Head, MOST_BYTES, Shape, head_of};
 use desk_links::Peer;
 use desk_traits::Failed;
 use hazard_types::{Oom, Text};
 use httparse::spans::HeaderSpan;
+
+/// The most bytes of a head that are read at once.
+const AT_ONCE: usize = 512;
 
 /// Why no whole answer was read.
 #[derive(Clone, Copy, Debug, PartialEq, Eq)]
@@ -37,6 +43,8 @@ fn read_up_to<L: Peer>(link: &mut L, buffer: &mut [u8], room: usize) -> Result<u
     ensures taken { IfOk result (λ count. (1 ≤ count) × (count ≤ room) × (count ≤ length buffer.new)
         × Takes (L.state link.old).input.left (L.state link.new).input.left
         (take count buffer.new)) }
+    ensures held { IfOk result (λ count. room ≤ length (L.held link.old)
+        → take count buffer.new ≡ take room (L.held link.old)) }
     ensures failed { OnErr result ((L.state link.new).input.left ≡ (L.state link.old).input.left) }
     ensures cause { HasCause
         (L.state link.old).input.faults (L.state link.new).input.faults result }
@@ -59,6 +67,8 @@ fn read_more<L: Peer>(
     requires buffer { 1 ≤ length buffer.old }
     ensures read { ReadsMore (L.state link.old).input.left (L.state link.new).input.left
         bytes.old bytes.new most result }
+    ensures held { OnOk result (most ≤ length (L.held link.old) → most ≤ length buffer.old
+        → bytes.new ≡ bytes.old ++ take most (L.held link.old)) }
     ensures kept { length buffer.new ≡ length buffer.old }
     ensures cause { IsCause (L.state link.old).input.faults (L.state link.new).input.faults result }
     ensures beside { KeepsOutput (L.state link.old) (L.state link.new) }
@@ -71,7 +81,90 @@ fn read_more<L: Peer>(
     Ok(())
 }
 
-/// Reads a head, a byte at a time, so that nothing behind it is read.
+/// The head at the front of the bytes that were read and those that wait.
+fn look_ahead(
+    bytes: &Text,
+    waiting: &[u8],
+    fields: &mut [HeaderSpan],
+) -> Result<Head, Oom>
+    requires short { length bytes.now + length waiting.now ≤ 8192 }
+    requires none { HasNoResponse bytes.now }
+    requires room { length fields.old ≡ 2731 }
+    ensures foresees { IfOk result (λ head. Foresees bytes.now waiting.now head) }
+    ensures kept { length fields.new ≡ 2731 }
+{
+    let mut both = bytes.clone()?;
+    both.extend(waiting)?;
+    Ok(head_of(both.as_slice(), fields))
+}
+
+/// Reads one byte of a head, and tells the head that ends with it.
+fn read_byte<L: Peer>(
+    link: &mut L,
+    fields: &mut [HeaderSpan],
+    buffer: &mut [u8],
+    bytes: &mut Text,
+) -> Result<Option<Shape>, Miss>
+    requires cut { IsCutHead bytes.old }
+    requires room { length fields.old ≡ 2731 }
+    requires buffer { 1 ≤ length buffer.old }
+    ensures read { ReadsOn (L.state link.old).input.left (L.state link.new).input.left
+        bytes.old bytes.new result }
+    ensures kept { (length fields.new ≡ 2731) × (length buffer.new ≡ length buffer.old) }
+    ensures cause { IsCause (L.state link.old).input.faults (L.state link.new).input.faults result }
+    ensures beside { KeepsOutput (L.state link.old) (L.state link.new) }
+{
+    if let Err(miss) = read_more(link, buffer, bytes, 1) {
+        return Err(miss);
+    }
+    match head_of(bytes.as_slice(), fields) {
+        Head::More => Ok(None),
+        Head::Bad => Err(Miss::Bad),
+        Head::Whole(shape) => Ok(Some(shape)),
+    }
+}
+
+/// Reads of a head what waits, or one byte where nothing waits or a bad head does: then each byte is
+/// read by itself from there on, so that nothing behind the one that decides it is read.
+fn read_on<L: Peer>(
+    link: &mut L,
+    fields: &mut [HeaderSpan],
+    buffer: &mut [u8],
+    bytes: &mut Text,
+    alone: &mut bool,
+) -> Result<Option<Shape>, Miss>
+    requires cut { IsCutHead bytes.old }
+    requires room { length fields.old ≡ 2731 }
+    requires buffer { 1 ≤ length buffer.old }
+    ensures read { ReadsOn (L.state link.old).input.left (L.state link.new).input.left
+        bytes.old bytes.new result }
+    ensures kept { (length fields.new ≡ 2731) × (length buffer.new ≡ length buffer.old) }
+    ensures cause { IsCause (L.state link.old).input.faults (L.state link.new).input.faults result }
+    ensures beside { KeepsOutput (L.state link.old) (L.state link.new) }
+{
+    let most = buffer.len().min(MOST_BYTES - bytes.len());
+    let waiting = link.waiting();
+    let count = waiting.len().min(most);
+    if count == 0 || *alone {
+        return read_byte(link, fields, buffer, bytes);
+    }
+    match look_ahead(bytes, &waiting[..count], fields)? {
+        Head::More => match read_more(link, buffer, bytes, count) {
+            Ok(()) => Ok(None),
+            Err(miss) => Err(miss),
+        },
+        Head::Whole(shape) => match read_more(link, buffer, bytes, shape.from - bytes.len()) {
+            Ok(()) => Ok(Some(shape)),
+            Err(miss) => Err(miss),
+        },
+        Head::Bad => {
+            *alone = true;
+            read_byte(link, fields, buffer, bytes)
+        }
+    }
+}
+
+/// Reads a head, as it arrives, and nothing behind it.
 fn read_head<L: Peer>(
     link: &mut L,
     fields: &mut [HeaderSpan],
@@ -85,15 +178,13 @@ fn read_head<L: Peer>(
     ensures cause { IsCause (L.state link.old).input.faults (L.state link.new).input.faults result }
     ensures beside { KeepsOutput (L.state link.old) (L.state link.new) }
 {
-    let mut byte = [0u8; 1];
+    let mut buffer = [0u8; AT_ONCE];
+    let mut alone = false;
     while bytes.len() < MOST_BYTES {
-        if let Err(miss) = read_more(link, &mut byte, bytes, 1) {
-            return Err(miss);
-        }
-        match head_of(bytes.as_slice(), fields) {
-            Head::More => {}
-            Head::Bad => return Err(Miss::Bad),
-            Head::Whole(shape) => return Ok(shape),
+        match read_on(link, fields, &mut buffer, bytes, &mut alone) {
+            Ok(None) => {}
+            Ok(Some(shape)) => return Ok(shape),
+            Err(miss) => return Err(miss),
         }
     }
     Err(Miss::Bad)

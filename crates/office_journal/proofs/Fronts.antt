@@ -103,7 +103,7 @@ longer may xs ys held file h c front =
       rest = front.rest ++ ys;
       are = ap (λ (l : List Gave). l ++ ys) front.are ∙ append_assoc so front.rest ys;
       left = leaves_less file (history_behind h so) (λ change. MayPend may so change ⊎ GivesNext front.rest change) (λ change. MayPend may so change ⊎ GivesNext (front.rest ++ ys) change)
-      (λ change is. ⊎_elim (λ was. inl was) (λ next. inr (next_longer front.rest ys change next)) is) c front.left;
+          (λ change is. ⊎_elim (λ was. inl was) (λ next. inr (next_longer front.rest ys change next)) is) c front.left;
     }
 
 -- with more before it
@@ -144,5 +144,5 @@ front_weaker may more given held file h c f front =
       rest = front.rest;
       are = front.are;
       left = leaves_less file (history_behind h so) (λ change. MayPend may so change ⊎ GivesNext front.rest change) (λ change. MayPend more so change ⊎ GivesNext front.rest change)
-      (λ change is. ⊎_elim (λ was. inl (pends_weaker may more so f change was)) (λ next. inr next) is) c front.left;
+          (λ change is. ⊎_elim (λ was. inl (pends_weaker may more so f change was)) (λ next. inr next) is) c front.left;
     }

@@ -13,3 +13,4 @@ mod Placing
 mod Replays
 mod Taking
 mod Opening
+mod Hearing

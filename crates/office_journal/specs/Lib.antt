@@ -12,3 +12,4 @@ pub mod Damage
 pub mod Adopting
 pub mod Given
 pub mod Grown
+pub mod SentAgain

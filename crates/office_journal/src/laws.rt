@@ -5,6 +5,7 @@ ghost use Rattle.office_journal.specs.Changes.{Change, Leaves};
 ghost use Rattle.office_journal.specs.Damage.{IsDamagedAt};
 ghost use Rattle.office_journal.specs.Histories.{History, ImageOf};
 ghost use Rattle.office_journal.specs.Kept.{Holds, disk_of};
+ghost use Rattle.office_journal.specs.SentAgain.{HasOneEffect};
 
 use crate::kept::KeptOffice;
 use desk_traits::Disk;
@@ -22,6 +23,13 @@ impl<D: Disk> KeptOffice<D> {
     {
         a_crash_leaves_the_bodies();
     }
+
+    /// A request that is sent again has one effect, once it stands in the history as the last of
+    /// its desk, whether or not its answer came before a crash: it is answered with the same reply
+    /// or for want of memory, at any reading, and nothing is changed.
+    pub fn a_request_sent_again_has_one_effect(&self)
+        ensures { HasOneEffect D.seen D.crash D.faults self.now }
+    {}
 }
 
 /// A file stands for one settings' file and one history, and is then neither damaged nor fresh. A

@@ -22,15 +22,15 @@ fn note<D: Disk>(
     happenings: &mut Vec<Happening<D>>,
     answer: &Answer,
     told: Option<Snapshot<Prepared>>,
-    kept: &KeptOffice<D>,
+    now: Snapshot<KeptOffice<D>>,
 )
     requires room { vec_len happenings.old < vec_capacity happenings.old }
-    ensures { Notes answer.now told kept.now happenings.old.items happenings.new.items }
+    ensures { Notes answer.now told now.value happenings.old.items happenings.new.items }
 {
     match answer {
         Answer::Accepted(_) => {
             if let Some(entry) = told {
-                happenings.push_reserved(Happening::Entry(entry, Snapshot::of(kept)));
+                happenings.push_reserved(Happening::Entry(entry, now));
             }
         }
         Answer::DiskFault => {
@@ -62,7 +62,8 @@ impl<D: Disk> Tied<KeptOffice<D>, Story<D>> {
         let (answer, told) = self
             .kept
             .submit_told(alloc, asked.desk, asked.seq, &asked.request, reading);
-        note(&mut self.story.happenings, &answer, told, &self.kept);
+        let now = Snapshot::of(&self.kept);
+        note(&mut self.story.happenings, &answer, told, now);
         answer
     }
 

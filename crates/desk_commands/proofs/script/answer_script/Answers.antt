@@ -1,11 +1,10 @@
 use Rattle.std.proofs.Common.{◌≤◌, ◌+◌, ◌-◌, ◌^◌, min, [], refl, ap, sym, ◌∙◌, subst}
-use Rattle.office_journal.specs.Grown.{KeepsHistory, grown}
+use Rattle.office_journal.specs.Grown.{KeepsHistory, NonePends}
 use Rattle.office_journal.specs.Kept.{disk_of, state_of}
-use Rattle.office_journal.proofs.Between.{grown_follows}
 use Rattle.program_ends.proofs.Mapping.{ends_at_last, twelve_unbegun}
-use Rattle.desk_commands.specs.Scripts.{Answers, Goes, MayPend, Scripted, entries_in, failed_from, faults_in}
+use Rattle.desk_commands.specs.Scripts.{Answers, Goes, Scripted, faults_in, given_by, stood_in}
 use Rattle.desk_commands.proofs.Keeping.{keeps, opened_carries}
-use Rattle.desk_commands.proofs.Scripting.{gone, lines_go}
+use Rattle.desk_commands.proofs.Scripting.{gone, lines_go, stays}
 use Rattle.desk_commands.proofs.Later.{lines_count, rises_on}
 use Rattle.desk_commands.proofs.Readings.{lines_read}
 use Rattle.desk_commands.proofs.script.answer_script.Goals as goal
@@ -39,15 +38,16 @@ returns g c disk opened =
           let found = opened.found bytes told in
           let file = found.0 in
           let h = found.1 in
-          let grew = grown h (entries_in said) in
-          let may = MayPend (failed_from [] said) in
-          let start = opened_carries d m.seen_is_left m.are_crashes file h (MayPend []) disk c.args.kept c.a_crash_leaves_the_history.ensures opened found.3 in
-          let went = lines_go d (d.faults disk) m.are_crashes k file h [] first run.run.lines said after goes start in (
+          let given = given_by said in
+          let answered = stood_in d k [] first run.run.lines said after goes in
+          let start = opened_carries d m.seen_is_left m.are_crashes file h NonePends disk c.args.kept c.a_crash_leaves_the_history.ensures opened found.3 in
+          let went = lines_go d (d.faults disk) m.are_crashes k file h NonePends first run.run.lines said after goes start in
+          let stay = stays d (d.faults disk) m.are_crashes k file h NonePends after [] h NonePends first run.run.lines said goes refl (λ change was. was) start in (
             file,
             h,
-            subst (λ next. KeepsHistory d disk (disk_of c.args.kept) next bytes file h grew may (state_of after.kept)) (sym c.into_disk.ensures)
-                (keeps d m.seen_is_left m.are_crashes c.requests_stand_once.ensures bytes file h grew may disk c.args.kept after.kept c.a_crash_leaves_the_history-2.ensures opened found.2
-                (grown_follows h (entries_in said)) went.0 went.1),
+            subst (λ next. KeepsHistory d disk (disk_of c.args.kept) next bytes file h given answered (state_of after.kept)) (sym c.into_disk.ensures)
+                (keeps d m.seen_is_left m.are_crashes c.requests_stand_once.ensures bytes file h given answered disk c.args.kept after.kept c.a_crash_leaves_the_history-2.ensures opened found.2
+                went.0 went.1 stay),
           );
       faults = subst (λ next. min (d.faults disk + faults_in said) (2 ^ 64 - 1) ≤ d.faults next) (sym c.into_disk.ensures) rises.counted;
       later = subst (λ next. d.faults disk ≤ d.faults next) (sym c.into_disk.ensures) rises.later;

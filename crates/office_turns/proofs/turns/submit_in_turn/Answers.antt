@@ -9,14 +9,14 @@ pub returns : goal.returns
 returns g c =
     let ran = c.turn.ensures.ran in
     let base = c.args.pass.now.base in
-    let before : List Happening = ran.before.story.happenings.items in
-    let after : List Happening = ran.after.story.happenings.items in
+    let before : List (Happening g.row.D.Denot g.D.Disk) = ran.before.story.happenings.items in
+    let after : List (Happening g.row.D.Denot g.D.Disk) = ran.after.story.happenings.items in
     let met = subst (λ (z : ℤ). Submitted base before after c.args.asked.now z c.turn.result) (to_z-of_z w64 c.args.reading c.ranges.reading) ran.met in
     record {
       kept = c.turn.ensures.kept;
       before = before;
       begins = ran.begins;
       alone = ran.alone;
-      submitted = subst (λ (l : List Happening). Submitted base before l c.args.asked.now c.args.reading c.turn.result) (sym ran.seen) met;
-      places = subst (λ (l : List Happening). PlacesAfter before l c.args.pass.now.mine c.turn.new.pass.mine) (sym ran.seen) ran.mine;
+      submitted = subst (λ (l : List (Happening g.row.D.Denot g.D.Disk)). Submitted base before l c.args.asked.now c.args.reading c.turn.result) (sym ran.seen) met;
+      places = subst (λ (l : List (Happening g.row.D.Denot g.D.Disk)). PlacesAfter before l c.args.pass.now.mine c.turn.new.pass.mine) (sym ran.seen) ran.mine;
     }

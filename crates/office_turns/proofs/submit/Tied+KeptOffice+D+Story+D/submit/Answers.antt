@@ -16,7 +16,7 @@ invariant_of-self-2 g c =
     let said = c.submit_told-answer.result in
     let is = c.submit_told-answer.ensures in
     let came = came_of d m.are_crashes story.opened.value c.self.inside.kept c.submit_told-answer.new.self c.args.asked.now c.args.reading story.happenings.items c.note.new.happenings.items c.self.invariant
-    _ _ said.0 said.1 (to_z-of_z w64 c.args.reading c.ranges.reading) c.reserve.ensures.items (record { becomes = is.becomes; names = is.told; later = is.later; moments = is.any_moment }) c.note.ensures in
+    _ _ _ said.0 said.1 (to_z-of_z w64 c.args.reading c.ranges.reading) c.reserve.ensures.items c.of-now.ensures (record { becomes = is.becomes; names = is.told; later = is.later }) c.note.ensures in
     came.since
 
 pub returns-clause-submitted : goal.returns-clause-submitted
@@ -27,7 +27,7 @@ returns-clause-submitted g c =
     let said = c.submit_told-answer.result in
     let is = c.submit_told-answer.ensures in
     let came = came_of d m.are_crashes story.opened.value c.self.inside.kept c.submit_told-answer.new.self c.args.asked.now c.args.reading story.happenings.items c.note.new.happenings.items c.self.invariant
-    _ _ said.0 said.1 (to_z-of_z w64 c.args.reading c.ranges.reading) c.reserve.ensures.items (record { becomes = is.becomes; names = is.told; later = is.later; moments = is.any_moment }) c.note.ensures in
+    _ _ _ said.0 said.1 (to_z-of_z w64 c.args.reading c.ranges.reading) c.reserve.ensures.items c.of-now.ensures (record { becomes = is.becomes; names = is.told; later = is.later }) c.note.ensures in
     subst (λ (b : Beside (KeptOffice g.row.D.Denot d) (Story g.row.D.Denot d)). Submitted b.story.opened.value b.story.happenings.items c.note.new.happenings.items c.args.asked.now c.args.reading said.0) c.self.view_is came.submitted
 
 pub returns-clause-grows : goal.returns-clause-grows
@@ -38,5 +38,5 @@ returns-clause-grows g c =
     let said = c.submit_told-answer.result in
     let is = c.submit_told-answer.ensures in
     let came = came_of d m.are_crashes story.opened.value c.self.inside.kept c.submit_told-answer.new.self c.args.asked.now c.args.reading story.happenings.items c.note.new.happenings.items c.self.invariant
-    _ _ said.0 said.1 (to_z-of_z w64 c.args.reading c.ranges.reading) c.reserve.ensures.items (record { becomes = is.becomes; names = is.told; later = is.later; moments = is.any_moment }) c.note.ensures in
+    _ _ _ said.0 said.1 (to_z-of_z w64 c.args.reading c.ranges.reading) c.reserve.ensures.items c.of-now.ensures (record { becomes = is.becomes; names = is.told; later = is.later }) c.note.ensures in
     subst (λ (b : Beside (KeptOffice g.row.D.Denot d) (Story g.row.D.Denot d)). GrowsByOneAtMost b.story.happenings.items c.note.new.happenings.items) c.self.view_is came.grows
