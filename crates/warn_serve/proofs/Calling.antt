@@ -12,7 +12,7 @@ pub count_calls : (said : List Said) → length (calls_of said) ≡ length said
 count_calls [] = refl
 count_calls (s ∷ said) = let h = count_calls said in omega arith
 
-module _ {P : Type 0} (answers : Called → P → P → List ℕ → Type 0) (at_end failed : Type 0) where
+module _ {P : Type 0} (answers lost : Called → P → P → List ℕ → Type 0) (at_end failed : Type 0) where
   -- nothing behind the calls
   unsaid : (read written rest tail : List ℕ) (old mid new : P) (said : List Said) → IsCut read (calls_of said) rest → length said < most_calls → IsUnfinished rest → Answered answers old said mid → new ≡ mid → written ≡ answers_of said ++ tail → tail ≡ [] → AnswersCalls answers read written old new
   unsaid read written rest tail old mid new said cut few unfinished answered same told none = record {
@@ -23,7 +23,7 @@ module _ {P : Type 0} (answers : Called → P → P → List ℕ → Type 0) (at
     told = told ∙ ap (λ (l : List ℕ). answers_of said ++ l) none;
   }
 
-  after_closing : (read written rest tail : List ℕ) (old mid new : P) (said : List Said) → IsCut read (calls_of said) rest → length said < most_calls → IsClosing answers at_end failed rest mid new tail → Answered answers old said mid → written ≡ answers_of said ++ tail → AnswersCalls answers read written old new
+  after_closing : (read written rest tail : List ℕ) (old mid new : P) (said : List Said) → IsCut read (calls_of said) rest → length said < most_calls → IsClosing answers lost at_end failed rest mid new tail → Answered answers old said mid → written ≡ answers_of said ++ tail → AnswersCalls answers read written old new
   after_closing read written rest tail old mid new said cut few closing answered told =
       let s : Said = record { called = closing.last_call.called; answer = tail } in
       record {
@@ -34,7 +34,7 @@ module _ {P : Type 0} (answers : Called → P → P → List ℕ → Type 0) (at
         told = told ∙ (sym (answers_append said s) ∙ sym (append-nil (answers_of (said ++ s ∷ []))));
       }
 
-  after_refusing : (read written rest tail : List ℕ) (old mid new : P) (said : List Said) → IsCut read (calls_of said) rest → length said < most_calls → IsRefusing answers at_end failed rest mid new tail → Answered answers old said mid → written ≡ answers_of said ++ tail → AnswersCalls answers read written old new
+  after_refusing : (read written rest tail : List ℕ) (old mid new : P) (said : List Said) → IsCut read (calls_of said) rest → length said < most_calls → IsRefusing answers lost at_end failed rest mid new tail → Answered answers old said mid → written ≡ answers_of said ++ tail → AnswersCalls answers read written old new
   after_refusing read written rest tail old mid new said cut few refusing answered told = record {
     said = said;
     stop = refused refusing.broken;
@@ -43,7 +43,7 @@ module _ {P : Type 0} (answers : Called → P → P → List ℕ → Type 0) (at
     told = told ∙ ap (λ (l : List ℕ). answers_of said ++ l) refusing.told;
   }
 
-  pub whole_links : (read written : List ℕ) (old new : P) (end : LinkEnd) → IsWhole end → IsLinkRun answers at_end failed read written old new end → AnswersCalls answers read written old new
+  pub whole_links : (read written : List ℕ) (old new : P) (end : LinkEnd) → IsWhole end → IsLinkRun answers lost at_end failed read written old new end → AnswersCalls answers read written old new
   whole_links read written old new Closed whole r =
       elim r.ends [
         | inl over ↦ unsaid read written r.rest r.tail old r.mid new r.said r.cut r.count over.2 r.answered over.3.unused r.told over.3.unwritten
@@ -61,11 +61,11 @@ module _ {P : Type 0} (answers : Called → P → P → List ℕ → Type 0) (at
   whole_links read written old new LinkFault whole r = absurd whole
   whole_links read written old new OutOfMemory whole r = absurd whole
 
-pub whole_link : {P : Type 0} (answers : Called → P → P → List ℕ → Type 0) (old new : LinkState) (pass pass' : P) (end : LinkEnd) → IsServedLink answers old new pass pass' end → IsWhole end → AnswersLink answers old new pass pass'
-whole_link answers old new pass pass' end served whole = record {
+pub whole_link : {P : Type 0} (answers lost : Called → P → P → List ℕ → Type 0) (old new : LinkState) (pass pass' : P) (end : LinkEnd) → IsServedLink answers lost old new pass pass' end → IsWhole end → AnswersLink answers old new pass pass'
+whole_link answers lost old new pass pass' end served whole = record {
   read = served.read;
   written = served.written;
   takes = served.takes;
   adds = served.adds;
-  calls = whole_links answers _ _ served.read served.written pass pass' end whole served.run;
+  calls = whole_links answers lost _ _ served.read served.written pass pass' end whole served.run;
 }

@@ -18,8 +18,8 @@ left_at read rest said cut few unfinished = record { open_calls = calls_of said;
 
 -- ---- a link has the cause of its end
 
-module _ {P : Type 0} (answers : Called → P → P → List ℕ → Type 0) where
-  pub cause_of : (old new : LinkState) (pass pass' : P) (end : LinkEnd) (served : IsServedLink answers old new pass pass' end) → HasCause old new served.read end
+module _ {P : Type 0} (answers lost : Called → P → P → List ℕ → Type 0) where
+  pub cause_of : (old new : LinkState) (pass pass' : P) (end : LinkEnd) (served : IsServedLink answers lost old new pass pass' end) → HasCause old new served.read end
   cause_of old new pass pass' Closed served =
       let r = served.run in
       elim r.ends [
@@ -103,10 +103,10 @@ apart old new old' new' read Spent OutOfMemory w v x y = absurd v
 
 -- ---- two links
 
-module _ {P : Type 0} (answers others : Called → P → P → List ℕ → Type 0) where
-  pub end_alike : (old new old' new' : LinkState) (pass pass' next next' : P) (end other : LinkEnd) (one : IsServedLink answers old new pass pass' end) (two : IsServedLink others old' new' next next' other)
+module _ {P : Type 0} (answers lost others lacking : Called → P → P → List ℕ → Type 0) where
+  pub end_alike : (old new old' new' : LinkState) (pass pass' next next' : P) (end other : LinkEnd) (one : IsServedLink answers lost old new pass pass' end) (two : IsServedLink others lacking old' new' next next' other)
       → one.read ≡ two.read → IsWhole end → IsWhole other → EndAlike one.read end other
   end_alike old new old' new' pass pass' next next' end other one two same whole also =
       apart old new old' new' one.read end other whole also
-      (cause_of answers old new pass pass' end one)
-      (subst (λ (read : List ℕ). HasCause old' new' read other) (sym same) (cause_of others old' new' next next' other two))
+      (cause_of answers lost old new pass pass' end one)
+      (subst (λ (read : List ℕ). HasCause old' new' read other) (sym same) (cause_of others lacking old' new' next next' other two))

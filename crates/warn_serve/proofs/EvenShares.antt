@@ -9,7 +9,6 @@ use Rattle.warn_serve.specs.declared.serving.ServeEnd.TheVariants.{Done, PortFau
 use Rattle.warn_serve.specs.declared.workers.WorkerEnd.{WorkerEnd}
 use Rattle.warn_serve.specs.declared.workers.WorkerEnd.TheVariants.{Done as Worked, PortFault as Failed}
 use Rattle.desk_links.specs.Links.{DoorState}
-use Rattle.warn_http.specs.Calls.{Called}
 
 total_even : (workers whole more : ℕ) → more ≤ workers → total_of (even_shares workers whole more) ≡ workers * whole + more
 total_even zero whole more few = omega (arith, few, zero-mul whole)
@@ -101,7 +100,7 @@ shared_out workers connections (suc lost) had end next total even is =
     inr (omega (arith, total), subst FallsShort (sym is) (short_end end lost))
 
 -- how a worker ended, by what its door shows
-pub serves_share : {P : Type 0} (answers : Called → P → P → List ℕ → Type 0) (old new : DoorState) (share : ℕ) (visits : List Visit) (end : WorkerEnd)
-    → EndsWith answers old new share visits end → ServesShare share visits end
-serves_share answers old new share visits (Worked lacks) ends = (ends.0, ends.1)
-serves_share answers old new share visits Failed ends = ends.0
+pub serves_share : (old new : DoorState) (share : ℕ) (visits : List Visit) (end : WorkerEnd)
+    → EndsWith old new share visits end → ServesShare share visits end
+serves_share old new share visits (Worked lacks) ends = (ends.0, ends.1)
+serves_share old new share visits Failed ends = ends.0

@@ -91,8 +91,9 @@ module _ {P : Type 0} (answers : Called → P → P → List ℕ → Type 0) whe
         steady = steady_on old mid new g.steady o.steady;
       }
 
+module _ {P : Type 0} (answers lost : Called → P → P → List ℕ → Type 0) where
   -- the end behind so many calls
-  pub stops_at : (old mid new : LinkState) (pass pass' pass'' : P) (held : List ℕ) (n : ℕ) (end : LinkEnd) → HasGone answers old mid pass pass' held n → n < most_calls → StopsSo answers mid new pass' pass'' held end → IsServedLink answers old new pass pass'' end
+  pub stops_at : (old mid new : LinkState) (pass pass' pass'' : P) (held : List ℕ) (n : ℕ) (end : LinkEnd) → HasGone answers old mid pass pass' held n → n < most_calls → StopsSo answers lost mid new pass' pass'' held end → IsServedLink answers lost old new pass pass'' end
   stops_at old mid new pass pass' pass'' held n end g few s = record {
     read = g.read ++ s.read;
     written = answers_of g.said ++ s.tail;
@@ -107,13 +108,13 @@ module _ {P : Type 0} (answers : Called → P → P → List ℕ → Type 0) whe
       answered = g.answered;
       told = refl;
       count = count_of end (length g.said) s.early (let c = g.counted in omega (arith, few));
-      ends = subst (λ (m : ℕ). EndsSo answers (HasEnded new) (Rose m (faults_of new)) (held ++ s.read) pass' pass'' s.tail end) (count_same old mid g.steady) s.ends;
+      ends = subst (λ (m : ℕ). EndsSo answers lost (HasEnded new) (Rose m (faults_of new)) (held ++ s.read) pass' pass'' s.tail end) (count_same old mid g.steady) s.ends;
     };
     later = later_on old mid new g.steady s.later;
   }
 
   -- the end behind the most calls
-  pub spent_at : (old new : LinkState) (pass pass' : P) (held : List ℕ) (n : ℕ) → HasGone answers old new pass pass' held n → n ≡ most_calls → IsServedLink answers old new pass pass' Spent
+  pub spent_at : (old new : LinkState) (pass pass' : P) (held : List ℕ) (n : ℕ) → HasGone answers old new pass pass' held n → n ≡ most_calls → IsServedLink answers lost old new pass pass' Spent
   spent_at old new pass pass' held n g all = record {
     read = g.read;
     written = answers_of g.said;
@@ -134,7 +135,7 @@ module _ {P : Type 0} (answers : Called → P → P → List ℕ → Type 0) whe
   }
 
   -- no call was read for want of memory
-  pub not_begun : (link : LinkState) (pass : P) → IsServedLink answers link link pass pass OutOfMemory
+  pub not_begun : (link : LinkState) (pass : P) → IsServedLink answers lost link link pass pass OutOfMemory
   not_begun link pass = record {
     read = [];
     written = [];

@@ -9,3 +9,5 @@ mod EvenShares
 mod Sharing
 mod Opened
 mod Causing
+mod Fronts
+mod Losing

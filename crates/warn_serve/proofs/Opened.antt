@@ -6,7 +6,7 @@ use Rattle.office_journal.specs.declared.kept.KeptOffice.{KeptOffice}
 use Rattle.office_turns.specs.Since.{IsSince}
 use Rattle.office_turns.specs.declared.happening.Happening.{Happening}
 use Rattle.turn_lock.specs.Passes.{Closes, PassRecord}
-use Rattle.warn_serve.specs.Calls.{AnswersCall}
+use Rattle.warn_serve.specs.Calls.{AnswersCall, LosesCall}
 use Rattle.warn_serve.specs.Gathered.{IsGathered, IsPartOf}
 use Rattle.warn_serve.specs.Served.{HasListened, HasPart, IsServed, Part, passes_of}
 use Rattle.warn_serve.specs.Shares.{SharesOut}
@@ -17,7 +17,7 @@ use Rattle.warn_serve.proofs.Gathering.{is_shared}
 use Rattle.warn_serve.proofs.Returning.{takes_none}
 
 module _ {D : Type 0} (d : Disks D) (gives : ℤ → Type 0) (opened kept : KeptOffice D d) where
-  part_since : (old : PassRecord (KeptOffice D d) (Happening D d)) (p : Part (PassRecord (KeptOffice D d) (Happening D d))) → old.base ≡ opened → old.seen ≡ [] → IsPartOf (AnswersCall gives) old p → HasPart d gives opened p
+  part_since : (old : PassRecord (KeptOffice D d) (Happening D d)) (p : Part (PassRecord (KeptOffice D d) (Happening D d))) → old.base ≡ opened → old.seen ≡ [] → IsPartOf (AnswersCall gives) (LosesCall gives) old p → HasPart d gives opened p
   part_since old p base none h = record { start = h.start; base = h.is_share.base ∙ base; unseen = h.is_share.seen ∙ none; none_added = h.is_share.mine; visits = h.visits; ends = h.ends }
 
   -- nobody could be had
@@ -43,7 +43,7 @@ module _ {D : Type 0} (d : Disks D) (gives : ℤ → Type 0) (opened kept : Kept
 
   pub served_all : (base : KeptOffice D d) (given : List ℕ) (number workers connections : ℕ) (first last : PortState) (end : ServeEnd) (old new : PassRecord (KeptOffice D d) (Happening D d)) (happenings : List (Happening D d))
       → old.base ≡ opened → old.seen ≡ [] → old.first ≡ 0 → old.mine ≡ []
-      → HasListened number first last → IsGathered (AnswersCall gives) given connections first last old new end → SharesOut workers connections given end → Closes new base happenings → IsSince d opened kept happenings → IsServed d gives opened kept number workers connections first last end
+      → HasListened number first last → IsGathered (AnswersCall gives) (LosesCall gives) given connections first last old new end → SharesOut workers connections given end → Closes new base happenings → IsSince d opened kept happenings → IsServed d gives opened kept number workers connections first last end
   served_all base given number workers connections first last end old new happenings b s f m listened g out closes since = record {
     happenings = happenings;
     since = since;

@@ -5,7 +5,6 @@ use Rattle.desk_links.specs.Links.{DoorState, IsNone, IsUnused, LinkState, PortS
 use Rattle.desk_links.specs.Listening.{RoseAsTold}
 use Rattle.desk_traits.specs.Faults.{Rose}
 use Rattle.hazard_types.specs.declared.or.Or.{Or}
-use Rattle.warn_http.specs.Calls.{Called}
 use Rattle.warn_serve.specs.Gathered.{TakesBack, end_after, short_of}
 use Rattle.warn_serve.specs.Shares.{total_of}
 use Rattle.warn_serve.specs.Served.{EndsAs, TellsBehind}
@@ -84,12 +83,12 @@ ends_short first last shares left connections visits PortFault all within e = (o
 ends_short first last shares left connections visits OutOfMemory all within (inl less, steady) = (inl (omega (arith, all, less)), steady)
 ends_short first last shares left connections visits OutOfMemory all within (inr lacks, steady) = (inr lacks, steady)
 
-module _ {P : Type 0} (answers : Called → P → P → List ℕ → Type 0) (first mid last : PortState) (old new : DoorState) (shares share : ℕ) (xs ys : List Visit) (sound : old.faults ≡ 0) (faults : last.faults ≡ min (mid.faults + new.faults) (2 ^ 64 - 1)) (later : min first.faults (2 ^ 64 - 1) ≤ mid.faults) (within : length xs ≤ shares) where
+module _ (first mid last : PortState) (old new : DoorState) (shares share : ℕ) (xs ys : List Visit) (sound : old.faults ≡ 0) (faults : last.faults ≡ min (mid.faults + new.faults) (2 ^ 64 - 1)) (later : min first.faults (2 ^ 64 - 1) ≤ mid.faults) (within : length xs ≤ shares) where
   long : length (xs ++ ys) ≡ length xs + length ys
   long = length-append xs ys
 
   -- the end after one worker more
-  pub ends_on : (end : ServeEnd) (worked : WorkerEnd) → EndsAs first mid shares xs end → EndsWith answers old new share ys worked → EndsAs first last (shares + share) (xs ++ ys) (end_after end worked)
+  pub ends_on : (end : ServeEnd) (worked : WorkerEnd) → EndsAs first mid shares xs end → EndsWith old new share ys worked → EndsAs first last (shares + share) (xs ++ ys) (end_after end worked)
   ends_on Done (Worked zero) e h = (omega (arith, long, e.0, h.0), omega (arith, lacks_both xs ys, e.1, h.1), omega (arith, sound, faults, h.2, e.2))
   ends_on Done (Worked (suc lacks)) e h = (inr (omega (arith, lacks_both xs ys, e.1, h.1)), omega (arith, sound, faults, h.2, e.2))
   ends_on PortFault (Worked lacks) e h = (omega (arith, long, e.0, h.0), omega (arith, e.1, faults))
@@ -99,6 +98,6 @@ module _ {P : Type 0} (answers : Called → P → P → List ℕ → Type 0) (fi
   ends_on PortFault Failed e h = (omega (arith, long, within, h.0), omega (arith, h.1, sound, faults, later))
   ends_on OutOfMemory Failed e h = (omega (arith, long, within, h.0), omega (arith, h.1, sound, faults, later))
 
-  pub within_on : (worked : WorkerEnd) → EndsWith answers old new share ys worked → length (xs ++ ys) ≤ shares + share
+  pub within_on : (worked : WorkerEnd) → EndsWith old new share ys worked → length (xs ++ ys) ≤ shares + share
   within_on (Worked lacks) h = omega (arith, long, within, h.0)
   within_on Failed h = omega (arith, long, within, h.0)

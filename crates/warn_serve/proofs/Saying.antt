@@ -1,5 +1,5 @@
 -- What one call makes of a link: it goes on, or it ends.
-use Rattle.std.proofs.Common.{ℕ, ◌≡◌, ◌≤◌, inl, inr, true, List, [], ◌++◌, drop, refl, ap, sym, ◌∙◌, subst, arith, Option, None, Some}
+use Rattle.std.proofs.Common.{ℕ, ◌≡◌, ◌≤◌, inl, inr, Bool, true, List, [], ◌++◌, drop, refl, ap, sym, ◌∙◌, subst, arith, Option, None, Some}
 use Rattle.std.proofs.lemmas.Bool.{false≢true}
 use Rattle.byte_streams.specs.Flows.{Inflow, Outflow}
 use Rattle.desk_links.specs.Links.{LinkState}
@@ -57,27 +57,36 @@ failed_read old new a rose = let w = writes_kept old new a in omega arith
 pub failed_write : (old new : LinkState) → new.input ≡ old.input → Rose old.output.faults new.output.faults → HasFailed old new
 failed_write old new kept rose = let reads = ap (λ (i : Inflow). i.faults) kept in omega arith
 
-module _ {P : Type 0} (answers : Called → P → P → List ℕ → Type 0) where
+-- what is never lost may be lost as well
+pub sends_anyway : (may : Type 0) (old new : LinkState) (answer : List ℕ) (last : Bool) (result : Option LinkEnd) → Sends ⊥ old new answer last result → Sends may old new answer last result
+sends_anyway may old new answer last None sent = sent
+sends_anyway may old new answer last (Some Closed) sent = sent
+sends_anyway may old new answer last (Some Cut) sent = absurd sent
+sends_anyway may old new answer last (Some Spent) sent = absurd sent
+sends_anyway may old new answer last (Some LinkFault) sent = sent
+sends_anyway may old new answer last (Some OutOfMemory) sent = absurd sent.0
+
+module _ {P : Type 0} (answers lost : Called → P → P → List ℕ → Type 0) where
   -- the link ended, and nothing more was judged or written
   pub ends_at : (old new : LinkState) (pass : P) (held inbox read : List ℕ) (end : LinkEnd)
       → inbox ≡ held ++ read → Takes old.input.left new.input.left read → IsUnwritten old new → HasCount end 0
-      → EndsSo answers (HasEnded new) (HasFailed old new) inbox pass pass [] end → StopsSo answers old new pass pass held end
+      → EndsSo answers lost (HasEnded new) (HasFailed old new) inbox pass pass [] end → StopsSo answers lost old new pass pass held end
   ends_at old new pass held inbox read end stands takes quiet early ends = record {
     read = read;
     takes = takes;
     tail = [];
     adds = subst (λ (t : Option (List ℕ)). Adds t new.output.taken []) (taken_kept old new quiet) (adds_none new.output.taken);
     early = early;
-    ends = subst (λ (b : List ℕ). EndsSo answers (HasEnded new) (HasFailed old new) b pass pass [] end) stands ends;
+    ends = subst (λ (b : List ℕ). EndsSo answers lost (HasEnded new) (HasFailed old new) b pass pass [] end) stands ends;
     later = record { came = quiet.came; reads = quiet.later; writes = (let w = writes_kept old new quiet in omega arith) };
   }
 
   -- an answer was sent to a call
-  pub call_sent : (old mid new : LinkState) (pass pass' : P) (held inbox held' read : List ℕ) (c : Called) (answer : List ℕ) (result : Option LinkEnd)
+  pub call_sent : (may : Type 0) (old mid new : LinkState) (pass pass' : P) (held inbox held' read : List ℕ) (c : Called) (answer : List ℕ) (result : Option LinkEnd)
       → inbox ≡ held ++ read → Takes old.input.left mid.input.left read → IsUnwritten old mid → mid.input.faults ≡ old.input.faults
-      → IsCall inbox c → answers c pass pass' answer → held' ≡ drop c.used inbox
-      → Sends mid new answer c.last result → ServesNext answers old new pass pass' held held' result
-  call_sent old mid new pass pass' held inbox held' read c answer None stands takes quiet steady call judged behind sent = record {
+      → IsCall inbox c → answers c pass pass' answer → (may → lost c pass pass' answer) → held' ≡ drop c.used inbox
+      → Sends may mid new answer c.last result → ServesNext answers lost old new pass pass' held held' result
+  call_sent may old mid new pass pass' held inbox held' read c answer None stands takes quiet steady call judged loses behind sent = record {
     read = read;
     takes = left_alone old mid new read answer takes sent.1;
     answer = answer;
@@ -87,7 +96,7 @@ module _ {P : Type 0} (answers : Called → P → P → List ℕ → Type 0) whe
     behind = behind ∙ ap (drop c.used) stands;
     steady = record { came = sent.1.came ∙ quiet.came; reads = reads_kept mid new answer sent.1 ∙ steady; writes = sent.2 ∙ writes_kept old mid quiet };
   }
-  call_sent old mid new pass pass' held inbox held' read c answer (Some Closed) stands takes quiet steady call judged behind sent = record {
+  call_sent may old mid new pass pass' held inbox held' read c answer (Some Closed) stands takes quiet steady call judged loses behind sent = record {
     read = read;
     takes = left_alone old mid new read answer takes sent.1;
     tail = answer;
@@ -96,9 +105,9 @@ module _ {P : Type 0} (answers : Called → P → P → List ℕ → Type 0) whe
     ends = inr (inl (record { last_call = record { called = c; stands = subst (λ (b : List ℕ). IsCall b c) stands call; judged = judged }; closes = sent.0 }));
     later = later_alone old mid new answer quiet sent.1;
   }
-  call_sent old mid new pass pass' held inbox held' read c answer (Some Cut) stands takes quiet steady call judged behind sent = absurd sent
-  call_sent old mid new pass pass' held inbox held' read c answer (Some Spent) stands takes quiet steady call judged behind sent = absurd sent
-  call_sent old mid new pass pass' held inbox held' read c answer (Some LinkFault) stands takes quiet steady call judged behind sent = record {
+  call_sent may old mid new pass pass' held inbox held' read c answer (Some Cut) stands takes quiet steady call judged loses behind sent = absurd sent
+  call_sent may old mid new pass pass' held inbox held' read c answer (Some Spent) stands takes quiet steady call judged loses behind sent = absurd sent
+  call_sent may old mid new pass pass' held inbox held' read c answer (Some LinkFault) stands takes quiet steady call judged loses behind sent = record {
     read = read;
     takes = left_alone old mid new read sent.1 takes sent.3;
     tail = sent.1;
@@ -107,22 +116,22 @@ module _ {P : Type 0} (answers : Called → P → P → List ℕ → Type 0) whe
     ends = (failed_alone old mid new quiet sent.0, inr (record { answer = answer; front = sent.2; whose = inl (record { called = c; stands = subst (λ (b : List ℕ). IsCall b c) stands call; judged = judged }) }));
     later = later_alone old mid new sent.1 quiet sent.3;
   }
-  call_sent old mid new pass pass' held inbox held' read c answer (Some OutOfMemory) stands takes quiet steady call judged behind sent = record {
+  call_sent may old mid new pass pass' held inbox held' read c answer (Some OutOfMemory) stands takes quiet steady call judged loses behind sent = record {
     read = read;
-    takes = left_alone old mid new read [] takes sent;
+    takes = left_alone old mid new read [] takes sent.1;
     tail = [];
-    adds = taken_alone old mid new [] quiet sent;
+    adds = taken_alone old mid new [] quiet sent.1;
     early = omega arith;
-    ends = inr (record { answer = answer; next_call = record { called = c; stands = subst (λ (b : List ℕ). IsCall b c) stands call; judged = judged }; unwritten = refl });
-    later = later_alone old mid new [] quiet sent;
+    ends = inr (record { answer = answer; next_call = record { called = c; stands = subst (λ (b : List ℕ). IsCall b c) stands call; judged = loses sent.0 }; unwritten = refl });
+    later = later_alone old mid new [] quiet sent.1;
   }
 
   -- a refusal was sent
-  pub refusal_sent : (old mid new : LinkState) (pass : P) (held inbox held' read : List ℕ) (broken : Refusal) (result : Option LinkEnd)
+  pub refusal_sent : (may : Type 0) (old mid new : LinkState) (pass : P) (held inbox held' read : List ℕ) (broken : Refusal) (result : Option LinkEnd)
       → inbox ≡ held ++ read → Takes old.input.left mid.input.left read → IsUnwritten old mid → IsRefused inbox broken
-      → Sends mid new (refused_answer broken true) true result → ServesNext answers old new pass pass held held' result
-  refusal_sent old mid new pass held inbox held' read broken None stands takes quiet refused sent = absurd (false≢true (sym sent.0))
-  refusal_sent old mid new pass held inbox held' read broken (Some Closed) stands takes quiet refused sent = record {
+      → Sends may mid new (refused_answer broken true) true result → ServesNext answers lost old new pass pass held held' result
+  refusal_sent may old mid new pass held inbox held' read broken None stands takes quiet refused sent = absurd (false≢true (sym sent.0))
+  refusal_sent may old mid new pass held inbox held' read broken (Some Closed) stands takes quiet refused sent = record {
     read = read;
     takes = left_alone old mid new read (refused_answer broken true) takes sent.1;
     tail = refused_answer broken true;
@@ -131,9 +140,9 @@ module _ {P : Type 0} (answers : Called → P → P → List ℕ → Type 0) whe
     ends = inr (inr (record { broken = broken; refused = subst (λ (b : List ℕ). IsRefused b broken) stands refused; told = refl; unused = refl }));
     later = later_alone old mid new (refused_answer broken true) quiet sent.1;
   }
-  refusal_sent old mid new pass held inbox held' read broken (Some Cut) stands takes quiet refused sent = absurd sent
-  refusal_sent old mid new pass held inbox held' read broken (Some Spent) stands takes quiet refused sent = absurd sent
-  refusal_sent old mid new pass held inbox held' read broken (Some LinkFault) stands takes quiet refused sent = record {
+  refusal_sent may old mid new pass held inbox held' read broken (Some Cut) stands takes quiet refused sent = absurd sent
+  refusal_sent may old mid new pass held inbox held' read broken (Some Spent) stands takes quiet refused sent = absurd sent
+  refusal_sent may old mid new pass held inbox held' read broken (Some LinkFault) stands takes quiet refused sent = record {
     read = read;
     takes = left_alone old mid new read sent.1 takes sent.3;
     tail = sent.1;
@@ -142,12 +151,12 @@ module _ {P : Type 0} (answers : Called → P → P → List ℕ → Type 0) whe
     ends = (failed_alone old mid new quiet sent.0, inr (record { answer = refused_answer broken true; front = sent.2; whose = inr (broken, subst (λ (b : List ℕ). IsRefused b broken) stands refused, refl, refl) }));
     later = later_alone old mid new sent.1 quiet sent.3;
   }
-  refusal_sent old mid new pass held inbox held' read broken (Some OutOfMemory) stands takes quiet refused sent = record {
+  refusal_sent may old mid new pass held inbox held' read broken (Some OutOfMemory) stands takes quiet refused sent = record {
     read = read;
-    takes = left_alone old mid new read [] takes sent;
+    takes = left_alone old mid new read [] takes sent.1;
     tail = [];
-    adds = taken_alone old mid new [] quiet sent;
+    adds = taken_alone old mid new [] quiet sent.1;
     early = omega arith;
     ends = inl (record { unused = refl; unwritten = refl });
-    later = later_alone old mid new [] quiet sent;
+    later = later_alone old mid new [] quiet sent.1;
   }

@@ -35,15 +35,15 @@ gives_on first mid last visits v a b = record {
   links = behind_both first.links mid.links last.links (links_of visits) (v.link ∷ []) (links_of (visits ++ v ∷ [])) a.links b.links (sym (links_append visits v));
 }
 
-module _ {P : Type 0} (answers : Called → P → P → List ℕ → Type 0) where
-  visits_on : (old mid new : P) (visits : List Visit) (v : Visit) → AreVisits answers old visits mid → IsVisit answers mid new v → AreVisits answers old (visits ++ v ∷ []) new
-  visits_on old mid new [] v is h = (new, subst (λ (z : P). IsVisit answers z new v) is h, refl)
+module _ {P : Type 0} (answers lost : Called → P → P → List ℕ → Type 0) where
+  visits_on : (old mid new : P) (visits : List Visit) (v : Visit) → AreVisits answers lost old visits mid → IsVisit answers lost mid new v → AreVisits answers lost old (visits ++ v ∷ []) new
+  visits_on old mid new [] v is h = (new, subst (λ (z : P). IsVisit answers lost z new v) is h, refl)
   visits_on old mid new (x ∷ visits) v a h = (a.0, a.1, visits_on a.0 mid new visits v a.2 h)
 
-  pub served_none : (door : DoorState) (pass : P) → HasServed answers 0 0 door door pass pass
+  pub served_none : (door : DoorState) (pass : P) → HasServed answers lost 0 0 door door pass pass
   served_none door pass = record { visits = []; served = refl; gives_back = gives_none door; counted = refl; lacked = refl; steady = refl }
 
-  pub served_on : (count lacks more : ℕ) (first mid last : DoorState) (old pass new : P) (end : LinkEnd) → more ≡ lack_of end → HasServed answers count lacks first mid old pass → ServesOne answers mid last pass new end → HasServed answers (count + 1) (lacks + more) first last old new
+  pub served_on : (count lacks more : ℕ) (first mid last : DoorState) (old pass new : P) (end : LinkEnd) → more ≡ lack_of end → HasServed answers lost count lacks first mid old pass → ServesOne answers lost mid last pass new end → HasServed answers lost (count + 1) (lacks + more) first last old new
   served_on count lacks more first mid last old pass new end is h o =
       let v : Visit = record { link = o.link; end = end } in
       record {
@@ -55,13 +55,13 @@ module _ {P : Type 0} (answers : Called → P → P → List ℕ → Type 0) whe
         steady = o.steady ∙ h.steady;
       }
 
-  pub worked_all : (share count lacks : ℕ) (first last : DoorState) (old new : P) → HasServed answers count lacks first last old new → count ≡ share → HasWorked answers share first last old new (Done lacks)
+  pub worked_all : (share count lacks : ℕ) (first last : DoorState) (old new : P) → HasServed answers lost count lacks first last old new → count ≡ share → HasWorked answers lost share first last old new (Done lacks)
   worked_all share count lacks first last old new h all = record { visits = h.visits; served = h.served; gives_back = h.gives_back; ends = (h.counted ∙ all, sym h.lacked, h.steady) }
 
-  pub worked_part : (share count lacks : ℕ) (first mid last : DoorState) (old pass new : P) → HasServed answers count lacks first mid old pass → count < share → HasNone mid last pass new → HasWorked answers share first last old new PortFault
+  pub worked_part : (share count lacks : ℕ) (first mid last : DoorState) (old pass new : P) → HasServed answers lost count lacks first mid old pass → count < share → HasNone mid last pass new → HasWorked answers lost share first last old new PortFault
   worked_part share count lacks first mid last old pass new h few none = record {
     visits = h.visits;
-    served = subst (λ (z : P). AreVisits answers old h.visits z) (sym none.unused) h.served;
+    served = subst (λ (z : P). AreVisits answers lost old h.visits z) (sym none.unused) h.served;
     gives_back = record {
       given = none.given ∙ h.gives_back.given;
       returned = none.returned ∙ h.gives_back.returned;

@@ -1,5 +1,5 @@
 -- The answers to calls, byte for byte. The link closes after one, or not.
-use Rattle.std.specs.Prelude.{◌≡◌, ℕ, Bool, List, Result, Ok, Err, IfOk}
+use Rattle.std.specs.Prelude.{◌≡◌, ℕ, Bool, List, Result, Ok, Err, IfOk, ⊤}
 use Rattle.hazard_types.specs.declared.or.Or.{Or}
 use Rattle.hazard_types.specs.declared.or.Or.TheVariants as or
 use Rattle.hazard_types.specs.declared.refusal.Refusal.{Refusal}
@@ -10,7 +10,7 @@ use Rattle.office_journal.specs.declared.answers.Answer.TheVariants.{Accepted, R
 use Rattle.warn_http.specs.Outcomes.{call_answer, disk_fault_json, no_memory_json}
 use Rattle.warn_http.specs.declared.outcomes.Outcome.TheVariants as outcome
 use Rattle.warn_serve.specs.declared.answers.AnswerBytes.{AnswerBytes}
-use Rattle.warn_serve.specs.declared.answers.AnswerBytes.TheVariants.{Written, Fixed}
+use Rattle.warn_serve.specs.declared.answers.AnswerBytes.TheVariants.{Written, Fixed, InPieces}
 
 -- the answer to a call that is refused
 abbrev pub refused_answer : Refusal → Bool → List ℕ
@@ -28,16 +28,25 @@ submit_answer (Refused broken) last = refused_answer broken last
 submit_answer DiskFault last = call_answer outcome.DiskFault disk_fault_json last
 submit_answer OutOfMemory last = no_memory_answer last
 
+-- memory may lack for the answer: the request is refused
+abbrev pub MayBeLost : Answer → Type 0
+MayBeLost (Accepted text) = ⊥
+MayBeLost (Repeated text) = ⊥
+MayBeLost (Refused broken) = ⊤
+MayBeLost DiskFault = ⊥
+MayBeLost OutOfMemory = ⊥
+
 -- the answer to a look
 abbrev pub look_answer : Query → Result (List ℕ) (Or Refusal) → Bool → List ℕ
 look_answer query (Ok text) last = call_answer (outcome.Shown query) text last
 look_answer query (Err (or.No broken)) last = refused_answer broken last
 look_answer query (Err or.OutOfMemory) last = no_memory_answer last
 
--- the bytes of an answer, written or fixed
+-- the bytes of an answer: written, or fixed, or those of a reply that is written in pieces
 abbrev pub bytes_of : AnswerBytes → List ℕ
 bytes_of (Written text) = text
 bytes_of (Fixed text) = text.now
+bytes_of (InPieces reply last) = call_answer outcome.Replied reply last
 
 -- these are the bytes, unless memory lacked for them
 abbrev pub Yields : {E : Type 0} → Result AnswerBytes E → List ℕ → Type 0

@@ -74,3 +74,7 @@ module _ {D : Type 0} {d : _} (last : Bool) (old new : PassRecord (KeptOffice D 
 -- the answer to a call, and what it leaves of a pass
 abbrev pub AnswersCall : {D : Type 0} {d : _} → (ℤ → Type 0) → Called → PassRecord (KeptOffice D d) (Happening D d) → PassRecord (KeptOffice D d) (Happening D d) → List ℕ → Type 0
 AnswersCall gives c old new answer = AnswersAsked c.last old new answer gives c.call c.posted
+
+-- A call is answered so, and nothing happened in its turn that the pass could call its own: no entry was added, and the disk did not fail. Where memory lacks for such an answer, it may be lost.
+abbrev pub LosesCall : {D : Type 0} {d : _} → (ℤ → Type 0) → Called → PassRecord (KeptOffice D d) (Happening D d) → PassRecord (KeptOffice D d) (Happening D d) → List ℕ → Type 0
+LosesCall gives c old new answer = AnswersCall gives c old new answer × (new.mine ≡ old.mine)

@@ -44,12 +44,12 @@ pub record KeepsWhole {B E : Type 0} (old new : PassRecord B E) : Type 0 where
   pub seen : new.seen ≡ old.seen
   pub mine : new.mine ≡ old.mine
 
-module _ {B E : Type 0} (answers : Called → PassRecord B E → PassRecord B E → List ℕ → Type 0) where
+module _ {B E : Type 0} (answers lost : Called → PassRecord B E → PassRecord B E → List ℕ → Type 0) where
   -- a worker has done its share, and all its links went back to its door
   pub record DoesShare (share : ℕ) (first last : DoorState) (old new : PassRecord B E) (end : WorkerEnd) : Type 0 where
     pub rights : KeepsRights old new
     pub none_out : last.given ≡ last.returned
-    pub worked : HasWorked answers share first last old new end
+    pub worked : HasWorked answers lost share first last old new end
 
   -- the same with a share of this pass, from an unused door on
   pub record HasDone (whole : PassRecord B E) (share : ℕ) (door : DoorState) (pass : PassRecord B E) (end : WorkerEnd) : Type 0 where
@@ -63,7 +63,7 @@ module _ {B E : Type 0} (answers : Called → PassRecord B E → PassRecord B E 
   pub record IsPartOf (whole : PassRecord B E) (p : Part (PassRecord B E)) : Type 0 where
     pub start : PassRecord B E
     pub is_share : IsShareOf whole start
-    pub visits : AreVisits answers start p.visits p.pass
+    pub visits : AreVisits answers lost start p.visits p.pass
     pub ends : ServesShare p.share p.visits p.end
 
   -- the passes of workers that had these shares of so many links were taken in, and their doors went back to the port

@@ -1,4 +1,5 @@
 pub mod Answers
+pub mod Pieces
 pub mod Calls
 pub mod Links
 pub mod Wholes

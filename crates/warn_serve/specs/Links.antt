@@ -57,6 +57,8 @@ module _ {P : Type 0} (answers : Called → P → P → List ℕ → Type 0) whe
     pub stands : IsCall rest called
     pub judged : answers called mid new answer
 
+-- A call may be answered so, and its answer be lost so, where memory lacks for it.
+module _ {P : Type 0} (answers lost : Called → P → P → List ℕ → Type 0) where
   -- Why the link ended, behind the calls that were answered and left it open: `rest` are the bytes behind them, and `tail` is what was written behind their answers.
   module _ (at_end failed : Type 0) (rest : List ℕ) (mid new : P) (tail : List ℕ) where
     -- nothing more was judged or written
@@ -66,7 +68,7 @@ module _ {P : Type 0} (answers : Called → P → P → List ℕ → Type 0) whe
 
     -- one call more was answered, after which the link closes
     pub record IsClosing : Type 0 where
-      pub last_call : IsJudged rest mid new tail
+      pub last_call : IsJudged answers rest mid new tail
       pub closes : last_call.called.last ≡ true
 
     -- the call at the front is refused, and this is told
@@ -80,12 +82,12 @@ module _ {P : Type 0} (answers : Called → P → P → List ℕ → Type 0) whe
     pub record IsBroken : Type 0 where
       pub answer : List ℕ
       pub front : IsPrefix tail answer
-      pub whose : IsJudged rest mid new answer ⊎ ((broken : Refusal) × IsRefused rest broken × (answer ≡ refused_answer broken true) × (new ≡ mid))
+      pub whose : IsJudged answers rest mid new answer ⊎ ((broken : Refusal) × IsRefused rest broken × (answer ≡ refused_answer broken true) × (new ≡ mid))
 
-    -- one call more was judged, and memory lacked for its answer
+    -- one call more was judged, whose answer may be lost, and memory lacked for that
     pub record IsUnanswered : Type 0 where
       pub answer : List ℕ
-      pub next_call : IsJudged rest mid new answer
+      pub next_call : IsJudged lost rest mid new answer
       pub unwritten : tail ≡ []
 
     abbrev pub EndsSo : LinkEnd → Type 0
@@ -103,7 +105,7 @@ module _ {P : Type 0} (answers : Called → P → P → List ℕ → Type 0) whe
     pub mid : P
     pub tail : List ℕ
     pub cut : IsCut read (calls_of said) rest
-    pub answered : Answered old said mid
+    pub answered : Answered answers old said mid
     pub told : written ≡ answers_of said ++ tail
     pub count : HasCount end (length said)
     pub ends : EndsSo at_end failed rest mid new tail end

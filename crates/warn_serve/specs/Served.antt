@@ -7,7 +7,7 @@ use Rattle.office_journal.specs.declared.kept.KeptOffice.{KeptOffice}
 use Rattle.turn_lock.specs.Passes.{PassRecord}
 use Rattle.office_turns.specs.Since.{IsSince}
 use Rattle.office_turns.specs.declared.happening.Happening.{Happening}
-use Rattle.warn_serve.specs.Calls.{AnswersCall}
+use Rattle.warn_serve.specs.Calls.{AnswersCall, LosesCall}
 use Rattle.warn_serve.specs.Shares.{ServesShare, SharesOut}
 use Rattle.warn_serve.specs.Sharing.{IsShared}
 use Rattle.warn_serve.specs.Workers.{AreVisits, Visit, lacks_of, links_of}
@@ -58,7 +58,7 @@ module _ {D : Type 0} (d : Disks D) (gives : ℤ → Type 0) (opened : KeptOffic
     pub base : start.base ≡ opened
     pub unseen : start.seen ≡ []
     pub none_added : start.mine ≡ []
-    pub visits : AreVisits (AnswersCall gives) start p.visits p.pass
+    pub visits : AreVisits (AnswersCall gives) (LosesCall gives) start p.visits p.pass
     pub ends : ServesShare p.share p.visits p.end
 
   -- There is one list of happenings since the opening, those of the calls on these links, each once; the links were shared out among the workers; and they went back to the port, which had listened at the number.

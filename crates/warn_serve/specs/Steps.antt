@@ -27,14 +27,14 @@ pub record WritesAlone (old new : LinkState) (written : List ℕ) : Type 0 where
   pub adds : Adds old.output.taken new.output.taken written
   pub later : old.output.faults ≤ new.output.faults
 
--- An answer was written, after which the link closes or stays open; or a front of it, before a fault; or none, for want of memory.
-abbrev pub Sends : LinkState → LinkState → List ℕ → Bool → Option LinkEnd → Type 0
-Sends old new answer last None = (last ≡ false) × WritesAlone old new answer × (new.output.faults ≡ old.output.faults)
-Sends old new answer last (Some Closed) = (last ≡ true) × WritesAlone old new answer
-Sends old new answer last (Some Cut) = ⊥
-Sends old new answer last (Some Spent) = ⊥
-Sends old new answer last (Some LinkFault) = HasFailed old new × (front : List ℕ) × IsPrefix front answer × WritesAlone old new front
-Sends old new answer last (Some OutOfMemory) = WritesAlone old new []
+-- An answer was written, after which the link closes or stays open; or a front of it, before a fault; or none, for want of memory, where it may be lost.
+abbrev pub Sends : Type 0 → LinkState → LinkState → List ℕ → Bool → Option LinkEnd → Type 0
+Sends lost old new answer last None = (last ≡ false) × WritesAlone old new answer × (new.output.faults ≡ old.output.faults)
+Sends lost old new answer last (Some Closed) = (last ≡ true) × WritesAlone old new answer
+Sends lost old new answer last (Some Cut) = ⊥
+Sends lost old new answer last (Some Spent) = ⊥
+Sends lost old new answer last (Some LinkFault) = HasFailed old new × (front : List ℕ) × IsPrefix front answer × WritesAlone old new front
+Sends lost old new answer last (Some OutOfMemory) = lost × WritesAlone old new []
 
 module _ {P : Type 0} (answers : Called → P → P → List ℕ → Type 0) where
   -- one call more was answered, and the link stays open
@@ -48,22 +48,6 @@ module _ {P : Type 0} (answers : Called → P → P → List ℕ → Type 0) whe
     pub behind : held' ≡ drop one.called.used (held ++ read)
     pub steady : IsSteady old new
 
-  -- the link ended
-  pub record StopsSo (old new : LinkState) (pass pass' : P) (held : List ℕ) (end : LinkEnd) : Type 0 where
-    pub read : List ℕ
-    pub takes : Takes old.input.left new.input.left read
-    pub tail : List ℕ
-    pub adds : Adds old.output.taken new.output.taken tail
-    -- not for the number of its calls
-    pub early : HasCount end 0
-    pub ends : EndsSo answers (HasEnded new) (HasFailed old new) (held ++ read) pass pass' tail end
-    pub later : IsLater old new
-
-  -- one call more was answered, and the link stays open, or it ended
-  abbrev pub ServesNext : LinkState → LinkState → P → P → List ℕ → List ℕ → Option LinkEnd → Type 0
-  ServesNext old new pass pass' held held' None = GoesOn old new pass pass' held held'
-  ServesNext old new pass pass' held held' (Some end) = StopsSo old new pass pass' held end
-
   -- so many calls were answered, and the link is open
   pub record HasGone (old new : LinkState) (pass pass' : P) (held : List ℕ) (count : ℕ) : Type 0 where
     pub read : List ℕ
@@ -74,3 +58,20 @@ module _ {P : Type 0} (answers : Called → P → P → List ℕ → Type 0) whe
     pub adds : Adds old.output.taken new.output.taken (answers_of said)
     pub counted : length said ≡ count
     pub steady : IsSteady old new
+
+module _ {P : Type 0} (answers lost : Called → P → P → List ℕ → Type 0) where
+  -- the link ended
+  pub record StopsSo (old new : LinkState) (pass pass' : P) (held : List ℕ) (end : LinkEnd) : Type 0 where
+    pub read : List ℕ
+    pub takes : Takes old.input.left new.input.left read
+    pub tail : List ℕ
+    pub adds : Adds old.output.taken new.output.taken tail
+    -- not for the number of its calls
+    pub early : HasCount end 0
+    pub ends : EndsSo answers lost (HasEnded new) (HasFailed old new) (held ++ read) pass pass' tail end
+    pub later : IsLater old new
+
+  -- one call more was answered, and the link stays open, or it ended
+  abbrev pub ServesNext : LinkState → LinkState → P → P → List ℕ → List ℕ → Option LinkEnd → Type 0
+  ServesNext old new pass pass' held held' None = GoesOn answers old new pass pass' held held'
+  ServesNext old new pass pass' held held' (Some end) = StopsSo old new pass pass' held end

@@ -45,12 +45,17 @@ pub record HasNone {P : Type 0} (first last : DoorState) (old new : P) : Type 0 
   pub failed : Rose first.faults last.faults
   pub unused : new ≡ old
 
-module _ {P : Type 0} (answers : Called → P → P → List ℕ → Type 0) where
+-- A worker serves its share of links, or fewer where an accept failed. It tells how many of them memory ended.
+abbrev pub EndsWith : DoorState → DoorState → ℕ → List Visit → WorkerEnd → Type 0
+EndsWith old new share visits (Done lacks) = (length visits ≡ share) × (lacks ≡ lacks_of visits) × (new.faults ≡ old.faults)
+EndsWith old new share visits PortFault = (length visits < share) × Rose old.faults new.faults
+
+module _ {P : Type 0} (answers lost : Called → P → P → List ℕ → Type 0) where
   -- a link of which nothing was read and on which nothing was written was served, and then stood so
   pub record IsVisit (old new : P) (v : Visit) : Type 0 where
     pub given : LinkState
     pub fresh : IsNew given
-    pub served : IsServedLink answers given v.link old new v.end
+    pub served : IsServedLink answers lost given v.link old new v.end
 
   -- the links were served so, one after another
   abbrev pub AreVisits : P → List Visit → P → Type 0
@@ -73,11 +78,7 @@ module _ {P : Type 0} (answers : Called → P → P → List ℕ → Type 0) whe
     pub lacked : lacks_of visits ≡ lacks
     pub steady : last.faults ≡ first.faults
 
-  -- A worker serves its share of links, or fewer where an accept failed. It tells how many of them memory ended.
-  abbrev pub EndsWith : DoorState → DoorState → ℕ → List Visit → WorkerEnd → Type 0
-  EndsWith old new share visits (Done lacks) = (length visits ≡ share) × (lacks ≡ lacks_of visits) × (new.faults ≡ old.faults)
-  EndsWith old new share visits PortFault = (length visits < share) × Rose old.faults new.faults
-
+  -- a worker served its share of links, or fewer where an accept failed, and all of them went back
   pub record HasWorked (share : ℕ) (first last : DoorState) (old new : P) (end : WorkerEnd) : Type 0 where
     pub visits : List Visit
     pub served : AreVisits old visits new

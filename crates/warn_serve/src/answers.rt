@@ -1,28 +1,37 @@
 //! The answers to calls, as bytes.
-ghost use Rattle.std.specs.Prelude.{◌≡◌, IfOk};
+ghost use Rattle.std.specs.Prelude.{◌≡◌, IfOk, OnErr};
 ghost use Rattle.warn_http.specs.Outcomes.{call_answer};
-ghost use Rattle.warn_serve.specs.Answers.{bytes_of, look_answer, refused_answer, submit_answer};
+ghost use Rattle.desk_links.specs.Links.{WritesLink};
+ghost use Rattle.warn_serve.specs.Answers.{MayBeLost, bytes_of, look_answer, refused_answer};
+ghost use Rattle.warn_serve.specs.Answers.{submit_answer};
 
+use crate::pieces::write_reply;
+use desk_links::{Link, write_link};
+use desk_traits::Failed;
 use hazard_types::{Oom, Or, Query, Refusal, Text};
 use office_journal::Answer;
 use request_json::refusal_text;
 use std::alloc::Global;
 use warn_http::{Outcome, disk_fault_answer, no_memory_answer, write_call_answer};
 
-/// The bytes of an answer: written, or fixed ones that take no memory.
+/// The bytes of an answer: written, or fixed ones that take no memory, or a reply that is written
+/// in pieces, which take none.
 #[derive(Debug, Drop)]
 pub(crate) enum AnswerBytes {
     Written(Text),
     Fixed(&'static [u8]),
+    InPieces { reply: Text, last: bool },
 }
 
 impl AnswerBytes {
-    pub(crate) fn as_slice(&self) -> &[u8]
-        ensures { result.now ≡ bytes_of self.now }
+    /// Writes them, or their beginning before a fault. It takes no memory.
+    pub(crate) fn write<L: Link>(&self, link: &mut L) -> Result<(), Failed>
+        ensures { WritesLink (L.state link.old) (L.state link.new) result (bytes_of self.now) }
     {
         match self {
-            AnswerBytes::Written(text) => text.as_slice(),
-            AnswerBytes::Fixed(text) => text,
+            AnswerBytes::Written(text) => write_link(link, text.as_slice()),
+            AnswerBytes::Fixed(text) => write_link(link, text),
+            AnswerBytes::InPieces { reply, last } => write_reply(link, reply, *last),
         }
     }
 }
@@ -52,17 +61,24 @@ pub(crate) fn refused_answer(
     answer_with(alloc, &Outcome::Refused(refusal), &body, last)
 }
 
-/// The answer to a request that was submitted.
+/// The answer that gives a reply. Where memory lacks for it, it is written in pieces.
+fn reply_answer(alloc: Global, reply: Text, last: bool) -> AnswerBytes
+    ensures { bytes_of result ≡ call_answer Outcome.Replied reply last }
+{
+    match answer_with(alloc, &Outcome::Replied, &reply, last) {
+        Ok(answer) => answer,
+        Err(Oom) => AnswerBytes::InPieces { reply, last },
+    }
+}
+
+/// The answer to a request that was submitted. Memory may lack for a refusal alone.
 pub(crate) fn submit_answer(alloc: Global, answer: Answer, last: bool) -> Result<AnswerBytes, Oom>
-    ensures { IfOk result (λ bytes. bytes_of bytes ≡ submit_answer answer last) }
+    ensures bytes { IfOk result (λ bytes. bytes_of bytes ≡ submit_answer answer last) }
+    ensures lost { OnErr result (MayBeLost answer) }
 {
     match answer {
-        Answer::Accepted(reply) => {
-            answer_with(alloc, &Outcome::Replied, &reply.into_text(), last)
-        }
-        Answer::Repeated(reply) => {
-            answer_with(alloc, &Outcome::Replied, &reply.into_text(), last)
-        }
+        Answer::Accepted(reply) => Ok(reply_answer(alloc, reply.into_text(), last)),
+        Answer::Repeated(reply) => Ok(reply_answer(alloc, reply.into_text(), last)),
         Answer::Refused(refusal) => refused_answer(alloc, refusal, last),
         Answer::DiskFault => Ok(AnswerBytes::Fixed(disk_fault_answer(last))),
         Answer::OutOfMemory => Ok(AnswerBytes::Fixed(no_memory_answer(last))),

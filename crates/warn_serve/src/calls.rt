@@ -1,5 +1,5 @@
 //! The answer to one call at a shared office.
-ghost use Rattle.std.specs.Prelude.{◌≡◌, List, ℕ, length};
+ghost use Rattle.std.specs.Prelude.{◌≡◌, List, ℕ, OnErr, length};
 ghost use Rattle.request_json.specs.Formed.{HasForm};
 ghost use Rattle.turn_lock.specs.Passes.{KeepsRights};
 ghost use Rattle.warn_http.specs.Calls.{LiesIn, posted_in};
@@ -51,6 +51,7 @@ impl<R: Wait, D: Disk, C: Clock, G> Service<'_, R, D, C, G> {
         ensures submitted { (answer : List ℕ)
             × Submits last pass.old pass.new answer (C.gives self.now.clock.now) asked.now
             × Yields result answer }
+        ensures lost { OnErr result (pass.new.mine ≡ pass.old.mine) }
     {
         let reading = self.clock.minute();
         let outcome = submit_in_turn(self.rt, self.lock, pass, self.alloc, asked, reading);
@@ -69,6 +70,7 @@ impl<R: Wait, D: Disk, C: Clock, G> Service<'_, R, D, C, G> {
         ensures looked { (answer : List ℕ)
             × IsLooked last pass.old pass.new answer (C.gives self.now.clock.now) query
             × Yields result answer }
+        ensures lost { OnErr result (pass.new.mine ≡ pass.old.mine) }
     {
         let reading = self.clock.minute();
         let shown = self.look_in_turn(pass, &query, reading);
@@ -87,6 +89,7 @@ impl<R: Wait, D: Disk, C: Clock, G> Service<'_, R, D, C, G> {
         ensures posted { (answer : List ℕ)
             × AnswersPost last pass.old pass.new answer (C.gives self.now.clock.now) posted.now
             × Yields result answer }
+        ensures lost { OnErr result (pass.new.mine ≡ pass.old.mine) }
     {
         match read_request(self.alloc, posted) {
             Ok(asked) => self.answer_request(pass, &asked, last),
@@ -99,7 +102,8 @@ impl<R: Wait, D: Disk, C: Clock, G> Service<'_, R, D, C, G> {
     ///
     /// # Errors
     ///
-    /// Out of memory for the answer's bytes, where the call was judged.
+    /// Out of memory for the answer's bytes, where the call was judged and nothing happened that
+    /// the pass could call its own.
     pub(crate) fn answer_call(
         &self,
         pass: &mut Pass<SharedOffice<D>>,
@@ -114,6 +118,7 @@ impl<R: Wait, D: Disk, C: Clock, G> Service<'_, R, D, C, G> {
             × AnswersAsked last pass.old pass.new answer (C.gives self.now.clock.now) call
             (posted_in bytes.now call)
             × Yields result answer }
+        ensures lost { OnErr result (pass.new.mine ≡ pass.old.mine) }
     {
         match call {
             Call::Post(span) => {

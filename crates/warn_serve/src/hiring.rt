@@ -2,7 +2,7 @@
 ghost use Rattle.std.specs.Prelude.{◌≡◌, ◌≤◌, ◌<◌, ◌+◌, ◌-◌, [], ℕ, All, IfOk, OnErr, OnOk};
 ghost use Rattle.std.specs.Prelude.{length, map, slice_index_or, vec_capacity, vec_len};
 ghost use Rattle.turn_lock.specs.Passes.{one_share_fewer, one_share_of};
-ghost use Rattle.warn_serve.specs.Calls.{AnswersCall};
+ghost use Rattle.warn_serve.specs.Calls.{AnswersCall, LosesCall};
 ghost use Rattle.warn_serve.specs.Gathered.{DoesShare, IsFresh, KeepsWhole, TakesBack};
 ghost use Rattle.warn_serve.specs.Shares.{share_at, shares_of, total_of, with_links};
 ghost use Rattle.desk_links.specs.Links.{IsUnused};
@@ -125,7 +125,8 @@ impl<R: Wait, D: Disk, C: Clock, G: Gate> Service<'_, R, D, C, G> {
         requires none_given { (Dr.state one.old.door).given ≡ 0 }
         requires none_returned { (Dr.state one.old.door).returned ≡ 0 }
         ensures share { one.new.share ≡ one.old.share }
-        ensures does { DoesShare (AnswersCall (C.gives self.now.clock.now)) one.old.share
+        ensures does { DoesShare (AnswersCall (C.gives self.now.clock.now))
+            (LosesCall (C.gives self.now.clock.now)) one.old.share
             (Dr.state one.old.door)
             (Dr.state one.new.door) one.old.pass one.new.pass one.new.end }
     {
@@ -151,6 +152,7 @@ pub(crate) fn work_all<
         → (slice_index_or workers.new i w).share ≡ (slice_index_or workers.old i w).share }
     ensures does { (i : ℕ) (w : _) → i < length workers.old
         → DoesShare (AnswersCall (C.gives service.now.clock.now))
+        (LosesCall (C.gives service.now.clock.now))
         (slice_index_or workers.old i w).share
         (Dr.state (slice_index_or workers.old i w).door)
         (Dr.state (slice_index_or workers.new i w).door)
@@ -173,7 +175,8 @@ pub(crate) fn work_all<
             requires { (one.old.pass.lock ≡ lock.now) × (one.old.share ≤ 1000000)
                 × ((Dr.state one.old.door).given ≡ 0) × ((Dr.state one.old.door).returned ≡ 0) }
             ensures share { one.new.share ≡ one.old.share }
-            ensures does { DoesShare (AnswersCall (C.gives clock.entry.now)) one.old.share
+            ensures does { DoesShare (AnswersCall (C.gives clock.entry.now))
+                (LosesCall (C.gives clock.entry.now)) one.old.share
                 (Dr.state one.old.door)
                 (Dr.state one.new.door) one.old.pass one.new.pass one.new.end }
         {

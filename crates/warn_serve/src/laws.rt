@@ -4,7 +4,7 @@ ghost use Rattle.desk_links.specs.Links.{LinkState};
 ghost use Rattle.office_journal.specs.declared.kept.KeptOffice.{KeptOffice};
 ghost use Rattle.office_turns.specs.declared.happening.Happening.{Happening};
 ghost use Rattle.turn_lock.specs.Passes.{PassRecord};
-ghost use Rattle.warn_serve.specs.Calls.{AnswersCall};
+ghost use Rattle.warn_serve.specs.Calls.{AnswersCall, LosesCall};
 ghost use Rattle.warn_serve.specs.Causes.{EndAlike, HasCause};
 ghost use Rattle.warn_serve.specs.Links.{IsServedLink};
 ghost use Rattle.warn_serve.specs.Wholes.{IsWhole};
@@ -20,7 +20,8 @@ use desk_traits::{Clock, Disk};
 pub fn links_end_by_their_causes<D: Disk, C: Clock>()
     ensures cause { (clock : C) (old new : LinkState)
         (pass pass' : PassRecord (KeptOffice D D.Disk) (Happening D D.Disk)) (end : LinkEnd)
-        (served : IsServedLink (AnswersCall (C.gives clock)) old new pass pass' end)
+        (served : IsServedLink (AnswersCall (C.gives clock))
+        (LosesCall (C.gives clock)) old new pass pass' end)
         → HasCause old new served.read end }
     ensures apart { (old new old' new' : LinkState) (read : List ℕ) (end other : LinkEnd)
         → IsWhole end → IsWhole other
@@ -28,7 +29,9 @@ pub fn links_end_by_their_causes<D: Disk, C: Clock>()
     ensures alike { (clock clock' : C) (old new old' new' : LinkState)
         (pass pass' next next' : PassRecord (KeptOffice D D.Disk) (Happening D D.Disk))
         (end other : LinkEnd)
-        (one : IsServedLink (AnswersCall (C.gives clock)) old new pass pass' end)
-        (two : IsServedLink (AnswersCall (C.gives clock')) old' new' next next' other)
+        (one : IsServedLink (AnswersCall (C.gives clock))
+        (LosesCall (C.gives clock)) old new pass pass' end)
+        (two : IsServedLink (AnswersCall (C.gives clock'))
+        (LosesCall (C.gives clock')) old' new' next next' other)
         → one.read ≡ two.read → IsWhole end → IsWhole other → EndAlike one.read end other }
 {}

@@ -7,6 +7,7 @@ mod calls;
 mod hiring;
 mod laws;
 mod links;
+mod pieces;
 mod service;
 mod serving;
 mod workers;

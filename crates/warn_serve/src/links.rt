@@ -1,10 +1,9 @@
 //! The calls of one link.
 ghost use Rattle.std.specs.Prelude.{◌≡◌, ℕ, List, [], length, true};
-ghost use Rattle.desk_links.specs.Links.{WritesLink};
 ghost use Rattle.turn_lock.specs.Passes.{KeepsRights};
 ghost use Rattle.warn_http.specs.Calls.{LiesIn, posted_in};
 ghost use Rattle.warn_serve.specs.Answers.{bytes_of, refused_answer};
-ghost use Rattle.warn_serve.specs.Calls.{AnswersAsked, AnswersCall};
+ghost use Rattle.warn_serve.specs.Calls.{AnswersAsked, AnswersCall, LosesCall};
 ghost use Rattle.warn_serve.specs.Links.{IsServedLink};
 ghost use Rattle.warn_serve.specs.Steps.{Sends, ServesNext};
 ghost use Rattle.warn_serve.specs.Wholes.{AnswersLink, IsWhole};
@@ -12,7 +11,7 @@ ghost use Rattle.warn_serve.specs.Wholes.{AnswersLink, IsWhole};
 use crate::answers::{AnswerBytes, refused_answer};
 use crate::service::Service;
 use call_inbox::{Inbox, NextCall, next_call};
-use desk_links::{Gate, Link, write_link};
+use desk_links::{Gate, Link};
 use desk_traits::{Clock, Disk, Failed};
 use hazard_types::{Oom, Refusal};
 use office_turns::SharedOffice;
@@ -38,18 +37,11 @@ pub enum LinkEnd {
     OutOfMemory,
 }
 
-/// Writes an answer, or its beginning before a fault.
-fn send<L: Link>(link: &mut L, answer: &AnswerBytes) -> Result<(), Failed>
-    ensures { WritesLink (L.state link.old) (L.state link.new) result (bytes_of answer.now) }
-{
-    write_link(link, answer.as_slice())
-}
-
-/// Writes an answer, after which the link closes or stays open.
+/// Writes an answer, after which the link closes or stays open. It is never lost for want of memory.
 fn finish<L: Link>(link: &mut L, answer: &AnswerBytes, last: bool) -> Option<LinkEnd>
-    ensures { Sends (L.state link.old) (L.state link.new) (bytes_of answer.now) last result }
+    ensures { Sends ⊥ (L.state link.old) (L.state link.new) (bytes_of answer.now) last result }
 {
-    match send(link, answer) {
+    match answer.write(link) {
         Ok(()) if last => Some(LinkEnd::Closed),
         Ok(()) => None,
         Err(Failed) => Some(LinkEnd::LinkFault),
@@ -58,8 +50,8 @@ fn finish<L: Link>(link: &mut L, answer: &AnswerBytes, last: bool) -> Option<Lin
 
 /// Writes that the first call is refused, after which the link closes.
 fn refuse<L: Link>(alloc: Global, link: &mut L, refusal: Refusal) -> Option<LinkEnd>
-    ensures { Sends (L.state link.old) (L.state link.new) (refused_answer refusal true) true
-        result }
+    ensures { Sends (Unit {0}) (L.state link.old) (L.state link.new) (refused_answer refusal true)
+        true result }
 {
     match refused_answer(alloc, refusal, true) {
         Ok(answer) => finish(link, &answer, true),
@@ -69,7 +61,8 @@ fn refuse<L: Link>(alloc: Global, link: &mut L, refusal: Refusal) -> Option<Link
 
 impl<R: Wait, D: Disk, C: Clock, G: Gate> Service<'_, R, D, C, G> {
     /// Answers a call, whose body lies in `bytes`: the end of the link, or nothing where it stays
-    /// open.
+    /// open. Memory may lack for the answer only where nothing happened that the pass could call
+    /// its own.
     fn serve_call<L: Link>(
         &self,
         pass: &mut Pass<SharedOffice<D>>,
@@ -84,7 +77,8 @@ impl<R: Wait, D: Disk, C: Clock, G: Gate> Service<'_, R, D, C, G> {
         ensures sent { (answer : List ℕ)
             × AnswersAsked last pass.old pass.new answer (C.gives self.now.clock.now) call
             (posted_in bytes.now call)
-            × Sends (L.state link.old) (L.state link.new) answer last result }
+            × Sends (pass.new.mine ≡ pass.old.mine) (L.state link.old) (L.state link.new) answer
+            last result }
     {
         match self.answer_call(pass, bytes, call, last) {
             Ok(answer) => finish(link, &answer, last),
@@ -103,7 +97,8 @@ impl<R: Wait, D: Disk, C: Clock, G: Gate> Service<'_, R, D, C, G> {
     ) -> Option<LinkEnd>
         requires pass { pass.old.lock ≡ self.now.lock.now }
         ensures kept { KeepsRights pass.old pass.new }
-        ensures served { ServesNext (AnswersCall (C.gives self.now.clock.now)) (L.state link.old)
+        ensures served { ServesNext (AnswersCall (C.gives self.now.clock.now))
+            (LosesCall (C.gives self.now.clock.now)) (L.state link.old)
             (L.state link.new) pass.old pass.new inbox.old inbox.new result }
     {
         match next_call(self.alloc, self.routes, inbox, link) {
@@ -133,7 +128,8 @@ impl<R: Wait, D: Disk, C: Clock, G: Gate> Service<'_, R, D, C, G> {
         requires pass { pass.old.lock ≡ self.now.lock.now }
         requires empty { inbox.old ≡ [] }
         ensures kept { KeepsRights pass.old pass.new }
-        ensures served { IsServedLink (AnswersCall (C.gives self.now.clock.now)) (L.state link.old)
+        ensures served { IsServedLink (AnswersCall (C.gives self.now.clock.now))
+            (LosesCall (C.gives self.now.clock.now)) (L.state link.old)
             (L.state link.new) pass.old pass.new result }
     {
         for index in 0..MOST_CALLS {
@@ -160,7 +156,8 @@ impl<R: Wait, D: Disk, C: Clock, G: Gate> Service<'_, R, D, C, G> {
         ensures kept { KeepsRights pass.old pass.new }
         ensures whole { IsWhole result → AnswersLink (AnswersCall (C.gives self.now.clock.now))
             (L.state link.old) (L.state link.new) pass.old pass.new }
-        ensures served { IsServedLink (AnswersCall (C.gives self.now.clock.now)) (L.state link.old)
+        ensures served { IsServedLink (AnswersCall (C.gives self.now.clock.now))
+            (LosesCall (C.gives self.now.clock.now)) (L.state link.old)
             (L.state link.new) pass.old pass.new result }
     {
         inbox.clear();
@@ -182,7 +179,8 @@ pub fn serve_link<R: Wait, D: Disk, L: Link, C: Clock, G: Gate>(
     ensures kept { KeepsRights pass.old pass.new }
     ensures whole { IsWhole result → AnswersLink (AnswersCall (C.gives clock.now))
         (L.state link.old) (L.state link.new) pass.old pass.new }
-    ensures served { IsServedLink (AnswersCall (C.gives clock.now)) (L.state link.old)
+    ensures served { IsServedLink (AnswersCall (C.gives clock.now))
+        (LosesCall (C.gives clock.now)) (L.state link.old)
         (L.state link.new) pass.old pass.new result }
 {
     let Ok(mut inbox) = Inbox::new(alloc) else {

@@ -1,6 +1,6 @@
 //! The whole service: workers over the doors of a port share one kept office.
 ghost use Rattle.std.specs.Prelude.{◌≡◌, ◌≤◌, ◌<◌, ◌+◌, ℕ, List, All, map, vec_len};
-ghost use Rattle.warn_serve.specs.Calls.{AnswersCall};
+ghost use Rattle.warn_serve.specs.Calls.{AnswersCall, LosesCall};
 ghost use Rattle.warn_serve.specs.Gathered.{HasDone, IsFresh, IsGathered, end_after, short_of};
 ghost use Rattle.warn_serve.specs.Shares.{SharesOut, total_of};
 ghost use Rattle.warn_serve.specs.Served.{HasListened, IsServed};
@@ -66,12 +66,14 @@ impl<R, D: Disk, C: Clock, G> Service<'_, R, D, C, G> {
     ) -> ServeEnd
         requires lock { pass.old.lock ≡ self.now.lock.now }
         requires done { All (λ w. HasDone (AnswersCall (C.gives self.now.clock.now))
+            (LosesCall (C.gives self.now.clock.now))
             pass.old w.share (P.Door.state w.door) w.pass w.end) workers.items }
         requires few { (P.state port.old).returned + total_of (map (λ w. w.share) workers.items)
             ≤ 1000000 }
         ensures shares { pass.new.shares ≡ pass.old.shares + vec_len workers }
         ensures numbers { (P.state port.new).numbers ≡ (P.state port.old).numbers }
         ensures gathered { IsGathered (AnswersCall (C.gives self.now.clock.now))
+            (LosesCall (C.gives self.now.clock.now))
             (map (λ w. w.share) workers.items)
             (total_of (map (λ w. w.share) workers.items)) (P.state port.old) (P.state port.new)
             pass.old pass.new result }
@@ -114,6 +116,7 @@ impl<R: Threads + Wait + Sync, D: Disk + Send, C: Clock + Sync, G: Gate + Sync> 
         ensures shares { pass.new.shares ≡ pass.old.shares + vec_len workers }
         ensures numbers { (P.state port.new).numbers ≡ (P.state port.old).numbers }
         ensures gathered { IsGathered (AnswersCall (C.gives self.now.clock.now))
+            (LosesCall (C.gives self.now.clock.now))
             (map (λ w. w.share) workers.items)
             (total_of (map (λ w. w.share) workers.items)) (P.state port.old) (P.state port.new)
             pass.old pass.new result }
@@ -140,6 +143,7 @@ impl<R: Threads + Wait + Sync, D: Disk + Send, C: Clock + Sync, G: Gate + Sync> 
         ensures shares { pass.new.shares ≡ 1024 }
         ensures listened { HasListened number (P.state port.old) (P.state port.new) }
         ensures gathered { (given : List ℕ) × IsGathered (AnswersCall (C.gives self.now.clock.now))
+            (LosesCall (C.gives self.now.clock.now))
             given connections (P.state port.old) (P.state port.new) pass.old pass.new result
             × SharesOut workers connections given result }
     {

@@ -1,7 +1,7 @@
 //! A worker over the links of one door.
 ghost use Rattle.std.specs.Prelude.{◌≡◌, ◌≤◌, ◌<◌, ◌^◌, IfOk, OnErr};
 ghost use Rattle.turn_lock.specs.Passes.{KeepsRights};
-ghost use Rattle.warn_serve.specs.Calls.{AnswersCall};
+ghost use Rattle.warn_serve.specs.Calls.{AnswersCall, LosesCall};
 ghost use Rattle.warn_serve.specs.Workers.{HasNone, HasWorked, ServesOne, lack_of};
 
 use crate::links::LinkEnd;
@@ -46,6 +46,7 @@ impl<R: Wait, D: Disk, C: Clock, G: Gate> Service<'_, R, D, C, G> {
         requires few { (Dr.state door.old).returned < 2 ^ 32 }
         ensures kept { KeepsRights pass.old pass.new }
         ensures served { IfOk result (λ end. ServesOne (AnswersCall (C.gives self.now.clock.now))
+            (LosesCall (C.gives self.now.clock.now))
             (Dr.state door.old)
             (Dr.state door.new) pass.old pass.new end) }
         ensures failed { OnErr result (HasNone (Dr.state door.old)
@@ -73,7 +74,8 @@ impl<R: Wait, D: Disk, C: Clock, G: Gate> Service<'_, R, D, C, G> {
         ensures kept { KeepsRights pass.old pass.new }
         ensures none_out { (Dr.state door.new).given ≡ (Dr.state door.new).returned }
         ensures few { (Dr.state door.new).returned ≤ share }
-        ensures worked { HasWorked (AnswersCall (C.gives self.now.clock.now)) share
+        ensures worked { HasWorked (AnswersCall (C.gives self.now.clock.now))
+            (LosesCall (C.gives self.now.clock.now)) share
             (Dr.state door.old)
             (Dr.state door.new) pass.old pass.new result }
     {

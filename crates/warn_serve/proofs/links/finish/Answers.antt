@@ -9,7 +9,7 @@ returns-in-Err g c =
     let state = g.L.Link.state in
     let sent = c.in-Err.ensures in
     let bytes = bytes_of c.args.answer.now in (
-      failed_write (state c.args.link.now) (state c.send.new.link) sent.input sent.cause.failed,
+      failed_write (state c.args.link.now) (state c.write.new.link) sent.input sent.cause.failed,
       take sent.part.0 bytes,
       (drop sent.part.0 bytes, take-append-drop sent.part.0 bytes),
       record { came = sent.came; input = sent.input; adds = sent.part.2; later = sent.cause.later },

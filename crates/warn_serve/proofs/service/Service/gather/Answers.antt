@@ -1,7 +1,7 @@
 use Rattle.std.proofs.Common.{[], ◌∷◌, ◌++◌, refl, sym, ◌∙◌, ap, arith, append_assoc, map, rules, subst, length, length-append}
 use Rattle.desk_links.specs.Links.{PortState}
 use Rattle.std.proofs.lemmas.List.{map-append}
-use Rattle.warn_serve.specs.Calls.{AnswersCall}
+use Rattle.warn_serve.specs.Calls.{AnswersCall, LosesCall}
 use Rattle.warn_serve.specs.Gathered.{HasDone, IsGathered}
 use Rattle.warn_serve.specs.Shares.{total_of}
 use Rattle.warn_serve.proofs.Gathering.{all_given}
@@ -17,7 +17,7 @@ loop-worker-init g c =
       ends = tt;
       items = search rules;
       shares = omega arith;
-      gathered = gathered_none (AnswersCall (g.C.Clock.gives c.args.self.now.clock.now)) (g.P.Port.state c.args.port.now) c.args.pass.now;
+      gathered = gathered_none (AnswersCall (g.C.Clock.gives c.args.self.now.clock.now)) (LosesCall (g.C.Clock.gives c.args.self.now.clock.now)) (g.P.Port.state c.args.port.now) c.args.pass.now;
       numbers = refl;
     }
 
@@ -28,24 +28,25 @@ pub join-requires-clause-other : goal.join-requires-clause-other
 join-requires-clause-other g c =
     let door = g.P.Door.Door in
     let step = c.loop-worker.invariant.items ∙ ap (λ l. c.loop-worker.yielded ++ l) c.in-Some.ensures.steps.0 in
-    let done = all_here c.loop-worker.yielded c.in-Some.worker c.next.new.self.rest.items c.args.workers.items step (λ w. HasDone (AnswersCall (g.C.Clock.gives c.args.self.now.clock.now)) c.args.pass.now w.share (door.state w.door) w.pass w.end) c.requires.done in
+    let done = all_here c.loop-worker.yielded c.in-Some.worker c.next.new.self.rest.items c.args.workers.items step (λ w. HasDone (AnswersCall (g.C.Clock.gives c.args.self.now.clock.now)) (LosesCall (g.C.Clock.gives c.args.self.now.clock.now)) c.args.pass.now w.share (door.state w.door) w.pass w.end) c.requires.done in
     done.does.rights.lock ∙ (done.is_share.lock ∙ c.requires.lock)
 
 pub return_door-requires-clause-none_out : goal.return_door-requires-clause-none_out
 return_door-requires-clause-none_out g c =
     let door = g.P.Door.Door in
     let step = c.loop-worker.invariant.items ∙ ap (λ l. c.loop-worker.yielded ++ l) c.in-Some.ensures.steps.0 in
-    let done = all_here c.loop-worker.yielded c.in-Some.worker c.next.new.self.rest.items c.args.workers.items step (λ w. HasDone (AnswersCall (g.C.Clock.gives c.args.self.now.clock.now)) c.args.pass.now w.share (door.state w.door) w.pass w.end) c.requires.done in
+    let done = all_here c.loop-worker.yielded c.in-Some.worker c.next.new.self.rest.items c.args.workers.items step (λ w. HasDone (AnswersCall (g.C.Clock.gives c.args.self.now.clock.now)) (LosesCall (g.C.Clock.gives c.args.self.now.clock.now)) c.args.pass.now w.share (door.state w.door) w.pass w.end) c.requires.done in
     done.does.none_out
 
 pub return_door-requires-clause-few : goal.return_door-requires-clause-few
 return_door-requires-clause-few g c =
     let door = g.P.Door.Door in
     let answers = AnswersCall (g.C.Clock.gives c.args.self.now.clock.now) in
+    let lost = LosesCall (g.C.Clock.gives c.args.self.now.clock.now) in
     let state = door.state in
     let step = c.loop-worker.invariant.items ∙ ap (λ l. c.loop-worker.yielded ++ l) c.in-Some.ensures.steps.0 in
-    let done = all_here c.loop-worker.yielded c.in-Some.worker c.next.new.self.rest.items c.args.workers.items step (λ w. HasDone answers c.args.pass.now w.share (state w.door) w.pass w.end) c.requires.done in
-    let few = done_returned answers c.args.pass.now c.in-Some.worker.pass c.in-Some.worker.share (state c.in-Some.worker.door) c.in-Some.worker.end done in
+    let done = all_here c.loop-worker.yielded c.in-Some.worker c.next.new.self.rest.items c.args.workers.items step (λ w. HasDone answers lost c.args.pass.now w.share (state w.door) w.pass w.end) c.requires.done in
+    let few = done_returned answers lost c.args.pass.now c.in-Some.worker.pass c.in-Some.worker.share (state c.in-Some.worker.door) c.in-Some.worker.end done in
     let sum = total_here c.loop-worker.yielded c.in-Some.worker c.next.new.self.rest.items c.args.workers.items step (λ w. w.share) in
     let was = c.loop-worker.invariant.gathered in
     omega (arith, few, sum, was.back.returned, was.within, c.requires.few)
@@ -55,11 +56,12 @@ loop-worker-preserved g c =
     let door = g.P.Door.Door in
     let port = g.P.Port.state in
     let answers = AnswersCall (g.C.Clock.gives c.args.self.now.clock.now) in
+    let lost = LosesCall (g.C.Clock.gives c.args.self.now.clock.now) in
     let state = door.state in
     let yielded = c.loop-worker.yielded in
     let one = c.in-Some.worker in
     let step = c.loop-worker.invariant.items ∙ ap (λ l. yielded ++ l) c.in-Some.ensures.steps.0 in
-    let done = all_here yielded one c.next.new.self.rest.items c.args.workers.items step (λ w. HasDone answers c.args.pass.now w.share (state w.door) w.pass w.end) c.requires.done in
+    let done = all_here yielded one c.next.new.self.rest.items c.args.workers.items step (λ w. HasDone answers lost c.args.pass.now w.share (state w.door) w.pass w.end) c.requires.done in
     record {
       can = tt;
       ends = tt;
@@ -70,7 +72,7 @@ loop-worker-preserved g c =
           let t = done.is_share.shares in
           let n = length-append yielded (one ∷ []) in
           omega (arith, c.loop-worker.invariant.shares));
-      gathered = gathered_on answers (map (λ w. w.share) yielded) (map (λ w. w.share) (yielded ++ one ∷ [])) (total_of (map (λ w. w.share) yielded)) one.share (total_of (map (λ w. w.share) (yielded ++ one ∷ [])))
+      gathered = gathered_on answers lost (map (λ w. w.share) yielded) (map (λ w. w.share) (yielded ++ one ∷ [])) (total_of (map (λ w. w.share) yielded)) one.share (total_of (map (λ w. w.share) (yielded ++ one ∷ [])))
           (port c.args.port.now) (port c.loop-worker.port) (port c.return_door.new.self) c.args.pass.now c.loop-worker.pass c.join.new.pass one.pass (state one.door) c.loop-worker.end c.end_after-end.result one.end
           c.loop-worker.invariant.gathered done (map-append (λ w. w.share) yielded (one ∷ [])) (total_on (λ w. w.share) yielded one) c.end_after-end.ensures
           c.join.ensures.both c.join.ensures.begins.0 c.join.ensures.begins.1 c.return_door.ensures;
@@ -89,4 +91,4 @@ returns-clause-gathered g c =
     let port = g.P.Port.state in
     let rest = c.loop-worker.worker-iterator.rest in
     let all = all_given c.args.workers.items c.loop-worker.yielded rest.items rest.len c.loop-worker.invariant.items rest.ok.0 c.in-None.ensures.steps.0 in
-    subst (λ l. IsGathered (AnswersCall (g.C.Clock.gives c.args.self.now.clock.now)) (map (λ w. w.share) l) (total_of (map (λ w. w.share) l)) (port c.args.port.now) (port c.loop-worker.port) c.args.pass.now c.loop-worker.pass c.loop-worker.end) all c.loop-worker.invariant.gathered
+    subst (λ l. IsGathered (AnswersCall (g.C.Clock.gives c.args.self.now.clock.now)) (LosesCall (g.C.Clock.gives c.args.self.now.clock.now)) (map (λ w. w.share) l) (total_of (map (λ w. w.share) l)) (port c.args.port.now) (port c.loop-worker.port) c.args.pass.now c.loop-worker.pass c.loop-worker.end) all c.loop-worker.invariant.gathered

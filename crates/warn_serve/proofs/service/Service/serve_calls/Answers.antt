@@ -1,5 +1,5 @@
 use Rattle.std.proofs.Common.{ℕ, List, sym, ◌∙◌, subst, arith}
-use Rattle.warn_serve.specs.Calls.{AnswersCall}
+use Rattle.warn_serve.specs.Calls.{AnswersCall, LosesCall}
 use Rattle.warn_serve.specs.Steps.{HasGone}
 use Rattle.warn_serve.proofs.Going.{goes_on, gone_none, keeps_none, keeps_on, spent_at, stops_at}
 use Rattle.warn_serve.proofs.service.Service.serve_calls.Goals as goal
@@ -23,7 +23,7 @@ returns-in-Some-clause-kept g c = keeps_on c.args.pass.now c.loop-index.pass c.s
 pub returns-in-Some-clause-served : goal.returns-in-Some-clause-served
 returns-in-Some-clause-served g c =
     let state = g.L.Link.state in
-    stops_at (AnswersCall (g.C.Clock.gives c.args.self.now.clock.now)) (state c.args.link.now) (state c.loop-index.link) (state c.serve_next.new.link) c.args.pass.now c.loop-index.pass c.serve_next.new.pass c.loop-index.inbox c.loop-index.index c.in-Some.end
+    stops_at (AnswersCall (g.C.Clock.gives c.args.self.now.clock.now)) (LosesCall (g.C.Clock.gives c.args.self.now.clock.now)) (state c.args.link.now) (state c.loop-index.link) (state c.serve_next.new.link) c.args.pass.now c.loop-index.pass c.serve_next.new.pass c.loop-index.inbox c.loop-index.index c.in-Some.end
     c.loop-index.invariant.gone (omega (arith, c.loop-index-test.true)) c.in-Some.ensures.served
 
 pub loop-index-preserved : goal.loop-index-preserved
@@ -42,5 +42,5 @@ returns-clause-kept g c = c.loop-index.invariant.kept
 pub returns-clause-served : goal.returns-clause-served
 returns-clause-served g c =
     let state = g.L.Link.state in
-    spent_at (AnswersCall (g.C.Clock.gives c.args.self.now.clock.now)) (state c.args.link.now) (state c.loop-index.link) c.args.pass.now c.loop-index.pass c.loop-index.inbox c.loop-index.index
+    spent_at (AnswersCall (g.C.Clock.gives c.args.self.now.clock.now)) (LosesCall (g.C.Clock.gives c.args.self.now.clock.now)) (state c.args.link.now) (state c.loop-index.link) c.args.pass.now c.loop-index.pass c.loop-index.inbox c.loop-index.index
     c.loop-index.invariant.gone (omega (arith, c.loop-index-test.false, c.loop-index.invariant.within))

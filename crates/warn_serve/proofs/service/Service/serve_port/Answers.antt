@@ -1,5 +1,5 @@
 use Rattle.std.proofs.Common.{◌≡◌, ◌≤◌, ℕ, [], map, refl, arith, inl, inr, rules, subst, vec_len}
-use Rattle.warn_serve.specs.Calls.{AnswersCall}
+use Rattle.warn_serve.specs.Calls.{AnswersCall, LosesCall}
 use Rattle.warn_serve.specs.Gathered.{IsFresh}
 use Rattle.warn_serve.specs.Shares.{shares_of, total_of, with_links}
 use Rattle.warn_serve.specs.declared.serving.ServeEnd.TheVariants.{PortFault, OutOfMemory}
@@ -16,7 +16,7 @@ returns-in-Err-No-clause-gathered g c =
     let first = port c.args.port.now in
     let last = port c.listen.new.self in (
       [],
-      gathered_not (AnswersCall (g.C.Clock.gives c.args.self.now.clock.now)) c.args.connections first last c.args.pass.now PortFault (takes_same first last c.listen.ensures.returned c.listen.ensures.links c.listen.ensures.later) (omega (arith, c.requires.connections.0), counted_so first.faults last.faults c.listen.result c.in-Err-No.field-0 _ c.in-Err-No.is c.in-Err-No.field-0-is c.listen.ensures.counted),
+      gathered_not (AnswersCall (g.C.Clock.gives c.args.self.now.clock.now)) (LosesCall (g.C.Clock.gives c.args.self.now.clock.now)) c.args.connections first last c.args.pass.now PortFault (takes_same first last c.listen.ensures.returned c.listen.ensures.links c.listen.ensures.later) (omega (arith, c.requires.connections.0), counted_so first.faults last.faults c.listen.result c.in-Err-No.field-0 _ c.in-Err-No.is c.in-Err-No.field-0-is c.listen.ensures.counted),
       inr (omega (arith, c.requires.connections.0), tt),
     )
 
@@ -26,7 +26,7 @@ returns-in-Err-OutOfMemory-clause-gathered g c =
     let first = port c.args.port.now in
     let last = port c.listen.new.self in (
       [],
-      gathered_not (AnswersCall (g.C.Clock.gives c.args.self.now.clock.now)) c.args.connections first last c.args.pass.now OutOfMemory (takes_same first last c.listen.ensures.returned c.listen.ensures.links c.listen.ensures.later) (inl (omega (arith, c.requires.connections.0)), omega (arith, counted_so first.faults last.faults c.listen.result c.in-Err-OutOfMemory.field-0 _ c.in-Err-OutOfMemory.is c.in-Err-OutOfMemory.field-0-is c.listen.ensures.counted)),
+      gathered_not (AnswersCall (g.C.Clock.gives c.args.self.now.clock.now)) (LosesCall (g.C.Clock.gives c.args.self.now.clock.now)) c.args.connections first last c.args.pass.now OutOfMemory (takes_same first last c.listen.ensures.returned c.listen.ensures.links c.listen.ensures.later) (inl (omega (arith, c.requires.connections.0)), omega (arith, counted_so first.faults last.faults c.listen.result c.in-Err-OutOfMemory.field-0 _ c.in-Err-OutOfMemory.is c.in-Err-OutOfMemory.field-0-is c.listen.ensures.counted)),
       inr (omega (arith, c.requires.connections.0), tt),
     )
 
@@ -51,7 +51,7 @@ returns-clause-gathered g c =
     let steady : (port c.hire-hired.new.port).faults ≤ first.faults = omega (arith, same, c.hire-hired.ensures.steady) in
     let count : vec_len c.into_vec-doors.result ≡ c.args.workers = search rules in (
       given,
-      gathered_short (AnswersCall (g.C.Clock.gives c.args.self.now.clock.now)) given (total_of given) c.hire-hired.result.1 c.args.connections first (port c.hire-hired.new.port) (port c.serve_shares-end.new.port) c.args.pass.now c.hire-hired.new.pass c.serve_shares-end.new.pass c.serve_shares-end.result c.short_of.result
+      gathered_short (AnswersCall (g.C.Clock.gives c.args.self.now.clock.now)) (LosesCall (g.C.Clock.gives c.args.self.now.clock.now)) given (total_of given) c.hire-hired.result.1 c.args.connections first (port c.hire-hired.new.port) (port c.serve_shares-end.new.port) c.args.pass.now c.hire-hired.new.pass c.serve_shares-end.new.pass c.serve_shares-end.result c.short_of.result
           c.serve_shares-end.ensures.gathered c.hire-hired.ensures.kept back steady c.hire-hired.ensures.total c.short_of.ensures,
       shared_out c.args.workers c.args.connections c.hire-hired.result.1 given c.serve_shares-end.result c.short_of.result c.hire-hired.ensures.total
           (subst (λ (n : ℕ). c.hire-hired.result.1 ≡ 0 → with_links given ≡ with_links (shares_of n c.args.connections)) count c.hire-hired.ensures.even) c.short_of.ensures,

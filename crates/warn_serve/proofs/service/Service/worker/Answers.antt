@@ -1,5 +1,5 @@
 use Rattle.std.proofs.Common.{sym, ◌∙◌, arith}
-use Rattle.warn_serve.specs.Calls.{AnswersCall}
+use Rattle.warn_serve.specs.Calls.{AnswersCall, LosesCall}
 use Rattle.warn_serve.proofs.Going.{keeps_none, keeps_on}
 use Rattle.warn_serve.proofs.Working.{served_none, served_on, worked_all, worked_part}
 use Rattle.warn_serve.proofs.service.Service.worker.Goals as goal
@@ -13,7 +13,7 @@ loop-served-init g c =
       kept = keeps_none c.args.pass.now;
       none_out = c.requires.none_given ∙ sym c.requires.none_returned;
       returned = c.requires.none_returned;
-      served = served_none (AnswersCall (g.C.Clock.gives c.args.self.now.clock.now)) (door.state c.args.door.now) c.args.pass.now;
+      served = served_none (AnswersCall (g.C.Clock.gives c.args.self.now.clock.now)) (LosesCall (g.C.Clock.gives c.args.self.now.clock.now)) (door.state c.args.door.now) c.args.pass.now;
     }
 
 pub serve_one-requires-clause-few : goal.serve_one-requires-clause-few
@@ -31,7 +31,7 @@ loop-served-preserved g c =
       kept = keeps_on c.args.pass.now c.loop-served.pass c.serve_one.new.pass was.kept c.in-Ok.ensures.kept;
       none_out = omega (arith, was.none_out, one.gives_back.given, one.gives_back.returned);
       returned = omega (arith, was.returned, one.gives_back.returned);
-      served = served_on (AnswersCall (g.C.Clock.gives c.args.self.now.clock.now)) c.loop-served._served c.loop-served.lacks c.lack_of-lacks.result (state c.args.door.now) (state c.loop-served.door) (state c.serve_one.new.door) c.args.pass.now c.loop-served.pass c.serve_one.new.pass c.in-Ok.end c.lack_of-lacks.ensures.value was.served one;
+      served = served_on (AnswersCall (g.C.Clock.gives c.args.self.now.clock.now)) (LosesCall (g.C.Clock.gives c.args.self.now.clock.now)) c.loop-served._served c.loop-served.lacks c.lack_of-lacks.result (state c.args.door.now) (state c.loop-served.door) (state c.serve_one.new.door) c.args.pass.now c.loop-served.pass c.serve_one.new.pass c.in-Ok.end c.lack_of-lacks.ensures.value was.served one;
     }
 
 pub returns-in-Err-clause-kept : goal.returns-in-Err-clause-kept
@@ -49,7 +49,7 @@ pub returns-in-Err-clause-worked : goal.returns-in-Err-clause-worked
 returns-in-Err-clause-worked g c =
     let door = g.Dr.Door in
     let state = door.state in
-    worked_part (AnswersCall (g.C.Clock.gives c.args.self.now.clock.now)) c.args.share c.loop-served._served c.loop-served.lacks (state c.args.door.now) (state c.loop-served.door) (state c.serve_one.new.door) c.args.pass.now c.loop-served.pass c.serve_one.new.pass
+    worked_part (AnswersCall (g.C.Clock.gives c.args.self.now.clock.now)) (LosesCall (g.C.Clock.gives c.args.self.now.clock.now)) c.args.share c.loop-served._served c.loop-served.lacks (state c.args.door.now) (state c.loop-served.door) (state c.serve_one.new.door) c.args.pass.now c.loop-served.pass c.serve_one.new.pass
     c.loop-served.invariant.served (omega (arith, c.loop-served-test.true)) c.in-Err.ensures.failed
 
 pub returns-clause-kept : goal.returns-clause-kept
@@ -65,5 +65,5 @@ pub returns-clause-worked : goal.returns-clause-worked
 returns-clause-worked g c =
     let door = g.Dr.Door in
     let state = door.state in
-    worked_all (AnswersCall (g.C.Clock.gives c.args.self.now.clock.now)) c.args.share c.loop-served._served c.loop-served.lacks (state c.args.door.now) (state c.loop-served.door) c.args.pass.now c.loop-served.pass
+    worked_all (AnswersCall (g.C.Clock.gives c.args.self.now.clock.now)) (LosesCall (g.C.Clock.gives c.args.self.now.clock.now)) c.args.share c.loop-served._served c.loop-served.lacks (state c.args.door.now) (state c.loop-served.door) c.args.pass.now c.loop-served.pass
     c.loop-served.invariant.served (omega (arith, c.loop-served-test.false, c.loop-served.invariant.within))

@@ -1,6 +1,6 @@
 use Rattle.std.proofs.Common.{◌≡◌, ◌≤◌}
 use Rattle.turn_lock.specs.Passes.{KeepsRights}
-use Rattle.warn_serve.specs.Calls.{AnswersCall}
+use Rattle.warn_serve.specs.Calls.{AnswersCall, LosesCall}
 use Rattle.warn_serve.specs.Workers.{HasServed}
 use Rattle.warn_serve.proofs.service.Service.worker.Given as goal
 
@@ -15,5 +15,5 @@ invariant-loop-served g l =
       kept : KeepsRights l.fn.pass l.pass;
       none_out : (state l.door).given ≡ (state l.door).returned;
       returned : (state l.door).returned ≡ l._served;
-      served : HasServed (AnswersCall (g.C.Clock.gives l.fn.self.clock.now)) l._served l.lacks (state l.fn.door) (state l.door) l.fn.pass l.pass;
+      served : HasServed (AnswersCall (g.C.Clock.gives l.fn.self.clock.now)) (LosesCall (g.C.Clock.gives l.fn.self.clock.now)) l._served l.lacks (state l.fn.door) (state l.door) l.fn.pass l.pass;
     }

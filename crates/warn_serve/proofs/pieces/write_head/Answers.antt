@@ -1,0 +1,30 @@
+use Rattle.std.proofs.Common.{◌≡◌, ◌++◌, List, ℕ, codes, decimal, rules, subst}
+use Rattle.desk_links.specs.Links.{WritesLink}
+use Rattle.desk_traits.specs.declared.faults.Failed.{Failed}
+use Rattle.warn_serve.specs.Pieces.{behind_length, reply_head}
+use Rattle.warn_serve.proofs.Fronts.{front, part_first, then_second}
+use Rattle.warn_serve.proofs.pieces.write_head.Goals as goal
+
+pub returns-in_err-write_both : goal.returns-in_err-write_both
+returns-in_err-write_both g c =
+    let state = g.L.Link.state in
+    let sent = c.in_err-write_both.ensures in
+    let number : c.as_bytes.result.now ≡ decimal c.args.count = search rules in
+    let behind = behind_length c.args.last in
+    subst (λ (t : List ℕ). WritesLink {E = Failed} (state c.args.link.now) (state c.write_both.new.link) c.from_residual.result (front ++ t ++ behind)) number
+    (record {
+      ok = search rules;
+      part = part_first (state c.args.link.now).output.taken (state c.write_both.new.link).output.taken (front ++ c.as_bytes.result.now) behind sent.part;
+      cause = search rules;
+      steady = search rules;
+      came = sent.came;
+      input = sent.input;
+    })
+
+pub returns : goal.returns
+returns g c =
+    let state = g.L.Link.state in
+    let number : c.as_bytes.result.now ≡ decimal c.args.count = search rules in
+    subst (λ (t : List ℕ). WritesLink {E = Failed} (state c.args.link.now) (state c.write_link.new.link) c.write_link.result t)
+    (λ k. front ++ number k ++ c.behind_length.ensures k)
+    (then_second (state c.args.link.now) (state c.write_both.new.link) (state c.write_link.new.link) (front ++ c.as_bytes.result.now) c.behind_length.result.now c.write_link.result c.in_ok-write_both.field-0 c.in_ok-write_both.ensures c.write_link.ensures)

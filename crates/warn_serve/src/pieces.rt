@@ -1,0 +1,53 @@
+//! The answer that gives a reply, in pieces. They take no memory, so that want of it leaves no
+//! request unanswered that was accepted.
+ghost use Rattle.std.specs.Prelude.{◌≡◌, ◌++◌};
+ghost use Rattle.desk_links.specs.Links.{WritesLink};
+ghost use Rattle.warn_http.specs.Outcomes.{call_answer};
+ghost use Rattle.warn_http.specs.declared.outcomes.Outcome.TheVariants.{Replied};
+ghost use Rattle.warn_serve.specs.Pieces.{behind_length, reply_head};
+
+use desk_links::{Link, write_link};
+use desk_traits::Failed;
+use hazard_types::Text;
+use itoa::Buffer;
+
+/// What stands between the number of a reply's bytes and the reply.
+fn behind_length(last: bool) -> &'static [u8]
+    ensures { result.now ≡ behind_length last }
+{
+    if last {
+        b"\r\nConnection: close\r\n\r\n"
+    } else {
+        b"\r\n\r\n"
+    }
+}
+
+/// Writes two pieces, or the beginning of both before a fault.
+fn write_both<L: Link>(link: &mut L, first: &[u8], second: &[u8]) -> Result<(), Failed>
+    ensures { WritesLink (L.state link.old) (L.state link.new) result (first.now ++ second.now) }
+{
+    write_link(link, first)?;
+    write_link(link, second)
+}
+
+/// Writes what stands before a reply of so many bytes.
+fn write_head<L: Link>(link: &mut L, count: usize, last: bool) -> Result<(), Failed>
+    ensures { WritesLink (L.state link.old) (L.state link.new) result (reply_head count last) }
+{
+    let mut digits = Buffer::new();
+    write_both(
+        link,
+        b"HTTP/1.1 200 OK\r\nContent-Type: application/json\r\nContent-Length: ",
+        digits.format(count).as_bytes(),
+    )?;
+    write_link(link, behind_length(last))
+}
+
+/// Writes the answer that gives a reply, or its beginning before a fault.
+pub(crate) fn write_reply<L: Link>(link: &mut L, reply: &Text, last: bool) -> Result<(), Failed>
+    ensures { WritesLink (L.state link.old) (L.state link.new) result
+        (call_answer Replied reply.now last) }
+{
+    write_head(link, reply.len(), last)?;
+    write_link(link, reply.as_slice())
+}
