@@ -224,7 +224,7 @@ def served(runs, outcome, whole):
     if any(it not in kinds for it in answers) or left not in (runs.journal, whole[2]):
         return None
     entered = left == whole[2]
-    if whole[3][0] in answers and not entered:
+    if (whole[3][0] in answers) != entered:
         return None
     well = (0, b"requests 1 products 1\n" if entered else b"requests 0 products 0\n")
     links = ", ".join(kinds[it] for it in answers)
