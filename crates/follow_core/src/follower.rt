@@ -1,16 +1,22 @@
 //! A follower of an office's products.
 ghost use Rattle.std.specs.Prelude.{◌≡◌, ◌≢◌, ◌≤◌, ◌<◌, ◌++◌, ◌∷◌, List as Seq, [], Ok, Some, IfOk, OnOk, OnErr};
 ghost use Rattle.hazard_types.specs.Given.{Gives};
+ghost use Rattle.event_life.specs.Lives.{judged_product};
 ghost use Rattle.event_life.specs.Products.{rows_of};
 ghost use Rattle.event_life.specs.Shown.{shown_at};
+ghost use Rattle.product_decoder.specs.Decoded.{decoded_of};
+ghost use Rattle.product_decoder.specs.ReaderModel.{product_of};
 ghost use Rattle.follow_core.specs.Hearing.{place_of, answer_to, having_heard};
 ghost use Rattle.follow_core.specs.Schedule.{Event, Delivered, run, begun, answer_at, HasLostNothing};
 
-use hazard_types::{Class, List, Minute, Oom, Or, Row};
-use product_decoder::Reader;
-use product_frame::{FrameFault, read_frame};
+use event_life::Breach;
+use hazard_types::{Class, Line, List, Minute, Oom, Or, Row};
+use product_decoder::judged_by_frame;
+use product_frame::{Frame, FrameFault, read_frame};
+use row_index::RowIndex;
 use std::alloc::Global;
 use std::marker::Model;
+use std::snapshot::Snapshot;
 
 /// What became of a text.
 #[derive(Clone, Copy, Debug, PartialEq, Eq)]
@@ -22,21 +28,34 @@ pub enum Heard {
 }
 
 /// Takes the products of an office in their order, each once, whatever is asked twice, late or lost.
+/// It holds the rows after these and none of their lines; what was heard is there for contracts
+/// alone, without a byte. Where memory runs out while a product leaves its rows they are gone, and
+/// the follower answers out of memory from then on.
 #[derive(Drop)]
 pub struct Follower {
-    reader: Reader,
+    office: [u8; 4],
+    class: Class,
+    rows: Option<RowIndex>,
+    heard: Vec<Snapshot<Frame>>,
     place: u32,
 }
 
 impl Model for Follower {
     ghost use Rattle.std.specs.Prelude.{◌≡◌, length};
     ghost use Rattle.product_decoder.specs.ReaderModel.{Reading};
+    ghost use Rattle.product_decoder.specs.Takings.{AreLeft};
+    ghost use Rattle.follow_core.specs.Frames.{products_heard};
 
     ghost Value = { Reading };
 
-    ghost view = { λ f. f.reader };
+    ghost view = { λ f. record {
+      office = f.office;
+      class = f.class;
+      products = products_heard f.office f.class f.heard.items;
+    } };
 
-    ghost invariant = { λ f. f.place ≡ length f.reader.products };
+    ghost invariant = { λ f. (f.place ≡ length (products_heard f.office f.class f.heard.items))
+        × AreLeft f.rows (products_heard f.office f.class f.heard.items) };
 }
 
 impl Follower {
@@ -47,7 +66,10 @@ impl Follower {
         ensures products { result.products ≡ [] }
     {
         Follower {
-            reader: Reader::new(alloc, office, class),
+            office,
+            class,
+            rows: Some(RowIndex::new(alloc)),
+            heard: Vec::new(alloc),
             place: 0,
         }
     }
@@ -57,6 +79,49 @@ impl Follower {
         ensures { result ≡ place_of self.now }
     {
         self.place
+    }
+
+    /// Takes a product, by its frame and its lines, which were judged by the rows before it.
+    fn keep(
+        &mut self,
+        alloc: Global,
+        frame: &Frame,
+        judged: &[(Line, Option<Breach>)],
+    ) -> Result<(), Oom>
+        requires few { place_of self.old < 8192 }
+        requires judged { judged.now ≡ judged_product (rows_of self.old.products)
+            (product_of self.old.office self.old.class (decoded_of frame.now)) }
+        ensures office { self.new.office ≡ self.old.office }
+        ensures class { self.new.class ≡ self.old.class }
+        ensures ok { OnOk result (self.new.products ≡ self.old.products
+            ++ product_of self.old.office self.old.class (decoded_of frame.now) ∷ []) }
+        ensures err { OnErr result (self.new.products ≡ self.old.products) }
+    {
+        self.heard.reserve(1)?;
+        let Some(rows) = self.rows.take() else {
+            return Err(Oom);
+        };
+        let after = rows.leave(alloc, frame.issue, judged)?;
+        self.heard.push_reserved(Snapshot::of(frame));
+        self.place += 1;
+        self.rows = Some(after);
+        Ok(())
+    }
+
+    /// Takes a product by its frame. Lines of another office or class are passed over.
+    fn take_frame(&mut self, alloc: Global, frame: &Frame) -> Result<(), Oom>
+        requires { place_of self.old < 8192 }
+        ensures office { self.new.office ≡ self.old.office }
+        ensures class { self.new.class ≡ self.old.class }
+        ensures ok { OnOk result (self.new.products ≡ self.old.products
+            ++ product_of self.old.office self.old.class (decoded_of frame.now) ∷ []) }
+        ensures err { OnErr result (self.new.products ≡ self.old.products) }
+    {
+        let Some(rows) = &self.rows else {
+            return Err(Oom);
+        };
+        let judged = judged_by_frame(alloc, &self.office, &self.class, rows, frame)?;
+        self.keep(alloc, frame, judged.as_slice())
     }
 
     /// Hears a text that answers the question after a place, as a step of a schedule. It is taken exactly
@@ -83,8 +148,7 @@ impl Follower {
             return Ok(Heard::Old);
         }
         let frame = read_frame(alloc, text)?;
-        self.reader.take_frame(alloc, &frame)?;
-        self.place += 1;
+        self.take_frame(alloc, &frame)?;
         Ok(Heard::New)
     }
 
@@ -96,6 +160,9 @@ impl Follower {
     pub fn shown(&self, alloc: Global, t: Minute) -> Result<List<Row>, Oom>
         ensures { IfOk result (λ rows. rows ≡ shown_at t (rows_of self.now.products)) }
     {
-        self.reader.shown(alloc, t)
+        match &self.rows {
+            Some(rows) => rows.shown(alloc, t),
+            None => Err(Oom),
+        }
     }
 }
