@@ -1,5 +1,5 @@
 -- An answer for which memory may lack is one of a turn in which nothing happened that the pass could call its own.
-use Rattle.std.proofs.Common.{ℤ, ◌≡◌, ◌∙◌, inl, inr, List, [], ◌∷◌, ◌++◌, length, ap, sym, arith, length-append, ℕ, OnErr, Result, Ok, Err}
+use Rattle.std.proofs.Common.{ℤ, ◌≡◌, ◌∙◌, inl, inr, List, [], ◌∷◌, length, ap, sym, arith, length-append, ℕ, OnErr, Result, Ok, Err}
 use Rattle.hazard_types.specs.declared.or.Or.{Or}
 use Rattle.hazard_types.specs.declared.refusal.Refusal.{Refusal}
 use Rattle.hazard_types.specs.declared.request.Query.{Query}
