@@ -8,7 +8,7 @@ use Rattle.turn_lock.specs.Passes.{KeepsRights, PassRecord, PlacesAfter}
 use Rattle.office_turns.specs.Submitted.{SubmittedAt}
 use Rattle.office_turns.specs.declared.happening.Happening.{Happening}
 
--- The request was submitted once, after happenings that begin with all that the pass had seen, at a reading that the clock gave in that turn. The pass has seen what it added since, and has its place.
+-- The request was submitted once, after happenings that begin with all that the pass had seen, at a reading that the clock gives. The pass has seen what it added since, and has its place.
 pub record SubmitsInTurn {D : Type 0} {d : _} (gives : ℤ → Type 0) (a : Asked) (old new : PassRecord (KeptOffice D d) (Happening D d)) (answer : Answer) : Type 0 where
   pub kept : KeepsRights old new
   pub before : List (Happening D d)

@@ -17,7 +17,7 @@ use Rattle.warn_http.specs.declared.read.Call.{Call}
 use Rattle.warn_http.specs.declared.read.Call.TheVariants.{Post, Look}
 use Rattle.warn_serve.specs.Answers.{look_answer, no_memory_answer, refused_answer, submit_answer}
 
--- One look was taken, after happenings that begin with all that the pass had seen, at a reading that the clock gave in that turn. It adds nothing.
+-- One look was taken, after happenings that begin with all that the pass had seen, at a reading that the clock gives. It adds nothing.
 pub record LooksInTurn {D : Type 0} {d : _} (gives : ℤ → Type 0) (query : Query) (old new : PassRecord (KeptOffice D d) (Happening D d)) (shown : Result (List ℕ) (Or Refusal)) : Type 0 where
   pub kept : KeepsRights old new
   pub before : List (Happening D d)
@@ -40,7 +40,7 @@ module _ {D : Type 0} {d : _} (last : Bool) (old new : PassRecord (KeptOffice D 
     pub unused : new ≡ old
 
   module _ (gives : ℤ → Type 0) where
-    -- a request is submitted in one turn, at a reading that the clock gives there
+    -- a request is submitted in one turn, at a reading that the clock gives
     pub record Submits (asked : Asked) : Type 0 where
       pub outcome : Answer
       pub turn : SubmitsInTurn gives asked old new outcome
@@ -52,7 +52,7 @@ module _ {D : Type 0} {d : _} (last : Bool) (old new : PassRecord (KeptOffice D 
       pub read : asked_of posted ≡ Ok asked
       pub submits : Submits asked
 
-    -- a look, in one turn at a reading that the clock gives there
+    -- a look, in one turn at a reading that the clock gives
     pub record IsLooked (query : Query) : Type 0 where
       pub shown : Result (List ℕ) (Or Refusal)
       pub turn : LooksInTurn gives query old new shown
