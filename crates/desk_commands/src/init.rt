@@ -1,10 +1,10 @@
 //! The command `init`.
-ghost use Rattle.std.specs.Prelude.{◌≡◌, ◌≤◌, ◌⊎◌, ◌++◌, ℕ, List, Some, IfOk, IfErr, MatchResult, false};
+ghost use Rattle.std.specs.Prelude.{◌≡◌, ◌≤◌, ◌⊎◌, ◌++◌, ℕ, List, Some, IfOk, IfErr, MatchResult, false, codes};
 ghost use Rattle.byte_streams.specs.Flows.{streams};
 ghost use Rattle.desk_traits.specs.Crash.{LeavesOnly};
 ghost use Rattle.office_journal.specs.Kept.{disk_of};
 ghost use Rattle.office_journal.specs.Making.{IsMakingOf};
-ghost use Rattle.program_ends.specs.Ends.{is_write_fault};
+ghost use Rattle.program_ends.specs.Ends.{TellsText, is_write_fault};
 ghost use Rattle.desk_commands.specs.Commands.{IsInitRun, IsMade, IsWhyUnmade, SettingsRead, fault_text};
 ghost use Rattle.desk_commands.specs.Unmade.{EndsAs, MayUnmake};
 
@@ -107,6 +107,13 @@ fn make<D: Disk>(alloc: Global, disk: D, settings: &[u8]) -> Result<KeptOffice<D
     }
 }
 
+/// Tells that the office is ready, whose journal was made.
+fn tell_made<K: Sink, D: Disk>(output: &mut K, _kept: &KeptOffice<D>) -> u8
+    ensures { TellsText (codes "ready\n") (K.outflow output.old) (K.outflow output.new) result }
+{
+    tell(output, b"ready\n")
+}
+
 /// Reads the settings of an office, and makes its journal on a fresh disk.
 pub fn run_init<S: Source, K: Sink, D: Disk>(
     alloc: Global,
@@ -129,7 +136,7 @@ pub fn run_init<S: Source, K: Sink, D: Disk>(
     };
     match make(alloc, disk, settings.as_slice()) {
         Ok(kept) => Ended {
-            status: tell(output, b"ready\n"),
+            status: tell_made(output, &kept),
             disk: kept.into_disk(),
         },
         Err((disk, end)) => Ended {

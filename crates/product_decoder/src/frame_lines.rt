@@ -135,7 +135,12 @@ fn lines_by_frame(
     )
 }
 
-/// The lines of the office and class of a product, by its frame, each with its breach. `rows` are the rows just before it.
+/// The lines of the office and class of a product, by its frame, each with its breach. `rows` are
+/// the rows just before it.
+///
+/// # Errors
+///
+/// Out of memory.
 pub fn judged_by_frame(
     alloc: Global,
     office: &[u8; 4],

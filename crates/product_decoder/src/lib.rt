@@ -15,6 +15,7 @@ mod types;
 mod zone_steps;
 
 pub use feed::{Feed, lines_tell_the_products, products_of};
+pub use frame_lines::judged_by_frame;
 pub use product_frame::split_products;
 pub use read::decode;
 pub use reader::Reader;
