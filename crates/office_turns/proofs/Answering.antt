@@ -19,7 +19,7 @@ use Rattle.office_journal.specs.Changes.{Change, Leaves, changed}
 use Rattle.office_journal.specs.Given.{Gave, GivesNext, IsFront, MayPend}
 use Rattle.office_journal.specs.Grown.{StaysSince, Stood}
 use Rattle.office_journal.specs.Histories.{History, ImageOf, IsHistory}
-use Rattle.office_journal.specs.Kept.{HasHistory, Holds, disk_of, state_of}
+use Rattle.office_journal.specs.Kept.{Holds, disk_of, state_of}
 use Rattle.office_journal.specs.Outcomes.{AtAnyMoment, Becomes, HasEntered, HasFailed, IsAsBefore, Names}
 use Rattle.office_journal.specs.Submitting.{IsOffered, IsTooLong, MayTouch, entered}
 use Rattle.office_journal.specs.declared.answers.Answer.{Answer}
@@ -29,7 +29,7 @@ use Rattle.office_journal.proofs.Fronts.{at_start}
 use Rattle.turn_lock.specs.Story.{GrowsByOneAtMost}
 use Rattle.office_turns.specs.Happenings.{gave_of, given_by, state_at, stood_by}
 use Rattle.office_turns.specs.Noting.{Notes}
-use Rattle.office_turns.specs.Since.{IsEntryAt, IsHeld, IsSince}
+use Rattle.office_turns.specs.Since.{IsEntryAt, IsSince}
 use Rattle.office_turns.specs.Submitted.{Submitted}
 use Rattle.office_turns.specs.declared.happening.Happening.{Happening}
 use Rattle.office_turns.specs.declared.happening.Happening.TheVariants.{Entry, Fault}

@@ -1,5 +1,5 @@
 -- What has become of an office since one moment, and then since a later one.
-use Rattle.std.proofs.Common.{ℕ, ◌≡◌, ◌≤◌, inl, inr, ⊎_elim, All, List, [], ◌∷◌, ◌++◌, Option, None, Some, IfSome, length, refl, ap, sym, ◌∙◌, subst, arith, length-append}
+use Rattle.std.proofs.Common.{ℕ, ◌≡◌, inl, inr, ⊎_elim, All, List, [], ◌∷◌, ◌++◌, Option, None, Some, IfSome, length, refl, ap, sym, ◌∙◌, subst, arith, length-append}
 use Rattle.std.proofs.lemmas.List.{append-nil, append_assoc}
 use Rattle.std.proofs.lemmas.List.Elements.{All-append, All-cons, All-head, All-nil, All-tail, All-weaker}
 use Rattle.desk_traits.specs.Crash.{AreCrashes, LeavesOnly}
@@ -13,7 +13,7 @@ use Rattle.office_journal.specs.Histories.{History}
 use Rattle.office_journal.specs.Kept.{HasHistory, Holds, disk_of, gate_of, state_of}
 use Rattle.office_journal.specs.declared.kept.KeptOffice.{KeptOffice}
 use Rattle.office_journal.proofs.Fronts.{at_start, behind_append, front_weaker, holding_less, longer, pends_append, pends_weaker, sooner}
-use Rattle.office_turns.specs.Happenings.{entries_in, faults_in, gate_behind, gave_of, given_by, state_behind, stood_by}
+use Rattle.office_turns.specs.Happenings.{entries_in, gate_behind, gave_of, given_by, state_behind, stood_by}
 use Rattle.office_turns.specs.Since.{AreEntriesAt, IsHeld, IsSince}
 use Rattle.office_turns.specs.declared.happening.Happening.{Happening}
 use Rattle.office_turns.specs.declared.happening.Happening.TheVariants.{Entry, Fault}

@@ -1,5 +1,5 @@
 -- What has become of a kept office since it was opened.
-use Rattle.std.specs.Prelude.{◌≡◌, ◌⊎◌, ◌+◌, ◌-◌, ◌^◌, ◌≤◌, ℕ, ℤ, All, List, [], ◌∷◌, Option, Some, IfSome, length, min}
+use Rattle.std.specs.Prelude.{◌≡◌, ◌+◌, ◌-◌, ◌^◌, ◌≤◌, ℕ, ℤ, All, List, [], ◌∷◌, Option, Some, IfSome, length, min}
 use Rattle.desk_traits.specs.Crash.{LeavesOnly}
 use Rattle.desk_traits.specs.declared.disk.Disk.{Ghosts as Disks}
 use Rattle.hazard_types.specs.declared.request.Request.{Request}

@@ -42,6 +42,18 @@ module _ {D : Type 0} {d : _} (base : KeptOffice D d) (before after : List (Happ
       (p : Snapshot Readied) × IsOffered (state_at base before) a.desk a.seq a.request reading (entered p.value) × (IsTooLong (gate_at base before) (entered p.value) → ⊥) × (after ≡ before ++ Fault p ∷ [])
   Submitted a reading OutOfMemory = after ≡ before
 
+  -- a request is answered so at a reading that the clock gives
+  pub record SubmittedAt (gives : ℤ → Type 0) (a : Asked) (answer : Answer) : Type 0 where
+    pub reading : ℤ
+    pub given : gives reading
+    pub submitted : Submitted a reading answer
+
   -- a look is answered so, and adds nothing
   abbrev pub Looked : Query → ℤ → Result (List ℕ) (Or Refusal) → Type 0
   Looked q reading answer = Shown base before q reading answer × (after ≡ before)
+
+  -- and that at a reading that the clock gives
+  pub record LookedAt (gives : ℤ → Type 0) (q : Query) (answer : Result (List ℕ) (Or Refusal)) : Type 0 where
+    pub reading : ℤ
+    pub given : gives reading
+    pub looked : Looked q reading answer

@@ -1,56 +1,58 @@
-//! The jobs of a turn at a shared office.
+//! The jobs of a turn at a shared office. Each asks the clock in the turn.
 use crate::shared::Story;
 use crate::tied::Tied;
-use desk_traits::Disk;
+use desk_traits::{Clock, Disk};
 use hazard_types::{Or, Query, Refusal, Text};
 use office_journal::{Answer, KeptOffice};
 use request_json::Asked;
 use std::alloc::Global;
 use turn_lock::Job;
 
-/// Submits a request at a reading of the clock.
+/// Submits a request at the minute of the clock.
 #[derive(Drop)]
-pub struct Submit<'a> {
+pub struct Submit<'a, C> {
     pub alloc: Global,
     pub asked: &'a Asked,
-    pub reading: i64,
+    pub clock: &'a C,
 }
 
-impl<'a, D: Disk> Job<Tied<KeptOffice<D>, Story<D>>> for Submit<'a> {
+impl<'a, D: Disk, C: Clock> Job<Tied<KeptOffice<D>, Story<D>>> for Submit<'a, C> {
     ghost use Rattle.request_json.specs.Formed.{HasForm};
-    ghost use Rattle.office_turns.specs.Submitted.{Submitted};
+    ghost use Rattle.office_turns.specs.Submitted.{SubmittedAt};
 
     type Out = Answer;
 
     ghost may_run = { λ job. HasForm job.asked.now };
 
-    ghost meets = { λ job base before after answer. Submitted base before after job.asked.now
-        job.reading answer };
+    ghost meets = { λ job base before after answer. SubmittedAt base before after
+        (C.gives job.clock.now) job.asked.now answer };
 
     fn run(self, value: &mut Tied<KeptOffice<D>, Story<D>>) -> Answer {
-        value.submit(self.alloc, self.asked, self.reading)
+        let reading = self.clock.minute();
+        value.submit(self.alloc, self.asked, reading)
     }
 }
 
-/// Looks, at a reading of the clock.
+/// Looks, at the minute of the clock.
 #[derive(Drop)]
-pub struct Look<'a> {
+pub struct Look<'a, C> {
     pub alloc: Global,
     pub query: &'a Query,
-    pub reading: i64,
+    pub clock: &'a C,
 }
 
-impl<'a, D: Disk> Job<Tied<KeptOffice<D>, Story<D>>> for Look<'a> {
-    ghost use Rattle.office_turns.specs.Submitted.{Looked};
+impl<'a, D: Disk, C: Clock> Job<Tied<KeptOffice<D>, Story<D>>> for Look<'a, C> {
+    ghost use Rattle.office_turns.specs.Submitted.{LookedAt};
 
     type Out = Result<Text, Or<Refusal>>;
 
     ghost may_run = { λ _. Unit {0} };
 
-    ghost meets = { λ job base before after answer. Looked base before after job.query.now
-        job.reading answer };
+    ghost meets = { λ job base before after answer. LookedAt base before after
+        (C.gives job.clock.now) job.query.now answer };
 
     fn run(self, value: &mut Tied<KeptOffice<D>, Story<D>>) -> Result<Text, Or<Refusal>> {
-        value.look(self.alloc, self.query, self.reading)
+        let reading = self.clock.minute();
+        value.look(self.alloc, self.query, reading)
     }
 }

@@ -6,25 +6,25 @@ ghost use Rattle.office_turns.specs.Turns.{SubmitsInTurn};
 use crate::jobs::{Look, Submit};
 use crate::shared::Story;
 use crate::tied::Tied;
-use desk_traits::Disk;
+use desk_traits::{Clock, Disk};
 use office_journal::{Answer, KeptOffice};
 use request_json::Asked;
 use std::alloc::Global;
 use std::sync::Wait;
 use turn_lock::{Pass, TurnLock};
 
-/// Submits a request in a turn, which may wait until it comes.
-pub fn submit_in_turn<R: Wait, D: Disk>(
+/// Submits a request in a turn, which may wait until it comes. The clock is asked in the turn.
+pub fn submit_in_turn<R: Wait, D: Disk, C: Clock>(
     rt: &R,
     lock: &TurnLock<Tied<KeptOffice<D>, Story<D>>>,
     pass: &mut Pass<Tied<KeptOffice<D>, Story<D>>>,
     alloc: Global,
     asked: &Asked,
-    reading: i64,
+    clock: &C,
 ) -> Answer
     requires pass { pass.old.lock ≡ lock.now }
     requires form { HasForm asked.now }
-    ensures { SubmitsInTurn asked.now reading pass.old pass.new result }
+    ensures { SubmitsInTurn (C.gives clock.now) asked.now pass.old pass.new result }
 {
     lock.turn(
         rt,
@@ -32,7 +32,7 @@ pub fn submit_in_turn<R: Wait, D: Disk>(
         Submit {
             alloc,
             asked,
-            reading,
+            clock,
         },
     )
 }
@@ -41,12 +41,13 @@ fn may_cross<X: Send>(_value: &X) {}
 
 fn may_be_shared<X: Sync>(_value: &X) {}
 
-/// A lock over a shared office may be shared by threads; a pass and the jobs may cross them.
-fn cross<D: Disk + Send>(
+/// A lock over a shared office may be shared by threads. A pass may cross them, and so may the jobs
+/// with a clock that is shared.
+fn cross<D: Disk + Send, C: Sync>(
     lock: &TurnLock<Tied<KeptOffice<D>, Story<D>>>,
     pass: &Pass<Tied<KeptOffice<D>, Story<D>>>,
-    submit: &Submit<'_>,
-    look: &Look<'_>,
+    submit: &Submit<'_, C>,
+    look: &Look<'_, C>,
 ) {
     may_be_shared(lock);
     may_cross(pass);

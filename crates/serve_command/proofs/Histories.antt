@@ -1,7 +1,7 @@
 -- An office that was opened, and has become another by what happened, keeps the history of its disk.
-use Rattle.std.proofs.Common.{ℕ, ◌≡◌, ◌≤◌, inr, ◌+◌, ◌-◌, ◌^◌, min, All, List, [], Option, None, Some, IfSome, IsSome, subst, arith}
+use Rattle.std.proofs.Common.{ℕ, ◌≡◌, ◌≤◌, ◌+◌, ◌-◌, ◌^◌, min, List, [], Option, None, Some, IfSome, IsSome, subst, arith}
 use Rattle.std.proofs.lemmas.List.Elements.{All-weaker}
-use Rattle.desk_traits.specs.Crash.{AreCrashes, LeavesOnly}
+use Rattle.desk_traits.specs.Crash.{AreCrashes}
 use Rattle.desk_traits.specs.declared.disk.Disk.{Ghosts as Disks}
 use Rattle.desk_traits.specs.Faults.{Rose}
 use Rattle.desk_traits.proofs.Moments.{weaker}

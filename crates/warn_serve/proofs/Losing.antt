@@ -1,5 +1,5 @@
 -- An answer for which memory may lack is one of a turn in which nothing happened that the pass could call its own.
-use Rattle.std.proofs.Common.{ℤ, ◌≡◌, ◌∙◌, inl, inr, List, [], ◌∷◌, ◌++◌, length, ap, sym, arith, length-append, ℕ, OnErr, Result, Ok, Err}
+use Rattle.std.proofs.Common.{ℤ, ◌≡◌, ◌∙◌, inl, inr, List, [], ◌∷◌, length, ap, sym, arith, length-append, ℕ, OnErr, Result, Ok, Err}
 use Rattle.hazard_types.specs.declared.or.Or.{Or}
 use Rattle.hazard_types.specs.declared.refusal.Refusal.{Refusal}
 use Rattle.hazard_types.specs.declared.request.Query.{Query}
@@ -25,13 +25,13 @@ pub always_on_err : {T E : Type 0} (r : Result T E) (P : Type 0) → P → OnErr
 always_on_err (Ok x) P p = tt
 always_on_err (Err e) P p = p
 
-module _ {D : Type 0} {d : _} (old new : PassRecord (KeptOffice D d) (Happening D d)) (reading : ℤ) where
-  pub submit_lost : (asked : Asked) (answer : Answer) → SubmitsInTurn asked reading old new answer → MayBeLost answer → new.mine ≡ old.mine
+module _ {D : Type 0} {d : _} (old new : PassRecord (KeptOffice D d) (Happening D d)) (gives : ℤ → Type 0) where
+  pub submit_lost : (asked : Asked) (answer : Answer) → SubmitsInTurn gives asked old new answer → MayBeLost answer → new.mine ≡ old.mine
   submit_lost asked (Accepted text) turn may = absurd may
   submit_lost asked (Repeated text) turn may = absurd may
-  submit_lost asked (Refused broken) turn may = none_added turn.before new.seen old.mine new.mine turn.places turn.submitted.1
+  submit_lost asked (Refused broken) turn may = none_added turn.before new.seen old.mine new.mine turn.places turn.submitted.submitted.1
   submit_lost asked DiskFault turn may = absurd may
   submit_lost asked OutOfMemory turn may = absurd may
 
-  pub look_adds_none : (query : Query) (shown : Result (List ℕ) (Or Refusal)) → LooksInTurn query reading old new shown → new.mine ≡ old.mine
-  look_adds_none query shown turn = none_added turn.before new.seen old.mine new.mine turn.places turn.looked.1
+  pub look_adds_none : (query : Query) (shown : Result (List ℕ) (Or Refusal)) → LooksInTurn gives query old new shown → new.mine ≡ old.mine
+  look_adds_none query shown turn = none_added turn.before new.seen old.mine new.mine turn.places turn.looked.looked.1

@@ -3,7 +3,6 @@ use Rattle.std.proofs.Common.{ℕ, zero, suc, ◌≡◌, ◌+◌, ◌-◌, ◌^�
 use Rattle.std.proofs.lemmas.List.{map-append}
 use Rattle.desk_links.specs.Links.{DoorState, IsNone, IsUnused, LinkState, PortState, behind, with_door}
 use Rattle.desk_links.specs.Listening.{RoseAsTold}
-use Rattle.desk_traits.specs.Faults.{Rose}
 use Rattle.hazard_types.specs.declared.or.Or.{Or}
 use Rattle.warn_serve.specs.Gathered.{TakesBack, end_after, short_of}
 use Rattle.warn_serve.specs.Shares.{total_of}

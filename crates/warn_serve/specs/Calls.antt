@@ -9,7 +9,7 @@ use Rattle.request_json.specs.declared.asked.Asked.{Asked}
 use Rattle.office_journal.specs.declared.answers.Answer.{Answer}
 use Rattle.office_journal.specs.declared.kept.KeptOffice.{KeptOffice}
 use Rattle.turn_lock.specs.Passes.{KeepsRights, PassRecord, PlacesAfter}
-use Rattle.office_turns.specs.Submitted.{Looked}
+use Rattle.office_turns.specs.Submitted.{LookedAt}
 use Rattle.office_turns.specs.Turns.{SubmitsInTurn}
 use Rattle.office_turns.specs.declared.happening.Happening.{Happening}
 use Rattle.warn_http.specs.Calls.{Called}
@@ -17,13 +17,13 @@ use Rattle.warn_http.specs.declared.read.Call.{Call}
 use Rattle.warn_http.specs.declared.read.Call.TheVariants.{Post, Look}
 use Rattle.warn_serve.specs.Answers.{look_answer, no_memory_answer, refused_answer, submit_answer}
 
--- One look was taken, after happenings that begin with all that the pass had seen. It adds nothing.
-pub record LooksInTurn {D : Type 0} {d : _} (query : Query) (reading : ℤ) (old new : PassRecord (KeptOffice D d) (Happening D d)) (shown : Result (List ℕ) (Or Refusal)) : Type 0 where
+-- One look was taken, after happenings that begin with all that the pass had seen, at a reading that the clock gives. It adds nothing.
+pub record LooksInTurn {D : Type 0} {d : _} (gives : ℤ → Type 0) (query : Query) (old new : PassRecord (KeptOffice D d) (Happening D d)) (shown : Result (List ℕ) (Or Refusal)) : Type 0 where
   pub kept : KeepsRights old new
   pub before : List (Happening D d)
   pub begins : IsPrefix old.seen before
   pub alone : old.shares ≡ 1024 → before ≡ old.seen
-  pub looked : Looked old.base before new.seen query reading shown
+  pub looked : LookedAt old.base before new.seen gives query shown
   pub places : PlacesAfter before new.seen old.mine new.mine
 
 module _ {D : Type 0} {d : _} (last : Bool) (old new : PassRecord (KeptOffice D d) (Happening D d)) (answer : List ℕ) where
@@ -42,10 +42,8 @@ module _ {D : Type 0} {d : _} (last : Bool) (old new : PassRecord (KeptOffice D 
   module _ (gives : ℤ → Type 0) where
     -- a request is submitted in one turn, at a reading that the clock gives
     pub record Submits (asked : Asked) : Type 0 where
-      pub reading : ℤ
-      pub given : gives reading
       pub outcome : Answer
-      pub turn : SubmitsInTurn asked reading old new outcome
+      pub turn : SubmitsInTurn gives asked old new outcome
       pub told : answer ≡ submit_answer outcome last
 
     -- what is posted is a request, which is submitted
@@ -56,10 +54,8 @@ module _ {D : Type 0} {d : _} (last : Bool) (old new : PassRecord (KeptOffice D 
 
     -- a look, in one turn at a reading that the clock gives
     pub record IsLooked (query : Query) : Type 0 where
-      pub reading : ℤ
-      pub given : gives reading
       pub shown : Result (List ℕ) (Or Refusal)
-      pub turn : LooksInTurn query reading old new shown
+      pub turn : LooksInTurn gives query old new shown
       pub told : answer ≡ look_answer query shown last
 
     -- the answer to a call that posts these bytes

@@ -17,15 +17,15 @@ use turn_lock::Pass;
 use warn_http::{Call, no_memory_answer};
 
 impl<R: Wait, D: Disk, C: Clock, G> Service<'_, R, D, C, G> {
-    /// Looks in a turn, which may wait until it comes.
+    /// Looks in a turn, which may wait until it comes. The clock is asked in the turn.
     fn look_in_turn(
         &self,
         pass: &mut Pass<SharedOffice<D>>,
         query: &Query,
-        reading: i64,
     ) -> Result<Text, Or<Refusal>>
         requires pass { pass.old.lock ≡ self.now.lock.now }
-        ensures { LooksInTurn query.now reading pass.old pass.new result }
+        ensures { LooksInTurn (C.gives self.now.clock.now) query.now pass.old pass.new
+            result }
     {
         self.lock.turn(
             self.rt,
@@ -33,12 +33,12 @@ impl<R: Wait, D: Disk, C: Clock, G> Service<'_, R, D, C, G> {
             Look {
                 alloc: self.alloc,
                 query,
-                reading,
+                clock: self.clock,
             },
         )
     }
 
-    /// Submits a request at a reading of the clock, and answers it.
+    /// Submits a request in a turn, in which the clock is asked, and answers it.
     fn answer_request(
         &self,
         pass: &mut Pass<SharedOffice<D>>,
@@ -53,12 +53,11 @@ impl<R: Wait, D: Disk, C: Clock, G> Service<'_, R, D, C, G> {
             × Yields result answer }
         ensures lost { OnErr result (pass.new.mine ≡ pass.old.mine) }
     {
-        let reading = self.clock.minute();
-        let outcome = submit_in_turn(self.rt, self.lock, pass, self.alloc, asked, reading);
+        let outcome = submit_in_turn(self.rt, self.lock, pass, self.alloc, asked, self.clock);
         submit_answer(self.alloc, outcome, last)
     }
 
-    /// Looks at a reading of the clock, and answers with what is shown.
+    /// Looks in a turn, in which the clock is asked, and answers with what is shown.
     fn answer_look(
         &self,
         pass: &mut Pass<SharedOffice<D>>,
@@ -72,8 +71,7 @@ impl<R: Wait, D: Disk, C: Clock, G> Service<'_, R, D, C, G> {
             × Yields result answer }
         ensures lost { OnErr result (pass.new.mine ≡ pass.old.mine) }
     {
-        let reading = self.clock.minute();
-        let shown = self.look_in_turn(pass, &query, reading);
+        let shown = self.look_in_turn(pass, &query);
         look_answer(self.alloc, query, shown, last)
     }
 

@@ -143,9 +143,9 @@ impl<R: Wait, D: Disk, C: Clock, G: Gate> Service<'_, R, D, C, G> {
     }
 
     /// Serves a link: reads its calls, at most 10,000, answers each in a turn at the office, at a
-    /// reading of the clock of its own, and returns how the link ended. The gate hears of each
-    /// call, by its number from 1 on. The answers to a disk fault, and to a call for which memory
-    /// ran out, take no memory. Whatever the inbox held before is dropped.
+    /// reading of the clock that is taken in that turn, and returns how the link ended. The gate
+    /// hears of each call, by its number from 1 on. The answers to a disk fault, and to a call for
+    /// which memory ran out, take no memory. Whatever the inbox held before is dropped.
     pub fn serve_link<L: Link>(
         &self,
         pass: &mut Pass<SharedOffice<D>>,

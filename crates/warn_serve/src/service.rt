@@ -13,7 +13,7 @@ pub struct Service<'a, R, D: Disk, C, G> {
     pub alloc: Global,
     pub lock: &'a TurnLock<SharedOffice<D>>,
     pub routes: &'a Routes,
-    /// Asked for the minute once a call.
+    /// Asked for the minute in the turn of each call.
     pub clock: &'a C,
     /// Called before each call is judged and after its answer was written.
     pub gate: &'a G,

@@ -1,4 +1,4 @@
-use Rattle.std.proofs.Common.{◌≡◌, ℕ, List, subst, true}
+use Rattle.std.proofs.Common.{ℕ, List, subst, true}
 use Rattle.warn_serve.specs.Answers.{bytes_of}
 use Rattle.warn_serve.specs.Steps.{Sends}
 use Rattle.warn_serve.proofs.Saying.{sends_anyway}

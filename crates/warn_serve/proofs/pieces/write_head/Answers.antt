@@ -1,7 +1,7 @@
-use Rattle.std.proofs.Common.{◌≡◌, ◌++◌, List, ℕ, codes, decimal, rules, subst}
+use Rattle.std.proofs.Common.{◌≡◌, ◌++◌, List, ℕ, decimal, rules, subst}
 use Rattle.desk_links.specs.Links.{WritesLink}
 use Rattle.desk_traits.specs.declared.faults.Failed.{Failed}
-use Rattle.warn_serve.specs.Pieces.{behind_length, reply_head}
+use Rattle.warn_serve.specs.Pieces.{behind_length}
 use Rattle.warn_serve.proofs.Fronts.{front, part_first, then_second}
 use Rattle.warn_serve.proofs.pieces.write_head.Goals as goal
 

@@ -6,5 +6,9 @@ use Rattle.office_turns.proofs.jobs.SubmitJobTiedKeptOfficeStory.run.Goals as go
 pub returns-clause-test : goal.returns-clause-test
 returns-clause-test g c =
     let story = c.args.value.now.story in
-    subst (λ (z : ℤ). Submitted story.opened.value story.happenings.items c.submit.new.self.story.happenings.items c.args.self.asked.now z c.submit.result)
-    (to_z-of_z w64 c.args.self.reading (search rules)) c.submit.ensures.submitted
+    record {
+      reading = c.minute-reading.result;
+      given = c.minute-reading.ensures;
+      submitted = subst (λ (z : ℤ). Submitted story.opened.value story.happenings.items c.submit.new.self.story.happenings.items c.args.self.asked.now z c.submit.result)
+          (to_z-of_z w64 c.minute-reading.result (search rules)) c.submit.ensures.submitted;
+    }

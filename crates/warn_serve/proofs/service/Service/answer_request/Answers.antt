@@ -1,6 +1,4 @@
-use Rattle.std.proofs.Common.{◌≡◌, ℤ, refl, rules, subst, w64}
-use Rattle.std.proofs.lemmas.Int.{to_z-of_z}
-use Rattle.office_turns.specs.Turns.{SubmitsInTurn}
+use Rattle.std.proofs.Common.{◌≡◌, refl}
 use Rattle.warn_serve.specs.Answers.{MayBeLost, submit_answer}
 use Rattle.warn_serve.proofs.Losing.{on_err, submit_lost}
 use Rattle.warn_serve.proofs.service.Service.answer_request.Goals as goal
@@ -8,7 +6,7 @@ use Rattle.warn_serve.proofs.service.Service.answer_request.Goals as goal
 pub returns-clause-submitted : goal.returns-clause-submitted
 returns-clause-submitted g c = (
   submit_answer c.submit_in_turn-outcome.result c.args.last,
-  record { reading = c.minute-reading.result; given = c.minute-reading.ensures; outcome = c.submit_in_turn-outcome.result; turn = subst (λ (z : ℤ). SubmitsInTurn c.args.asked.now z c.args.pass.now c.submit_in_turn-outcome.new.pass c.submit_in_turn-outcome.result) (to_z-of_z w64 c.minute-reading.result (search rules)) c.submit_in_turn-outcome.ensures; told = refl },
+  record { outcome = c.submit_in_turn-outcome.result; turn = c.submit_in_turn-outcome.ensures; told = refl },
   c.submit_answer.ensures.bytes,
 )
 
