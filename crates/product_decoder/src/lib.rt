@@ -8,7 +8,6 @@ mod held;
 mod openings;
 mod read;
 mod reader;
-mod runs;
 mod taken;
 mod tracks;
 mod types;

@@ -18,10 +18,9 @@ use crate::frame_lines::judged_by_frame;
 use crate::taken::{Taken, judged_lines, rows_taken};
 use crate::tracks::{EventLives, events_in, tracks_in};
 use crate::types::{Decoded, Found, GapFound, Track};
-use event_life::Breach;
-use hazard_types::{Class, Line, List, Minute, Oom, Row};
+use hazard_types::{Class, List, Minute, Oom, Row};
 use product_frame::Frame;
-use row_index::RowIndex;
+use row_index::{RowIndex, Run};
 use std::alloc::Global;
 use std::marker::Model;
 use std::mem;
@@ -79,19 +78,10 @@ impl Reader {
         alloc: Global,
         rows: RowIndex,
         issue: Minute,
-        judged: &[(Line, Option<Breach>)],
-    ) -> Result<(), Oom>
-        requires rows { rows ≡ rows_of self.old.products }
-        requires few { length self.old.products < 4294967295 }
-        requires judged { judged.now ≡ judged_product rows (product_judged self.old.office self.old.class issue judged.now) }
-        ensures office { self.new.office ≡ self.old.office }
-        ensures class { self.new.class ≡ self.old.class }
-        ensures ok { OnOk result (self.new.products ≡ self.old.products ++ product_judged self.old.office self.old.class issue judged.now ∷ []) }
-        ensures err { OnErr result (self.new.products ≡ self.old.products) }
-    {
-        let after = rows.leave(alloc, issue, judged)?;
-        let taken = Taken::new(alloc, issue, judged)?;
-        self.taken.push(taken)?;
+        runs: List<Run>,
+    ) -> Result<(), Oom> {
+        let after = rows.leave_runs(alloc, issue, runs.as_slice())?;
+        self.taken.push(Taken::new(issue, runs))?;
         self.rows = Some(after);
         Ok(())
     }
@@ -110,7 +100,7 @@ impl Reader {
     {
         let rows = self.rows_before(alloc)?;
         let judged = judged_lines(alloc, &self.office, &self.class, &rows, d)?;
-        self.keep(alloc, rows, d.issue, judged.as_slice())
+        self.keep(alloc, rows, d.issue, judged)
     }
 
     /// Takes a product by its frame. Lines of another office or class are passed over.
@@ -127,7 +117,7 @@ impl Reader {
     {
         let rows = self.rows_before(alloc)?;
         let judged = judged_by_frame(alloc, &self.office, &self.class, &rows, frame)?;
-        self.keep(alloc, rows, frame.issue, judged.as_slice())
+        self.keep(alloc, rows, frame.issue, judged)
     }
 
     /// The rows that are shown at a minute, by zone, then event.

@@ -5,16 +5,13 @@ ghost use Rattle.std.specs.Str.{bytes_eq};
 ghost use Rattle.event_life.specs.Lives.{judged_product};
 ghost use Rattle.event_life.specs.Products.{event_of, end_of, line_of, lines_of};
 ghost use Rattle.product_decoder.specs.ReaderModel.{is_vtec_by, is_by, line_said, said_by, product_of};
-ghost use Rattle.product_decoder.specs.Runs.{in_breach, spelled};
-ghost use Rattle.product_decoder.specs.Takings.{IsKnown, same_named, line_of_event, rows_taken};
+ghost use Rattle.product_decoder.specs.Takings.{IsKnown, same_named, line_of_event};
 
-use crate::runs::{Run, any_breach, gathered, spelled};
 use crate::types::{Decoded, ZonePair};
 use event_life::Breach;
 use hazard_types::{Class, End, Event, Line, List, Minute, Oom, Vtec};
-use row_index::RowIndex;
+use row_index::{RowIndex, Run, spelled};
 use std::alloc::Global;
-use std::marker::Model;
 
 /// What was taken of a product: its issue minute, and what its lines of the office and class say of their events, each with its breach.
 #[derive(Drop)]
@@ -23,48 +20,28 @@ pub struct Taken {
     runs: List<Run>,
 }
 
-impl Model for Taken {
-    ghost use Rattle.product_decoder.specs.Runs.{Taken as TakenValue, spelled};
-
-    ghost Value = { TakenValue };
-
-    ghost view = { λ x. record { issue = x.issue; judged = spelled x.runs } };
-}
-
 impl Taken {
-    pub fn new(alloc: Global, issue: Minute, judged: &[(Line, Option<Breach>)]) -> Result<Self, Oom>
-        ensures issue { IfOk result (λ taken. taken.issue ≡ issue) }
-        ensures judged { IfOk result (λ taken. taken.judged ≡ judged.now) }
-    {
-        let runs = gathered(alloc, judged)?;
-        Ok(Taken { issue, runs })
+    pub fn new(issue: Minute, runs: List<Run>) -> Self {
+        Taken { issue, runs }
     }
 
     /// The minute at which the product was issued.
-    pub fn issue(&self) -> Minute
-        ensures { result ≡ self.now.issue }
-    {
+    pub fn issue(&self) -> Minute {
         self.issue
     }
 
     /// The runs of the lines of the office and class.
-    pub fn runs(&self) -> &[Run]
-        ensures { spelled result.now ≡ self.now.judged }
-    {
+    pub fn runs(&self) -> &[Run] {
         self.runs.as_slice()
     }
 
     /// Whether a line is in breach.
-    pub fn has_breach(&self) -> bool
-        ensures { result ≡ list_any in_breach self.now.judged }
-    {
-        any_breach(self.runs.as_slice())
+    pub fn has_breach(&self) -> bool {
+        self.runs.as_slice().iter().any(|run| run.has_breach())
     }
 
     /// The lines of the office and class, each with its breach, or None where it is lawful.
-    pub fn judged(&self, alloc: Global) -> Result<List<(Line, Option<Breach>)>, Oom>
-        ensures { IfOk result (λ judged. judged ≡ self.now.judged) }
-    {
+    pub fn judged(&self, alloc: Global) -> Result<List<(Line, Option<Breach>)>, Oom> {
         spelled(alloc, self.runs.as_slice())
     }
 }
@@ -186,17 +163,13 @@ pub fn judged_lines(
     class: &Class,
     rows: &RowIndex,
     d: &Decoded,
-) -> Result<List<(Line, Option<Breach>)>, Oom>
-    ensures { IfOk result (λ judged. judged ≡ judged_product rows.now (product_of office.now class.now d.now)) }
-{
+) -> Result<List<Run>, Oom> {
     let lines = lines_by(alloc, office, class, rows, d.issue, d.pairs.as_slice())?;
-    rows.judge(alloc, d.issue, lines.as_slice())
+    rows.judge_lines(alloc, d.issue, lines.as_slice())
 }
 
 /// The rows that products leave, each judged by the rows before it.
-pub fn rows_taken(alloc: Global, taken: &[Taken]) -> Result<RowIndex, Oom>
-    ensures { IfOk result (λ rows. rows ≡ rows_taken taken.now) }
-{
+pub fn rows_taken(alloc: Global, taken: &[Taken]) -> Result<RowIndex, Oom> {
     let mut rows = RowIndex::new(alloc);
     for product in taken {
         let judged = product.judged(alloc)?;

@@ -10,12 +10,11 @@ ghost use Rattle.product_decoder.specs.Steps.{with_lines, with_product, steps_of
 ghost use Rattle.product_decoder.specs.Takings.{track_in, rows_taken};
 ghost use Rattle.product_decoder.specs.ZoneSteps.{AreAscending, zones_at, with_zones, flat};
 
-use crate::runs::Run;
 use crate::taken::Taken;
 use crate::types::Track;
 use crate::zone_steps::ZoneSteps;
-use hazard_types::{Event, List, Minute, Oom};
-use row_index::EventKey;
+use hazard_types::{Event, Line, List, Minute, Oom, Zone};
+use row_index::{EventKey, Run};
 use std::alloc::Global;
 use std::collections::BTreeMap;
 use std::marker::Model;
@@ -23,35 +22,33 @@ use std::marker::Model;
 /// The steps of each event, by event.
 type Steps = BTreeMap<EventKey, ZoneSteps>;
 
-/// Adds the steps of a run of lines to those of their event.
-fn put_run(alloc: Global, steps: &mut Steps, issue: &Minute, run: &Run) -> Result<(), Oom>
-    ensures { OnOk result (steps.new.entries ≡ insert_entry by_event steps.old.entries run.now.first.event (with_zones (run.now.first.action, issue.now) (zones_at steps.old.entries run.now.first.event) (places_of run.now))) }
-{
-    let event = run.first.event;
-    let zones = steps
+/// Adds the steps of a line in these zones to those of its event.
+fn put_line(
+    alloc: Global,
+    steps: &mut Steps,
+    issue: &Minute,
+    line: &Line,
+    zones: &[Zone],
+) -> Result<(), Oom> {
+    let event = line.event;
+    let known = steps
         .entry(EventKey { event })?
         .or_insert(ZoneSteps::new(alloc));
-    zones.add(alloc, issue, run)
+    known.add(alloc, issue, &line.action, zones)
 }
 
 /// Adds the steps of the lines of a run, where these are lawful.
-fn add_run(alloc: Global, steps: &mut Steps, issue: &Minute, run: &Run) -> Result<(), Oom>
-    requires ascending { AreAscending steps.old.entries }
-    ensures put { OnOk result (flat steps.new.entries ≡ with_lines issue.now (flat steps.old.entries) (spelled_run run.now)) }
-    ensures ascending { OnOk result (AreAscending steps.new.entries) }
-{
-    if !run.is_lawful() {
-        return Ok(());
+fn add_run(alloc: Global, steps: &mut Steps, issue: &Minute, run: &Run) -> Result<(), Oom> {
+    for verdict in run.verdicts.as_slice() {
+        if verdict.is_lawful() {
+            put_line(alloc, steps, issue, &verdict.line, run.zones.as_slice())?;
+        }
     }
-    put_run(alloc, steps, issue, run)
+    Ok(())
 }
 
 /// Adds the lawful lines of a product.
-fn add_product(alloc: Global, steps: &mut Steps, product: &Taken) -> Result<(), Oom>
-    requires ascending { AreAscending steps.old.entries }
-    ensures put { OnOk result (flat steps.new.entries ≡ with_product (flat steps.old.entries) product.now) }
-    ensures ascending { OnOk result (AreAscending steps.new.entries) }
-{
+fn add_product(alloc: Global, steps: &mut Steps, product: &Taken) -> Result<(), Oom> {
     let issue = product.issue();
     for run in product.runs() {
         add_run(alloc, steps, &issue, run)?;

@@ -1,11 +1,9 @@
 //! The steps of one event in each of its zones. Zones with one history share its steps.
 ghost use Rattle.std.specs.Prelude.{◌≡◌, ◌<◌, ◌++◌, [], suc, Some, length, reverse, IfOk, OnOk};
 ghost use Rattle.product_decoder.specs.Chains.{below, height, told, chains_of, same_place, is_last, IsPlaced};
-ghost use Rattle.product_decoder.specs.Runs.{places_of};
 ghost use Rattle.product_decoder.specs.Steps.{tracks_told};
 ghost use Rattle.product_decoder.specs.ZoneSteps.{zones_told, AreWithin, with_zone, with_zones, under};
 
-use crate::runs::Run;
 use crate::types::Track;
 use hazard_types::{Action, Event, List, Minute, Oom, Zone};
 use std::alloc::Global;
@@ -112,16 +110,15 @@ fn add_steps(
     shared: &mut Vec<SharedStep>,
     lasts: &mut Lasts,
     issue: &Minute,
-    run: &Run,
+    action: &Action,
+    zones: &[Zone],
 ) -> Result<(), Oom>
     requires within { AreWithin (length shared.old.items) lasts.old }
-    ensures put { OnOk result (zones_told shared.new.items lasts.new ≡ with_zones (run.now.first.action, issue.now) (zones_told shared.old.items lasts.old) (places_of run.now)) }
+    ensures put { OnOk result (zones_told shared.new.items lasts.new ≡ with_zones (action.now, issue.now) (zones_told shared.old.items lasts.old) zones.now) }
     ensures within { OnOk result (AreWithin (length shared.new.items) lasts.new) }
 {
-    let action = &run.first.action;
     let mut near = 0;
-    add_step(shared, lasts, &mut near, issue, action, &run.first.zone)?;
-    for zone in run.more.as_slice() {
+    for zone in zones {
         add_step(shared, lasts, &mut near, issue, action, zone)?;
     }
     Ok(())
@@ -209,14 +206,14 @@ impl ZoneSteps {
     }
 
     /// Adds what the lines of a run did in their zones. None is left where memory ran out.
-    pub fn add(&mut self, alloc: Global, issue: &Minute, run: &Run) -> Result<(), Oom>
-        ensures { OnOk result (self.new ≡ with_zones (run.now.first.action, issue.now) self.old (places_of run.now)) }
+    pub fn add(&mut self, alloc: Global, issue: &Minute, action: &Action, zones: &[Zone]) -> Result<(), Oom>
+        ensures { OnOk result (self.new ≡ with_zones (action.now, issue.now) self.old zones.now) }
     {
         let ZoneSteps {
             mut shared,
             mut lasts,
         } = mem::replace(self, ZoneSteps::new(alloc));
-        add_steps(&mut shared, &mut lasts, issue, run)?;
+        add_steps(&mut shared, &mut lasts, issue, action, zones)?;
         *self = ZoneSteps { shared, lasts };
         Ok(())
     }

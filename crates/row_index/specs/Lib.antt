@@ -10,6 +10,7 @@ pub mod Tallies
 pub mod Standings
 pub mod Steps
 pub mod Runs
+pub mod Verdicts
 pub mod Reaching
 pub mod Gathering
 pub mod Indexing

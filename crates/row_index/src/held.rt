@@ -11,7 +11,7 @@ ghost use Rattle.row_index.specs.Holding.{puts};
 ghost use Rattle.row_index.specs.Listing.{lists_of, list_at};
 ghost use Rattle.row_index.specs.Numbers.{events_with};
 ghost use Rattle.row_index.specs.Reaching.{AreReached, Grows};
-ghost use Rattle.row_index.specs.Runs.{held_put, rows_along, run_rows};
+ghost use Rattle.row_index.specs.Runs.{held_put, rows_along};
 ghost use Rattle.row_index.specs.Standings.{AreEventRows, IsRunPut};
 ghost use Rattle.row_index.specs.Steps.{put_each};
 ghost use Rattle.row_index.specs.Zoning.{AreOf};
@@ -20,7 +20,6 @@ use crate::lives::row_with;
 use crate::numbers::{Events, put_event_of};
 use crate::parts::EventKey;
 use crate::reach::{Reaches, reach_each};
-use crate::row_run::RowRun;
 use crate::seats::{Seated, put_seated};
 use crate::shared::SharedRows;
 use crate::standing::{Standings, has_same_among, is_open_among, restand};
@@ -267,27 +266,28 @@ pub fn has_period(held: &Held, t: Minute, event: &Event, period: &Period) -> boo
     }
 }
 
-/// Puts the rows of a run, and keeps how far they reach.
+/// The rows of an event in these zones come to a life, and how far they reach is kept.
 pub fn put_held(
     alloc: Global,
     held: &mut Held,
     events: &mut Events,
     reaches: &mut Reaches,
-    run: &RowRun,
+    event: &Event,
+    life: &Life,
+    zones: &[Zone],
 ) -> Result<(), Oom>
-    requires { AreOf run.now.line.event (list_at by_event held.old.entries run.now.line.event) }
-    ensures held { OnOk result (held.new.entries ≡ held_put run.now.line.event (run_rows run.now) held.old.entries) }
-    ensures events { OnOk result (lists_of events.new.entries ≡ events_with (has_rows (list_at by_event held.old.entries run.now.line.event) run.now.line.event) run.now.line.event (lists_of events.old.entries)) }
-    ensures reached { OnOk result (AreReached reaches.new.keys (run_rows run.now)) }
+    requires { AreOf event.now (list_at by_event held.old.entries event.now) }
+    ensures held { OnOk result (held.new.entries ≡ held_put event.now (rows_along event.now life.now zones.now) held.old.entries) }
+    ensures events { OnOk result (lists_of events.new.entries ≡ events_with (has_rows (list_at by_event held.old.entries event.now) event.now) event.now (lists_of events.old.entries)) }
+    ensures reached { OnOk result (AreReached reaches.new.keys (rows_along event.now life.now zones.now)) }
     ensures grows { OnOk result (Grows reaches.old.keys reaches.new.keys) }
 {
-    let event = &run.line.event;
     let known = held
         .entry(EventKey { event: *event })?
         .or_insert(EventRows::new(alloc));
     put_event_of(alloc, events, known.has_rows(event), event)?;
-    known.put(alloc, event, &run.left, run.zones.as_slice())?;
-    reach_each(reaches, event, &run.left, run.zones.as_slice())
+    known.put(alloc, event, life, zones)?;
+    reach_each(reaches, event, life, zones)
 }
 
 /// The rows of all events that are shown at a minute, one event after another.

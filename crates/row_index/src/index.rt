@@ -14,18 +14,16 @@ ghost use Rattle.event_life.specs.Table.{breach_of_line};
 ghost use Rattle.row_index.specs.Holding.{AreNear, AreRowsOf};
 ghost use Rattle.row_index.specs.Numbers.{is_in_zone};
 ghost use Rattle.row_index.specs.Gathering.{AreGathered, least_of};
-ghost use Rattle.row_index.specs.Runs.{rows_in, rows_in_last, run_rows, IsLeft};
 ghost use Rattle.row_index.specs.Seating.{AreSeated, upgrades};
 ghost use Rattle.row_index.specs.Steps.{AreHigher, AreOver, IsAsked, IsChanged, around_new, around_joining, asked_around, latest_open, event_going, rows_left, put_each};
 
-use crate::held::{Held, RowsOf, all_shown, has_period, is_open, put_held, rows_of, seated};
+use crate::held::{Held, RowsOf, all_shown, has_period, is_open, rows_of, seated};
 use crate::higher::{Changed, any_upgrades, is_overlapped, upgraded_by};
 use crate::live::{Zones, add_rows, lesser, needed, upgraded_ranks, upgraded_zones};
 use crate::look::{asks_alike, later_event, life_of, nothing_around, opens};
 use crate::numbers::{Events, Number, events_at, number_of};
 use crate::parts::HazardKey;
 use crate::reach::{Reaches, events_above};
-use crate::row_run::{RowRun, begin_run, begun, ended, join};
 use crate::seats::{Seated, all_rows, count_row};
 use crate::spoken::Spoken;
 use event_life::{
@@ -39,9 +37,9 @@ use std::marker::Model;
 /// Rows in order by zone, then event, each pair once.
 #[derive(Drop)]
 pub struct RowIndex {
-    held: Held,
-    events: Events,
-    reach: Reaches,
+    pub(crate) held: Held,
+    pub(crate) events: Events,
+    pub(crate) reach: Reaches,
 }
 
 impl Model for RowIndex {
@@ -71,14 +69,19 @@ impl RowIndex {
     }
 
     /// The rows of an event.
-    fn rows_of(&self, event: &Event) -> RowsOf<'_>
+    pub(crate) fn rows_of(&self, event: &Event) -> RowsOf<'_>
         ensures { AreRowsOf self.now event.now result }
     {
         rows_of(&self.held, event)
     }
 
     /// The rows of an event. `rows` are those of the line before, which mostly is of the same.
-    fn rows_near<'a>(&'a self, near: &Option<Event>, rows: RowsOf<'a>, event: &Event) -> RowsOf<'a>
+    pub(crate) fn rows_near<'a>(
+        &'a self,
+        near: &Option<Event>,
+        rows: RowsOf<'a>,
+        event: &Event,
+    ) -> RowsOf<'a>
         requires { AreNear self.now near.now rows }
         ensures { AreRowsOf self.now event.now result }
     {
@@ -229,7 +232,7 @@ impl RowIndex {
     }
 
     /// What stands around a line, as far as its action asks for it. `rows` are its event's.
-    fn around(&self, rows: &RowsOf<'_>, t: Minute, line: &Line, higher: bool) -> Around
+    pub(crate) fn around(&self, rows: &RowsOf<'_>, t: Minute, line: &Line, higher: bool) -> Around
         requires { AreRowsOf self.now line.now.event rows.now }
         ensures { result ≡ asked_around line.now.action self.now t line.now higher }
     {
@@ -463,7 +466,7 @@ impl RowIndex {
     }
 
     /// What a product changes where a higher row is looked for, as far as a UPG line asks for it.
-    fn change_of(&self, alloc: Global, t: Minute, lines: &[Line]) -> Result<Changed, Oom>
+    pub(crate) fn change_of(&self, alloc: Global, t: Minute, lines: &[Line]) -> Result<Changed, Oom>
         ensures changed { list_any upgrades lines.now ≡ true → IfOk result (λ c. IsChanged self.now t lines.now (values_of c.counted.entries) c.upgraded.keys) }
         ensures over { list_any upgrades lines.now ≡ true → IfOk result (λ c. AreOver self.now t lines.now (values_of c.higher.entries)) }
         ensures counted { IfOk result (λ c. AreSeated c.counted.entries) }
@@ -503,7 +506,7 @@ impl RowIndex {
     }
 
     /// The first breach of a line of a product. `rows` are its event's, and `around` is what stands around it, where it is no UPG line.
-    fn breach_in(
+    pub(crate) fn breach_in(
         &self,
         t: Minute,
         changed: &Changed,
@@ -554,121 +557,6 @@ impl RowIndex {
             found.push((*line, breach))?;
         }
         Ok(List::from_vec(found))
-    }
-
-    /// The run of the row that a lawful line leaves, which found this life. `rows` are its
-    /// event's, and `near` is a guess of the row's place among them.
-    fn run_of(
-        &self,
-        alloc: Global,
-        rows: &RowsOf<'_>,
-        near: &mut usize,
-        t: Minute,
-        line: &Line,
-        found: Option<Life>,
-    ) -> Result<RowRun, Oom>
-        requires rows { AreRowsOf self.now line.now.event rows.now }
-        requires found { found ≡ life_at self.now line.now }
-        ensures rows { IfOk result (λ run. run_rows run ≡ row_after self.now t line.now ∷ []) }
-        ensures left { IfOk result (λ run. IsLeft t (Some run)) }
-    {
-        let row = self.row_after(rows, near, t, line);
-        begun(alloc, line, found, &row)
-    }
-
-    /// Adds the row that a lawful line leaves to the last run, or begins another. `rows` are the
-    /// line's event's, and `near` is a guess of its place among them.
-    fn put_left(
-        &self,
-        alloc: Global,
-        rows: &RowsOf<'_>,
-        near: &mut usize,
-        t: Minute,
-        line: &Line,
-        runs: &mut List<RowRun>,
-        last: &mut Option<RowRun>,
-    ) -> Result<(), Oom>
-        requires rows { AreRowsOf self.now line.now.event rows.now }
-        requires left { IsLeft t last.old }
-        ensures rows { OnOk result (rows_in runs.new ++ rows_in_last last.new ≡ (rows_in runs.old ++ rows_in_last last.old) ++ row_after self.now t line.now ∷ []) }
-        ensures left { OnOk result (IsLeft t last.new) }
-    {
-        let own = life_of(rows.life_at(near, &line.event, &line.zone));
-        let joined = join(last, &own, line)?;
-        if joined {
-            return Ok(());
-        }
-        let run = self.run_of(alloc, rows, near, t, line, own)?;
-        begin_run(runs, last, run)
-    }
-
-    /// The rows that the lawful lines of a product leave.
-    fn rows_left(
-        &self,
-        alloc: Global,
-        t: Minute,
-        judged: &[(Line, Option<Breach>)],
-    ) -> Result<List<RowRun>, Oom>
-        ensures { IfOk result (λ runs. rows_in runs ≡ rows_left self.now t (lawful_of judged.now)) }
-    {
-        let mut runs = List::new(alloc);
-        let mut last = None;
-        let mut near = None;
-        let mut rows = RowsOf::none();
-        let mut place = 0;
-        for found in judged {
-            rows = self.rows_near(&near, rows, &found.0.event);
-            near = Some(found.0.event);
-            if is_lawful(found) {
-                self.put_left(alloc, &rows, &mut place, t, &found.0, &mut runs, &mut last)?;
-            }
-        }
-        ended(runs, last)
-    }
-
-    /// Puts the rows of a run.
-    fn put_run(self, alloc: Global, run: &RowRun) -> Result<Self, Oom>
-        ensures { IfOk result (λ index. index ≡ put_each (run_rows run.now) self) }
-    {
-        if run.zones.as_slice().is_empty() {
-            return Ok(self);
-        }
-        let RowIndex {
-            mut held,
-            mut events,
-            mut reach,
-        } = self;
-        put_held(alloc, &mut held, &mut events, &mut reach, run)?;
-        Ok(RowIndex {
-            held,
-            events,
-            reach,
-        })
-    }
-
-    /// Puts the rows of each of the runs.
-    fn put_each(self, alloc: Global, runs: &[RowRun]) -> Result<Self, Oom>
-        ensures { IfOk result (λ index. index ≡ put_each (rows_in runs.now) self) }
-    {
-        let mut index = self;
-        for run in runs {
-            index = index.put_run(alloc, run)?;
-        }
-        Ok(index)
-    }
-
-    /// The rows after a product whose lines were judged by these: each lawful line leaves its row, and no other line changes any.
-    /// When memory runs out, the index is gone.
-    pub fn leave(
-        self,
-        alloc: Global,
-        t: Minute,
-        judged: &[(Line, Option<Breach>)],
-    ) -> Result<Self, Oom>
-        ensures { IfOk result (λ index. index ≡ put_all self t (lawful_of judged.now) self) }
-    {
-        let left = self.rows_left(alloc, t, judged)?;
-        self.put_each(alloc, left.as_slice())
     }
 
     /// The rows that are shown at a minute: those that no line has ended and whose end is until further notice or after it.

@@ -36,7 +36,7 @@ pub fn row_with(event: &Event, zone: &Zone, life: &Life) -> Row
 }
 
 /// What the life of a row has come to.
-fn life_of(row: &Row) -> Life
+pub fn life_of(row: &Row) -> Life
     ensures { result ≡ life_of row.now }
 {
     Life {

@@ -9,7 +9,7 @@ use event_life::{Around, Life, opened_period};
 use hazard_types::{Action, Event, Line, Minute, Zone};
 
 /// The same line of another zone.
-fn in_zone(line: &Line, zone: &Zone) -> Line
+pub fn in_zone(line: &Line, zone: &Zone) -> Line
     ensures { result ≡ in_zone line.now zone.now }
 {
     Line {

@@ -1,0 +1,84 @@
+-- What the lines of a product say in each of some zones, what they found there, and the rows that they leave.
+use Rattle.std.specs.Prelude.{◌≡◌, ◌&&◌, ◌++◌, ◌∷◌, ℕ, Bool, true, false, not, List, [], flat_map, map, is_none, is_some, slice_get, Option}
+use Rattle.std.specs.List.{AllByRecursion, list_any}
+use Rattle.hazard_types.specs.Places.{Place}
+use Rattle.hazard_types.specs.Same.{same_event}
+use Rattle.hazard_types.specs.declared.line.Line.{Line}
+use Rattle.hazard_types.specs.declared.line.Row.{Row}
+use Rattle.event_life.specs.declared.life.Breach.{Breach}
+use Rattle.event_life.specs.declared.life.Life.{Life}
+use Rattle.event_life.specs.Products.{breach_in, is_routine, is_second, life_at}
+use Rattle.event_life.specs.Table.{life_after}
+use Rattle.row_index.specs.Runs.{in_zone}
+use Rattle.row_index.specs.declared.verdicts.Part.{Part}
+use Rattle.row_index.specs.declared.verdicts.Run.{Run}
+use Rattle.row_index.specs.declared.verdicts.Verdict.{Verdict}
+
+-- a line with its first breach, or None where it is lawful
+abbrev pub Judged : Type 0
+Judged = Line × Option Breach
+
+-- what lines say in a zone, and in each of some zones, zone by zone
+abbrev pub said_at : List Line → Place → List Line
+said_at lines z = map (λ (l : Line). in_zone l z) lines
+
+abbrev pub said_along : List Line → List Place → List Line
+said_along lines zones = flat_map (said_at lines) zones
+
+-- the lines of parts, in the order of the text
+abbrev pub said_in : Part → List Line
+said_in p = said_along p.lines p.zones.now
+
+abbrev pub lines_in : List Part → List Line
+lines_in parts = flat_map said_in parts
+
+-- the lines of runs with their breaches, in the order of the text
+abbrev pub spelled_at : List Verdict → Place → List Judged
+spelled_at verdicts z = map (λ (v : Verdict). (in_zone v.line z, v.breach)) verdicts
+
+abbrev pub spelled_run : Run → List Judged
+spelled_run r = flat_map (spelled_at r.verdicts) r.zones
+
+abbrev pub spelled : List Run → List Judged
+spelled runs = flat_map spelled_run runs
+
+-- the line found this life of its event in a zone
+abbrev pub IsFoundAt : List Row → Place → Verdict → Type 0
+IsFoundAt rows z v = life_at rows (in_zone v.line z) ≡ v.found
+
+-- each line of a run found its life in each of the zones
+abbrev pub IsFound : List Row → Run → Type 0
+IsFound rows r = AllByRecursion (λ (z : Place). AllByRecursion (IsFoundAt rows z) r.verdicts) r.zones
+
+abbrev pub AreFound : List Row → List Run → Type 0
+AreFound rows runs = AllByRecursion (IsFound rows) runs
+
+-- lines are of an event each
+abbrev pub HaveOwnEvents : List Line → Type 0
+HaveOwnEvents [] = Unit {0}
+HaveOwnEvents (l ∷ lines) = AllByRecursion (λ (m : Line). same_event l.event m.event ≡ false) lines × HaveOwnEvents lines
+
+-- and so are those of each run
+abbrev pub AreApart : List Run → Type 0
+AreApart runs = AllByRecursion (λ (r : Run). HaveOwnEvents (map (λ (v : Verdict). v.line) r.verdicts)) runs
+
+-- no line is a second one of its event and zone, behind these
+abbrev pub AreFirst : List Line → List Line → Type 0
+AreFirst earlier [] = Unit {0}
+AreFirst earlier (l ∷ lines) = (is_second earlier l ≡ false) × AreFirst (earlier ++ l ∷ []) lines
+
+-- a line of a product that is no second one, with its breach; `all` are the product's lines
+abbrev pub first_judged : List Row → ℕ → List Line → Line → Judged
+first_judged rows t all l = (l, breach_in rows t all [] l)
+
+-- the line is lawful and touches lives
+abbrev pub is_lawful : Verdict → Bool
+is_lawful v = not (is_routine v.line.action) && is_none v.breach
+
+-- the life that a lawful line leaves of the one that it found
+abbrev pub left_by : ℕ → Verdict → Life
+left_by t v = life_after v.found v.line t
+
+-- a line of the run is in breach: it has a zone, and a verdict in breach
+abbrev pub has_breach : Run → Bool
+has_breach r = is_some (slice_get r.zones 0) && list_any (λ (v : Verdict). is_some v.breach) r.verdicts

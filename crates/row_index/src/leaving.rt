@@ -1,0 +1,85 @@
+//! The rows that the lines of a product leave.
+ghost use Rattle.std.specs.Prelude.{◌≡◌, ◌++◌, ◌∷◌, [], IfOk};
+ghost use Rattle.event_life.specs.Products.{lawful_of, put_all};
+ghost use Rattle.row_index.specs.Runs.{rows_along};
+ghost use Rattle.row_index.specs.Steps.{put_each};
+ghost use Rattle.row_index.specs.Verdicts.{left_by, spelled, AreApart, AreFound};
+
+use crate::held::put_held;
+use crate::index::RowIndex;
+use crate::verdicts::{Run, Verdict, life_left};
+use event_life::Breach;
+use hazard_types::{Line, List, Minute, Oom, Zone};
+use std::alloc::Global;
+
+impl RowIndex {
+    /// Puts the rows that a line leaves in these zones.
+    fn put_left(
+        self,
+        alloc: Global,
+        t: Minute,
+        verdict: &Verdict,
+        zones: &[Zone],
+    ) -> Result<Self, Oom>
+        ensures { IfOk result (λ index. index ≡ put_each (rows_along verdict.now.line.event (left_by t verdict.now) zones.now) self) }
+    {
+        let left = life_left(verdict, t);
+        let RowIndex {
+            mut held,
+            mut events,
+            mut reach,
+        } = self;
+        put_held(
+            alloc,
+            &mut held,
+            &mut events,
+            &mut reach,
+            &verdict.line.event,
+            &left,
+            zones,
+        )?;
+        Ok(RowIndex {
+            held,
+            events,
+            reach,
+        })
+    }
+
+    /// Puts the rows of a run.
+    fn put_run(self, alloc: Global, t: Minute, run: &Run) -> Result<Self, Oom> {
+        let mut index = self;
+        for verdict in run.verdicts.as_slice() {
+            if verdict.is_lawful() {
+                index = index.put_left(alloc, t, verdict, run.zones.as_slice())?;
+            }
+        }
+        Ok(index)
+    }
+
+    /// The rows after a product of these runs.
+    pub fn leave_runs(self, alloc: Global, t: Minute, runs: &[Run]) -> Result<Self, Oom>
+        requires found { AreFound self runs.now }
+        requires apart { AreApart runs.now }
+        ensures { IfOk result (λ index. index ≡ put_all self t (lawful_of (spelled runs.now)) self) }
+    {
+        let mut index = self;
+        for run in runs {
+            index = index.put_run(alloc, t, run)?;
+        }
+        Ok(index)
+    }
+
+    /// The rows after a product whose lines were judged by these: each lawful line leaves its row, and no other line changes any.
+    /// When memory runs out, the index is gone.
+    pub fn leave(
+        self,
+        alloc: Global,
+        t: Minute,
+        judged: &[(Line, Option<Breach>)],
+    ) -> Result<Self, Oom>
+        ensures { IfOk result (λ index. index ≡ put_all self t (lawful_of judged.now) self) }
+    {
+        let runs = self.collected(alloc, judged)?;
+        self.leave_runs(alloc, t, runs.as_slice())
+    }
+}
