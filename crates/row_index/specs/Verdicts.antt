@@ -79,6 +79,10 @@ is_lawful v = not (is_routine v.line.action) && is_none v.breach
 abbrev pub left_by : ℕ → Verdict → Life
 left_by t v = life_after v.found v.line t
 
--- a line of the run is in breach: it has a zone, and a verdict in breach
+-- the verdict is a breach
+abbrev pub is_breach : Verdict → Bool
+is_breach v = is_some v.breach
+
+-- a line of the run is in breach: it has a zone, and a verdict that is a breach
 abbrev pub has_breach : Run → Bool
-has_breach r = is_some (slice_get r.zones 0) && list_any (λ (v : Verdict). is_some v.breach) r.verdicts
+has_breach r = is_some (slice_get r.zones 0) && list_any is_breach r.verdicts

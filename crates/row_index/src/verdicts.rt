@@ -1,7 +1,8 @@
 //! What lines say in each of some zones, and what they found there.
 
 ghost use Rattle.std.specs.Prelude.{◌≡◌, ◌++◌, ◌∷◌, [], IfOk, OnOk};
-ghost use Rattle.row_index.specs.Verdicts.{has_breach, is_lawful, left_by, lines_in, said_at, said_in, spelled, spelled_at, spelled_run};
+ghost use Rattle.std.specs.List.{list_any};
+ghost use Rattle.row_index.specs.Verdicts.{has_breach, is_breach, is_lawful, left_by, lines_in, said_at, said_in, spelled, spelled_at, spelled_run};
 
 use crate::lives::{life_of as life_in, row_with};
 use crate::look::in_zone;
@@ -32,6 +33,13 @@ impl Verdict {
     {
         !is_routine(&self.line.action) && self.breach.is_none()
     }
+}
+
+/// Whether a verdict is a breach.
+fn any_breach(verdicts: &[Verdict]) -> bool
+    ensures { result ≡ list_any is_breach verdicts.now }
+{
+    verdicts.iter().any(|verdict| verdict.breach.is_some())
 }
 
 /// Zones in each of which these lines, one after another, found the same.
@@ -76,9 +84,10 @@ impl Run {
     pub fn has_breach(&self) -> bool
         ensures { result ≡ has_breach self.now }
     {
-        let verdicts = self.verdicts.as_slice();
-        self.zones.as_slice().first().is_some()
-            && verdicts.iter().any(|verdict| verdict.breach.is_some())
+        match self.zones.as_slice().first() {
+            Some(_zone) => any_breach(self.verdicts.as_slice()),
+            None => false,
+        }
     }
 
     /// Adds the lines of a zone.
