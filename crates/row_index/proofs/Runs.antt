@@ -22,8 +22,7 @@ use Rattle.row_index.specs.Listing.{list_at}
 use Rattle.row_index.specs.Indexing.{IsIndex}
 use Rattle.row_index.specs.Numbers.{events_with, AreOpened}
 use Rattle.row_index.specs.Reaching.{AreReached, Grows, Reaches}
-use Rattle.row_index.specs.declared.row_run.RowRun.{RowRun}
-use Rattle.row_index.specs.Runs.{held_put, in_zone, is_of_run, rows_along, rows_in, rows_in_last, run_rows, same_life, IsJoined, IsLeft, IsRunWith}
+use Rattle.row_index.specs.Runs.{held_put, in_zone, rows_along, same_life}
 use Rattle.row_index.specs.Sharing.{row_with}
 use Rattle.row_index.specs.Steps.{put_each}
 use Rattle.row_index.proofs.HeldRows.{held-with, has_rows-told, told-sorted, told-with}
@@ -76,18 +75,6 @@ pub put_both : (rows more known : List Row) → put_each (rows ++ more) known �
 put_both [] more known = refl
 put_both (r ∷ rows) more known = put_both rows more (put r known)
 
--- one run more
-pub runs_next : (runs : List RowRun) (i : ℕ) (run : RowRun) (known next all : List Row) → i < length runs → run ≡ get_or runs i run → next ≡ put_each (run_rows run) known → put_each (rows_in (drop i runs)) known ≡ all
-    → put_each (rows_in (drop (i + 1) runs)) next ≡ all
-runs_next runs i run known next all within is next_is sofar =
-    let after : suc i ≡ i + 1 = omega arith in
-    let cut : drop i runs ≡ run ∷ drop (i + 1) runs =
-    drop-cons runs i run within ∙ ap (λ (x : RowRun). x ∷ drop (suc i) runs) (sym is) ∙ ap (λ (k : ℕ). run ∷ drop k runs) after in
-    ap (put_each (rows_in (drop (i + 1) runs))) next_is
-    ∙ sym (put_both (run_rows run) (rows_in (drop (i + 1) runs)) known)
-    ∙ ap (λ (rs : List RowRun). put_each (rows_in rs) known) (sym cut)
-    ∙ sofar
-
 -- the rows of a run
 
 pub along_own : (e : Event) (l : Life) (zones : List Place) → AllByRecursion (λ (r : Row). r.event ≡ e) (rows_along e l zones)
@@ -100,33 +87,6 @@ along_some e l (z ∷ zones) h = none (length (rows_along e l zones))
   where
     none : (n : ℕ) → (suc n == 0) ≡ false
     none n = grind (arith, nat_tests)
-
-pub runs_more : (runs : List RowRun) (r : RowRun) → rows_in (runs ++ r ∷ []) ≡ rows_in runs ++ run_rows r
-runs_more [] r = append-nil (run_rows r)
-runs_more (x ∷ runs) r = ap (λ (rows : List Row). run_rows x ++ rows) (runs_more runs r) ∙ sym (append_assoc (run_rows x) (rows_in runs) (run_rows r))
-
--- the run before comes behind the others
-pub begun_behind : (runs more : List RowRun) (r : RowRun) (last : Option RowRun) (run : RowRun) → last ≡ Some r → more ≡ runs ++ r ∷ [] → rows_in more ++ run_rows run ≡ (rows_in runs ++ rows_in_last last) ++ run_rows run
-begun_behind runs more r last run last_is more_is =
-    ap (λ (rows : List Row). rows ++ run_rows run) (ap (λ (rs : List RowRun). rows_in rs) more_is ∙ runs_more runs r ∙ ap (λ (o : Option RowRun). rows_in runs ++ rows_in_last o) (sym last_is))
-
-pub begun_first : (runs : List RowRun) (last next : Option RowRun) (run : RowRun) → last ≡ None → next ≡ Some run → rows_in runs ++ rows_in_last next ≡ (rows_in runs ++ rows_in_last last) ++ run_rows run
-begun_first runs last next run last_is next_is =
-    ap (λ (o : Option RowRun). rows_in runs ++ rows_in_last o) next_is
-    ∙ ap (λ (rows : List Row). rows ++ run_rows run) (sym (append-nil (rows_in runs)) ∙ ap (λ (o : Option RowRun). rows_in runs ++ rows_in_last o) (sym last_is))
-
--- the row of a line comes behind the rows of runs
-pub put_joined : (runs : List RowRun) (t : ℕ) (joined : Bool) (found : Option Life) (line : Line) (last next : Option RowRun) (rows : List Row) → joined ≡ true → found ≡ life_at rows line → IsJoined t joined found line last next
-    → rows_in runs ++ rows_in_last next ≡ (rows_in runs ++ rows_in_last last) ++ row_after rows t line ∷ []
-put_joined runs t joined found line last next rows so found_is is =
-    ap (λ (more : List Row). rows_in runs ++ more) (is.rows ∙ (λ i. cond (so i) (rows_in_last last ++ row_of line (life_after (found_is i) line t) ∷ []) (rows_in_last last)))
-    ∙ sym (append_assoc (rows_in runs) (rows_in_last last) (row_after rows t line ∷ []))
-
-pub put_begun : (runs new : List RowRun) (t : ℕ) (joined : Bool) (found : Option Life) (line : Line) (last mid next : Option RowRun) (run : RowRun) (row : Row) → joined ≡ false → IsJoined t joined found line last mid → run_rows run ≡ row ∷ []
-    → rows_in new ++ rows_in_last next ≡ (rows_in runs ++ rows_in_last mid) ++ run_rows run → rows_in new ++ rows_in_last next ≡ (rows_in runs ++ rows_in_last last) ++ row ∷ []
-put_begun runs new t joined found line last mid next run row so is run_is h =
-    let same : rows_in_last mid ≡ rows_in_last last = is.rows ∙ (λ i. cond (so i) (rows_in_last last ++ row_of line (life_after found line t) ∷ []) (rows_in_last last)) in
-    h ∙ (λ i. (rows_in runs ++ same i) ++ run_is i)
 
 -- a line that differs from another in its zone alone leaves the same life of the same
 
@@ -142,35 +102,13 @@ left_alike Exp life l z t = refl
 left_alike Cor life l z t = refl
 left_alike Rou life l z t = refl
 
-after_alike : (o : Option Life) (l : Line) (z : Place) (t : ℕ) → life_after o l t ≡ life_after o (in_zone l z) t
+pub after_alike : (o : Option Life) (l : Line) (z : Place) (t : ℕ) → life_after o l t ≡ life_after o (in_zone l z) t
 unfolding life_after
 after_alike None l z t = refl
 after_alike (Some life) l z t = left_alike l.action life l z t
 
-lives_one : (a b : Option Life) → same_life a b ≡ true → a ≡ b
+pub lives_one : (a b : Option Life) → same_life a b ≡ true → a ≡ b
 lives_one None None h = refl
 lives_one (Some x) (Some y) h = ap (λ (l : Life). Some l) (life_one x y h)
 lives_one (Some x) None h = cc
 lives_one None (Some y) h = cc
-
-pub joined-row : (r : RowRun) (found : Option Life) (line : Line) (t : ℕ) → is_of_run r found line ≡ true → IsLeft t (Some r) → row_with r.line.event line.zone r.left ≡ row_of line (life_after found line t)
-joined-row r found line t h left =
-    let p = and_parts (same_life found r.found) _ h in
-    let line_is : in_zone r.line line.zone ≡ line = line_one (in_zone r.line line.zone) line p.1 in
-    let found_is = lives_one found r.found p.0 in
-    let life_is : r.left ≡ life_after found line t =
-    left ∙ after_alike r.found r.line line.zone t ∙ (λ i. life_after (sym found_is i) (line_is i) t) in
-    λ i. row_with (line_is i).event line.zone (life_is i)
-
-pub joined-run : (r new : RowRun) (last : Option RowRun) (found : Option Life) (line : Line) (t : ℕ) → last ≡ Some r → is_of_run r found line ≡ true → IsLeft t last
-    → IsRunWith r line.zone new → IsJoined t true found line last (Some new)
-joined-run r new last found line t last_is h left with_zone =
-    let own : IsLeft t (Some r) = subst (λ (o : Option RowRun). IsLeft t o) last_is left in
-    record {
-      rows =
-          (λ i. rows_along (with_zone.line i).event (with_zone.left i) (with_zone.zones i))
-          ∙ along_last r.line.event r.left r.zones line.zone
-          ∙ ap (λ (row : Row). run_rows r ++ row ∷ []) (joined-row r found line t h own)
-          ∙ ap (λ (o : Option RowRun). rows_in_last o ++ row_of line (life_after found line t) ∷ []) (sym last_is);
-      left = with_zone.left ∙ own ∙ (λ i. life_after (sym with_zone.found i) (sym with_zone.line i) t);
-    }
