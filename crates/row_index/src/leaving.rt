@@ -23,6 +23,9 @@ impl RowIndex {
     ) -> Result<Self, Oom>
         ensures { IfOk result (λ index. index ≡ put_each (rows_along verdict.now.line.event (left_by t verdict.now) zones.now) self) }
     {
+        if zones.is_empty() {
+            return Ok(self);
+        }
         let left = life_left(verdict, t);
         let RowIndex {
             mut held,
