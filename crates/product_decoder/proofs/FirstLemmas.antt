@@ -1,16 +1,21 @@
--- The lines of a run open what its first line opens.
-use Rattle.std.proofs.Common.{◌≡◌, ◌∙◌, ◌&&◌, not, List, [], ◌∷◌, ◌++◌, Bool, true, false, cond, is_none, Option, Ordering, Less, Equal, Greater, refl, ap, sym}
+-- The lines of a run open what they do in one of its zones.
+use Rattle.std.proofs.Common.{◌≡◌, ◌∙◌, ◌&&◌, not, List, [], ◌∷◌, ◌++◌, Bool, true, false, cond, is_none, map, Option, Ordering, Less, Equal, Greater, append_assoc, refl, ap, sym, subst}
 use Rattle.std.proofs.lemmas.Cmp.{tied_itself}
+use Rattle.std.specs.List.{flat_map}
+use Rattle.std.specs.Ordering.{ordering_reverse}
 use Rattle.hazard_types.specs.Orders.{by_event}
 use Rattle.hazard_types.specs.Places.{Place}
 use Rattle.hazard_types.specs.declared.hazard.Event.{Event}
 use Rattle.hazard_types.specs.declared.line.Line.{Line}
-use Rattle.hazard_types.proofs.OrderLaws.{by_event_total}
+use Rattle.hazard_types.proofs.OrderLaws.{by_event_total, by_event_ties}
 use Rattle.event_life.specs.declared.life.Breach.{Breach}
 use Rattle.event_life.specs.Openings.{event_placed, add_event, opened_by}
 use Rattle.event_life.specs.Products.{is_new, is_routine, lawful_of}
-use Rattle.product_decoder.specs.declared.runs.Run.{Run}
-use Rattle.product_decoder.specs.Runs.{Judged, in_zone, along, spelled, firsts_of}
+use Rattle.row_index.specs.declared.verdicts.Run.{Run}
+use Rattle.row_index.specs.declared.verdicts.Verdict.{Verdict}
+use Rattle.row_index.specs.Runs.{in_zone}
+use Rattle.row_index.specs.Verdicts.{spelled, spelled_at, spelled_run}
+use Rattle.product_decoder.specs.Runs.{Judged, judged_by, firsts_in, firsts_of}
 
 -- an event that is added twice is added once
 
@@ -23,6 +28,42 @@ added e (d ∷ events) = by_first (by_event e d) refl (added e events)
     by_first Equal h later = rw h refl
     by_first Greater h later = rw h (ap (λ (behind : List Event). d ∷ behind) later)
 
+-- two events are added in either order
+
+abbrev Turns : Event → Event → List Event → Type 0
+Turns d e events = add_event e (add_event d events) ≡ add_event d (add_event e events)
+
+added_less : (d e : Event) (events : List Event) → by_event d e ≡ Less → Turns d e events
+added_less d e [] h =
+    let turned : by_event e d ≡ Greater = by_event_total.antisymm e d ∙ ap ordering_reverse h in
+    rw (h, turned) refl
+added_less d e (f ∷ events) h = by_second (by_event e f) refl (added_less d e events h)
+  where
+    turned : by_event e d ≡ Greater
+    turned = by_event_total.antisymm e d ∙ ap ordering_reverse h
+
+    by_first : (o : Ordering) → by_event d f ≡ o → by_event e f ≡ Greater → Turns d e events → Turns d e (f ∷ events)
+    by_first Less g k later = simp (g, k, turned) refl
+    by_first Equal g k later = simp (g, k) refl
+    by_first Greater g k later = simp (g, k) (ap (λ (behind : List Event). f ∷ behind) later)
+
+    by_second : (o : Ordering) → by_event e f ≡ o → Turns d e events → Turns d e (f ∷ events)
+    by_second Less k later =
+        let g : by_event d f ≡ Less = by_event_total.trans d e f h k in
+        simp (g, k, turned, h) refl
+    by_second Equal k later =
+        let g : by_event d f ≡ Less = subst (λ (c : Event). by_event d c ≡ Less) (by_event_ties e f k) h in
+        simp (g, k, turned) refl
+    by_second Greater k later = by_first (by_event d f) refl k later
+
+added_both : (d e : Event) (events : List Event) → Turns d e events
+added_both d e events = by_order (by_event d e) refl
+  where
+    by_order : (o : Ordering) → by_event d e ≡ o → Turns d e events
+    by_order Less h = added_less d e events h
+    by_order Equal h = subst (λ (c : Event). add_event c (add_event d events) ≡ add_event d (add_event c events)) (by_event_ties d e h) refl
+    by_order Greater h = sym (added_less e d events (by_event_total.antisymm e d ∙ ap ordering_reverse h))
+
 -- one line in front
 
 abbrev opens : Bool → Bool → Event → List Event → List Event
@@ -32,6 +73,15 @@ twice : (lawful new : Bool) (e : Event) (events : List Event) → opens lawful n
 twice true true e events = added e events
 twice true false e events = refl
 twice false new e events = refl
+
+both : (a b c d : Bool) (e f : Event) (events : List Event) → opens a b e (opens c d f events) ≡ opens c d f (opens a b e events)
+both true true true true e f events = added_both f e events
+both true true true false e f events = refl
+both true true false d e f events = refl
+both true false true true e f events = refl
+both true false true false e f events = refl
+both true false false d e f events = refl
+both false b c d e f events = refl
 
 abbrev opened_with : Line → Option Breach → List Event → List Event
 opened_with line o events = opens (not (is_routine line.action) && is_none o) (is_new line.action) line.event events
@@ -43,16 +93,56 @@ one_more line o rest = by_test (not (is_routine line.action) && is_none o)
     by_test true = refl
     by_test false = refl
 
--- the same line of other zones adds nothing to it
-along_opened : (line : Line) (o : Option Breach) (places : List Place) (rest : List Judged) → opened_with line o (opened_by (lawful_of (along line o places ++ rest))) ≡ opened_with line o (opened_by (lawful_of rest))
-along_opened line o [] rest = refl
-along_opened line o (z ∷ places) rest =
-    ap (opened_with line o) (one_more (in_zone line z) o (along line o places ++ rest))
-    ∙ twice (not (is_routine line.action) && is_none o) (is_new line.action) line.event (opened_by (lawful_of (along line o places ++ rest)))
-    ∙ along_opened line o places rest
+-- the lines of a run in one zone
+
+abbrev all_opened : List Verdict → List Event → List Event
+all_opened [] events = events
+all_opened (v ∷ vs) events = opened_with v.line v.breach (all_opened vs events)
+
+firsts_told : (vs : List Verdict) (rest : List Judged) → opened_by (lawful_of (map judged_by vs ++ rest)) ≡ all_opened vs (opened_by (lawful_of rest))
+firsts_told [] rest = refl
+firsts_told (v ∷ vs) rest = one_more v.line v.breach (map judged_by vs ++ rest) ∙ ap (opened_with v.line v.breach) (firsts_told vs rest)
+
+zone_told : (z : Place) (vs : List Verdict) (rest : List Judged) → opened_by (lawful_of (spelled_at vs z ++ rest)) ≡ all_opened vs (opened_by (lawful_of rest))
+zone_told z [] rest = refl
+zone_told z (v ∷ vs) rest = one_more (in_zone v.line z) v.breach (spelled_at vs z ++ rest) ∙ ap (opened_with v.line v.breach) (zone_told z vs rest)
+
+-- said again, they add nothing
+
+past_all : (v : Verdict) (vs : List Verdict) (events : List Event) → all_opened vs (opened_with v.line v.breach events) ≡ opened_with v.line v.breach (all_opened vs events)
+past_all v [] events = refl
+past_all v (w ∷ vs) events =
+    ap (opened_with w.line w.breach) (past_all v vs events)
+    ∙ both (not (is_routine w.line.action) && is_none w.breach) (is_new w.line.action) (not (is_routine v.line.action) && is_none v.breach) (is_new v.line.action) w.line.event v.line.event (all_opened vs events)
+
+again : (vs : List Verdict) (events : List Event) → all_opened vs (all_opened vs events) ≡ all_opened vs events
+again [] events = refl
+again (v ∷ vs) events =
+    ap (opened_with v.line v.breach) (past_all v vs (all_opened vs events))
+    ∙ twice (not (is_routine v.line.action) && is_none v.breach) (is_new v.line.action) v.line.event (all_opened vs (all_opened vs events))
+    ∙ ap (opened_with v.line v.breach) (again vs events)
+
+-- one zone more
+zone_more : (z : Place) (zones : List Place) (vs : List Verdict) (rest : List Judged)
+    → opened_by (lawful_of (flat_map (spelled_at vs) (z ∷ zones) ++ rest)) ≡ all_opened vs (opened_by (lawful_of (flat_map (spelled_at vs) zones ++ rest)))
+zone_more z zones vs rest =
+    ap (λ (judged : List Judged). opened_by (lawful_of judged)) (append_assoc (spelled_at vs z) (flat_map (spelled_at vs) zones) rest)
+    ∙ zone_told z vs (flat_map (spelled_at vs) zones ++ rest)
+
+-- in front of what they open, other zones add nothing
+zones_again : (zones : List Place) (vs : List Verdict) (rest : List Judged) → all_opened vs (opened_by (lawful_of (flat_map (spelled_at vs) zones ++ rest))) ≡ all_opened vs (opened_by (lawful_of rest))
+zones_again [] vs rest = refl
+zones_again (z ∷ zones) vs rest =
+    ap (all_opened vs) (zone_more z zones vs rest) ∙ again vs (opened_by (lawful_of (flat_map (spelled_at vs) zones ++ rest))) ∙ zones_again zones vs rest
+
+-- a run in front of others
+run_opened : (zones : List Place) (vs : List Verdict) (firsts rest : List Judged) → opened_by (lawful_of firsts) ≡ opened_by (lawful_of rest)
+    → opened_by (lawful_of (firsts_in (record { zones = zones; verdicts = vs }) ++ firsts)) ≡ opened_by (lawful_of (flat_map (spelled_at vs) zones ++ rest))
+run_opened [] vs firsts rest h = h
+run_opened (z ∷ zones) vs firsts rest h =
+    firsts_told vs firsts ∙ ap (all_opened vs) h
+    ∙ sym (zones_again zones vs rest) ∙ sym (zone_more z zones vs rest)
 
 pub firsts_opened : (runs : List Run) → opened_by (lawful_of (firsts_of runs)) ≡ opened_by (lawful_of (spelled runs))
 firsts_opened [] = refl
-firsts_opened (r ∷ runs) =
-    one_more r.first r.breach (firsts_of runs) ∙ ap (opened_with r.first r.breach) (firsts_opened runs)
-    ∙ sym (along_opened r.first r.breach r.more (spelled runs)) ∙ sym (one_more r.first r.breach (along r.first r.breach r.more ++ spelled runs))
+firsts_opened (r ∷ runs) = run_opened r.zones r.verdicts (firsts_of runs) (spelled runs) (firsts_opened runs)

@@ -1,6 +1,7 @@
 -- What a frame says of events is what its lines say, zone by zone.
-use Rattle.std.proofs.Common.{◌≡◌, ◌∙◌, ℕ, List, [], ◌∷◌, ◌++◌, map, Bool, true, false, cond, refl, ap, sym}
-use Rattle.std.specs.List.{filter}
+use Rattle.std.proofs.Common.{◌≡◌, ◌∙◌, ℕ, List, [], ◌∷◌, ◌++◌, map, Bool, true, false, cond, append-nil, refl, ap, sym}
+use Rattle.std.proofs.lemmas.Grind.{flat_map-append}
+use Rattle.std.specs.List.{filter, flat_map}
 use Rattle.hazard_types.specs.Places.{Place}
 use Rattle.hazard_types.specs.ZoneLines.{ZoneLine}
 use Rattle.hazard_types.specs.declared.codes.Class.{Class}
@@ -11,9 +12,13 @@ use Rattle.product_frame.specs.ZoneLinesOf.{lines_of_zone, lines_of_zones, lines
 use Rattle.product_frame.specs.declared.frame.Frame.{Frame}
 use Rattle.product_frame.specs.declared.frame.FrameSegment.{FrameSegment}
 use Rattle.product_frame.specs.declared.frame.Pair.{Pair}
+use Rattle.row_index.specs.declared.verdicts.Part.{Part}
+use Rattle.row_index.specs.Runs.{in_zone}
+use Rattle.row_index.specs.Verdicts.{lines_in as lines_in_parts, said_at, said_along, said_in}
 use Rattle.product_decoder.specs.Decoded.{pair_of, decoded_of}
 use Rattle.product_decoder.specs.FrameLines.{is_pair_by, event_pair, event_pairs, line_in, lines_in, lines_in_segments}
 use Rattle.product_decoder.specs.ReaderModel.{is_by, is_vtec_by, line_said, said_by}
+use Rattle.product_decoder.specs.declared.frame_lines.EventPair.{EventPair}
 use Rattle.product_decoder.specs.declared.types.ZonePair.{ZonePair}
 
 module _ (office : List ℕ) (class : Class) (rows : List Row) (t : ℕ) where
@@ -54,3 +59,19 @@ module _ (office : List ℕ) (class : Class) (rows : List Row) (t : ℕ) where
   pub frame_told : (f : Frame) → lines_in_segments office class rows t f.segments ≡ lines_of rows t (said_by office class (decoded_of f).pairs)
   unfolding zone_lines_of
   frame_told f = sym (segments_told f.segments)
+
+-- lines of one zone said in another are those of the other
+
+said_told : (first z : Place) (said : List EventPair) → said_at (map (line_in first) said) z ≡ map (line_in z) said
+said_told first z [] = refl
+said_told first z (s ∷ said) = ap (λ (lines : List Line). line_in z s ∷ lines) (said_told first z said)
+
+along_told : (first : Place) (zones : List Place) (said : List EventPair) → said_along (map (line_in first) said) zones ≡ lines_in zones said
+along_told first [] said = refl
+along_told first (z ∷ zones) said = λ i. said_told first z said i ++ along_told first zones said i
+
+-- with the part of a segment
+pub part_put : (old new : List Part) (p : Part) (first : Place) (said : List EventPair) → new ≡ old ++ p ∷ [] → p.lines ≡ map (line_in first) said → lines_in_parts new ≡ lines_in_parts old ++ lines_in p.zones.now said
+part_put old new p first said is lines_are =
+    ap lines_in_parts is ∙ flat_map-append said_in old (p ∷ [])
+    ∙ ap (λ (more : List Line). lines_in_parts old ++ more) (append-nil (said_in p) ∙ ap (λ (lines : List Line). said_along lines p.zones.now) lines_are ∙ along_told first p.zones.now said)

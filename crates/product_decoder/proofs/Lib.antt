@@ -5,6 +5,7 @@ pub mod LawLemmas
 pub mod RunLemmas
 pub mod FirstLemmas
 pub mod StepLemmas
+pub mod EitherOrder
 pub mod Nested
 pub mod ChainLemmas
 pub mod KeyLemmas

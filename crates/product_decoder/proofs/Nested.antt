@@ -1,10 +1,10 @@
 -- The steps of each event by zone are the steps of events in zones: a step put among those of its event is put among all.
-use Rattle.std.proofs.Common.{◌≡◌, ◌∙◌, ◌&&◌, not, ℕ, List, [], ◌∷◌, ◌++◌, Bool, true, false, cond, fold, is_none, Ordering, Less, Equal, Greater, Option, Some, unwrap_or, append_assoc, append-nil, refl, ap, sym, subst}
+use Rattle.std.proofs.Common.{◌≡◌, ◌∙◌, ◌&&◌, not, ℕ, List, [], ◌∷◌, ◌++◌, Bool, true, false, cond, fold, map, is_none, Ordering, Less, Equal, Greater, Option, Some, unwrap_or, append_assoc, append-nil, refl, ap, sym, subst}
 use Rattle.std.proofs.lemmas.Cmp.{tied_itself}
 use Rattle.std.proofs.lemmas.List.{map-append}
 use Rattle.std.proofs.lemmas.List.Sums.{fold-append}
 use Rattle.std.specs.BTreeMap.{insert_entry, is_at}
-use Rattle.std.specs.List.{AllByRecursion}
+use Rattle.std.specs.List.{AllByRecursion, flat_map}
 use Rattle.std.specs.List.Sorted.{IsStrictlySortedBy}
 use Rattle.std.specs.Map.{keys_of, lookup}
 use Rattle.std.specs.Ordering.{match_ordering}
@@ -13,15 +13,18 @@ use Rattle.hazard_types.specs.Places.{Place, by_place}
 use Rattle.hazard_types.specs.declared.hazard.Event.{Event}
 use Rattle.hazard_types.specs.declared.line.Line.{Line}
 use Rattle.hazard_types.proofs.OrderLaws.{by_event_total, by_event_ties}
-use Rattle.event_life.specs.declared.life.Breach.{Breach}
 use Rattle.event_life.specs.Products.{is_routine, lawful_of}
 use Rattle.row_index.proofs.Tests.{insert-sorted}
-use Rattle.product_decoder.specs.declared.runs.Run.{Run}
-use Rattle.product_decoder.specs.Runs.{Judged, in_zone, along, places_of, spelled_run, spelled}
+use Rattle.row_index.specs.declared.verdicts.Run.{Run}
+use Rattle.row_index.specs.declared.verdicts.Verdict.{Verdict}
+use Rattle.row_index.specs.Runs.{in_zone}
+use Rattle.row_index.specs.Verdicts.{HaveOwnEvents, is_lawful, spelled, spelled_at, spelled_run}
+use Rattle.product_decoder.specs.Runs.{Judged}
 use Rattle.product_decoder.specs.Lives.{Living, by_living}
 use Rattle.product_decoder.specs.Steps.{Step, Steps, steps_at, with_step, with_line, with_lines, with_runs, tracks_told, track_told}
 use Rattle.product_decoder.proofs.StepLemmas.{keys_put}
-use Rattle.product_decoder.specs.ZoneSteps.{Zones, at_zone, with_zone, with_zones, Events, AreAscending, zones_at, under, flat, with_run}
+use Rattle.product_decoder.proofs.EitherOrder.{one, turned_run}
+use Rattle.product_decoder.specs.ZoneSteps.{Zones, at_zone, with_zone, with_zones, Events, AreAscending, zones_at, under, flat, with_run, with_verdict}
 
 abbrev Entry : Type 0
 Entry = Living × List Step
@@ -181,23 +184,36 @@ pub runs_told : (issue : ℕ) (steps : Steps) (runs : List Run) → with_runs is
 runs_told issue steps [] = refl
 runs_told issue steps (r ∷ runs) = runs_told issue (with_lines issue steps (spelled_run r)) runs ∙ sym (lines_both issue steps (spelled_run r) (spelled runs))
 
-along_lawful : (issue : ℕ) (steps : Steps) (line : Line) (o : Option Breach) (places : List Place) → (not (is_routine line.action) && is_none o) ≡ true
-    → with_lines issue steps (along line o places) ≡ with_run (line.action, issue) line.event steps places
-along_lawful issue steps line o [] h = refl
-along_lawful issue steps line o (z ∷ places) h = rw h (along_lawful issue (with_line issue steps (in_zone line z)) line o places h)
+-- in one zone
+zone_lines : (issue : ℕ) (z : Place) (vs : List Verdict) (steps : Steps) → with_lines issue steps (spelled_at vs z) ≡ fold (one issue z) steps vs
+zone_lines issue z [] steps = refl
+zone_lines issue z (v ∷ vs) steps = by_test (is_lawful v) (zone_lines issue z vs)
+  where
+    by_test : (b : Bool) → ((s : Steps) → with_lines issue s (spelled_at vs z) ≡ fold (one issue z) s vs)
+        → fold (with_line issue) steps (cond b (in_zone v.line z ∷ lawful_of (spelled_at vs z)) (lawful_of (spelled_at vs z))) ≡ fold (one issue z) (cond b (with_line issue steps (in_zone v.line z)) steps) vs
+    by_test true later = later (with_line issue steps (in_zone v.line z))
+    by_test false later = later steps
 
-along_passed : (issue : ℕ) (steps : Steps) (line : Line) (o : Option Breach) (places : List Place) → (not (is_routine line.action) && is_none o) ≡ false → with_lines issue steps (along line o places) ≡ steps
-along_passed issue steps line o [] h = refl
-along_passed issue steps line o (z ∷ places) h = rw h (along_passed issue steps line o places h)
+-- in each of some zones
+zones_lines : (issue : ℕ) (vs : List Verdict) (zones : List Place) (steps : Steps) → with_lines issue steps (flat_map (spelled_at vs) zones) ≡ fold (λ (s : Steps) (z : Place). fold (one issue z) s vs) steps zones
+zones_lines issue vs [] steps = refl
+zones_lines issue vs (z ∷ zones) steps =
+    lines_both issue steps (spelled_at vs z) (flat_map (spelled_at vs) zones)
+    ∙ ap (λ (s : Steps). with_lines issue s (flat_map (spelled_at vs) zones)) (zone_lines issue z vs steps)
+    ∙ zones_lines issue vs zones (fold (one issue z) steps vs)
 
--- a run that is lawful
-pub run_lawful : (issue : ℕ) (r : Run) (es new : Events) → AreAscending es → (not (is_routine r.first.action) && is_none r.breach) ≡ true
-    → new ≡ insert_entry by_event es r.first.event (with_zones (r.first.action, issue) (zones_at es r.first.event) (places_of r)) → flat new ≡ with_lines issue (flat es) (spelled_run r)
-run_lawful issue r es new up h is = run_put (r.first.action, issue) r.first.event es new (places_of r) up is ∙ sym (along_lawful issue (flat es) r.first r.breach (places_of r) h)
+-- line by line
+pub run_told : (issue : ℕ) (r : Run) (steps : Steps) → HaveOwnEvents (map (λ (v : Verdict). v.line) r.verdicts) → fold (with_verdict issue r.zones) steps r.verdicts ≡ with_lines issue steps (spelled_run r)
+run_told issue r steps h = sym (zones_lines issue r.verdicts r.zones steps ∙ turned_run issue r.verdicts r.zones steps h)
+
+-- a line that is lawful
+pub verdict_lawful : (issue : ℕ) (v : Verdict) (es new : Events) (zones : List Place) → AreAscending es → is_lawful v ≡ true
+    → new ≡ insert_entry by_event es v.line.event (with_zones (v.line.action, issue) (zones_at es v.line.event) zones) → flat new ≡ with_verdict issue zones (flat es) v
+verdict_lawful issue v es new zones up h is = rw h (run_put (v.line.action, issue) v.line.event es new zones up is)
 
 -- and one that is not
-pub run_passed : (issue : ℕ) (r : Run) (steps : Steps) → (not (is_routine r.first.action) && is_none r.breach) ≡ false → steps ≡ with_lines issue steps (spelled_run r)
-run_passed issue r steps h = sym (along_passed issue steps r.first r.breach (places_of r) h)
+pub verdict_passed : (issue : ℕ) (v : Verdict) (steps : Steps) (zones : List Place) → is_lawful v ≡ false → steps ≡ with_verdict issue zones steps v
+verdict_passed issue v steps zones h = rw h refl
 
 -- the lives that one event's steps more tell
 pub tracks_more : (es : Events) (e : Event × Zones) → tracks_told (flat (es ++ e ∷ [])) ≡ tracks_told (flat es) ++ tracks_told (under e.0 e.1)

@@ -1,12 +1,9 @@
--- Lines of a product that were judged, as runs of zones.
-use Rattle.std.specs.Prelude.{◌&&◌, ◌++◌, ℕ, Bool, List, [], ◌∷◌, Option, Some, None, is_some, map}
-use Rattle.std.specs.Option.{option_eq}
-use Rattle.hazard_types.specs.Places.{Place}
-use Rattle.hazard_types.specs.contracts.line.LinePartialEq.TheImpl as line
-use Rattle.hazard_types.specs.declared.line.Line.{Line}
-use Rattle.event_life.specs.contracts.life.BreachPartialEq.TheImpl as breach
+-- What was taken of a product: its lines, judged, of which code holds runs of zones.
+use Rattle.std.specs.Prelude.{Bool, ℕ, List, [], Option, is_some, map, flat_map, slice_get, if◌then◌else◌}
 use Rattle.event_life.specs.declared.life.Breach.{Breach}
-use Rattle.product_decoder.specs.declared.runs.Run.{Run}
+use Rattle.hazard_types.specs.declared.line.Line.{Line}
+use Rattle.row_index.specs.declared.verdicts.Run.{Run}
+use Rattle.row_index.specs.declared.verdicts.Verdict.{Verdict}
 
 -- a line with its breach, or None where it is lawful
 abbrev pub Judged : Type 0
@@ -20,37 +17,14 @@ pub record Taken : Type 0 where
   pub issue : ℕ
   pub judged : List Judged
 
--- the same line of another zone
-abbrev pub in_zone : Line → Place → Line
-in_zone l z = record { action = l.action; event = l.event; zone = z; begin = l.begin; end = l.end; flood = l.flood }
+-- a line that was judged, in the zone that it has by itself
+abbrev pub judged_by : Verdict → Judged
+judged_by v = (v.line, v.breach)
 
--- the same in each of these zones
-abbrev pub along : Line → Option Breach → List Place → List Judged
-along l breach [] = []
-along l breach (z ∷ zones) = (in_zone l z, breach) ∷ along l breach zones
+-- what a run says in one zone, if it has any
+abbrev pub firsts_in : Run → List Judged
+firsts_in r = if is_some (slice_get r.zones 0) then map judged_by r.verdicts else []
 
--- the lines of a run
-abbrev pub spelled_run : Run → List Judged
-spelled_run r = (r.first, r.breach) ∷ along r.first r.breach r.more
-
--- their zones
-abbrev pub places_of : Run → List Place
-places_of r = r.first.zone ∷ r.more
-
--- those of runs, one after another
-abbrev pub spelled : List Run → List Judged
-spelled [] = []
-spelled (r ∷ runs) = spelled_run r ++ spelled runs
-
--- the first line of each
+-- what runs say in one zone each
 abbrev pub firsts_of : List Run → List Judged
-firsts_of runs = map (λ (r : Run). (r.first, r.breach)) runs
-
--- those of the last run, if there is one
-abbrev pub spelled_last : Option Run → List Judged
-spelled_last None = []
-spelled_last (Some r) = spelled_run r
-
--- the line differs from those of the run in its zone alone
-abbrev pub is_alike : Run → Judged → Bool
-is_alike r l = option_eq breach.eq-value.it r.breach l.1 && line.eq-value.it (in_zone r.first l.0.zone) l.0
+firsts_of runs = flat_map firsts_in runs

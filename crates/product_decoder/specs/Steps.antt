@@ -5,8 +5,9 @@ use Rattle.std.specs.Map.{lookup}
 use Rattle.hazard_types.specs.declared.codes.Action.{Action}
 use Rattle.hazard_types.specs.declared.line.Line.{Line}
 use Rattle.event_life.specs.Products.{lawful_of}
-use Rattle.product_decoder.specs.Runs.{Judged, Taken, spelled_run}
-use Rattle.product_decoder.specs.declared.runs.Run.{Run}
+use Rattle.row_index.specs.declared.verdicts.Run.{Run}
+use Rattle.row_index.specs.Verdicts.{spelled_run}
+use Rattle.product_decoder.specs.Runs.{Judged, Taken}
 use Rattle.product_decoder.specs.declared.types.Track.{Track}
 use Rattle.product_decoder.specs.Lives.{Living, by_living}
 

@@ -1,11 +1,13 @@
 -- The steps of each event by zone, as the code holds them, and those of a run of lines.
-use Rattle.std.specs.Prelude.{◌++◌, ◌<◌, ℕ, List, [], ◌∷◌, fold, map, get_or, unwrap_or}
+use Rattle.std.specs.Prelude.{◌++◌, ◌<◌, ℕ, List, [], ◌∷◌, fold, map, get_or, unwrap_or, if◌then◌else◌}
 use Rattle.std.specs.BTreeMap.{insert_entry, is_at}
 use Rattle.std.specs.List.Sorted.{IsStrictlySortedBy}
 use Rattle.std.specs.Map.{keys_of, lookup}
 use Rattle.hazard_types.specs.Orders.{by_event}
 use Rattle.hazard_types.specs.Places.{Place, by_place}
 use Rattle.hazard_types.specs.declared.hazard.Event.{Event}
+use Rattle.row_index.specs.declared.verdicts.Verdict.{Verdict}
+use Rattle.row_index.specs.Verdicts.{is_lawful}
 use Rattle.product_decoder.specs.Chains.{chains_of}
 use Rattle.product_decoder.specs.declared.zone_steps.SharedStep.{SharedStep}
 use Rattle.product_decoder.specs.Steps.{Step, Steps, with_step}
@@ -66,3 +68,7 @@ flat (e ∷ es) = under e.0 e.1 ++ flat es
 -- with the same step more of an event in each of these zones
 abbrev pub with_run : Step → Event → Steps → List Place → Steps
 with_run step e steps places = fold (λ (steps : Steps) (z : Place). with_step steps (record { event = e; zone = z }) step) steps places
+
+-- with the step of a line, where it is lawful, in each of these zones
+abbrev pub with_verdict : ℕ → List Place → Steps → Verdict → Steps
+with_verdict issue zones steps v = if is_lawful v then with_run (v.line.action, issue) v.line.event steps zones else steps

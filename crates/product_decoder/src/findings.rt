@@ -3,13 +3,14 @@ ghost use Rattle.std.specs.Prelude.{◌≡◌, ◌<◌, ◌++◌, [], length, ma
 ghost use Rattle.event_life.specs.Openings.{gaps_from, opened_by};
 ghost use Rattle.event_life.specs.Products.{lawful_of};
 ghost use Rattle.product_decoder.specs.ReaderModel.{found_in, gap_found};
+ghost use Rattle.product_decoder.specs.Runs.{judged_by, firsts_in, firsts_of};
 ghost use Rattle.product_decoder.specs.Takings.{breaches_in, opened_in};
 
 use crate::taken::Taken;
 use crate::types::{Found, GapFound};
 use event_life::{Breach, Gap, gaps, opened_by};
 use hazard_types::{Event, Line, List, Oom};
-use row_index::Run;
+use row_index::{Run, Verdict};
 use std::alloc::{AllocError, Global};
 
 /// Adds the lines of a product that are in breach.
@@ -56,21 +57,44 @@ pub fn breaches_in(alloc: Global, taken: &[Taken]) -> Result<List<Found>, Oom>
     Ok(out)
 }
 
-/// Adds what a run says in its first zone.
-fn put_firsts(run: &Run, out: &mut Vec<(Line, Option<Breach>)>) -> Result<(), Oom> {
-    for verdict in run.verdicts.as_slice() {
-        out.push((verdict.line, verdict.breach))?;
+/// Adds the lines of a run, each in one zone.
+fn put_lines(verdicts: &[Verdict], out: &mut Vec<(Line, Option<Breach>)>) -> Result<(), Oom>
+    ensures { OnOk result (out.new.items ≡ out.old.items ++ map judged_by verdicts.now) }
+{
+    for verdict in verdicts {
+        out.extend_from_slice(&[(verdict.line, verdict.breach)])?;
     }
     Ok(())
 }
 
-/// The events that a product opened. The lines of a run are of one event, so the first of each says them.
-fn opened_of(alloc: Global, product: &Taken) -> Result<List<Event>, Oom> {
+/// Adds what a run says in one zone. One without zones says nothing.
+fn put_firsts(run: &Run, out: &mut Vec<(Line, Option<Breach>)>) -> Result<(), Oom>
+    ensures { OnOk result (out.new.items ≡ out.old.items ++ firsts_in run.now) }
+{
+    match run.zones.as_slice().first() {
+        Some(_zone) => put_lines(run.verdicts.as_slice(), out),
+        None => Ok(()),
+    }
+}
+
+/// What runs say in one zone each.
+fn firsts_of(alloc: Global, runs: &[Run]) -> Result<List<(Line, Option<Breach>)>, Oom>
+    ensures { IfOk result (λ firsts. firsts ≡ firsts_of runs.now) }
+{
     let mut firsts = Vec::new(alloc);
-    for run in product.runs() {
+    for run in runs {
         put_firsts(run, &mut firsts)?;
     }
-    opened_by(alloc, &firsts)
+    Ok(List::from_vec(firsts))
+}
+
+/// The events that a product opened. The lines of a run are of the same events in each zone, so
+/// those of one say them.
+fn opened_of(alloc: Global, product: &Taken) -> Result<List<Event>, Oom>
+    ensures { IfOk result (λ events. events ≡ opened_by (lawful_of product.now.judged)) }
+{
+    let firsts = firsts_of(alloc, product.runs())?;
+    opened_by(alloc, firsts.as_slice())
 }
 
 /// The events that products opened, product by product.

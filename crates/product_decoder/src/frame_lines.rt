@@ -3,9 +3,10 @@ ghost use Rattle.std.specs.Prelude.{◌≡◌, ◌++◌, map, IfOk, OnOk};
 ghost use Rattle.event_life.specs.Lives.{judged_product};
 ghost use Rattle.event_life.specs.Products.{lines_of};
 ghost use Rattle.product_decoder.specs.Decoded.{decoded_of};
-ghost use Rattle.product_decoder.specs.FrameLines.{event_pair, event_pairs, line_in};
+ghost use Rattle.product_decoder.specs.FrameLines.{event_pair, event_pairs, line_in, lines_in as lines_along, lines_in_segments};
 ghost use Rattle.product_decoder.specs.ReaderModel.{said_by, product_of};
 ghost use Rattle.product_decoder.specs.Takings.{IsKnown};
+ghost use Rattle.row_index.specs.Verdicts.{lines_in, spelled, AreApart, AreFound};
 
 use crate::taken::{Known, end_of, event_of, is_vtec_by};
 use hazard_types::{Class, Event, Flood, Line, List, Minute, Oom, Vtec, Zone};
@@ -73,33 +74,74 @@ fn line_in(zone: &Zone, said: &EventPair) -> Line
 }
 
 /// What pairs say in a zone.
-fn lines_at(alloc: Global, zone: &Zone, said: &[EventPair]) -> Result<List<Line>, Oom> {
+fn lines_at(alloc: Global, zone: &Zone, said: &[EventPair]) -> Result<List<Line>, Oom>
+    ensures { IfOk result (λ lines. lines ≡ map (line_in zone.now) said.now) }
+{
     let mut lines = Vec::with_capacity(alloc, said.len())?;
     for pair in said {
-        lines.push(line_in(zone, pair))?;
+        lines.extend_from_slice(&[line_in(zone, pair)])?;
     }
     Ok(List::from_vec(lines))
 }
 
+/// Adds what pairs say in each of these zones, if there are any.
+fn put_part<'a>(
+    alloc: Global,
+    parts: &mut Vec<Part<'a>>,
+    zones: &'a [Zone],
+    said: &[EventPair],
+) -> Result<(), Oom>
+    ensures { OnOk result (lines_in parts.new.items ≡ lines_in parts.old.items ++ lines_along zones.now said.now) }
+{
+    match zones.first() {
+        Some(first) => {
+            let lines = lines_at(alloc, first, said)?;
+            parts.push(Part { zones, lines })?;
+            Ok(())
+        }
+        None => Ok(()),
+    }
+}
+
 /// What the pairs of segments say of their events, in the zones of each.
+fn parts_of<'a>(
+    alloc: Global,
+    office: &[u8; 4],
+    class: &Class,
+    rows: &RowIndex,
+    t: Minute,
+    segments: &'a [FrameSegment],
+) -> Result<List<Part<'a>>, Oom>
+    ensures { IfOk result (λ parts. lines_in parts ≡ lines_in_segments office.now class.now rows.now t segments.now) }
+{
+    let mut parts = Vec::with_capacity(alloc, segments.len())?;
+    for segment in segments {
+        let pairs = segment.pairs.as_slice();
+        let said = event_pairs(alloc, office, class, rows, t, pairs)?;
+        put_part(alloc, &mut parts, segment.zones.as_slice(), said.as_slice())?;
+    }
+    Ok(List::from_vec(parts))
+}
+
+/// What the lines of an office and class say of their events, by the frame of their product.
+#[tactic(auto, using(crate::proofs::FrameLemmas::frame_told))]
 fn parts_by_frame<'a>(
     alloc: Global,
     office: &[u8; 4],
     class: &Class,
     rows: &RowIndex,
     frame: &'a Frame,
-) -> Result<List<Part<'a>>, Oom> {
-    let mut parts = Vec::with_capacity(alloc, frame.segments.len())?;
-    for segment in frame.segments.as_slice() {
-        let zones = segment.zones.as_slice();
-        let pairs = segment.pairs.as_slice();
-        let said = event_pairs(alloc, office, class, rows, frame.issue, pairs)?;
-        if let Some(first) = zones.first() {
-            let lines = lines_at(alloc, first, said.as_slice())?;
-            parts.push(Part { zones, lines })?;
-        }
-    }
-    Ok(List::from_vec(parts))
+) -> Result<List<Part<'a>>, Oom>
+    ensures { IfOk result (λ parts. lines_in parts ≡ lines_of rows.now frame.now.issue (said_by office.now class.now (decoded_of frame.now).pairs)) }
+{
+    parts_of(
+        alloc,
+        office,
+        class,
+        rows,
+        frame.issue,
+        frame.segments.as_slice(),
+    )
 }
 
 /// The lines of the office and class of a product, by its frame, each with its breach. `rows` are
@@ -114,7 +156,11 @@ pub fn judged_by_frame(
     class: &Class,
     rows: &RowIndex,
     frame: &Frame,
-) -> Result<List<Run>, Oom> {
+) -> Result<List<Run>, Oom>
+    ensures told { IfOk result (λ runs. spelled runs ≡ judged_product rows.now (product_of office.now class.now (decoded_of frame.now))) }
+    ensures found { IfOk result (λ runs. AreFound rows.now runs) }
+    ensures apart { IfOk result (λ runs. AreApart runs) }
+{
     let parts = parts_by_frame(alloc, office, class, rows, frame)?;
     rows.judge_parts(alloc, frame.issue, parts.as_slice())
 }

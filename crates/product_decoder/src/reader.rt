@@ -12,6 +12,7 @@ ghost use Rattle.product_decoder.specs.Decoded.{decoded_of};
 ghost use Rattle.product_decoder.specs.Lives.{by_life};
 ghost use Rattle.product_decoder.specs.ReaderModel.{product_of, lives_of, found_of, gaps_found};
 ghost use Rattle.product_decoder.specs.Takings.{product_judged};
+ghost use Rattle.row_index.specs.Verdicts.{spelled, AreApart, AreFound};
 
 use crate::findings::{breaches_in, gaps_in};
 use crate::frame_lines::judged_by_frame;
@@ -79,9 +80,20 @@ impl Reader {
         rows: RowIndex,
         issue: Minute,
         runs: List<Run>,
-    ) -> Result<(), Oom> {
+    ) -> Result<(), Oom>
+        requires rows { rows ≡ rows_of self.old.products }
+        requires few { length self.old.products < 4294967295 }
+        requires judged { spelled runs ≡ judged_product rows (product_judged self.old.office self.old.class issue (spelled runs)) }
+        requires found { AreFound rows runs }
+        requires apart { AreApart runs }
+        ensures office { self.new.office ≡ self.old.office }
+        ensures class { self.new.class ≡ self.old.class }
+        ensures ok { OnOk result (self.new.products ≡ self.old.products ++ product_judged self.old.office self.old.class issue (spelled runs) ∷ []) }
+        ensures err { OnErr result (self.new.products ≡ self.old.products) }
+    {
         let after = rows.leave_runs(alloc, issue, runs.as_slice())?;
-        self.taken.push(Taken::new(issue, runs))?;
+        let taken = Taken::new(issue, runs);
+        self.taken.push(taken)?;
         self.rows = Some(after);
         Ok(())
     }
@@ -99,8 +111,8 @@ impl Reader {
         ensures err { OnErr result (self.new.products ≡ self.old.products) }
     {
         let rows = self.rows_before(alloc)?;
-        let judged = judged_lines(alloc, &self.office, &self.class, &rows, d)?;
-        self.keep(alloc, rows, d.issue, judged)
+        let runs = judged_lines(alloc, &self.office, &self.class, &rows, d)?;
+        self.keep(alloc, rows, d.issue, runs)
     }
 
     /// Takes a product by its frame. Lines of another office or class are passed over.
@@ -116,8 +128,8 @@ impl Reader {
         ensures err { OnErr result (self.new.products ≡ self.old.products) }
     {
         let rows = self.rows_before(alloc)?;
-        let judged = judged_by_frame(alloc, &self.office, &self.class, &rows, frame)?;
-        self.keep(alloc, rows, frame.issue, judged)
+        let runs = judged_by_frame(alloc, &self.office, &self.class, &rows, frame)?;
+        self.keep(alloc, rows, frame.issue, runs)
     }
 
     /// The rows that are shown at a minute, by zone, then event.

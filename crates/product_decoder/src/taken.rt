@@ -5,13 +5,16 @@ ghost use Rattle.std.specs.Str.{bytes_eq};
 ghost use Rattle.event_life.specs.Lives.{judged_product};
 ghost use Rattle.event_life.specs.Products.{event_of, end_of, line_of, lines_of};
 ghost use Rattle.product_decoder.specs.ReaderModel.{is_vtec_by, is_by, line_said, said_by, product_of};
-ghost use Rattle.product_decoder.specs.Takings.{IsKnown, same_named, line_of_event};
+ghost use Rattle.product_decoder.specs.Runs.{in_breach};
+ghost use Rattle.product_decoder.specs.Takings.{IsKnown, same_named, line_of_event, rows_taken};
+ghost use Rattle.row_index.specs.Verdicts.{has_breach, spelled, AreApart, AreFound};
 
 use crate::types::{Decoded, ZonePair};
 use event_life::Breach;
 use hazard_types::{Class, End, Event, Line, List, Minute, Oom, Vtec};
 use row_index::{RowIndex, Run, spelled};
 use std::alloc::Global;
+use std::marker::Model;
 
 /// What was taken of a product: its issue minute, and what its lines of the office and class say of their events, each with its breach.
 #[derive(Drop)]
@@ -20,28 +23,60 @@ pub struct Taken {
     runs: List<Run>,
 }
 
+impl Model for Taken {
+    ghost use Rattle.product_decoder.specs.Runs.{Taken as TakenValue};
+    ghost use Rattle.row_index.specs.Verdicts.{spelled, AreApart};
+
+    ghost Value = { TakenValue };
+
+    ghost view = { λ x. record { issue = x.issue; judged = spelled x.runs } };
+
+    ghost invariant = { λ x. AreApart x.runs };
+}
+
+/// Whether a line of runs is in breach.
+fn any_breach(runs: &[Run]) -> bool
+    ensures { result ≡ list_any has_breach runs.now }
+{
+    runs.iter().any(|run| run.has_breach())
+}
+
 impl Taken {
-    pub fn new(issue: Minute, runs: List<Run>) -> Self {
+    /// The product of which these runs are the lines.
+    pub fn new(issue: Minute, runs: List<Run>) -> Self
+        requires { AreApart runs }
+        ensures issue { result.issue ≡ issue }
+        ensures judged { result.judged ≡ spelled runs }
+    {
         Taken { issue, runs }
     }
 
     /// The minute at which the product was issued.
-    pub fn issue(&self) -> Minute {
+    pub fn issue(&self) -> Minute
+        ensures { result ≡ self.now.issue }
+    {
         self.issue
     }
 
-    /// The runs of the lines of the office and class.
-    pub fn runs(&self) -> &[Run] {
+    /// The runs of the lines of the office and class. The lines of each are of an event each.
+    pub fn runs(&self) -> &[Run]
+        ensures judged { spelled result.now ≡ self.now.judged }
+        ensures apart { AreApart result.now }
+    {
         self.runs.as_slice()
     }
 
     /// Whether a line is in breach.
-    pub fn has_breach(&self) -> bool {
-        self.runs.as_slice().iter().any(|run| run.has_breach())
+    pub fn has_breach(&self) -> bool
+        ensures { result ≡ list_any in_breach self.now.judged }
+    {
+        any_breach(self.runs.as_slice())
     }
 
     /// The lines of the office and class, each with its breach, or None where it is lawful.
-    pub fn judged(&self, alloc: Global) -> Result<List<(Line, Option<Breach>)>, Oom> {
+    pub fn judged(&self, alloc: Global) -> Result<List<(Line, Option<Breach>)>, Oom>
+        ensures { IfOk result (λ judged. judged ≡ self.now.judged) }
+    {
         spelled(alloc, self.runs.as_slice())
     }
 }
@@ -163,13 +198,19 @@ pub fn judged_lines(
     class: &Class,
     rows: &RowIndex,
     d: &Decoded,
-) -> Result<List<Run>, Oom> {
+) -> Result<List<Run>, Oom>
+    ensures told { IfOk result (λ runs. spelled runs ≡ judged_product rows.now (product_of office.now class.now d.now)) }
+    ensures found { IfOk result (λ runs. AreFound rows.now runs) }
+    ensures apart { IfOk result (λ runs. AreApart runs) }
+{
     let lines = lines_by(alloc, office, class, rows, d.issue, d.pairs.as_slice())?;
     rows.judge_lines(alloc, d.issue, lines.as_slice())
 }
 
 /// The rows that products leave, each judged by the rows before it.
-pub fn rows_taken(alloc: Global, taken: &[Taken]) -> Result<RowIndex, Oom> {
+pub fn rows_taken(alloc: Global, taken: &[Taken]) -> Result<RowIndex, Oom>
+    ensures { IfOk result (λ rows. rows ≡ rows_taken taken.now) }
+{
     let mut rows = RowIndex::new(alloc);
     for product in taken {
         let judged = product.judged(alloc)?;

@@ -5,16 +5,16 @@ ghost use Rattle.std.specs.List.{flat_map};
 ghost use Rattle.std.specs.List.Sorted.{IsStrictlySortedBy};
 ghost use Rattle.hazard_types.specs.Orders.{by_event};
 ghost use Rattle.product_decoder.specs.Lives.{living_in, by_life};
-ghost use Rattle.product_decoder.specs.Runs.{places_of, spelled_run};
 ghost use Rattle.product_decoder.specs.Steps.{with_lines, with_product, steps_of_all, tracks_told};
 ghost use Rattle.product_decoder.specs.Takings.{track_in, rows_taken};
-ghost use Rattle.product_decoder.specs.ZoneSteps.{AreAscending, zones_at, with_zones, flat};
+ghost use Rattle.product_decoder.specs.ZoneSteps.{AreAscending, zones_at, with_zones, with_verdict, flat};
+ghost use Rattle.row_index.specs.Verdicts.{spelled_run, HaveOwnEvents};
 
 use crate::taken::Taken;
 use crate::types::Track;
 use crate::zone_steps::ZoneSteps;
 use hazard_types::{Event, Line, List, Minute, Oom, Zone};
-use row_index::{EventKey, Run};
+use row_index::{EventKey, Run, Verdict};
 use std::alloc::Global;
 use std::collections::BTreeMap;
 use std::marker::Model;
@@ -29,7 +29,9 @@ fn put_line(
     issue: &Minute,
     line: &Line,
     zones: &[Zone],
-) -> Result<(), Oom> {
+) -> Result<(), Oom>
+    ensures { OnOk result (steps.new.entries ≡ insert_entry by_event steps.old.entries line.now.event (with_zones (line.now.action, issue.now) (zones_at steps.old.entries line.now.event) zones.now)) }
+{
     let event = line.event;
     let known = steps
         .entry(EventKey { event })?
@@ -37,18 +39,45 @@ fn put_line(
     known.add(alloc, issue, &line.action, zones)
 }
 
-/// Adds the steps of the lines of a run, where these are lawful.
-fn add_run(alloc: Global, steps: &mut Steps, issue: &Minute, run: &Run) -> Result<(), Oom> {
+/// Adds the steps of a line in these zones, where it is lawful.
+fn put_verdict(
+    alloc: Global,
+    steps: &mut Steps,
+    issue: &Minute,
+    verdict: &Verdict,
+    zones: &[Zone],
+) -> Result<(), Oom>
+    requires ascending { AreAscending steps.old.entries }
+    ensures put { OnOk result (flat steps.new.entries ≡ with_verdict issue.now zones.now (flat steps.old.entries) verdict.now) }
+    ensures ascending { OnOk result (AreAscending steps.new.entries) }
+{
+    if !verdict.is_lawful() {
+        return Ok(());
+    }
+    put_line(alloc, steps, issue, &verdict.line, zones)
+}
+
+/// Adds the steps of the lines of a run, where these are lawful: line by line, since they are of
+/// different events.
+fn add_run(alloc: Global, steps: &mut Steps, issue: &Minute, run: &Run) -> Result<(), Oom>
+    requires apart { HaveOwnEvents (map (λ v. v.line) run.now.verdicts) }
+    requires ascending { AreAscending steps.old.entries }
+    ensures put { OnOk result (flat steps.new.entries ≡ with_lines issue.now (flat steps.old.entries) (spelled_run run.now)) }
+    ensures ascending { OnOk result (AreAscending steps.new.entries) }
+{
+    let zones = run.zones.as_slice();
     for verdict in run.verdicts.as_slice() {
-        if verdict.is_lawful() {
-            put_line(alloc, steps, issue, &verdict.line, run.zones.as_slice())?;
-        }
+        put_verdict(alloc, steps, issue, verdict, zones)?;
     }
     Ok(())
 }
 
 /// Adds the lawful lines of a product.
-fn add_product(alloc: Global, steps: &mut Steps, product: &Taken) -> Result<(), Oom> {
+fn add_product(alloc: Global, steps: &mut Steps, product: &Taken) -> Result<(), Oom>
+    requires ascending { AreAscending steps.old.entries }
+    ensures put { OnOk result (flat steps.new.entries ≡ with_product (flat steps.old.entries) product.now) }
+    ensures ascending { OnOk result (AreAscending steps.new.entries) }
+{
     let issue = product.issue();
     for run in product.runs() {
         add_run(alloc, steps, &issue, run)?;

@@ -206,7 +206,13 @@ impl ZoneSteps {
     }
 
     /// Adds what the lines of a run did in their zones. None is left where memory ran out.
-    pub fn add(&mut self, alloc: Global, issue: &Minute, action: &Action, zones: &[Zone]) -> Result<(), Oom>
+    pub fn add(
+        &mut self,
+        alloc: Global,
+        issue: &Minute,
+        action: &Action,
+        zones: &[Zone],
+    ) -> Result<(), Oom>
         ensures { OnOk result (self.new ≡ with_zones (action.now, issue.now) self.old zones.now) }
     {
         let ZoneSteps {

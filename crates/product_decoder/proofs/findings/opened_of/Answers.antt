@@ -11,5 +11,5 @@ use Rattle.product_decoder.proofs.findings.opened_of.Goals as goal
 pub returns : goal.returns
 returns c =
     let told = ap (λ (judged : List Judged). opened_by (lawful_of judged)) (c.as_slice.ensures ∙ c.in_ok-firsts.ensures)
-    ∙ firsts_opened c.runs.result.now ∙ ap (λ (judged : List Judged). opened_by (lawful_of judged)) c.runs.ensures in
+    ∙ firsts_opened c.runs.result.now ∙ ap (λ (judged : List Judged). opened_by (lawful_of judged)) c.runs.ensures.judged in
     subst (λ (all : List Event). IfOk c.opened_by.result (λ events. events ≡ all)) told c.opened_by.ensures

@@ -1,19 +1,21 @@
--- The lines of a lawful run are steps of its event, and those of another run are none.
-use Rattle.std.proofs.Common.{◌∙◌, sym}
-use Rattle.std.proofs.lemmas.Result.{on_ok_weaker}
-use Rattle.product_decoder.specs.Runs.{places_of}
-use Rattle.product_decoder.specs.ZoneSteps.{with_zones, zones_at}
-use Rattle.product_decoder.proofs.Nested.{run_lawful, run_passed, ascending_put}
-use Rattle.product_decoder.specs.ZoneSteps.{flat}
+-- What the lines do one by one, in all zones, is what they do zone by zone.
+use Rattle.std.proofs.Common.{◌∙◌, List, [], drop, length, ap, sym, subst, ◌≡◌, ◌≤◌}
+use Rattle.std.specs.Prelude.{fold}
+use Rattle.std.proofs.lemmas.List.{drop_all}
+use Rattle.hazard_types.specs.Places.{Place}
+use Rattle.row_index.specs.declared.verdicts.Verdict.{Verdict}
+use Rattle.product_decoder.specs.ZoneSteps.{flat, with_verdict}
+use Rattle.product_decoder.proofs.Nested.{run_told}
 use Rattle.product_decoder.proofs.tracks.add_run.Goals as goal
-
-pub returns-then-not-is_lawful-clause-put : goal.returns-then-not-is_lawful-clause-put
-returns-then-not-is_lawful-clause-put c = run_passed c.args.issue.now c.args.run.now (flat c.args.steps.now.entries) (sym c.is_lawful.ensures ∙ c.if-not-is_lawful.true)
 
 pub returns-clause-put : goal.returns-clause-put
 returns-clause-put c =
-    on_ok_weaker c.put_run.result (λ is. run_lawful c.args.issue.now c.args.run.now c.args.steps.now.entries c.put_run.new.steps.entries c.requires.ascending (sym c.is_lawful.ensures ∙ c.if-not-is_lawful.false) is) c.put_run.ensures
-
-pub returns-clause-ascending : goal.returns-clause-ascending
-returns-clause-ascending c =
-    on_ok_weaker c.put_run.result (λ is. ascending_put c.args.run.now.first.event c.args.steps.now.entries c.put_run.new.steps.entries (with_zones (c.args.run.now.first.action, c.args.issue.now) (zones_at c.args.steps.now.entries c.args.run.now.first.event) (places_of c.args.run.now)) c.requires.ascending is) c.put_run.ensures
+    let r = c.args.run.now in
+    let issue = c.args.issue.now in
+    let old = flat c.args.steps.now.entries in
+    let zones = c.as_slice-zones.result.now in
+    let end : drop c.loop-verdict.verdict-index r.verdicts ≡ [] = drop_all c.loop-verdict.verdict-index r.verdicts (subst (λ (vs : List Verdict). length vs ≤ c.loop-verdict.verdict-index) c.as_slice-verdict-items.ensures c.loop-verdict-test.false) in
+    sym (ap (λ (left : List Verdict). fold (with_verdict issue zones) (flat c.loop-verdict.steps.entries) left) end)
+    ∙ c.loop-verdict.invariant.put
+    ∙ ap (λ (zones : List Place). fold (with_verdict issue zones) old r.verdicts) c.as_slice-zones.ensures
+    ∙ run_told issue r old c.requires.apart

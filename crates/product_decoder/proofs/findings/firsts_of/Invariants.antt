@@ -1,6 +1,6 @@
 use Rattle.std.proofs.Common.{◌≡◌, ◌++◌, drop}
 use Rattle.product_decoder.specs.Runs.{firsts_of}
-use Rattle.product_decoder.proofs.runs.firsts_of.Given as goal
+use Rattle.product_decoder.proofs.findings.firsts_of.Given as goal
 
 -- what is left makes the list whole
 abbrev pub invariant-loop-run : goal.invariant-loop-run
