@@ -14,7 +14,7 @@ use Rattle.event_life.specs.Products.{is_new, is_routine, lawful_of}
 use Rattle.row_index.specs.declared.verdicts.Run.{Run}
 use Rattle.row_index.specs.declared.verdicts.Verdict.{Verdict}
 use Rattle.row_index.specs.Runs.{in_zone}
-use Rattle.row_index.specs.Verdicts.{spelled, spelled_at, spelled_run}
+use Rattle.row_index.specs.Verdicts.{spelled, spelled_at}
 use Rattle.product_decoder.specs.Runs.{Judged, judged_by, firsts_in, firsts_of}
 
 -- an event that is added twice is added once

@@ -1,7 +1,7 @@
 -- What a frame says of events is what its lines say, zone by zone.
 use Rattle.std.proofs.Common.{◌≡◌, ◌∙◌, ℕ, List, [], ◌∷◌, ◌++◌, map, Bool, true, false, cond, append-nil, refl, ap, sym}
 use Rattle.std.proofs.lemmas.Grind.{flat_map-append}
-use Rattle.std.specs.List.{filter, flat_map}
+use Rattle.std.specs.List.{filter}
 use Rattle.hazard_types.specs.Places.{Place}
 use Rattle.hazard_types.specs.ZoneLines.{ZoneLine}
 use Rattle.hazard_types.specs.declared.codes.Class.{Class}
@@ -13,7 +13,6 @@ use Rattle.product_frame.specs.declared.frame.Frame.{Frame}
 use Rattle.product_frame.specs.declared.frame.FrameSegment.{FrameSegment}
 use Rattle.product_frame.specs.declared.frame.Pair.{Pair}
 use Rattle.row_index.specs.declared.verdicts.Part.{Part}
-use Rattle.row_index.specs.Runs.{in_zone}
 use Rattle.row_index.specs.Verdicts.{lines_in as lines_in_parts, said_at, said_along, said_in}
 use Rattle.product_decoder.specs.Decoded.{pair_of, decoded_of}
 use Rattle.product_decoder.specs.FrameLines.{is_pair_by, event_pair, event_pairs, line_in, lines_in, lines_in_segments}
