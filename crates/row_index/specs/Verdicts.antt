@@ -7,8 +7,8 @@ use Rattle.hazard_types.specs.declared.line.Line.{Line}
 use Rattle.hazard_types.specs.declared.line.Row.{Row}
 use Rattle.event_life.specs.declared.life.Breach.{Breach}
 use Rattle.event_life.specs.declared.life.Life.{Life}
-use Rattle.event_life.specs.Products.{breach_in, is_routine, is_second, life_at}
-use Rattle.event_life.specs.Table.{life_after}
+use Rattle.event_life.specs.Products.{around_but_higher, breach_in, is_routine, is_second, is_upgrade, life_at}
+use Rattle.event_life.specs.Table.{breach_of_line, life_after}
 use Rattle.row_index.specs.Runs.{in_zone}
 use Rattle.row_index.specs.declared.verdicts.Part.{Part}
 use Rattle.row_index.specs.declared.verdicts.Run.{Run}
@@ -86,3 +86,7 @@ is_breach v = is_some v.breach
 -- a line of the run is in breach: it has a zone, and a verdict that is a breach
 abbrev pub has_breach : Run → Bool
 has_breach r = is_some (slice_get r.zones 0) && list_any is_breach r.verdicts
+
+-- the line is lawful and no UPG, as a second one of its event and zone or not, so that its row counts where a higher row is looked for
+abbrev pub counts : List Row → ℕ → Bool → Line → Bool
+counts rows t second line = not (is_routine line.action) && not (is_upgrade line.action) && not second && is_none (breach_of_line (life_at rows line) line t (around_but_higher rows t line true))

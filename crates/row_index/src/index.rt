@@ -17,6 +17,8 @@ ghost use Rattle.row_index.specs.Gathering.{AreGathered, least_of};
 ghost use Rattle.row_index.specs.Seating.{AreSeated, upgrades};
 ghost use Rattle.row_index.specs.Steps.{AreHigher, AreOver, IsAsked, IsChanged, around_new, around_joining, asked_around, latest_open, event_going, rows_left, put_each};
 
+ghost use Rattle.row_index.specs.Verdicts.{counts, AreFirst};
+
 use crate::held::{Held, RowsOf, all_shown, has_period, is_open, rows_of, seated};
 use crate::higher::{Changed, any_upgrades, is_overlapped, upgraded_by};
 use crate::live::{Zones, add_rows, lesser, needed, upgraded_ranks, upgraded_zones};
@@ -407,6 +409,48 @@ impl RowIndex {
         Ok(counted)
     }
 
+    /// Adds the row that a line other than UPG leaves where it is lawful, and no second one.
+    fn count_first(
+        &self,
+        counted: &mut Seated,
+        rows: &RowsOf<'_>,
+        near: &mut usize,
+        t: Minute,
+        line: &Line,
+    ) -> Result<(), Oom>
+        requires rows { AreRowsOf self.now line.now.event rows.now }
+        requires seated { AreSeated counted.old.entries }
+        ensures rows { OnOk result (values_of counted.new.entries
+            ≡ (if counts self.now t false line.now then put (row_after self.now t line.now) (values_of counted.old.entries) else values_of counted.old.entries)) }
+        ensures seated { OnOk result (AreSeated counted.new.entries) }
+    {
+        if !self.may_count(rows, near, t, line, false) {
+            return Ok(());
+        }
+        let row = self.row_after(rows, near, t, line);
+        count_row(counted, true, &row)
+    }
+
+    /// The rows that the lawful lines other than UPG leave, where no line is a second one.
+    fn counted_first(&self, alloc: Global, t: Minute, lines: &[Line]) -> Result<Seated, Oom>
+        requires first { AreFirst [] lines.now }
+        ensures rows { IfOk result (λ counted. values_of counted.entries ≡ put_but_upgrades self.now t [] lines.now []) }
+        ensures seated { IfOk result (λ counted. AreSeated counted.entries) }
+    {
+        let mut counted = BTreeMap::new(alloc);
+        let mut place = 0;
+        let mut near = None;
+        let mut rows = RowsOf::none();
+        for line in lines {
+            if !is_upgrade(&line.action) {
+                rows = self.rows_near(&near, rows, &line.event);
+                near = Some(line.event);
+                self.count_first(&mut counted, &rows, &mut place, t, line)?;
+            }
+        }
+        Ok(counted)
+    }
+
     /// The live rows of these events in zones.
     fn live_rows(
         &self,
@@ -463,6 +507,29 @@ impl RowIndex {
         let ranks = upgraded_ranks(alloc, lines)?;
         let events = events_above(alloc, &self.reach, &zones, from, &ranks)?;
         self.live_rows(alloc, from, &zones, &events)
+    }
+
+    /// What a product changes where a higher row is looked for, where no line is a second one.
+    pub(crate) fn change_first(
+        &self,
+        alloc: Global,
+        t: Minute,
+        lines: &[Line],
+    ) -> Result<Changed, Oom>
+        requires first { AreFirst [] lines.now }
+        ensures changed { IfOk result (λ c. IsChanged self.now t lines.now (values_of c.counted.entries) c.upgraded.keys) }
+        ensures over { IfOk result (λ c. AreOver self.now t lines.now (values_of c.higher.entries)) }
+        ensures counted { IfOk result (λ c. AreSeated c.counted.entries) }
+        ensures higher { IfOk result (λ c. AreSeated c.higher.entries) }
+    {
+        let counted = self.counted_first(alloc, t, lines)?;
+        let upgraded = upgraded_by(alloc, lines)?;
+        let higher = self.higher(alloc, t, lines)?;
+        Ok(Changed {
+            counted,
+            upgraded,
+            higher,
+        })
     }
 
     /// What a product changes where a higher row is looked for, as far as a UPG line asks for it.
