@@ -1,0 +1,6 @@
+-- No line is a second one, since zones rise.
+use Rattle.row_index.proofs.Firsts.{first-rising}
+use Rattle.row_index.proofs.apart.are_apart.Goals as goal
+
+pub returns-then-all_rise-clause-first : goal.returns-then-all_rise-clause-first
+returns-then-all_rise-clause-first c = ?
