@@ -1,7 +1,7 @@
 -- Lines of which no one is a second one: behind zones that rise, of an event each in a zone, or by what their seats tell.
-use Rattle.std.proofs.Common.{◌≡◌, ◌∙◌, ℕ, ◌+◌, ◌<◌, List, [], ◌∷◌, ◌++◌, ◌&&◌, ◌||◌, not, Bool, true, false, Option, Some, None, Ordering, Less, Equal, Greater, length, take, get_or, map, refl, ap, sym, subst, append_assoc, append-nil, arith, flat_map}
+use Rattle.std.proofs.Common.{◌≡◌, ◌∙◌, ℕ, ◌+◌, ◌<◌, ◌≤◌, List, [], ◌∷◌, ◌++◌, ◌&&◌, ◌||◌, not, Bool, true, false, Option, Some, None, Ordering, Less, Equal, Greater, length, take, get_or, map, refl, ap, sym, subst, append_assoc, append-nil, arith, flat_map}
 use Rattle.std.proofs.lemmas.Bool.{and_parts}
-use Rattle.std.proofs.lemmas.List.{map-append}
+use Rattle.std.proofs.lemmas.List.{map-append, take_all}
 use Rattle.std.proofs.lemmas.List.Folds.{list_any-append}
 use Rattle.std.specs.BTreeMap.{is_at}
 use Rattle.std.specs.BTreeSet.{insert_key}
@@ -175,10 +175,13 @@ own_parts parts i p lt is own before =
 
 -- what seats tell
 
-pub spoke_none : (seats : List Seat) → Spoke seats seats []
+spoke_none : (seats : List Seat) → Spoke seats seats []
 spoke_none seats = record { are_new = λ earlier tells. tt; said = λ q. sym (or_false (list_any q seats)) }
 
-pub spoke_one : (old new : List Seat) (l : Line) (second : Bool) → second ≡ has_seat old (seat_said l) → second ≡ false → Says old new (speaks l) l → Spoke old new (l ∷ [])
+pub spoke_start : (seats : List Seat) → seats ≡ [] → Spoke [] seats []
+spoke_start seats none = subst (λ (all : List Seat). Spoke [] all []) (sym none) (spoke_none [])
+
+spoke_one : (old new : List Seat) (l : Line) (second : Bool) → second ≡ has_seat old (seat_said l) → second ≡ false → Says old new (speaks l) l → Spoke old new (l ∷ [])
 spoke_one old new l second second_is h says = record {
     are_new = λ earlier tells. (sym (second_told old earlier l tells) ∙ sym second_is ∙ h, tt);
     said = λ q. says q ∙ ap (λ (b : Bool). list_any q old || b) (sym (or_false (speaks l && q (seat_said l))));
@@ -199,7 +202,7 @@ tells_both old new earlier lines said tells = λ q.
     ∙ ap (λ (b : Bool). b || list_any (λ (l : Line). speaks l && q (seat_said l)) lines) (tells q)
     ∙ sym (list_any-append (λ (l : Line). speaks l && q (seat_said l)) earlier lines)
 
-pub spoke_both : (old mid new : List Seat) (xs ys : List Line) → Spoke old mid xs → Spoke mid new ys → Spoke old new (xs ++ ys)
+spoke_both : (old mid new : List Seat) (xs ys : List Line) → Spoke old mid xs → Spoke mid new ys → Spoke old new (xs ++ ys)
 spoke_both old mid new xs ys a b = record {
     are_new = λ earlier tells. first_both xs earlier ys (a.are_new earlier tells) (b.are_new (earlier ++ xs) (tells_both old mid earlier xs a.said tells));
     said = λ q. b.said q
@@ -222,8 +225,8 @@ spoke_next f xs i x old now next lt is here sofar =
     subst (λ (lines : List Line). Spoke old next lines) (flat_next f xs i x [] (flat_map f (take i xs)) (flat_map f (take i xs) ++ f x) lt is refl refl)
     (spoke_both old now next (flat_map f (take i xs)) (f x) sofar here)
 
-pub first-spoken : (seats : List Seat) (lines : List Line) → Spoke [] seats lines → AreFirst [] lines
-first-spoken seats lines spoke = spoke.are_new [] (λ q. refl)
+pub first-spoken : (seats : List Seat) (parts : List Part) (i : ℕ) → length parts ≤ i → Spoke [] seats (lines_in (take i parts)) → AreFirst [] (lines_in parts)
+first-spoken seats parts i end spoke = subst (λ (all : List Part). AreFirst [] (lines_in all)) (take_all i parts end) (spoke.are_new [] (λ q. refl))
 
 -- lines of which no one is a second one are judged one by one as by themselves
 
