@@ -6,7 +6,7 @@ use Rattle.std.proofs.lemmas.List.Folds.{list_any-append}
 use Rattle.std.specs.BTreeMap.{is_at}
 use Rattle.std.specs.BTreeSet.{insert_key}
 use Rattle.std.specs.List.{AllByRecursion, list_any}
-use Rattle.std.specs.Ordering.{is_lt, is_eq, ordering_reverse}
+use Rattle.std.specs.Ordering.{is_lt, ordering_reverse}
 use Rattle.hazard_types.specs.Orders.{by_event}
 use Rattle.hazard_types.specs.Places.{Place, by_place}
 use Rattle.hazard_types.specs.Same.{same_event, same_zone}
@@ -18,7 +18,7 @@ use Rattle.event_life.specs.declared.life.Breach.{Breach}
 use Rattle.event_life.specs.Products.{breach_in, is_routine, is_second, judged_from, speaks_of}
 use Rattle.row_index.specs.declared.seats.Seat.{Seat}
 use Rattle.row_index.specs.declared.verdicts.Part.{Part}
-use Rattle.row_index.specs.Apart.{all_rise, is_past, last_zone, zones_rise, AreEventsOf, AreNew, SaysAll, Spoke}
+use Rattle.row_index.specs.Apart.{all_rise, is_past, last_zone, zones_rise, AreEventsOf, SaysAll, Spoke}
 use Rattle.row_index.specs.Risen.{Says}
 use Rattle.row_index.specs.Runs.{in_zone}
 use Rattle.row_index.specs.Seating.{has_seat, seat_said, speaks}

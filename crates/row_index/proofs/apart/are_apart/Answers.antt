@@ -1,5 +1,5 @@
 -- No line is a second one, since zones rise.
-use Rattle.std.proofs.Common.{◌∙◌, sym}
+use Rattle.std.proofs.Common.{sym}
 use Rattle.row_index.proofs.Firsts.{first-rising}
 use Rattle.row_index.proofs.apart.are_apart.Goals as goal
 

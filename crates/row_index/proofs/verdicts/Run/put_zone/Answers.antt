@@ -1,9 +1,7 @@
 -- One verdict more.
 use Rattle.std.proofs.Common.{ap}
-use Rattle.event_life.specs.declared.life.Breach.{Breach}
 use Rattle.hazard_types.specs.declared.line.Line.{Line}
 use Rattle.row_index.specs.Runs.{in_zone}
-use Rattle.row_index.specs.Verdicts.{Judged}
 use Rattle.row_index.specs.declared.verdicts.Verdict.{Verdict}
 use Rattle.row_index.proofs.Spelling.{map_next}
 use Rattle.row_index.proofs.verdicts.Run.put_zone.Goals as goal
