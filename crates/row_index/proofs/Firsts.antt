@@ -93,16 +93,17 @@ still_other : (lines : List Line) (z : Place) (earlier : List Line) (l : Line) �
 still_other [] z earlier l other own = tt
 still_other (m ∷ lines) z earlier l other own =
     let here = list_any-append (speaks_of m.event z) earlier (in_zone l z ∷ [])
-        ∙ none_of (list_any (speaks_of m.event z) earlier) (speaks_of m.event z (in_zone l z) || false) other.0
-          (or_false (speaks_of m.event z (in_zone l z)) ∙ other_event (not (is_routine l.action)) (same_event l.event m.event) (same_zone z z) own.0) in
+    ∙ none_of (list_any (speaks_of m.event z) earlier) (speaks_of m.event z (in_zone l z) || false) other.0
+    (or_false (speaks_of m.event z (in_zone l z)) ∙ other_event (not (is_routine l.action)) (same_event l.event m.event) (same_zone z z) own.0) in
     (here, still_other lines z earlier l other.1 own.1)
 
 in_one_zone : (lines : List Line) (z : Place) (earlier rest : List Line) → AreOther z earlier lines → HaveOwnEvents lines → AreFirst (earlier ++ said_at lines z) rest → AreFirst earlier (said_at lines z ++ rest)
 in_one_zone [] z earlier rest other own more = subst (λ (all : List Line). AreFirst all rest) (append-nil earlier) more
-in_one_zone (l ∷ lines) z earlier rest other own more =
-    (other.0,
-     in_one_zone lines z (earlier ++ in_zone l z ∷ []) rest (still_other lines z earlier l other.1 own.0) own.1
-     (subst (λ (all : List Line). AreFirst all rest) (sym (append_assoc earlier (in_zone l z ∷ []) (said_at lines z))) more))
+in_one_zone (l ∷ lines) z earlier rest other own more = (
+  other.0,
+  in_one_zone lines z (earlier ++ in_zone l z ∷ []) rest (still_other lines z earlier l other.1 own.0) own.1
+      (subst (λ (all : List Line). AreFirst all rest) (sym (append_assoc earlier (in_zone l z ∷ []) (said_at lines z))) more),
+)
 
 along_zones : (zones : List Place) (lines : List Line) (last : Option Place) (earlier rest : List Line) → IsPast last earlier → zones_rise last zones ≡ true → HaveOwnEvents lines
     → (IsPast (last_zone last zones) (earlier ++ said_along lines zones) → AreFirst (earlier ++ said_along lines zones) rest) → AreFirst earlier (said_along lines zones ++ rest)
@@ -115,8 +116,8 @@ along_zones (z ∷ zones) lines last earlier rest past rise own more =
     let later = said_along lines zones in
     subst (λ (all : List Line). AreFirst earlier all) (sym (append_assoc here later rest))
     (in_one_zone lines z earlier (later ++ rest) (past_each lines z earlier last past both.0) own
-     (along_zones zones lines (Some z) (earlier ++ here) rest (past_zone lines z earlier last past both.0) both.1 own
-      (subst (λ (all : List Line). IsPast (last_zone (Some z) zones) all → AreFirst all rest) (sym (append_assoc earlier here later)) more)))
+    (along_zones zones lines (Some z) (earlier ++ here) rest (past_zone lines z earlier last past both.0) both.1 own
+    (subst (λ (all : List Line). IsPast (last_zone (Some z) zones) all → AreFirst all rest) (sym (append_assoc earlier here later)) more)))
 
 along_parts : (parts : List Part) (last : Option Place) (earlier : List Line) → IsPast last earlier → all_rise last parts ≡ true → AllByRecursion (λ (p : Part). HaveOwnEvents p.lines) parts → AreFirst earlier (lines_in parts)
 along_parts [] last earlier past rise own = tt
@@ -140,7 +141,7 @@ own_next lines i l events new lt is new_is h tells own =
     let before = take i lines in
     let found : list_any (is_at (by_event l.event)) events ≡ false = not_any (list_any (is_at (by_event l.event)) events) (sym new_is ∙ h) in
     let none : list_any (λ (m : Line). same_event m.event l.event) before ≡ false =
-        any_same (λ (m : Line). same_event m.event l.event) (λ (m : Line). is_at (by_event l.event) m.event) before (λ m. sym (event_by (by_event l.event m.event) l.event m.event refl)) ∙ sym (tells (is_at (by_event l.event))) ∙ found in
+    any_same (λ (m : Line). same_event m.event l.event) (λ (m : Line). is_at (by_event l.event) m.event) before (λ m. sym (event_by (by_event l.event m.event) l.event m.event refl)) ∙ sym (tells (is_at (by_event l.event))) ∙ found in
     subst HaveOwnEvents (sym (longer lines i l lt is)) (own_more before l own (none_each (λ (m : Line). same_event m.event l.event) before none))
   where
     not_any : (b : Bool) → not b ≡ true → b ≡ false
@@ -183,9 +184,9 @@ spoke_start seats none = subst (λ (all : List Seat). Spoke [] all []) (sym none
 
 spoke_one : (old new : List Seat) (l : Line) (second : Bool) → second ≡ has_seat old (seat_said l) → second ≡ false → Says old new (speaks l) l → Spoke old new (l ∷ [])
 spoke_one old new l second second_is h says = record {
-    are_new = λ earlier tells. (sym (second_told old earlier l tells) ∙ sym second_is ∙ h, tt);
-    said = λ q. says q ∙ ap (λ (b : Bool). list_any q old || b) (sym (or_false (speaks l && q (seat_said l))));
-  }
+  are_new = λ earlier tells. (sym (second_told old earlier l tells) ∙ sym second_is ∙ h, tt);
+  said = λ q. says q ∙ ap (λ (b : Bool). list_any q old || b) (sym (or_false (speaks l && q (seat_said l))));
+}
 
 or_assoc : (a b c : Bool) → ((a || b) || c) ≡ (a || (b || c))
 or_assoc true b c = refl
@@ -204,12 +205,12 @@ tells_both old new earlier lines said tells = λ q.
 
 spoke_both : (old mid new : List Seat) (xs ys : List Line) → Spoke old mid xs → Spoke mid new ys → Spoke old new (xs ++ ys)
 spoke_both old mid new xs ys a b = record {
-    are_new = λ earlier tells. first_both xs earlier ys (a.are_new earlier tells) (b.are_new (earlier ++ xs) (tells_both old mid earlier xs a.said tells));
-    said = λ q. b.said q
-        ∙ ap (λ (c : Bool). c || list_any (λ (l : Line). speaks l && q (seat_said l)) ys) (a.said q)
-        ∙ or_assoc (list_any q old) (list_any (λ (l : Line). speaks l && q (seat_said l)) xs) (list_any (λ (l : Line). speaks l && q (seat_said l)) ys)
-        ∙ ap (λ (c : Bool). list_any q old || c) (sym (list_any-append (λ (l : Line). speaks l && q (seat_said l)) xs ys));
-  }
+  are_new = λ earlier tells. first_both xs earlier ys (a.are_new earlier tells) (b.are_new (earlier ++ xs) (tells_both old mid earlier xs a.said tells));
+  said = λ q. b.said q
+      ∙ ap (λ (c : Bool). c || list_any (λ (l : Line). speaks l && q (seat_said l)) ys) (a.said q)
+      ∙ or_assoc (list_any q old) (list_any (λ (l : Line). speaks l && q (seat_said l)) xs) (list_any (λ (l : Line). speaks l && q (seat_said l)) ys)
+      ∙ ap (λ (c : Bool). list_any q old || c) (sym (list_any-append (λ (l : Line). speaks l && q (seat_said l)) xs ys));
+}
 
 pub spoke_line : (lines : List Line) (i : ℕ) (l : Line) (z : Place) (old now next : List Seat) (second counts : Bool) (m : Line) → i < length lines → l ≡ get_or lines i l → m ≡ in_zone l z → counts ≡ not (is_routine l.action)
     → second ≡ has_seat now (seat_said m) → second ≡ false → Says now next counts m → Spoke old now (said_at (take i lines) z) → Spoke old next (said_at (take (i + 1) lines) z)

@@ -7,9 +7,9 @@ use Rattle.row_index.proofs.apart.none_second.Goals as goal
 
 pub loop-part-init : goal.loop-part-init
 loop-part-init c = record {
-    first = spoke_start (seats_of c.new-spoken.result.rising.items c.new-spoken.result.others.keys) c.new-spoken.ensures.none;
-    free = c.new-spoken.ensures.free;
-  }
+  first = spoke_start (seats_of c.new-spoken.result.rising.items c.new-spoken.result.others.keys) c.new-spoken.ensures.none;
+  free = c.new-spoken.ensures.free;
+}
 
 pub loop-part-preserved : goal.loop-part-preserved
 loop-part-preserved c =
