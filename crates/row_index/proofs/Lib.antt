@@ -17,4 +17,6 @@ mod Asked
 mod Changing
 mod Alone
 mod Shown
+mod Spelling
+mod Firsts
 pub mod SharedRows

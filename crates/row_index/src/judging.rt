@@ -1,13 +1,14 @@
 //! The lines of a product judged for all zones that find the same at once.
 
 ghost use Rattle.std.specs.Prelude.{◌≡◌, ◌++◌, ◌∷◌, [], map, true, IfOk, OnOk};
-ghost use Rattle.std.specs.List.{list_any};
+ghost use Rattle.std.specs.List.{AllByRecursion, list_any};
 ghost use Rattle.std.specs.Map.{values_of};
 ghost use Rattle.event_life.specs.Products.{breach_in, judged, life_at};
 ghost use Rattle.row_index.specs.Runs.{in_zone};
 ghost use Rattle.row_index.specs.Seating.{upgrades};
 ghost use Rattle.row_index.specs.Steps.{AreOver, IsChanged};
-ghost use Rattle.row_index.specs.Verdicts.{first_judged, lines_in, said_in, spelled, AreApart, AreFound};
+ghost use Rattle.row_index.specs.Verdicts.{first_judged, lines_in, said_in, spelled, AreApart, AreFound, HaveOwnEvents};
+ghost use Rattle.row_index.specs.declared.verdicts.Part.{Part as PartValue};
 
 use crate::apart::are_apart;
 use crate::held::RowsOf;
@@ -187,7 +188,12 @@ impl RowIndex {
     }
 
     /// The lines of parts judged, of which no one is a second one of its event and zone.
-    fn judge_apart(&self, alloc: Global, t: Minute, parts: &[Part<'_>]) -> Result<List<Run>, Oom> {
+    fn judge_apart(&self, alloc: Global, t: Minute, parts: &[Part<'_>]) -> Result<List<Run>, Oom>
+        requires events { AllByRecursion (λ (p : PartValue). HaveOwnEvents p.lines) parts.now }
+        ensures told { IfOk result (λ runs. spelled runs ≡ map (first_judged self.now t (lines_in parts.now)) (lines_in parts.now)) }
+        ensures found { IfOk result (λ runs. AreFound self.now runs) }
+        ensures apart { IfOk result (λ runs. AreApart runs) }
+    {
         let changed = self.change_in(alloc, t, parts)?;
         let mut all = Vec::new(alloc);
         for part in parts {
@@ -227,7 +233,8 @@ impl RowIndex {
         ensures found { IfOk result (λ runs. AreFound self.now runs) }
         ensures apart { IfOk result (λ runs. AreApart runs) }
     {
-        if are_apart(alloc, parts)? {
+        let apart = are_apart(alloc, parts)?;
+        if apart {
             return self.judge_apart(alloc, t, parts);
         }
         let lines = lines_in(alloc, parts)?;
