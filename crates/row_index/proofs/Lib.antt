@@ -13,6 +13,8 @@ mod Stood
 mod EventRows
 mod Coming
 mod Runs
+mod Turning
+mod Collected
 mod Asked
 mod Changing
 mod Alone

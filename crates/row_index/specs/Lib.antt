@@ -11,6 +11,8 @@ pub mod Standings
 pub mod Steps
 pub mod Runs
 pub mod Verdicts
+pub mod LineRows
+pub mod Pending
 pub mod Reaching
 pub mod Gathering
 pub mod Indexing
