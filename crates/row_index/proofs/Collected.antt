@@ -1,11 +1,11 @@
 -- Runs of one line each, with one line more.
-use Rattle.std.proofs.Common.{Bool, map, ℕ, suc, ◌+◌, ◌<◌, arith, take, drop, drop-cons, get_or, length, ◌≡◌, ◌∙◌, ◌++◌, ◌&&◌, List, [], ◌∷◌, true, false, Option, Some, None, append_assoc, append-nil, refl, ap, sym, subst, rules}
+use Rattle.std.proofs.Common.{arith, drop, drop-cons, get_or, length, suc, ◌+◌, ◌<◌, ℕ, Bool, map, ◌≡◌, ◌∙◌, ◌++◌, ◌&&◌, List, [], ◌∷◌, true, false, Option, Some, None, append_assoc, append-nil, refl, ap, sym, subst, rules}
+use Rattle.std.specs.Prelude.{option_map}
 use Rattle.std.specs.Option.{option_eq}
 use Rattle.std.specs.List.{AllByRecursion}
 use Rattle.std.proofs.lemmas.Bool.{and_parts}
 use Rattle.std.proofs.lemmas.Grind.{flat_map-append}
 use Rattle.hazard_types.specs.Places.{Place}
-use Rattle.hazard_types.specs.declared.hazard.Event.{Event}
 use Rattle.hazard_types.specs.declared.line.Line.{Line}
 use Rattle.hazard_types.specs.declared.line.Row.{Row}
 use Rattle.hazard_types.proofs.Equality.{line_one}
@@ -14,10 +14,9 @@ use Rattle.event_life.specs.contracts.life.BreachPartialEq.TheImpl as breach
 use Rattle.event_life.specs.declared.life.Breach.{Breach}
 use Rattle.event_life.specs.declared.life.Life.{Life}
 use Rattle.event_life.specs.Products.{life_at, life_of, row_at}
-use Rattle.std.specs.Prelude.{flat_map, option_map}
 use Rattle.row_index.specs.Holding.{AreRowsOf}
 use Rattle.row_index.specs.Pending.{further, run_of, same_verdict, with_last, IsJoined, IsWith}
-use Rattle.row_index.specs.Runs.{in_zone, is_alike, same_life}
+use Rattle.row_index.specs.Runs.{in_zone, same_life}
 use Rattle.row_index.specs.Verdicts.{spelled, spelled_at, spelled_run, AreApart, AreFound, HaveOwnEvents, IsFound, IsFoundAt, Judged}
 use Rattle.row_index.specs.declared.collecting.Alone.{Alone}
 use Rattle.row_index.specs.declared.verdicts.Run.{Run}
@@ -67,23 +66,6 @@ spelled_more runs r = flat_map-append (λ (r : Run). spelled_run r) runs (r ∷ 
 abbrev Apart : Run → Type 0
 Apart r = HaveOwnEvents (map (λ (v : Verdict). v.line) r.verdicts)
 
--- a run of one line more
-with_begun : (v : Verdict) (runs new : List Run) (a : Alone) → a.verdict ≡ v → a.zones ≡ v.line.zone ∷ [] → new ≡ runs ++ run_of a ∷ [] → IsWith v runs new
-with_begun v runs new a verdict_is zones_are new_is = record {
-  told = ap (λ (all : List Run). spelled all) new_all ∙ spelled_more runs one;
-  found = λ rows h found. subst (λ (all : List Run). AreFound rows all) (sym new_all) (all_more (IsFound rows) runs one found (((h, tt), tt)));
-  apart = λ apart. subst (λ (all : List Run). AreApart all) (sym new_all) (all_more Apart runs one apart (tt, tt));
-}
-  where
-    one : Run
-    one = record { zones = v.line.zone ∷ []; verdicts = v ∷ [] }
-
-    one_is : run_of a ≡ one
-    one_is = λ i. record { zones = zones_are i; verdicts = verdict_is i ∷ [] }
-
-    new_all : new ≡ runs ++ one ∷ []
-    new_all = new_is ∙ ap (λ (r : Run). runs ++ r ∷ []) one_is
-
 -- a zone more of the last run
 module _ (v : Verdict) (runs : List Run) (a : Alone) (same : IsSame a.verdict v) where
   told_further : spelled_run (run_of (further a v)) ≡ spelled_run (run_of a) ++ (v.line, v.breach) ∷ []
@@ -117,27 +99,17 @@ with_joined true v runs old new h is =
     (subst (λ (n : Option Alone). IsWith v (runs ++ run_of is.0 ∷ []) (with_last runs n)) (sym is.3) (with_further v runs is.0 (same_is is.0.verdict v is.2)))
 with_joined false v runs old new h is = cc
 
--- or behind it
-pub with_other : (joined : Bool) (v : Verdict) (runs : List Run) (old mid : Option Alone) (all : List Run) (a : Alone) → joined ≡ false → IsJoined joined v old mid → a.verdict ≡ v → a.zones ≡ v.line.zone ∷ []
-    → all ≡ with_last runs mid ++ run_of a ∷ [] → IsWith v (with_last runs old) all
-with_other false v runs old mid all a h is verdict_is zones_are all_is = with_begun v (with_last runs old) all a verdict_is zones_are (all_is ∙ ap (λ (o : Option Alone). with_last runs o ++ run_of a ∷ []) is)
-with_other true v runs old mid all a h is verdict_is zones_are all_is = cc
-
 -- the life that a line found
-pub found_life : (rows part : List Row) (line : Line) (e : Event) (life : Option Life) → AreRowsOf rows e part → e ≡ line.event → life ≡ option_map life_of (row_at part line.event line.zone) → life_at rows line ≡ life
-found_life rows part line e life of is life_is =
-    let own : AreRowsOf rows line.event part = subst (λ (d : Event). AreRowsOf rows d part) is of in
-    ap (λ (o : Option Row). option_map life_of o) (own.found line.zone) ∙ sym life_is
+pub found_life : (rows part : List Row) (line : Line) (life : Option Life) → AreRowsOf rows line.event part → life ≡ option_map life_of (row_at part line.event line.zone) → life_at rows line ≡ life
+found_life rows part line life of life_is = ap (λ (o : Option Row). option_map life_of o) (of.found line.zone) ∙ sym life_is
 
 -- one line more
-pub told_next : (judged : List Judged) (i : ℕ) (j : Judged) (v : Verdict) (old new all : List Judged) → i < length judged → j ≡ get_or judged i j → (v.line, v.breach) ≡ j → new ≡ old ++ (v.line, v.breach) ∷ []
-    → old ++ drop i judged ≡ all → new ++ drop (i + 1) judged ≡ all
-told_next judged i j v old new all within is own new_is sofar =
+pub told_next : (judged : List Judged) (i : ℕ) (j : Judged) (old new all : List Judged) → i < length judged → j ≡ get_or judged i j → new ≡ old ++ j ∷ [] → old ++ drop i judged ≡ all → new ++ drop (i + 1) judged ≡ all
+told_next judged i j old new all within is new_is sofar =
     let after : suc i ≡ i + 1 = omega arith in
     let cut : drop i judged ≡ j ∷ drop (i + 1) judged =
     drop-cons judged i j within ∙ ap (λ (y : Judged). y ∷ drop (suc i) judged) (sym is) ∙ ap (λ (k : ℕ). j ∷ drop k judged) after in
-    (λ k. new_is k ++ drop (i + 1) judged)
-    ∙ append_assoc old ((v.line, v.breach) ∷ []) (drop (i + 1) judged)
-    ∙ ap (λ (y : Judged). old ++ y ∷ drop (i + 1) judged) own
+    ap (λ (front : List Judged). front ++ drop (i + 1) judged) new_is
+    ∙ append_assoc old (j ∷ []) (drop (i + 1) judged)
     ∙ ap (λ (rest : List Judged). old ++ rest) (sym cut)
     ∙ sofar

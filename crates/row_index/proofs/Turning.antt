@@ -1,11 +1,11 @@
 -- The rows that lines leave in several zones, zone by zone and line by line.
-use Rattle.std.proofs.Common.{arith, drop, drop-cons, get_or, length, suc, ◌+◌, ◌<◌, ◌≡◌, ◌∙◌, ℕ, ◌&&◌, not, List, [], ◌∷◌, ◌++◌, Bool, true, false, cond, map, Option, Some, None, refl, ap, sym, subst}
+use Rattle.std.proofs.Common.{◌≡◌, ◌∙◌, ℕ, List, [], ◌∷◌, ◌++◌, Bool, true, false, cond, map, Option, Some, refl, ap, sym, subst}
 use Rattle.std.specs.Prelude.{flat_map}
 use Rattle.std.specs.List.{AllByRecursion}
 use Rattle.std.specs.List.Sorted.{IsStrictlySortedBy}
-use Rattle.std.proofs.lemmas.Bool.{and_parts, false_from_ne_true, both_ways}
+use Rattle.std.proofs.lemmas.Bool.{false_from_ne_true, both_ways}
 use Rattle.hazard_types.specs.Places.{Place}
-use Rattle.hazard_types.specs.Same.{same_event, same_zone}
+use Rattle.hazard_types.specs.Same.{same_event}
 use Rattle.hazard_types.specs.declared.hazard.Event.{Event}
 use Rattle.hazard_types.specs.declared.line.Line.{Line}
 use Rattle.hazard_types.specs.declared.line.Row.{Row}
@@ -20,10 +20,10 @@ use Rattle.row_index.specs.LineRows.{rows_of_line, rows_of_run, rows_of_runs}
 use Rattle.row_index.specs.Runs.{in_zone, rows_along}
 use Rattle.row_index.specs.Sharing.{row_with}
 use Rattle.row_index.specs.Steps.{put_each}
-use Rattle.row_index.specs.Verdicts.{is_lawful, left_by, spelled, spelled_at, spelled_run, AreApart, AreFound, HaveOwnEvents, IsFound, IsFoundAt, Judged}
+use Rattle.row_index.specs.Verdicts.{is_lawful, left_by, spelled, spelled_at, spelled_run, AreApart, AreFound, HaveOwnEvents, IsFound, IsFoundAt}
 use Rattle.row_index.specs.declared.verdicts.Run.{Run}
 use Rattle.row_index.specs.declared.verdicts.Verdict.{Verdict}
-use Rattle.row_index.proofs.Runs.{after_alike, put_both}
+use Rattle.row_index.proofs.Runs.{after_alike, along_own, put_both}
 
 -- rows of two events are put in either order
 
@@ -47,7 +47,7 @@ put_turned a b rows up apart =
     ∙ ap (λ (o : Option Row). cond (at_key e z b) (Some b) o) (sym (row_at-put a rows e z))
     ∙ sym (row_at-put b (put a rows) e z))
 
-pub each-sorted : (rows after : List Row) → IsStrictlySortedBy by_key after → IsStrictlySortedBy by_key (put_each rows after)
+each-sorted : (rows after : List Row) → IsStrictlySortedBy by_key after → IsStrictlySortedBy by_key (put_each rows after)
 each-sorted [] after up = up
 each-sorted (r ∷ rows) after up = each-sorted rows (put r after) (put-sorted r after up)
 
@@ -114,10 +114,6 @@ else_in t e (v ∷ verdicts) z apart = by_lawful (is_lawful v) (else_in t e verd
     by_lawful true rest = (apart.0, rest)
     by_lawful false rest = rest
 
-along_one : (e : Event) (l : Life) (zones : List Place) → AreOfOne e (rows_along e l zones)
-along_one e l [] = tt
-along_one e l (z ∷ zones) = (refl, along_one e l zones)
-
 -- the rows of a line that the others leave in each zone come before them all or behind
 module _ (t : ℕ) (v : Verdict) (verdicts : List Verdict) (apart : AreOthers v.line.event verdicts) where
   along_first : (zones : List Place) (after : List Row) → IsStrictlySortedBy by_key after
@@ -130,7 +126,7 @@ module _ (t : ℕ) (v : Verdict) (verdicts : List Verdict) (apart : AreOthers v.
       let others = rows_in t verdicts z in
       put_both (row ∷ others) (flat_map (λ (z : Place). row_with v.line.event z (left_by t v) ∷ rows_in t verdicts z) zones) after
       ∙ along_first zones (put_each others first) (each-sorted others first (put-sorted row after up))
-      ∙ ap (put_each (flat_map (rows_in t verdicts) zones)) (each_turned v.line.event own others first (put-sorted row after up) (along_one v.line.event (left_by t v) zones) (else_in t v.line.event verdicts z apart))
+      ∙ ap (put_each (flat_map (rows_in t verdicts) zones)) (each_turned v.line.event own others first (put-sorted row after up) (along_own v.line.event (left_by t v) zones) (else_in t v.line.event verdicts z apart))
       ∙ sym (put_both others (flat_map (rows_in t verdicts) zones) (put_each own first))
 
   line_first : (zones : List Place) (after : List Row) → IsStrictlySortedBy by_key after
@@ -169,15 +165,3 @@ runs_left rows t (r ∷ runs) after up found apart =
     ∙ ap (put_all rows t (lawful_of (spelled runs))) (sym (run_left rows t r after up found.0 apart.0))
     ∙ sym (put_all-append rows t (lawful_of (spelled_run r)) (lawful_of (spelled runs)) after)
     ∙ ap (λ (lines : List Line). put_all rows t lines after) (sym (lawful_of-append (spelled_run r) (spelled runs)))
-
--- one list of rows more
-pub rows_next : {X : Type 0} (f : X → List Row) (xs : List X) (i : ℕ) (x : X) (known next all : List Row) → i < length xs → x ≡ get_or xs i x → next ≡ put_each (f x) known → put_each (flat_map f (drop i xs)) known ≡ all
-    → put_each (flat_map f (drop (i + 1) xs)) next ≡ all
-rows_next {X} f xs i x known next all within is next_is sofar =
-    let after : suc i ≡ i + 1 = omega arith in
-    let cut : drop i xs ≡ x ∷ drop (i + 1) xs =
-    drop-cons xs i x within ∙ ap (λ (y : X). y ∷ drop (suc i) xs) (sym is) ∙ ap (λ (k : ℕ). x ∷ drop k xs) after in
-    ap (put_each (flat_map f (drop (i + 1) xs))) next_is
-    ∙ sym (put_both (f x) (flat_map f (drop (i + 1) xs)) known)
-    ∙ ap (λ (ys : List X). put_each (flat_map f ys) known) (sym cut)
-    ∙ sofar

@@ -11,7 +11,7 @@ use Rattle.row_index.specs.declared.collecting.Alone.{Alone}
 use Rattle.row_index.specs.declared.verdicts.Run.{Run}
 use Rattle.row_index.specs.declared.verdicts.Verdict.{Verdict}
 
--- the run of a line that found and did the same in some zones
+-- the run of a line in zones where it found the same and was judged alike
 abbrev pub run_of : Alone → Run
 run_of a = record { zones = a.zones; verdicts = a.verdict ∷ [] }
 
@@ -20,7 +20,7 @@ abbrev pub with_last : List Run → Option Alone → List Run
 with_last runs None = runs
 with_last runs (Some a) = runs ++ run_of a ∷ []
 
--- two lines found the same, and differ in their zones alone
+-- two lines found the same, were judged alike, and differ in their zones alone
 abbrev pub same_verdict : Verdict → Verdict → Bool
 same_verdict a b = same_life a.found b.found && option_eq breach.eq-value.it a.breach b.breach && is_alike a.line b.line
 

@@ -12,7 +12,7 @@ use hazard_types::{Line, List, Oom, Zone};
 use std::alloc::Global;
 use std::mem;
 
-/// A line that found the same in some zones, and did the same there.
+/// A line in zones where it found the same and was judged alike.
 #[derive(Drop)]
 pub struct Alone {
     pub verdict: Verdict,
@@ -54,7 +54,7 @@ fn run_of(alloc: Global, alone: Alone) -> Result<Run, Oom>
     })
 }
 
-/// Whether two lines found the same, and differ in their zones alone.
+/// Whether two lines found the same, were judged alike, and differ in their zones alone.
 fn same_verdict(a: &Verdict, b: &Verdict) -> bool
     ensures { result ≡ same_verdict a.now b.now }
 {
@@ -84,7 +84,8 @@ fn begin(
     last: &mut Option<Alone>,
     next: Alone,
 ) -> Result<(), Oom>
-    ensures { OnOk result (with_last runs.new.items last.new ≡ with_last runs.old.items last.old ++ run_of next ∷ []) }
+    ensures { OnOk result (with_last runs.new.items last.new
+        ≡ with_last runs.old.items last.old ++ run_of next ∷ []) }
 {
     match mem::replace(last, Some(next)) {
         Some(before) => {
@@ -116,7 +117,8 @@ fn collect(
     last: &mut Option<Alone>,
     verdict: &Verdict,
 ) -> Result<(), Oom>
-    ensures { OnOk result (IsWith verdict.now (with_last runs.old.items last.old) (with_last runs.new.items last.new)) }
+    ensures { OnOk result (IsWith verdict.now
+        (with_last runs.old.items last.old) (with_last runs.new.items last.new)) }
 {
     let joined = join(last, verdict)?;
     if joined {
