@@ -2,7 +2,6 @@ pub mod Tests
 mod Seated
 mod Zoned
 mod Saying
-mod LeftLemmas
 mod Lists
 mod HeldRows
 mod Opened

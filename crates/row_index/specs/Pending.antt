@@ -1,7 +1,6 @@
 -- Lines that were judged one by one, as runs of one line each; the last run is pending.
 use Rattle.std.specs.Prelude.{◌≡◌, ◌&&◌, ◌++◌, ◌∷◌, Bool, true, false, List, [], Option, Some, None}
 use Rattle.std.specs.Option.{option_eq}
-use Rattle.hazard_types.specs.declared.line.Line.{Line}
 use Rattle.hazard_types.specs.declared.line.Row.{Row}
 use Rattle.event_life.specs.contracts.life.BreachPartialEq.TheImpl as breach
 use Rattle.event_life.specs.Products.{life_at}

@@ -1,5 +1,5 @@
 //! Lines that were judged one by one, as runs of one line.
-ghost use Rattle.std.specs.Prelude.{◌≡◌, ◌++◌, ◌∷◌, [], Some, IfOk, OnOk};
+ghost use Rattle.std.specs.Prelude.{◌≡◌, ◌++◌, ◌∷◌, [], IfOk, OnOk};
 ghost use Rattle.row_index.specs.Pending.{further, run_of, same_verdict, with_last, IsJoined, IsWith};
 ghost use Rattle.row_index.specs.Verdicts.{spelled, AreApart, AreFound};
 
@@ -46,8 +46,7 @@ fn begun(alloc: Global, verdict: &Verdict) -> Result<Alone, Oom>
 fn run_of(alloc: Global, alone: Alone) -> Result<Run, Oom>
     ensures { IfOk result (λ run. run ≡ run_of alone) }
 {
-    let mut verdicts = List::new(alloc);
-    verdicts.push(alone.verdict)?;
+    let verdicts = List::from_slice(alloc, &[alone.verdict])?;
     Ok(Run {
         zones: alone.zones,
         verdicts,

@@ -1,5 +1,5 @@
 //! The rows that the lines of a product leave.
-ghost use Rattle.std.specs.Prelude.{◌≡◌, ◌++◌, ◌∷◌, [], IfOk};
+ghost use Rattle.std.specs.Prelude.{◌≡◌, IfOk};
 ghost use Rattle.event_life.specs.Products.{lawful_of, put_all};
 ghost use Rattle.row_index.specs.LineRows.{rows_of_line, rows_of_run, rows_of_runs};
 ghost use Rattle.row_index.specs.Runs.{rows_along};

@@ -1,6 +1,5 @@
 -- The maps with the rows of the line put are an index of all rows with those put.
-use Rattle.std.proofs.Common.{◌∙◌, ◌==◌, List, length, ap, sym}
-use Rattle.hazard_types.specs.Places.{Place}
+use Rattle.std.proofs.Common.{◌∙◌, ap, sym}
 use Rattle.event_life.specs.declared.life.Life.{Life}
 use Rattle.row_index.specs.Listing.{list_at, lists_of}
 use Rattle.hazard_types.specs.Orders.{by_event}
