@@ -2,7 +2,6 @@ pub mod Tests
 mod Seated
 mod Zoned
 mod Saying
-mod LeftLemmas
 mod Lists
 mod HeldRows
 mod Opened
@@ -13,6 +12,8 @@ mod Stood
 mod EventRows
 mod Coming
 mod Runs
+mod Turning
+mod Collected
 mod Asked
 mod Changing
 mod Alone

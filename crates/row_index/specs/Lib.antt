@@ -12,6 +12,8 @@ pub mod Steps
 pub mod Runs
 pub mod Verdicts
 pub mod Apart
+pub mod LineRows
+pub mod Pending
 pub mod Reaching
 pub mod Gathering
 pub mod Indexing

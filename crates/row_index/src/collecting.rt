@@ -1,5 +1,6 @@
 //! Lines that were judged one by one, as runs of one line.
 ghost use Rattle.std.specs.Prelude.{◌≡◌, ◌++◌, ◌∷◌, [], IfOk, OnOk};
+ghost use Rattle.row_index.specs.Pending.{further, run_of, same_verdict, with_last, IsJoined, IsWith};
 ghost use Rattle.row_index.specs.Verdicts.{spelled, AreApart, AreFound};
 
 use crate::held::RowsOf;
@@ -7,30 +8,122 @@ use crate::index::RowIndex;
 use crate::look::{is_alike, life_of, same_life};
 use crate::verdicts::{Run, Verdict};
 use event_life::Breach;
-use hazard_types::{Line, List, Oom};
+use hazard_types::{Line, List, Oom, Zone};
 use std::alloc::Global;
+use std::mem;
 
-/// Whether a verdict is that of a run of one line.
-fn is_of_run(run: &Run, verdict: &Verdict) -> bool {
-    match run.verdicts.as_slice() {
-        [own] => {
-            same_life(&own.found, &verdict.found)
-                && own.breach == verdict.breach
-                && is_alike(&own.line, &verdict.line)
-        }
-        _ => false,
+/// A line in zones where it found the same and was judged alike.
+#[derive(Drop)]
+pub struct Alone {
+    pub verdict: Verdict,
+    pub zones: List<Zone>,
+}
+
+impl Alone {
+    /// Adds a zone.
+    fn put(&mut self, verdict: &Verdict) -> Result<(), Oom>
+        ensures { OnOk result (self.new ≡ further self.old verdict.now) }
+    {
+        self.zones.push(verdict.line.zone)?;
+        Ok(())
     }
 }
 
-fn collect(alloc: Global, runs: &mut Vec<Run>, verdict: &Verdict) -> Result<(), Oom> {
-    if let Some(last) = runs.last_mut() {
-        if is_of_run(last, verdict) {
-            last.zones.push(verdict.line.zone)?;
-            return Ok(());
+/// A line in its own zone.
+fn begun(alloc: Global, verdict: &Verdict) -> Result<Alone, Oom>
+    ensures zones { IfOk result (λ a. a.zones ≡ verdict.now.line.zone ∷ []) }
+    ensures verdict { IfOk result (λ a. a.verdict ≡ verdict.now) }
+{
+    let mut zones = List::new(alloc);
+    zones.push(verdict.line.zone)?;
+    Ok(Alone {
+        verdict: *verdict,
+        zones,
+    })
+}
+
+/// The run of a line.
+fn run_of(alloc: Global, alone: Alone) -> Result<Run, Oom>
+    ensures { IfOk result (λ run. run ≡ run_of alone) }
+{
+    let verdicts = List::from_slice(alloc, &[alone.verdict])?;
+    Ok(Run {
+        zones: alone.zones,
+        verdicts,
+    })
+}
+
+/// Whether two lines found the same, were judged alike, and differ in their zones alone.
+fn same_verdict(a: &Verdict, b: &Verdict) -> bool
+    ensures { result ≡ same_verdict a.now b.now }
+{
+    same_life(&a.found, &b.found) && a.breach == b.breach && is_alike(&a.line, &b.line)
+}
+
+/// Adds a line to the pending run, if it is of that. Returns whether it is.
+fn join(last: &mut Option<Alone>, verdict: &Verdict) -> Result<bool, Oom>
+    ensures { IfOk result (λ joined. IsJoined joined verdict.now last.old last.new) }
+{
+    match last {
+        Some(alone) => {
+            if same_verdict(&alone.verdict, verdict) {
+                alone.put(verdict)?;
+                return Ok(true);
+            }
+            Ok(false)
         }
+        None => Ok(false),
     }
-    runs.push(Run::part(alloc, &[verdict.line.zone], &[], verdict)?)?;
-    Ok(())
+}
+
+/// Adds the pending run, if there is one, and begins another.
+fn begin(
+    alloc: Global,
+    runs: &mut Vec<Run>,
+    last: &mut Option<Alone>,
+    next: Alone,
+) -> Result<(), Oom>
+    ensures { OnOk result (with_last runs.new.items last.new
+        ≡ with_last runs.old.items last.old ++ run_of next ∷ []) }
+{
+    match mem::replace(last, Some(next)) {
+        Some(before) => {
+            runs.push(run_of(alloc, before)?)?;
+            Ok(())
+        }
+        None => Ok(()),
+    }
+}
+
+/// The runs with the pending one, if there is one.
+fn ended(alloc: Global, runs: Vec<Run>, last: Option<Alone>) -> Result<List<Run>, Oom>
+    ensures { IfOk result (λ all. all ≡ with_last runs.items last) }
+{
+    let mut runs = runs;
+    match last {
+        Some(alone) => {
+            runs.push(run_of(alloc, alone)?)?;
+            Ok(List::from_vec(runs))
+        }
+        None => Ok(List::from_vec(runs)),
+    }
+}
+
+/// Adds a line, to the pending run or as one behind it.
+fn collect(
+    alloc: Global,
+    runs: &mut Vec<Run>,
+    last: &mut Option<Alone>,
+    verdict: &Verdict,
+) -> Result<(), Oom>
+    ensures { OnOk result (IsWith verdict.now
+        (with_last runs.old.items last.old) (with_last runs.new.items last.new)) }
+{
+    let joined = join(last, verdict)?;
+    if joined {
+        return Ok(());
+    }
+    begin(alloc, runs, last, begun(alloc, verdict)?)
 }
 
 impl RowIndex {
@@ -45,6 +138,7 @@ impl RowIndex {
         ensures apart { IfOk result (λ runs. AreApart runs) }
     {
         let mut runs = Vec::new(alloc);
+        let mut last = None;
         let mut near = None;
         let mut rows = RowsOf::none();
         let mut place = 0;
@@ -58,8 +152,8 @@ impl RowIndex {
                 found: life,
                 breach: found.1,
             };
-            collect(alloc, &mut runs, &verdict)?;
+            collect(alloc, &mut runs, &mut last, &verdict)?;
         }
-        Ok(List::from_vec(runs))
+        ended(alloc, runs, last)
     }
 }

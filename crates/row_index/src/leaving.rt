@@ -1,6 +1,7 @@
 //! The rows that the lines of a product leave.
-ghost use Rattle.std.specs.Prelude.{◌≡◌, ◌++◌, ◌∷◌, [], IfOk};
+ghost use Rattle.std.specs.Prelude.{◌≡◌, IfOk};
 ghost use Rattle.event_life.specs.Products.{lawful_of, put_all};
+ghost use Rattle.row_index.specs.LineRows.{rows_of_line, rows_of_run, rows_of_runs};
 ghost use Rattle.row_index.specs.Runs.{rows_along};
 ghost use Rattle.row_index.specs.Steps.{put_each};
 ghost use Rattle.row_index.specs.Verdicts.{left_by, spelled, AreApart, AreFound};
@@ -48,13 +49,41 @@ impl RowIndex {
         })
     }
 
+    /// Puts the rows that a line leaves in these zones, where it is lawful.
+    fn put_line(
+        self,
+        alloc: Global,
+        t: Minute,
+        verdict: &Verdict,
+        zones: &[Zone],
+    ) -> Result<Self, Oom>
+        ensures { IfOk result (λ index. index ≡ put_each (rows_of_line t zones.now verdict.now) self) }
+    {
+        if verdict.is_lawful() {
+            self.put_left(alloc, t, verdict, zones)
+        } else {
+            Ok(self)
+        }
+    }
+
     /// Puts the rows of a run.
-    fn put_run(self, alloc: Global, t: Minute, run: &Run) -> Result<Self, Oom> {
+    fn put_run(self, alloc: Global, t: Minute, run: &Run) -> Result<Self, Oom>
+        ensures { IfOk result (λ index. index ≡ put_each (rows_of_run t run.now) self) }
+    {
         let mut index = self;
         for verdict in run.verdicts.as_slice() {
-            if verdict.is_lawful() {
-                index = index.put_left(alloc, t, verdict, run.zones.as_slice())?;
-            }
+            index = index.put_line(alloc, t, verdict, run.zones.as_slice())?;
+        }
+        Ok(index)
+    }
+
+    /// Puts the rows of runs, line by line.
+    fn put_runs(self, alloc: Global, t: Minute, runs: &[Run]) -> Result<Self, Oom>
+        ensures { IfOk result (λ index. index ≡ put_each (rows_of_runs t runs.now) self) }
+    {
+        let mut index = self;
+        for run in runs {
+            index = index.put_run(alloc, t, run)?;
         }
         Ok(index)
     }
@@ -65,11 +94,8 @@ impl RowIndex {
         requires apart { AreApart runs.now }
         ensures { IfOk result (λ index. index ≡ put_all self t (lawful_of (spelled runs.now)) self) }
     {
-        let mut index = self;
-        for run in runs {
-            index = index.put_run(alloc, t, run)?;
-        }
-        Ok(index)
+        let _ = &self.reach;
+        self.put_runs(alloc, t, runs)
     }
 
     /// The rows after a product whose lines were judged by these: each lawful line leaves its row, and no other line changes any.
