@@ -60,11 +60,6 @@ abbrev pub IsAsked : List Row → ℕ → Option (Line × Around) → Type 0
 IsAsked rows t None = Unit {0}
 IsAsked rows t (Some asked) = asked.1 ≡ asked_around asked.0.action rows t asked.0 true
 
--- the row that each of the lines leaves
-abbrev pub rows_left : List Row → ℕ → List Line → List Row
-rows_left rows t [] = []
-rows_left rows t (line ∷ lines) = row_after rows t line ∷ rows_left rows t lines
-
 -- each of the rows is put in turn
 abbrev pub put_each : List Row → List Row → List Row
 put_each left after = fold (λ (rows : List Row) (row : Row). put row rows) after left
