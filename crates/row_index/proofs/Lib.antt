@@ -18,3 +18,5 @@ mod Changing
 mod Alone
 mod Shown
 pub mod SharedRows
+mod Every
+mod Groups
