@@ -149,16 +149,35 @@ impl RowIndex {
             → AllByRecursion (λ z. IsJudgedAt self.now asking.now.t all z verdict.now) (take result zones.now) }
     {
         if is_upgrade(&asking.line.action) {
-            self.count_upgraded(asking, near, verdict, zones)
-        } else {
-            count_alike(
-                &asking.rows,
-                near,
-                &asking.line.event,
-                &verdict.found,
-                zones,
-            )
+            return self.count_upgraded(asking, near, verdict, zones);
         }
+        count_alike(
+            &asking.rows,
+            near,
+            &asking.line.event,
+            &verdict.found,
+            zones,
+        )
+    }
+
+    /// What a line finds in the first of some zones, and in how many of the rest, from there on, it
+    /// finds the same.
+    fn find_first(
+        &self,
+        asking: &Asking<'_>,
+        near: &mut usize,
+        first: &Zone,
+        rest: &[Zone],
+    ) -> (Verdict, usize)
+        requires { IsAsking self.now asking.now.t asking.now.line asking.now.rows asking.now.around asking.now.changed.now }
+        ensures line { result.0.line ≡ asking.now.line }
+        ensures within { result.1 ≤ length rest.now }
+        ensures judged { (all : Seq LineValue) → AllByRecursion (Serves self.now asking.now.t all asking.now.changed.now asking.now.line) (first.now ∷ rest.now)
+            → AllByRecursion (λ z. IsJudgedAt self.now asking.now.t all z result.0) (first.now ∷ take result.1 rest.now) }
+    {
+        let verdict = self.verdict_at(asking, near, first);
+        let more = self.count_of(asking, near, &verdict, rest);
+        (verdict, more)
     }
 
     /// Adds these zones with one verdict more, parted where it differs.
@@ -178,11 +197,10 @@ impl RowIndex {
             → OnOk result (AreJudged self.now asking.now.t all (lines_of verdicts.now ++ asking.now.line ∷ []) out.new.items) }
     {
         let mut left = zones;
-        while let Some(first) = left.first() {
-            let verdict = self.verdict_at(asking, near, first);
-            let count = 1 + self.count_of(asking, near, &verdict, &left[1..]);
-            out.push(Run::part(alloc, &left[..count], verdicts, &verdict)?)?;
-            left = &left[count..];
+        while let Some((first, rest)) = left.split_first() {
+            let (verdict, more) = self.find_first(asking, near, first, rest);
+            out.push(Run::part(alloc, &left[..more + 1], verdicts, &verdict)?)?;
+            left = &rest[more..];
         }
         Ok(())
     }
@@ -203,15 +221,14 @@ impl RowIndex {
             → OnOk result (AreJudged self.now asking.now.t all (lines_of run.verdicts ++ asking.now.line ∷ []) out.new.items) }
     {
         let zones = run.zones.as_slice();
-        let Some(first) = zones.first() else {
+        let Some((first, rest)) = zones.split_first() else {
             return Ok(());
         };
-        let verdict = self.verdict_at(asking, near, first);
-        let count = 1 + self.count_of(asking, near, &verdict, &zones[1..]);
-        let verdicts = run.verdicts.as_slice();
-        if count < zones.len() {
-            out.push(Run::part(alloc, &zones[..count], verdicts, &verdict)?)?;
-            return self.put_parted(alloc, asking, near, verdicts, &zones[count..], out);
+        let (verdict, more) = self.find_first(asking, near, first, rest);
+        if more < rest.len() {
+            let verdicts = run.verdicts.as_slice();
+            out.push(Run::part(alloc, &zones[..more + 1], verdicts, &verdict)?)?;
+            return self.put_parted(alloc, asking, near, verdicts, &rest[more..], out);
         }
         out.push(with_verdict(run, &verdict)?)?;
         Ok(())
