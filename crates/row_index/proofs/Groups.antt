@@ -1,9 +1,9 @@
 -- Zones in which a line finds the same.
-use Rattle.std.proofs.Common.{◌≡◌, ◌∙◌, ◌<◌, ◌+◌, ◌&&◌, ℕ, zero, suc, arith, List, [], ◌∷◌, ◌++◌, append-nil, map, take, drop, get_or, length, Bool, true, false, cond, Option, Some, None, refl, ap, sym, subst, rules}
+use Rattle.std.proofs.Common.{◌≡◌, ◌∙◌, ◌<◌, ◌≤◌, ◌+◌, ◌-◌, ℕ, suc, arith, List, [], ◌∷◌, ◌++◌, append_assoc, append-nil, length-drop, map, take, take_all, drop, length, Bool, true, false, cond, Option, Some, None, OnOk, Result, Ok, Err, refl, ap, sym, subst, rules}
 use Rattle.std.specs.List.{AllByRecursion, flat_map}
 use Rattle.std.specs.Option.{option_eq, option_map}
 use Rattle.std.proofs.lemmas.Grind.{flat_map-append}
-use Rattle.std.proofs.lemmas.List.{map-append}
+use Rattle.std.proofs.lemmas.List.{map-append, take-append-drop}
 use denote.Enum.Bare.{same_true}
 use Rattle.hazard_types.specs.Places.{Place}
 use Rattle.hazard_types.specs.declared.codes.Action.{Action}
@@ -27,7 +27,7 @@ use Rattle.row_index.specs.declared.higher.Changed.{Changed}
 use Rattle.row_index.specs.declared.verdicts.Run.{Run}
 use Rattle.row_index.specs.declared.verdicts.Verdict.{Verdict}
 use Rattle.row_index.proofs.Asked.{other_made}
-use Rattle.row_index.proofs.Every.{every_both, every_joined, every_same}
+use Rattle.row_index.proofs.Every.{every_back, every_both, every_drop, every_front, every_joined, every_same, every_take}
 
 breach_one : (a b : Breach) → breach.eq-value.it a b ≡ true → a ≡ b
 breach_one a b h = same_true breach_type.the_type (search rules) a b h
@@ -140,3 +140,115 @@ zones_more old new r is = ap zones_of is ∙ flat_map-append (λ (x : Run). x.zo
 
 pub judged_more : (rows : List Row) (t : ℕ) (all lines : List Line) (old new : List Run) (r : Run) → new ≡ old ++ r ∷ [] → IsJudged rows t all lines r → AreJudged rows t all lines old → AreJudged rows t all lines new
 judged_more rows t all lines old new r is one each = subst (λ (runs : List Run). AreJudged rows t all lines runs) (sym is) (every_both old (r ∷ []) (IsJudged rows t all lines) each (one, tt))
+
+-- the first zone and those of the rest that find the same, and what is left then
+
+abbrev behind : List Place → ℕ → List Place
+behind rest n = take (length rest - n) (drop n rest)
+
+behind_is : (rest : List Place) (n : ℕ) → behind rest n ≡ drop n rest
+behind_is rest n = let left : length (drop n rest) ≤ length rest - n = omega (arith, length-drop n rest) in take_all (length rest - n) (drop n rest) left
+
+front_is : (left : List Place) (first : Place) (rest : List Place) (n : ℕ) → left ≡ first ∷ rest → take (n + 1) left ≡ first ∷ take n rest
+front_is left first rest n is = let next : n + 1 ≡ suc n = omega arith in ap (λ (zs : List Place). take (n + 1) zs) is ∙ ap (λ (k : ℕ). take k (first ∷ rest)) next
+
+pub behind_shorter : (left : List Place) (first : Place) (rest : List Place) (n : ℕ) → left ≡ first ∷ rest → length (behind rest n) < length left
+behind_shorter left first rest n is =
+    let longer : length left ≡ suc (length rest) = ap length is in
+    let shorter : length (behind rest n) ≡ length rest - n = ap length (behind_is rest n) ∙ length-drop n rest in
+    omega (arith, longer, shorter)
+
+-- the zones of the runs with the front's, and those behind it, are all
+pub zones_next : (total left : List Place) (first : Place) (rest : List Place) (n : ℕ) (old new : List Run) (r : Run) → left ≡ first ∷ rest → r.zones ≡ take (n + 1) left → new ≡ old ++ r ∷ []
+    → zones_of old ++ left ≡ total → zones_of new ++ behind rest n ≡ total
+zones_next total left first rest n old new r left_is zones_are is h =
+    let whole : r.zones ++ behind rest n ≡ left =
+        ap (λ (zs : List Place). zs ++ behind rest n) (zones_are ∙ front_is left first rest n left_is)
+        ∙ ap (λ (zs : List Place). first ∷ (take n rest ++ zs)) (behind_is rest n)
+        ∙ ap (λ (zs : List Place). first ∷ zs) (take-append-drop n rest)
+        ∙ sym left_is in
+    ap (λ (zs : List Place). zs ++ behind rest n) (zones_more old new r is)
+    ∙ append_assoc (zones_of old) r.zones (behind rest n)
+    ∙ ap (λ (zs : List Place). zones_of old ++ zs) whole
+    ∙ h
+
+pub ready_serves : (rows : List Row) (t : ℕ) (all : List Line) (c : Changed) (line : Line) (verdicts : List Verdict) (zones : List Place) → AllByRecursion (IsReady rows t all c line verdicts) zones → AllByRecursion (Serves rows t all c line) zones
+ready_serves rows t all c line verdicts zones ready = every_same zones (IsReady rows t all c line verdicts) (Serves rows t all c line) (λ z h. h.1) ready
+
+ready_first : (rows : List Row) (t : ℕ) (all : List Line) (c : Changed) (line : Line) (verdicts : List Verdict) (left : List Place) (first : Place) (rest : List Place) → left ≡ first ∷ rest
+    → AllByRecursion (IsReady rows t all c line verdicts) left → AllByRecursion (IsReady rows t all c line verdicts) (first ∷ rest)
+ready_first rows t all c line verdicts left first rest is ready = subst (λ (zs : List Place). AllByRecursion (IsReady rows t all c line verdicts) zs) is ready
+
+-- the front was judged
+pub front_judged : (rows : List Row) (t : ℕ) (all : List Line) (c : Changed) (line : Line) (verdicts : List Verdict) (v : Verdict) (left : List Place) (first : Place) (rest : List Place) (n : ℕ) (r : Run)
+    → left ≡ first ∷ rest → r.zones ≡ take (n + 1) left → r.verdicts ≡ verdicts ++ v ∷ [] → v.line ≡ line
+    → (AllByRecursion (Serves rows t all c line) (first ∷ rest) → AllByRecursion (λ (z : Place). IsJudgedAt rows t all z v) (first ∷ take n rest))
+    → AllByRecursion (IsReady rows t all c line verdicts) left → IsJudged rows t all (lines_of verdicts ++ line ∷ []) r
+front_judged rows t all c line verdicts v left first rest n r left_is zones_are verdicts_are line_is finds ready =
+    let both = ready_first rows t all c line verdicts left first rest left_is ready in
+    group rows t all c line verdicts v (first ∷ take n rest) r (zones_are ∙ front_is left first rest n left_is) verdicts_are line_is
+        (both.0, every_take rest (IsReady rows t all c line verdicts) n both.1) (finds (ready_serves rows t all c line verdicts (first ∷ rest) both))
+
+-- what is behind it is as ready as all of it was
+pub behind_ready : (rows : List Row) (t : ℕ) (all : List Line) (c : Changed) (line : Line) (verdicts : List Verdict) (left : List Place) (first : Place) (rest : List Place) (n : ℕ) → left ≡ first ∷ rest
+    → AllByRecursion (IsReady rows t all c line verdicts) left → AllByRecursion (IsReady rows t all c line verdicts) (behind rest n)
+behind_ready rows t all c line verdicts left first rest n left_is ready =
+    let both = ready_first rows t all c line verdicts left first rest left_is ready in
+    subst (λ (zs : List Place). AllByRecursion (IsReady rows t all c line verdicts) zs) (sym (behind_is rest n)) (every_drop rest (IsReady rows t all c line verdicts) n both.1)
+
+-- all of it was judged
+pub whole_judged : (rows : List Row) (t : ℕ) (all : List Line) (c : Changed) (line : Line) (verdicts : List Verdict) (v : Verdict) (left : List Place) (first : Place) (rest : List Place) (n : ℕ) (r : Run)
+    → left ≡ first ∷ rest → length rest ≤ n → r.zones ≡ left → r.verdicts ≡ verdicts ++ v ∷ [] → v.line ≡ line
+    → (AllByRecursion (Serves rows t all c line) (first ∷ rest) → AllByRecursion (λ (z : Place). IsJudgedAt rows t all z v) (first ∷ take n rest))
+    → AllByRecursion (IsReady rows t all c line verdicts) left → IsJudged rows t all (lines_of verdicts ++ line ∷ []) r
+whole_judged rows t all c line verdicts v left first rest n r left_is all_of_it zones_are verdicts_are line_is finds ready =
+    let both = ready_first rows t all c line verdicts left first rest left_is ready in
+    group rows t all c line verdicts v (first ∷ rest) r (zones_are ∙ left_is) verdicts_are line_is both
+        (subst (λ (zs : List Place). AllByRecursion (λ (z : Place). IsJudgedAt rows t all z v) (first ∷ zs)) (take_all n rest all_of_it) (finds (ready_serves rows t all c line verdicts (first ∷ rest) both)))
+
+pub ok_so : {T E : Type 0} (r : Result T E) (P Q : Type 0) → (P → Q) → OnOk r P → OnOk r Q
+ok_so (Ok x) P Q f h = f h
+ok_so (Err e) P Q f h = tt
+
+-- one line more in the zones of runs: those that are left, and those that are done
+pub record AreLeft (rows : List Row) (t : ℕ) (all : List Line) (c : Changed) (line : Line) (lines : List Line) (rest out : List Run) : Type 0 where
+  pub judged : AreJudged rows t all lines rest
+  pub serves : AllByRecursion (Serves rows t all c line) (zones_of rest)
+  pub done : AreJudged rows t all (lines ++ line ∷ []) out
+
+pub line_next : (rows : List Row) (t : ℕ) (all : List Line) (c : Changed) (line : Line) (lines : List Line) (rest more out new : List Run) (run : Run) → rest ≡ run ∷ more
+    → (AllByRecursion (IsReady rows t all c line run.verdicts) run.zones → AreJudged rows t all (lines_of run.verdicts ++ line ∷ []) out → AreJudged rows t all (lines_of run.verdicts ++ line ∷ []) new)
+    → AreLeft rows t all c line lines rest out → AreLeft rows t all c line lines more new
+line_next rows t all c line lines rest more out new run is puts before =
+    let left : AreLeft rows t all c line lines (run ∷ more) out = subst (λ (runs : List Run). AreLeft rows t all c line lines runs out) is before in
+    let said = left.judged.0.said in
+    let ready = every_joined run.zones (λ (z : Place). AllByRecursion (IsJudgedAt rows t all z) run.verdicts) (Serves rows t all c line) (IsReady rows t all c line run.verdicts) (λ z each serves. (each, serves))
+        left.judged.0.each (every_front run.zones (zones_of more) (Serves rows t all c line) left.serves) in
+    record {
+      judged = left.judged.1;
+      serves = every_back run.zones (zones_of more) (Serves rows t all c line) left.serves;
+      done = subst (λ (ls : List Line). AreJudged rows t all (ls ++ line ∷ []) new) said
+          (puts ready (subst (λ (ls : List Line). AreJudged rows t all (ls ++ line ∷ []) out) (sym said) left.done));
+    }
+
+pub zones_left : (total : List Place) (rest more out new : List Run) (run : Run) → rest ≡ run ∷ more → zones_of new ≡ zones_of out ++ run.zones → zones_of out ++ zones_of rest ≡ total → zones_of new ++ zones_of more ≡ total
+zones_left total rest more out new run is put h =
+    ap (λ (zs : List Place). zs ++ zones_of more) put
+    ∙ append_assoc (zones_of out) run.zones (zones_of more)
+    ∙ ap (λ (runs : List Run). zones_of out ++ zones_of runs) (sym is)
+    ∙ h
+
+-- zones that are left are ready for a line, and in those that are done it was judged
+pub record IsPartly (rows : List Row) (t : ℕ) (all : List Line) (c : Changed) (line : Line) (verdicts : List Verdict) (left : List Place) (out : List Run) : Type 0 where
+  pub ready : AllByRecursion (IsReady rows t all c line verdicts) left
+  pub done : AreJudged rows t all (lines_of verdicts ++ line ∷ []) out
+
+pub partly_next : (rows : List Row) (t : ℕ) (all : List Line) (c : Changed) (line : Line) (verdicts : List Verdict) (v : Verdict) (left : List Place) (first : Place) (rest : List Place) (n : ℕ) (old new : List Run) (r : Run)
+    → left ≡ first ∷ rest → r.zones ≡ take (n + 1) left → r.verdicts ≡ verdicts ++ v ∷ [] → v.line ≡ line
+    → (AllByRecursion (Serves rows t all c line) (first ∷ rest) → AllByRecursion (λ (z : Place). IsJudgedAt rows t all z v) (first ∷ take n rest))
+    → new ≡ old ++ r ∷ [] → IsPartly rows t all c line verdicts left old → IsPartly rows t all c line verdicts (behind rest n) new
+partly_next rows t all c line verdicts v left first rest n old new r left_is zones_are verdicts_are line_is finds is before = record {
+  ready = behind_ready rows t all c line verdicts left first rest n left_is before.ready;
+  done = judged_more rows t all (lines_of verdicts ++ line ∷ []) old new r is
+      (front_judged rows t all c line verdicts v left first rest n r left_is zones_are verdicts_are line_is finds before.ready) before.done;
+}

@@ -1,35 +1,31 @@
-use Rattle.std.proofs.Common.{rules, ◌≡◌, ◌≤◌, ◌++◌, ◌∷◌, []}
-use Rattle.std.proofs.Common.{List as Seq}
-use Rattle.std.proofs.Common.{length, take, map, option_map, true, IfOk, OnOk, ℕ, ◌+◌, ◌-◌, ◌*◌, ◌<◌, ◌/◌, ◌%◌, Bool, false, nat_eq, nat_lt, List, slice_index_or, slice_set, bit_and, bit_or, Fits, w8, w32, w64, Bor, MutBor}
-use Rattle.std.specs.List.{AllByRecursion, list_any}
-use Rattle.std.specs.Map.{values_of}
+-- One group of zones more.
+use Rattle.std.proofs.Common.{◌≡◌, ◌∙◌, ◌++◌, List, [], append-nil, rules, ap, sym}
 use Rattle.hazard_types.specs.Places.{Place}
-use Rattle.hazard_types.specs.declared.line.Line.{Line as LineValue}
-use Rattle.event_life.specs.Products.{breach_in, judged}
-use Rattle.row_index.specs.Groups.{AreJudged, IsAsking, IsJudgedAt, IsLifeIn, IsReady, Serves, has_upgrade, lines_of, zones_of}
-use Rattle.row_index.specs.Runs.{in_zone, same_life}
-use Rattle.row_index.specs.Seating.{AreSeated, upgrades}
-use Rattle.row_index.specs.Steps.{AreOver, IsChanged}
-use Rattle.row_index.specs.Verdicts.{first_judged, lines_in, spelled, AreApart, AreFound, HaveOwnEvents}
-use Rattle.row_index.specs.declared.verdicts.Part.{Part as PartValue}
+use Rattle.row_index.specs.Groups.{zones_of}
+use Rattle.row_index.proofs.Groups.{behind_shorter, partly_next, zones_next}
 use Rattle.row_index.proofs.index.RowIndex.put_parted.Goals as goal
 
--- src/judging.rt:200:9
-pub loop-first-init : goal.loop-first-init
-loop-first-init c = ?
-
--- src/judging.rt:200:9
 pub loop-first-smaller : goal.loop-first-smaller
-loop-first-smaller c = ?
+loop-first-smaller c = behind_shorter c.loop-first.left.now c.in-Some.first.now c.in-Some.rest.now c.find_first-verdict.result.1 c.in-Some.ensures.cases.0
 
--- src/judging.rt:200:9
 pub loop-first-preserved : goal.loop-first-preserved
-loop-first-preserved c = ?
+loop-first-preserved c =
+    let left = c.loop-first.left.now in
+    let first = c.in-Some.first.now in
+    let rest = c.in-Some.rest.now in
+    let n = c.find_first-verdict.result.1 in
+    let old = c.loop-first.out.items in
+    let new = c.push.new.self.items in
+    let r = c.in_ok-part.field-0 in
+    record {
+      zones = zones_next (zones_of c.args.out.now.items ++ c.args.zones.now) left first rest n old new r c.in-Some.ensures.cases.0 c.in_ok-part.ensures.zones c.in_ok-push.ensures.items c.loop-first.invariant.zones;
+      judged = λ all ready judged. partly_next c.args.self.now c.args.asking.now.t all c.args.asking.now.changed.now c.args.asking.now.line c.args.verdicts.now c.find_first-verdict.result.0 left first rest n old new r
+          c.in-Some.ensures.cases.0 c.in_ok-part.ensures.zones c.in_ok-part.ensures.verdicts c.find_first-verdict.ensures.line (c.find_first-verdict.ensures.judged all) c.in_ok-push.ensures.items
+          (c.loop-first.invariant.judged all ready judged);
+    }
 
--- src/judging.rt:184:5
 pub returns-clause-zones : goal.returns-clause-zones
 returns-clause-zones c = ?
 
--- src/judging.rt:184:5
 pub returns-clause-judged : goal.returns-clause-judged
-returns-clause-judged c = ?
+returns-clause-judged c = λ all ready judged. (c.loop-first.invariant.judged all ready judged).done
