@@ -143,7 +143,7 @@ judged_more rows t all lines old new r is one each = subst (λ (runs : List Run)
 
 -- the first zone and those of the rest that find the same, and what is left then
 
-abbrev behind : List Place → ℕ → List Place
+abbrev pub behind : List Place → ℕ → List Place
 behind rest n = take (length rest - n) (drop n rest)
 
 behind_is : (rest : List Place) (n : ℕ) → behind rest n ≡ drop n rest
@@ -252,3 +252,27 @@ partly_next rows t all c line verdicts v left first rest n old new r left_is zon
   done = judged_more rows t all (lines_of verdicts ++ line ∷ []) old new r is
       (front_judged rows t all c line verdicts v left first rest n r left_is zones_are verdicts_are line_is finds before.ready) before.done;
 }
+
+pub none_left : {X : Type 0} (xs : List X) (n : ℕ) → n ≡ length xs → n ≡ 0 → xs ≡ []
+none_left [] n count none = refl
+none_left (x ∷ xs) n count none = absurd (omega (arith, count, none))
+
+-- no zones are judged yet
+pub whole_begun : (rows : List Row) (t : ℕ) (all : List Line) (old new : List Run) (r : Run) → old ≡ [] → new ≡ old ++ r ∷ [] → r.verdicts ≡ [] → AreJudged rows t all [] new
+whole_begun rows t all old new r none is no_verdicts =
+    let one : IsJudged rows t all [] r = record {
+      said = ap lines_of no_verdicts;
+      each = subst (λ (vs : List Verdict). AllByRecursion (λ (z : Place). AllByRecursion (IsJudgedAt rows t all z) vs) r.zones) (sym no_verdicts) (nothing r.zones);
+    } in
+    subst (λ (runs : List Run). AreJudged rows t all [] runs) (sym (is ∙ ap (λ (runs : List Run). runs ++ r ∷ []) none)) (one, tt)
+  where
+    nothing : (zones : List Place) → AllByRecursion (λ (z : Place). AllByRecursion (IsJudgedAt rows t all z) []) zones
+    nothing [] = tt
+    nothing (z ∷ zones) = (tt, nothing zones)
+
+-- no zone is left
+pub zones_done : (total : List Place) (out : List Run) (left : List Place) → length left ≡ 0 → zones_of out ++ left ≡ total → zones_of out ≡ total
+zones_done total out left none h = sym (append-nil (zones_of out)) ∙ ap (λ (zs : List Place). zones_of out ++ zs) (sym (none_left left (length left) refl none)) ∙ h
+
+pub runs_done : (total : List Place) (out rest : List Run) (n : ℕ) → n ≡ length rest → n ≡ 0 → zones_of out ++ zones_of rest ≡ total → zones_of out ≡ total
+runs_done total out rest n count none h = sym (append-nil (zones_of out)) ∙ ap (λ (runs : List Run). zones_of out ++ zones_of runs) (sym (none_left rest n count none)) ∙ h

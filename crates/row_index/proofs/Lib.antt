@@ -20,3 +20,4 @@ mod Shown
 pub mod SharedRows
 mod Every
 mod Groups
+mod Told

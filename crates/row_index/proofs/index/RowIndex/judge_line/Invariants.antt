@@ -1,18 +1,14 @@
-use Rattle.std.proofs.Common.{◌≡◌, ◌≤◌, ◌++◌, ◌∷◌, []}
-use Rattle.std.proofs.Common.{List as Seq}
-use Rattle.std.proofs.Common.{length, take, map, option_map, true, IfOk, OnOk, ℕ, ◌+◌, ◌-◌, ◌*◌, ◌<◌}
-use Rattle.std.specs.List.{AllByRecursion, list_any}
-use Rattle.std.specs.Map.{values_of}
-use Rattle.hazard_types.specs.Places.{Place}
-use Rattle.hazard_types.specs.declared.line.Line.{Line as LineValue}
-use Rattle.event_life.specs.Products.{breach_in, judged}
-use Rattle.row_index.specs.Groups.{AreJudged, IsAsking, IsJudgedAt, IsLifeIn, IsReady, Serves, has_upgrade, lines_of, zones_of}
-use Rattle.row_index.specs.Runs.{in_zone, same_life}
-use Rattle.row_index.specs.Seating.{AreSeated, upgrades}
-use Rattle.row_index.specs.Steps.{AreOver, IsChanged}
-use Rattle.row_index.specs.Verdicts.{first_judged, lines_in, spelled, AreApart, AreFound, HaveOwnEvents}
-use Rattle.row_index.specs.declared.verdicts.Part.{Part as PartValue}
+-- the zones so far, with those that are left, are all, and the line was judged in those so far
+use Rattle.std.proofs.Common.{◌≡◌, ◌++◌, List}
+use Rattle.std.specs.List.{AllByRecursion}
+use Rattle.hazard_types.specs.declared.line.Line.{Line}
+use Rattle.row_index.specs.Groups.{AreJudged, Serves, zones_of}
+use Rattle.row_index.proofs.Groups.{AreLeft}
 use Rattle.row_index.proofs.index.RowIndex.judge_line.Given as goal
 
 abbrev pub invariant-loop-run : goal.invariant-loop-run
-invariant-loop-run l = ?
+invariant-loop-run l = record {
+  zones : zones_of l.out.items ++ zones_of l.run-iterator.rest.items ≡ zones_of l.fn.runs.items;
+  judged : (all lines : List Line) → AreJudged l.self l.asking.t all lines l.fn.runs.items → AllByRecursion (Serves l.self l.asking.t all l.changed l.line) (zones_of l.fn.runs.items)
+      → AreLeft l.self l.asking.t all l.changed l.line lines l.run-iterator.rest.items l.out.items;
+}

@@ -1,8 +1,7 @@
 -- One group of zones more.
-use Rattle.std.proofs.Common.{◌≡◌, ◌∙◌, ◌++◌, List, [], append-nil, rules, ap, sym}
-use Rattle.hazard_types.specs.Places.{Place}
+use Rattle.std.proofs.Common.{◌++◌}
 use Rattle.row_index.specs.Groups.{zones_of}
-use Rattle.row_index.proofs.Groups.{behind_shorter, partly_next, zones_next}
+use Rattle.row_index.proofs.Groups.{behind_shorter, partly_next, zones_done, zones_next}
 use Rattle.row_index.proofs.index.RowIndex.put_parted.Goals as goal
 
 pub loop-first-smaller : goal.loop-first-smaller
@@ -25,7 +24,7 @@ loop-first-preserved c =
     }
 
 pub returns-clause-zones : goal.returns-clause-zones
-returns-clause-zones c = ?
+returns-clause-zones c = zones_done _ c.loop-first.out.items c.loop-first.left.now c.in_default.ensures.cases c.loop-first.invariant.zones
 
 pub returns-clause-judged : goal.returns-clause-judged
 returns-clause-judged c = λ all ready judged. (c.loop-first.invariant.judged all ready judged).done
