@@ -17,6 +17,8 @@ mod Asked
 mod Changing
 mod Alone
 mod Shown
+mod Spelling
+mod Firsts
 pub mod SharedRows
 mod Every
 mod Groups

@@ -12,6 +12,7 @@ pub mod Steps
 pub mod Runs
 pub mod Verdicts
 pub mod Groups
+pub mod Apart
 pub mod Reaching
 pub mod Gathering
 pub mod Indexing

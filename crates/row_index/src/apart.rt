@@ -1,8 +1,13 @@
 //! Whether no line of a product is a second one of its event and zone.
 
-ghost use Rattle.std.specs.Prelude.{◌≡◌, true, [], IfOk};
-ghost use Rattle.std.specs.List.{AllByRecursion};
-ghost use Rattle.row_index.specs.Verdicts.{lines_in, AreFirst, HaveOwnEvents};
+ghost use Rattle.std.specs.Prelude.{◌≡◌, not, true, [], None, IfOk, OnOk};
+ghost use Rattle.std.specs.BTreeMap.{is_at};
+ghost use Rattle.std.specs.BTreeSet.{insert_key};
+ghost use Rattle.std.specs.List.{AllByRecursion, list_any};
+ghost use Rattle.hazard_types.specs.Orders.{by_event};
+ghost use Rattle.row_index.specs.Apart.{all_rise, is_past, last_zone, zones_rise, Spoke};
+ghost use Rattle.row_index.specs.Risen.{seats_of, IsFree};
+ghost use Rattle.row_index.specs.Verdicts.{lines_in, said_at, said_in, AreFirst, HaveOwnEvents};
 ghost use Rattle.row_index.specs.declared.verdicts.Part.{Part as PartValue};
 
 use crate::look::in_zone;
@@ -10,12 +15,14 @@ use crate::parts::EventKey;
 use crate::spoken::Spoken;
 use crate::verdicts::Part;
 use event_life::is_routine;
-use hazard_types::{Line, Oom, Zone};
+use hazard_types::{Event, Line, Oom, Zone};
 use std::alloc::Global;
 use std::collections::BTreeSet;
 
 /// Whether a zone is behind the last one, if there is one.
-fn is_behind(last: &Option<Zone>, zone: &Zone) -> bool {
+fn is_past(last: &Option<Zone>, zone: &Zone) -> bool
+    ensures { result ≡ is_past last.now zone.now }
+{
     match last {
         Some(last) => last.cmp(zone).is_lt(),
         None => true,
@@ -23,9 +30,12 @@ fn is_behind(last: &Option<Zone>, zone: &Zone) -> bool {
 }
 
 /// Whether the zones rise, behind this one if there is one. It becomes the last of them.
-fn zones_rise(last: &mut Option<Zone>, zones: &[Zone]) -> bool {
+fn zones_rise(last: &mut Option<Zone>, zones: &[Zone]) -> bool
+    ensures rise { result ≡ zones_rise last.old zones.now }
+    ensures last { result ≡ true → last.new ≡ last_zone last.old zones.now }
+{
     for zone in zones {
-        if !is_behind(last, zone) {
+        if !is_past(last, zone) {
             return false;
         }
         *last = Some(*zone);
@@ -34,7 +44,9 @@ fn zones_rise(last: &mut Option<Zone>, zones: &[Zone]) -> bool {
 }
 
 /// Whether the zones of all parts rise.
-fn all_rise(parts: &[Part<'_>]) -> bool {
+fn all_rise(parts: &[Part<'_>]) -> bool
+    ensures { result ≡ all_rise None parts.now }
+{
     let mut last = None;
     for part in parts {
         if !zones_rise(&mut last, part.zones) {
@@ -44,15 +56,26 @@ fn all_rise(parts: &[Part<'_>]) -> bool {
     true
 }
 
+/// Adds an event, and returns whether it is new.
+fn note_event(events: &mut BTreeSet<EventKey>, event: &Event) -> Result<bool, Oom>
+    ensures new { IfOk result (λ new. new ≡ not (list_any (is_at (by_event event.now)) events.old.keys)) }
+    ensures keys { OnOk result (events.new.keys ≡ insert_key by_event events.old.keys event.now) }
+{
+    let new = events.insert(EventKey { event: *event })?;
+    Ok(new)
+}
+
 /// Whether the lines are of an event each.
-fn has_own_events(alloc: Global, lines: &[Line]) -> Result<bool, Oom> {
+fn has_own_events(alloc: Global, lines: &[Line]) -> Result<bool, Oom>
+    ensures { IfOk result (λ own. own ≡ true → HaveOwnEvents lines.now) }
+{
     if lines.len() < 2 {
         return Ok(true);
     }
     let mut events = BTreeSet::new(alloc);
     for line in lines {
-        let event = EventKey { event: line.event };
-        if !events.insert(event)? {
+        let new = note_event(&mut events, &line.event)?;
+        if !new {
             return Ok(false);
         }
     }
@@ -60,9 +83,12 @@ fn has_own_events(alloc: Global, lines: &[Line]) -> Result<bool, Oom> {
 }
 
 /// Whether the lines of each part are of an event each.
-fn have_own_events(alloc: Global, parts: &[Part<'_>]) -> Result<bool, Oom> {
+fn have_own_events(alloc: Global, parts: &[Part<'_>]) -> Result<bool, Oom>
+    ensures { IfOk result (λ own. own ≡ true → AllByRecursion (λ (p : PartValue). HaveOwnEvents p.lines) parts.now) }
+{
     for part in parts {
-        if !has_own_events(alloc, part.lines.as_slice())? {
+        let own = has_own_events(alloc, part.lines.as_slice())?;
+        if !own {
             return Ok(false);
         }
     }
@@ -70,18 +96,29 @@ fn have_own_events(alloc: Global, parts: &[Part<'_>]) -> Result<bool, Oom> {
 }
 
 /// Whether none of the lines is a second one in the zone.
-fn speak_zone(spoken: &mut Spoken, zone: &Zone, lines: &[Line]) -> Result<bool, Oom> {
+fn speak_zone(spoken: &mut Spoken, zone: &Zone, lines: &[Line]) -> Result<bool, Oom>
+    requires { IsFree spoken.old.last spoken.old.rising.items }
+    ensures first { IfOk result (λ first. first ≡ true → Spoke (seats_of spoken.old.rising.items spoken.old.others.keys) (seats_of spoken.new.rising.items spoken.new.others.keys) (said_at lines.now zone.now)) }
+    ensures free { OnOk result (IsFree spoken.new.last spoken.new.rising.items) }
+{
     for line in lines {
-        if spoken.speak(!is_routine(&line.action), &in_zone(line, zone))? {
+        let second = spoken.speak(!is_routine(&line.action), &in_zone(line, zone))?;
+        if second {
             return Ok(false);
         }
     }
     Ok(true)
 }
 
-fn speak_part(spoken: &mut Spoken, part: &Part<'_>) -> Result<bool, Oom> {
+/// Whether none of the lines of a part is a second one.
+fn speak_part(spoken: &mut Spoken, part: &Part<'_>) -> Result<bool, Oom>
+    requires { IsFree spoken.old.last spoken.old.rising.items }
+    ensures first { IfOk result (λ first. first ≡ true → Spoke (seats_of spoken.old.rising.items spoken.old.others.keys) (seats_of spoken.new.rising.items spoken.new.others.keys) (said_in part.now)) }
+    ensures free { OnOk result (IsFree spoken.new.last spoken.new.rising.items) }
+{
     for zone in part.zones {
-        if !speak_zone(spoken, zone, part.lines.as_slice())? {
+        let first = speak_zone(spoken, zone, part.lines.as_slice())?;
+        if !first {
             return Ok(false);
         }
     }
@@ -89,10 +126,13 @@ fn speak_part(spoken: &mut Spoken, part: &Part<'_>) -> Result<bool, Oom> {
 }
 
 /// Whether no line is a second one.
-fn none_second(alloc: Global, parts: &[Part<'_>]) -> Result<bool, Oom> {
+fn none_second(alloc: Global, parts: &[Part<'_>]) -> Result<bool, Oom>
+    ensures { IfOk result (λ first. first ≡ true → AreFirst [] (lines_in parts.now)) }
+{
     let mut spoken = Spoken::new(alloc);
     for part in parts {
-        if !speak_part(&mut spoken, part)? {
+        let first = speak_part(&mut spoken, part)?;
+        if !first {
             return Ok(false);
         }
     }
@@ -105,7 +145,8 @@ pub fn are_apart(alloc: Global, parts: &[Part<'_>]) -> Result<bool, Oom>
     ensures first { IfOk result (λ apart. apart ≡ true → AreFirst [] (lines_in parts.now)) }
     ensures events { IfOk result (λ apart. apart ≡ true → AllByRecursion (λ (p : PartValue). HaveOwnEvents p.lines) parts.now) }
 {
-    if !have_own_events(alloc, parts)? {
+    let own = have_own_events(alloc, parts)?;
+    if !own {
         return Ok(false);
     }
     if all_rise(parts) {

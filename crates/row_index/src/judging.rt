@@ -340,7 +340,8 @@ impl RowIndex {
         ensures found { IfOk result (λ runs. AreFound self.now runs) }
         ensures apart { IfOk result (λ runs. AreApart runs) }
     {
-        if are_apart(alloc, parts)? {
+        let apart = are_apart(alloc, parts)?;
+        if apart {
             return self.judge_apart(alloc, t, parts);
         }
         let lines = lines_in(alloc, parts)?;
