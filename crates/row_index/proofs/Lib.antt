@@ -21,3 +21,6 @@ mod Shown
 mod Spelling
 mod Firsts
 pub mod SharedRows
+mod Every
+mod Groups
+mod Told

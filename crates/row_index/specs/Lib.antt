@@ -11,6 +11,7 @@ pub mod Standings
 pub mod Steps
 pub mod Runs
 pub mod Verdicts
+pub mod Groups
 pub mod Apart
 pub mod LineRows
 pub mod Pending

@@ -1,18 +1,21 @@
 //! The lines of a product judged for all zones that find the same at once.
 
-ghost use Rattle.std.specs.Prelude.{◌≡◌, ◌++◌, ◌∷◌, [], map, true, IfOk, OnOk};
+ghost use Rattle.std.specs.Prelude.{◌≡◌, ◌≤◌, ◌++◌, ◌∷◌, [], List as Seq, length, take, map, option_map, true, IfOk, OnOk};
 ghost use Rattle.std.specs.List.{AllByRecursion, list_any};
 ghost use Rattle.std.specs.Map.{values_of};
-ghost use Rattle.event_life.specs.Products.{breach_in, judged, life_at};
-ghost use Rattle.row_index.specs.Runs.{in_zone};
-ghost use Rattle.row_index.specs.Seating.{upgrades};
+ghost use Rattle.hazard_types.specs.Places.{Place};
+ghost use Rattle.hazard_types.specs.declared.line.Line.{Line as LineValue};
+ghost use Rattle.event_life.specs.Products.{breach_in, judged};
+ghost use Rattle.row_index.specs.Groups.{AreJudged, IsAsking, IsJudgedAt, IsLifeIn, IsReady, Serves, has_upgrade, lines_of, zones_of};
+ghost use Rattle.row_index.specs.Runs.{in_zone, same_life};
+ghost use Rattle.row_index.specs.Seating.{AreSeated, upgrades};
 ghost use Rattle.row_index.specs.Steps.{AreOver, IsChanged};
-ghost use Rattle.row_index.specs.Verdicts.{first_judged, lines_in, said_in, spelled, AreApart, AreFound, HaveOwnEvents};
+ghost use Rattle.row_index.specs.Verdicts.{first_judged, lines_in, spelled, AreApart, AreFound, HaveOwnEvents};
 ghost use Rattle.row_index.specs.declared.verdicts.Part.{Part as PartValue};
 
 use crate::apart::are_apart;
 use crate::held::RowsOf;
-use crate::higher::Changed;
+use crate::higher::{Changed, any_upgrades};
 use crate::index::RowIndex;
 use crate::look::{in_zone, life_of, same_life};
 use crate::verdicts::{Part, Run, Verdict, lines_in};
@@ -31,7 +34,9 @@ struct Asking<'a> {
 }
 
 /// Whether a life is the one found, or there is none of both.
-fn is_found(found: &Option<Life>, life: Option<&Life>) -> bool {
+fn is_found(found: &Option<Life>, life: Option<&Life>) -> bool
+    ensures { result ≡ same_life found.now (option_map (λ l. l.now) life.entry) }
+{
     match (found, life) {
         (Some(found), Some(life)) => *found == *life,
         (None, None) => true,
@@ -46,7 +51,10 @@ fn count_alike(
     event: &Event,
     found: &Option<Life>,
     zones: &[Zone],
-) -> usize {
+) -> usize
+    ensures within { result ≤ length zones.now }
+    ensures alike { AllByRecursion (IsLifeIn rows.now event.now found.now) (take result zones.now) }
+{
     let mut count = 0;
     for zone in zones {
         if !is_found(found, rows.life_at(near, event, zone)) {
@@ -57,9 +65,31 @@ fn count_alike(
     count
 }
 
+/// Whether lines found the same.
+fn find_alike(a: &Verdict, b: &Verdict) -> bool
+    ensures { result ≡ true → (a.now.found ≡ b.now.found) × (a.now.breach ≡ b.now.breach) }
+{
+    same_life(&a.found, &b.found) && a.breach == b.breach
+}
+
+/// A run with one verdict more.
+fn with_verdict(run: Run, verdict: &Verdict) -> Result<Run, Oom>
+    ensures zones { IfOk result (λ more. more.zones ≡ run.zones) }
+    ensures verdicts { IfOk result (λ more. more.verdicts ≡ run.verdicts ++ verdict.now ∷ []) }
+{
+    let mut run = run;
+    run.verdicts.extend(&[*verdict])?;
+    Ok(run)
+}
+
 impl RowIndex {
     /// What a line finds in a zone.
-    fn verdict_at(&self, asking: &Asking<'_>, near: &mut usize, zone: &Zone) -> Verdict {
+    fn verdict_at(&self, asking: &Asking<'_>, near: &mut usize, zone: &Zone) -> Verdict
+        requires { IsAsking self.now asking.now.t asking.now.line asking.now.rows asking.now.around asking.now.changed.now }
+        ensures line { result.line ≡ asking.now.line }
+        ensures found { IsLifeIn self.now asking.now.line.event result.found zone.now }
+        ensures breach { (all : Seq LineValue) → Serves self.now asking.now.t all asking.now.changed.now asking.now.line zone.now → result.breach ≡ breach_in self.now asking.now.t all [] (in_zone asking.now.line zone.now) }
+    {
         let line = in_zone(&asking.line, zone);
         let found = life_of(asking.rows.life_at(near, &line.event, zone));
         let breach = self.breach_in(
@@ -72,7 +102,7 @@ impl RowIndex {
             asking.around,
         );
         Verdict {
-            line,
+            line: asking.line,
             found,
             breach,
         }
@@ -85,11 +115,17 @@ impl RowIndex {
         near: &mut usize,
         verdict: &Verdict,
         zones: &[Zone],
-    ) -> usize {
+    ) -> usize
+        requires asking { IsAsking self.now asking.now.t asking.now.line asking.now.rows asking.now.around asking.now.changed.now }
+        requires line { verdict.now.line ≡ asking.now.line }
+        ensures within { result ≤ length zones.now }
+        ensures judged { (all : Seq LineValue) → AllByRecursion (Serves self.now asking.now.t all asking.now.changed.now asking.now.line) zones.now
+            → AllByRecursion (λ z. IsJudgedAt self.now asking.now.t all z verdict.now) (take result zones.now) }
+    {
         let mut count = 0;
         for zone in zones {
             let other = self.verdict_at(asking, near, zone);
-            if !same_life(&other.found, &verdict.found) || other.breach != verdict.breach {
+            if !find_alike(&other, verdict) {
                 return count;
             }
             count += 1;
@@ -104,18 +140,69 @@ impl RowIndex {
         near: &mut usize,
         verdict: &Verdict,
         zones: &[Zone],
-    ) -> usize {
+    ) -> usize
+        requires asking { IsAsking self.now asking.now.t asking.now.line asking.now.rows asking.now.around asking.now.changed.now }
+        requires line { verdict.now.line ≡ asking.now.line }
+        ensures within { result ≤ length zones.now }
+        ensures judged { (all : Seq LineValue) (first : Place) → IsJudgedAt self.now asking.now.t all first verdict.now
+            → AllByRecursion (Serves self.now asking.now.t all asking.now.changed.now asking.now.line) zones.now
+            → AllByRecursion (λ z. IsJudgedAt self.now asking.now.t all z verdict.now) (take result zones.now) }
+    {
         if is_upgrade(&asking.line.action) {
-            self.count_upgraded(asking, near, verdict, zones)
-        } else {
-            count_alike(
-                &asking.rows,
-                near,
-                &asking.line.event,
-                &verdict.found,
-                zones,
-            )
+            return self.count_upgraded(asking, near, verdict, zones);
         }
+        count_alike(
+            &asking.rows,
+            near,
+            &asking.line.event,
+            &verdict.found,
+            zones,
+        )
+    }
+
+    /// What a line finds in the first of some zones, and in how many of the rest, from there on, it
+    /// finds the same.
+    fn find_first(
+        &self,
+        asking: &Asking<'_>,
+        near: &mut usize,
+        first: &Zone,
+        rest: &[Zone],
+    ) -> (Verdict, usize)
+        requires { IsAsking self.now asking.now.t asking.now.line asking.now.rows asking.now.around asking.now.changed.now }
+        ensures line { result.0.line ≡ asking.now.line }
+        ensures within { result.1 ≤ length rest.now }
+        ensures judged { (all : Seq LineValue) → AllByRecursion (Serves self.now asking.now.t all asking.now.changed.now asking.now.line) (first.now ∷ rest.now)
+            → AllByRecursion (λ z. IsJudgedAt self.now asking.now.t all z result.0) (first.now ∷ take result.1 rest.now) }
+    {
+        let verdict = self.verdict_at(asking, near, first);
+        let more = self.count_of(asking, near, &verdict, rest);
+        (verdict, more)
+    }
+
+    /// Adds these zones with one verdict more, parted where it differs.
+    fn put_parted(
+        &self,
+        alloc: Global,
+        asking: &Asking<'_>,
+        near: &mut usize,
+        verdicts: &[Verdict],
+        zones: &[Zone],
+        out: &mut Vec<Run>,
+    ) -> Result<(), Oom>
+        requires { IsAsking self.now asking.now.t asking.now.line asking.now.rows asking.now.around asking.now.changed.now }
+        ensures zones { OnOk result (zones_of out.new.items ≡ zones_of out.old.items ++ zones.now) }
+        ensures judged { (all : Seq LineValue) → AllByRecursion (IsReady self.now asking.now.t all asking.now.changed.now asking.now.line verdicts.now) zones.now
+            → AreJudged self.now asking.now.t all (lines_of verdicts.now ++ asking.now.line ∷ []) out.old.items
+            → OnOk result (AreJudged self.now asking.now.t all (lines_of verdicts.now ++ asking.now.line ∷ []) out.new.items) }
+    {
+        let mut left = zones;
+        while let Some((first, rest)) = left.split_first() {
+            let (verdict, more) = self.find_first(asking, near, first, rest);
+            out.push(Run::part(alloc, &left[..more + 1], verdicts, &verdict)?)?;
+            left = &rest[more..];
+        }
+        Ok(())
     }
 
     /// Adds the zones of a run with one verdict more, parted where it differs.
@@ -126,22 +213,24 @@ impl RowIndex {
         near: &mut usize,
         run: Run,
         out: &mut Vec<Run>,
-    ) -> Result<(), Oom> {
-        let mut from = 0;
-        let len = run.zones.len();
-        while from < len {
-            let zones = &run.zones.as_slice()[from..];
-            let verdict = self.verdict_at(asking, near, &zones[0]);
-            let count = 1 + self.count_of(asking, near, &verdict, &zones[1..]);
-            if count == len {
-                let mut run = run;
-                run.verdicts.push(verdict)?;
-                out.push(run)?;
-                return Ok(());
-            }
-            out.push(Run::part(alloc, &zones[..count], run.verdicts.as_slice(), &verdict)?)?;
-            from += count;
+    ) -> Result<(), Oom>
+        requires { IsAsking self.now asking.now.t asking.now.line asking.now.rows asking.now.around asking.now.changed.now }
+        ensures zones { OnOk result (zones_of out.new.items ≡ zones_of out.old.items ++ run.zones) }
+        ensures judged { (all : Seq LineValue) → AllByRecursion (IsReady self.now asking.now.t all asking.now.changed.now asking.now.line run.verdicts) run.zones
+            → AreJudged self.now asking.now.t all (lines_of run.verdicts ++ asking.now.line ∷ []) out.old.items
+            → OnOk result (AreJudged self.now asking.now.t all (lines_of run.verdicts ++ asking.now.line ∷ []) out.new.items) }
+    {
+        let zones = run.zones.as_slice();
+        let Some((first, rest)) = zones.split_first() else {
+            return Ok(());
+        };
+        let (verdict, more) = self.find_first(asking, near, first, rest);
+        if more < rest.len() {
+            let verdicts = run.verdicts.as_slice();
+            out.push(Run::part(alloc, &zones[..more + 1], verdicts, &verdict)?)?;
+            return self.put_parted(alloc, asking, near, verdicts, &rest[more..], out);
         }
+        out.push(with_verdict(run, &verdict)?)?;
         Ok(())
     }
 
@@ -153,7 +242,14 @@ impl RowIndex {
         changed: &Changed,
         line: &Line,
         runs: Vec<Run>,
-    ) -> Result<Vec<Run>, Oom> {
+    ) -> Result<Vec<Run>, Oom>
+        requires counted { AreSeated changed.now.counted.entries }
+        requires higher { AreSeated changed.now.higher.entries }
+        ensures zones { IfOk result (λ out. zones_of out.items ≡ zones_of runs.items) }
+        ensures judged { (all lines : Seq LineValue) → AreJudged self.now t all lines runs.items
+            → AllByRecursion (Serves self.now t all changed.now line.now) (zones_of runs.items)
+            → IfOk result (λ out. AreJudged self.now t all (lines ++ line.now ∷ []) out.items) }
+    {
         let rows = self.rows_of(&line.event);
         let around = self.around(&rows, t, line, true);
         let asking = Asking {
@@ -178,7 +274,13 @@ impl RowIndex {
         t: Minute,
         changed: &Changed,
         part: &Part<'_>,
-    ) -> Result<Vec<Run>, Oom> {
+    ) -> Result<Vec<Run>, Oom>
+        requires counted { AreSeated changed.now.counted.entries }
+        requires higher { AreSeated changed.now.higher.entries }
+        ensures zones { IfOk result (λ runs. zones_of runs.items ≡ part.now.zones.now) }
+        ensures judged { (all : Seq LineValue) → AllByRecursion (λ (l : LineValue). AllByRecursion (Serves self.now t all changed.now l) part.now.zones.now) part.now.lines
+            → IfOk result (λ runs. AreJudged self.now t all part.now.lines runs.items) }
+    {
         let mut runs = Vec::with_capacity(alloc, 1)?;
         runs.push(Run::whole(alloc, part.zones)?)?;
         for line in part.lines.as_slice() {
@@ -204,7 +306,12 @@ impl RowIndex {
     }
 
     /// What a product changes where a higher row is looked for, as far as a UPG line asks for it.
-    fn change_in(&self, alloc: Global, t: Minute, parts: &[Part<'_>]) -> Result<Changed, Oom> {
+    fn change_in(&self, alloc: Global, t: Minute, parts: &[Part<'_>]) -> Result<Changed, Oom>
+        ensures changed { list_any upgrades (lines_in parts.now) ≡ true → IfOk result (λ c. IsChanged self.now t (lines_in parts.now) (values_of c.counted.entries) c.upgraded.keys) }
+        ensures over { list_any upgrades (lines_in parts.now) ≡ true → IfOk result (λ c. AreOver self.now t (lines_in parts.now) (values_of c.higher.entries)) }
+        ensures counted { IfOk result (λ c. AreSeated c.counted.entries) }
+        ensures higher { IfOk result (λ c. AreSeated c.higher.entries) }
+    {
         if !upgrade_in(parts) {
             return self.change_of(alloc, t, &[]);
         }
@@ -243,12 +350,12 @@ impl RowIndex {
 }
 
 /// Whether one of the lines says that a higher row takes a zone over.
-fn upgrade_in(parts: &[Part<'_>]) -> bool {
+fn upgrade_in(parts: &[Part<'_>]) -> bool
+    ensures { result ≡ list_any has_upgrade parts.now }
+{
     for part in parts {
-        for line in part.lines.as_slice() {
-            if is_upgrade(&line.action) {
-                return true;
-            }
+        if any_upgrades(part.lines.as_slice()) {
+            return true;
         }
     }
     false
