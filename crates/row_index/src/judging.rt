@@ -10,7 +10,7 @@ ghost use Rattle.row_index.specs.Groups.{AreJudged, IsAsking, IsJudgedAt, IsLife
 ghost use Rattle.row_index.specs.Runs.{in_zone, same_life};
 ghost use Rattle.row_index.specs.Seating.{AreSeated, upgrades};
 ghost use Rattle.row_index.specs.Steps.{AreOver, IsChanged};
-ghost use Rattle.row_index.specs.Verdicts.{first_judged, lines_in, spelled, AreApart, AreFound, HaveOwnEvents};
+ghost use Rattle.row_index.specs.Verdicts.{AreFirst, first_judged, lines_in, spelled, AreApart, AreFound, HaveOwnEvents};
 ghost use Rattle.row_index.specs.declared.verdicts.Part.{Part as PartValue};
 
 use crate::apart::are_apart;
@@ -282,7 +282,7 @@ impl RowIndex {
             → IfOk result (λ runs. AreJudged self.now t all part.now.lines runs.items) }
     {
         let mut runs = Vec::with_capacity(alloc, 1)?;
-        runs.push(Run::whole(alloc, part.zones)?)?;
+        runs.push(Run::whole(alloc, part.zones, part.lines.len())?)?;
         for line in part.lines.as_slice() {
             runs = self.judge_line(alloc, t, changed, line, runs)?;
         }
@@ -291,13 +291,14 @@ impl RowIndex {
 
     /// The lines of parts judged, of which no one is a second one of its event and zone.
     fn judge_apart(&self, alloc: Global, t: Minute, parts: &[Part<'_>]) -> Result<List<Run>, Oom>
+        requires first { AreFirst [] (lines_in parts.now) }
         requires events { AllByRecursion (λ (p : PartValue). HaveOwnEvents p.lines) parts.now }
         ensures told { IfOk result (λ runs. spelled runs ≡ map (first_judged self.now t (lines_in parts.now)) (lines_in parts.now)) }
         ensures found { IfOk result (λ runs. AreFound self.now runs) }
         ensures apart { IfOk result (λ runs. AreApart runs) }
     {
         let changed = self.change_in(alloc, t, parts)?;
-        let mut all = Vec::new(alloc);
+        let mut all = Vec::with_capacity(alloc, parts.len())?;
         for part in parts {
             let mut runs = self.judge_part(alloc, t, &changed, part)?;
             all.append(&mut runs)?;
@@ -307,6 +308,7 @@ impl RowIndex {
 
     /// What a product changes where a higher row is looked for, as far as a UPG line asks for it.
     fn change_in(&self, alloc: Global, t: Minute, parts: &[Part<'_>]) -> Result<Changed, Oom>
+        requires first { AreFirst [] (lines_in parts.now) }
         ensures changed { list_any upgrades (lines_in parts.now) ≡ true → IfOk result (λ c. IsChanged self.now t (lines_in parts.now) (values_of c.counted.entries) c.upgraded.keys) }
         ensures over { list_any upgrades (lines_in parts.now) ≡ true → IfOk result (λ c. AreOver self.now t (lines_in parts.now) (values_of c.higher.entries)) }
         ensures counted { IfOk result (λ c. AreSeated c.counted.entries) }
@@ -316,7 +318,7 @@ impl RowIndex {
             return self.change_of(alloc, t, &[]);
         }
         let lines = lines_in(alloc, parts)?;
-        self.change_of(alloc, t, lines.as_slice())
+        self.change_first(alloc, t, lines.as_slice())
     }
 
     /// The lines of a product judged one by one, as runs.

@@ -50,14 +50,14 @@ pub struct Run {
 }
 
 impl Run {
-    /// All the zones of a part, of which no line is judged yet.
-    pub fn whole(alloc: Global, zones: &[Zone]) -> Result<Run, Oom>
+    /// All the zones of a part, of which no line is judged yet, with room for so many.
+    pub fn whole(alloc: Global, zones: &[Zone], room: usize) -> Result<Run, Oom>
         ensures zones { IfOk result (λ run. run.zones ≡ zones.now) }
         ensures verdicts { IfOk result (λ run. run.verdicts ≡ []) }
     {
         Ok(Run {
             zones: List::from_slice(alloc, zones)?,
-            verdicts: List::new(alloc),
+            verdicts: List::from_vec(Vec::with_capacity(alloc, room)?),
         })
     }
 
