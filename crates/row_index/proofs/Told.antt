@@ -125,7 +125,7 @@ served_by : (any : Bool) (rows : List Row) (t : ℕ) (all : List Line) (c : Chan
     → AllByRecursion (IsServed rows t all c) all
 served_by any rows t all c is changed over = every_same all (IsOver rows t c) (IsServed rows t all c) (λ l h up. (changed, h up)) over
 
-contrary : (b : Bool) → b ≡ true → b ≡ false → ⊥
+pub contrary : (b : Bool) → b ≡ true → b ≡ false → ⊥
 contrary true h k = cc
 contrary false h k = cc
 
