@@ -1,7 +1,5 @@
 -- One part more.
-use Rattle.std.specs.List.{AllByRecursion}
-use Rattle.hazard_types.specs.declared.line.Line.{Line}
-use Rattle.row_index.specs.Groups.{Serves}
+use Rattle.row_index.specs.Groups.{AreServed}
 use Rattle.row_index.specs.Verdicts.{lines_in, HaveOwnEvents}
 use Rattle.row_index.specs.declared.verdicts.Part.{Part}
 use Rattle.row_index.proofs.Every.{every_at}
@@ -19,7 +17,7 @@ loop-part-preserved c =
     let part = c.part-item.result in
     let lt = c.loop-part-test.true in
     let is = c.part-item.is in
-    let serves = every_at parts (λ (p : Part). AllByRecursion (λ (l : Line). AllByRecursion (Serves rows t all changed l) p.zones.now) p.lines) i part lt is
-        (served rows t parts changed c.in_ok-changed.ensures.changed c.in_ok-changed.ensures.over) in
+    let serves = every_at parts (AreServed rows t all changed) i part lt is
+    (served rows t parts changed c.in_ok-changed.ensures.changed c.in_ok-changed.ensures.over) in
     told_next rows t all parts i part c.loop-part.all.items c.append.new.self.items c.in_ok-runs.runs.items lt is c.in_ok-append.ensures.items c.in_ok-runs.ensures.zones (c.in_ok-runs.ensures.judged all serves)
-        (every_at parts (λ (p : Part). HaveOwnEvents p.lines) i part lt is c.requires.events) c.loop-part.invariant
+    (every_at parts (λ (p : Part). HaveOwnEvents p.lines) i part lt is c.requires.events) c.loop-part.invariant
