@@ -1,6 +1,6 @@
 -- Zones in which a line finds the same.
-use Rattle.std.proofs.Common.{◌≡◌, ◌∙◌, ◌<◌, ◌≤◌, ◌+◌, ◌-◌, ℕ, suc, arith, List, [], ◌∷◌, ◌++◌, append_assoc, append-nil, length-drop, map, take, take_all, drop, length, Bool, true, false, cond, Option, Some, None, OnOk, Result, Ok, Err, refl, ap, sym, subst, rules}
-use Rattle.std.specs.List.{AllByRecursion, flat_map}
+use Rattle.std.proofs.Common.{◌≡◌, ◌∙◌, ◌<◌, ◌≤◌, ◌+◌, ◌-◌, ℕ, suc, arith, List, [], ◌∷◌, ◌++◌, append_assoc, append-nil, length-drop, take, take_all, drop, length, Bool, true, false, cond, Option, Some, None, OnOk, Result, Ok, Err, refl, ap, sym, subst, rules}
+use Rattle.std.specs.List.{AllByRecursion}
 use Rattle.std.specs.Option.{option_eq, option_map}
 use Rattle.std.proofs.lemmas.Grind.{flat_map-append}
 use Rattle.std.proofs.lemmas.List.{map-append, take-append-drop}
@@ -8,14 +8,12 @@ use denote.Enum.Bare.{same_true}
 use Rattle.hazard_types.specs.Places.{Place}
 use Rattle.hazard_types.specs.declared.codes.Action.{Action}
 use Rattle.hazard_types.specs.declared.codes.Action.TheVariants.{New, Con, Exa, Ext, Exb, Upg, Can, Exp, Cor, Rou}
-use Rattle.hazard_types.specs.declared.hazard.Event.{Event}
 use Rattle.hazard_types.specs.declared.line.Line.{Line}
 use Rattle.hazard_types.specs.declared.line.Row.{Row}
 use Rattle.event_life.specs.contracts.life.Breach as breach_type
 use Rattle.event_life.specs.contracts.life.BreachPartialEq.TheImpl as breach
 use Rattle.event_life.specs.declared.life.Around.{Around}
 use Rattle.event_life.specs.declared.life.Breach.{Breach}
-use Rattle.event_life.specs.declared.life.Breach.TheVariants.{Twice}
 use Rattle.event_life.specs.declared.life.Life.{Life}
 use Rattle.event_life.specs.Products.{around_but_higher, breach_in, is_routine, is_upgrade, life_at, life_of, row_at}
 use Rattle.event_life.specs.Table.{first_of, on_life, on_nothing, breach_of_line}

@@ -1,5 +1,5 @@
 -- What is told of the lines of parts, and that a change serves each of them.
-use Rattle.std.proofs.Common.{◌≡◌, ◌∙◌, ◌<◌, ◌+◌, ◌||◌, ℕ, List, [], ◌∷◌, ◌++◌, append-nil, map, take, get_or, length, Bool, true, false, Option, Some, refl, ap, sym, subst}
+use Rattle.std.proofs.Common.{◌≡◌, ◌∙◌, ◌<◌, ◌+◌, ◌||◌, ℕ, List, [], ◌∷◌, ◌++◌, append-nil, map, take, get_or, length, Bool, true, false, Some, refl, ap, sym, subst}
 use Rattle.std.specs.List.{AllByRecursion, flat_map, list_any}
 use Rattle.std.specs.Map.{values_of}
 use Rattle.std.proofs.lemmas.Grind.{flat_map-append}
@@ -15,12 +15,12 @@ use Rattle.row_index.specs.Groups.{AreJudged, AreServed, IsJudged, IsJudgedAt, S
 use Rattle.row_index.specs.Runs.{in_zone}
 use Rattle.row_index.specs.Seating.{upgrades}
 use Rattle.row_index.specs.Steps.{AreHigher, AreOver, IsChanged}
-use Rattle.row_index.specs.Verdicts.{Judged, first_judged, lines_in, said_along, said_at, said_in, spelled, spelled_at, spelled_run, AreApart, AreFound, HaveOwnEvents, IsFound, IsFoundAt}
+use Rattle.row_index.specs.Verdicts.{first_judged, lines_in, said_along, said_at, said_in, spelled, spelled_at, spelled_run, AreApart, AreFound, HaveOwnEvents, IsFound, IsFoundAt}
 use Rattle.row_index.specs.declared.higher.Changed.{Changed}
 use Rattle.row_index.specs.declared.verdicts.Part.{Part}
 use Rattle.row_index.specs.declared.verdicts.Run.{Run}
 use Rattle.row_index.specs.declared.verdicts.Verdict.{Verdict}
-use Rattle.row_index.proofs.Every.{every_both, every_flat, every_joined, every_map, every_same, every_turned}
+use Rattle.row_index.proofs.Every.{every_both, every_flat, every_map, every_same, every_turned}
 
 -- what lines say in zones, with what they find there
 

@@ -1,8 +1,7 @@
 -- All zones of the run find the same, or they are parted.
-use Rattle.std.proofs.Common.{◌≡◌, ◌∙◌, ◌+◌, ◌++◌, ◌∷◌, List, [], OnOk, take, rules, ap, refl, sym, subst}
-use Rattle.std.specs.List.{AllByRecursion}
+use Rattle.std.proofs.Common.{◌≡◌, ◌∙◌, ◌+◌, ◌++◌, ◌∷◌, List, [], OnOk, take, ap, refl, sym, subst}
 use Rattle.hazard_types.specs.Places.{Place}
-use Rattle.row_index.specs.Groups.{AreJudged, IsReady, lines_of, zones_of}
+use Rattle.row_index.specs.Groups.{AreJudged, lines_of, zones_of}
 use Rattle.row_index.specs.declared.verdicts.Verdict.{Verdict}
 use Rattle.row_index.proofs.Groups.{IsPartly, behind, judged_more, ok_so, partly_next, whole_judged, zones_next}
 use Rattle.row_index.proofs.index.RowIndex.put_verdicts.Goals as goal
