@@ -71,6 +71,7 @@ AreServed rows t all c p = AllByRecursion (λ (l : Line). AllByRecursion (Serves
 
 -- The same of a line that is asked about.
 
+-- the change serves it in a zone
 abbrev pub IsServed : List Row → List Line → Asking → Place → Type 0
 IsServed rows all a z = Serves rows a.t all a.changed.now a.line z
 
