@@ -1,6 +1,6 @@
 -- Zones in which a line finds the same.
-use Rattle.std.proofs.Common.{◌≡◌, ◌∙◌, ◌<◌, ◌≤◌, ◌+◌, ◌-◌, ℕ, suc, arith, List, [], ◌∷◌, ◌++◌, append_assoc, append-nil, length-drop, map, take, take_all, drop, length, Bool, true, false, cond, Option, Some, None, OnOk, Result, Ok, Err, refl, ap, sym, subst, rules}
-use Rattle.std.specs.List.{AllByRecursion, flat_map}
+use Rattle.std.proofs.Common.{◌≡◌, ◌∙◌, ◌<◌, ◌≤◌, ◌+◌, ◌-◌, ℕ, suc, arith, List, [], ◌∷◌, ◌++◌, append_assoc, append-nil, length-drop, take, take_all, drop, length, Bool, true, false, cond, Option, Some, None, OnOk, Result, Ok, Err, refl, ap, sym, subst, rules}
+use Rattle.std.specs.List.{AllByRecursion}
 use Rattle.std.specs.Option.{option_eq, option_map}
 use Rattle.std.proofs.lemmas.Grind.{flat_map-append}
 use Rattle.std.proofs.lemmas.List.{map-append, take-append-drop}
@@ -8,14 +8,12 @@ use denote.Enum.Bare.{same_true}
 use Rattle.hazard_types.specs.Places.{Place}
 use Rattle.hazard_types.specs.declared.codes.Action.{Action}
 use Rattle.hazard_types.specs.declared.codes.Action.TheVariants.{New, Con, Exa, Ext, Exb, Upg, Can, Exp, Cor, Rou}
-use Rattle.hazard_types.specs.declared.hazard.Event.{Event}
 use Rattle.hazard_types.specs.declared.line.Line.{Line}
 use Rattle.hazard_types.specs.declared.line.Row.{Row}
 use Rattle.event_life.specs.contracts.life.Breach as breach_type
 use Rattle.event_life.specs.contracts.life.BreachPartialEq.TheImpl as breach
 use Rattle.event_life.specs.declared.life.Around.{Around}
 use Rattle.event_life.specs.declared.life.Breach.{Breach}
-use Rattle.event_life.specs.declared.life.Breach.TheVariants.{Twice}
 use Rattle.event_life.specs.declared.life.Life.{Life}
 use Rattle.event_life.specs.Products.{around_but_higher, breach_in, is_routine, is_upgrade, life_at, life_of, row_at}
 use Rattle.event_life.specs.Table.{first_of, on_life, on_nothing, breach_of_line}
@@ -93,7 +91,7 @@ alike_breach rows t all l z w other same =
     let around = around_but_higher rows t l true in
     sym (other_made rows t all [] (in_zone l z) false other refl)
     ∙ ap (λ (b : Option Breach). cond (is_routine l.action) None b)
-        (zone_breach (life_at rows (in_zone l z)) l z w t around ∙ ap (λ (o : Option Life). breach_of_line o (in_zone l w) t around) same)
+    (zone_breach (life_at rows (in_zone l z)) l z w t around ∙ ap (λ (o : Option Life). breach_of_line o (in_zone l w) t around) same)
     ∙ other_made rows t all [] (in_zone l w) false other refl
 
 alike_judged : (rows : List Row) (t : ℕ) (all : List Line) (v : Verdict) (z w : Place) → is_upgrade v.line.action ≡ false → IsJudgedAt rows t all z v → IsLifeIn rows v.line.event v.found w → IsJudgedAt rows t all w v
@@ -163,10 +161,10 @@ pub zones_next : (total left : List Place) (first : Place) (rest : List Place) (
     → zones_of old ++ left ≡ total → zones_of new ++ behind rest n ≡ total
 zones_next total left first rest n old new r left_is zones_are is h =
     let whole : r.zones ++ behind rest n ≡ left =
-        ap (λ (zs : List Place). zs ++ behind rest n) (zones_are ∙ front_is left first rest n left_is)
-        ∙ ap (λ (zs : List Place). first ∷ (take n rest ++ zs)) (behind_is rest n)
-        ∙ ap (λ (zs : List Place). first ∷ zs) (take-append-drop n rest)
-        ∙ sym left_is in
+    ap (λ (zs : List Place). zs ++ behind rest n) (zones_are ∙ front_is left first rest n left_is)
+    ∙ ap (λ (zs : List Place). first ∷ (take n rest ++ zs)) (behind_is rest n)
+    ∙ ap (λ (zs : List Place). first ∷ zs) (take-append-drop n rest)
+    ∙ sym left_is in
     ap (λ (zs : List Place). zs ++ behind rest n) (zones_more old new r is)
     ∙ append_assoc (zones_of old) r.zones (behind rest n)
     ∙ ap (λ (zs : List Place). zones_of old ++ zs) whole
@@ -187,7 +185,7 @@ pub front_judged : (rows : List Row) (t : ℕ) (all : List Line) (c : Changed) (
 front_judged rows t all c line verdicts v left first rest n r left_is zones_are verdicts_are line_is finds ready =
     let both = ready_first rows t all c line verdicts left first rest left_is ready in
     group rows t all c line verdicts v (first ∷ take n rest) r (zones_are ∙ front_is left first rest n left_is) verdicts_are line_is
-        (both.0, every_take rest (IsReady rows t all c line verdicts) n both.1) (finds (ready_serves rows t all c line verdicts (first ∷ rest) both))
+    (both.0, every_take rest (IsReady rows t all c line verdicts) n both.1) (finds (ready_serves rows t all c line verdicts (first ∷ rest) both))
 
 -- what is behind it is as ready as all of it was
 pub behind_ready : (rows : List Row) (t : ℕ) (all : List Line) (c : Changed) (line : Line) (verdicts : List Verdict) (left : List Place) (first : Place) (rest : List Place) (n : ℕ) → left ≡ first ∷ rest
@@ -204,7 +202,7 @@ pub whole_judged : (rows : List Row) (t : ℕ) (all : List Line) (c : Changed) (
 whole_judged rows t all c line verdicts v left first rest n r left_is all_of_it zones_are verdicts_are line_is finds ready =
     let both = ready_first rows t all c line verdicts left first rest left_is ready in
     group rows t all c line verdicts v (first ∷ rest) r (zones_are ∙ left_is) verdicts_are line_is both
-        (subst (λ (zs : List Place). AllByRecursion (λ (z : Place). IsJudgedAt rows t all z v) (first ∷ zs)) (take_all n rest all_of_it) (finds (ready_serves rows t all c line verdicts (first ∷ rest) both)))
+    (subst (λ (zs : List Place). AllByRecursion (λ (z : Place). IsJudgedAt rows t all z v) (first ∷ zs)) (take_all n rest all_of_it) (finds (ready_serves rows t all c line verdicts (first ∷ rest) both)))
 
 pub ok_so : {T E : Type 0} (r : Result T E) (P Q : Type 0) → (P → Q) → OnOk r P → OnOk r Q
 ok_so (Ok x) P Q f h = f h
@@ -223,7 +221,7 @@ line_next rows t all c line lines rest more out new run is puts before =
     let left : AreLeft rows t all c line lines (run ∷ more) out = subst (λ (runs : List Run). AreLeft rows t all c line lines runs out) is before in
     let said = left.judged.0.said in
     let ready = every_joined run.zones (λ (z : Place). AllByRecursion (IsJudgedAt rows t all z) run.verdicts) (Serves rows t all c line) (IsReady rows t all c line run.verdicts) (λ z each serves. (each, serves))
-        left.judged.0.each (every_front run.zones (zones_of more) (Serves rows t all c line) left.serves) in
+    left.judged.0.each (every_front run.zones (zones_of more) (Serves rows t all c line) left.serves) in
     record {
       judged = left.judged.1;
       serves = every_back run.zones (zones_of more) (Serves rows t all c line) left.serves;

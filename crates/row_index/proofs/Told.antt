@@ -1,5 +1,5 @@
 -- What is told of the lines of parts, and that a change serves each of them.
-use Rattle.std.proofs.Common.{◌≡◌, ◌∙◌, ◌<◌, ◌+◌, ◌||◌, ℕ, List, [], ◌∷◌, ◌++◌, append-nil, map, take, get_or, length, Bool, true, false, Option, Some, refl, ap, sym, subst}
+use Rattle.std.proofs.Common.{◌≡◌, ◌∙◌, ◌<◌, ◌+◌, ◌||◌, ℕ, List, [], ◌∷◌, ◌++◌, append-nil, map, take, get_or, length, Bool, true, false, Some, refl, ap, sym, subst}
 use Rattle.std.specs.List.{AllByRecursion, flat_map, list_any}
 use Rattle.std.specs.Map.{values_of}
 use Rattle.std.proofs.lemmas.Grind.{flat_map-append}
@@ -11,16 +11,16 @@ use Rattle.hazard_types.specs.declared.line.Line.{Line}
 use Rattle.hazard_types.specs.declared.line.Row.{Row}
 use Rattle.event_life.specs.Higher.{family_of}
 use Rattle.event_life.specs.Products.{row_at}
-use Rattle.row_index.specs.Groups.{AreJudged, IsJudged, IsJudgedAt, Serves, has_upgrade, lines_of, zones_of}
+use Rattle.row_index.specs.Groups.{AreJudged, AreServed, IsJudged, IsJudgedAt, Serves, has_upgrade, lines_of, zones_of}
 use Rattle.row_index.specs.Runs.{in_zone}
 use Rattle.row_index.specs.Seating.{upgrades}
 use Rattle.row_index.specs.Steps.{AreHigher, AreOver, IsChanged}
-use Rattle.row_index.specs.Verdicts.{Judged, first_judged, lines_in, said_along, said_at, said_in, spelled, spelled_at, spelled_run, AreApart, AreFound, HaveOwnEvents, IsFound, IsFoundAt}
+use Rattle.row_index.specs.Verdicts.{first_judged, lines_in, said_along, said_at, said_in, spelled, spelled_at, spelled_run, AreApart, AreFound, HaveOwnEvents, IsFound, IsFoundAt}
 use Rattle.row_index.specs.declared.higher.Changed.{Changed}
 use Rattle.row_index.specs.declared.verdicts.Part.{Part}
 use Rattle.row_index.specs.declared.verdicts.Run.{Run}
 use Rattle.row_index.specs.declared.verdicts.Verdict.{Verdict}
-use Rattle.row_index.proofs.Every.{every_both, every_flat, every_joined, every_map, every_same, every_turned}
+use Rattle.row_index.proofs.Every.{every_both, every_flat, every_map, every_same, every_turned}
 
 -- what lines say in zones, with what they find there
 
@@ -115,44 +115,44 @@ each_upgrades (l ∷ lines) = (
       (λ m h up. some_by (upgrades l) (list_any upgrades lines) (h up)) (each_upgrades lines),
 )
 
-abbrev IsServed : List Row → ℕ → List Line → Changed → Line → Type 0
-IsServed rows t all c l = Serves rows t all c l l.zone
+abbrev IsServedOwn : List Row → ℕ → List Line → Changed → Line → Type 0
+IsServedOwn rows t all c l = Serves rows t all c l l.zone
 
 abbrev IsOver : List Row → ℕ → Changed → Line → Type 0
 IsOver rows t c l = upgrades l ≡ true → (own : Row) → row_at rows l.event l.zone ≡ Some own → AreHigher rows t own (family_of (facts_of l.event.hazard)) (values_of c.higher.entries)
 
 served_by : (any : Bool) (rows : List Row) (t : ℕ) (all : List Line) (c : Changed) → list_any upgrades all ≡ any → IsChanged rows t all (values_of c.counted.entries) c.upgraded.keys → AreOver rows t all (values_of c.higher.entries)
-    → AllByRecursion (IsServed rows t all c) all
-served_by any rows t all c is changed over = every_same all (IsOver rows t c) (IsServed rows t all c) (λ l h up. (changed, h up)) over
+    → AllByRecursion (IsServedOwn rows t all c) all
+served_by any rows t all c is changed over = every_same all (IsOver rows t c) (IsServedOwn rows t all c) (λ l h up. (changed, h up)) over
 
-contrary : (b : Bool) → b ≡ true → b ≡ false → ⊥
+pub contrary : (b : Bool) → b ≡ true → b ≡ false → ⊥
 contrary true h k = cc
 contrary false h k = cc
 
-unserved : (rows : List Row) (t : ℕ) (all : List Line) (c : Changed) → list_any upgrades all ≡ false → AllByRecursion (IsServed rows t all c) all
+unserved : (rows : List Row) (t : ℕ) (all : List Line) (c : Changed) → list_any upgrades all ≡ false → AllByRecursion (IsServedOwn rows t all c) all
 unserved rows t all c none =
-    every_same all (λ (l : Line). upgrades l ≡ true → list_any upgrades all ≡ true) (IsServed rows t all c) (λ l h up. absurd (contrary (list_any upgrades all) (h up) none)) (each_upgrades all)
+    every_same all (λ (l : Line). upgrades l ≡ true → list_any upgrades all ≡ true) (IsServedOwn rows t all c) (λ l h up. absurd (contrary (list_any upgrades all) (h up) none)) (each_upgrades all)
 
 served_lines : (any : Bool) (rows : List Row) (t : ℕ) (all : List Line) (c : Changed) → list_any upgrades all ≡ any
     → (list_any upgrades all ≡ true → IsChanged rows t all (values_of c.counted.entries) c.upgraded.keys) → (list_any upgrades all ≡ true → AreOver rows t all (values_of c.higher.entries))
-    → AllByRecursion (IsServed rows t all c) all
+    → AllByRecursion (IsServedOwn rows t all c) all
 served_lines true rows t all c is changed over = served_by true rows t all c is (changed is) (over is)
 served_lines false rows t all c is changed over = unserved rows t all c is
 
-served_part : (rows : List Row) (t : ℕ) (all : List Line) (c : Changed) (p : Part) → AllByRecursion (IsServed rows t all c) (said_in p) → AllByRecursion (λ (l : Line). AllByRecursion (Serves rows t all c l) p.zones.now) p.lines
+served_part : (rows : List Row) (t : ℕ) (all : List Line) (c : Changed) (p : Part) → AllByRecursion (IsServedOwn rows t all c) (said_in p) → AreServed rows t all c p
 served_part rows t all c p served =
-    let along : AllByRecursion (λ (z : Place). AllByRecursion (IsServed rows t all c) (said_at p.lines z)) p.zones.now = every_flat p.zones.now (said_at p.lines) (IsServed rows t all c) served in
+    let along : AllByRecursion (λ (z : Place). AllByRecursion (IsServedOwn rows t all c) (said_at p.lines z)) p.zones.now = every_flat p.zones.now (said_at p.lines) (IsServedOwn rows t all c) served in
     every_turned p.zones.now p.lines (λ (z : Place) (l : Line). Serves rows t all c l z)
-        (every_same p.zones.now (λ (z : Place). AllByRecursion (IsServed rows t all c) (said_at p.lines z)) (λ (z : Place). AllByRecursion (λ (l : Line). Serves rows t all c l z) p.lines)
-        (λ z h. every_map p.lines (λ (l : Line). in_zone l z) (IsServed rows t all c) h) along)
+    (every_same p.zones.now (λ (z : Place). AllByRecursion (IsServedOwn rows t all c) (said_at p.lines z)) (λ (z : Place). AllByRecursion (λ (l : Line). Serves rows t all c l z) p.lines)
+    (λ z h. every_map p.lines (λ (l : Line). in_zone l z) (IsServedOwn rows t all c) h) along)
 
 pub served : (rows : List Row) (t : ℕ) (parts : List Part) (c : Changed)
     → (list_any upgrades (lines_in parts) ≡ true → IsChanged rows t (lines_in parts) (values_of c.counted.entries) c.upgraded.keys) → (list_any upgrades (lines_in parts) ≡ true → AreOver rows t (lines_in parts) (values_of c.higher.entries))
-    → AllByRecursion (λ (p : Part). AllByRecursion (λ (l : Line). AllByRecursion (Serves rows t (lines_in parts) c l) p.zones.now) p.lines) parts
+    → AllByRecursion (AreServed rows t (lines_in parts) c) parts
 served rows t parts c changed over =
-    every_same parts (λ (p : Part). AllByRecursion (IsServed rows t (lines_in parts) c) (said_in p)) (λ (p : Part). AllByRecursion (λ (l : Line). AllByRecursion (Serves rows t (lines_in parts) c l) p.zones.now) p.lines)
-        (λ p h. served_part rows t (lines_in parts) c p h)
-        (every_flat parts said_in (IsServed rows t (lines_in parts) c) (served_lines (list_any upgrades (lines_in parts)) rows t (lines_in parts) c refl changed over))
+    every_same parts (λ (p : Part). AllByRecursion (IsServedOwn rows t (lines_in parts) c) (said_in p)) (AreServed rows t (lines_in parts) c)
+    (λ p h. served_part rows t (lines_in parts) c p h)
+    (every_flat parts said_in (IsServedOwn rows t (lines_in parts) c) (served_lines (list_any upgrades (lines_in parts)) rows t (lines_in parts) c refl changed over))
 
 -- parts without such a line say none
 

@@ -1,5 +1,5 @@
 -- Lines of a product judged for all zones that find the same at once.
-use Rattle.std.specs.Prelude.{◌≡◌, ◌++◌, ◌∷◌, ℕ, Bool, true, false, List, [], flat_map, map, Option, Some, option_map}
+use Rattle.std.specs.Prelude.{◌≡◌, ◌++◌, ◌∷◌, ℕ, Bool, true, List, [], flat_map, map, Option, Some, option_map}
 use Rattle.std.specs.List.{AllByRecursion, list_any}
 use Rattle.std.specs.Map.{values_of}
 use Rattle.hazard_types.specs.Hazards.{facts_of}
@@ -7,7 +7,6 @@ use Rattle.hazard_types.specs.Places.{Place}
 use Rattle.hazard_types.specs.declared.hazard.Event.{Event}
 use Rattle.hazard_types.specs.declared.line.Line.{Line}
 use Rattle.hazard_types.specs.declared.line.Row.{Row}
-use Rattle.event_life.specs.declared.life.Around.{Around}
 use Rattle.event_life.specs.declared.life.Life.{Life}
 use Rattle.event_life.specs.Higher.{family_of}
 use Rattle.event_life.specs.Products.{breach_in, is_upgrade, life_of, row_at}
@@ -17,6 +16,7 @@ use Rattle.row_index.specs.Seating.{AreSeated, upgrades}
 use Rattle.row_index.specs.Steps.{AreHigher, IsChanged, asked_around}
 use Rattle.row_index.specs.Verdicts.{IsFoundAt}
 use Rattle.row_index.specs.declared.higher.Changed.{Changed}
+use Rattle.row_index.specs.declared.judging.Asking.{Asking}
 use Rattle.row_index.specs.declared.verdicts.Part.{Part}
 use Rattle.row_index.specs.declared.verdicts.Run.{Run}
 use Rattle.row_index.specs.declared.verdicts.Verdict.{Verdict}
@@ -30,11 +30,11 @@ abbrev pub has_upgrade : Part → Bool
 has_upgrade p = list_any upgrades p.lines
 
 -- what a line is judged by in any zone: the rows of its event, and what stands around it; the rows of the change are at their seats
-pub record IsAsking (rows : List Row) (t : ℕ) (line : Line) (part : List Row) (around : Around) (c : Changed) : Type 0 where
-  pub own : AreRowsOf rows line.event part
-  pub stands : around ≡ asked_around line.action rows t line true
-  pub counted : AreSeated c.counted.entries
-  pub higher : AreSeated c.higher.entries
+pub record IsAsking (rows : List Row) (a : Asking) : Type 0 where
+  pub own : AreRowsOf rows a.line.event a.rows
+  pub stands : a.around ≡ asked_around a.line.action rows a.t a.line true
+  pub counted : AreSeated a.changed.now.counted.entries
+  pub higher : AreSeated a.changed.now.higher.entries
 
 -- in a zone the change serves a line, if it is a UPG line: it is that of the product's lines, with the rows above the line's row
 abbrev pub Serves : List Row → ℕ → List Line → Changed → Line → Place → Type 0
@@ -64,3 +64,25 @@ AreJudged rows t all lines runs = AllByRecursion (IsJudged rows t all lines) run
 -- the zones of runs
 abbrev pub zones_of : List Run → List Place
 zones_of runs = flat_map (λ (r : Run). r.zones) runs
+
+-- the change serves each line of a part in each of its zones
+abbrev pub AreServed : List Row → ℕ → List Line → Changed → Part → Type 0
+AreServed rows t all c p = AllByRecursion (λ (l : Line). AllByRecursion (Serves rows t all c l) p.zones.now) p.lines
+
+-- The same of a line that is asked about.
+
+-- the change serves it in a zone
+abbrev pub IsServed : List Row → List Line → Asking → Place → Type 0
+IsServed rows all a z = Serves rows a.t all a.changed.now a.line z
+
+-- it finds this in a zone
+abbrev pub IsAlike : List Row → List Line → Asking → Verdict → Place → Type 0
+IsAlike rows all a v z = IsJudgedAt rows a.t all z v
+
+-- these lines were judged in a zone, and it is served there
+abbrev pub IsNext : List Row → List Line → Asking → List Verdict → Place → Type 0
+IsNext rows all a verdicts z = IsReady rows a.t all a.changed.now a.line verdicts z
+
+-- these lines and then it were judged in each zone of the runs
+abbrev pub AreLonger : List Row → List Line → Asking → List Verdict → List Run → Type 0
+AreLonger rows all a verdicts runs = AreJudged rows a.t all (lines_of verdicts ++ a.line ∷ []) runs

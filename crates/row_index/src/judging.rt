@@ -6,7 +6,7 @@ ghost use Rattle.std.specs.Map.{values_of};
 ghost use Rattle.hazard_types.specs.Places.{Place};
 ghost use Rattle.hazard_types.specs.declared.line.Line.{Line as LineValue};
 ghost use Rattle.event_life.specs.Products.{breach_in, judged};
-ghost use Rattle.row_index.specs.Groups.{AreJudged, IsAsking, IsJudgedAt, IsLifeIn, IsReady, Serves, has_upgrade, lines_of, zones_of};
+ghost use Rattle.row_index.specs.Groups.{AreJudged, AreLonger, AreServed, IsAlike, IsAsking, IsLifeIn, IsNext, IsServed, Serves, has_upgrade, zones_of};
 ghost use Rattle.row_index.specs.Runs.{in_zone, same_life};
 ghost use Rattle.row_index.specs.Seating.{AreSeated, upgrades};
 ghost use Rattle.row_index.specs.Steps.{AreOver, IsChanged};
@@ -85,10 +85,11 @@ fn with_verdict(run: Run, verdict: &Verdict) -> Result<Run, Oom>
 impl RowIndex {
     /// What a line finds in a zone.
     fn verdict_at(&self, asking: &Asking<'_>, near: &mut usize, zone: &Zone) -> Verdict
-        requires { IsAsking self.now asking.now.t asking.now.line asking.now.rows asking.now.around asking.now.changed.now }
+        requires { IsAsking self.now asking.now }
         ensures line { result.line ≡ asking.now.line }
         ensures found { IsLifeIn self.now asking.now.line.event result.found zone.now }
-        ensures breach { (all : Seq LineValue) → Serves self.now asking.now.t all asking.now.changed.now asking.now.line zone.now → result.breach ≡ breach_in self.now asking.now.t all [] (in_zone asking.now.line zone.now) }
+        ensures breach { (all : Seq LineValue) → IsServed self.now all asking.now zone.now
+            → result.breach ≡ breach_in self.now asking.now.t all [] (in_zone asking.now.line zone.now) }
     {
         let line = in_zone(&asking.line, zone);
         let found = life_of(asking.rows.life_at(near, &line.event, zone));
@@ -116,11 +117,11 @@ impl RowIndex {
         verdict: &Verdict,
         zones: &[Zone],
     ) -> usize
-        requires asking { IsAsking self.now asking.now.t asking.now.line asking.now.rows asking.now.around asking.now.changed.now }
+        requires asking { IsAsking self.now asking.now }
         requires line { verdict.now.line ≡ asking.now.line }
         ensures within { result ≤ length zones.now }
-        ensures judged { (all : Seq LineValue) → AllByRecursion (Serves self.now asking.now.t all asking.now.changed.now asking.now.line) zones.now
-            → AllByRecursion (λ z. IsJudgedAt self.now asking.now.t all z verdict.now) (take result zones.now) }
+        ensures judged { (all : Seq LineValue) → AllByRecursion (IsServed self.now all asking.now) zones.now
+            → AllByRecursion (IsAlike self.now all asking.now verdict.now) (take result zones.now) }
     {
         let mut count = 0;
         for zone in zones {
@@ -141,12 +142,12 @@ impl RowIndex {
         verdict: &Verdict,
         zones: &[Zone],
     ) -> usize
-        requires asking { IsAsking self.now asking.now.t asking.now.line asking.now.rows asking.now.around asking.now.changed.now }
+        requires asking { IsAsking self.now asking.now }
         requires line { verdict.now.line ≡ asking.now.line }
         ensures within { result ≤ length zones.now }
-        ensures judged { (all : Seq LineValue) (first : Place) → IsJudgedAt self.now asking.now.t all first verdict.now
-            → AllByRecursion (Serves self.now asking.now.t all asking.now.changed.now asking.now.line) zones.now
-            → AllByRecursion (λ z. IsJudgedAt self.now asking.now.t all z verdict.now) (take result zones.now) }
+        ensures judged { (all : Seq LineValue) (first : Place) → IsAlike self.now all asking.now verdict.now first
+            → AllByRecursion (IsServed self.now all asking.now) zones.now
+            → AllByRecursion (IsAlike self.now all asking.now verdict.now) (take result zones.now) }
     {
         if is_upgrade(&asking.line.action) {
             return self.count_upgraded(asking, near, verdict, zones);
@@ -169,11 +170,11 @@ impl RowIndex {
         first: &Zone,
         rest: &[Zone],
     ) -> (Verdict, usize)
-        requires { IsAsking self.now asking.now.t asking.now.line asking.now.rows asking.now.around asking.now.changed.now }
+        requires { IsAsking self.now asking.now }
         ensures line { result.0.line ≡ asking.now.line }
         ensures within { result.1 ≤ length rest.now }
-        ensures judged { (all : Seq LineValue) → AllByRecursion (Serves self.now asking.now.t all asking.now.changed.now asking.now.line) (first.now ∷ rest.now)
-            → AllByRecursion (λ z. IsJudgedAt self.now asking.now.t all z result.0) (first.now ∷ take result.1 rest.now) }
+        ensures judged { (all : Seq LineValue) → AllByRecursion (IsServed self.now all asking.now) (first.now ∷ rest.now)
+            → AllByRecursion (IsAlike self.now all asking.now result.0) (first.now ∷ take result.1 rest.now) }
     {
         let verdict = self.verdict_at(asking, near, first);
         let more = self.count_of(asking, near, &verdict, rest);
@@ -190,11 +191,11 @@ impl RowIndex {
         zones: &[Zone],
         out: &mut Vec<Run>,
     ) -> Result<(), Oom>
-        requires { IsAsking self.now asking.now.t asking.now.line asking.now.rows asking.now.around asking.now.changed.now }
+        requires { IsAsking self.now asking.now }
         ensures zones { OnOk result (zones_of out.new.items ≡ zones_of out.old.items ++ zones.now) }
-        ensures judged { (all : Seq LineValue) → AllByRecursion (IsReady self.now asking.now.t all asking.now.changed.now asking.now.line verdicts.now) zones.now
-            → AreJudged self.now asking.now.t all (lines_of verdicts.now ++ asking.now.line ∷ []) out.old.items
-            → OnOk result (AreJudged self.now asking.now.t all (lines_of verdicts.now ++ asking.now.line ∷ []) out.new.items) }
+        ensures judged { (all : Seq LineValue) → AllByRecursion (IsNext self.now all asking.now verdicts.now) zones.now
+            → AreLonger self.now all asking.now verdicts.now out.old.items
+            → OnOk result (AreLonger self.now all asking.now verdicts.now out.new.items) }
     {
         let mut left = zones;
         while let Some((first, rest)) = left.split_first() {
@@ -214,11 +215,11 @@ impl RowIndex {
         run: Run,
         out: &mut Vec<Run>,
     ) -> Result<(), Oom>
-        requires { IsAsking self.now asking.now.t asking.now.line asking.now.rows asking.now.around asking.now.changed.now }
+        requires { IsAsking self.now asking.now }
         ensures zones { OnOk result (zones_of out.new.items ≡ zones_of out.old.items ++ run.zones) }
-        ensures judged { (all : Seq LineValue) → AllByRecursion (IsReady self.now asking.now.t all asking.now.changed.now asking.now.line run.verdicts) run.zones
-            → AreJudged self.now asking.now.t all (lines_of run.verdicts ++ asking.now.line ∷ []) out.old.items
-            → OnOk result (AreJudged self.now asking.now.t all (lines_of run.verdicts ++ asking.now.line ∷ []) out.new.items) }
+        ensures judged { (all : Seq LineValue) → AllByRecursion (IsNext self.now all asking.now run.verdicts) run.zones
+            → AreLonger self.now all asking.now run.verdicts out.old.items
+            → OnOk result (AreLonger self.now all asking.now run.verdicts out.new.items) }
     {
         let zones = run.zones.as_slice();
         let Some((first, rest)) = zones.split_first() else {
@@ -278,7 +279,7 @@ impl RowIndex {
         requires counted { AreSeated changed.now.counted.entries }
         requires higher { AreSeated changed.now.higher.entries }
         ensures zones { IfOk result (λ runs. zones_of runs.items ≡ part.now.zones.now) }
-        ensures judged { (all : Seq LineValue) → AllByRecursion (λ (l : LineValue). AllByRecursion (Serves self.now t all changed.now l) part.now.zones.now) part.now.lines
+        ensures judged { (all : Seq LineValue) → AreServed self.now t all changed.now part.now
             → IfOk result (λ runs. AreJudged self.now t all part.now.lines runs.items) }
     {
         let mut runs = Vec::with_capacity(alloc, 1)?;
@@ -309,8 +310,10 @@ impl RowIndex {
     /// What a product changes where a higher row is looked for, as far as a UPG line asks for it.
     fn change_in(&self, alloc: Global, t: Minute, parts: &[Part<'_>]) -> Result<Changed, Oom>
         requires first { AreFirst [] (lines_in parts.now) }
-        ensures changed { list_any upgrades (lines_in parts.now) ≡ true → IfOk result (λ c. IsChanged self.now t (lines_in parts.now) (values_of c.counted.entries) c.upgraded.keys) }
-        ensures over { list_any upgrades (lines_in parts.now) ≡ true → IfOk result (λ c. AreOver self.now t (lines_in parts.now) (values_of c.higher.entries)) }
+        ensures changed { list_any upgrades (lines_in parts.now) ≡ true
+            → IfOk result (λ c. IsChanged self.now t (lines_in parts.now) (values_of c.counted.entries) c.upgraded.keys) }
+        ensures over { list_any upgrades (lines_in parts.now) ≡ true
+            → IfOk result (λ c. AreOver self.now t (lines_in parts.now) (values_of c.higher.entries)) }
         ensures counted { IfOk result (λ c. AreSeated c.counted.entries) }
         ensures higher { IfOk result (λ c. AreSeated c.higher.entries) }
     {

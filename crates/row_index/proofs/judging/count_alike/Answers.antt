@@ -1,5 +1,5 @@
 -- One zone more.
-use Rattle.std.proofs.Common.{◌∙◌, ◌+◌, ap, rules, sym}
+use Rattle.std.proofs.Common.{◌∙◌, rules, sym}
 use Rattle.row_index.specs.Groups.{IsLifeIn}
 use Rattle.row_index.proofs.Every.{every_next}
 use Rattle.row_index.proofs.Runs.{lives_one}

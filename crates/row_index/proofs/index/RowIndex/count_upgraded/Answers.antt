@@ -1,5 +1,5 @@
 -- One zone more.
-use Rattle.std.proofs.Common.{◌≡◌, ℕ, take, rules, subst, sym}
+use Rattle.std.proofs.Common.{ℕ, take, rules, subst, sym}
 use Rattle.std.specs.List.{AllByRecursion}
 use Rattle.hazard_types.specs.Places.{Place}
 use Rattle.row_index.specs.Groups.{IsJudgedAt, Serves}

@@ -1,9 +1,9 @@
 -- One run more.
-use Rattle.std.proofs.Common.{◌≡◌, ◌∙◌, ◌++◌, ◌∷◌, List, [], ap, sym, subst}
+use Rattle.std.proofs.Common.{◌∙◌, ◌++◌, ◌∷◌, List, [], ap, sym, subst}
 use Rattle.std.specs.List.{AllByRecursion}
 use Rattle.row_index.specs.Groups.{AreJudged, Serves, zones_of}
 use Rattle.row_index.specs.declared.verdicts.Run.{Run}
-use Rattle.row_index.proofs.Groups.{AreLeft, line_next, runs_done, zones_left}
+use Rattle.row_index.proofs.Groups.{line_next, runs_done, zones_left}
 use Rattle.row_index.proofs.index.RowIndex.judge_line.Goals as goal
 
 pub loop-run-init : goal.loop-run-init

@@ -1,5 +1,5 @@
 -- One line more.
-use Rattle.std.proofs.Common.{◌≡◌, ◌∙◌, ◌+◌, ◌++◌, ◌∷◌, List, [], append-nil, take, take_all, ap, sym, subst}
+use Rattle.std.proofs.Common.{◌∙◌, ◌+◌, ◌++◌, List, take, take_all, ap, sym, subst}
 use Rattle.std.specs.List.{AllByRecursion}
 use Rattle.hazard_types.specs.Places.{Place}
 use Rattle.hazard_types.specs.declared.line.Line.{Line}
@@ -46,4 +46,4 @@ returns-clause-judged c = λ all serves.
     let lines = c.as_slice-line-items.result.now in
     let lines_are = c.as_slice-line-items.ensures in
     subst (λ (ls : List Line). AreJudged c.args.self.now c.args.t all ls c.loop-line.runs.items) (take_all c.loop-line.line-index lines c.loop-line-test.false ∙ lines_are)
-        (c.loop-line.invariant.judged all (subst (λ (ls : List Line). AllByRecursion (λ (x : Line). AllByRecursion (Serves c.args.self.now c.args.t all c.args.changed.now x) zones) ls) (sym lines_are) serves))
+    (c.loop-line.invariant.judged all (subst (λ (ls : List Line). AllByRecursion (λ (x : Line). AllByRecursion (Serves c.args.self.now c.args.t all c.args.changed.now x) zones) ls) (sym lines_are) serves))

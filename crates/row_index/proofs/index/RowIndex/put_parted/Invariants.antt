@@ -1,5 +1,5 @@
 -- the zones so far, with those that are left, are all, and the line was judged in those so far
-use Rattle.std.proofs.Common.{◌≡◌, ◌++◌, ◌∷◌, [], ℕ, List, length}
+use Rattle.std.proofs.Common.{◌≡◌, ◌++◌, ◌∷◌, [], List, length}
 use Rattle.std.specs.List.{AllByRecursion}
 use Rattle.hazard_types.specs.declared.line.Line.{Line}
 use Rattle.row_index.specs.Groups.{AreJudged, IsReady, lines_of, zones_of}
