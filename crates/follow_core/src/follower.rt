@@ -6,14 +6,14 @@ ghost use Rattle.event_life.specs.Products.{rows_of};
 ghost use Rattle.event_life.specs.Shown.{shown_at};
 ghost use Rattle.product_decoder.specs.Decoded.{decoded_of};
 ghost use Rattle.product_decoder.specs.ReaderModel.{product_of};
+ghost use Rattle.row_index.specs.Verdicts.{spelled, AreApart, AreFound};
 ghost use Rattle.follow_core.specs.Hearing.{place_of, answer_to, having_heard};
 ghost use Rattle.follow_core.specs.Schedule.{Event, Delivered, run, begun, answer_at, HasLostNothing};
 
-use event_life::Breach;
-use hazard_types::{Class, Line, List, Minute, Oom, Or, Row};
+use hazard_types::{Class, List, Minute, Oom, Or, Row};
 use product_decoder::judged_by_frame;
 use product_frame::{Frame, FrameFault, read_frame};
-use row_index::RowIndex;
+use row_index::{RowIndex, Run};
 use std::alloc::Global;
 use std::marker::Model;
 use std::snapshot::Snapshot;
@@ -86,11 +86,13 @@ impl Follower {
         &mut self,
         alloc: Global,
         frame: &Frame,
-        judged: &[(Line, Option<Breach>)],
+        judged: &[Run],
     ) -> Result<(), Oom>
         requires few { place_of self.old < 8192 }
-        requires judged { judged.now ≡ judged_product (rows_of self.old.products)
+        requires judged { spelled judged.now ≡ judged_product (rows_of self.old.products)
             (product_of self.old.office self.old.class (decoded_of frame.now)) }
+        requires found { AreFound (rows_of self.old.products) judged.now }
+        requires apart { AreApart judged.now }
         ensures office { self.new.office ≡ self.old.office }
         ensures class { self.new.class ≡ self.old.class }
         ensures ok { OnOk result (self.new.products ≡ self.old.products
@@ -101,7 +103,7 @@ impl Follower {
         let Some(rows) = self.rows.take() else {
             return Err(Oom);
         };
-        let after = rows.leave(alloc, frame.issue, judged)?;
+        let after = rows.leave_runs(alloc, frame.issue, judged)?;
         self.heard.push_reserved(Snapshot::of(frame));
         self.place += 1;
         self.rows = Some(after);
