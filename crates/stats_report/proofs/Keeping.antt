@@ -7,14 +7,15 @@ use Rattle.hazard_types.specs.Orders.{by_hazard, by_event}
 use Rattle.hazard_types.specs.Places.{by_place}
 use Rattle.hazard_types.specs.declared.line.Line.{Line}
 use Rattle.hazard_types.specs.declared.line.Row.{Row}
-use Rattle.event_life.specs.declared.life.Breach.{Breach}
 use Rattle.event_life.specs.Lives.{judged_product}
-use Rattle.event_life.specs.Products.{Product, judged, lawful_of, put_all, lines_of, rows_after, rows_with, rows_of}
+use Rattle.event_life.specs.Products.{Product, lawful_of, put_all, rows_after, rows_with, rows_of}
 use Rattle.product_decoder.specs.Openings.{lawful_lines, openings_with, openings_from, openings_of}
 use Rattle.product_decoder.specs.ReaderModel.{product_of}
 use Rattle.product_decoder.specs.declared.types.Decoded.{Decoded}
 use Rattle.product_decoder.specs.declared.types.Opening.{Opening}
 use Rattle.product_frame.specs.declared.frame.FrameFault.{FrameFault}
+use Rattle.row_index.specs.Verdicts.{Judged, AreFound}
+use Rattle.row_index.specs.declared.verdicts.Run.{Run}
 use Rattle.archive_report.specs.declared.words.Asked.{Asked}
 use Rattle.stats_report.specs.Minutes.{greatest}
 use Rattle.stats_report.specs.Spells.{no_sums, Kept, kept_of, moment_of}
@@ -66,23 +67,24 @@ openings_next : (products : List Product) (p : Product) → openings_of (product
 openings_next products p = openings_push [] products p
 
 -- the rows that the lawful lines of a product leave are those after it
-rows_left : (rows : List Row) (p : Product) (lines : List Line) (judges : List (Line × Option Breach)) → lines ≡ lines_of rows p.issue p.said → judges ≡ judged rows p.issue lines
-    → put_all rows p.issue (lawful_of judges) rows ≡ rows_with rows p
+rows_left : (rows : List Row) (p : Product) (judges : List Judged) → judges ≡ judged_product rows p → put_all rows p.issue (lawful_of judges) rows ≡ rows_with rows p
 unfolding rows_after
-rows_left rows p lines judges lines_are judges_are = ap (λ (js : List (Line × Option Breach)). put_all rows p.issue (lawful_of js) rows) (judges_are ∙ ap (judged rows p.issue) lines_are)
+rows_left rows p judges is = ap (λ (js : List Judged). put_all rows p.issue (lawful_of js) rows) is
 
 -- what was done with the judged lines of a product is what the product does
-pub takes_told : (stamp : ℕ) (p : Product) (old new : Tally) (lines : List Line) (judges : List (Line × Option Breach)) → lines ≡ lines_of old.rows p.issue p.said → judges ≡ judged old.rows p.issue lines
+pub takes_told : (stamp : ℕ) (p : Product) (old new : Tally) (judges : List Judged) → judges ≡ judged_product old.rows p
     → new.rows ≡ put_all old.rows p.issue (lawful_of judges) old.rows → new.latest ≡ max old.latest p.issue → TakesLines (moment_of stamp new.latest p.issue) judges (kept_of old.standing) (kept_of new.standing)
     → (new.count ≡ old.count) × (new.faults ≡ old.faults) → TakesOne stamp p old new
-takes_told stamp p old new lines judges lines_are judges_are rows latest standing same =
-    let all : judges ≡ judged_product old.rows p = judges_are ∙ ap (judged old.rows p.issue) lines_are in
-    record {
-      rows = rows ∙ rows_left old.rows p lines judges lines_are judges_are;
-      latest = latest;
-      standing = subst (λ (js : List (Line × Option Breach)). TakesLines (moment_of stamp new.latest p.issue) js (kept_of old.standing) (kept_of new.standing)) all standing;
-      same = same;
-    }
+takes_told stamp p old new judges is rows latest standing same = record {
+  rows = rows ∙ rows_left old.rows p judges is;
+  latest = latest;
+  standing = subst (λ (js : List Judged). TakesLines (moment_of stamp new.latest p.issue) js (kept_of old.standing) (kept_of new.standing)) is standing;
+  same = same;
+}
+
+-- the lines of a product found the lives of rows that were taken out
+pub found_out : (old rows : List Row) (runs : List Run) → rows ≡ old → AreFound old runs → AreFound rows runs
+found_out old rows runs is found = subst (λ (before : List Row). AreFound before runs) (sym is) found
 
 -- what is summed up from one minute on is from a later one
 later_summed : (stamp latest from : ℕ) (es : Spots) (openings : List Opening) (k : Kept) → latest ≤ from → IsSummed stamp latest es openings k → IsSummed stamp from es openings k
@@ -110,7 +112,7 @@ kept_next stamp p old new takes products kept =
     let lines : List Line = lawful_lines (rows_of products) p in
     let before : IsSummed stamp from es (openings_of products) (kept_of old.standing) = later_summed stamp (greatest products) from es (openings_of products) (kept_of old.standing) (omega (arith, is)) kept.summed in
     let keyed : AreKeyed (rows_in es) (kept_of old.standing) = subst (λ (rows : List Row). AreKeyed rows (kept_of old.standing)) (sym kept.counted.rows) kept.keyed in
-    let takes_all = subst (λ (js : List (Line × Option Breach)). TakesLines m js (kept_of old.standing) k) judges takes.standing in
+    let takes_all = subst (λ (js : List Judged). TakesLines m js (kept_of old.standing) k) judges takes.standing in
     let after = takes_all (omega (arith, is)) es (openings_of products) (before, keyed) (lawful_fit stamp from products p is es kept.counted) in
     let counted : IsCounted stamp all (fold (after_line m) es lines) = counted_next stamp from products p is es kept.counted in
     record {

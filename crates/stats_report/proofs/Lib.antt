@@ -12,4 +12,3 @@ pub mod Taking
 pub mod Reading
 pub mod Ending
 pub mod Sharing
-pub mod Zoning

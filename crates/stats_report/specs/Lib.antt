@@ -8,4 +8,3 @@ pub mod Told
 pub mod Tallies
 pub mod Readings
 pub mod Runs
-pub mod ProductLines

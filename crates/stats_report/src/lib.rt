@@ -7,7 +7,6 @@ mod input;
 mod keys;
 mod laws;
 mod lines;
-mod product_lines;
 mod run;
 mod standing;
 mod stats;

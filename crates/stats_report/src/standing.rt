@@ -6,6 +6,7 @@ ghost use Rattle.event_life.specs.Lives.{opens, ends};
 ghost use Rattle.event_life.specs.Products.{lawful_of};
 ghost use Rattle.hazard_types.specs.Orders.{by_hazard};
 ghost use Rattle.hazard_types.specs.Places.{by_place};
+ghost use Rattle.row_index.specs.Verdicts.{spelled};
 ghost use Rattle.stats_report.specs.Minutes.{cut_at};
 ghost use Rattle.stats_report.specs.Spells.{begin_printed, spell_left, left_of, spell_after, gain_of, gained};
 ghost use Rattle.stats_report.specs.Spells.{no_sums, sums_at, turn_of, turned, kept_of, turn_at, with_turn, IsOf};
@@ -15,7 +16,7 @@ use crate::keys::HazardKey;
 use crate::sums::{Gain, Sums, gained, no_sums};
 use event_life::{Breach, is_lawful};
 use hazard_types::{Action, End, Event, Line, Minute, Oom, Zone};
-use row_index::EventKey;
+use row_index::{EventKey, Run, spelled};
 use std::alloc::Global;
 use std::collections::BTreeMap;
 use zone_map::ZoneMap;
@@ -312,8 +313,8 @@ impl Standing {
         Ok(count)
     }
 
-    /// The lawful lines of a product change their rows.
-    pub fn change_all(
+    /// The lawful lines of a product change their rows, one event's after another's.
+    fn change_judged(
         &mut self,
         alloc: Global,
         moment: &Moment,
@@ -327,5 +328,19 @@ impl Standing {
             count += self.change_first(alloc, moment, &judged[count..])?;
         }
         Ok(())
+    }
+
+    /// The lawful lines of a product change their rows.
+    pub fn change_all(
+        &mut self,
+        alloc: Global,
+        moment: &Moment,
+        runs: &[Run],
+    ) -> Result<(), Oom>
+        ensures { OnOk result
+            (TakesLines moment.now (spelled runs.now) (kept_of self.old) (kept_of self.new)) }
+    {
+        let judged = spelled(alloc, runs)?;
+        self.change_judged(alloc, moment, judged.as_slice())
     }
 }

@@ -4,10 +4,10 @@ ghost use Rattle.product_decoder.specs.Decoded.{decoded_of};
 ghost use Rattle.archive_report.specs.Readings.{said_of};
 ghost use Rattle.stats_report.specs.Tallies.{IsKept, Counts, CountsFault, TakesProduct, TakesReading};
 
-use crate::product_lines::lines_by_frame;
 use crate::standing::{Moment, Standing};
 use archive_report::Asked;
 use hazard_types::Oom;
+use product_decoder::judged_by_frame;
 use product_frame::{Frame, FrameFault};
 use row_index::RowIndex;
 use std::alloc::Global;
@@ -63,18 +63,17 @@ impl Tally {
         ensures { OnOk result (TakesProduct asked.now (decoded_of frame.now) self.old self.new) }
     {
         let issue = frame.issue;
-        let lines = lines_by_frame(alloc, asked, &self.rows, frame)?;
-        let found = self.rows.judge(alloc, issue, lines.as_slice())?;
-        let judged = found.as_slice();
+        let found = judged_by_frame(alloc, &asked.office, &asked.class, &self.rows, frame)?;
+        let runs = found.as_slice();
         let rows = mem::replace(&mut self.rows, RowIndex::new(alloc));
-        self.rows = rows.leave(alloc, issue, judged)?;
+        self.rows = rows.leave_runs(alloc, issue, runs)?;
         self.latest = self.latest.max(issue.get());
         let moment = Moment {
             stamp: asked.minute,
             from: self.latest,
             issue,
         };
-        self.standing.change_all(alloc, &moment, judged)
+        self.standing.change_all(alloc, &moment, runs)
     }
 
     /// Counts a product that has a fault.

@@ -5,7 +5,7 @@ use Rattle.event_life.specs.declared.life.Breach.{Breach}
 use Rattle.stats_report.specs.Spells.{kept_of}
 use Rattle.stats_report.specs.Summed.{TakesLines}
 use Rattle.stats_report.proofs.Running.{rest_length, more_taken}
-use Rattle.stats_report.proofs.standing.Standing.change_all.Goals as goal
+use Rattle.stats_report.proofs.standing.Standing.change_judged.Goals as goal
 
 pub loop-count-preserved : goal.loop-count-preserved
 loop-count-preserved c =

@@ -2,7 +2,7 @@
 use Rattle.std.proofs.Common.{◌≤◌, ◌-◌, length, take}
 use Rattle.stats_report.specs.Spells.{kept_of}
 use Rattle.stats_report.specs.Summed.{TakesLines}
-use Rattle.stats_report.proofs.standing.Standing.change_all.Given as goal
+use Rattle.stats_report.proofs.standing.Standing.change_judged.Given as goal
 
 abbrev pub invariant-loop-count : goal.invariant-loop-count
 invariant-loop-count l = record {
