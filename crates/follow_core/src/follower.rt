@@ -82,12 +82,7 @@ impl Follower {
     }
 
     /// Takes a product, by its frame and its lines, which were judged by the rows before it.
-    fn keep(
-        &mut self,
-        alloc: Global,
-        frame: &Frame,
-        judged: &[Run],
-    ) -> Result<(), Oom>
+    fn keep(&mut self, alloc: Global, frame: &Frame, judged: &[Run]) -> Result<(), Oom>
         requires few { place_of self.old < 8192 }
         requires judged { spelled judged.now ≡ judged_product (rows_of self.old.products)
             (product_of self.old.office self.old.class (decoded_of frame.now)) }

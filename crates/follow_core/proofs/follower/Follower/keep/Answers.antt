@@ -2,12 +2,12 @@
 use Rattle.std.proofs.Common.{◌≡◌, ◌∙◌, ◌++◌, ◌∷◌, [], List, Option, Some, sym, ap, subst}
 use Rattle.std.specs.declared.snapshot.Snapshot.{Snapshot}
 use Rattle.hazard_types.specs.declared.line.Row.{Row}
-use Rattle.product_frame.specs.declared.frame.Frame.{Frame}
 use Rattle.event_life.specs.Products.{rows_of}
+use Rattle.product_frame.specs.declared.frame.Frame.{Frame}
 use Rattle.product_decoder.specs.ReaderModel.{Reading}
 use Rattle.row_index.specs.Verdicts.{spelled, AreFound}
-use Rattle.follow_core.proofs.Kept.{counted_kept, found_by, rows_kept}
 use Rattle.follow_core.specs.Frames.{products_heard}
+use Rattle.follow_core.proofs.Kept.{counted_kept, found_by, rows_kept}
 use Rattle.follow_core.proofs.follower.Follower.keep.Goals as goal
 
 -- they found it in the rows that are held
