@@ -6,6 +6,8 @@ pub mod Amounts
 pub mod Summing
 pub mod Turning
 pub mod Running
+pub mod Exchange
+pub mod Spelling
 pub mod Folding
 pub mod Keeping
 pub mod Taking

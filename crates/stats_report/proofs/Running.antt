@@ -1,13 +1,10 @@
--- Judged lines of a product, run by run.
-use Rattle.std.proofs.Common.{◌≡◌, ◌∙◌, ◌≤◌, ◌<◌, ◌+◌, ◌-◌, ◌&&◌, ◌||◌, not, ℕ, Bool, true, false, cond, List, [], ◌∷◌, ◌++◌, length, get_or, take, drop, fold, Option, Some, Ordering, Equal, refl, ap, sym, subst, append_assoc, append-nil, arith}
-use Rattle.std.proofs.Math.Seq.{take-add}
-use Rattle.std.proofs.lemmas.List.{length-drop, take_all, take_more}
+-- Lawful lines that are taken.
+use Rattle.std.proofs.Common.{◌≡◌, ◌∙◌, ◌≤◌, ◌||◌, ℕ, Bool, true, false, cond, List, [], ◌∷◌, ◌++◌, fold, Option, Some, Ordering, Equal, refl, ap, sym, subst, append_assoc, append-nil}
 use Rattle.std.specs.BTreeSet.{insert_key}
 use Rattle.std.specs.List.{AllByRecursion, list_any}
 use Rattle.std.specs.Map.{keys_of, lookup}
 use Rattle.std.specs.BTreeMap.{is_at}
 use Rattle.std.specs.Cmp.{IsTotalOrder}
-use Rattle.std.specs.Option.{is_none}
 use Rattle.std.specs.Prelude.{unwrap_or}
 use Rattle.std.proofs.lemmas.Grind.{fold-append}
 use Rattle.hazard_types.specs.Orders.{by_hazard, by_event}
@@ -17,27 +14,23 @@ use Rattle.hazard_types.specs.declared.hazard.Hazard.{Hazard}
 use Rattle.hazard_types.specs.declared.line.Line.{Line}
 use Rattle.hazard_types.specs.declared.line.Row.{Row}
 use Rattle.hazard_types.proofs.OrderLaws.{by_place_total, by_place_ties, by_hazard_total, by_hazard_ties, by_event_total, by_event_ties}
-use Rattle.event_life.specs.declared.life.Breach.{Breach}
 use Rattle.event_life.specs.Lives.{opens}
-use Rattle.event_life.specs.Products.{is_routine, lawful_of, put}
+use Rattle.event_life.specs.Products.{put}
 use Rattle.product_decoder.specs.Openings.{opening_of, openings_in}
 use Rattle.product_decoder.specs.declared.types.Opening.{Opening}
 use Rattle.row_index.proofs.Tests.{at_one, at_own, any_insert}
-use Rattle.stats_report.specs.Spells.{left_of, gain_of, gained, sums_at, Turn, turned, Kept, spells_of, spell_at, turn_at, with_turn, IsOf}
+use Rattle.stats_report.specs.Spells.{left_of, gain_of, gained, sums_at, Turn, turned, Kept, spells_of, spell_at, turn_at, with_turn}
 use Rattle.stats_report.specs.Spots.{Spots, rows_in}
-use Rattle.stats_report.specs.Summed.{of_hazard, AreSums, IsSummed, AreKeysOf, hazard_of, event_of, zone_of, AreKeyed, IsFit, after_line, AreFit, IsKeptOf, TakesLines}
+use Rattle.stats_report.specs.Summed.{of_hazard, AreSums, IsSummed, AreKeysOf, hazard_of, event_of, zone_of, AreKeyed, IsFit, after_line, AreFit, IsKeptOf, TakesLawful}
 use Rattle.stats_report.specs.declared.standing.Moment.{Moment}
 use Rattle.stats_report.specs.declared.standing.Spell.{Spell}
 use Rattle.stats_report.specs.declared.sums.Sums.{Sums}
 use Rattle.stats_report.proofs.Summing.{counted_then}
 use Rattle.stats_report.proofs.Turning.{found_after, sums_after, keys_put, keyed_put, keyed_kept, row_event, row_zone, rows_then, summed_step}
 
-abbrev Judged : Type 0
-Judged = List (Line × Option Breach)
-
 -- what lines open, one after another
 
-lines_open : (t : ℕ) (xs ys : List Line) → openings_in t (xs ++ ys) ≡ openings_in t xs ++ openings_in t ys
+pub lines_open : (t : ℕ) (xs ys : List Line) → openings_in t (xs ++ ys) ≡ openings_in t xs ++ openings_in t ys
 lines_open t [] ys = refl
 lines_open t (x ∷ xs) ys = by_test (opens x.action) (lines_open t xs ys)
   where
@@ -51,7 +44,7 @@ open_next t opened line lines = append_assoc opened (openings_in t (line ∷ [])
 
 -- lines of one event
 
-abbrev IsSaid : Event → Line → Type 0
+abbrev pub IsSaid : Event → Line → Type 0
 IsSaid e line = line.event ≡ e
 
 module _ (m : Moment) (k : Kept) (e : Event) (late : m.issue ≤ m.from) where
@@ -170,95 +163,29 @@ module _ (m : Moment) where
               (lines_keyed by_hazard by_hazard_total by_hazard_ties hazard_of own_hazard e.hazard m es line lines (keys_of k.hazards) (said_hazard (line ∷ lines) own) fit is.hazards);
         }
 
--- judged lines
+-- lawful lines of an event, of which there are some, were taken
+pub run_taken : (m : Moment) (k : Kept) (e : Event) (line : Line) (lines : List Line) → AllByRecursion (IsSaid e) (line ∷ lines)
+    → TakesLawful m (line ∷ lines) k (with_turn k e (fold (turned m) (turn_at k e) (line ∷ lines)))
+run_taken m k e line lines own = λ late es opened kept fit. (
+  lines_summed m k e late es opened (line ∷ lines) (turn_at k e) own fit (begin_summed m k e late es opened kept.0),
+  run_keyed m k e es line lines own fit kept.1,
+)
 
-lawful_said : (e : Event) (judged : Judged) → AllByRecursion (IsOf e) judged → AllByRecursion (IsSaid e) (lawful_of judged)
-lawful_said e [] own = tt
-lawful_said e (l ∷ ls) own = by_test (not (is_routine l.0.action) && is_none l.1) (lawful_said e ls own.1)
-  where
-    by_test : (b : Bool) → AllByRecursion (IsSaid e) (lawful_of ls) → AllByRecursion (IsSaid e) (cond b (l.0 ∷ lawful_of ls) (lawful_of ls))
-    by_test true later = (own.0, later)
-    by_test false later = later
-
-run_by : (m : Moment) (k : Kept) (e : Event) (judged : Judged) (lines : List Line) → lawful_of judged ≡ lines → AllByRecursion (IsSaid e) lines → 0 < length lines
-    → TakesLines m judged k (with_turn k e (fold (turned m) (turn_at k e) (lawful_of judged)))
-run_by m k e judged [] is own some = absurd (omega (arith, some))
-run_by m k e judged (line ∷ lines) is own some = λ late es opened kept fit.
-    let all : List Line = line ∷ lines in
-    let fit' : AreFit m es all = subst (AreFit m es) is fit in
-    subst (λ (ls : List Line). IsKeptOf m (fold (after_line m) es ls) (opened ++ openings_in m.issue ls) (with_turn k e (fold (turned m) (turn_at k e) ls))) (sym is)
-    (lines_summed m k e late es opened all (turn_at k e) own fit' (begin_summed m k e late es opened kept.0), run_keyed m k e es line lines own fit' kept.1)
-
--- the lawful lines of an event, of which there are some, were taken
-pub run_taken : (m : Moment) (k : Kept) (e : Event) (judged : Judged) → AllByRecursion (IsOf e) judged → 0 < length (lawful_of judged) → TakesLines m judged k (with_turn k e (fold (turned m) (turn_at k e) (lawful_of judged)))
-run_taken m k e judged own some = run_by m k e judged (lawful_of judged) refl (lawful_said e judged own) some
-
-pub none_taken : (m : Moment) (k : Kept) (judged : Judged) → lawful_of judged ≡ [] → TakesLines m judged k k
-none_taken m k judged none = λ late es opened kept fit.
-    subst (λ (ls : List Line). IsKeptOf m (fold (after_line m) es ls) (opened ++ openings_in m.issue ls) k) (sym none)
-    (subst (λ (os : List Opening). IsKeptOf m es os k) (sym (append-nil opened)) kept)
-
-lawful_both : (xs ys : Judged) → lawful_of (xs ++ ys) ≡ lawful_of xs ++ lawful_of ys
-lawful_both [] ys = refl
-lawful_both (x ∷ xs) ys = by_test (not (is_routine x.0.action) && is_none x.1) (lawful_both xs ys)
-  where
-    by_test : (b : Bool) → lawful_of (xs ++ ys) ≡ lawful_of xs ++ lawful_of ys → cond b (x.0 ∷ lawful_of (xs ++ ys)) (lawful_of (xs ++ ys)) ≡ cond b (x.0 ∷ lawful_of xs) (lawful_of xs) ++ lawful_of ys
-    by_test true later = ap (λ (ls : List Line). x.0 ∷ ls) later
-    by_test false later = later
+pub none_taken : (m : Moment) (k : Kept) → TakesLawful m [] k k
+none_taken m k = λ late es opened kept fit. subst (λ (os : List Opening). IsKeptOf m es os k) (sym (append-nil opened)) kept
 
 fit_both : (m : Moment) (es : Spots) (xs ys : List Line) → AreFit m es (xs ++ ys) → AreFit m es xs × AreFit m (fold (after_line m) es xs) ys
 fit_both m es [] ys fit = (tt, fit)
 fit_both m es (x ∷ xs) ys fit = let later = fit_both m (after_line m es x) xs ys fit.1 in ((fit.0, later.0), later.1)
 
-pub both_taken : (m : Moment) (old mid new : Kept) (xs ys : Judged) → TakesLines m xs old mid → TakesLines m ys mid new → TakesLines m (xs ++ ys) old new
-both_taken m old mid new xs ys first second = λ late es opened kept fit.
-    let front : List Line = lawful_of xs in
-    let back : List Line = lawful_of ys in
-    let both = lawful_both xs ys in
-    let parts = fit_both m es front back (subst (AreFit m es) both fit) in
-    let one = first late es opened kept parts.0 in
-    let two = second late (fold (after_line m) es front) (opened ++ openings_in m.issue front) one parts.1 in
-    let es_are : fold (after_line m) (fold (after_line m) es front) back ≡ fold (after_line m) es (lawful_of (xs ++ ys)) = sym (fold-append (after_line m) es front back) ∙ ap (fold (after_line m) es) (sym both) in
-    let os_are : (opened ++ openings_in m.issue front) ++ openings_in m.issue back ≡ opened ++ openings_in m.issue (lawful_of (xs ++ ys)) =
-    append_assoc opened (openings_in m.issue front) (openings_in m.issue back) ∙ ap (λ (os : List Opening). opened ++ os) (sym (lines_open m.issue front back) ∙ ap (openings_in m.issue) (sym both)) in
-    subst (λ (os : List Opening). IsKeptOf m (fold (after_line m) es (lawful_of (xs ++ ys))) os new) os_are
-    (subst (λ (fs : Spots). IsKeptOf m fs ((opened ++ openings_in m.issue front) ++ openings_in m.issue back) new) es_are two)
-
--- the judged lines of a slice
-
-abbrev pub rest : Judged → ℕ → Judged
-rest judged i = take (length judged - i) (drop i judged)
-
-rest_is : (judged : Judged) (i : ℕ) → rest judged i ≡ drop i judged
-rest_is judged i = take_all (length judged - i) (drop i judged) (omega (arith, length-drop i judged))
-
-pub rest_length : (judged : Judged) (i : ℕ) → length (rest judged i) ≡ length judged - i
-rest_length judged i = ap length (rest_is judged i) ∙ length-drop i judged
-
-pub one_more : (P : Line × Option Breach → Type 0) (judged : Judged) (i : ℕ) (l : Line × Option Breach) → i < length judged → l ≡ get_or judged i l → AllByRecursion P (take i judged) → P l → AllByRecursion P (take (i + 1) judged)
-one_more P judged i l within is all p =
-    subst (AllByRecursion P) (sym (take_more judged i l within ∙ ap (λ (x : Line × Option Breach). take i judged ++ x ∷ []) (sym is))) (behind (take i judged) all)
-  where
-    behind : (xs : Judged) → AllByRecursion P xs → AllByRecursion P (xs ++ l ∷ [])
-    behind [] all = (p, tt)
-    behind (x ∷ xs) all = (all.0, behind xs all.1)
-
--- the first line is lawful, and those behind it that are of its event are taken with it
-pub first_taken : (m : Moment) (old new : Kept) (judged : Judged) (first : Line × Option Breach) (count : ℕ) → 0 < length judged → first ≡ get_or judged 0 first
-    → (not (is_routine first.0.action) && is_none first.1) ≡ true → AllByRecursion (IsOf first.0.event) (take count (rest judged 1))
-    → new ≡ with_turn old first.0.event (fold (turned m) (turn_at old first.0.event) (lawful_of (take (1 + count) judged))) → TakesLines m (take (1 + count) judged) old new
-first_taken m old new [] first count some is lawful own told = absurd (omega (arith, some))
-first_taken m old new (l ∷ ls) first count some is lawful own told =
-    let e : Event = first.0.event in
-    let all : Judged = first ∷ take count ls in
-    let front : take (1 + count) (l ∷ ls) ≡ all = take-add 1 count (l ∷ ls) ∙ ap (λ (x : Line × Option Breach). x ∷ take count ls) (sym is) in
-    let lines : lawful_of all ≡ first.0 ∷ lawful_of (take count ls) = ap (λ (b : Bool). cond b (first.0 ∷ lawful_of (take count ls)) (lawful_of (take count ls))) lawful in
-    let there : 0 < length (lawful_of all) = rw lines (omega arith) in
-    let own' : AllByRecursion (IsOf e) (take count ls) = subst (λ (js : Judged). AllByRecursion (IsOf e) (take count js)) (rest_is (l ∷ ls) 1) own in
-    let taken = run_taken m old e all (refl, own') there in
-    rw told (subst (λ (js : Judged). TakesLines m js old (with_turn old e (fold (turned m) (turn_at old e) (lawful_of js)))) (sym front) taken)
-
 -- those that come next are taken behind those before
-pub more_taken : (m : Moment) (old mid new : Kept) (judged : Judged) (i count : ℕ) → TakesLines m (take i judged) old mid → TakesLines m (take count (rest judged i)) mid new → TakesLines m (take (i + count) judged) old new
-more_taken m old mid new judged i count first second =
-    subst (λ (js : Judged). TakesLines m js old new) (sym (take-add i count judged)) (both_taken m old mid new (take i judged) (take count (drop i judged)) first (subst (λ (js : Judged). TakesLines m (take count js) mid new) (rest_is judged i) second))
+pub both_taken : (m : Moment) (old mid new : Kept) (xs ys : List Line) → TakesLawful m xs old mid → TakesLawful m ys mid new → TakesLawful m (xs ++ ys) old new
+both_taken m old mid new xs ys first second = λ late es opened kept fit.
+    let parts = fit_both m es xs ys fit in
+    let one = first late es opened kept parts.0 in
+    let two = second late (fold (after_line m) es xs) (opened ++ openings_in m.issue xs) one parts.1 in
+    let es_are : fold (after_line m) (fold (after_line m) es xs) ys ≡ fold (after_line m) es (xs ++ ys) = sym (fold-append (after_line m) es xs ys) in
+    let os_are : (opened ++ openings_in m.issue xs) ++ openings_in m.issue ys ≡ opened ++ openings_in m.issue (xs ++ ys) =
+    append_assoc opened (openings_in m.issue xs) (openings_in m.issue ys) ∙ ap (λ (os : List Opening). opened ++ os) (sym (lines_open m.issue xs ys)) in
+    subst (λ (os : List Opening). IsKeptOf m (fold (after_line m) es (xs ++ ys)) os new) os_are
+    (subst (λ (fs : Spots). IsKeptOf m fs ((opened ++ openings_in m.issue xs) ++ openings_in m.issue ys) new) es_are two)

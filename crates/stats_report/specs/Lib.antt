@@ -3,6 +3,7 @@ pub mod Spots
 pub mod Adding
 pub mod Spells
 pub mod Summed
+pub mod Along
 pub mod Report
 pub mod Told
 pub mod Tallies

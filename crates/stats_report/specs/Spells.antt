@@ -1,5 +1,5 @@
 -- The minutes that rows still have, and what zones and hazards come to.
-use Rattle.std.specs.Prelude.{◌≡◌, ℕ, ◌+◌, ◌-◌, List, [], max, if◌then◌else◌, Option, Some, None, unwrap_or}
+use Rattle.std.specs.Prelude.{ℕ, ◌+◌, ◌-◌, List, [], max, if◌then◌else◌, Option, Some, None, unwrap_or}
 use Rattle.std.specs.BTreeMap.{insert_entry, is_at}
 use Rattle.std.specs.Map.{lookup}
 use Rattle.std.specs.declared.cmp.Ordering.{Ordering}
@@ -8,9 +8,9 @@ use Rattle.hazard_types.specs.Places.{Place, by_place}
 use Rattle.hazard_types.specs.declared.hazard.Event.{Event}
 use Rattle.hazard_types.specs.declared.hazard.Hazard.{Hazard}
 use Rattle.hazard_types.specs.declared.line.Line.{Line}
-use Rattle.event_life.specs.declared.life.Breach.{Breach}
 use Rattle.event_life.specs.Lives.{opens, ends}
 use Rattle.stats_report.specs.Minutes.{cut_at}
+use Rattle.stats_report.specs.declared.standing.Change.{Change}
 use Rattle.stats_report.specs.declared.standing.Moment.{Moment}
 use Rattle.stats_report.specs.declared.standing.Spell.{Spell}
 use Rattle.stats_report.specs.declared.standing.Standing.{Standing}
@@ -78,6 +78,26 @@ turned_by m line g turn = record {
 abbrev pub turned : Moment → Turn → Line → Turn
 turned m turn line = turned_by m line (gain_of m line (lookup (is_at (by_place line.zone)) turn.spells)) turn
 
+-- what a lawful line leaves of its row in a zone, and adds to the sums where no row was
+abbrev pub change_of : Moment → Line → Change
+change_of m line = record { from = m.from; spell = spell_after m line; gain = gain_of m line None }
+
+-- what it adds where its row had this spell
+abbrev pub gain_over : Change → Option Spell → Gain
+gain_over c before = record { openings = c.gain.openings; lead = c.gain.lead; minutes = c.gain.minutes; gone = left_of c.from before }
+
+abbrev pub turned_with : Change → Place → Gain → Turn → Turn
+turned_with c z g turn = record {
+  spells = insert_entry by_place turn.spells z c.spell;
+  zones = insert_entry by_place turn.zones z (gained (sums_at by_place turn.zones z) g);
+  own = gained turn.own g;
+  all = gained turn.all g;
+}
+
+-- the line changes its row in a zone
+abbrev pub turned_in : Change → Turn → Place → Turn
+turned_in c turn z = turned_with c z (gain_over c (lookup (is_at (by_place z)) turn.spells)) turn
+
 -- What is kept: spells by event and zone, and the sums of zones, hazards and all.
 pub record Kept : Type 0 where
   pub spells : List (Event × List (Place × Spell))
@@ -107,7 +127,3 @@ with_turn k e turn = record {
   hazards = insert_entry by_hazard k.hazards e.hazard turn.own;
   all = turn.all;
 }
-
--- the judged line is of the event
-abbrev pub IsOf : Event → Line × Option Breach → Type 0
-IsOf e l = l.0.event ≡ e

@@ -95,7 +95,11 @@ AreFit m es (line ∷ lines) = IsFit m es line × AreFit m (after_line m es line
 abbrev pub IsKeptOf : Moment → Spots → List Opening → Kept → Type 0
 IsKeptOf m es openings k = IsSummed m.stamp m.from es openings k × AreKeyed (rows_in es) k
 
--- judged lines of a product were taken: what was kept of rows and openings is kept of those after the lawful ones
+-- lawful lines were taken: what was kept of rows and openings is kept of those after them
+abbrev pub TakesLawful : Moment → List Line → Kept → Kept → Type 0
+TakesLawful m lines old new = (m.issue ≤ m.from) → (es : Spots) (openings : List Opening) → IsKeptOf m es openings old → AreFit m es lines
+    → IsKeptOf m (fold (after_line m) es lines) (openings ++ openings_in m.issue lines) new
+
+-- judged lines of a product were taken: the lawful ones were
 abbrev pub TakesLines : Moment → List (Line × Option Breach) → Kept → Kept → Type 0
-TakesLines m judged old new = (m.issue ≤ m.from) → (es : Spots) (openings : List Opening) → IsKeptOf m es openings old → AreFit m es (lawful_of judged)
-    → IsKeptOf m (fold (after_line m) es (lawful_of judged)) (openings ++ openings_in m.issue (lawful_of judged)) new
+TakesLines m judged old new = TakesLawful m (lawful_of judged) old new

@@ -1,22 +1,21 @@
 //! What is kept of rows: the minutes that each still has, and what zones and hazards come to.
-ghost use Rattle.std.specs.Prelude.{◌≡◌, ◌≤◌, ◌<◌, ◌-◌, [], true, fold, length, take, IfOk, OnOk};
+ghost use Rattle.std.specs.Prelude.{◌≡◌, ◌-◌, ◌∷◌, [], fold, map, OnOk};
 ghost use Rattle.std.specs.BTreeMap.{insert_entry};
-ghost use Rattle.std.specs.List.{AllByRecursion};
 ghost use Rattle.event_life.specs.Lives.{opens, ends};
-ghost use Rattle.event_life.specs.Products.{lawful_of};
 ghost use Rattle.hazard_types.specs.Orders.{by_hazard};
 ghost use Rattle.hazard_types.specs.Places.{by_place};
-ghost use Rattle.row_index.specs.Verdicts.{spelled};
+ghost use Rattle.row_index.specs.Verdicts.{spelled, spelled_run, AreApart, HaveOwnEvents};
+ghost use Rattle.stats_report.specs.Along.{lawful_in, line_by_line};
 ghost use Rattle.stats_report.specs.Minutes.{cut_at};
 ghost use Rattle.stats_report.specs.Spells.{begin_printed, spell_left, left_of, spell_after, gain_of, gained};
-ghost use Rattle.stats_report.specs.Spells.{no_sums, sums_at, turn_of, turned, kept_of, turn_at, with_turn, IsOf};
-ghost use Rattle.stats_report.specs.Summed.{TakesLines};
+ghost use Rattle.stats_report.specs.Spells.{no_sums, sums_at, change_of, gain_over, turn_of};
+ghost use Rattle.stats_report.specs.Spells.{turned_in, kept_of, turn_at, with_turn};
+ghost use Rattle.stats_report.specs.Summed.{TakesLawful, TakesLines};
 
 use crate::keys::HazardKey;
 use crate::sums::{Gain, Sums, gained, no_sums};
-use event_life::{Breach, is_lawful};
 use hazard_types::{Action, End, Event, Line, Minute, Oom, Zone};
-use row_index::{EventKey, Run, spelled};
+use row_index::{EventKey, Run, Verdict};
 use std::alloc::Global;
 use std::collections::BTreeMap;
 use zone_map::ZoneMap;
@@ -34,6 +33,15 @@ pub struct Moment {
     pub stamp: Minute,
     pub from: u32,
     pub issue: Minute,
+}
+
+/// What a lawful line changes in each of its zones: the minutes that its row has from there on, and
+/// what it adds to the sums where there was no row.
+#[derive(Clone, Copy)]
+pub struct Change {
+    pub from: u32,
+    pub spell: Spell,
+    pub gain: Gain,
 }
 
 /// The minutes that rows still have, by event and zone.
@@ -140,6 +148,29 @@ fn gain_of(moment: &Moment, line: &Line, before: &Option<Spell>) -> Gain
     }
 }
 
+/// What a lawful line changes in each of its zones.
+fn change_of(moment: &Moment, line: &Line) -> Change
+    ensures { result ≡ change_of moment.now line.now }
+{
+    Change {
+        from: moment.from,
+        spell: spell_after(moment, line),
+        gain: gain_of(moment, line, &None),
+    }
+}
+
+/// What it adds to the sums, where `before` was the row's spell.
+fn gain_over(change: &Change, before: &Option<Spell>) -> Gain
+    ensures { result ≡ gain_over change.now before.now }
+{
+    Gain {
+        openings: change.gain.openings,
+        lead: change.gain.lead,
+        minutes: change.gain.minutes,
+        gone: left_of(change.from, before),
+    }
+}
+
 /// What a zone comes to. `near` is a guess of its place.
 pub fn zone_sums(zones: &ZoneMap<Sums>, near: &mut usize, zone: &Zone) -> Sums
     ensures { result ≡ sums_at by_place zones.now zone.now }
@@ -185,66 +216,41 @@ fn change_totals(totals: &mut Totals, gain: &Gain) -> Result<(), Oom>
     Ok(())
 }
 
-/// A lawful line of an event changes its row. `near` is a guess of the place of its zone.
-fn change_line(
+/// A lawful line changes its row in a zone. `near` is a guess of the place of the zone.
+fn change_row(
     spells: &mut ZoneMap<Spell>,
     zones: &mut ZoneMap<Sums>,
     near: &mut usize,
-    moment: &Moment,
-    line: &Line,
+    change: &Change,
+    zone: &Zone,
     totals: &mut Totals,
 ) -> Result<(), Oom>
     ensures { OnOk result (turn_of spells.new zones.new totals.new
-        ≡ turned moment.now (turn_of spells.old zones.old totals.old) line.now) }
+        ≡ turned_in change.now (turn_of spells.old zones.old totals.old) zone.now) }
 {
     let mut before = None;
-    spells.set(line.zone, spell_after(moment, line), &mut before)?;
-    let gain = gain_of(moment, line, &before);
-    change_zone(zones, near, &line.zone, &gain)?;
+    spells.set(*zone, change.spell, &mut before)?;
+    let gain = gain_over(change, &before);
+    change_zone(zones, near, zone, &gain)?;
     change_totals(totals, &gain)
 }
 
-/// The lawful lines of an event change their rows.
-fn change_lines(
+/// A lawful line changes its rows in zones.
+fn change_rows(
     spells: &mut ZoneMap<Spell>,
     zones: &mut ZoneMap<Sums>,
-    moment: &Moment,
-    judged: &[(Line, Option<Breach>)],
+    change: &Change,
+    places: &[Zone],
     totals: &mut Totals,
 ) -> Result<(), Oom>
     ensures { OnOk result (turn_of spells.new zones.new totals.new
-        ≡ fold (turned moment.now) (turn_of spells.old zones.old totals.old)
-        (lawful_of judged.now)) }
+        ≡ fold (turned_in change.now) (turn_of spells.old zones.old totals.old) places.now) }
 {
     let mut near = 0;
-    for found in judged {
-        if is_lawful(found) {
-            change_line(spells, zones, &mut near, moment, &found.0, totals)?;
-        }
+    for zone in places {
+        change_row(spells, zones, &mut near, change, zone, totals)?;
     }
     Ok(())
-}
-
-/// Whether a judged line is of an event.
-fn is_of(event: &Event, found: &(Line, Option<Breach>)) -> bool
-    ensures { result ≡ true → IsOf event.now found.now }
-{
-    found.0.event == *event
-}
-
-/// How many of these lines come before one that is not of the event.
-fn count_of(event: &Event, judged: &[(Line, Option<Breach>)]) -> usize
-    ensures within { result ≤ length judged.now }
-    ensures own { AllByRecursion (IsOf event.now) (take result judged.now) }
-{
-    let mut count = 0usize;
-    for found in judged {
-        if !is_of(event, found) {
-            return count;
-        }
-        count += 1;
-    }
-    count
 }
 
 impl Standing {
@@ -263,17 +269,16 @@ impl Standing {
         }
     }
 
-    /// The lawful lines of an event change their rows.
-    fn change_run(
+    /// A lawful line of an event changes its rows in zones.
+    fn change_event(
         &mut self,
         alloc: Global,
-        moment: &Moment,
+        change: &Change,
         event: &Event,
-        judged: &[(Line, Option<Breach>)],
+        places: &[Zone],
     ) -> Result<(), Oom>
         ensures { OnOk result (kept_of self.new ≡ with_turn (kept_of self.old) event.now
-            (fold (turned moment.now) (turn_at (kept_of self.old) event.now)
-            (lawful_of judged.now))) }
+            (fold (turned_in change.now) (turn_at (kept_of self.old) event.now) places.now)) }
     {
         let hazard = HazardKey::of(&event.hazard);
         let mut totals = Totals {
@@ -284,63 +289,71 @@ impl Standing {
             .spells
             .entry(EventKey { event: *event })?
             .or_insert(ZoneMap::new(alloc));
-        change_lines(spells, &mut self.zones, moment, judged, &mut totals)?;
+        change_rows(spells, &mut self.zones, change, places, &mut totals)?;
         self.hazards.insert(hazard, totals.own)?;
         self.all = totals.all;
         Ok(())
     }
 
-    /// The first line changes its row, and those behind it that are of its event. Returns how many
-    /// these are; a first line that is not lawful is passed over.
-    fn change_first(
+    /// A line changes its rows in zones, where it is lawful.
+    fn change_verdict(
         &mut self,
         alloc: Global,
         moment: &Moment,
-        judged: &[(Line, Option<Breach>)],
-    ) -> Result<usize, Oom>
-        requires { 0 < length judged.now }
-        ensures some { IfOk result (λ count. (0 < count) × (count ≤ length judged.now)) }
-        ensures takes { IfOk result (λ count.
-            TakesLines moment.now (take count judged.now) (kept_of self.old) (kept_of self.new)) }
+        verdict: &Verdict,
+        places: &[Zone],
+    ) -> Result<(), Oom>
+        ensures { OnOk result (TakesLawful moment.now
+            (line_by_line (lawful_in (verdict.now ∷ [])) places.now)
+            (kept_of self.old) (kept_of self.new)) }
     {
-        let first = &judged[0];
-        if !is_lawful(first) {
-            return Ok(1);
+        if !verdict.is_lawful() {
+            return Ok(());
         }
-        let event = first.0.event;
-        let count = 1 + count_of(&event, &judged[1..]);
-        self.change_run(alloc, moment, &event, &judged[..count])?;
-        Ok(count)
+        if places.is_empty() {
+            return Ok(());
+        }
+        let change = change_of(moment, &verdict.line);
+        self.change_event(alloc, &change, &verdict.line.event, places)
     }
 
-    /// The lawful lines of a product change their rows, one event's after another's.
-    fn change_judged(
+    /// The lines of a run change their rows, each in all zones.
+    fn change_verdicts(
         &mut self,
         alloc: Global,
         moment: &Moment,
-        judged: &[(Line, Option<Breach>)],
+        verdicts: &[Verdict],
+        places: &[Zone],
     ) -> Result<(), Oom>
-        ensures { OnOk result
-            (TakesLines moment.now judged.now (kept_of self.old) (kept_of self.new)) }
+        ensures { OnOk result (TakesLawful moment.now
+            (line_by_line (lawful_in verdicts.now) places.now)
+            (kept_of self.old) (kept_of self.new)) }
     {
-        let mut count = 0;
-        while count < judged.len() {
-            count += self.change_first(alloc, moment, &judged[count..])?;
+        for verdict in verdicts {
+            self.change_verdict(alloc, moment, verdict, places)?;
         }
         Ok(())
     }
 
-    /// The lawful lines of a product change their rows.
-    pub fn change_all(
-        &mut self,
-        alloc: Global,
-        moment: &Moment,
-        runs: &[Run],
-    ) -> Result<(), Oom>
+    /// The lines of a run, which are of an event each, change their rows.
+    fn change_run(&mut self, alloc: Global, moment: &Moment, run: &Run) -> Result<(), Oom>
+        requires { HaveOwnEvents (map (λ v. v.line) run.now.verdicts) }
+        ensures { OnOk result
+            (TakesLines moment.now (spelled_run run.now) (kept_of self.old) (kept_of self.new)) }
+    {
+        let verdicts = run.verdicts.as_slice();
+        self.change_verdicts(alloc, moment, verdicts, run.zones.as_slice())
+    }
+
+    /// The lines of a product change their rows.
+    pub fn change_all(&mut self, alloc: Global, moment: &Moment, runs: &[Run]) -> Result<(), Oom>
+        requires { AreApart runs.now }
         ensures { OnOk result
             (TakesLines moment.now (spelled runs.now) (kept_of self.old) (kept_of self.new)) }
     {
-        let judged = spelled(alloc, runs)?;
-        self.change_judged(alloc, moment, judged.as_slice())
+        for run in runs {
+            self.change_run(alloc, moment, run)?;
+        }
+        Ok(())
     }
 }
