@@ -1,5 +1,5 @@
--- Lines of different events may be taken in either order.
-use Rattle.std.proofs.Common.{◌≡◌, ◌∙◌, ◌≤◌, ℕ, ◌+◌, Bool, true, false, cond, List, [], ◌∷◌, ◌++◌, fold, Option, Some, None, Ordering, Less, Equal, Greater, refl, ap, sym, subst, append_assoc, arith}
+-- Lines of different events may be taken in either order: those of a run line by line, where the text has them zone by zone.
+use Rattle.std.proofs.Common.{◌≡◌, ◌∙◌, ◌≤◌, ℕ, ◌+◌, Bool, true, false, cond, List, [], ◌∷◌, ◌++◌, fold, Option, Some, Ordering, Less, Equal, Greater, refl, ap, sym, subst, arith}
 use Rattle.std.specs.BTreeMap.{insert_entry, is_at}
 use Rattle.std.specs.Cmp.{IsTotalOrder}
 use Rattle.std.specs.List.{AllByRecursion}
@@ -37,7 +37,7 @@ module _ {K : Type 0} (cmp : K → K → Ordering) (total : IsTotalOrder cmp) (t
   back : (x y : K) (o : Ordering) → cmp x y ≡ o → cmp y x ≡ ordering_reverse o
   back x y o h = total.antisymm y x ∙ ap ordering_reverse h
 
-  pub apart_back : (x y : K) → is_at (cmp x) y ≡ false → is_at (cmp y) x ≡ false
+  apart_back : (x y : K) → is_at (cmp x) y ≡ false → is_at (cmp y) x ≡ false
   apart_back x y h = by_order (cmp x y) refl
     where
       by_order : (o : Ordering) → cmp x y ≡ o → is_at (cmp y) x ≡ false
@@ -102,7 +102,7 @@ module _ {K : Type 0} (cmp : K → K → Ordering) (total : IsTotalOrder cmp) (t
       put_both [] = at_greater b w (a, v) [] more ∙ sym (at_less a v (b, w) [] less)
       put_both (e ∷ es) = both_by (cmp a e.0) (cmp b e.0) e es refl refl (put_both es)
 
-    pub either_way : (a b : K) (v w : X) (es : List (K × X)) → is_at (cmp a) b ≡ false → insert_entry cmp (insert_entry cmp es a v) b w ≡ insert_entry cmp (insert_entry cmp es b w) a v
+    either_way : (a b : K) (v w : X) (es : List (K × X)) → is_at (cmp a) b ≡ false → insert_entry cmp (insert_entry cmp es a v) b w ≡ insert_entry cmp (insert_entry cmp es b w) a v
     either_way a b v w es apart = by_order (cmp a b) refl
       where
         by_order : (o : Ordering) → cmp a b ≡ o → insert_entry cmp (insert_entry cmp es a v) b w ≡ insert_entry cmp (insert_entry cmp es b w) a v
@@ -123,7 +123,7 @@ spots_tie s t h =
     (λ i. spot_at (event_is i) (zone_is i))
 
 -- the lines are at different spots
-abbrev pub AreApart : Line → Line → Type 0
+abbrev AreApart : Line → Line → Type 0
 AreApart a b = is_at (by_spot (spot_said a)) (spot_said b) ≡ false
 
 other_spot : (o p : Ordering) → is_eq p ≡ false → is_eq (ordering_then o p) ≡ false
@@ -131,7 +131,7 @@ other_spot Less p h = refl
 other_spot Equal p h = h
 other_spot Greater p h = refl
 
-pub events_apart : (a b : Line) → same_event b.event a.event ≡ false → AreApart a b
+events_apart : (a b : Line) → same_event b.event a.event ≡ false → AreApart a b
 events_apart a b h = other_spot (by_place a.zone b.zone) (by_event a.event b.event) (event_by (by_event a.event b.event) a.event b.event refl ∙ h)
 
 module _ (m : Moment) where

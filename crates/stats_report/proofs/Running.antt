@@ -171,9 +171,6 @@ run_taken m k e line lines own = λ late es opened kept fit. (
   run_keyed m k e es line lines own fit kept.1,
 )
 
-pub none_taken : (m : Moment) (k : Kept) → TakesLawful m [] k k
-none_taken m k = λ late es opened kept fit. subst (λ (os : List Opening). IsKeptOf m es os k) (sym (append-nil opened)) kept
-
 fit_both : (m : Moment) (es : Spots) (xs ys : List Line) → AreFit m es (xs ++ ys) → AreFit m es xs × AreFit m (fold (after_line m) es xs) ys
 fit_both m es [] ys fit = (tt, fit)
 fit_both m es (x ∷ xs) ys fit = let later = fit_both m (after_line m es x) xs ys fit.1 in ((fit.0, later.0), later.1)
