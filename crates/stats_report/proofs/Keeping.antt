@@ -1,5 +1,5 @@
 -- A tally keeps what its products come to.
-use Rattle.std.proofs.Common.{◌≡◌, ◌∙◌, ℕ, ◌+◌, ◌≤◌, List, [], ◌∷◌, ◌++◌, fold, Ordering, Option, Result, Ok, Err, refl, ap, sym, subst, arith, append_assoc, append-nil}
+use Rattle.std.proofs.Common.{◌≡◌, ◌∙◌, ℕ, ◌+◌, ◌≤◌, List, [], ◌∷◌, ◌++◌, fold, Ordering, Result, Ok, Err, refl, ap, sym, subst, arith, append_assoc, append-nil}
 use Rattle.std.specs.List.Sorted.{IsStrictlySortedBy}
 use Rattle.std.specs.Prelude.{max}
 use Rattle.std.proofs.lemmas.Grind.{fold-append}
