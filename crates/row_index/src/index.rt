@@ -15,7 +15,6 @@ ghost use Rattle.row_index.specs.Holding.{AreNear, AreRowsOf};
 ghost use Rattle.row_index.specs.Gathering.{AreGathered, least_of};
 ghost use Rattle.row_index.specs.Seating.{AreSeated, upgrades};
 ghost use Rattle.row_index.specs.Steps.{AreHigher, AreOver, IsAsked, IsChanged, around_new, around_joining, asked_around, latest_open, event_going};
-
 ghost use Rattle.row_index.specs.Verdicts.{counts, AreFirst};
 
 use crate::held::{Held, RowsOf, all_shown, has_period, is_open, rows_of, seated};
