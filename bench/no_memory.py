@@ -210,8 +210,8 @@ def taken(runs, outcome, whole):
     """Or a product is taken at the second time, and the reader says the same of all; or the script ends without an answer."""
     if outcome == (0, whole[1] + b"taken again 1\n", None):
         return "a product was taken again, and all is told as ever"
-    if outcome == (1, b"", None):
-        return "status 1, nothing written"
+    if outcome in ((1, b"", None), (1, b"rows of archive\n", None)):
+        return "status 1, no answer written"
     return ended(runs, outcome, whole)
 
 
