@@ -1,4 +1,4 @@
-//! Why an office was not opened.
+//! The faults of making and opening a kept office.
 ghost use Rattle.std.specs.Prelude.{◌≡◌};
 ghost use Rattle.office_journal.specs.Faults.{told_as};
 
@@ -8,13 +8,13 @@ use journal_core::AdoptFault;
 /// Why a kept office was not made or not opened.
 #[derive(Debug, Drop, PartialEq, Eq)]
 pub enum KeepFault {
-    /// The first fault of the settings.
+    /// The settings have this fault first.
     Settings(SettingsFault),
-    /// The file is not fresh, so nothing is made.
+    /// The file is not fresh, so no journal is made in it.
     NotFresh,
-    /// The file is fresh, so there is nothing to open.
+    /// The file is fresh, so there is no office to open.
     Fresh,
-    /// The place of the gate, in bytes from 0, from which on the file is no journal of an office.
+    /// The file is no journal of an office from the gate at this place on, in bytes from 0.
     Damaged { at: u64 },
     DiskFault,
     OutOfMemory,
