@@ -46,8 +46,8 @@ fn is_near_end(end: &End, t: Minute) -> bool
     }
 }
 
-/// Returns the action that ends a row: `UPG` before its end if a row of a higher rank overlaps it,
-/// else `EXP` within half an hour of its end, else `CAN`.
+/// Returns the action that ends a row: `UPG` before its end if a live row of a higher rank of its
+/// family overlaps it after the draft, else `EXP` within half an hour of its end, else `CAN`.
 ///
 /// Source: NWS Instruction 10-1703, P-VTEC action codes; docs/PRODUCTS.md, "Which action a line
 /// gets".
@@ -215,7 +215,8 @@ fn add_going_on(
     Ok(())
 }
 
-/// Adds `CON` for the rows of a zone that get an added line. Looks at live rows only.
+/// Adds `CON` for the rows of a zone that get an added line. Looks at the board's live rows of the
+/// zone, so most ended ones are skipped.
 fn add_in_zone(
     lines: &mut List<Line>,
     sending: &Sending,

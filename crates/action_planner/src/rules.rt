@@ -107,7 +107,7 @@ fn first_against(board: &Board, t: Minute, spoken: &Spoken, rules: &[Rule]) -> O
 }
 
 /// Conflict: after the lines two live rows of one family overlap in a zone. Names the first such
-/// zone and its two events.
+/// pair, by zone and then by events.
 ///
 /// # Errors
 ///

@@ -1,6 +1,6 @@
-//! The rules on an intent in each of its zones. Each returns the refusal for the first zone, as
-//! written, that breaks it. A row is live until a line ends it or its end comes; it is open until a
-//! line ends it or half an hour after its end.
+//! The rules on an intent in each of its zones. Each rule returns the refusal for the first zone,
+//! as written, that breaks it. A row is live until a line ends it or its end comes; it is open
+//! until a line ends it or more than half an hour has passed since its end.
 ghost use Rattle.std.specs.Prelude.{◌≡◌, ◌&&◌, not, nat_le};
 ghost use Rattle.event_life.specs.Periods.{is_live, keeps_open};
 ghost use Rattle.event_life.specs.Products.{row_at};

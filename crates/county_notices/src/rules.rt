@@ -1,5 +1,6 @@
 //! The rules on a command. Each function returns the refusal, or `None`. A row is live until a line
-//! ends it or its end comes; it is open until a line ends it or half an hour after its end.
+//! ends it or its end comes; it is open until a line ends it or more than half an hour has passed
+//! since its end.
 ghost use Rattle.std.specs.Prelude.{◌≡◌, find, option_map};
 ghost use Rattle.event_life.specs.Products.{has_rows};
 ghost use Rattle.hazard_board.specs.Consistent.{IsConsistent};

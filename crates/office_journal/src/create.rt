@@ -30,8 +30,8 @@ use office_core::Office;
 use std::alloc::Global;
 
 impl<D: Disk> KeptOffice<D> {
-    /// Makes the journal of an office on a disk with a fresh file, in edition Two. `settings` is the
-    /// text of the settings' file, which the journal has byte for byte.
+    /// Makes the journal of an office on a disk with a fresh file, in edition Two. `settings` is
+    /// the text of the settings' file, which the journal has byte for byte.
     ///
     /// # Errors
     ///

@@ -84,10 +84,10 @@ impl<D: Disk> KeptOffice<D> {
     ) -> Answer
         requires form { HasForm (record { desk = desk; seq = seq; request = r.now }) }
 
-        // On `Accepted` the request is durably in the journal; on `DiskFault` the disk failed in this
-        // call, on a request that would be accepted. `Repeated` has the reply of the desk's last
-        // request, `Refused` the first rule that is broken, of which the last is that the entry has
-        // room. On all answers but the first two nothing changes.
+        // On `Accepted` the request is durably in the journal; on `DiskFault` the disk failed in
+        // this call, on a request that would be accepted. `Repeated` has the reply of the desk's
+        // last request, `Refused` the first rule that is broken, of which the last is that the
+        // entry has room. On all answers but the first two nothing changes.
         ensures becomes { Becomes D.seen D.crash D.faults self.old self.new
             (IsOffered (state_of self.old) desk seq r.now reading)
             (λ text. (kept : Answered) × Repeats (state_of self.old) desk seq r.now kept

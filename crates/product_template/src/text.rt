@@ -78,7 +78,8 @@ fn text_length(
 /// `Or::No` with TooLong and the length in bytes if the text has more than 65,536 bytes, and
 /// otherwise out of memory.
 ///
-/// Source: NWS Instruction 10-1701, segmented products; docs/DECISIONS.md, "Product texts".
+/// Source: NWS Instruction 10-1701, segmented products; docs/DECISIONS.md and docs/DEFINITIONS.md,
+/// "Product texts".
 #[tactic(auto, unfolding(crate::specs::Text::text_of))]
 pub fn product_text(
     alloc: Global,
