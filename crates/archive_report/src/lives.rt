@@ -1,4 +1,4 @@
-//! The lines of lives. The texts of an event and of steps are kept from line to line, since they
+//! The lines of lives. The texts of an event and of steps are reused from line to line, since they
 //! often repeat.
 ghost use Rattle.std.specs.Prelude.{◌≡◌, ◌++◌, [], OnOk};
 ghost use Rattle.hazard_types.specs.Names.{event_text};

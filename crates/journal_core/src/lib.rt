@@ -1,5 +1,5 @@
 //! Keeps a list of bodies (byte strings) in one file. A crash at any moment leaves the bodies that
-//! were appended, and at most one more, each whole. For the crate of the kept office; begin with
+//! were appended, and at most one more, each whole. For `office_journal`; begin with
 //! `Journal::create` or `Journal::adopt`, then `Packet::new` and `Journal::append`.
 #![tactic(auto)]
 

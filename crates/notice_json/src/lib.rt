@@ -1,5 +1,5 @@
 //! Reads the JSON lines that ask for county notices of watches, and writes their refusals as JSON.
-//! For the program of county notices; begin with `read_command` and `refusal_text`.
+//! For `county_notices`; begin with `read_command` and `refusal_text`.
 #![tactic(auto)]
 
 mod command;

@@ -1,4 +1,4 @@
-//! The answers of a kept office.
+//! The answers of a `KeptOffice`.
 use crate::submit::KeptReply;
 use hazard_types::Refusal;
 

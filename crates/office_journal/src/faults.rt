@@ -1,11 +1,11 @@
-//! The faults of making and opening a kept office.
+//! The faults of making and opening a `KeptOffice`.
 ghost use Rattle.std.specs.Prelude.{◌≡◌};
 ghost use Rattle.office_journal.specs.Faults.{told_as};
 
 use desk_settings::SettingsFault;
 use journal_core::AdoptFault;
 
-/// Why a kept office was not made or not opened.
+/// Why a `KeptOffice` was not made or not opened.
 #[derive(Debug, Drop, PartialEq, Eq)]
 pub enum KeepFault {
     /// The settings have this fault first.

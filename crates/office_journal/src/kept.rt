@@ -1,4 +1,4 @@
-//! The kept office.
+//! `KeptOffice`, an office with its journal.
 ghost use Rattle.std.specs.Prelude.{◌≤◌, ◌<◌};
 ghost use Rattle.std.proofs.Props.{props};
 ghost use Rattle.journal_core.specs.Kept.{gate_of};

@@ -1,4 +1,4 @@
-//! What can be read of a kept office.
+//! What can be read of a `KeptOffice`.
 ghost use Rattle.std.specs.Prelude.{◌≡◌, Err, IfOk, length};
 ghost use Rattle.hazard_types.specs.declared.or.Or.TheVariants.{No};
 ghost use Rattle.hazard_types.specs.declared.refusal.Refusal.{Refusal as Refused};

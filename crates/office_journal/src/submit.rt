@@ -1,4 +1,4 @@
-//! Submits requests to a kept office.
+//! Submits requests to a `KeptOffice`.
 ghost use Rattle.std.specs.Prelude.{◌≡◌, ◌⊎◌, ◌+◌, ◌-◌, ◌≤◌, ℕ, ℤ, List, Option, Some, None, IfOk, IfErr, IfSome, is_some, length, option_map, true};
 ghost use Rattle.desk_traits.specs.Crash.{LeavesOnly};
 ghost use Rattle.hazard_types.specs.declared.refusal.Refusal.{Refusal as Refused};
