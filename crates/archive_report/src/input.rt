@@ -19,7 +19,7 @@ use std::alloc::Global;
 /// # Errors
 ///
 /// `Stop::Read` or `Stop::Write` if a read or a write failed, `Stop::TooLong` if the input has more
-/// than `limit` bytes, of which one more is then read, and `Stop::OutOfMemory`.
+/// than `limit` bytes (one byte more than the limit is then read), and `Stop::OutOfMemory`.
 pub fn tell_input<S: Source, K: Sink>(
     alloc: Global,
     asked: &Asked,

@@ -58,8 +58,8 @@ fn put_faulty(alloc: Global, out: &mut Text, number: usize, fault: FrameFault) -
     out.push(b'\n')
 }
 
-/// Adds the line of product `number`, counted from 1: `product K IDENTIFIER STAMP n` or `product K
-/// fault NAME`. Ends with LF, as all lines do.
+/// Adds the line of product `number`, counted from 1: `product K IDENTIFIER STAMP n`, or with a
+/// fault `product K fault NAME`. Ends with LF, as all lines do.
 ///
 /// # Errors
 ///

@@ -80,8 +80,8 @@ fn tell_each(
 ///
 /// # Errors
 ///
-/// `Stop::Write` if the write failed; a prefix of the lines was then written. `Stop::OutOfMemory`;
-/// nothing was then written.
+/// `Stop::Write` if the write failed; a prefix of the lines was then written. `Stop::OutOfMemory`
+/// if memory ran out; nothing was then written.
 pub fn tell_products<K: Sink>(
     alloc: Global,
     asked: &Asked,

@@ -236,7 +236,7 @@ fn add_in_zone(
     }
 }
 
-/// Returns the lines of a command on `event`, one for each zone in the order written.
+/// Returns the lines of a command on `event`, in the order in which its zones are written.
 fn lines_in_zones(
     alloc: Global,
     board: &Board,

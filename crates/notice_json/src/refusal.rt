@@ -26,7 +26,7 @@ pub enum NoticeRefusal {
     BadEnd,
     /// The event that is to be opened was opened before.
     NumberUsed { event: Event },
-    /// The number that is to be opened is that of an open event of an earlier year.
+    /// The number that is to be opened is that of `event`, an open one of an earlier year.
     NumberHeld { event: Event },
     /// No watch with this hazard and number is open.
     NoWatch,

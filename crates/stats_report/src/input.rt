@@ -60,8 +60,8 @@ fn take_each(alloc: Global, asked: &Asked, feed: &mut Feed, tally: &mut Tally) -
 ///
 /// # Errors
 ///
-/// `Stop::Read` if a read failed, `Stop::TooLong` if the input has more than `limit` bytes, of
-/// which one more is then read, and `Stop::OutOfMemory`.
+/// `Stop::Read` if a read failed, `Stop::TooLong` if the input has more than `limit` bytes (one
+/// byte more than the limit is then read), and `Stop::OutOfMemory`.
 pub fn count_input<S: Source>(
     alloc: Global,
     asked: &Asked,

@@ -49,6 +49,7 @@ impl Model for HazardKey {
 }
 
 impl HazardKey {
+    /// Returns the hazard as a key.
     pub fn of(hazard: &Hazard) -> Self
         ensures { result ≡ hazard.now }
     {
