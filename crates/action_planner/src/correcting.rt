@@ -111,7 +111,7 @@ fn has_line(lines: &[Line], event: &Event) -> bool
     lines.iter().any(|line| line.event == *event)
 }
 
-/// NoEvent: texts are given for an event that has no line in the corrected product.
+/// NoEvent: texts are given for an event that has no line in the product that is corrected.
 fn lineless(lines: &[Line], texts: &[EventTexts]) -> Option<Refusal>
     ensures { result ≡ lineless lines.now texts.now }
 {
