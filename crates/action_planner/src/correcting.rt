@@ -1,4 +1,4 @@
-//! The correction of a product: what stays live of its lines, said again with COR.
+//! The correction of a product that was sent.
 ghost use Rattle.std.specs.Prelude.{◌≡◌, ◌≤◌, Some, None, Err, IfOk, OnOk, MatchOption, IsTrue};
 ghost use Rattle.std.specs.Option.{option_or};
 ghost use Rattle.hazard_types.specs.declared.or.Or.TheVariants.{No};
@@ -21,7 +21,7 @@ use hazard_types::{
 use segmenter::segments;
 use std::alloc::Global;
 
-/// COR of a row, where it is live.
+/// Returns the `COR` line of a row, if it is live.
 fn correcting(t: Minute, row: &Option<Row>) -> Option<Line>
     ensures { result ≡ correcting t row.now }
 {
@@ -31,7 +31,6 @@ fn correcting(t: Minute, row: &Option<Row>) -> Option<Line>
     }
 }
 
-/// Adds a line, where there is one.
 fn add_some(lines: &mut List<Line>, line: &Option<Line>) -> Result<(), Oom>
     ensures { OnOk result (lines.new ≡ with_some lines.old line.now) }
 {
@@ -41,7 +40,7 @@ fn add_some(lines: &mut List<Line>, line: &Option<Line>) -> Result<(), Oom>
     }
 }
 
-/// COR of each row that is live of those that the lines speak of.
+/// Returns the `COR` lines of the live rows that `lines` are on.
 fn corrected_lines(
     alloc: Global,
     board: &Board,
@@ -58,7 +57,7 @@ fn corrected_lines(
     Ok(corrected)
 }
 
-/// The texts that are given for an event: of an event that is given twice the first.
+/// Returns the texts that are given for an event; the first if there are several.
 fn given_for<'a>(texts: &'a [EventTexts], event: &Event) -> Option<&'a Texts>
     ensures { MatchOption result (given_for texts.now event.now ≡ None) (λ found. given_for texts.now event.now ≡ Some found.now) }
 {
@@ -70,7 +69,8 @@ fn given_for<'a>(texts: &'a [EventTexts], event: &Event) -> Option<&'a Texts>
     None
 }
 
-/// The texts of an event in a correction: those that are given for it, else those of the product.
+/// Returns the texts of an event in a correction: those in `given`, else those in `before`, else
+/// empty ones.
 fn texts_for(
     alloc: Global,
     given: &[EventTexts],
@@ -88,7 +88,7 @@ fn texts_for(
     }
 }
 
-/// The events that have a line, in order, each with its texts.
+/// Returns each event that has a line with its texts, in ascending order of events.
 fn corrected_texts(
     alloc: Global,
     given: &[EventTexts],
@@ -105,14 +105,13 @@ fn corrected_texts(
     Ok(told)
 }
 
-/// Whether one of the lines is of the event.
 fn has_line(lines: &[Line], event: &Event) -> bool
     ensures { result ≡ has_line lines.now event.now }
 {
     lines.iter().any(|line| line.event == *event)
 }
 
-/// NoEvent: a text's event has no line in the corrected product.
+/// NoEvent: texts are given for an event that has no line in the product that is corrected.
 fn lineless(lines: &[Line], texts: &[EventTexts]) -> Option<Refusal>
     ensures { result ≡ lineless lines.now texts.now }
 {
@@ -156,7 +155,7 @@ fn letters_spent(letters: u8) -> Option<Refusal>
     }
 }
 
-/// The first rule that a correction of these lines breaks, but for that on its texts.
+/// Returns the first rule that a correction with these lines breaks, apart from NoEvent.
 #[tactic(auto, unfolding(crate::specs::Corrections::broken_on))]
 fn broken_on(
     alloc: Global,
@@ -189,7 +188,8 @@ fn broken_on(
     Ok(too_many(lines.len()))
 }
 
-/// The correction of these lines: it opens nothing, and bears the letter behind those of the original's earlier corrections.
+/// Returns the correction with these lines. It opens no event, and its letter comes after those of
+/// the original's earlier corrections.
 fn correction_of(
     alloc: Global,
     sent: &Sent,
@@ -212,9 +212,16 @@ fn correction_of(
     })
 }
 
-/// The correction of a product that was sent, planned at t: COR for each of its lines whose row is live at t; all others are left out. Texts that are given for an event replace those of the product.
+/// Returns the plan of a correction of `sent` at minute `t`: `COR` for each of its lines whose row
+/// is live at `t`, and no line for the others. Texts that are given for an event replace those of
+/// the product. `last` is the number of the last product of its category, and `letters` counts the
+/// corrections that the original has.
 ///
-/// `last` is the number of the last product of its category, and `letters` how many corrections the original has. Or the first rule that is broken, with what it names.
+/// # Errors
+///
+/// `Or::No` with the first rule that the correction breaks, and otherwise out of memory.
+///
+/// Source: NWS Instruction 10-1703, P-VTEC action codes; docs/DECISIONS.md, "Plans".
 pub fn plan_correction(
     alloc: Global,
     board: &Board,

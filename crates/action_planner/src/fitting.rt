@@ -1,4 +1,4 @@
-//! Whether a draft may be planned: each of its intents by its hazard, its category and its zones.
+//! Whether a draft may hold an intent: the tests of its hazard, category and zones.
 ghost use Rattle.std.specs.Prelude.{◌≡◌, ◌≤◌, ◌↔◌, find, length, None, IsTrue};
 ghost use Rattle.std.specs.List.{All};
 ghost use Rattle.hazard_types.specs.Hazards.{facts_of};
@@ -25,7 +25,7 @@ pub fn is_known(hazard: &Hazard) -> bool
     facts(*hazard).is_some()
 }
 
-/// Whether the zone is of another kind than these facts have.
+/// Whether the hazard is the desk's and the zone is not of its kind (county or forecast zone).
 fn of_other_kind(known: &Option<Facts>, zone: &Zone) -> bool
     ensures { result ≡ of_other_kind known.now zone.now }
 {
@@ -35,7 +35,6 @@ fn of_other_kind(known: &Option<Facts>, zone: &Zone) -> bool
     }
 }
 
-/// The first zone of another kind.
 fn first_other(known: &Option<Facts>, zones: &[Zone]) -> Option<Zone>
     ensures { result ≡ find (of_other_kind known.now) zones.now }
 {
@@ -47,7 +46,10 @@ fn first_other(known: &Option<Facts>, zones: &[Zone]) -> Option<Zone>
     None
 }
 
-/// The first zone that is of another kind than the hazard's. None where the hazard is not the desk's.
+/// Returns the first zone that is not of the hazard's kind (county or forecast zone). `None` for a
+/// hazard that the desk does not issue.
+///
+/// Source: docs/HAZARDS.md.
 pub fn wrong_kind(hazard: &Hazard, zones: &[Zone]) -> Option<Zone>
     ensures first { result ≡ find (of_other_kind (facts_of hazard.now)) zones.now }
     ensures none { (result ≡ None) ↔ AreOfKind hazard.now zones.now }
@@ -71,14 +73,14 @@ fn opens_with(category: Category, hazard: &Hazard) -> bool
     }
 }
 
-/// Whether the desk issues the hazard, and opens its events with this category.
+/// Whether the desk issues the hazard and opens its events in this category.
 pub fn is_opened_by(category: Category, hazard: &Hazard) -> bool
     ensures { IsTrue result ↔ IsOpenedBy category hazard.now }
 {
     opens_with(category, hazard)
 }
 
-/// Whether the desk issues the hazard, and follows its events with this category.
+/// Whether the desk issues the hazard and follows its events in this category.
 pub fn is_followed_by(category: Category, hazard: &Hazard) -> bool
     ensures { IsTrue result ↔ IsFollowedBy category hazard.now }
 {
@@ -114,7 +116,7 @@ fn fits(category: Category, intent: &Intent) -> bool
     }
 }
 
-/// Whether the zone is before the first of some.
+/// Whether the zone comes before the first of `later`; true if there is none.
 fn is_before_first(zone: &Zone, later: &[Zone]) -> bool
     ensures { result ≡ is_before_first zone.now later.now }
 {
@@ -124,7 +126,7 @@ fn is_before_first(zone: &Zone, later: &[Zone]) -> bool
     }
 }
 
-/// Whether each zone is before the next.
+/// Whether the zones are in strictly ascending order.
 fn ascend(zones: &[Zone]) -> bool
     ensures { result ≡ ascend zones.now }
 {
@@ -136,7 +138,7 @@ fn ascend(zones: &[Zone]) -> bool
     true
 }
 
-/// Whether each zone stands once, told by a copy of them that is sorted.
+/// Whether the zones are distinct; sorts a copy in `sorted`.
 #[tactic(auto, using(crate::proofs::OnceLemmas::once_sorted))]
 fn stand_once_in(sorted: &mut [Zone], zones: &[Zone]) -> bool
     requires { length sorted.old ≡ length zones.now }
@@ -147,7 +149,7 @@ fn stand_once_in(sorted: &mut [Zone], zones: &[Zone]) -> bool
     ascend(sorted)
 }
 
-/// Whether each zone stands once, in whatever order they are.
+/// Whether the zones are distinct, whatever their order. Sorts a copy on the stack.
 fn stand_once_unordered(zones: &[Zone]) -> bool
     requires some { 1 ≤ length zones.now }
     requires few { length zones.now ≤ 600 }
@@ -157,7 +159,7 @@ fn stand_once_unordered(zones: &[Zone]) -> bool
     stand_once_in(&mut sorted[..zones.len()], zones)
 }
 
-/// Whether each zone stands once. Mostly they ascend, and are not copied.
+/// Whether the zones are distinct. Ascending zones, the usual case, are not copied.
 fn stand_once(zones: &[Zone]) -> bool
     requires some { 1 ≤ length zones.now }
     requires few { length zones.now ≤ 600 }
@@ -169,14 +171,16 @@ fn stand_once(zones: &[Zone]) -> bool
     stand_once_unordered(zones)
 }
 
-/// Whether there are as many zones as an intent may have, each once.
+/// Whether there are 1 to 600 zones, all distinct.
 fn make_a_list(zones: &[Zone]) -> bool
     ensures { result ≡ are_zones zones.now }
 {
     1 <= zones.len() && zones.len() <= MOST_ZONES && stand_once(zones)
 }
 
-/// Whether there is at least one zone, and at most six hundred, each once.
+/// Whether there are 1 to 600 zones, all distinct.
+///
+/// Source: docs/REQUESTS.md, "Drafts and the parts of a request" (E13 BadZoneList).
 pub fn are_zones(zones: &[Zone]) -> bool
     ensures { IsTrue result ↔ AreZones zones.now }
 {
@@ -189,21 +193,25 @@ fn holds(category: Category, intent: &Intent) -> bool
     fits(category, intent) && make_a_list(zones_of(intent))
 }
 
-/// Whether a draft of the category may hold the intent: its hazard is the category's, and its zones are a list of the hazard's kind.
+/// Whether a draft of the category may hold the intent: the desk issues its hazard in this
+/// category, and it has 1 to 600 distinct zones, all of the hazard's kind. A new event is tested by
+/// the category that opens its hazard, every other by the one that follows it.
+///
+/// Source: docs/DECISIONS.md, "Plans"; docs/HAZARDS.md.
 pub fn may_hold(category: Category, intent: &Intent) -> bool
     ensures { IsTrue result ↔ MayHold category intent.now }
 {
     holds(category, intent)
 }
 
-/// Whether a draft may be planned, as far as it goes itself: it holds at most 64 intents, each of which it may hold.
+/// Whether a draft meets what `plan` requires of it: at most 64 intents, each of which passes
+/// `may_hold`. For callers that make drafts themselves; an office tests each intent as it comes.
 pub fn may_be_planned(draft: &Draft) -> bool
     ensures { IsTrue result ↔ ((length draft.now.intents ≤ 64) × All (MayHold draft.now.category) draft.now.intents) }
 {
     draft.intents.len() <= MOST_INTENTS && may_hold_all(draft.category, draft.intents.as_slice())
 }
 
-/// Whether a draft of the category may hold each of the intents.
 fn may_hold_all(category: Category, intents: &[Intent]) -> bool
     ensures { IsTrue result ↔ All (MayHold category) intents.now }
 {

@@ -1,4 +1,4 @@
-//! The rules on an intent as a whole.
+//! The rules on an intent as a whole. Each function returns the refusal, or `None`.
 ghost use Rattle.std.specs.Prelude.{◌≡◌, ◌<◌, find, option_map};
 ghost use Rattle.event_life.specs.Products.{is_open};
 ghost use Rattle.hazard_board.specs.Consistent.{IsConsistent};
@@ -14,7 +14,7 @@ use hazard_board::Board;
 use hazard_types::desk_hazards::facts;
 use hazard_types::{End, Event, Flood, Hazard, Intent, Minute, PutPart, Refusal, Row};
 
-/// Whether the event is open: whether it is the one that goes on with its hazard and number.
+/// Whether the event is open: whether it is the board's open event of its hazard and number.
 fn is_open(board: &Board, t: Minute, event: &Event) -> bool
     requires { IsConsistent board.now.rows t }
     ensures { result ≡ is_open board.now.rows t event.now }
@@ -25,7 +25,7 @@ fn is_open(board: &Board, t: Minute, event: &Event) -> bool
     }
 }
 
-/// Whether the intent wants its event to be open: all do but a put of a new event and a routine intent.
+/// Whether the intent needs its event to be open. A put of a new event and a routine intent do not.
 fn needs_event(intent: &Intent) -> bool
     ensures { result ≡ needs_event intent.now }
 {
@@ -36,7 +36,7 @@ fn needs_event(intent: &Intent) -> bool
     }
 }
 
-/// Whether a put begins before this minute, or does not end after both its begin and this minute.
+/// Whether a put begins before `t`, or does not end after both its begin and `t`.
 fn is_bad_period(part: &PutPart, t: Minute) -> bool
     ensures { result ≡ is_bad_period part.now t }
 {
@@ -44,7 +44,7 @@ fn is_bad_period(part: &PutPart, t: Minute) -> bool
     begin.get() < t.get() || !(ends_after(&part.end, begin) && ends_after(&part.end, t))
 }
 
-/// Whether the hazard may stand until further notice.
+/// Whether the hazard may be in effect until further notice.
 fn may_stand_open(hazard: Hazard) -> bool
     ensures { result ≡ may_stand_open (facts_of hazard) }
 {
@@ -54,7 +54,7 @@ fn may_stand_open(hazard: Hazard) -> bool
     }
 }
 
-/// Whether the hazard needs flood values.
+/// Whether the hazard needs flood values (H-VTEC).
 fn needs_values(hazard: Hazard) -> bool
     ensures { result ≡ needs_values (facts_of hazard) }
 {
@@ -76,7 +76,7 @@ pub fn not_open(board: &Board, t: Minute, p: &Placed) -> Option<Refusal>
     }
 }
 
-/// BadPeriod: a put that begins before this minute, or does not end after both its begin and this minute.
+/// BadPeriod: a put begins before `t`, or does not end after both its begin and `t`.
 pub fn bad_period(t: Minute, p: &Placed) -> Option<Refusal>
     requires { p.now.place < 64 }
     ensures { result ≡ bad_period t p.now }
@@ -89,7 +89,7 @@ pub fn bad_period(t: Minute, p: &Placed) -> Option<Refusal>
     }
 }
 
-/// NoOpenEnd: a put until further notice, of a hazard that may not stand so.
+/// NoOpenEnd: a put until further notice, of a hazard that must have an end.
 pub fn open_end(p: &Placed) -> Option<Refusal>
     requires { p.now.place < 64 }
     ensures { result ≡ open_end p.now }
@@ -123,7 +123,7 @@ pub fn needed_flood(p: &Placed) -> Option<Refusal>
     }
 }
 
-/// FloodBarred: a put with flood values, of a hazard without.
+/// FloodBarred: a put with flood values, of a hazard that takes none.
 pub fn barred_flood(p: &Placed) -> Option<Refusal>
     requires { p.now.place < 64 }
     ensures { result ≡ barred_flood p.now }
@@ -138,7 +138,7 @@ pub fn barred_flood(p: &Placed) -> Option<Refusal>
     }
 }
 
-/// The location that flood values name.
+/// Returns the location that flood values name.
 fn site_of(flood: &Option<Flood>) -> Option<[u8; 5]>
     ensures { result ≡ site_of flood.now }
 {
@@ -148,7 +148,7 @@ fn site_of(flood: &Option<Flood>) -> Option<[u8; 5]>
     }
 }
 
-/// Whether both are locations, and differ.
+/// Whether both are given and differ.
 fn differs(first: &Option<[u8; 5]>, second: &Option<[u8; 5]>) -> bool
     ensures { result ≡ differs first.now second.now }
 {
@@ -158,7 +158,7 @@ fn differs(first: &Option<[u8; 5]>, second: &Option<[u8; 5]>) -> bool
     }
 }
 
-/// Whether the flood values of a row name another location than these.
+/// Whether the row and the values name two different locations.
 fn other_site(row: &Option<Row>, named: &Option<Flood>) -> bool
     ensures { result ≡ other_site row.now named.now }
 {
@@ -168,7 +168,7 @@ fn other_site(row: &Option<Row>, named: &Option<Flood>) -> bool
     }
 }
 
-/// Whether a put joins the event and names another location than the event has.
+/// Whether a put joins the event and names another location than the event's first row.
 fn moves_site(board: &Board, event: &Event, part: &PutPart) -> bool
     ensures { result ≡ moves_site board.now.rows event.now part.now }
 {
@@ -187,7 +187,8 @@ pub fn site_moved(board: &Board, p: &Placed) -> Option<Refusal>
     }
 }
 
-/// That the number of an event is held, where an open event of an earlier year has it.
+/// Returns the refusal NumberHeld if an open event of an earlier year has the event's hazard and
+/// number.
 fn number_held(board: &Board, t: Minute, event: &Event) -> Option<Refusal>
     requires { IsConsistent board.now.rows t }
     ensures { result ≡ option_map held_by (find (holds t event.now) board.now.rows) }
@@ -200,7 +201,9 @@ fn number_held(board: &Board, t: Minute, event: &Event) -> Option<Refusal>
     }
 }
 
-/// NumberHeld: an open event of an earlier year has the number that is to be opened.
+/// NumberHeld: an open event of an earlier year has the number of the event that is to be opened.
+///
+/// Source: NWS Instruction 10-1703, P-VTEC event tracking numbers; docs/DECISIONS.md, "Plans".
 pub fn held(board: &Board, t: Minute, p: &Placed) -> Option<Refusal>
     requires { IsConsistent board.now.rows t }
     ensures { result ≡ held board.now.rows t p.now }
@@ -212,7 +215,7 @@ pub fn held(board: &Board, t: Minute, p: &Placed) -> Option<Refusal>
     }
 }
 
-/// NumbersSpent: the number that is to be opened is above 9,999.
+/// NumbersSpent: the number of the event that is to be opened is above 9,999.
 pub fn spent(p: &Placed) -> Option<Refusal>
     ensures { result ≡ spent p.now }
 {

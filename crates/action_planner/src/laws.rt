@@ -1,4 +1,4 @@
-//! Laws of planned lines.
+//! Laws of drafts and corrections as a whole.
 ghost use Rattle.std.specs.Prelude.{◌≡◌, ◌↔◌, ◌≤◌, ◌+◌, ℕ, true, false, List, [], ◌∷◌, ◌++◌, None, IsTrue, count_by, filter_map, is_none, map};
 ghost use Rattle.std.specs.List.{All, AllPairs, Any, Contains};
 ghost use Rattle.std.specs.List.Sorted.{IsStrictlySortedBy};
@@ -39,7 +39,8 @@ pub fn planned_lines_are_distinct()
         AllPairs (λ (l m : Line). ¬ ((l.event ≡ m.event) × (l.zone ≡ m.zone))) (planned_lines c rows t (placed counts t intents)) }
 {}
 
-/// Where a draft breaks no rule, its NEW, EXA and EXB lines are those, but for ROU, whose event has no row in the zone that no line has ended. ROU lines speak of no row.
+/// Where a draft breaks no rule, its lines NEW, EXA and EXB are exactly the non-routine ones whose
+/// event has no unended row in the zone. The event of a ROU line has no row in the zone at all.
 pub fn planned_lines_open_where_no_row_stands()
     ensures opened { (c : Category) (rows : List Row) (counts : List Count) (intents : List Intent) (t : ℕ) →
         CanPlan rows counts c intents t → IsStrictlySortedBy by_key rows → broken c rows t (placed counts t intents) ≡ None →
@@ -49,7 +50,8 @@ pub fn planned_lines_open_where_no_row_stands()
         All (λ (line : Line). is_routine line.action ≡ true → row_at rows line.event line.zone ≡ None) (planned_lines c rows t (placed counts t intents)) }
 {}
 
-/// The events that a draft opens are of the year of issue, and those of each hazard are numbered on from the counts, in order of places.
+/// The events that a draft opens are of the year of issue. Those of each hazard are numbered from
+/// one more than its count, in the order of places.
 pub fn opened_events_are_numbered_on()
     ensures year { (counts : List Count) (intents : List Intent) (t : ℕ) →
         All (λ (e : Event). e.year ≡ year_of t) (opened (placed counts t intents)) }
@@ -57,7 +59,8 @@ pub fn opened_events_are_numbered_on()
         numbers_of h (year_of t) (opened (placed counts t intents)) ≡ counted_from (count_of counts h (year_of t) + 1) (count_by (opens_hazard h) intents) }
 {}
 
-/// The NEW lines of a draft are of the events that it opens, and each of these has one.
+/// Each NEW line of a draft is of an event that the draft opens, and each of these events has a NEW
+/// line.
 pub fn new_lines_are_of_opened_events()
     ensures lines { (c : Category) (rows : List Row) (counts : List Count) (intents : List Intent) (t : ℕ) →
         All (λ (line : Line). is_new line.action ≡ true → Contains (opened (placed counts t intents)) line.event) (planned_lines c rows t (placed counts t intents)) }
@@ -66,37 +69,42 @@ pub fn new_lines_are_of_opened_events()
         All (λ (e : Event). Any (λ (line : Line). (is_new line.action ≡ true) × (line.event ≡ e)) (planned_lines c rows t (placed counts t intents))) (opened (placed counts t intents)) }
 {}
 
-/// Where a draft breaks no rule, its lines are those that are planned case by case: by the intent that speaks of an event in a zone, or by none, and by what the event's row there is.
+/// Where a draft breaks no rule, its lines are exactly those of the definition by cases: by the
+/// intent on an event in a zone, or none, and by the event's row there.
 pub fn planned_lines_are_those_planned()
     ensures { (c : Category) (rows : List Row) (counts : List Count) (intents : List Intent) (t : ℕ) →
         CanPlan rows counts c intents t → IsStrictlySortedBy by_key rows → broken c rows t (placed counts t intents) ≡ None →
         (line : Line) → Contains (planned_lines c rows t (placed counts t intents)) line ↔ IsPlanned c rows t (placed counts t intents) line }
 {}
 
-/// The events that a draft opens are those of its puts of new events, in order of places: each is of its put's hazard.
+/// The hazards of the events that a draft opens are those of its puts of new events, in the order
+/// of places.
 pub fn opened_events_stand_in_order()
     ensures { (counts : List Count) (intents : List Intent) (t : ℕ) →
         map (λ (e : Event). e.hazard) (opened (placed counts t intents)) ≡ filter_map hazard_opened intents }
 {}
 
-/// Of no rows and no numbers all holds that stands between the products of an office.
+/// With no rows and no numbers, all that is required between the products of an office (`Stands`)
+/// holds.
 pub fn nothing_stands_at_first()
     ensures { (t : ℕ) → Stands [] [] t }
 {}
 
-/// What stands at a minute stands at later ones.
+/// What holds between products at a minute holds at later ones.
 pub fn what_stands_stands_later()
     ensures { (rows : List Row) (counts : List Count) (t u : ℕ) → t ≤ u → Stands rows counts t → Stands rows counts u }
 {}
 
-/// Each event that a draft without a broken rule opens has the number behind those that were drawn before it, and it is one of four digits.
+/// Where a draft breaks no rule, each event that it opens has the number after those drawn before
+/// it, of at most 9,999.
 pub fn opened_events_are_drawn_in_order()
     ensures { (c : Category) (rows : List Row) (counts : List Count) (intents : List Intent) (t : ℕ) (earlier later : List Event) (e : Event) →
         broken c rows t (placed counts t intents) ≡ None → opened (placed counts t intents) ≡ earlier ++ e ∷ later →
         (e.etn ≡ count_of counts e.hazard e.year + count_by (is_numbered e.hazard e.year) earlier + 1) × (e.etn ≤ 9999) }
 {}
 
-/// The product of a draft that breaks no rule keeps what stands, once the events that it opens drew their numbers.
+/// The product of a draft that breaks no rule keeps what holds between products (`Stands`), once
+/// the numbers of its new events are drawn.
 pub fn plans_keep_what_stands()
     ensures { (c : Category) (rows : List Row) (counts after : List Count) (intents : List Intent) (t : ℕ) →
         CanPlan rows counts c intents t → Stands rows counts t → IsStrictlySortedBy by_key rows → broken c rows t (placed counts t intents) ≡ None →
@@ -104,14 +112,15 @@ pub fn plans_keep_what_stands()
         Stands (rows_after rows t (planned_lines c rows t (placed counts t intents))) after t }
 {}
 
-/// The lines of a correction are apart in event and zone, as those of the product that it corrects are.
+/// If no two lines of a product are of one event in one zone, no two of its correction are.
 pub fn corrected_lines_are_distinct()
     ensures { (rows : List Row) (t : ℕ) (lines : List Line) →
         AllPairs (λ (l m : Line). ¬ ((l.event ≡ m.event) × (l.zone ≡ m.zone))) lines →
         AllPairs (λ (l m : Line). ¬ ((l.event ≡ m.event) × (l.zone ≡ m.zone))) (corrected_lines rows t lines) }
 {}
 
-/// The correction of a product that breaks no rule keeps what stands. It draws no number.
+/// The correction of a product, if it breaks no rule, keeps what holds between products (`Stands`).
+/// It draws no number.
 pub fn corrections_keep_what_stands()
     ensures { (rows : List Row) (counts : List Count) (sent : Sent) (last letters : ℕ) (given : List EventTexts) (t : ℕ) →
         Stands rows counts t → IsStrictlySortedBy by_key rows → AllPairs (λ (l m : Line). ¬ ((l.event ≡ m.event) × (l.zone ≡ m.zone))) sent.lines →

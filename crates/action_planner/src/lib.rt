@@ -1,4 +1,8 @@
-//! The lines of a draft, or the first rule that it breaks.
+//! Plans products: turns a draft, or the correction of a sent product, into its VTEC lines,
+//! segments and texts, or returns the first rule that it breaks. For callers that keep an office's
+//! board and event numbers; begin with `plan` for a draft and `plan_correction` for a correction.
+//! The functions with an empty body (`planned_lines_are_lawful` and the like) are lemmas for proofs
+//! and do nothing.
 #![tactic(auto)]
 
 mod correcting;

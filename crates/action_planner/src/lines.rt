@@ -1,4 +1,5 @@
-//! The lines of a draft: what each intent says of each of its zones, and the rows that go on beside them.
+//! The lines of a draft: those of each intent in each of its zones, and `CON` for the other live
+//! rows of the category in these zones.
 ghost use Rattle.std.specs.Prelude.{◌≡◌, ◌<◌, ◌∷◌, [], ◌++◌, true, length, map, filter, IfOk, OnOk};
 ghost use Rattle.std.specs.List.{list_any};
 ghost use Rattle.std.specs.List.Sorted.{IsStrictlySortedBy};
@@ -21,7 +22,7 @@ use hazard_types::{
 };
 use std::alloc::Global;
 
-/// The line that says of a row what it is, by this action.
+/// Returns the line with this action that says the period and flood values of a row.
 pub fn line_on(action: Action, t: Minute, row: &Row) -> Line
     ensures { result ≡ line_on action t row.now }
 {
@@ -35,7 +36,7 @@ pub fn line_on(action: Action, t: Minute, row: &Row) -> Line
     }
 }
 
-/// Whether the end is a minute within half an hour of this one either way.
+/// Whether the end is a minute at most 30 minutes before or after `t`.
 fn is_near_end(end: &End, t: Minute) -> bool
     ensures { result ≡ is_near_end end.now t }
 {
@@ -45,7 +46,11 @@ fn is_near_end(end: &End, t: Minute) -> bool
     }
 }
 
-/// How a row ends where its event is finished: UPG before its end under a row of a higher rank, else EXP near its end, else CAN.
+/// Returns the action that ends a row: `UPG` before its end if a live row of a higher rank of its
+/// family overlaps it after the draft, else `EXP` within half an hour of its end, else `CAN`.
+///
+/// Source: NWS Instruction 10-1703, P-VTEC action codes; docs/PRODUCTS.md, "Which action a line
+/// gets".
 fn finishing_action(sending: &Sending, row: &Row) -> Action
     requires { have_finish sending.now.intents ≡ true }
     ensures { result ≡ finishing_action sending.now.rows sending.now.minute sending.now.intents row.now }
@@ -61,13 +66,17 @@ fn finishing_action(sending: &Sending, row: &Row) -> Action
 }
 
 /// Adds a line.
+///
+/// # Errors
+///
+/// Out of memory.
 pub fn add_line(lines: &mut List<Line>, line: &Line) -> Result<(), Oom>
     ensures { OnOk result (lines.new ≡ lines.old ++ line.now ∷ []) }
 {
     lines.extend(&[*line])
 }
 
-/// Adds what a finish says of a row: nothing where there is none.
+/// Adds the line of a finish; none if there is no row.
 fn add_finish(lines: &mut List<Line>, sending: &Sending, row: &Option<Row>) -> Result<(), Oom>
     requires { have_finish sending.now.intents ≡ true }
     ensures { OnOk result (lines.new ≡ lines.old ++ finish_lines sending.now.rows sending.now.minute sending.now.intents row.now) }
@@ -81,7 +90,7 @@ fn add_finish(lines: &mut List<Line>, sending: &Sending, row: &Option<Row>) -> R
     }
 }
 
-/// Adds what a restate says of a row: nothing where there is none.
+/// Adds the line of a restate; none if there is no row.
 fn add_restate(lines: &mut List<Line>, t: Minute, row: &Option<Row>) -> Result<(), Oom>
     ensures { OnOk result (lines.new ≡ lines.old ++ restate_lines t row.now) }
 {
@@ -91,7 +100,7 @@ fn add_restate(lines: &mut List<Line>, t: Minute, row: &Option<Row>) -> Result<(
     }
 }
 
-/// The line of a routine intent in a zone: ROU, with zero times.
+/// Returns the line of a routine intent in a zone: `ROU`, with zero times.
 fn routine_line(event: &Event, zone: &Zone) -> Line
     ensures { result ≡ routine_line event.now zone.now }
 {
@@ -105,7 +114,7 @@ fn routine_line(event: &Event, zone: &Zone) -> Line
     }
 }
 
-/// The action of an intent where it meets no row: only a put opens.
+/// Returns the action of a put in a zone without an unended row. Other intents do not use it.
 fn opening_of(sending: &Sending, p: &Placed) -> Action
     ensures { result ≡ opening_of sending.now.rows sending.now.minute p.now.event p.now.intent }
 {
@@ -115,7 +124,7 @@ fn opening_of(sending: &Sending, p: &Placed) -> Action
     }
 }
 
-/// Adds what an intent says of one of its zones, where it opens with this action.
+/// Adds the line of an intent in one of its zones. `opening` is `opening_of` the intent.
 fn add_lines_in(
     lines: &mut List<Line>,
     sending: &Sending,
@@ -137,7 +146,8 @@ fn add_lines_in(
     }
 }
 
-/// Adds what an intent says of its zones, as they were written. What a put opens with is asked once.
+/// Adds the lines of an intent in all its zones, in the order written. The opening action is looked
+/// up once.
 fn add_lines_of(lines: &mut List<Line>, sending: &Sending, p: &Placed) -> Result<(), Oom>
     requires finish { is_finish p.now.intent ≡ true → have_finish sending.now.intents ≡ true }
     ensures { OnOk result (lines.new ≡ lines.old ++ lines_in_zones sending.now.rows sending.now.minute sending.now.intents p.now.event p.now.intent (zones_of p.now.intent)) }
@@ -149,7 +159,7 @@ fn add_lines_of(lines: &mut List<Line>, sending: &Sending, p: &Placed) -> Result
     Ok(())
 }
 
-/// Adds what the intents say, in order of places.
+/// Adds the lines of all intents, in the order of places.
 fn add_spoken(lines: &mut List<Line>, sending: &Sending) -> Result<(), Oom>
     ensures { OnOk result (lines.new ≡ lines.old ++ lines_from sending.now.rows sending.now.minute sending.now.intents sending.now.intents) }
 {
@@ -159,7 +169,7 @@ fn add_spoken(lines: &mut List<Line>, sending: &Sending) -> Result<(), Oom>
     Ok(())
 }
 
-/// Whether products of this category follow the hazard.
+/// Whether the desk follows events of the hazard in products of this category.
 pub fn follows(category: Category, hazard: &Hazard) -> bool
     ensures { result ≡ follows category (facts_of hazard.now) }
 {
@@ -169,7 +179,8 @@ pub fn follows(category: Category, hazard: &Hazard) -> bool
     }
 }
 
-/// Whether a live row goes on beside the intents: it is of the draft's category, one of them is in its zone, and none is on it.
+/// Whether a live row gets an added `CON` line: it is of the draft's category and no flood (FL), an
+/// intent is in its zone, and no intent is on its event there.
 fn goes_on(category: Category, spoken: &Spoken, row: &Row) -> bool
     ensures { result ≡ goes_on category spoken.now row.now }
 {
@@ -179,14 +190,14 @@ fn goes_on(category: Category, spoken: &Spoken, row: &Row) -> bool
         && !spoken.speaks(&row.event, &row.zone)
 }
 
-/// Whether a row is live, and goes on beside the intents.
+/// Whether a row is live and gets an added `CON` line.
 fn goes_on_beside(category: Category, t: Minute, spoken: &Spoken, row: &Row) -> bool
     ensures { result ≡ goes_on_beside category t spoken.now row.now }
 {
     is_live(row, t) && goes_on(category, spoken, row)
 }
 
-/// Adds CON for each of these rows that goes on beside the intents.
+/// Adds `CON` for each of these rows that gets an added line.
 fn add_going_on(
     lines: &mut List<Line>,
     category: Category,
@@ -204,8 +215,8 @@ fn add_going_on(
     Ok(())
 }
 
-/// Adds CON for each row of a zone that goes on beside the intents. Those that have ended are
-/// not looked at.
+/// Adds `CON` for the rows of a zone that get an added line. Looks at the board's live rows of the
+/// zone, so most ended ones are skipped.
 fn add_in_zone(
     lines: &mut List<Line>,
     sending: &Sending,
@@ -220,7 +231,7 @@ fn add_in_zone(
     add_going_on(lines, category, t, sending.spoken(), rows)
 }
 
-/// Adds CON for each row of these zones that goes on beside the intents.
+/// Adds `CON` for the rows of these zones that get an added line.
 fn add_in_zones(
     lines: &mut List<Line>,
     sending: &Sending,
@@ -236,7 +247,7 @@ fn add_in_zones(
     Ok(())
 }
 
-/// Adds CON for each row that goes on beside the intents: only the zones that they touch are looked at.
+/// Adds `CON` for all rows that get an added line. Looks only at the zones of the intents.
 fn add_beside(
     alloc: Global,
     lines: &mut List<Line>,
@@ -249,7 +260,14 @@ fn add_beside(
     add_in_zones(lines, sending, category, zones.as_slice())
 }
 
-/// The lines of a draft: what its intents say by place, then by zone as it was written, and the rows that go on beside them.
+/// Returns the lines of a draft: those of the intents, by place and then by zone as written; then
+/// the added `CON` lines, by zone and then by event.
+///
+/// # Errors
+///
+/// Out of memory.
+///
+/// Source: docs/PRODUCTS.md, "A line that is added"; docs/DECISIONS.md, "Plans".
 pub fn planned_lines(
     alloc: Global,
     sending: &Sending,

@@ -1,4 +1,4 @@
-//! The intents of a draft at their places, each with the event that it speaks of.
+//! The intents of a draft at their places, each with its event.
 ghost use Rattle.std.specs.Prelude.{◌≡◌, ◌<◌, ◌≤◌, count_by, length, IfOk};
 ghost use Rattle.action_planner.specs.Placed.{zones_of, placed, opens_hazard, new_event, event_of_intent, is_opening, opened};
 
@@ -7,7 +7,7 @@ use hazard_types::{Event, Hazard, Intent, List, Minute, Oom, Target, Zone, year_
 use std::alloc::Global;
 use std::marker::Model;
 
-/// An intent at its place, with the event that it speaks of.
+/// An intent of a draft, its place (counted from 0) and its event.
 #[derive(Drop)]
 pub struct Placed<'a> {
     pub place: usize,
@@ -23,7 +23,7 @@ impl<'a> Model for Placed<'a> {
     ghost view = { λ p. record { place = p.place; event = p.event; intent = p.intent.now } };
 }
 
-/// The zones of an intent, as they were written.
+/// Returns the zones of an intent, in the order in which they were written.
 pub fn zones_of(intent: &Intent) -> &[Zone]
     ensures { result.now ≡ zones_of intent.now }
 {
@@ -48,7 +48,7 @@ fn opens_hazard(hazard: &Hazard, intent: &Intent) -> bool
     }
 }
 
-/// How many of the intents put a new event of this hazard.
+/// Returns how many of the intents put a new event of this hazard.
 fn openings(hazard: &Hazard, intents: &[Intent]) -> usize
     ensures value { result ≡ count_by (opens_hazard hazard.now) intents.now }
     ensures few { result ≤ length intents.now }
@@ -59,7 +59,8 @@ fn openings(hazard: &Hazard, intents: &[Intent]) -> usize
         .count()
 }
 
-/// The new event of a hazard behind those that were drawn in the year and those of the earlier intents.
+/// Returns the new event of a hazard: its number is one more than those drawn in the year of `t`
+/// and those of the earlier intents.
 fn new_event(numbers: &Numbers, t: Minute, earlier: &[Intent], hazard: &Hazard) -> Event
     requires { length earlier.now ≤ 64 }
     ensures { result ≡ new_event numbers.now.counts t earlier.now hazard.now }
@@ -74,7 +75,7 @@ fn new_event(numbers: &Numbers, t: Minute, earlier: &[Intent], hazard: &Hazard) 
     }
 }
 
-/// The event of an intent behind these earlier ones.
+/// Returns the event of an intent, given the intents before it. A routine intent has number 0.
 fn event_of_intent(numbers: &Numbers, t: Minute, earlier: &[Intent], intent: &Intent) -> Event
     requires { length earlier.now ≤ 64 }
     ensures { result ≡ event_of_intent numbers.now.counts t earlier.now intent.now }
@@ -94,7 +95,14 @@ fn event_of_intent(numbers: &Numbers, t: Minute, earlier: &[Intent], intent: &In
     }
 }
 
-/// The intents at their places. A new event gets the number behind those that were drawn in the year and those of the earlier places.
+/// Returns the intents at their places, each with its event. A new event has the number after those
+/// drawn in the year of `t` and those of the earlier places.
+///
+/// # Errors
+///
+/// Out of memory.
+///
+/// Source: NWS Instruction 10-1703, P-VTEC event tracking numbers; docs/DECISIONS.md, "Plans".
 pub fn place_all<'a>(
     alloc: Global,
     numbers: &Numbers,
@@ -129,7 +137,11 @@ pub fn is_opening(intent: &Intent) -> bool
     }
 }
 
-/// The events that the intents open, in order of places.
+/// Returns the events that the intents open, in the order of places.
+///
+/// # Errors
+///
+/// Out of memory.
 pub fn opened_events(alloc: Global, ps: &[Placed]) -> Result<List<Event>, Oom>
     ensures { IfOk result (λ events. events ≡ opened ps.now) }
 {

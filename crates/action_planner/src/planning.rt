@@ -1,4 +1,4 @@
-//! The plan of a draft, or the first rule that it breaks.
+//! The plan of a draft.
 ghost use Rattle.std.specs.Prelude.{◌≡◌, ◌↔◌, Some, None, Err, IfOk, OnOk, IsTrue, Contains};
 ghost use Rattle.hazard_types.specs.declared.line.Line.{Line as SaidLine};
 ghost use Rattle.hazard_types.specs.declared.or.Or.TheVariants.{No};
@@ -23,7 +23,6 @@ use hazard_types::{Category, Draft, Line, List, Minute, Oom, Or, Plan, Refusal};
 use segmenter::segments;
 use std::alloc::Global;
 
-/// The plan of these lines.
 fn plan_of(alloc: Global, category: Category, lines: List<Line>, ps: &[Placed]) -> Result<Plan, Oom>
     ensures { IfOk result (λ plan. HasLines category lines ps.now plan) }
 {
@@ -40,7 +39,17 @@ fn plan_of(alloc: Global, category: Category, lines: List<Line>, ps: &[Placed]) 
     })
 }
 
-/// The product of a draft that is sent at t: its lines with the rows that go on beside them, their segments, the events that it opens, and the texts. Or the first rule that it breaks, with what it names.
+/// Returns the plan of a draft that is sent at minute `t`: its lines, their segments, the events
+/// that it opens and the texts of each event. The lines are those of the intents, and `CON` for the
+/// other live rows of the category in the zones of the draft. The draft must pass `may_be_planned`,
+/// `board` and `numbers` must be those of one office, and `t` at most 52,000,000.
+///
+/// # Errors
+///
+/// `Or::No` with the first rule that the draft breaks, and otherwise out of memory.
+///
+/// Source: NWS Instruction 10-1703, P-VTEC action codes; docs/PRODUCTS.md, "Which action a line
+/// gets"; docs/DECISIONS.md, "Plans".
 #[tactic(auto, using(crate::proofs::RulesLemmas::places_below))]
 pub fn plan(
     alloc: Global,

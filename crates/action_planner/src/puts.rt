@@ -1,4 +1,5 @@
-//! What a put says of a zone, and the period that it gives there.
+//! The line, the period and the row of a put in a zone. An unended row is one that no line has
+//! ended.
 ghost use Rattle.std.specs.Prelude.{◌≡◌};
 ghost use Rattle.action_planner.specs.Lines.{minute_of, put_period, put_period_on, printed_begin, opening_action, opening_line_by, continuing_line, unless_ended, joined_row, put_line, row_by_put};
 
@@ -6,7 +7,7 @@ use event_life::same_at;
 use hazard_board::Board;
 use hazard_types::{Action, Begin, Event, Line, Minute, Period, PutPart, Row, Target, Zone};
 
-/// The minute of a begin, where the product is sent at t.
+/// Returns the minute of a begin: `t`, the minute of issue, for `Begin::Now`.
 pub fn minute_of(begin: &Begin, t: Minute) -> Minute
     ensures { result ≡ minute_of begin.now t }
 {
@@ -16,7 +17,7 @@ pub fn minute_of(begin: &Begin, t: Minute) -> Minute
     }
 }
 
-/// The period that a put gives to a zone without a row, or whose row a line has ended.
+/// Returns the period of a put in a zone where the event has no row or an ended one.
 fn put_period(part: &PutPart, t: Minute) -> Period
     ensures { result ≡ put_period part.now t }
 {
@@ -26,7 +27,7 @@ fn put_period(part: &PutPart, t: Minute) -> Period
     }
 }
 
-/// The period that a put gives to a row: on one that has begun the begin stays.
+/// Returns the period of a put on an unended row. A row that has begun keeps its begin.
 fn put_period_on(part: &PutPart, t: Minute, row: &Row) -> Period
     ensures { result ≡ put_period_on part.now t row.now }
 {
@@ -41,7 +42,7 @@ fn put_period_on(part: &PutPart, t: Minute, row: &Row) -> Period
     }
 }
 
-/// A begin as a line prints it: None, which is printed as zeros, where it is at most the minute.
+/// Returns the begin that a line prints: `None`, printed as zeros, for a begin of at most `t`.
 pub fn printed_begin(begin: Minute, t: Minute) -> Option<Minute>
     ensures { result ≡ printed_begin begin t }
 {
@@ -52,7 +53,11 @@ pub fn printed_begin(begin: Minute, t: Minute) -> Option<Minute>
     }
 }
 
-/// The action of a put where it meets no row: NEW for a new event; for one that is joined EXA where a live row of it has the same period, else EXB.
+/// Returns the action of a put in a zone without an unended row: `NEW` for a new event, `EXA` for
+/// an event with a live row of the same period, else `EXB`.
+///
+/// Source: NWS Instruction 10-1703, P-VTEC action codes; docs/PRODUCTS.md, "Which action a line
+/// gets".
 pub fn opening_action(board: &Board, t: Minute, event: &Event, part: &PutPart) -> Action
     ensures { result ≡ opening_action board.now.rows t event.now part.now part.now.target }
 {
@@ -68,7 +73,7 @@ pub fn opening_action(board: &Board, t: Minute, event: &Event, part: &PutPart) -
     }
 }
 
-/// What a put says of a zone where it meets no row, by the action that it opens with.
+/// Returns the line of a put in a zone without an unended row, with the action given.
 fn opening_line(t: Minute, event: &Event, part: &PutPart, zone: &Zone, action: Action) -> Line
     ensures { result ≡ opening_line_by action t event.now part.now zone.now }
 {
@@ -82,7 +87,7 @@ fn opening_line(t: Minute, event: &Event, part: &PutPart, zone: &Zone, action: A
     }
 }
 
-/// What a put says of a row: CON where its period stays, else EXT.
+/// Returns the line of a put on an unended row: `CON` if its period stays the same, else `EXT`.
 fn continuing_line(t: Minute, event: &Event, part: &PutPart, row: &Row) -> Line
     ensures { result ≡ continuing_line t event.now part.now row.now }
 {
@@ -102,7 +107,7 @@ fn continuing_line(t: Minute, event: &Event, part: &PutPart, row: &Row) -> Line
     }
 }
 
-/// The row, where no line has ended it.
+/// Returns the row unless a line has ended it.
 fn unless_ended(row: Option<Row>) -> Option<Row>
     ensures { result ≡ unless_ended row }
 {
@@ -112,7 +117,7 @@ fn unless_ended(row: Option<Row>) -> Option<Row>
     }
 }
 
-/// The row that a put meets in a zone. A new event has none, and one that a line has ended is made anew.
+/// Returns the unended row that a put changes in a zone. A put of a new event changes none.
 fn joined_row(board: &Board, event: &Event, zone: &Zone, target: &Target) -> Option<Row>
     ensures { result ≡ joined_row board.now.rows event.now zone.now target.now }
 {
@@ -122,7 +127,7 @@ fn joined_row(board: &Board, event: &Event, zone: &Zone, target: &Target) -> Opt
     }
 }
 
-/// What a put says of a zone, where it opens with this action.
+/// Returns the line of a put in a zone. `opening` is `opening_action` of the put.
 pub fn put_line(
     board: &Board,
     t: Minute,
@@ -140,7 +145,7 @@ pub fn put_line(
     }
 }
 
-/// The row that a put leaves in a zone.
+/// Returns the row that a put leaves in a zone.
 pub fn row_by_put(board: &Board, t: Minute, event: &Event, part: &PutPart, zone: &Zone) -> Row
     ensures { result ≡ row_by_put board.now.rows t event.now part.now zone.now }
 {

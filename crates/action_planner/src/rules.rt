@@ -1,4 +1,4 @@
-//! The first rule that a draft breaks.
+//! The rules on a draft, and the first that it breaks.
 ghost use Rattle.std.specs.Prelude.{◌≡◌, ◌<◌, IfOk, option_map};
 ghost use Rattle.std.specs.List.{All};
 ghost use Rattle.std.specs.List.Sorted.{IsStrictlySortedBy};
@@ -20,7 +20,7 @@ use hazard_board::Board;
 use hazard_types::{Line, List, Minute, Oom, Refusal};
 use std::alloc::Global;
 
-/// A rule on single intents, by the refusal that it leads to.
+/// A rule on single intents, named as its refusal.
 #[derive(Clone, Copy)]
 pub enum Rule {
     NoEvent,
@@ -37,7 +37,7 @@ pub enum Rule {
     NumbersSpent,
 }
 
-/// The rules that are asked before that on clashes, in order.
+/// The rules that are tested before Conflict, in order.
 const BEFORE_CONFLICT: [Rule; 10] = [
     Rule::NoEvent,
     Rule::NotLive,
@@ -51,10 +51,10 @@ const BEFORE_CONFLICT: [Rule; 10] = [
     Rule::SiteMoved,
 ];
 
-/// The rules that are asked after it, in order.
+/// The rules that are tested after Conflict, in order.
 const ON_NUMBERS: [Rule; 2] = [Rule::NumberHeld, Rule::NumbersSpent];
 
-/// What an intent of a draft is refused with under a rule.
+/// Returns the refusal of one intent under one rule.
 fn offence(board: &Board, t: Minute, spoken: &Spoken, rule: Rule, p: &Placed) -> Option<Refusal>
     requires consistent { IsConsistent board.now.rows t }
     requires place { p.now.place < 64 }
@@ -76,7 +76,7 @@ fn offence(board: &Board, t: Minute, spoken: &Spoken, rule: Rule, p: &Placed) ->
     }
 }
 
-/// The first intent that offends against a rule.
+/// Returns the refusal of the first intent that breaks the rule.
 fn first_offence(board: &Board, t: Minute, spoken: &Spoken, rule: Rule) -> Option<Refusal>
     requires consistent { IsConsistent board.now.rows t }
     requires places { All (λ (p : PlacedIntent). p.place < 64) spoken.now }
@@ -91,7 +91,7 @@ fn first_offence(board: &Board, t: Minute, spoken: &Spoken, rule: Rule) -> Optio
     None
 }
 
-/// The first intent that offends against the first of some rules against which one does.
+/// Returns the refusal under the first of `rules` that an intent breaks.
 fn first_against(board: &Board, t: Minute, spoken: &Spoken, rules: &[Rule]) -> Option<Refusal>
     requires consistent { IsConsistent board.now.rows t }
     requires places { All (λ (p : PlacedIntent). p.place < 64) spoken.now }
@@ -106,7 +106,12 @@ fn first_against(board: &Board, t: Minute, spoken: &Spoken, rules: &[Rule]) -> O
     None
 }
 
-/// Conflict: after the lines two live rows of one family overlap in a zone.
+/// Conflict: after the lines two live rows of one family overlap in a zone. Names the first such
+/// pair, by zone and then by events.
+///
+/// # Errors
+///
+/// Out of memory.
 pub fn conflict(
     alloc: Global,
     board: &Board,
@@ -136,7 +141,8 @@ pub fn too_many(lines: usize) -> Option<Refusal>
     }
 }
 
-/// The first rule that a draft breaks of those that ask for none of its lines, with what it names.
+/// Returns the first broken rule among those that need no lines: EmptyDraft, then those of
+/// `BEFORE_CONFLICT`.
 #[tactic(auto, unfolding(crate::specs::Rules::broken_early))]
 pub fn broken_early(board: &Board, t: Minute, spoken: &Spoken) -> Option<Refusal>
     requires consistent { IsConsistent board.now.rows t }
@@ -149,7 +155,14 @@ pub fn broken_early(board: &Board, t: Minute, spoken: &Spoken) -> Option<Refusal
     first_against(board, t, spoken, &BEFORE_CONFLICT)
 }
 
-/// The first rule that a draft of these lines breaks of the others, with what it names.
+/// Returns the first broken rule among those that come after `broken_early`: Conflict, then
+/// NumberHeld and NumbersSpent, then TooManyLines.
+///
+/// # Errors
+///
+/// Out of memory.
+///
+/// Source: docs/REQUESTS.md, "What a product says"; docs/DECISIONS.md, "Plans".
 #[tactic(auto, unfolding(crate::specs::Rules::broken_late))]
 pub fn broken_late(
     alloc: Global,

@@ -1,4 +1,4 @@
-//! A draft that is sent at a minute, and which rows are overlaid after it: another row that it leaves live is of a higher rank of the family and overlaps them.
+//! A draft at its minute of issue over a board, and the search for a row of a higher rank.
 ghost use Rattle.std.specs.Prelude.{◌≡◌, ◌&&◌, ◌||◌, [], true, map, IfOk, OnOk};
 ghost use Rattle.std.specs.List.{list_any};
 ghost use Rattle.event_life.specs.Higher.{outranks};
@@ -16,16 +16,17 @@ use std::alloc::Global;
 use std::collections::BTreeMap;
 use std::marker::Model;
 
-/// The rows of each zone.
+/// Rows by their zone.
 type Zones = BTreeMap<Zone, List<Row>>;
 
-/// A draft that is sent at a minute, over a board. A clause sees the rows of the board, the minute and the intents.
+/// A draft that is sent at a minute over a board. Its model is the rows of the board, the minute
+/// and the intents.
 #[derive(Drop)]
 pub struct Sending<'a> {
     board: &'a Board,
     minute: Minute,
     spoken: &'a Spoken<'a>,
-    // The rows that the puts leave, where one of the intents is a finish: no other asks for them.
+    // The rows that the puts leave, if one of the intents is a finish; no other intent needs them.
     put: Zones,
 }
 
@@ -41,7 +42,9 @@ impl<'a> Model for Sending<'a> {
     ghost invariant = { λ s. have_finish s.spoken.now ≡ true → s.put.entries ≡ add_rows [] (rows_by_puts s.board.now.rows s.minute s.spoken.now) };
 }
 
-/// Whether the first hazard is of a higher rank of the second's family.
+/// Whether the first hazard is of the second's family and of a higher rank.
+///
+/// Source: docs/HAZARDS.md.
 fn outranks(high: &Hazard, low: &Hazard) -> bool
     ensures { result ≡ outranks high.now low.now }
 {
@@ -54,7 +57,8 @@ fn outranks(high: &Hazard, low: &Hazard) -> bool
     *family == *other && *least < *rank
 }
 
-/// Whether another row is live in the zone of a row, of a higher rank of its family, and overlaps it.
+/// Whether `other` is a live row in the zone of `row`, of a higher rank of its family, and overlaps
+/// it.
 fn overlays(t: Minute, row: &Row, other: &Row) -> bool
     ensures { result ≡ overlays t row.now other.now }
 {
@@ -64,21 +68,20 @@ fn overlays(t: Minute, row: &Row, other: &Row) -> bool
         && overlaps(&other.period, &row.period)
 }
 
-/// Whether one of the other rows overlays a row.
 fn any_overlays(t: Minute, row: &Row, others: &[Row]) -> bool
     ensures { result ≡ list_any (overlays t row.now) others.now }
 {
     others.iter().any(|other| overlays(t, row, other))
 }
 
-/// Whether one of some standing rows that is left overlays a row, or one of some rows by puts does.
+/// Whether one of the rows `stand` that the draft leaves, or one of the rows `put`, overlays `row`.
 fn is_overlaid_by(t: Minute, row: &Row, stand: &[Row], put: &[Row], spoken: &Spoken) -> bool
     ensures { result ≡ (list_any (λ other. overlays t row.now other && is_left spoken.now other) stand.now || list_any (overlays t row.now) put.now) }
 {
     any_left_overlays(t, row, stand, spoken) || any_overlays(t, row, put)
 }
 
-/// The rows of a zone.
+/// Returns the rows of a zone.
 fn rows_in<'a>(zones: &'a Zones, zone: &Zone) -> &'a [Row]
     ensures { result.now ≡ rows_in zones.now.entries zone.now }
 {
@@ -88,7 +91,7 @@ fn rows_in<'a>(zones: &'a Zones, zone: &Zone) -> &'a [Row]
     }
 }
 
-/// Adds a row behind those of its zone.
+/// Adds a row after those of its zone.
 fn add_row(alloc: Global, zones: &mut Zones, row: &Row) -> Result<(), Oom>
     ensures { OnOk result (zones.new.entries ≡ add_row zones.old.entries row.now) }
 {
@@ -103,7 +106,7 @@ fn is_left(spoken: &Spoken, row: &Row) -> bool
     !spoken.is_taken(&row.event, &row.zone)
 }
 
-/// Whether a row that no put and no finish is on overlays a row.
+/// Whether one of `others` that no put and no finish is on overlays `row`.
 fn any_left_overlays(t: Minute, row: &Row, others: &[Row], spoken: &Spoken) -> bool
     ensures { result ≡ list_any (λ other. overlays t row.now other && is_left spoken.now other) others.now }
 {
@@ -129,7 +132,7 @@ fn add_put(
     Ok(())
 }
 
-/// Adds the rows that an intent leaves by a put.
+/// Adds the rows that an intent leaves; only a put leaves any.
 fn add_rows_by(
     alloc: Global,
     zones: &mut Zones,
@@ -145,7 +148,7 @@ fn add_rows_by(
     }
 }
 
-/// Adds the rows that the intents leave by puts.
+/// Adds the rows that all puts among the intents leave.
 fn add_by_puts(
     alloc: Global,
     zones: &mut Zones,
@@ -161,7 +164,7 @@ fn add_by_puts(
     Ok(())
 }
 
-/// The rows that the puts leave, by their zones.
+/// Returns the rows that the puts leave, by zone.
 #[tactic(auto, using(crate::proofs::SendingLemmas::all_put))]
 fn put_rows(alloc: Global, board: &Board, t: Minute, spoken: &Spoken) -> Result<Zones, Oom>
     ensures { IfOk result (λ zones. zones.entries ≡ add_rows [] (rows_by_puts board.now.rows t spoken.now)) }
@@ -171,7 +174,6 @@ fn put_rows(alloc: Global, board: &Board, t: Minute, spoken: &Spoken) -> Result<
     Ok(zones)
 }
 
-/// Whether the intent is a finish.
 fn is_finish(intent: &Intent) -> bool
     ensures { result ≡ is_finish intent.now }
 {
@@ -181,14 +183,14 @@ fn is_finish(intent: &Intent) -> bool
     }
 }
 
-/// Whether one of the intents is a finish.
 fn have_finish(ps: &[Placed]) -> bool
     ensures { result ≡ have_finish ps.now }
 {
     ps.iter().any(|p| is_finish(p.intent))
 }
 
-/// The rows that the puts leave, by their zones, where one of the intents is a finish.
+/// Returns the rows that the puts leave, by zone, if one of the intents is a finish; else an empty
+/// map.
 fn put_rows_for_finish(
     alloc: Global,
     board: &Board,
@@ -205,7 +207,11 @@ fn put_rows_for_finish(
 }
 
 impl<'a> Sending<'a> {
-    /// A draft of these intents, sent at a minute over a board. The error is want of memory.
+    /// Returns these intents as a draft that is sent at `minute` over `board`.
+    ///
+    /// # Errors
+    ///
+    /// Out of memory.
     pub fn new(
         alloc: Global,
         board: &'a Board,
@@ -223,28 +229,29 @@ impl<'a> Sending<'a> {
         })
     }
 
-    /// The board before the product.
+    /// Returns the board before the product.
     pub fn board(&self) -> &'a Board
         ensures { result.now.rows ≡ self.now.rows }
     {
         self.board
     }
 
-    /// The minute of issue.
+    /// Returns the minute of issue.
     pub fn minute(&self) -> Minute
         ensures { result ≡ self.now.minute }
     {
         self.minute
     }
 
-    /// The intents, with look-ups over them.
+    /// Returns the intents with their look-ups.
     pub fn spoken(&self) -> &'a Spoken<'a>
         ensures { result.now ≡ self.now.intents }
     {
         self.spoken
     }
 
-    /// Whether a row of a higher rank of the family is live after the draft, and overlaps this one in its zone.
+    /// Whether a row of a higher rank of the family is live after the draft and overlaps this one
+    /// in its zone.
     pub fn is_overlaid(&self, row: &Row) -> bool
         requires { have_finish self.now.intents ≡ true }
         ensures { result ≡ is_overlaid self.now.rows self.now.minute self.now.intents row.now }

@@ -1,4 +1,5 @@
-//! Look-ups over the intents of a draft: which of them are on an event in a zone, and which zones they touch. They are made once, and asked often.
+//! Look-ups over the intents of a draft, built once: which of them are on an event in a zone, and
+//! which zones they have.
 ghost use Rattle.std.specs.Prelude.{◌≡◌, ◌&&◌, ◌==◌, not, ℕ, [], is_some, IfOk, OnOk};
 ghost use Rattle.std.specs.List.{list_any};
 ghost use Rattle.std.specs.List.Sorted.{IsStrictlySortedBy};
@@ -22,10 +23,10 @@ pub struct Spot {
     pub zone: Zone,
 }
 
-/// The intents that are on an event in a zone.
+/// The intents that are on one event in one zone.
 #[derive(Clone, Copy)]
 pub struct Speakers {
-    /// The place of the first of them.
+    /// The place of the first of them, counted from 0.
     pub first: usize,
     /// Whether one of them is at another place.
     pub others: bool,
@@ -33,7 +34,7 @@ pub struct Speakers {
     pub taken: bool,
 }
 
-/// The intents of a draft, with look-ups over them. A clause sees the list of the intents.
+/// The intents of a draft with look-ups over them. Its model is the list of the intents.
 #[derive(Drop)]
 pub struct Spoken<'a> {
     ps: &'a [Placed<'a>],
@@ -53,7 +54,6 @@ impl<'a> Model for Spoken<'a> {
     ghost invariant = { λ s. IsIndex s.ps.now s.spots.entries s.zones.keys };
 }
 
-/// Whether the intent is a put or a finish.
 fn puts_or_finishes(intent: &Intent) -> bool
     ensures { result ≡ puts_or_finishes intent.now }
 {
@@ -63,7 +63,7 @@ fn puts_or_finishes(intent: &Intent) -> bool
     }
 }
 
-/// Those that are on a spot, and one more.
+/// Returns the intents on an event in a zone after one more is added.
 fn speakers_with(held: Option<Speakers>, p: &Placed) -> Speakers
     ensures { result ≡ speakers_with held p.now }
 {
@@ -82,7 +82,7 @@ fn speakers_with(held: Option<Speakers>, p: &Placed) -> Speakers
     }
 }
 
-/// Whether one of those on a spot is at another place than this.
+/// Whether one of these intents is at another place than `place`.
 fn has_other(held: Option<Speakers>, place: usize) -> bool
     ensures { result ≡ has_other place held }
 {
@@ -92,7 +92,7 @@ fn has_other(held: Option<Speakers>, place: usize) -> bool
     }
 }
 
-/// Adds an intent to those on its event in a zone.
+/// Adds an intent to those on its event in one zone.
 fn add_spot(spots: &mut BTreeMap<Spot, Speakers>, p: &Placed, zone: &Zone) -> Result<(), Oom>
     ensures { OnOk result (spots.new.entries ≡ add_spot spots.old.entries p.now zone.now) }
 {
@@ -115,7 +115,7 @@ fn add_spots(spots: &mut BTreeMap<Spot, Speakers>, p: &Placed) -> Result<(), Oom
     Ok(())
 }
 
-/// Each event in a zone that is spoken of, with the intents on it.
+/// Returns the intents on each event in each zone.
 fn spots_of(alloc: Global, ps: &[Placed]) -> Result<BTreeMap<Spot, Speakers>, Oom>
     ensures { IfOk result (λ spots. spots.entries ≡ spots_from [] ps.now) }
 {
@@ -126,7 +126,6 @@ fn spots_of(alloc: Global, ps: &[Placed]) -> Result<BTreeMap<Spot, Speakers>, Oo
     Ok(spots)
 }
 
-/// Adds zones.
 fn add_zones(held: &mut BTreeSet<Zone>, zones: &[Zone]) -> Result<(), Oom>
     ensures { OnOk result (held.new.keys ≡ add_zones held.old.keys zones.now) }
 {
@@ -136,7 +135,7 @@ fn add_zones(held: &mut BTreeSet<Zone>, zones: &[Zone]) -> Result<(), Oom>
     Ok(())
 }
 
-/// The zones that are touched.
+/// Returns the zones of all intents.
 fn zones_touched(alloc: Global, ps: &[Placed]) -> Result<BTreeSet<Zone>, Oom>
     ensures { IfOk result (λ zones. zones.keys ≡ zones_from [] ps.now) }
 {
@@ -147,7 +146,7 @@ fn zones_touched(alloc: Global, ps: &[Placed]) -> Result<BTreeSet<Zone>, Oom>
     Ok(zones)
 }
 
-/// The zones of a set, in order.
+/// Returns the zones of a set, in ascending order.
 fn listed(alloc: Global, zones: &BTreeSet<Zone>) -> Result<List<Zone>, Oom>
     ensures zones { IfOk result (λ list. list ≡ zones.now.keys) }
     ensures order { IfOk result (λ list. IsStrictlySortedBy by_place list) }
@@ -160,7 +159,11 @@ fn listed(alloc: Global, zones: &BTreeSet<Zone>) -> Result<List<Zone>, Oom>
 }
 
 impl<'a> Spoken<'a> {
-    /// The look-ups over these intents. The error is want of memory.
+    /// Builds the look-ups over these intents.
+    ///
+    /// # Errors
+    ///
+    /// Out of memory.
     pub fn new(alloc: Global, ps: &'a [Placed<'a>]) -> Result<Self, Oom>
         ensures { IfOk result (λ spoken. spoken ≡ ps.now) }
     {
@@ -169,14 +172,14 @@ impl<'a> Spoken<'a> {
         Ok(Spoken { ps, spots, zones })
     }
 
-    /// The intents.
+    /// Returns the intents, in the order of places.
     pub fn intents(&self) -> &'a [Placed<'a>]
         ensures { result.now ≡ self.now }
     {
         self.ps
     }
 
-    /// Those that are on the event in the zone.
+    /// Returns the intents that are on the event in the zone.
     fn speakers(&self, event: &Event, zone: &Zone) -> Option<Speakers>
         ensures spoken { is_some result ≡ list_any (speaks event.now zone.now) self.now }
         ensures taken { is_taken result ≡ list_any (λ p. puts_or_finishes p.intent && speaks event.now zone.now p) self.now }
@@ -189,7 +192,7 @@ impl<'a> Spoken<'a> {
         self.spots.get(&spot).copied()
     }
 
-    /// Whether one of the intents is on the event in the zone.
+    /// Whether an intent is on the event in the zone.
     pub fn speaks(&self, event: &Event, zone: &Zone) -> bool
         ensures { result ≡ list_any (speaks event.now zone.now) self.now }
     {
@@ -206,21 +209,25 @@ impl<'a> Spoken<'a> {
         }
     }
 
-    /// Whether another intent is on the event of this one in the zone.
+    /// Whether an intent at another place is on the same event in the zone.
     pub fn is_shared(&self, p: &Placed, zone: &Zone) -> bool
         ensures { result ≡ is_shared self.now p.now zone.now }
     {
         has_other(self.speakers(&p.event, zone), p.place)
     }
 
-    /// Whether one of the intents is in the zone.
+    /// Whether one of the intents has the zone.
     pub fn touches(&self, zone: &Zone) -> bool
         ensures { result ≡ list_any (touches zone.now) self.now }
     {
         self.zones.contains(zone)
     }
 
-    /// The zones that the intents touch, in order.
+    /// Returns the zones of the intents, in ascending order, each once.
+    ///
+    /// # Errors
+    ///
+    /// Out of memory.
     pub fn zones(&self, alloc: Global) -> Result<List<Zone>, Oom>
         ensures touched { IfOk result (λ zones. (z : Place) → list_any (λ (y : Place). same_zone y z) zones ≡ list_any (touches z) self.now) }
         ensures order { IfOk result (λ zones. IsStrictlySortedBy by_place zones) }

@@ -8,7 +8,6 @@ use hazard_types::{Event, EventTexts, Intent, Line, List, Oom, Texts};
 use std::alloc::Global;
 use std::collections::BTreeSet;
 
-/// The texts of an intent.
 fn texts_of(intent: &Intent) -> &Texts
     ensures { result.now ≡ texts_of intent.now }
 {
@@ -20,7 +19,7 @@ fn texts_of(intent: &Intent) -> &Texts
     }
 }
 
-/// The texts of an event on which no intent is.
+/// Returns texts whose fields are all empty.
 pub fn no_texts(alloc: Global) -> Texts
     ensures { result ≡ no_texts }
 {
@@ -32,7 +31,11 @@ pub fn no_texts(alloc: Global) -> Texts
     }
 }
 
-/// A copy of texts.
+/// Returns a copy of texts.
+///
+/// # Errors
+///
+/// Out of memory.
 pub fn copied(texts: &Texts) -> Result<Texts, Oom>
     ensures { IfOk result (λ copy. copy ≡ texts.now) }
 {
@@ -40,7 +43,7 @@ pub fn copied(texts: &Texts) -> Result<Texts, Oom>
     Ok(copy)
 }
 
-/// The texts of the first intent on the event; none where no intent is.
+/// Returns the texts of the first intent on the event; empty texts if there is none.
 fn texts_on(alloc: Global, ps: &[Placed], event: &Event) -> Result<Texts, Oom>
     ensures { IfOk result (λ texts. texts ≡ texts_on ps.now event.now) }
 {
@@ -52,7 +55,6 @@ fn texts_on(alloc: Global, ps: &[Placed], event: &Event) -> Result<Texts, Oom>
     Ok(no_texts(alloc))
 }
 
-/// Adds an event to those in order, where it stands once.
 #[tactic(auto, using(crate::proofs::TextLemmas::key_added))]
 fn add_event(events: &mut BTreeSet<Event>, event: &Event) -> Result<(), Oom>
     ensures { OnOk result (events.new.keys ≡ add_event event.now events.old.keys) }
@@ -61,7 +63,11 @@ fn add_event(events: &mut BTreeSet<Event>, event: &Event) -> Result<(), Oom>
     Ok(())
 }
 
-/// The events that have a line, in order, each once.
+/// Returns the events that have a line, in ascending order, each once.
+///
+/// # Errors
+///
+/// Out of memory.
 pub fn events_of(alloc: Global, lines: &[Line]) -> Result<BTreeSet<Event>, Oom>
     ensures { IfOk result (λ events. events.keys ≡ events_of lines.now) }
 {
@@ -72,7 +78,11 @@ pub fn events_of(alloc: Global, lines: &[Line]) -> Result<BTreeSet<Event>, Oom>
     Ok(events)
 }
 
-/// The events that have a line, in order, each with its texts.
+/// Returns each event that has a line with its texts, in ascending order of events.
+///
+/// # Errors
+///
+/// Out of memory.
 pub fn event_texts(alloc: Global, ps: &[Placed], lines: &[Line]) -> Result<List<EventTexts>, Oom>
     ensures { IfOk result (λ texts. texts ≡ event_texts ps.now (events_of lines.now)) }
 {

@@ -1,4 +1,4 @@
-//! Laws of numbers and texts, for an office without counts and for the readers of its products.
+//! Laws of numbers and texts, for offices that keep no counts and for readers of their products.
 ghost use Rattle.std.specs.Prelude.{◌≡◌, ℕ, List};
 ghost use Rattle.std.specs.List.{AllPairs};
 ghost use Rattle.std.specs.List.Sorted.{IsStrictlySortedBy};
@@ -20,13 +20,15 @@ ghost use Rattle.action_planner.specs.Lines.{planned_lines};
 ghost use Rattle.action_planner.specs.Placed.{placed, opened};
 ghost use Rattle.action_planner.specs.Told.{counts_in};
 
-/// The events of a draft's NEW lines, in order of events, have the numbers of each hazard and year that the events it opens have, in order of places.
+/// Of each hazard and year, the NEW lines of a draft, in the order of events, have the same numbers
+/// as the events that it opens, in the order of places.
 pub fn new_lines_draw_the_numbers()
     ensures { (c : Category) (rows : List Row) (counts : List Count) (intents : List Intent) (t : ℕ) → CanPlan rows counts c intents t →
         (h : Hazard) (year : ℕ) → numbers_of h year (opened_by (planned_lines c rows t (placed counts t intents))) ≡ numbers_of h year (opened (placed counts t intents)) }
 {}
 
-/// The rows alone tell how many numbers of a hazard and year were drawn, and so the events of a draft's intents.
+/// The rows alone determine how many numbers of each hazard and year were drawn, and so the events
+/// of a draft's intents.
 pub fn rows_tell_the_numbers()
     ensures counts { (rows : List Row) (counts : List Count) → AreNumbered rows counts →
         (h : Hazard) (year : ℕ) → count_of (counts_in rows) h year ≡ count_of counts h year }
@@ -34,7 +36,9 @@ pub fn rows_tell_the_numbers()
         placed (counts_in rows) t intents ≡ placed counts t intents }
 {}
 
-/// A text says what the lines that its segments are of say, though in another order: they are lawful alike, leave the same rows, and open the same events. The lines are apart in event and zone.
+/// The lines of a text, in the order of its segments, are lawful if and only if those of the plan
+/// are, leave the same rows and open the same events. No two of the lines may be of one event in
+/// one zone.
 pub fn texts_say_what_their_lines_say()
     ensures lawful { (rows : List Row) (t : ℕ) (lines : List Line) (segments : List Segment) →
         IsStrictlySortedBy by_key rows → AreSegments lines segments → AllPairs IsApart lines → are_lawful rows t (lines_in_text segments) ≡ are_lawful rows t lines }

@@ -1,4 +1,6 @@
-//! The rules on an intent in its zones, each by the first zone that offends.
+//! The rules on an intent in each of its zones. Each rule returns the refusal for the first zone,
+//! as written, that breaks it. A row is live until a line ends it or its end comes; it is open
+//! until a line ends it or more than half an hour has passed since its end.
 ghost use Rattle.std.specs.Prelude.{◌≡◌, ◌&&◌, not, nat_le};
 ghost use Rattle.event_life.specs.Periods.{is_live, keeps_open};
 ghost use Rattle.event_life.specs.Products.{row_at};
@@ -31,7 +33,7 @@ fn has_live_row(board: &Board, t: Minute, event: &Event, zone: &Zone) -> bool
     }
 }
 
-/// Whether the event has a row in the zone that no line has ended and that is not live.
+/// Whether the event has a row in the zone whose end has come and that no line has ended.
 fn has_lapsed_row(board: &Board, t: Minute, event: &Event, zone: &Zone) -> bool
     ensures { result ≡ has_row_by (λ row. not row.ended && not (is_live t row)) (row_at board.now.rows event.now zone.now) }
 {
@@ -41,7 +43,7 @@ fn has_lapsed_row(board: &Board, t: Minute, event: &Event, zone: &Zone) -> bool
     }
 }
 
-/// Whether the event has a live row in the zone that has begun.
+/// Whether the event has a live row in the zone whose begin is at most `t`.
 fn has_begun_row(board: &Board, t: Minute, event: &Event, zone: &Zone) -> bool
     ensures { result ≡ has_row_by (λ row. is_live t row && nat_le row.period.begin t) (row_at board.now.rows event.now zone.now) }
 {
@@ -62,7 +64,7 @@ fn is_gone(board: &Board, t: Minute, event: &Event, intent: &Intent, zone: &Zone
     }
 }
 
-/// Whether the target is an event that is joined.
+/// Whether the put joins an event that exists.
 pub fn joins_by(target: &Target) -> bool
     ensures { result ≡ joins_by target.now }
 {
@@ -82,14 +84,14 @@ fn joins(intent: &Intent) -> bool
     }
 }
 
-/// Whether a joining put finds a row in the zone that no line has ended and that is not live.
+/// Whether a joining put finds a row in the zone whose end has come and that no line has ended.
 fn was_left(board: &Board, t: Minute, event: &Event, intent: &Intent, zone: &Zone) -> bool
     ensures { result ≡ was_left board.now.rows t event.now intent.now zone.now }
 {
     joins(intent) && has_lapsed_row(board, t, event, zone)
 }
 
-/// Whether a joining put would have a live row in the zone begin after this minute that has begun.
+/// Whether a joining put begins after `t` and finds a live row in the zone that has begun.
 fn is_moved(board: &Board, t: Minute, event: &Event, intent: &Intent, zone: &Zone) -> bool
     ensures { result ≡ is_moved board.now.rows t event.now intent.now zone.now }
 {
@@ -104,7 +106,7 @@ fn is_moved(board: &Board, t: Minute, event: &Event, intent: &Intent, zone: &Zon
     }
 }
 
-/// NotLive: a finish where no row is open, or a restate where none is live.
+/// NotLive: a finish in a zone without an open row, or a restate in a zone without a live one.
 pub fn gone(board: &Board, t: Minute, p: &Placed) -> Option<Refusal>
     ensures { result ≡ gone board.now.rows t p.now }
 {
@@ -117,7 +119,7 @@ pub fn gone(board: &Board, t: Minute, p: &Placed) -> Option<Refusal>
     })
 }
 
-/// LeftBefore: a joining put where the zone has a row that no line has ended and that is not live.
+/// LeftBefore: a joining put in a zone with a row whose end has come and that no line has ended.
 pub fn left_before(board: &Board, t: Minute, p: &Placed) -> Option<Refusal>
     ensures { result ≡ left board.now.rows t p.now }
 {
@@ -130,7 +132,7 @@ pub fn left_before(board: &Board, t: Minute, p: &Placed) -> Option<Refusal>
     })
 }
 
-/// Twice: another intent is on the event in the zone.
+/// Twice: another intent is on the same event in the zone.
 pub fn shared(spoken: &Spoken, p: &Placed) -> Option<Refusal>
     ensures { result ≡ shared spoken.now p.now }
 {
@@ -143,7 +145,7 @@ pub fn shared(spoken: &Spoken, p: &Placed) -> Option<Refusal>
     })
 }
 
-/// BegunMoved: a joining put that begins after this minute, on a live row that has begun.
+/// BegunMoved: a joining put that begins after `t`, on a live row that has begun.
 pub fn moved(board: &Board, t: Minute, p: &Placed) -> Option<Refusal>
     ensures { result ≡ moved board.now.rows t p.now }
 {

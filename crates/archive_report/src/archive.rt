@@ -1,4 +1,4 @@
-//! A report by the words of a command.
+//! Runs a report as the words of a command ask for it.
 ghost use Rattle.std.specs.Prelude.{◌≤◌};
 ghost use Rattle.byte_streams.specs.Flows.{streams};
 ghost use Rattle.program_ends.specs.Lines.{most_bytes};
@@ -11,11 +11,13 @@ use hazard_types::{List, Text};
 use program_ends::{End, end_at_once, end_run};
 use std::alloc::Global;
 
-/// The status of a report that lists something.
+/// The status of a report that lists a fault, a breach or a gap.
 const LISTED: u8 = 3;
 
-/// Does what the words say, with an input of at most `limit` bytes, and returns the status of the
-/// program.
+/// Does what the words `OFFICE CLASS STAMP` ask for, with an input of at most `limit` bytes, and
+/// returns the exit status.
+///
+/// Source: docs/ARCHIVE.md, "Exit status".
 pub fn archive_within<S: Source, K: Sink>(
     alloc: Global,
     words: &List<Text>,

@@ -1,4 +1,5 @@
-//! How many lines of an office and class a product has, counted for each zone of their segment.
+//! How many lines of an office and class a product has, each counted once for each zone of its
+//! segment.
 ghost use Rattle.std.specs.Prelude.{◌≡◌, ◌+◌, ◌*◌, length, filter, IfOk};
 ghost use Rattle.product_decoder.specs.Decoded.{decoded_of};
 ghost use Rattle.product_decoder.specs.FrameLines.{is_pair_by};
@@ -10,7 +11,7 @@ use hazard_types::Oom;
 use product_decoder::is_vtec_by;
 use product_frame::{Frame, FrameSegment, Pair};
 
-/// How many pairs are of the office and class.
+/// Returns how many pairs are of the office and class.
 fn count_by(asked: &Asked, pairs: &[Pair]) -> usize
     ensures { result ≡ length (filter (is_pair_by asked.now.office asked.now.class) pairs.now) }
 {
@@ -23,8 +24,7 @@ fn count_by(asked: &Asked, pairs: &[Pair]) -> usize
     count
 }
 
-/// A count and one of so many pairs for each zone. It never wraps: zones and pairs of a text that
-/// memory holds are far too few.
+/// Returns `count + zones * pairs`, or `Oom` if it overflows.
 fn count_with(count: usize, zones: usize, pairs: usize) -> Result<usize, Oom>
     ensures { IfOk result (λ n. n ≡ count + zones * pairs) }
 {
@@ -37,7 +37,7 @@ fn count_with(count: usize, zones: usize, pairs: usize) -> Result<usize, Oom>
     }
 }
 
-/// How many lines of the office and class segments have.
+/// Returns how many lines of the office and class the segments have.
 fn count_in(asked: &Asked, segments: &[FrameSegment]) -> Result<usize, Oom>
     ensures { IfOk result (λ count. count ≡ count_in asked.now segments.now) }
 {
@@ -49,11 +49,13 @@ fn count_in(asked: &Asked, segments: &[FrameSegment]) -> Result<usize, Oom>
     Ok(count)
 }
 
-/// How many lines of the office and class a frame has.
+/// Returns how many lines of the office and class a frame has.
 ///
 /// # Errors
 ///
-/// Out of memory where the count would wrap, which it never does.
+/// `Oom` if the count overflows, which no text that fits in memory causes.
+///
+/// Source: docs/DECISIONS.md, "The archive's report".
 pub fn count_by_frame(asked: &Asked, frame: &Frame) -> Result<usize, Oom>
     ensures { IfOk result (λ count. count
         ≡ length (said_by asked.now.office asked.now.class (decoded_of frame.now).pairs)) }

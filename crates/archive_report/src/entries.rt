@@ -1,4 +1,4 @@
-//! Lines of a report that stand for themselves: gaps and rows.
+//! Entries that have a line each in a report: gaps and rows.
 ghost use Rattle.std.specs.Prelude.{◌≡◌, ◌++◌, ℕ, List, flat_map, OnOk, IfErr};
 ghost use Rattle.program_ends.specs.Steps.{IsCauseOf};
 ghost use Rattle.archive_report.specs.Pieces.{Halts, Pages};
@@ -12,16 +12,16 @@ use product_decoder::GapFound;
 use program_ends::Stop;
 use std::alloc::Global;
 
-/// What has a line of its own.
+/// An entry that has a line in a report.
 pub trait Entry {
-    /// The line.
+    /// The line, as contracts see it.
     ghost line: { Self → List ℕ };
 
     /// Adds the line.
     ///
     /// # Errors
     ///
-    /// Out of memory: the text may then end with the beginning of the line.
+    /// Out of memory. The text may then end with a prefix of the line.
     fn put(&self, alloc: Global, out: &mut Text) -> Result<(), Oom>
         ensures { OnOk result (out.new ≡ out.old ++ line self.now) };
 }
@@ -46,7 +46,12 @@ impl Entry for Row {
     }
 }
 
-/// Tells the lines, in their order.
+/// Adds the lines of the entries to `out`, and writes `out` each time it is large enough.
+///
+/// # Errors
+///
+/// `Stop::Write` if a write failed, and `Stop::OutOfMemory`. A prefix of `out` and the lines was
+/// then written.
 pub fn tell_entries<E: Entry, K: Sink>(
     alloc: Global,
     out: &mut Text,

@@ -1,4 +1,4 @@
-//! What stands in a report behind the lines of the products.
+//! The part of a report after the lines of the products.
 ghost use Rattle.std.specs.Prelude.{◌≡◌, ◌≤◌, ◌++◌, ◌+◌, length, flat_map, IfOk, OnOk, IfErr};
 ghost use Rattle.std.specs.List.{All};
 ghost use Rattle.event_life.specs.Products.{rows_of};
@@ -22,7 +22,8 @@ use product_decoder::{EventLives, Found, GapFound, Reader, Track};
 use program_ends::Stop;
 use std::alloc::Global;
 
-/// Tells a life, which becomes the last.
+/// Adds a life's line to `out` and remembers its texts in `last`; writes `out` once it is large
+/// enough.
 fn tell_life<K: Sink>(
     alloc: Global,
     out: &mut Text,
@@ -41,7 +42,7 @@ fn tell_life<K: Sink>(
     turn(alloc, out, output)
 }
 
-/// Tells the lives of an event.
+/// Adds the lives of an event.
 fn tell_event<K: Sink>(
     alloc: Global,
     out: &mut Text,
@@ -63,7 +64,7 @@ fn tell_event<K: Sink>(
     Ok(())
 }
 
-/// Tells the lives of these events, so that those of one alone stand at once.
+/// Adds the lives of these events. Memory holds the lives of one event at a time.
 fn tell_events<K: Sink>(
     alloc: Global,
     out: &mut Text,
@@ -83,7 +84,7 @@ fn tell_events<K: Sink>(
     Ok(())
 }
 
-/// Tells the lives, event by event.
+/// Adds the lives of all events.
 fn tell_lives<K: Sink>(
     alloc: Global,
     out: &mut Text,
@@ -101,7 +102,8 @@ fn tell_lives<K: Sink>(
     tell_events(alloc, out, output, events.as_slice())
 }
 
-/// Tells the breaches. `numbers` are those of the products that were taken, among all.
+/// Adds the lines in breach. `numbers` has the number of each product without a fault among all
+/// products of the input.
 fn tell_breaches<K: Sink>(
     alloc: Global,
     out: &mut Text,
@@ -124,7 +126,7 @@ fn tell_breaches<K: Sink>(
     Ok(())
 }
 
-/// How many faults, breaches and gaps there are.
+/// Returns how many faults, breaches and gaps there are.
 fn total(faults: usize, breaches: &[Found], gaps: &[GapFound]) -> usize
     requires { faults ≤ 2000000000 }
     ensures { result ≡ faults + length breaches.now + length gaps.now }
@@ -132,7 +134,7 @@ fn total(faults: usize, breaches: &[Found], gaps: &[GapFound]) -> usize
     faults + breaches.len() + gaps.len()
 }
 
-/// Adds the lives, breaches and gaps, and returns how many are listed with the faults.
+/// Adds the lives, breaches and gaps. Returns how many faults, breaches and gaps there are.
 fn tell_findings<K: Sink>(
     alloc: Global,
     out: &mut Text,
@@ -164,7 +166,7 @@ fn tell_findings<K: Sink>(
     Ok(total(tally.faults, breaches.as_slice(), gaps.as_slice()))
 }
 
-/// Tells the rows that are shown.
+/// Adds the rows at the minute that is asked for.
 fn tell_shown<K: Sink>(
     alloc: Global,
     out: &mut Text,
@@ -186,7 +188,7 @@ fn tell_shown<K: Sink>(
     tell_entries(alloc, out, output, rows.as_slice())
 }
 
-/// Tells the last line.
+/// Adds the last line and writes what is left in `out`.
 fn tell_last<K: Sink>(
     alloc: Global,
     out: &mut Text,
@@ -204,7 +206,8 @@ fn tell_last<K: Sink>(
     flush(alloc, out, output)
 }
 
-/// Tells the rows that are shown, and how many faults, breaches and gaps are listed.
+/// Adds the rows at the minute that is asked for and the last line, and writes what is left in
+/// `out`.
 fn tell_end<K: Sink>(
     alloc: Global,
     out: &mut Text,
@@ -225,7 +228,15 @@ fn tell_end<K: Sink>(
     tell_last(alloc, out, output, listed)
 }
 
-/// Adds what the products come to, and returns how many faults, breaches and gaps are listed.
+/// Writes the report from the lives on: lives, breaches, gaps, the rows at a minute and the last
+/// line. Returns how many faults, breaches and gaps it lists.
+///
+/// # Errors
+///
+/// `Stop::Write` if a write failed, and `Stop::OutOfMemory`. A prefix of this part was then
+/// written.
+///
+/// Source: docs/ARCHIVE.md, "The lines".
 pub fn tell_rest<K: Sink>(
     alloc: Global,
     asked: &Asked,

@@ -1,4 +1,4 @@
-//! An input is read piece by piece.
+//! Reads an input piece by piece.
 ghost use Rattle.std.specs.Prelude.{◌≤◌};
 ghost use Rattle.byte_streams.specs.Flows.{streams};
 ghost use Rattle.program_ends.specs.Steps.{IsCauseOf};
@@ -13,9 +13,13 @@ use product_decoder::Feed;
 use program_ends::{Pieces, Stop};
 use std::alloc::Global;
 
-/// Reads an input of at most `limit` bytes to its end, and writes the line of each product. The
-/// products that are finished within a piece are written before the next read. One byte more than
-/// the limit is read, and is no product's.
+/// Reads an input of at most `limit` bytes to its end and writes the line of each product. The
+/// lines of the products that a piece finishes are written before the next read.
+///
+/// # Errors
+///
+/// `Stop::Read` or `Stop::Write` if a read or a write failed, `Stop::TooLong` if the input has more
+/// than `limit` bytes (one byte more than the limit is then read), and `Stop::OutOfMemory`.
 pub fn tell_input<S: Source, K: Sink>(
     alloc: Global,
     asked: &Asked,

@@ -1,5 +1,6 @@
-//! The report of an office's texts: the product lines, the lives and gaps of its events, the rows at
-//! a minute, and what breaks a rule.
+//! Writes the report of an office's archived texts: a line for each product, the lives of its
+//! events, the lines in breach, the gaps in event numbers and the rows at a minute. For the program
+//! `warn_archive`; begin with `run_program`, or with `archive_run` for other inputs and outputs.
 #![tactic(auto)]
 
 mod archive;

@@ -1,4 +1,4 @@
-//! The lines of a report. Each is added to a text.
+//! The lines of a report. Each function adds one to a text.
 ghost use Rattle.std.specs.Prelude.{◌≡◌, ◌++◌, length, OnOk};
 ghost use Rattle.product_decoder.specs.Decoded.{decoded_of};
 ghost use Rattle.archive_report.specs.Report.{title, counted_text, taken_line, faulty_line, product_line, breach_line, spaced, gap_line, shown_front, last_line};
@@ -21,7 +21,7 @@ fn put_title(alloc: Global, out: &mut Text, number: usize) -> Result<(), Oom>
     out.push(b' ')
 }
 
-/// A minute and a count, which end a line.
+/// Adds a minute, a blank, a count and LF.
 fn put_counted(alloc: Global, out: &mut Text, minute: Minute, count: usize) -> Result<(), Oom>
     ensures { OnOk result (out.new ≡ out.old ++ counted_text minute count) }
 {
@@ -31,7 +31,7 @@ fn put_counted(alloc: Global, out: &mut Text, minute: Minute, count: usize) -> R
     out.push(b'\n')
 }
 
-/// The line of a product without a fault.
+/// Adds the line of a product without a fault.
 fn put_taken(
     alloc: Global,
     out: &mut Text,
@@ -58,7 +58,14 @@ fn put_faulty(alloc: Global, out: &mut Text, number: usize, fault: FrameFault) -
     out.push(b'\n')
 }
 
-/// The line of a product.
+/// Adds the line of product `number`, counted from 1: `product K IDENTIFIER STAMP n`, or with a
+/// fault `product K fault NAME`. Ends with LF, as all lines do.
+///
+/// # Errors
+///
+/// Out of memory.
+///
+/// Source: docs/ARCHIVE.md, "The lines".
 pub fn put_product(
     alloc: Global,
     out: &mut Text,
@@ -75,7 +82,12 @@ pub fn put_product(
     }
 }
 
-/// The line of a breach. `numbers` are those of the products that were taken, among all.
+/// Adds the line `breach K EVENT ZONE NAME`. `numbers` has the number of each product without a
+/// fault among all products of the input.
+///
+/// # Errors
+///
+/// Out of memory.
 pub fn put_breach(
     alloc: Global,
     out: &mut Text,
@@ -94,7 +106,7 @@ pub fn put_breach(
     out.push(b'\n')
 }
 
-/// A number after a blank.
+/// Adds a blank and a number in four digits, or in more if it has more.
 fn put_spaced(alloc: Global, out: &mut Text, n: u16) -> Result<(), Oom>
     ensures { OnOk result (out.new ≡ out.old ++ spaced n) }
 {
@@ -102,7 +114,11 @@ fn put_spaced(alloc: Global, out: &mut Text, n: u16) -> Result<(), Oom>
     put_wide(alloc, out, n)
 }
 
-/// The line of a gap.
+/// Adds the line `gap HAZARD YEAR WANTED FOUND`.
+///
+/// # Errors
+///
+/// Out of memory.
 pub fn put_gap(alloc: Global, out: &mut Text, gap: &GapFound) -> Result<(), Oom>
     ensures { OnOk result (out.new ≡ out.old ++ gap_line gap.now) }
 {
@@ -114,7 +130,11 @@ pub fn put_gap(alloc: Global, out: &mut Text, gap: &GapFound) -> Result<(), Oom>
     out.push(b'\n')
 }
 
-/// What stands before the rows that are shown: their minute and count.
+/// Adds the line `shown STAMP n`; `count` rows follow it.
+///
+/// # Errors
+///
+/// Out of memory.
 pub fn put_shown(alloc: Global, out: &mut Text, minute: Minute, count: usize) -> Result<(), Oom>
     ensures { OnOk result (out.new ≡ out.old ++ shown_front minute count) }
 {
@@ -122,7 +142,11 @@ pub fn put_shown(alloc: Global, out: &mut Text, minute: Minute, count: usize) ->
     put_counted(alloc, out, minute, count)
 }
 
-/// The last line.
+/// Adds the last line, `breaches n`.
+///
+/// # Errors
+///
+/// Out of memory.
 pub fn put_last(alloc: Global, out: &mut Text, listed: usize) -> Result<(), Oom>
     ensures { OnOk result (out.new ≡ out.old ++ last_line listed) }
 {

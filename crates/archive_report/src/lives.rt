@@ -1,4 +1,5 @@
-//! The lines of lives, in which texts are made once that are the same from line to line.
+//! The lines of lives. The texts of an event and of steps are reused from line to line, since they
+//! often repeat.
 ghost use Rattle.std.specs.Prelude.{◌≡◌, ◌++◌, [], OnOk};
 ghost use Rattle.hazard_types.specs.Names.{event_text};
 ghost use Rattle.archive_report.specs.Report.{life_line};
@@ -29,7 +30,7 @@ impl Model for EventText {
 }
 
 impl EventText {
-    /// The text of no event.
+    /// Returns the empty text, of no event.
     fn new(alloc: Global) -> Self
         ensures { result ≡ [] }
     {
@@ -39,7 +40,7 @@ impl EventText {
         }
     }
 
-    /// The text becomes that of this event.
+    /// Sets the event and its text, unless the event is the same.
     fn set(&mut self, alloc: Global, event: &Event) -> Result<(), Oom>
         ensures { OnOk result (self.new ≡ event_text event.now) }
     {
@@ -83,7 +84,7 @@ impl Model for StepsText {
 }
 
 impl StepsText {
-    /// The text of no steps.
+    /// Returns the empty text, of no steps.
     fn new(alloc: Global) -> Self
         ensures { result ≡ [] }
     {
@@ -93,7 +94,7 @@ impl StepsText {
         }
     }
 
-    /// The text becomes that of these steps.
+    /// Sets the steps and their text, unless the steps are the same.
     fn set(&mut self, alloc: Global, steps: &List<(Action, Minute)>) -> Result<(), Oom>
         ensures { OnOk result (self.new ≡ steps_text steps.now) }
     {
@@ -114,7 +115,7 @@ impl StepsText {
     }
 }
 
-/// The event and the steps of the life whose line was put last.
+/// The texts of the event and the steps of the last life that was added.
 #[derive(Drop)]
 pub struct LastLife {
     event: EventText,
@@ -122,6 +123,7 @@ pub struct LastLife {
 }
 
 impl LastLife {
+    /// Returns empty texts, of no life.
     pub fn none(alloc: Global) -> Self {
         LastLife {
             event: EventText::new(alloc),
@@ -129,7 +131,11 @@ impl LastLife {
         }
     }
 
-    /// Adds the line of a life, which becomes the last.
+    /// Adds the line `life EVENT ZONE ACTION@STAMP ..` and remembers its texts.
+    ///
+    /// # Errors
+    ///
+    /// Out of memory.
     pub fn put(&mut self, alloc: Global, out: &mut Text, life: &Track) -> Result<(), Oom>
         ensures { OnOk result (out.new ≡ out.old ++ life_line life.now) }
     {

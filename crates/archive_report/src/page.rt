@@ -1,4 +1,4 @@
-//! The text of a report that waits to be written.
+//! The buffer of a report's text.
 ghost use Rattle.std.specs.Prelude.{◌≡◌, [], OnOk, IfErr};
 ghost use Rattle.program_ends.specs.Steps.{IsCauseOf};
 ghost use Rattle.archive_report.specs.Pieces.{Halts, Pages};
@@ -9,10 +9,14 @@ use hazard_types::{List, Text};
 use program_ends::Stop;
 use std::alloc::Global;
 
-/// So many bytes do not wait.
+/// The size in bytes from which the buffer is written.
 const ENOUGH: usize = 65_536;
 
-/// Writes what waits.
+/// Writes the buffer and empties it.
+///
+/// # Errors
+///
+/// `Stop::Write` if a write failed; a prefix of the buffer was then written.
 pub fn flush<K: Sink>(alloc: Global, out: &mut Text, output: &mut K) -> Result<(), Stop>
     ensures told { OnOk result (Pages (K.outflow output.old) (K.outflow output.new)
         out.old out.new []) }
@@ -30,7 +34,11 @@ pub fn flush<K: Sink>(alloc: Global, out: &mut Text, output: &mut K) -> Result<(
     }
 }
 
-/// Writes what waits where it is enough.
+/// Writes the buffer and empties it once it has 65,536 bytes.
+///
+/// # Errors
+///
+/// `Stop::Write` if a write failed; a prefix of the buffer was then written.
 pub fn turn<K: Sink>(alloc: Global, out: &mut Text, output: &mut K) -> Result<(), Stop>
     ensures told { OnOk result (Pages (K.outflow output.old) (K.outflow output.new)
         out.old out.new []) }

@@ -1,4 +1,4 @@
-//! The products of an input are taken as they come, and their lines told.
+//! Reads the products of an input one by one and writes a line for each.
 ghost use Rattle.std.specs.Prelude.{◌≡◌, ◌<◌, ◌+◌, true, false, length, Ok, IfOk, OnOk, IfErr};
 ghost use Rattle.product_decoder.specs.Decoded.{decode};
 ghost use Rattle.product_decoder.specs.Feeding.{GivesNone};
@@ -17,7 +17,7 @@ use product_frame::read_frame;
 use program_ends::Stop;
 use std::alloc::Global;
 
-/// What is read of a product: its frame, or its first fault.
+/// Reads a product: its frame, or its first fault.
 fn read_product(alloc: Global, bytes: &[u8]) -> Result<Reading, Oom>
     ensures { IfOk result (λ reading. said_of reading ≡ decode bytes.now) }
 {
@@ -28,7 +28,8 @@ fn read_product(alloc: Global, bytes: &[u8]) -> Result<Reading, Oom>
     }
 }
 
-/// Takes the next product that came out, and adds its line. Returns whether there was one.
+/// Takes the next finished product of the feed into the tally and adds its line to `out`. Returns
+/// whether there was one.
 fn tell_next(
     alloc: Global,
     asked: &Asked,
@@ -55,7 +56,7 @@ fn tell_next(
     }
 }
 
-/// Takes each product that came out, and adds its line.
+/// Takes each finished product of the feed into the tally and adds its line to `out`.
 fn tell_each(
     alloc: Global,
     asked: &Asked,
@@ -75,7 +76,12 @@ fn tell_each(
     Ok(())
 }
 
-/// Takes each product that came out, and writes their lines.
+/// Takes each finished product of the feed into the tally and writes the lines of them all.
+///
+/// # Errors
+///
+/// `Stop::Write` if the write failed; a prefix of the lines was then written. `Stop::OutOfMemory`
+/// if memory ran out; nothing was then written.
 pub fn tell_products<K: Sink>(
     alloc: Global,
     asked: &Asked,

@@ -1,4 +1,4 @@
-//! The report of an input is told as it is read.
+//! Writes the report of an input.
 ghost use Rattle.std.specs.Prelude.{◌≤◌};
 ghost use Rattle.byte_streams.specs.Flows.{streams};
 ghost use Rattle.program_ends.specs.Steps.{IsCauseOf};
@@ -13,8 +13,13 @@ use byte_streams::{Sink, Source};
 use program_ends::Stop;
 use std::alloc::Global;
 
-/// Reads an input of at most `limit` bytes to its end, and writes its report. Returns how many
-/// faults, breaches and gaps are listed.
+/// Reads an input of at most `limit` bytes to its end and writes its report. Returns how many
+/// faults, breaches and gaps it lists.
+///
+/// # Errors
+///
+/// `Stop::Read` or `Stop::Write` if a read or a write failed, `Stop::TooLong` if the input has more
+/// than `limit` bytes, and `Stop::OutOfMemory`. What was written begins the report in each case.
 pub fn tell_report<S: Source, K: Sink>(
     alloc: Global,
     asked: &Asked,

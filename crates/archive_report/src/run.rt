@@ -14,11 +14,11 @@ use program_outside::Outside;
 use std::alloc::Global;
 use std::process::ExitCode;
 
-/// The words that the program takes.
+/// The usage line of the program.
 const USAGE: &str = "warn_archive OFFICE CLASS STAMP\n";
 
-/// Does what the words say, with an input of at most 1,073,741,824 bytes, and returns the status of
-/// the program.
+/// Does what the words `OFFICE CLASS STAMP` ask for, with an input of at most 1,073,741,824 bytes,
+/// and returns the exit status.
 pub fn archive_run<S: Source, K: Sink>(
     alloc: Global,
     words: &List<Text>,
@@ -32,8 +32,8 @@ pub fn archive_run<S: Source, K: Sink>(
     archive_within(alloc, words, input, output, LIMIT)
 }
 
-/// Does what the words behind the program's name say. Where memory ran out for them, the status is
-/// 12, and nothing is read or written.
+/// Does what the words after the program's name ask for. If memory runs out for the words, the
+/// status is 12, and nothing is read or written.
 fn run_words<S: Source, K: Sink, M>(outside: &mut Outside<S, K, M>) -> u8
     ensures ran { Runs outside.old.words (λ words. DoesAsAsked words most_bytes)
         (streams (S.inflow outside.old.input) (K.outflow outside.old.output))
@@ -51,8 +51,8 @@ fn run_words<S: Source, K: Sink, M>(outside: &mut Outside<S, K, M>) -> u8
     }
 }
 
-/// The whole program: does what its command line says with its input and its output, and ends with
-/// the status of that run.
+/// Runs the whole program: does what its command line asks for with its input and output, and
+/// returns the status of that run. For wrong words it writes the usage line to the messages.
 pub fn run_program<S: Source, K: Sink, M: Sink>(outside: &mut Outside<S, K, M>) -> ExitCode
     ensures ran { Runs outside.old.words (λ words. DoesAsAsked words most_bytes)
         (streams (S.inflow outside.old.input) (K.outflow outside.old.output))

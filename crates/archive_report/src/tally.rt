@@ -1,4 +1,4 @@
-//! What the products of an input come to.
+//! What was found in the products of an input.
 ghost use Rattle.std.specs.Prelude.{◌≡◌, ◌<◌, OnOk, []};
 ghost use Rattle.archive_report.specs.Pieces.{IsTally, Counts};
 ghost use Rattle.archive_report.specs.Readings.{said_of};
@@ -9,24 +9,24 @@ use product_decoder::Reader;
 use product_frame::{Frame, FrameFault};
 use std::alloc::Global;
 
-/// What is read of a product: its frame, or its first fault.
+/// A product that was read: its frame, or its first fault.
 pub type Reading = Result<Frame, FrameFault>;
 
-/// What the products so far come to.
+/// What was found in the products so far.
 #[derive(Drop)]
 pub struct Tally {
-    /// The reader of those without a fault.
+    /// The reader of the products without a fault.
     pub reader: Reader,
-    /// Their numbers among all, which count from 1.
+    /// The numbers of these among all products, counted from 1.
     pub numbers: List<usize>,
     /// How many products there are.
     pub count: usize,
-    /// How many of them have a fault.
+    /// How many products have a fault.
     pub faults: usize,
 }
 
 impl Tally {
-    /// There are no products yet.
+    /// Returns the tally of no products.
     pub fn new(alloc: Global, asked: &Asked) -> Self
         ensures tally { IsTally asked.now result }
         ensures products { result.reader.products ≡ [] }
@@ -42,7 +42,11 @@ impl Tally {
         }
     }
 
-    /// Takes what was read of the next product.
+    /// Adds the next product.
+    ///
+    /// # Errors
+    ///
+    /// Out of memory. The tally is then of no further use.
     pub fn take(&mut self, alloc: Global, asked: &Asked, reading: &Reading) -> Result<(), Oom>
         requires tally { IsTally asked.now self.old }
         requires few { self.old.count < 2000000000 }

@@ -1,4 +1,5 @@
-//! The words of a report's lines. Each is added to a text, or, when memory runs out, its beginning.
+//! The parts of a report's lines. Each function adds one to a text. When memory runs out, a prefix
+//! of it may have been added.
 ghost use Rattle.std.specs.Prelude.{◌≡◌, ◌++◌, IfOk, OnOk, string_bytes};
 ghost use Rattle.hazard_types.specs.Calendar.{stamp_of};
 ghost use Rattle.archive_report.specs.Texts.{where_text, steps_text, breach_name, fault_text};
@@ -8,7 +9,11 @@ use hazard_types::{Action, Event, Minute, Oom, Text, Zone, put_event, stamp, zon
 use product_frame::FrameFault;
 use std::alloc::{AllocError, Global};
 
-/// An event in a zone.
+/// Adds an event, a blank and a zone.
+///
+/// # Errors
+///
+/// Out of memory.
 pub fn put_where(alloc: Global, out: &mut Text, event: &Event, zone: &Zone) -> Result<(), Oom>
     ensures { OnOk result (out.new ≡ out.old ++ where_text event.now zone.now) }
 {
@@ -17,14 +22,22 @@ pub fn put_where(alloc: Global, out: &mut Text, event: &Event, zone: &Zone) -> R
     out.extend(&zone_text(zone))
 }
 
-/// The stamp of a minute.
+/// Adds the stamp of a minute.
+///
+/// # Errors
+///
+/// Out of memory.
 pub fn put_stamp(out: &mut Text, minute: Minute) -> Result<(), Oom>
     ensures { OnOk result (out.new ≡ out.old ++ stamp_of minute) }
 {
     out.extend(&stamp(minute))
 }
 
-/// The steps of a life, each after a blank.
+/// Adds the steps of a life, a blank before each: ` NEW@180103T1530Z`.
+///
+/// # Errors
+///
+/// Out of memory.
 pub fn put_steps(out: &mut Text, steps: &[(Action, Minute)]) -> Result<(), Oom>
     ensures { OnOk result (out.new ≡ out.old ++ steps_text steps.now) }
 {
@@ -37,7 +50,7 @@ pub fn put_steps(out: &mut Text, steps: &[(Action, Minute)]) -> Result<(), Oom>
     Ok(())
 }
 
-/// The name of a breach.
+/// Returns the name of a breach.
 pub fn breach_name(breach: Breach) -> &'static [u8]
     ensures { result.now ≡ breach_name breach }
 {
@@ -58,7 +71,7 @@ pub fn breach_name(breach: Breach) -> &'static [u8]
     }
 }
 
-/// A fault's name, and its line where there is one.
+/// Returns the name of a fault, followed by a blank and its line if it names one.
 #[tactic(auto, unfolding(crate::specs::Texts::fault_text))]
 fn fault_text(alloc: Global, fault: FrameFault) -> Result<String, AllocError>
     ensures { IfOk result (λ s. string_bytes s ≡ fault_text fault) }
@@ -74,7 +87,12 @@ fn fault_text(alloc: Global, fault: FrameFault) -> Result<String, AllocError>
     }
 }
 
-/// A fault's name, and its line where there is one.
+/// Adds the name of a fault, followed by a blank and its line if it names one. Lines count from the
+/// heading, which is line 1.
+///
+/// # Errors
+///
+/// Out of memory.
 pub fn put_fault(alloc: Global, out: &mut Text, fault: FrameFault) -> Result<(), Oom>
     ensures { OnOk result (out.new ≡ out.old ++ fault_text fault) }
 {

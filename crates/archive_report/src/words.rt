@@ -5,7 +5,8 @@ ghost use Rattle.archive_report.specs.Words.{asked_of};
 use hazard_types::{Class, List, Minute, Text, classes, find, read_stamp};
 use program_ends::office_of;
 
-/// Whose lines a report has, and the minute whose rows it shows.
+/// What a report is asked for: the office and class whose lines count, and the minute whose rows
+/// are shown. `office` is four characters A to Z and 0 to 9.
 #[derive(Clone, Copy, Debug)]
 pub struct Asked {
     pub office: [u8; 4],
@@ -13,7 +14,9 @@ pub struct Asked {
     pub minute: Minute,
 }
 
-/// The office, the class and the minute of the words `OFFICE CLASS STAMP`.
+/// Parses the words `OFFICE CLASS STAMP`; `None` if they are not exactly these three.
+///
+/// Source: docs/DECISIONS.md, "The archive's report".
 #[tactic(auto, unfolding(crate::specs::Words::asked_of))]
 pub fn asked_of(words: &List<Text>) -> Option<Asked>
     ensures { result ≡ asked_of words.now }

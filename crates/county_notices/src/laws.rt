@@ -11,22 +11,23 @@ ghost use Rattle.county_notices.specs.NoticeHistory.{after};
 ghost use Rattle.county_notices.specs.Reading.{IsHistory, Noted, ReadsAsNoted, products_read};
 ghost use Rattle.county_notices.specs.Standing.{IsStanding};
 
-/// The rows stand after a command that breaks no rule as they do before it.
+/// A command that breaks no rule keeps what holds of the office's rows between commands
+/// (`IsStanding`).
 pub fn accepted_commands_keep_the_rows()
     ensures { (s : Noticed) (c : Command) → IsStanding s → c.number ≤ 9999
         → broken s c ≡ None → IsStanding (after s c) }
 {}
 
-/// A reader of the notices of accepted commands alone finds lawful lives, the numbers that were
-/// handed in, and the rows that the commands leave.
+/// A reader of the notices of accepted commands alone finds lawful lives, the numbers of the
+/// commands that open a watch, and the rows that the commands leave.
 pub fn notices_read_as_noted()
     ensures { (s : Noticed) (notes : List Noted) (z : Noticed) → IsStanding s → s.rows ≡ []
         → IsHistory s notes z → ReadsAsNoted s.by.office notes z.rows }
 {}
 
-/// Notices, and whatever else is of hazards that the desk does not issue, put in between the
-/// products of a desk, change nothing of the events that these open: so the numbers of each of the
-/// desk's hazards, in the order of opening, and the gaps in them, are those without the notices.
+/// Notices, and other products of hazards that the desk does not issue, do not change the events of
+/// a desk's hazards when they are put in between its products. So the numbers of each of the desk's
+/// hazards, in the order of opening, are those without the notices.
 pub fn notices_leave_the_desks_numbers()
     ensures opened { (desk others all : List Product) → AllByRecursion IsOfDesk desk
         → AllByRecursion IsOfOthers others → AreMerged desk others all

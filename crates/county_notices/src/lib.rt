@@ -1,5 +1,7 @@
-//! County notices: what the office tells its counties of tornado and severe thunderstorm watches,
-//! whose numbers are handed in.
+//! Answers requests for county notices of tornado and severe thunderstorm watches, whose numbers
+//! the national centre assigns, with the text of the notice or a refusal. For the program
+//! `watch_notice`; begin with `run_program`, with `notice_run` for other inputs and outputs, or
+//! with `Notices` for one line after another.
 #![tactic(auto)]
 
 mod issuer;

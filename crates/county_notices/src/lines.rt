@@ -1,4 +1,4 @@
-//! The lines of a command.
+//! The lines of a command. An unended row is one that no line has ended.
 ghost use Rattle.std.specs.Prelude.{◌≡◌, ◌++◌, IfOk, OnOk};
 ghost use Rattle.hazard_types.specs.declared.request.Target.TheVariants.{Fresh, Join};
 ghost use Rattle.action_planner.specs.Lines.{continuing_line, is_near_end, line_on, opening_action, opening_line_by, printed_begin, put_line, put_period_on, unless_ended};
@@ -10,8 +10,8 @@ use hazard_types::{Action, End, Event, Line, List, Minute, Oom, Period, Row, Zon
 use notice_json::{Command, Deed};
 use std::alloc::Global;
 
-/// The event that a command would open: of the number that was handed in, and of the year of its
-/// minute.
+/// Returns the event that a command would open: its number is the command's, its year that of the
+/// command's minute.
 pub fn new_event(command: &Command) -> Event
     ensures { result ≡ new_event command.now }
 {
@@ -22,14 +22,15 @@ pub fn new_event(command: &Command) -> Event
     }
 }
 
-/// The open event of the hazard and number of a command.
+/// Returns the open event of the hazard and number of a command.
 pub fn open_event(board: &Board, command: &Command) -> Option<Event>
     ensures { result ≡ open_event board.now.rows command.now }
 {
     board.going(command.watch.hazard(), command.number, command.at)
 }
 
-/// The event that a command speaks of.
+/// Returns the event of a command: the one that it opens, else the open one of its hazard and
+/// number.
 pub fn event_by(board: &Board, command: &Command) -> Option<Event>
     ensures { result ≡ event_by board.now.rows command.now command.now.deed }
 {
@@ -39,7 +40,7 @@ pub fn event_by(board: &Board, command: &Command) -> Option<Event>
     }
 }
 
-/// A begin as a line prints it: None, which is printed as zeros, where it is at most the minute.
+/// Returns the begin that a line prints: `None`, printed as zeros, for a begin of at most `t`.
 fn printed_begin(begin: Minute, t: Minute) -> Option<Minute>
     ensures { result ≡ printed_begin begin t }
 {
@@ -50,7 +51,7 @@ fn printed_begin(begin: Minute, t: Minute) -> Option<Minute>
     }
 }
 
-/// The line of a new event in a zone.
+/// Returns the `NEW` line of an event in a zone.
 fn new_line(board: &Board, t: Minute, event: &Event, end: Minute, zone: &Zone) -> Line
     ensures { result
         ≡ put_line board.now.rows t event.now (put_of (Fresh event.now.hazard) end) zone.now }
@@ -65,8 +66,11 @@ fn new_line(board: &Board, t: Minute, event: &Event, end: Minute, zone: &Zone) -
     }
 }
 
-/// The action of an event in the zones that it comes into. A join is EXA where a live row of the
-/// event has the same period, else EXB.
+/// Returns the action in zones without an unended row: `NEW` for an opened event, `EXA` for a
+/// joined one with a live row of the same period, else `EXB`. A command that ends the watch does
+/// not use it.
+///
+/// Source: NWS Instruction 10-1703, P-VTEC action codes; docs/NOTICES.md, "A line".
 fn entering_action(board: &Board, command: &Command, event: &Event) -> Action
     ensures { result ≡ entering_action board.now.rows command.now.at event.now command.now.deed }
 {
@@ -86,7 +90,7 @@ fn entering_action(board: &Board, command: &Command, event: &Event) -> Action
     }
 }
 
-/// The line of an event that joins a zone where no row stands that no line has ended.
+/// Returns the line of an event that joins a zone without an unended row.
 fn entering_line(action: Action, t: Minute, event: &Event, end: Minute, zone: &Zone) -> Line
     ensures { result ≡ opening_line_by action t event.now (put_of (Join event.now) end) zone.now }
 {
@@ -100,7 +104,7 @@ fn entering_line(action: Action, t: Minute, event: &Event, end: Minute, zone: &Z
     }
 }
 
-/// The period that a join gives to a row: on one that has begun the begin stays.
+/// Returns the period of a join on an unended row. A row that has begun keeps its begin.
 fn joined_period(t: Minute, end: Minute, event: &Event, row: &Row) -> Period
     ensures { result ≡ put_period_on (put_of (Join event.now) end) t row.now }
 {
@@ -115,7 +119,7 @@ fn joined_period(t: Minute, end: Minute, event: &Event, row: &Row) -> Period
     }
 }
 
-/// The line of an event on a row that it has: CON where its period stays, else EXT.
+/// Returns the line of a join on an unended row: `CON` if its period stays the same, else `EXT`.
 fn continuing_line(t: Minute, event: &Event, end: Minute, row: &Row) -> Line
     ensures { result ≡ continuing_line t event.now (put_of (Join event.now) end) row.now }
 {
@@ -135,7 +139,7 @@ fn continuing_line(t: Minute, event: &Event, end: Minute, row: &Row) -> Line
     }
 }
 
-/// The row, where no line has ended it.
+/// Returns the row unless a line has ended it.
 fn unless_ended(row: Option<Row>) -> Option<Row>
     ensures { result ≡ unless_ended row }
 {
@@ -145,7 +149,7 @@ fn unless_ended(row: Option<Row>) -> Option<Row>
     }
 }
 
-/// The line of an event that joins a zone, by the action with which it comes into one.
+/// Returns the line of a join in a zone. `entering` is the action for zones without an unended row.
 fn join_line(
     board: &Board,
     t: Minute,
@@ -164,7 +168,7 @@ fn join_line(
     }
 }
 
-/// Whether the end is a minute within half an hour of this one either way.
+/// Whether the end is a minute at most 30 minutes before or after `t`.
 fn is_near_end(end: &End, t: Minute) -> bool
     ensures { result ≡ is_near_end end.now t }
 {
@@ -174,7 +178,9 @@ fn is_near_end(end: &End, t: Minute) -> bool
     }
 }
 
-/// EXP within half an hour of the row's end, either way, else CAN.
+/// Returns `EXP` within half an hour of the row's end, before or after, else `CAN`.
+///
+/// Source: NWS Instruction 10-1703, P-VTEC action codes; docs/NOTICES.md, "A line".
 fn ending_action(t: Minute, row: &Row) -> Action
     ensures { result ≡ ending_action t row.now }
 {
@@ -185,7 +191,7 @@ fn ending_action(t: Minute, row: &Row) -> Action
     }
 }
 
-/// The line that says of a row what it is, by this action.
+/// Returns the line with this action that says the period and flood values of a row.
 fn line_on(action: Action, t: Minute, row: &Row) -> Line
     ensures { result ≡ line_on action t row.now }
 {
@@ -199,7 +205,7 @@ fn line_on(action: Action, t: Minute, row: &Row) -> Line
     }
 }
 
-/// Adds what an end says of a row: nothing where there is none.
+/// Adds the line that ends a row; none if there is no row.
 fn add_ending(lines: &mut List<Line>, t: Minute, row: &Option<Row>) -> Result<(), Oom>
     ensures { OnOk result (lines.new ≡ lines.old ++ ending_lines t row.now) }
 {
@@ -209,7 +215,7 @@ fn add_ending(lines: &mut List<Line>, t: Minute, row: &Option<Row>) -> Result<()
     }
 }
 
-/// Adds what a command says of one of its zones.
+/// Adds the line of a command in one of its zones. `entering` is `entering_action` of the command.
 fn add_in_zone(
     lines: &mut List<Line>,
     board: &Board,
@@ -230,7 +236,7 @@ fn add_in_zone(
     }
 }
 
-/// What a command says of each of its zones, of this event.
+/// Returns the lines of a command on `event`, in the order in which its zones are written.
 fn lines_in_zones(
     alloc: Global,
     board: &Board,
@@ -248,7 +254,12 @@ fn lines_in_zones(
     Ok(lines)
 }
 
-/// The lines of a command. There are none where it speaks of no event.
+/// Returns the lines of a command, in the order in which its zones are written; none if no event of
+/// its hazard and number is open.
+///
+/// # Errors
+///
+/// Out of memory.
 pub fn lines_of(alloc: Global, board: &Board, command: &Command) -> Result<List<Line>, Oom>
     ensures { IfOk result (λ lines. lines ≡ lines_of board.now.rows command.now) }
 {

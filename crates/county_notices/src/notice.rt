@@ -35,7 +35,7 @@ fn heading_of(issuer: &Issuer, t: Minute) -> Heading
     }
 }
 
-/// The product's letters and the office's last three characters.
+/// Returns `WCN` and the office's last three characters.
 fn identifier_of(alloc: Global, issuer: &Issuer) -> Result<Text, Oom>
     ensures { IfOk result (λ text. text ≡ identifier_of issuer.now) }
 {
@@ -53,7 +53,7 @@ fn printed_end(end: &End) -> Option<Minute>
     }
 }
 
-/// The values of a line's codes.
+/// Returns the P-VTEC and H-VTEC values of a line, of class O.
 fn pair_of(office: [u8; 4], line: &SegLine) -> Pair
     ensures { result ≡ pair_of office line.now }
 {
@@ -117,7 +117,7 @@ fn segments_of(
     Ok(list)
 }
 
-/// What a reader takes from the notice of these segments.
+/// Returns the frame of the notice of these segments: the values that a reader finds in its text.
 fn frame_of(
     alloc: Global,
     issuer: &Issuer,
@@ -137,7 +137,7 @@ fn frame_of(
     })
 }
 
-/// What stands between identifier and segments.
+/// Returns the lines between the identifier and the first segment.
 fn block_of(alloc: Global, issuer: &Issuer, t: Minute) -> Result<Block, Oom>
     ensures { IfOk result (λ block. block ≡ block_of issuer.now t) }
 {
@@ -151,7 +151,7 @@ fn block_of(alloc: Global, issuer: &Issuer, t: Minute) -> Result<Block, Oom>
     })
 }
 
-/// The watch's name, and an empty line.
+/// Returns the body of a segment: the name of the watch, and an empty line.
 fn body_of(alloc: Global, watch: Watch, segment: &Segment) -> Result<Body, Oom>
     ensures { IfOk result (λ body. body ≡ body_of watch segment.now) }
 {
@@ -173,7 +173,7 @@ fn bodies_of(alloc: Global, watch: Watch, segments: &[Segment]) -> Result<List<B
     Ok(bodies)
 }
 
-/// The notice of segments.
+/// Returns the notice of these segments.
 #[tactic(auto, unfolding(crate::specs::Notices::text_of))]
 fn segments_text(
     alloc: Global,
@@ -195,7 +195,14 @@ fn segments_text(
     frame_text(alloc, &frame, &block, &bodies)
 }
 
-/// The notice that says the lines, however long.
+/// Returns the notice of these lines, issued at minute `t`, however long: lines that each end with
+/// LF. Zones with the same lines share a segment.
+///
+/// # Errors
+///
+/// Out of memory.
+///
+/// Source: NWS Instruction 10-1701, segmented products; docs/NOTICES.md, "A notice".
 pub fn notice_text(
     alloc: Global,
     issuer: &Issuer,

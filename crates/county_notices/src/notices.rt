@@ -1,4 +1,4 @@
-//! The notices of an office: what they have left so far, and what a line is answered.
+//! An office of county notices and its answers to lines.
 ghost use Rattle.std.specs.Prelude.{◌≡◌, ◌≤◌, Err, Ok, IfOk, IsTrue, OnErr, OnOk};
 ghost use Rattle.hazard_types.specs.Characters.{is_office};
 ghost use Rattle.hazard_types.specs.declared.or.Or.TheVariants.{No};
@@ -22,8 +22,9 @@ use std::marker::Model;
 /// The most bytes of a notice.
 const MOST: usize = 65_536;
 
-/// An office's notices so far, by the rows that they have left and the minute of the last accepted
-/// command.
+/// The state of an office of county notices: the rows after its notices so far, and the minute of
+/// the last accepted command. As `Answers` it answers a line with its notice or with its refusal,
+/// and an empty line with nothing.
 #[derive(Drop)]
 pub struct Notices {
     issuer: Issuer,
@@ -43,14 +44,14 @@ impl Model for Notices {
         (record { by = n.issuer; rows = n.board.rows; last = n.last }) };
 }
 
-/// The lines of a command, and its notice.
+/// The lines of a command and its notice.
 #[derive(Drop)]
 struct Judged {
     lines: List<Line>,
     text: Text,
 }
 
-/// A refusal as a line.
+/// Returns a refusal as a line.
 fn refusal_reply(alloc: Global, refusal: &NoticeRefusal) -> Result<Reply, Oom>
     ensures { IfOk result (λ reply. bytes_of reply ≡ refusal_line refusal.now) }
 {
@@ -67,7 +68,7 @@ fn first_minute() -> Minute
 }
 
 impl Notices {
-    /// An office before its first notice.
+    /// Returns an office before its first notice.
     pub fn new(alloc: Global, issuer: Issuer) -> Self
         requires { IsTrue (is_office issuer.office) }
         ensures { result ≡ first issuer }
@@ -79,18 +80,18 @@ impl Notices {
         }
     }
 
-    /// The lines of a command and its notice.
+    /// Returns the lines of a command and its notice.
     ///
     /// # Errors
     ///
-    /// The first rule that it breaks.
+    /// `Or::No` with the first rule that the command breaks, and otherwise out of memory.
     fn judge(&self, alloc: Global, command: &Command) -> Result<Judged, Or<NoticeRefusal>>
         requires { command.now.number ≤ 9999 }
         ensures lines { IfOk result (λ judged. judged.lines ≡ lines_of self.now.rows command.now) }
         ensures accepted { IfOk result (λ judged. IsAccepted self.now command.now judged.text) }
         ensures refused { (r : Reason) → result ≡ Err (No r) → IsRefused self.now command.now r }
     {
-        // What stands between commands is known from here on.
+        // This borrow brings the invariant of `self` into the proof.
         let _ = &self.board;
         if let Some(refusal) = broken(&self.board, self.last, command) {
             return Err(Or::No(refusal));
@@ -103,11 +104,12 @@ impl Notices {
         Ok(Judged { lines, text })
     }
 
-    /// Takes a command, and returns its notice.
+    /// Accepts a command and returns its notice.
     ///
     /// # Errors
     ///
-    /// The first rule that it breaks. Nothing changes then, nor when memory runs out.
+    /// `Or::No` with the first rule that the command breaks, and otherwise out of memory. Nothing
+    /// changes in either case.
     fn accept(&mut self, alloc: Global, command: &Command) -> Result<Text, Or<NoticeRefusal>>
         requires { command.now.number ≤ 9999 }
         ensures accepted { IfOk result (λ text. IsAccepted self.old command.now text) }
@@ -122,7 +124,7 @@ impl Notices {
         Ok(judged.text)
     }
 
-    /// What a command is answered.
+    /// Returns the notice of a command or its refusal.
     fn answer_command(&mut self, alloc: Global, command: &Command) -> Result<Reply, Oom>
         requires { command.now.number ≤ 9999 }
         ensures answered { IfOk result (λ reply.

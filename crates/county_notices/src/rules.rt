@@ -1,4 +1,6 @@
-//! Why a command is refused.
+//! The rules on a command. Each function returns the refusal, or `None`. A row is live until a line
+//! ends it or its end comes; it is open until a line ends it or more than half an hour has passed
+//! since its end.
 ghost use Rattle.std.specs.Prelude.{◌≡◌, find, option_map};
 ghost use Rattle.event_life.specs.Products.{has_rows};
 ghost use Rattle.hazard_board.specs.Consistent.{IsConsistent};
@@ -14,7 +16,7 @@ use hazard_board::{Board, consistent_rows_stay_consistent};
 use hazard_types::{Event, Kind, Minute, Zone};
 use notice_json::{Command, Deed, NoticeRefusal};
 
-/// The last minute at which the office speaks.
+/// The last minute at which the office issues notices.
 const LAST_MINUTE: u32 = 52_000_000;
 
 /// TimeOut: the minute is above the last one.
@@ -28,7 +30,7 @@ fn time_out(command: &Command) -> Option<NoticeRefusal>
     }
 }
 
-/// TimeBack: the minute is before that of the last accepted command.
+/// TimeBack: the minute is before `last`, that of the last accepted command.
 fn time_back(last: Minute, command: &Command) -> Option<NoticeRefusal>
     ensures { result ≡ time_back last command.now }
 {
@@ -39,14 +41,14 @@ fn time_back(last: Minute, command: &Command) -> Option<NoticeRefusal>
     }
 }
 
-/// Whether there is at least one zone, and at most 600, each once.
+/// Whether there are 1 to 600 zones, all distinct.
 fn may_be_named(zones: &[Zone]) -> bool
     ensures { result ≡ are_zones zones.now }
 {
     are_zones(zones)
 }
 
-/// BadZones: none, more than 600, or one that stands twice.
+/// BadZones: no zone, more than 600, or one that occurs twice.
 fn bad_zones(command: &Command) -> Option<NoticeRefusal>
     ensures { result ≡ bad_zones command.now }
 {
@@ -57,7 +59,7 @@ fn bad_zones(command: &Command) -> Option<NoticeRefusal>
     }
 }
 
-/// The first public zone.
+/// Returns the first zone that is a public forecast zone, not a county.
 fn first_public(zones: &[Zone]) -> Option<Zone>
     ensures { result ≡ find is_public zones.now }
 {
@@ -69,7 +71,7 @@ fn first_public(zones: &[Zone]) -> Option<Zone>
     None
 }
 
-/// NotCounty: a public zone; the first one is named.
+/// NotCounty: a zone is a public forecast zone. Names the first.
 fn not_county(command: &Command) -> Option<NoticeRefusal>
     ensures { result ≡ not_county command.now }
 {
@@ -99,8 +101,7 @@ fn bad_end(command: &Command) -> Option<NoticeRefusal>
     }
 }
 
-/// The first rule that the command breaks by itself. `last` is the minute of the last accepted
-/// command.
+/// Returns the first broken rule among those that look at the command and `last` only.
 #[tactic(auto, unfolding(crate::specs::Commands::broken_by_itself))]
 fn broken_by_itself(last: Minute, command: &Command) -> Option<NoticeRefusal>
     ensures { result ≡ broken_by_itself last command.now }
@@ -130,7 +131,7 @@ fn is_used(board: &Board, event: &Event) -> bool
     board.has(*event)
 }
 
-/// NumberUsed: the event that is to be opened has rows, ended ones among them.
+/// NumberUsed: the event that is to be opened has rows, ended or not.
 fn number_used(board: &Board, command: &Command) -> Option<NoticeRefusal>
     ensures { result ≡ number_used board.now.rows command.now command.now.deed }
 {
@@ -147,7 +148,7 @@ fn number_used(board: &Board, command: &Command) -> Option<NoticeRefusal>
     }
 }
 
-/// The open event of an earlier year that has the number.
+/// Returns the refusal NumberHeld if an open event of an earlier year has the number.
 fn holder(board: &Board, command: &Command) -> Option<NoticeRefusal>
     requires { IsConsistent board.now.rows command.now.at }
     ensures { result ≡ option_map held_by
@@ -162,7 +163,7 @@ fn holder(board: &Board, command: &Command) -> Option<NoticeRefusal>
     }
 }
 
-/// NumberHeld: an open event of an earlier year has the number that is to be opened.
+/// NumberHeld: an open event of an earlier year has the number of the event that is to be opened.
 fn number_held(board: &Board, command: &Command) -> Option<NoticeRefusal>
     requires { IsConsistent board.now.rows command.now.at }
     ensures { result ≡ number_held board.now.rows command.now command.now.deed }
@@ -173,7 +174,7 @@ fn number_held(board: &Board, command: &Command) -> Option<NoticeRefusal>
     }
 }
 
-/// That no event of the hazard and number is open.
+/// Returns the refusal NoWatch if no event of the hazard and number is open.
 fn none_open(board: &Board, command: &Command) -> Option<NoticeRefusal>
     ensures { result ≡ none_open board.now.rows command.now }
 {
@@ -193,7 +194,7 @@ fn no_watch(board: &Board, command: &Command) -> Option<NoticeRefusal>
     }
 }
 
-/// Whether the event has a row in the zone that no line has ended and that is not live.
+/// Whether the event has a row in the zone whose end has come and that no line has ended.
 fn was_left(board: &Board, t: Minute, event: &Event, zone: &Zone) -> bool
     ensures { result ≡ was_left board.now.rows t event.now zone.now }
 {
@@ -203,7 +204,7 @@ fn was_left(board: &Board, t: Minute, event: &Event, zone: &Zone) -> bool
     }
 }
 
-/// The first zone that the event has left before.
+/// Returns the first zone for which `was_left` holds.
 fn first_left(board: &Board, t: Minute, event: &Event, zones: &[Zone]) -> Option<Zone>
     ensures { result ≡ find (was_left board.now.rows t event.now) zones.now }
 {
@@ -225,8 +226,8 @@ fn left_in(board: &Board, command: &Command, event: Option<Event>) -> Option<Not
     }
 }
 
-/// LeftBefore: a join in a zone with a row that no line has ended and that is not live; the first
-/// one is named.
+/// LeftBefore: a join in a zone with a row whose end has come and that no line has ended. Names the
+/// first.
 fn left_before(board: &Board, command: &Command) -> Option<NoticeRefusal>
     ensures { result ≡ left_before board.now.rows command.now command.now.deed }
 {
@@ -236,7 +237,7 @@ fn left_before(board: &Board, command: &Command) -> Option<NoticeRefusal>
     }
 }
 
-/// Whether the event has no row in the zone that a line may still end.
+/// Whether the event has no open row in the zone.
 fn is_gone(board: &Board, t: Minute, event: &Event, zone: &Zone) -> bool
     ensures { result ≡ is_gone board.now.rows t event.now zone.now }
 {
@@ -246,7 +247,7 @@ fn is_gone(board: &Board, t: Minute, event: &Event, zone: &Zone) -> bool
     }
 }
 
-/// The first zone in which the event can't be ended.
+/// Returns the first zone for which `is_gone` holds.
 fn first_gone(board: &Board, t: Minute, event: &Event, zones: &[Zone]) -> Option<Zone>
     ensures { result ≡ find (is_gone board.now.rows t event.now) zones.now }
 {
@@ -268,8 +269,7 @@ fn gone_in(board: &Board, command: &Command, event: Option<Event>) -> Option<Not
     }
 }
 
-/// NotLive: an end in a zone without a row, on an ended one, or more than half an hour after its
-/// end; the first one is named.
+/// NotLive: an end in a zone without an open row. Names the first.
 fn not_live(board: &Board, command: &Command) -> Option<NoticeRefusal>
     ensures { result ≡ not_live board.now.rows command.now command.now.deed }
 {
@@ -279,7 +279,7 @@ fn not_live(board: &Board, command: &Command) -> Option<NoticeRefusal>
     }
 }
 
-/// The first rule that the command breaks by the rows.
+/// Returns the first broken rule among those that look at the rows.
 #[tactic(auto, unfolding(crate::specs::Commands::broken_by_rows))]
 fn broken_by_rows(board: &Board, command: &Command) -> Option<NoticeRefusal>
     requires { IsConsistent board.now.rows command.now.at }
@@ -304,8 +304,10 @@ fn broken_by_rows(board: &Board, command: &Command) -> Option<NoticeRefusal>
     not_live(board, command)
 }
 
-/// The first rule that the command breaks, but for that on the length of its notice. `last` is the
-/// minute of the last accepted command.
+/// Returns the first rule that the command breaks, apart from TooLong. `last` is the minute of the
+/// last accepted command, 0 before the first.
+///
+/// Source: docs/NOTICES.md, "Refusals"; docs/DECISIONS.md, "County notices".
 pub fn broken(board: &Board, last: Minute, command: &Command) -> Option<NoticeRefusal>
     requires { IsConsistent board.now.rows last }
     ensures { result ≡ broken_with board.now.rows last command.now }

@@ -8,7 +8,7 @@ use crate::issuer::Issuer;
 use hazard_types::{List, LocalZone, Text};
 use program_ends::office_of;
 
-/// The zone that a word names.
+/// Returns the zone of local times that a word names.
 fn local_zone_in(word: &[u8]) -> Option<LocalZone>
     ensures { result ≡ local_zone_in word.now }
 {
@@ -35,7 +35,7 @@ fn local_zone_in(word: &[u8]) -> Option<LocalZone>
     }
 }
 
-/// The office and the zone of the words `OFFICE ZONE`.
+/// Parses the words `OFFICE ZONE`; `None` if they are not exactly these two.
 #[tactic(auto, unfolding(crate::specs::Words::issuer_of))]
 pub fn issuer_of(words: &List<Text>) -> Option<Issuer>
     ensures value { result ≡ issuer_of words.now }

@@ -1,4 +1,4 @@
-//! How a journal is read from a disk, record by record.
+//! Reads a journal from a disk, record by record.
 ghost use Rattle.std.specs.Prelude.{◌≡◌, ◌⊎◌, ◌↔◌, ◌+◌, ◌<◌, ◌≤◌, ℕ, List, Option, None, Some, [], ◌∷◌, ◌++◌, length, IfOk, OnOk, IsTrue, IsErrOf};
 ghost use Rattle.std.specs.Int.{w32, to_be_bytes, from_be_bytes};
 ghost use Rattle.desk_traits.specs.Crash.{Passes};
@@ -11,7 +11,7 @@ use desk_traits::{Disk, Failed};
 use hazard_types::{List, Oom, Text};
 use std::alloc::{AllocError, Global};
 
-/// Why reading stopped.
+/// Why reading stopped: the disk failed, or memory ran out.
 #[derive(Clone, Copy, Debug, PartialEq, Eq)]
 pub(crate) enum ReadFault {
     Failing,
@@ -42,7 +42,8 @@ impl From<AllocError> for ReadFault {
     }
 }
 
-/// What stands at a place.
+/// What is at a gate: an open gate and a whole record with a byte after it (`Body`), a gate that is
+/// not open (`Shut`), or an open gate without such a record (`Cut`).
 #[derive(Debug, Drop)]
 pub(crate) enum Step {
     Body(Text),
@@ -50,7 +51,7 @@ pub(crate) enum Step {
     Cut,
 }
 
-/// What the whole file is.
+/// What the whole file is. `gate` and `at` are places in bytes from 0.
 #[derive(Debug, Drop)]
 pub(crate) enum Found {
     Whole { gate: u64, bodies: List<Text> },
@@ -61,7 +62,7 @@ pub(crate) enum Found {
 ghost use Rattle.journal_core.specs.Image.{Fresh};
 ghost use Rattle.journal_core.specs.Adopt.{Steps, Ends, IsFound, IsGated, Settles};
 
-// The number that four bytes spell, most significant first.
+/// Returns the number that four bytes are, most significant first.
 fn size_of(head: [u8; 4]) -> u32
     ensures value { result ≡ from_be_bytes w32 head }
     ensures back { to_be_bytes w32 result ≡ head }
@@ -69,7 +70,7 @@ fn size_of(head: [u8; 4]) -> u32
     u32::from_be_bytes(head)
 }
 
-// What stands at a place of a file of n bytes.
+/// Reads what is at the place `at` of a file of `n` bytes.
 fn read_record<D: Disk>(alloc: Global, disk: &mut D, at: u64, n: u64) -> Result<Step, ReadFault>
     requires place { at < n }
     requires length { IsLength n (D.seen disk.old) }
@@ -103,7 +104,7 @@ fn read_record<D: Disk>(alloc: Global, disk: &mut D, at: u64, n: u64) -> Result<
     Ok(Step::Body(List::from_vec(body)))
 }
 
-// What the whole file of n bytes is, which is known not to be fresh.
+/// Reads the whole file of `n` bytes, which is not fresh.
 fn scan<D: Disk>(alloc: Global, disk: &mut D, n: u64) -> Result<Found, ReadFault>
     requires { IsLength n (D.seen disk.old) }
     ensures seen { D.seen disk.new ≡ D.seen disk.old }
@@ -138,7 +139,7 @@ fn scan<D: Disk>(alloc: Global, disk: &mut D, n: u64) -> Result<Found, ReadFault
     Ok(Found::Damaged { at })
 }
 
-// Makes what is there stable, and reads it.
+/// Syncs the disk and reads the whole file.
 pub(crate) fn find<D: Disk>(alloc: Global, disk: &mut D) -> Result<Found, ReadFault>
     ensures seen { D.seen disk.new ≡ D.seen disk.old }
     ensures found { (file : List ℕ) → D.seen disk.old ≡ Some file → IfOk result

@@ -1,4 +1,4 @@
-//! How a body is added to a journal.
+//! Appends bodies to a journal.
 ghost use Rattle.std.specs.Prelude.{◌≡◌, ◌⊎◌, ◌+◌, ◌<◌, ◌≤◌, ◌↔◌, ℕ, List, Option, None, Some, option_map, [], ◌∷◌, ◌++◌, length, IfOk, IfErr, OnOk, OnErr, MatchResult, IsTrue, IsErrOf};
 ghost use Rattle.desk_traits.specs.Crash.{LeavesOnly};
 ghost use Rattle.desk_traits.specs.Faults.{HasCause, Rose};
@@ -27,27 +27,30 @@ impl From<Failed> for AppendFault {
 }
 
 impl<D: Disk> Journal<D> {
-    /// Whether a body of so many bytes has room: the file would have at most `LIMIT` bytes with it.
+    /// Whether a body of `n` bytes has room: with it the file would have at most `LIMIT` bytes.
     pub fn room(&self, n: usize) -> bool
         ensures { IsTrue result ↔ (gate_of self.now + 6 + n ≤ 268435456) }
     {
         self.gate <= LIMIT - 6 && n as u64 <= LIMIT - 6 - self.gate
     }
 
-    /// Adds a body. It takes no memory.
+    /// Appends a body, durably. Takes no memory.
     ///
     /// # Errors
     ///
-    /// `Full` where the file would have more than `LIMIT` bytes; nothing is done. `DiskFault` where a
-    /// call of the disk failed; this body, or the one that was so before, may be pending then.
+    /// `Full` if the file would have more than `LIMIT` bytes; nothing changes. `DiskFault` if a
+    /// call of the disk failed; at most one body is then pending, this one or the one that was
+    /// pending before.
+    ///
+    /// Source: docs/JOURNAL.md, "How it is written".
     pub fn append(&mut self, body: &Packet) -> Result<(), AppendFault>
 
-        // The file would be too long, and nothing is done.
+        // The file would be too long, and nothing changes.
         ensures full { IsErrOf result AppendFault.Full
             ↔ (268435456 < gate_of self.old + 6 + length body.now) }
         ensures unchanged { IsErrOf result AppendFault.Full → self.new ≡ self.old }
 
-        // The last gate moves behind the body's record, or stays where it is.
+        // The last gate moves to after the body's record, or stays where it is.
         ensures gate { MatchResult result
             (λ _. gate_of self.new ≡ gate_of self.old + (length body.now + 5))
             (λ _. gate_of self.new ≡ gate_of self.old) }
@@ -57,7 +60,7 @@ impl<D: Disk> Journal<D> {
         ensures cause { IsErrOf result AppendFault.DiskFault
             → Rose (D.faults (disk_of self.old)) (D.faults (disk_of self.new)) }
 
-        // But for that the count of its faults is as before.
+        // If the body was appended, the count of faults is as before.
         ensures steady { OnOk result (D.faults (disk_of self.new) ≡ D.faults (disk_of self.old)) }
 
         // From now on each crash leaves the bodies with this one, and nothing is pending.
@@ -67,14 +70,14 @@ impl<D: Disk> Journal<D> {
             (Keeps D.seen D.crash self.new (bodies ++ body.now ∷ []) None
             × Only (D.seen (disk_of self.new)) (D.crash (disk_of self.new)).may_leave) }
 
-        // The body's record stands at the last gate, with a closed gate behind it, and no other
-        // byte is changed.
+        // The body's record is at the last gate, with a closed gate after it, and no other byte is
+        // changed.
         ensures written { (file : List ℕ) → D.seen (disk_of self.old) ≡ Some file
             → OnOk result
             (D.seen (disk_of self.new) ≡ Some (with_record (gate_of self.old) body.now file)) }
 
-        // The bodies are as before, and at most one is pending, which was so before or is this one.
-        // A crash now leaves the bodies, or them with the pending one.
+        // The bodies are as before, and at most one is pending: the one that was pending before, or
+        // this one. A crash now leaves the bodies, or the bodies and the pending one.
         ensures failed { (bodies : List (List ℕ)) (pending : Option (List ℕ))
             → Keeps D.seen D.crash self.old bodies pending
             → IsErrOf result AppendFault.DiskFault → (next : Option (List ℕ))
@@ -82,8 +85,8 @@ impl<D: Disk> Journal<D> {
             × ((c : List ℕ) → (D.crash (disk_of self.new)).may_leave c
             → LeavesBodies bodies next c) }
 
-        // A crash at any moment of the call leaves the bodies, with the one that was pending, with
-        // this one, or with neither.
+        // A crash at any moment of the call leaves the bodies, alone or with the one that was
+        // pending or with this one.
         ensures any_moment { (bodies : List (List ℕ)) (pending : Option (List ℕ))
             → Keeps D.seen D.crash self.old bodies pending
             → LeavesOnly (D.crash (disk_of self.old)) (D.crash (disk_of self.new))
@@ -98,7 +101,7 @@ impl<D: Disk> Journal<D> {
         Ok(())
     }
 
-    // Closes the gate that may stand open since a fault.
+    /// Closes the last gate if it may be open since a fault.
     fn close(&mut self) -> Result<(), Failed>
         ensures put { OnOk result
             ((D.seen self.new.disk ≡ D.seen self.old.disk)
@@ -126,7 +129,7 @@ impl<D: Disk> Journal<D> {
         Ok(())
     }
 
-    // Writes the body behind the closed gate.
+    /// Writes the body after the closed gate, and syncs.
     fn stage(&mut self, body: &Packet) -> Result<(), Failed>
         requires { self.old.gate + 6 + length body.now ≤ 268435456 }
         ensures put { OnOk result
@@ -149,7 +152,7 @@ impl<D: Disk> Journal<D> {
         write_synced(&mut self.disk, self.gate + 1, body.framed())
     }
 
-    // Opens the gate before the body that stands behind it.
+    /// Opens the gate before the body that was written after it, and syncs.
     fn open(&mut self, body: &Packet) -> Result<(), Failed>
         requires within { IsWithin (self.old.gate + 6 + length body.now)
             (D.seen (disk_of self.old)) }

@@ -1,4 +1,4 @@
-//! How a journal is made on a fresh disk.
+//! Makes the file of a journal on a fresh disk.
 ghost use Rattle.std.specs.Prelude.{◌≡◌, ◌⊎◌, ◌↔◌, ◌+◌, ◌<◌, ◌≤◌, ℕ, List, Option, None, Some, option_map, [], ◌∷◌, ◌++◌, length, IfOk, OnOk, IsTrue, IsErrOf, false};
 ghost use Rattle.desk_traits.specs.Crash.{Passes, LeavesOnly};
 ghost use Rattle.desk_traits.specs.Faults.{HasCause, Rose};
@@ -7,7 +7,7 @@ ghost use Rattle.desk_traits.specs.File.{Same, IsWithin, Only};
 use crate::packet::Packet;
 use desk_traits::{Disk, Failed, write_synced};
 
-/// How a file begins.
+/// How a file starts: with at most one byte (`Short`), with `.` (`Begun`) or with another byte.
 #[derive(Clone, Copy, Debug, PartialEq, Eq)]
 pub(crate) enum Start {
     Short,
@@ -18,7 +18,7 @@ pub(crate) enum Start {
 ghost use Rattle.journal_core.specs.Create.{Starts};
 ghost use Rattle.journal_core.specs.Adopt.{Settles};
 
-// Makes what is there stable, and looks at it.
+/// Syncs the disk and reads how its file starts.
 pub(crate) fn look<D: Disk>(disk: &mut D) -> Result<Start, Failed>
     ensures seen { D.seen disk.new ≡ D.seen disk.old }
     ensures start { IfOk result (λ start. Starts start (D.seen disk.old)) }
@@ -48,7 +48,7 @@ ghost use Rattle.journal_core.specs.Image.{Fresh};
 ghost use Rattle.journal_core.specs.Packet.{framed};
 ghost use Rattle.journal_core.specs.Written.{put, with_record};
 
-// Writes the body behind a byte that is no open gate, and then opens it.
+/// Writes the body after a gate that is not open, and then opens the gate. Syncs after each write.
 fn first<D: Disk>(disk: &mut D, body: &Packet) -> Result<(), Failed>
     requires within { IsWithin 1 (D.seen disk.old) }
     requires room { length body.now ≤ 268435450 }
@@ -67,7 +67,7 @@ fn first<D: Disk>(disk: &mut D, body: &Packet) -> Result<(), Failed>
     write_synced(disk, 0, b"G")
 }
 
-// Makes a file of one body where the file is fresh. Answers whether it was.
+/// Makes a file of one body if the file is fresh. Returns whether it was.
 pub(crate) fn make<D: Disk>(disk: &mut D, body: &Packet) -> Result<bool, Failed>
     requires { length body.now ≤ 268435450 }
     ensures fresh { (file : List ℕ) → D.seen disk.old ≡ Some file → IfOk result

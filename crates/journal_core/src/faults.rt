@@ -1,6 +1,6 @@
-//! Why a journal was not made, not opened, or got no body.
+//! The faults of making a journal, opening it and appending to it.
 
-/// Why a body was not added.
+/// Why a body was not appended.
 #[derive(Clone, Copy, Debug, PartialEq, Eq)]
 pub enum AppendFault {
     /// The file would have more than 268,435,456 bytes.
@@ -12,7 +12,7 @@ pub enum AppendFault {
 #[derive(Clone, Copy, Debug, PartialEq, Eq)]
 pub enum AdoptFault {
     Fresh,
-    /// The place of the gate, in bytes from 0, from which on the file is no journal.
+    /// The file is no journal from the gate at this place on, in bytes from 0.
     Damaged { at: u64 },
     DiskFault,
     OutOfMemory,

@@ -1,4 +1,6 @@
-//! A list of bodies in one file, which a crash at any moment leaves whole.
+//! Keeps a list of bodies (byte strings) in one file. A crash at any moment leaves the bodies that
+//! were appended, and at most one more, each whole. For `office_journal`; begin with
+//! `Journal::create` or `Journal::adopt`, then `Packet::new` and `Journal::append`.
 #![tactic(auto)]
 
 mod adopt;

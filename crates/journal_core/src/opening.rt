@@ -1,4 +1,4 @@
-//! How a journal is made, opened, and closed again.
+//! Makes, opens and closes a journal.
 ghost use Rattle.std.specs.Prelude.{◌≡◌, ◌⊎◌, ◌+◌, ◌<◌, ◌≤◌, ◌↔◌, ℕ, List, Option, None, Some, [], ◌∷◌, ◌++◌, length, IfOk, IfErr, OnOk, OnErr, MatchResult, IsTrue, IsErrOf};
 ghost use Rattle.desk_traits.specs.Crash.{LeavesOnly};
 ghost use Rattle.desk_traits.specs.Faults.{HasCause, Rose};
@@ -20,25 +20,25 @@ use hazard_types::{List, Text};
 use std::alloc::Global;
 
 impl<D: Disk> Journal<D> {
-    /// Whether a journal may be made in the file: it has no byte or one, or is only being made.
-    /// Nothing is changed.
+    /// Whether a journal may be made in the file: it has at most one byte, or starts with `.`.
+    /// Syncs the disk and writes nothing.
     ///
     /// # Errors
     ///
-    /// `Failed`; the disk's count of faults rose.
+    /// `Failed` if a call of the disk failed; its count of faults rose.
     pub fn is_fresh(disk: &mut D) -> Result<bool, Failed>
         ensures seen { D.seen disk.new ≡ D.seen disk.old }
         ensures told { (file : List ℕ) → D.seen disk.old ≡ Some file → IfOk result
             (λ fresh. IsTrue fresh ↔ Fresh file) }
 
-        // A crash since its start leaves what one at its start might have left.
+        // A crash since the start of the call leaves what one at the start might have left.
         ensures untouched { LeavesOnly (D.crash disk.old) (D.crash disk.new)
             (D.crash disk.old).may_leave }
 
         // The disk failed in this call.
         ensures cause { HasCause (D.faults disk.old) (D.faults disk.new) result }
 
-        // But for that the count of its faults is as before.
+        // In every other case the count of faults is as before.
         ensures steady { OnOk result (D.faults disk.new ≡ D.faults disk.old) }
     {
         match look(disk)? {
@@ -47,27 +47,30 @@ impl<D: Disk> Journal<D> {
         }
     }
 
-    /// Makes a journal of one body on a fresh disk.
+    /// Makes a journal of one body on a disk with a fresh file.
     ///
     /// # Errors
     ///
-    /// The disk, with `NotFresh` where its file was not fresh and is as before, or with `DiskFault`
-    /// where a call of it failed; a crash then leaves what may stand there while one is made.
+    /// The disk comes back with the fault. `NotFresh` if its file was not fresh; the file is as
+    /// before. `DiskFault` if a call of the disk failed; a crash then leaves what it might have
+    /// left before the call, or a file that is being made.
+    ///
+    /// Source: docs/JOURNAL.md, "How it is written".
     pub fn create(mut disk: D, body: &Packet) -> Result<Journal<D>, (D, CreateFault)>
 
-        // The file was fresh, and the journal has this body alone, on the disk.
+        // The file was fresh, and on the disk the journal has this body alone.
         ensures fresh { (file : List ℕ) → D.seen disk ≡ Some file → OnOk result (Fresh file) }
         ensures ok { (file : List ℕ) → D.seen disk ≡ Some file
             → IfOk result
             (λ journal. Keeps D.seen D.crash journal (body.now ∷ []) None
             × Only (D.seen (disk_of journal)) (D.crash (disk_of journal)).may_leave) }
 
-        // Its record stands at the begin of the file, with a closed gate behind it, and no other
-        // byte is changed.
+        // The record is at the start of the file, with a closed gate after it, and no other byte is
+        // changed.
         ensures written { (file : List ℕ) → D.seen disk ≡ Some file → IfOk result
             (λ journal. D.seen (disk_of journal) ≡ Some (with_record 0 body.now file)) }
 
-        // The last gate stands behind that record.
+        // The last gate is after that record.
         ensures gate { IfOk result (λ journal. gate_of journal ≡ length body.now + 5) }
 
         // The file was not fresh, and is as before.
@@ -85,7 +88,7 @@ impl<D: Disk> Journal<D> {
         ensures later { MatchResult result (λ journal. D.faults disk ≤ D.faults (disk_of journal))
             (λ e. D.faults disk ≤ D.faults e.0) }
 
-        // But for that the count of its faults is as before.
+        // In every other case the count of faults is as before.
         ensures steady { MatchResult result
             (λ journal. D.faults (disk_of journal) ≡ D.faults disk)
             (λ e. e.1 ≡ CreateFault.NotFresh → D.faults e.0 ≡ D.faults disk) }
@@ -111,23 +114,26 @@ impl<D: Disk> Journal<D> {
         }
     }
 
-    /// Opens the journal that a file holds, and answers its bodies, in order.
+    /// Opens the journal in the file of a disk and returns its bodies, in order. Syncs the disk and
+    /// writes nothing.
     ///
     /// # Errors
     ///
-    /// The disk, whose file is as before, with `Fresh` where no journal is made yet, `Damaged` with
-    /// a place in bytes where the file is none, `DiskFault` where a call of the disk failed, or
-    /// `OutOfMemory`.
+    /// The disk, whose file is as before, comes back with the fault. `Fresh` if no journal has been
+    /// made yet, `Damaged` with a place in bytes from 0 if the file is no journal, `DiskFault` if a
+    /// call of the disk failed, and `OutOfMemory`.
+    ///
+    /// Source: docs/JOURNAL.md, "What is a journal, and what is not".
     pub fn adopt(alloc: Global, mut disk: D) -> Result<(Journal<D>, List<Text>), (D, AdoptFault)>
 
-        // The file is an image of exactly these bodies, all of it is stable, and nothing is
+        // The file is an image of exactly these bodies, all of it is synced, and nothing is
         // pending.
         ensures ok { (file : List ℕ) → D.seen disk ≡ Some file
             → IfOk result
             (λ r. Image file r.1 × Keeps D.seen D.crash r.0 r.1 None
             × Only (D.seen (disk_of r.0)) (D.crash (disk_of r.0)).may_leave) }
 
-        // The last gate stands behind the records of these bodies, of which there is one at least.
+        // The last gate is after the records of these bodies, of which there is at least one.
         ensures gate { IfOk result (λ r. (gate_of r.0 ≡ length (records r.1)) × (0 < length r.1)) }
 
         ensures fresh { (file : List ℕ) → D.seen disk ≡ Some file → IfErr result
@@ -135,7 +141,7 @@ impl<D: Disk> Journal<D> {
         ensures damaged { (file : List ℕ) → D.seen disk ≡ Some file → IfErr result
             (λ e. (at : ℕ) → e.1 ≡ AdoptFault.Damaged at → DamagedAt file at) }
 
-        // A crash since its first sync answered might have left what a read gives, and nothing
+        // A crash since the first sync of the call might have left what a read returns, and nothing
         // else.
         ensures settled { (file before : List ℕ) → D.seen disk ≡ Some file
             → D.syncs disk ≡ Some before
@@ -147,13 +153,13 @@ impl<D: Disk> Journal<D> {
         ensures later { MatchResult result (λ r. D.faults disk ≤ D.faults (disk_of r.0))
             (λ e. D.faults disk ≤ D.faults e.0) }
 
-        // But for that the count of its faults is as before.
+        // In every other case the count of faults is as before.
         ensures steady { MatchResult result
             (λ r. D.faults (disk_of r.0) ≡ D.faults disk)
             (λ e. (e.1 ≡ AdoptFault.DiskFault → ⊥) → D.faults e.0 ≡ D.faults disk) }
 
-        // Whatever it answers, a read gives the same, and a crash since its start leaves what one
-        // at its start might have left.
+        // In every case a read returns the same as before, and a crash since the start of the call
+        // leaves what one at the start might have left.
         ensures seen { MatchResult result (λ r. D.seen (disk_of r.0) ≡ D.seen disk)
             (λ e. D.seen e.0 ≡ D.seen disk) }
         ensures any_moment { MatchResult result
@@ -176,7 +182,7 @@ impl<D: Disk> Journal<D> {
         }
     }
 
-    /// The disk.
+    /// Returns the disk.
     pub fn into_disk(self) -> D
         ensures { result ≡ disk_of self }
     {

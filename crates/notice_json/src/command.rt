@@ -1,17 +1,20 @@
-//! What a line asks: to open a watch in counties, to join counties to it, or to end it in some.
+//! What a line asks for: to open a watch in counties, to add counties to it, or to end it in some.
 ghost use Rattle.std.specs.Prelude.{◌≡◌};
 ghost use Rattle.notice_json.specs.Commands.{watch_at, hazard_of};
 
 use hazard_types::{Hazard, List, Minute, Phen, Sig, Zone};
 
-/// A watch of the national centre.
+/// A kind of watch that the national centre issues.
+///
+/// Source: docs/NOTICES.md, "A line".
 #[derive(Clone, Copy, Debug, PartialEq, Eq)]
 pub enum Watch {
     Tornado,
     Thunderstorm,
 }
 
-/// What is done in the counties, with the watch's end where it is opened or joined.
+/// What a command does in its counties. `Open` and `Join` have the minute at which the watch ends
+/// there.
 #[derive(Clone, Copy, Debug, PartialEq, Eq)]
 pub enum Deed {
     Open(Minute),
@@ -19,8 +22,8 @@ pub enum Deed {
     End,
 }
 
-/// A line that was read. The number is 1 to 9,999. The zones stand as they were written: there may
-/// be none, and one may stand twice.
+/// A line that was read. The number is 1 to 9,999. The zones are in the order written: there may be
+/// none, and one may occur twice.
 #[derive(Clone, Debug, Drop, PartialEq, Eq)]
 pub struct Command {
     pub at: Minute,
@@ -31,7 +34,7 @@ pub struct Command {
 }
 
 impl Watch {
-    /// The watch of a hazard's code: `TO.A` or `SV.A`.
+    /// Returns the watch with this code, `TO.A` or `SV.A`.
     pub(crate) fn at(code: &str) -> Option<Watch>
         ensures { result ≡ watch_at code.now }
     {
@@ -42,7 +45,9 @@ impl Watch {
         }
     }
 
-    /// The hazard of which the watch is: TO.A for tornadoes, SV.A for severe thunderstorms.
+    /// Returns the hazard of the watch: TO.A for tornadoes, SV.A for severe thunderstorms.
+    ///
+    /// Source: NWS Instruction 10-1703, P-VTEC phenomenon and significance codes.
     pub fn hazard(self) -> Hazard
         ensures { result ≡ hazard_of self }
     {

@@ -1,10 +1,10 @@
-//! A law of refusals, for the crates above. The function does nothing; its contract is the law.
+//! A law of refusals. The function does nothing; its contract is the law.
 ghost use Rattle.std.specs.Prelude.{◌≢◌, ℕ, All};
 ghost use Rattle.notice_json.specs.Refusals.{refusal_text};
 
 use crate::refusal::NoticeRefusal;
 
-/// The text of any refusal is one line.
+/// The text of a refusal has no line feed.
 #[tactic(auto, using(crate::proofs::Lines::refusal_line))]
 pub fn refusal_texts_are_lines()
     ensures { (r : NoticeRefusal) → All (λ (b : ℕ). b ≢ 10) (refusal_text r) }

@@ -1,4 +1,5 @@
-//! The lines of JSON that tell counties of watches, and the texts of refusals.
+//! Reads the JSON lines that ask for county notices of watches, and writes their refusals as JSON.
+//! For `county_notices`; begin with `read_command` and `refusal_text`.
 #![tactic(auto)]
 
 mod command;

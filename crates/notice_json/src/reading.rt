@@ -1,4 +1,4 @@
-//! Lines are read.
+//! Reads lines.
 ghost use Rattle.std.specs.Prelude.{◌≡◌, IfOk, Some, None};
 ghost use Rattle.hazard_types.specs.Given.{Gives};
 ghost use Rattle.serde_json.specs.View.{view};
@@ -16,7 +16,7 @@ use hazard_types::{List, Minute, Or, Zone};
 use serde_json::Value;
 use std::alloc::Global;
 
-/// What a field has, or the fault of the field.
+/// Returns the value of a field, or `WrongShape` with the field's name if there is none.
 fn given<T: Drop>(alloc: Global, found: Option<T>, field: &str) -> Result<T, Or<NoticeRefusal>>
     ensures { Gives result (given found field.now) }
 {
@@ -28,7 +28,7 @@ fn given<T: Drop>(alloc: Global, found: Option<T>, field: &str) -> Result<T, Or<
     }
 }
 
-/// The fault of a field.
+/// Returns `WrongShape` with the field's name.
 fn wrong<T: Drop>(alloc: Global, field: &str) -> Result<T, Or<NoticeRefusal>>
     ensures { Gives result (Err (NoticeRefusal.WrongShape field.now)) }
 {
@@ -74,7 +74,7 @@ fn end_field(alloc: Global, value: &Value) -> Result<Minute, Or<NoticeRefusal>>
     given(alloc, minute_at(value, "end"), "end")
 }
 
-/// What is done, with the end that `open` and `join` have.
+/// Returns what the command does, with the end that `open` and `join` have.
 fn deed_field(alloc: Global, verb: Verb, value: &Value) -> Result<Deed, Or<NoticeRefusal>>
     ensures { Gives result (deed_field verb (view value.now)) }
 {
@@ -85,7 +85,7 @@ fn deed_field(alloc: Global, verb: Verb, value: &Value) -> Result<Deed, Or<Notic
     }
 }
 
-/// What a JSON value asks.
+/// Returns the command that a JSON value is, or the first fault of its fields.
 #[tactic(auto, unfolding(crate::specs::Form::command_in))]
 fn command_in(alloc: Global, value: &Value) -> Result<Command, Or<NoticeRefusal>>
     ensures { Gives result (command_in (view value.now)) }
@@ -112,7 +112,7 @@ fn command_in(alloc: Global, value: &Value) -> Result<Command, Or<NoticeRefusal>
     }
 }
 
-/// The JSON value that the bytes are.
+/// Parses the bytes as one JSON value, or returns `NotJson`.
 fn read_json(alloc: Global, bytes: &[u8]) -> Result<Value, Or<NoticeRefusal>>
     ensures ok { IfOk result (λ value. json_of bytes.now ≡ Some (view value)) }
     ensures refused { (r : Refused) → result ≡ Err (Or.No r) → json_of bytes.now ≡ None }
@@ -130,13 +130,15 @@ fn read_json(alloc: Global, bytes: &[u8]) -> Result<Value, Or<NoticeRefusal>>
     }
 }
 
-/// Reads a line. What is read has the form of a command: its number, its minutes and its zones are
-/// in their ranges. The line's length is not judged here.
+/// Parses a line, without its LF, as a command. The numbers, minutes and zones of a command are in
+/// their ranges; the length of the line is not checked.
 ///
 /// # Errors
 ///
-/// `NotJson`, or `WrongShape` with the first field that is missing or wrong (`?` for an unknown key,
-/// `.` for a value that is no object), or out of memory.
+/// `Or::No` with `NotJson`, or with `WrongShape` and the first field that is missing or wrong (`?`
+/// for an unknown key, `.` for a value that is not an object), and otherwise out of memory.
+///
+/// Source: docs/NOTICES.md, "A line"; docs/DECISIONS.md, "County notices".
 #[tactic(auto, unfolding(crate::specs::Form::command_of), using(crate::proofs::CommandForms::answers_have_form))]
 pub fn read_command(alloc: Global, bytes: &[u8]) -> Result<Command, Or<NoticeRefusal>>
     ensures exact { Gives result (command_of bytes.now) }

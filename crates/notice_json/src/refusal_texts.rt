@@ -10,7 +10,7 @@ use hazard_types::{Event, List, Minute, Oom, Text, Zone, put_event, stamp, zone_
 use serde_json::Map;
 use std::alloc::Global;
 
-/// The code and the name of a refusal.
+/// Returns the code and the name of a refusal.
 #[tactic(auto, unfolding(crate::specs::Refusals::label))]
 fn label(refusal: &NoticeRefusal) -> (&'static str, &'static str)
     ensures { (result.0.now, result.1.now) ≡ label refusal.now }
@@ -57,7 +57,7 @@ fn put_event_name(alloc: Global, members: &mut Members, event: &Event) -> Result
     put_text(alloc, members, "event", name.as_slice())
 }
 
-/// Sets the values of a refusal, by name.
+/// Sets a member for each value of a refusal.
 #[tactic(auto, unfolding(crate::specs::Refusals::put_values))]
 fn put_values(alloc: Global, members: &mut Members, refusal: &NoticeRefusal) -> Result<(), Oom>
     ensures { OnOk result (members_view members.new.entries
@@ -94,8 +94,14 @@ fn refusal_members(alloc: Global, refusal: &NoticeRefusal) -> Result<Members, Oo
     Ok(members)
 }
 
-/// The text of a refusal, without a line feed: an object of its code, its name and its values by
-/// name, keys in byte order.
+/// Returns a refusal as a JSON object on one line, without LF: its code as `no`, its name as
+/// `rule`, and its values by name, with the keys in byte order.
+///
+/// # Errors
+///
+/// Out of memory.
+///
+/// Source: docs/NOTICES.md, "Refusals".
 #[tactic(auto, using(crate::proofs::Floats::refusal_no_float), unfolding(crate::specs::Refusals::refusal_text))]
 pub fn refusal_text(alloc: Global, refusal: &NoticeRefusal) -> Result<Text, Oom>
     ensures { IfOk result (λ text. text ≡ refusal_text refusal.now) }

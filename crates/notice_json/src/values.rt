@@ -7,14 +7,14 @@ use hazard_types::{List, Minute, Oom, Zone, read_stamp, zone_in};
 use serde_json::Value;
 use std::alloc::Global;
 
-/// The text of a member.
+/// Returns the member with this key if it is a string.
 pub fn text_at<'v>(value: &'v Value, key: &str) -> Option<&'v str>
     ensures { option_map (λ s. s.now) result ≡ text_at key.now (view value.now) }
 {
     value.get(key).and_then(Value::as_str)
 }
 
-/// The minute of a member that is a stamp.
+/// Returns the minute of the member with this key if it is a stamp.
 pub fn minute_at(value: &Value, key: &str) -> Option<Minute>
     ensures { result ≡ minute_at key.now (view value.now) }
 {
@@ -22,7 +22,7 @@ pub fn minute_at(value: &Value, key: &str) -> Option<Minute>
     read_stamp(text.as_bytes())
 }
 
-/// The watch's number: a whole number from 1 to 9,999.
+/// Returns the member `number` if it is a whole number from 1 to 9,999.
 pub fn number_of(value: &Value) -> Option<u16>
     ensures { result ≡ number_of (view value.now) }
 {
@@ -38,7 +38,7 @@ pub fn number_of(value: &Value) -> Option<u16>
     }
 }
 
-/// The zones of the texts, or nothing where one is no zone.
+/// Returns the zones that the strings are, or `None` if one is no zone.
 fn zones_of(alloc: Global, values: &[Value]) -> Result<Option<List<Zone>>, Oom>
     ensures { IfOk result (λ zones. zones ≡ zones_of (items_view values.now)) }
 {
@@ -52,7 +52,11 @@ fn zones_of(alloc: Global, values: &[Value]) -> Result<Option<List<Zone>>, Oom>
     Ok(Some(zones))
 }
 
-/// The zones of a line, or nothing where they are missing or wrong.
+/// Returns the zones of the member `zones`, or `None` if it is missing or no array of zones.
+///
+/// # Errors
+///
+/// Out of memory.
 pub fn zones_at(alloc: Global, value: &Value) -> Result<Option<List<Zone>>, Oom>
     ensures { IfOk result (λ zones. zones ≡ zones_at (view value.now)) }
 {

@@ -1,11 +1,11 @@
-//! What lines do, and the keys that they have.
+//! The field `do`, and the keys that a line may have with each of its values.
 ghost use Rattle.std.specs.Prelude.{◌≡◌};
 ghost use Rattle.serde_json.specs.View.{members_view};
 ghost use Rattle.notice_json.specs.Keys.{verb_at, is_common, has_key, all_known};
 
 use serde_json::{Map, Value};
 
-/// What a line does, by its field `do`.
+/// The value of a line's field `do`.
 #[derive(Clone, Copy, Debug, PartialEq, Eq)]
 pub enum Verb {
     Open,
@@ -13,7 +13,7 @@ pub enum Verb {
     End,
 }
 
-/// Whether all lines have the key.
+/// Whether each line has the key.
 fn is_common(key: &str) -> bool
     ensures { result ≡ is_common key.now }
 {
@@ -21,7 +21,7 @@ fn is_common(key: &str) -> bool
 }
 
 impl Verb {
-    /// What the word says to do.
+    /// Returns the verb that the word is.
     pub fn at(word: &str) -> Option<Verb>
         ensures { result ≡ verb_at word.now }
     {
@@ -33,7 +33,7 @@ impl Verb {
         }
     }
 
-    /// Whether a line that does this has the key.
+    /// Whether a line with this verb has the key.
     pub fn has_key(self, key: &str) -> bool
         ensures { result ≡ has_key self key.now }
     {
@@ -43,7 +43,7 @@ impl Verb {
         }
     }
 
-    /// Whether each key of an object is one of those.
+    /// Whether a line with this verb has each of these keys.
     pub fn has_all(self, members: &Map<String, Value>) -> bool
         ensures { result ≡ all_known self (members_view members.now.entries) }
     {

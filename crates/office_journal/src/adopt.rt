@@ -1,4 +1,4 @@
-//! How an office is opened from its journal.
+//! Opens an office from its journal.
 ghost use Rattle.std.specs.Prelude.{◌≡◌, ◌≤◌, ◌<◌, ℕ, List, Some, None, IfOk, IfErr, MatchResult, length};
 ghost use Rattle.desk_traits.specs.Crash.{LeavesOnly};
 ghost use Rattle.desk_traits.specs.Faults.{Rose};
@@ -24,16 +24,20 @@ use journal_core::Journal;
 use std::alloc::Global;
 
 impl<D: Disk> KeptOffice<D> {
-    /// Opens the office whose journal a file holds: its requests are judged again, one after
-    /// another.
+    /// Opens the office whose journal is in the file of the disk. Checks each of its requests
+    /// again, in order, against the requests before it. Syncs the disk and writes nothing.
     ///
     /// # Errors
     ///
-    /// `Fresh`; `Damaged` with the first place, in bytes, that is no office's journal; `DiskFault`;
-    /// `OutOfMemory`. The disk comes back with it.
+    /// The disk, whose file is as before, comes back with the fault. `Fresh` if the file is fresh,
+    /// `Damaged` with the first place, in bytes from 0, from which on it is no office's journal,
+    /// `DiskFault` if a call of the disk failed, and `OutOfMemory`.
+    ///
+    /// Source: docs/JOURNAL.md, "What is a journal, and what is not"; docs/DECISIONS.md, "The kept
+    /// office and its commands".
     pub fn adopt(alloc: Global, disk: D) -> Result<KeptOffice<D>, (D, KeepFault)>
 
-        // The file is an image of exactly this history, all of it is stable, and nothing is
+        // The file is an image of exactly this history, all of it is synced, and nothing is
         // pending.
         ensures ok { (bytes : List ℕ) → D.seen disk ≡ Some bytes
             → IfOk result
@@ -41,12 +45,12 @@ impl<D: Disk> KeptOffice<D> {
             × Holds D.seen D.crash kept file h None × (D.seen (disk_of kept) ≡ Some bytes)
             × Only (D.seen (disk_of kept)) (D.crash (disk_of kept)).may_leave) }
 
-        // Whatever the disk tells, the office is at the state of a legal history, whose records end
+        // Whatever the disk shows, the office is at the state of a legal history, whose records end
         // at the last gate.
         ensures legal { IfOk result
             (λ kept. (file : List ℕ) × (h : History) × HasHistory kept file h) }
 
-        // Someone who has the texts alone finds the board.
+        // A reader of the texts alone finds the board.
         ensures reads { IfOk result (λ kept. ReadsAsTheBoard (state_of kept)) }
 
         // No append has met a disk fault yet.
@@ -57,11 +61,11 @@ impl<D: Disk> KeptOffice<D> {
         ensures damaged { (bytes : List ℕ) → D.seen disk ≡ Some bytes → IfErr result
             (λ e. (at : ℕ) → e.1 ≡ Damaged at → IsDamagedAt bytes at) }
 
-        // No other reason is told here.
+        // No other fault is returned here.
         ensures reasons { IfErr result
             (λ e. (e.1 ≡ keep.NotFresh → ⊥) × ((fault : Fault) → e.1 ≡ keep.Settings fault → ⊥)) }
 
-        // A crash since its first sync answered might have left what a read gives, and nothing
+        // A crash since the first sync of the call might have left what a read returns, and nothing
         // else.
         ensures settled { (bytes before : List ℕ) → D.seen disk ≡ Some bytes
             → D.syncs disk ≡ Some before
@@ -73,12 +77,12 @@ impl<D: Disk> KeptOffice<D> {
         ensures later { MatchResult result (λ kept. D.faults disk ≤ D.faults (disk_of kept))
             (λ e. D.faults disk ≤ D.faults e.0) }
 
-        // But for that the count of its faults is as before.
+        // In every other case the count of faults is as before.
         ensures steady { MatchResult result (λ kept. D.faults (disk_of kept) ≡ D.faults disk)
             (λ e. (e.1 ≡ keep.DiskFault → ⊥) → D.faults e.0 ≡ D.faults disk) }
 
-        // Whatever it answers, a read gives the same, and a crash since its start leaves what one
-        // at its start might have left.
+        // In every case a read returns the same as before, and a crash since the start of the call
+        // leaves what one at the start might have left.
         ensures seen { MatchResult result (λ kept. D.seen (disk_of kept) ≡ D.seen disk)
             (λ e. D.seen e.0 ≡ D.seen disk) }
         ensures any_moment { MatchResult result

@@ -1,28 +1,29 @@
-//! What a kept office answers.
+//! The answers of a `KeptOffice`.
 use crate::submit::KeptReply;
 use hazard_types::Refusal;
 
-/// The answer to a request.
+/// The answer to a request. In all cases but `Accepted` and `DiskFault` the office and its disk are
+/// as before.
 #[derive(Debug, Drop, PartialEq, Eq)]
 pub enum Answer {
-    /// It is in the journal, durably. The text of the reply.
+    /// The request is in the journal, durably. This is its reply.
     Accepted(KeptReply),
-    /// It is the desk's last request again. The text of the kept reply.
+    /// The request is the desk's last one again. This is the reply that it had.
     Repeated(KeptReply),
-    /// The first rule that it breaks.
+    /// The request breaks this rule first.
     Refused(Refusal),
-    /// The disk failed, and the request is not accepted.
+    /// The disk failed, and the request is not accepted. Its entry may be in the file all the same.
     DiskFault,
     OutOfMemory,
 }
 
-/// What became of an upgrade to edition Two.
+/// The outcome of an upgrade to edition Two.
 #[derive(Clone, Copy, Debug, PartialEq, Eq)]
 pub enum Upgrade {
     Done,
-    /// The edition was Two before.
+    /// The edition was Two before the call.
     Already,
-    /// The mark has no room.
+    /// The mark has no room in the journal.
     Full,
     DiskFault,
     OutOfMemory,

@@ -1,4 +1,4 @@
-//! How the journal of an office is made.
+//! Makes the journal of an office.
 ghost use Rattle.std.specs.Prelude.{◌≡◌, ◌⊎◌, ◌≤◌, ◌+◌, ◌∷◌, ◌++◌, [], ℕ, List, Some, None, Ok, Err, IfOk, IfErr, OnOk, MatchResult, length};
 ghost use Rattle.desk_traits.specs.Crash.{LeavesOnly};
 ghost use Rattle.desk_traits.specs.Faults.{Rose};
@@ -30,27 +30,31 @@ use office_core::Office;
 use std::alloc::Global;
 
 impl<D: Disk> KeptOffice<D> {
-    /// Makes the journal of an office with these settings on a fresh disk, and goes over to edition
-    /// Two.
+    /// Makes the journal of an office on a disk with a fresh file, in edition Two. `settings` is
+    /// the text of the settings' file, which the journal has byte for byte.
     ///
     /// # Errors
     ///
-    /// `Settings` with their first fault, where the disk is fresh; `NotFresh`; `DiskFault`;
-    /// `OutOfMemory`. The disk comes back with it.
+    /// The disk comes back with the fault. `Settings` with the first fault of the settings if the
+    /// file is fresh, `NotFresh` if it is not, `OutOfMemory`; in these cases the file is as before.
+    /// `DiskFault` if a call of the disk failed; a crash then leaves what it might have left before
+    /// the call, or a file that is being made.
+    ///
+    /// Source: docs/JOURNAL.md, "The file, byte by byte".
     pub fn create(
         alloc: Global,
         mut disk: D,
         settings: &[u8],
     ) -> Result<KeptOffice<D>, (D, KeepFault)>
 
-        // The file was fresh, and the office has the empty history in edition Two, on the disk.
+        // The file was fresh, and on the disk the office has the empty history in edition Two.
         ensures fresh { (bytes : List ℕ) → D.seen disk ≡ Some bytes → OnOk result (Fresh bytes) }
         ensures ok { (bytes : List ℕ) → D.seen disk ≡ Some bytes
             → IfOk result
             (λ kept. Holds D.seen D.crash kept settings.now (empty Two) None
             × Only (D.seen (disk_of kept)) (D.crash (disk_of kept)).may_leave) }
 
-        // The office in memory, whatever the disk tells.
+        // This holds of the office in memory whatever the disk shows.
         ensures made { IfOk result (λ kept. IsMadeFor settings.now kept) }
 
         // No append has met a disk fault yet.
@@ -66,12 +70,12 @@ impl<D: Disk> KeptOffice<D> {
         ensures not_fresh { (bytes : List ℕ) → D.seen disk ≡ Some bytes → IfErr result
             (λ e. e.1 ≡ keep.NotFresh → Fresh bytes → ⊥) }
 
-        // No other reason is told here.
+        // No other fault is returned here.
         ensures reasons { IfErr result
             (λ e. (e.1 ≡ keep.Fresh → ⊥) × ((at : ℕ) → e.1 ≡ Damaged at → ⊥)) }
 
-        // After a fault of the settings, where the file was not fresh, and where memory lacked, it
-        // is as before.
+        // After a fault of the settings, a file that was not fresh, and out of memory, the file is
+        // as before.
         ensures same { IfErr result
             (λ e. ((fault : Fault) × (e.1 ≡ keep.Settings fault)) ⊎ (e.1 ≡ keep.NotFresh)
             ⊎ (e.1 ≡ keep.OutOfMemory) → D.seen e.0 ≡ D.seen disk) }
@@ -86,7 +90,7 @@ impl<D: Disk> KeptOffice<D> {
         ensures later { MatchResult result (λ kept. D.faults disk ≤ D.faults (disk_of kept))
             (λ e. D.faults disk ≤ D.faults e.0) }
 
-        // But for that the count of its faults is as before.
+        // In every other case the count of faults is as before.
         ensures steady { MatchResult result (λ kept. D.faults (disk_of kept) ≡ D.faults disk)
             (λ e. (e.1 ≡ keep.DiskFault → ⊥) → D.faults e.0 ≡ D.faults disk) }
 
@@ -111,7 +115,7 @@ impl<D: Disk> KeptOffice<D> {
     }
 }
 
-/// The office before any request, and the two bodies that its journal begins with.
+/// Returns the office before any request, and the first two bodies of its journal.
 fn beginnings(
     alloc: Global,
     text: &[u8],
@@ -129,7 +133,7 @@ fn beginnings(
     Ok((office, body, second))
 }
 
-/// Makes the journal of an office whose settings were read.
+/// Makes the journal of an office whose settings were parsed.
 fn make<D: Disk>(
     alloc: Global,
     disk: D,
@@ -175,7 +179,7 @@ fn make<D: Disk>(
     }
 }
 
-/// The journal of the settings' file alone.
+/// Makes a journal of the settings' file alone.
 fn first_journal<D: Disk>(disk: D, body: &Packet) -> Result<Journal<D>, (D, KeepFault)>
     ensures fresh { (bytes : List ℕ) → D.seen disk ≡ Some bytes → OnOk result (Fresh bytes) }
     ensures ok { (bytes : List ℕ) → D.seen disk ≡ Some bytes → IfOk result
@@ -208,7 +212,7 @@ fn first_journal<D: Disk>(disk: D, body: &Packet) -> Result<Journal<D>, (D, Keep
     }
 }
 
-/// Appends the mark to a journal that was just made.
+/// Appends the mark of edition Two to a journal that was just made.
 fn go_over<D: Disk>(
     mut journal: Journal<D>,
     mut office: Office,

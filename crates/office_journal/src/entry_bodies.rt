@@ -1,4 +1,4 @@
-//! The bodies of entries, written and read.
+//! Writes the bodies of entries.
 ghost use Rattle.std.specs.Prelude.{◌≡◌, IfOk};
 ghost use Rattle.office_journal.specs.Bodies.{entry_body};
 
@@ -7,8 +7,11 @@ use office_core::Prepared;
 use request_json::text_of_request;
 use std::alloc::Global;
 
-/// The body of the entry of what was prepared. The desk, the number and the request are those that
-/// were prepared.
+/// Returns the body of the entry of a prepared request: the stamp of its minute, a blank and the
+/// canonical text of the request; in edition Two also a line feed and the text of its product, if
+/// it makes one. `desk`, `seq` and `r` are those that were prepared.
+///
+/// Source: docs/JOURNAL.md, "The file, byte by byte".
 pub(crate) fn entry_body(
     alloc: Global,
     desk: &Desk,

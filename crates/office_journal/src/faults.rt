@@ -1,20 +1,20 @@
-//! Why an office was not opened.
+//! The faults of making and opening a `KeptOffice`.
 ghost use Rattle.std.specs.Prelude.{◌≡◌};
 ghost use Rattle.office_journal.specs.Faults.{told_as};
 
 use desk_settings::SettingsFault;
 use journal_core::AdoptFault;
 
-/// Why a kept office was not made or not opened.
+/// Why a `KeptOffice` was not made or not opened.
 #[derive(Debug, Drop, PartialEq, Eq)]
 pub enum KeepFault {
-    /// The first fault of the settings.
+    /// The settings have this fault first.
     Settings(SettingsFault),
-    /// The file is not fresh, so nothing is made.
+    /// The file is not fresh, so no journal is made in it.
     NotFresh,
-    /// The file is fresh, so there is nothing to open.
+    /// The file is fresh, so there is no office to open.
     Fresh,
-    /// The place of the gate, in bytes from 0, from which on the file is no journal of an office.
+    /// The file is no journal of an office from the gate at this place on, in bytes from 0.
     Damaged { at: u64 },
     DiskFault,
     OutOfMemory,

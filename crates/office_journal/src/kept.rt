@@ -1,4 +1,4 @@
-//! The kept office.
+//! `KeptOffice`, an office with its journal.
 ghost use Rattle.std.specs.Prelude.{◌≤◌, ◌<◌};
 ghost use Rattle.std.proofs.Props.{props};
 ghost use Rattle.journal_core.specs.Kept.{gate_of};
@@ -7,7 +7,11 @@ use desk_traits::Disk;
 use journal_core::Journal;
 use office_core::Office;
 
-/// An office whose accepted requests stand in a journal on a disk.
+/// An office in memory whose accepted requests are in a journal on a disk. Contracts see the state
+/// of the office, the disk, the place of the journal's last gate, and the counts of entries and of
+/// disk faults.
+///
+/// Source: docs/JOURNAL.md; docs/DECISIONS.md, "The kept office and its commands".
 #[derive(Drop)]
 pub struct KeptOffice<D: Disk> {
     pub(crate) journal: Journal<D>,

@@ -1,4 +1,6 @@
-//! The office with its journal: what was acknowledged is on the disk.
+//! Keeps an office in a journal: a request that is accepted is on the disk before its reply can be
+//! written. For the commands and the server of a desk; begin with `KeptOffice::create` or
+//! `KeptOffice::adopt`, then `submit` and `look`.
 #![tactic(auto)]
 
 mod adopt;

@@ -1,4 +1,4 @@
-//! The parts of an entry's body, read.
+//! Reads the parts of an entry's body.
 ghost use Rattle.std.specs.Prelude.{◌≡◌, ◌≢◌, ◌≤◌, ◌<◌, ◌+◌, Some, None, Ok, length, position, IfOk, IfSome, OnSome};
 ghost use Rattle.request_json.specs.Form.{asked_of};
 ghost use Rattle.request_json.specs.Formed.{HasForm};
@@ -9,17 +9,17 @@ use hazard_types::{Minute, Oom, Or, read_stamp};
 use request_json::{Asked, read_request};
 use std::alloc::Global;
 
-/// How many bytes stand before a request: its minute and a blank.
+/// The length in bytes of what comes before a request: the stamp of its minute and a blank.
 const FRONT: usize = 13;
 
-/// The bytes of a body's record up to the next gate.
+/// Returns how many bytes the record of a body has, from its gate to the next one.
 pub(crate) fn record_length(body: &[u8]) -> u64
     ensures { result ≡ 5 + length body.now }
 {
     5 + body.len() as u64
 }
 
-/// The minute whose stamp a body begins with, where a byte comes after it.
+/// Returns the minute of the stamp at the start of a body that has at least one byte after it.
 pub(crate) fn minute_in(body: &[u8]) -> Option<Minute>
     ensures minute { result ≡ minute_in body.now }
     ensures long { OnSome result (13 ≤ length body.now) }
@@ -30,7 +30,7 @@ pub(crate) fn minute_in(body: &[u8]) -> Option<Minute>
     read_stamp(&body[..FRONT - 1])
 }
 
-/// The place of the first line feed.
+/// Returns the place of the first line feed, in bytes from 0.
 fn line_end(bytes: &[u8]) -> Option<usize>
     ensures place { result ≡ position is_line_feed bytes.now }
     ensures within { IfSome result (λ at. at < length bytes.now) }
@@ -38,7 +38,7 @@ fn line_end(bytes: &[u8]) -> Option<usize>
     bytes.iter().position(|byte| *byte == b'\n')
 }
 
-/// The bytes up to the first line feed.
+/// Returns the bytes before the first line feed, or all of them.
 fn line_of(bytes: &[u8]) -> &[u8]
     ensures { result.now ≡ line_of bytes.now }
 {
@@ -48,7 +48,7 @@ fn line_of(bytes: &[u8]) -> &[u8]
     }
 }
 
-/// What a body asks.
+/// Parses the request in a body; `None` if it has none.
 pub(crate) fn asked_in(alloc: Global, body: &[u8]) -> Result<Option<Asked>, Oom>
     requires { 13 ≤ length body.now }
     ensures form { IfOk result (λ asked. IfSome asked HasForm) }

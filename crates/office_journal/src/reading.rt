@@ -1,4 +1,4 @@
-//! What a kept office tells.
+//! What can be read of a `KeptOffice`.
 ghost use Rattle.std.specs.Prelude.{◌≡◌, Err, IfOk, length};
 ghost use Rattle.hazard_types.specs.declared.or.Or.TheVariants.{No};
 ghost use Rattle.hazard_types.specs.declared.refusal.Refusal.{Refusal as Refused};
@@ -11,41 +11,42 @@ use hazard_types::{Edition, Or, Query, Refusal, Text};
 use std::alloc::Global;
 
 impl<D: Disk> KeptOffice<D> {
-    /// How many requests were accepted.
+    /// Returns how many requests were accepted, of all runs.
     pub fn entries(&self) -> u64
         ensures { result ≡ entries_of self.now }
     {
         self.entries
     }
 
-    /// How many requests met a disk fault since the office was opened.
+    /// Returns how many requests met a disk fault since the office was opened.
     pub fn fault_notes(&self) -> u64
         ensures { result ≡ notes_of self.now }
     {
         self.notes
     }
 
-    /// How many products were sent.
+    /// Returns how many products were sent.
     pub fn products(&self) -> u32
         ensures { result ≡ length (state_of self.now).products }
     {
         self.office.products()
     }
 
-    /// The edition of the texts that are written from now on.
+    /// Returns the edition of the texts that are written from now on.
     pub fn edition(&self) -> Edition
         ensures { result ≡ (state_of self.now).edition }
     {
         self.office.edition()
     }
 
-    /// The text of what is looked at: the board at the reading, a product as it was sent, a draft
-    /// as JSON, or what a send of a draft would give now.
+    /// Returns the text of what is looked at: the board at the reading, a product as it was sent, a
+    /// draft as JSON, or what a send of a draft would write now. `reading` is the clock's, in
+    /// minutes since 2000-01-01T00:00Z UTC.
     ///
     /// # Errors
     ///
-    /// `ClockOut` at the board and a preview, `NoProduct`, `NoDraft`, the first rule that a
-    /// preview's lines or text break, or out of memory.
+    /// `Or::No` with `ClockOut` for the board and a preview, `NoProduct`, `NoDraft`, or the first
+    /// rule that the lines or the text of a preview break; otherwise out of memory.
     pub fn look(&self, alloc: Global, q: &Query, reading: i64) -> Result<Text, Or<Refusal>>
         ensures shows { IfOk result (λ text. Shows (state_of self.now) q.now reading text) }
         ensures refused { (x : Refused) → result ≡ Err (No x)
@@ -54,7 +55,7 @@ impl<D: Disk> KeptOffice<D> {
         self.office.look(alloc, q, reading)
     }
 
-    /// The disk that holds the journal.
+    /// Returns the disk that has the journal.
     pub fn into_disk(self) -> D
         ensures { result ≡ disk_of self }
     {

@@ -1,4 +1,4 @@
-//! How an office is read from the bodies of a journal.
+//! Builds an office from the bodies of a journal.
 ghost use Rattle.std.specs.Prelude.{◌≡◌, ◌≤◌, ◌<◌, ◌∷◌, [], Some, Ok, IfOk, length};
 ghost use Rattle.std.specs.Bool.{Decides};
 ghost use Rattle.hazard_types.specs.declared.request.Edition.TheVariants.{One};
@@ -18,8 +18,8 @@ use office_core::{Office, Prepared, Ready, a_request_has_one_answer, offices_beg
 use request_json::{Asked, canonical_texts_are_lines};
 use std::alloc::Global;
 
-/// An office that was read from bodies, how many entries they had, and how many bytes their records
-/// have.
+/// An office that was built from bodies, the count of their entries, and the length of their
+/// records in bytes.
 #[derive(Drop)]
 pub(crate) struct Replayed {
     pub(crate) office: Office,
@@ -27,8 +27,14 @@ pub(crate) struct Replayed {
     pub(crate) size: u64,
 }
 
-/// Reads an office from the bodies of its journal, or returns the place of the first one that
-/// fails.
+/// Builds an office from the bodies of its journal.
+///
+/// # Errors
+///
+/// `Or::No` with the place, in bytes from 0, of the first body that fails, and otherwise out of
+/// memory.
+///
+/// Source: docs/JOURNAL.md, "What is a journal, and what is not".
 pub(crate) fn replay(alloc: Global, all: &[Text]) -> Result<Replayed, Or<u64>>
     requires some { 0 < length all.now }
     ensures { Replays all.now result }
@@ -62,7 +68,8 @@ fn go_on(
     Ok(found)
 }
 
-/// What an office prepares for a request at this minute. None where it does not accept it.
+/// Returns what an office prepares for a request at this minute; `None` if it does not accept it as
+/// a new request.
 fn prepared(
     alloc: Global,
     office: &mut Office,
@@ -86,7 +93,7 @@ fn prepared(
     }
 }
 
-/// Whether a body is that of the entry of what was prepared.
+/// Whether `body` is that of the entry of the prepared request.
 fn is_body_of(
     alloc: Global,
     body: &[u8],
@@ -104,7 +111,8 @@ fn is_body_of(
     Ok(written.as_slice() == body)
 }
 
-/// What an office prepares for the request in a body, where the body is that of its entry.
+/// Returns what an office prepares for the request in a body; `None` if the body is not exactly
+/// that of its entry.
 fn judge_body(alloc: Global, office: &mut Office, body: &[u8]) -> Result<Option<Prepared>, Oom>
     requires ids { office.old.state.begun < 4294967295 }
     ensures state { office.new.state ≡ office.old.state }
@@ -121,8 +129,8 @@ fn judge_body(alloc: Global, office: &mut Office, body: &[u8]) -> Result<Option<
     }
 }
 
-/// What an office prepares for a request that was read from a body, where the body is that of its
-/// entry.
+/// Returns what an office prepares for a request that was read from a body, at the body's minute;
+/// `None` if the body is not exactly that of its entry.
 fn judge_as(
     alloc: Global,
     office: &mut Office,
@@ -155,7 +163,7 @@ fn judge_as(
 }
 
 impl Replayed {
-    /// The office of the settings' file, before any request. None where that does not read as
+    /// Builds the office of the settings' file, before any request; `None` if the file is no
     /// settings.
     fn first(alloc: Global, file: &[u8]) -> Result<Option<Self>, Oom>
         ensures { IfOk result (Begins file.now) }
@@ -174,14 +182,14 @@ impl Replayed {
         }))
     }
 
-    /// Whether a body is the mark, and may come after what was taken.
+    /// Whether a body is the mark of edition Two and may come next.
     fn goes_over(&self, body: &[u8]) -> bool
         ensures { Decides result ((body.now ≡ mark) × (self.now.office.state.edition ≡ One)) }
     {
         body == b"edition 2".as_slice() && self.office.edition() == Edition::One
     }
 
-    /// Takes the next body, and returns whether it may stand there.
+    /// Takes the next body. Returns whether it may come next.
     fn take(&mut self, alloc: Global, body: &[u8]) -> Result<bool, Oom>
         requires begun { self.old.office.state.begun ≤ self.old.entries }
         requires recorded { self.old.entries ≤ self.old.size }
@@ -198,7 +206,7 @@ impl Replayed {
         self.take_entry(alloc, body)
     }
 
-    /// Takes the body of an entry, and returns whether it may stand there.
+    /// Takes the body of an entry. Returns whether it may come next.
     fn take_entry(&mut self, alloc: Global, body: &[u8]) -> Result<bool, Oom>
         requires begun { self.old.office.state.begun ≤ self.old.entries }
         requires recorded { self.old.entries ≤ self.old.size }

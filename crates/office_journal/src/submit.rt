@@ -1,4 +1,4 @@
-//! How a request is submitted to a kept office.
+//! Submits requests to a `KeptOffice`.
 ghost use Rattle.std.specs.Prelude.{◌≡◌, ◌⊎◌, ◌+◌, ◌-◌, ◌≤◌, ℕ, ℤ, List, Option, Some, None, IfOk, IfErr, IfSome, is_some, length, option_map, true};
 ghost use Rattle.desk_traits.specs.Crash.{LeavesOnly};
 ghost use Rattle.hazard_types.specs.declared.refusal.Refusal.{Refusal as Refused};
@@ -27,8 +27,10 @@ use std::alloc::Global;
 use std::marker::Model;
 use std::snapshot::Snapshot;
 
-/// The text of the reply to a request whose entry is in the journal, durably. Only a request that
-/// was submitted makes one, behind its append, so that nobody can write a reply before that.
+/// The reply to a request whose entry is in the journal, durably. Only `submit` makes one, after
+/// its append, so no reply can be written before that.
+///
+/// Source: docs/DEFINITIONS.md, "The headline".
 #[derive(Debug, Drop, PartialEq, Eq)]
 pub struct KeptReply {
     text: Text,
@@ -47,7 +49,7 @@ impl Model for KeptReply {
 impl KeptReply {
     ghost use Rattle.std.specs.Prelude.{◌≡◌};
 
-    /// The text, to be written.
+    /// Returns the text, to be written.
     pub fn into_text(self) -> Text
         ensures { result ≡ self }
     {
@@ -55,7 +57,7 @@ impl KeptReply {
     }
 }
 
-/// An answer, and what was prepared beside it where it accepts or the disk failed.
+/// Returns an answer, and with an acceptance or a disk fault also what was prepared.
 fn beside(answer: Answer, p: Snapshot<Prepared>) -> (Answer, Option<Snapshot<Prepared>>)
     ensures answer { result.0 ≡ answer }
     ensures told { StandsBeside answer p.value (option_map (λ told. told.value) result.1) }
@@ -68,8 +70,10 @@ fn beside(answer: Answer, p: Snapshot<Prepared>) -> (Answer, Option<Snapshot<Pre
 }
 
 impl<D: Disk> KeptOffice<D> {
-    /// Submits a request of a desk under its number, at a reading of the clock. All memory is taken
-    /// before the first call of the disk.
+    /// Submits the request of a desk with its number `seq`, at a reading of the clock in minutes
+    /// since 2000-01-01T00:00Z UTC. Takes all memory before the first call of the disk.
+    ///
+    /// Source: docs/REQUESTS.md, "Desks and numbers" and "The disk and the memory".
     pub fn submit(
         &mut self,
         alloc: Global,
@@ -80,10 +84,10 @@ impl<D: Disk> KeptOffice<D> {
     ) -> Answer
         requires form { HasForm (record { desk = desk; seq = seq; request = r.now }) }
 
-        // What each answer says: accepted, and durably in the journal; the desk's last request
-        // again, with the kept reply; the first rule that it breaks, the last of which is that its
-        // entry has room; the disk failed in this call, on a request that would be accepted; or
-        // memory lacked. But for the first and the fourth nothing has changed.
+        // On `Accepted` the request is durably in the journal; on `DiskFault` the disk failed in
+        // this call, on a request that would be accepted. `Repeated` has the reply of the desk's
+        // last request, `Refused` the first rule that is broken, of which the last is that the
+        // entry has room. On all answers but the first two nothing changes.
         ensures becomes { Becomes D.seen D.crash D.faults self.old self.new
             (IsOffered (state_of self.old) desk seq r.now reading)
             (λ text. (kept : Answered) × Repeats (state_of self.old) desk seq r.now kept
@@ -91,8 +95,8 @@ impl<D: Disk> KeptOffice<D> {
             result }
         ensures later { D.faults (disk_of self.old) ≤ D.faults (disk_of self.new) }
 
-        // A crash at any moment of the call leaves an image of the history, of it with the change
-        // that was pending, or of it with the entry of this request.
+        // A crash at any moment of the call leaves an image of the history, of the history and the
+        // change that was pending, or of the history and the entry of this request.
         ensures any_moment { (file : List ℕ) (h : History) (pending : Option Change)
             → Holds D.seen D.crash self.old file h pending
             → LeavesOnly (D.crash (disk_of self.old)) (D.crash (disk_of self.new))
@@ -104,8 +108,8 @@ impl<D: Disk> KeptOffice<D> {
         answer
     }
 
-    /// `submit`, and beside an answer that accepts or tells a disk fault what was prepared, for
-    /// callers whose contracts name its entry. That has no bytes.
+    /// Does what `submit` does. With an acceptance or a disk fault it also returns what was
+    /// prepared, which takes no memory, for callers whose contracts name its entry.
     pub fn submit_told(
         &mut self,
         alloc: Global,
@@ -122,8 +126,8 @@ impl<D: Disk> KeptOffice<D> {
             × (text ≡ reply_text kept)) (Refuses (state_of self.old) desk seq r.now reading)
             result.0 }
 
-        // The entry that was added, or under which the disk failed, is that of what was prepared;
-        // beside another answer there is nothing.
+        // What was prepared has the entry that was added, or under which the disk failed. With
+        // another answer there is none.
         ensures told { Names D.seen D.crash D.faults self.old self.new
             (IsOffered (state_of self.old) desk seq r.now reading)
             (λ text. (kept : Answered) × Repeats (state_of self.old) desk seq r.now kept
@@ -153,7 +157,7 @@ impl<D: Disk> KeptOffice<D> {
         }
     }
 
-    /// The answer to a desk's last request, where it comes again.
+    /// Returns the answer to a desk's last request when it comes again.
     fn again(&self, alloc: Global, desk: Desk) -> Answer
         requires { is_some (said_by (state_of self.now) desk) ≡ true }
         ensures { IsAgain (said_by (state_of self.now) desk) result }
@@ -164,7 +168,7 @@ impl<D: Disk> KeptOffice<D> {
         }
     }
 
-    /// The text of a desk's kept reply.
+    /// Returns the text of a desk's last reply.
     fn kept_reply(&self, alloc: Global, desk: Desk) -> Result<Text, Oom>
         requires { is_some (said_by (state_of self.now) desk) ≡ true }
         ensures { IfOk result
@@ -177,7 +181,7 @@ impl<D: Disk> KeptOffice<D> {
         }
     }
 
-    /// The reply to what was prepared, and the body of its entry.
+    /// Returns the reply to a prepared request, and the body of its entry.
     fn reply_and_body(
         &self,
         alloc: Global,
@@ -196,8 +200,8 @@ impl<D: Disk> KeptOffice<D> {
         Ok((reply, body))
     }
 
-    /// The reply to what was prepared, and its entry ready to be appended where it has room; or the
-    /// answer where it has none.
+    /// Returns the reply to a prepared request, and its entry ready to be appended. Returns the
+    /// answer instead if the entry has no room or memory runs out.
     fn reply_and_packet(
         &self,
         alloc: Global,
@@ -226,7 +230,7 @@ impl<D: Disk> KeptOffice<D> {
         }
     }
 
-    /// Keeps what was prepared, where its entry has room.
+    /// Appends the entry of a prepared request, if it has room, and commits it.
     fn append_prepared(
         &mut self,
         alloc: Global,
@@ -253,7 +257,7 @@ impl<D: Disk> KeptOffice<D> {
         }
     }
 
-    /// Appends the entry of what was prepared, and commits it.
+    /// Appends the entry of a prepared request and commits it.
     #[tactic(auto, using(crate::proofs::Entering::begun_next))]
     fn append(&mut self, packet: &Packet, p: Prepared, reply: Text) -> Answer
         requires ready { MayEnter self.old.office p }

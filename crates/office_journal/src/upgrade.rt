@@ -1,4 +1,4 @@
-//! How an office goes over to edition Two.
+//! Upgrades an office to edition Two.
 ghost use Rattle.std.specs.Prelude.{◌≡◌, ◌≢◌, ◌⊎◌, ◌↔◌, ◌+◌, ◌≤◌, ◌<◌, ℕ, List, Option, Some, None};
 ghost use Rattle.desk_traits.specs.Crash.{LeavesOnly};
 ghost use Rattle.desk_traits.specs.Faults.{Rose};
@@ -18,7 +18,9 @@ use journal_core::{AppendFault, Packet};
 use std::alloc::Global;
 
 impl<D: Disk> KeptOffice<D> {
-    /// Appends the mark, after which texts are of edition Two.
+    /// Appends the mark of edition Two to the journal. Texts are of edition Two from then on.
+    ///
+    /// Source: docs/JOURNAL.md, "The file, byte by byte"; docs/PRODUCTS.md, "Editions".
     pub fn upgrade(&mut self, alloc: Global) -> Upgrade
 
         // The edition was One, and is Two now. The journal has the mark, durably, and nothing is
@@ -35,8 +37,8 @@ impl<D: Disk> KeptOffice<D> {
         ensures room { (state_of self.old).edition ≡ One → 268435456 < gate_of self.old + 15
             → (result ≡ Upgrade.Full) ⊎ (result ≡ Upgrade.OutOfMemory) }
 
-        // The disk failed in this call. The office is as before, and at most one change is pending,
-        // which was so before or is the mark.
+        // The disk failed in this call. The office is as before, and at most one change is pending:
+        // the one that was pending before, or the mark.
         ensures cause { result ≡ Upgrade.DiskFault → ((state_of self.old).edition ≡ One)
             × Rose (D.faults (disk_of self.old)) (D.faults (disk_of self.new)) }
         ensures failed { result ≡ Upgrade.DiskFault
@@ -48,7 +50,7 @@ impl<D: Disk> KeptOffice<D> {
         ensures entries { entries_of self.new ≡ entries_of self.old }
         ensures notes { notes_of self.new ≡ notes_of self.old }
 
-        // Otherwise nothing is changed.
+        // In every other case nothing changes.
         ensures untouched { result ≢ Upgrade.Done → result ≢ Upgrade.DiskFault
             → (disk_of self.new ≡ disk_of self.old)
             × ((file : List ℕ) (h : History) (pending : Option Change)
@@ -56,12 +58,12 @@ impl<D: Disk> KeptOffice<D> {
             → Holds D.seen D.crash self.new file h pending) }
         ensures later { D.faults (disk_of self.old) ≤ D.faults (disk_of self.new) }
 
-        // But for that the count of its faults is as before.
+        // In every case but `DiskFault` the count of faults is as before.
         ensures steady { result ≢ Upgrade.DiskFault
             → D.faults (disk_of self.new) ≡ D.faults (disk_of self.old) }
 
-        // A crash at any moment of the call leaves an image of the history, of it with the change
-        // that was pending, or of it with the mark.
+        // A crash at any moment of the call leaves an image of the history, of the history and the
+        // change that was pending, or of the history and the mark.
         ensures any_moment { (file : List ℕ) (h : History) (pending : Option Change)
             → Holds D.seen D.crash self.old file h pending
             → LeavesOnly (D.crash (disk_of self.old)) (D.crash (disk_of self.new))

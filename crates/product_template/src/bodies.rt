@@ -1,4 +1,4 @@
-//! What stands in segments behind their codes.
+//! The body of a segment: what comes after its codes.
 ghost use Rattle.std.specs.Prelude.{◌≡◌, ◌++◌, map, IfOk, OnOk, IsTrue, IsSome, false};
 ghost use Rattle.std.specs.List.{All};
 ghost use Rattle.std.specs.List.Sorted.{IsStrictlySortedBy};
@@ -20,10 +20,10 @@ use headline_text::{LineTexts, headline, line_texts};
 use product_frame::Body;
 use std::alloc::Global;
 
-/// The room that the headline of a line, or its WHEN bullet, mostly takes.
+/// The room in bytes that is reserved for the headline of a line, and as much for its WHEN bullet.
 const LINE_ROOM: usize = 128;
 
-/// What is said of a line. Edition One has no WHEN bullet.
+/// Returns the headline of a line and its WHEN bullet, which is empty in edition One.
 #[tactic(auto, using(crate::proofs::Hazards::named))]
 fn said_of(
     alloc: Global,
@@ -46,7 +46,7 @@ fn said_of(
     }
 }
 
-/// The headlines and the bullets, one behind the other.
+/// Returns the headlines, an empty line if there are any, and the bullets.
 fn joined(alloc: Global, headlines: &Text, bullets: &Text) -> Result<Text, Oom>
     ensures { IfOk result (λ text. text ≡ closed headlines.now ++ bullets.now) }
 {
@@ -57,7 +57,7 @@ fn joined(alloc: Global, headlines: &Text, bullets: &Text) -> Result<Text, Oom>
     Ok(text)
 }
 
-/// The headlines of lines and their bullets.
+/// Returns the headlines of the lines and then their bullets, both in the order of the lines.
 fn lines_text(
     alloc: Global,
     edition: Edition,
@@ -85,7 +85,7 @@ fn lines_text(
     joined(alloc, &headlines, &bullets)
 }
 
-/// The body of a segment.
+/// Returns the body of a segment: the names of its zones, the headlines and the bullets.
 fn body_of(
     alloc: Global,
     settings: &Settings,
@@ -112,7 +112,13 @@ fn body_of(
     Ok(Body { names, text })
 }
 
-/// The bodies of segments.
+/// Returns the bodies of segments.
+///
+/// # Errors
+///
+/// Out of memory.
+///
+/// Source: docs/PRODUCTS.md, "Headlines" and "Editions"; docs/DECISIONS.md, "Product texts".
 pub fn bodies_of(
     alloc: Global,
     settings: &Settings,

@@ -1,4 +1,4 @@
-//! What is said of a line of a segment, in words.
+//! The bullets of a line: the forecasters' texts with their labels, and the WHEN bullet.
 ghost use Rattle.std.specs.Prelude.{◌≡◌, ◌++◌, OnOk, IsTrue, option_map};
 ghost use Rattle.hazard_types.specs.declared.codes.Action.TheVariants as action;
 ghost use Rattle.headline_text.specs.Lines.{has_word};
@@ -8,14 +8,18 @@ use hazard_types::{Event, EventTexts, Oom, Text, Texts};
 use headline_text::wrapped;
 use std::alloc::Global;
 
-/// Whether a text has a character that is no blank.
+/// Whether a text has a character other than a space.
 fn has_word(text: &[u8]) -> bool
     ensures { result ≡ has_word text.now }
 {
     text.iter().any(|byte| *byte != b' ')
 }
 
-/// Adds lines with the end of the last.
+/// Adds lines and a final LF; nothing if there are none.
+///
+/// # Errors
+///
+/// Out of memory.
 pub fn put_closed(out: &mut Text, lines: &[u8]) -> Result<(), Oom>
     ensures { OnOk result (out.new ≡ out.old ++ closed lines.now) }
 {
@@ -26,7 +30,7 @@ pub fn put_closed(out: &mut Text, lines: &[u8]) -> Result<(), Oom>
     out.push(b'\n')
 }
 
-/// Adds lines and an empty line behind them.
+/// Adds lines, a final LF and an empty line; nothing if there are none.
 fn put_paragraph(out: &mut Text, lines: &[u8]) -> Result<(), Oom>
     ensures { OnOk result (out.new ≡ out.old ++ paragraph lines.now) }
 {
@@ -37,7 +41,7 @@ fn put_paragraph(out: &mut Text, lines: &[u8]) -> Result<(), Oom>
     out.extend(b"\n\n")
 }
 
-/// Adds a forecaster's text behind its label. A text without a word is left out.
+/// Adds a label and a forecaster's text, wrapped together; nothing if the text is blank.
 fn put_bullet(alloc: Global, out: &mut Text, label: &[u8], text: &Text) -> Result<(), Oom>
     ensures { OnOk result (out.new ≡ out.old ++ bullet label.now text.now) }
 {
@@ -52,7 +56,11 @@ fn put_bullet(alloc: Global, out: &mut Text, label: &[u8], text: &Text) -> Resul
     put_paragraph(out, lines.as_slice())
 }
 
-/// Adds what stands before the time of an event.
+/// Adds the bullets before WHEN: WHAT and WHERE.
+///
+/// # Errors
+///
+/// Out of memory.
 pub fn put_front(alloc: Global, out: &mut Text, texts: &Texts) -> Result<(), Oom>
     ensures { OnOk result (out.new ≡ out.old ++ front_text texts.now) }
 {
@@ -60,7 +68,11 @@ pub fn put_front(alloc: Global, out: &mut Text, texts: &Texts) -> Result<(), Oom
     put_bullet(alloc, out, b"* WHERE...", &texts.area)
 }
 
-/// Adds what stands behind the time of an event.
+/// Adds the bullets after WHEN: IMPACTS and ADDITIONAL DETAILS.
+///
+/// # Errors
+///
+/// Out of memory.
 pub fn put_back(alloc: Global, out: &mut Text, texts: &Texts) -> Result<(), Oom>
     ensures { OnOk result (out.new ≡ out.old ++ back_text texts.now) }
 {
@@ -68,7 +80,7 @@ pub fn put_back(alloc: Global, out: &mut Text, texts: &Texts) -> Result<(), Oom>
     put_bullet(alloc, out, b"* ADDITIONAL DETAILS...", &texts.details)
 }
 
-/// The first texts on an event.
+/// Returns the first texts on an event.
 pub fn texts_on<'a>(texts: &'a [EventTexts], event: &Event) -> Option<&'a Texts>
     ensures { option_map (λ found. found.now) result ≡ texts_on texts.now event.now }
 {
@@ -80,7 +92,11 @@ pub fn texts_on<'a>(texts: &'a [EventTexts], event: &Event) -> Option<&'a Texts>
     None
 }
 
-/// Adds the bullets of a line: what and where, when, impacts and details.
+/// Adds the bullets of a line: WHAT, WHERE, `when`, IMPACTS, ADDITIONAL DETAILS.
+///
+/// # Errors
+///
+/// Out of memory.
 pub fn put_bullets(
     alloc: Global,
     out: &mut Text,

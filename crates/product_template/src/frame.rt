@@ -1,4 +1,4 @@
-//! What a reader takes from a product.
+//! The frame of a plan: the values that a reader finds in its text.
 ghost use Rattle.std.specs.Prelude.{◌≡◌, ◌≤◌, ◌++◌, map, IfOk};
 ghost use Rattle.event_life.specs.Printed.{printed_end};
 ghost use Rattle.product_template.specs.Text.{three_letters, heading_of, identifier_of, pair_of, segment_of, frame_of, block_of};
@@ -48,7 +48,7 @@ fn printed_end(end: &End) -> Option<Minute>
     }
 }
 
-/// The values of a line's codes.
+/// Returns the P-VTEC and H-VTEC values of a line.
 fn pair_of(class: Class, office: [u8; 4], line: &SegLine) -> Pair
     ensures { result ≡ pair_of class office line.now }
 {
@@ -119,7 +119,14 @@ fn segments_of(
     Ok(list)
 }
 
-/// The frame of a plan.
+/// Returns the frame of a plan: heading, identifier, minute of issue, and the zones, expiry and
+/// codes of each segment.
+///
+/// # Errors
+///
+/// Out of memory.
+///
+/// Source: NWS Instruction 10-1701, segmented products: heading and identifier.
 pub fn frame_of(
     alloc: Global,
     settings: &Settings,
@@ -140,7 +147,12 @@ pub fn frame_of(
     })
 }
 
-/// What stands between a product's identifier and its segments.
+/// Returns the product block, the lines between the identifier and the first segment: the product's
+/// name, the office line and the local line.
+///
+/// # Errors
+///
+/// Out of memory.
 pub fn block_of(alloc: Global, settings: &Settings, plan: &Plan, t: Minute) -> Result<Block, Oom>
     ensures { IfOk result (λ block. block ≡ block_of settings.now plan.now t) }
 {

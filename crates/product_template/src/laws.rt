@@ -1,4 +1,4 @@
-//! What is known of product texts, for the crates above. The functions do nothing; their contracts are the laws.
+//! Laws of product texts. The functions do nothing; their contracts are the laws.
 ghost use Rattle.std.specs.Prelude.{◌≡◌, ℕ, map};
 ghost use Rattle.std.specs.List.{All};
 ghost use Rattle.hazard_types.specs.declared.codes.Class.{Class};
@@ -14,14 +14,16 @@ ghost use Rattle.product_frame.specs.ZoneLinesOf.{zone_lines_of};
 ghost use Rattle.segmenter.specs.Said.{lines_in_text};
 ghost use Rattle.product_template.specs.Text.{segment_of, frame_of, text_of};
 
-/// What the frame of a text says of each zone are the lines of the plan's segments, in their order, as a text of the office and class prints them.
+/// The zone lines of a plan's frame are the lines of its segments, in their order, as a text of
+/// this office and class prints them.
 #[tactic(auto, using(crate::proofs::Lines::lines_said))]
 pub fn texts_say_the_lines()
     ensures { (settings : Settings) (class : Class) (plan : Plan) (t : ℕ) →
         zone_lines_of (frame_of settings class plan t) ≡ map (zone_line_of class settings.office) (lines_in_text plan.segments) }
 {}
 
-/// The text of a plan, however long, has the plan's frame and is one product, where the codes of its segments read back (as those of zones, minutes and letters of their types do).
+/// The text of a plan, however long, has the plan's frame and is one product, provided that the
+/// codes of its segments read back, as those of zones, minutes and letters of their types do.
 pub fn texts_read_as_their_plans()
     ensures frame { (settings : Settings) (class : Class) (plan : Plan) (t : ℕ) (edition : Edition) → CanBeText settings class plan t → All ReadsBack (map (segment_of class settings.office t) plan.segments) → FrameOf (text_of settings class plan t edition) (frame_of settings class plan t) }
     ensures one { (settings : Settings) (class : Class) (plan : Plan) (t : ℕ) (edition : Edition) → CanBeText settings class plan t → All ReadsBack (map (segment_of class settings.office t) plan.segments) → IsOneProduct (text_of settings class plan t edition) }

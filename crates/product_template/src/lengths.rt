@@ -1,4 +1,4 @@
-//! How long a text is, known without laying forecasters' texts out in each line.
+//! The length of a text, computed without laying out the forecasters' texts in each line.
 ghost use Rattle.std.specs.Prelude.{◌≡◌, ◌+◌, map, length, IfOk};
 ghost use Rattle.product_template.specs.Lengths.{texts_length, told_of, told_on, told_in_lines, told_in_segments};
 
@@ -13,7 +13,11 @@ pub struct Told {
     pub bytes: usize,
 }
 
-/// The sum, which has no place in memory either where it is none.
+/// Returns `sum + amount`.
+///
+/// # Errors
+///
+/// `Oom` if the sum overflows.
 pub fn more(sum: usize, amount: usize) -> Result<usize, Oom>
     ensures { IfOk result (λ n. n ≡ sum + amount) }
 {
@@ -23,7 +27,7 @@ pub fn more(sum: usize, amount: usize) -> Result<usize, Oom>
     }
 }
 
-/// The bytes of the bullets of texts.
+/// Returns the length in bytes of the bullets of texts.
 #[tactic(auto, unfolding(crate::specs::Lengths::texts_length))]
 fn texts_length(alloc: Global, texts: &Texts) -> Result<usize, Oom>
     ensures { IfOk result (λ n. n ≡ texts_length texts.now) }
@@ -34,7 +38,7 @@ fn texts_length(alloc: Global, texts: &Texts) -> Result<usize, Oom>
     Ok(text.len())
 }
 
-/// The bytes of the bullets of an event's texts.
+/// Returns the event of `entry` and the length of the bullets of its texts.
 fn told_of(alloc: Global, entry: &EventTexts) -> Result<Told, Oom>
     ensures { IfOk result (λ told. told ≡ told_of entry.now) }
 {
@@ -45,7 +49,11 @@ fn told_of(alloc: Global, entry: &EventTexts) -> Result<Told, Oom>
     })
 }
 
-/// The bytes of the bullets of each event's texts, each laid out once.
+/// Returns the length of the bullets of each event's texts. Lays each out once.
+///
+/// # Errors
+///
+/// Out of memory.
 pub fn each_told(alloc: Global, texts: &[EventTexts]) -> Result<List<Told>, Oom>
     ensures { IfOk result (λ told. told ≡ map told_of texts.now) }
 {
@@ -56,7 +64,7 @@ pub fn each_told(alloc: Global, texts: &[EventTexts]) -> Result<List<Told>, Oom>
     Ok(told)
 }
 
-/// The bytes of the bullets of the first texts on an event.
+/// Returns the length of the bullets of the first texts on an event; 0 if it has none.
 fn told_on(told: &[Told], event: &Event) -> usize
     ensures { result ≡ told_on told.now event.now }
 {
@@ -68,7 +76,6 @@ fn told_on(told: &[Told], event: &Event) -> usize
     0
 }
 
-/// The bytes of the bullets of lines.
 fn told_in_lines(told: &[Told], lines: &[SegLine]) -> Result<usize, Oom>
     ensures { IfOk result (λ n. n ≡ told_in_lines told.now lines.now) }
 {
@@ -79,7 +86,11 @@ fn told_in_lines(told: &[Told], lines: &[SegLine]) -> Result<usize, Oom>
     Ok(sum)
 }
 
-/// The bytes of the bullets of the lines of segments.
+/// Returns the sum of the lengths of the bullets of all lines, in bytes.
+///
+/// # Errors
+///
+/// `Oom` if the sum overflows.
 pub fn told_in_segments(told: &[Told], segments: &[Segment]) -> Result<usize, Oom>
     ensures { IfOk result (λ n. n ≡ told_in_segments told.now segments.now) }
 {
@@ -90,8 +101,8 @@ pub fn told_in_segments(told: &[Told], segments: &[Segment]) -> Result<usize, Oo
     Ok(sum)
 }
 
-/// Whether the texts come to more than so many bytes, were each of them said in each line: a guess,
-/// which decides alone in which way a length is found.
+/// Whether the plan's texts, if each of them were in each line, have more than `most` bytes. This
+/// guess only decides how `product_text` finds the length.
 pub fn may_be_long(plan: &Plan, most: usize) -> bool {
     let mut said: usize = 0;
     for entry in plan.texts.as_slice() {

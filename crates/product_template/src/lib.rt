@@ -1,4 +1,6 @@
-//! The text of a product.
+//! Writes the text of a planned product: heading, product block, segments with their codes, zone
+//! names, headlines and bullets. For callers that have a `Plan`; begin with `product_text`. The
+//! functions `texts_say_the_lines` and `texts_read_as_their_plans` are lemmas for proofs.
 #![tactic(auto)]
 
 mod bodies;

@@ -1,4 +1,4 @@
-//! The names of a segment's zones, and the names of products.
+//! The names of a segment's zones, and of products.
 ghost use Rattle.std.specs.Prelude.{◌≡◌, ◌++◌, [], unwrap_or, IfOk, IsSome, false};
 ghost use Rattle.std.specs.List.{All};
 ghost use Rattle.std.specs.List.Sorted.{IsStrictlySortedBy};
@@ -14,7 +14,7 @@ use hazard_types::{Category, Class, Oom, Text, Zone};
 use headline_text::name_lines;
 use std::alloc::Global;
 
-/// The name of a zone that has one.
+/// Returns the name of a zone that has one in the settings.
 fn zone_name<'a>(settings: &'a Settings, zone: &Zone) -> &'a [u8]
     requires order { IsStrictlySortedBy by_place (keys_of settings.now.zones) }
     requires named { IsSome (name_beside settings.now.zones zone.now) }
@@ -26,7 +26,7 @@ fn zone_name<'a>(settings: &'a Settings, zone: &Zone) -> &'a [u8]
     }
 }
 
-/// The names of zones on lines.
+/// Returns the names of zones on lines, each with its hyphen.
 fn zone_lines(alloc: Global, settings: &Settings, zones: &[Zone]) -> Result<Text, Oom>
     requires order { IsStrictlySortedBy by_place (keys_of settings.now.zones) }
     requires named { All (λ z. IsSome (name_beside settings.now.zones z)) zones.now }
@@ -39,7 +39,13 @@ fn zone_lines(alloc: Global, settings: &Settings, zones: &[Zone]) -> Result<Text
     name_lines(alloc, names.as_slice())
 }
 
-/// The names of a segment's zones on lines. In training there are none.
+/// Returns the names of a segment's zones on lines; nothing for class `T`.
+///
+/// # Errors
+///
+/// Out of memory.
+///
+/// Source: docs/DEFINITIONS.md, "Product texts"; docs/TRAINING.md.
 pub fn names_of(
     alloc: Global,
     settings: &Settings,
@@ -56,7 +62,9 @@ pub fn names_of(
     }
 }
 
-/// The name of a category's products.
+/// Returns the name of the products of a category.
+///
+/// Source: docs/HAZARDS.md, "Categories".
 fn product_name(category: Category) -> &'static [u8]
     ensures { result.now ≡ product_name category }
 {
@@ -72,7 +80,11 @@ fn product_name(category: Category) -> &'static [u8]
     }
 }
 
-/// The name of a product, and that it is a correction, where it has a letter.
+/// Returns the name of the product, followed by `...CORRECTED` if it is a correction.
+///
+/// # Errors
+///
+/// Out of memory.
 pub fn title_of(alloc: Global, category: Category, letter: &Option<u8>) -> Result<Text, Oom>
     ensures { IfOk result (λ text. text ≡ product_name category ++ corrected letter.now) }
 {

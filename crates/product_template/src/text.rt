@@ -20,7 +20,7 @@ use std::alloc::Global;
 /// The most bytes of a product text.
 const MOST: usize = 65_536;
 
-/// The text of a plan with these texts on its events, however long.
+/// Returns the text of a plan, however long, with `texts` in place of the plan's own.
 fn whole_text(
     alloc: Global,
     settings: &Settings,
@@ -50,7 +50,8 @@ fn whole_text(
     frame_text(alloc, &frame, &block, &bodies)
 }
 
-/// The length of a plan's text. The texts on an event are laid out once, in however many lines they stand.
+/// Returns the length in bytes of a plan's text, however long. Lays the texts of an event out once,
+/// however many lines the event has.
 fn text_length(
     alloc: Global,
     settings: &Settings,
@@ -68,7 +69,17 @@ fn text_length(
     more(bare.len(), said)
 }
 
-/// The text of a plan in a product of minute `t`. The one refusal is TooLong, exactly where it has more than 65,536 bytes.
+/// Returns the text of a plan as a product that is issued at minute `t`: lines that each end with
+/// LF, at most 65,536 bytes in all. In class `T` zones have no names, and in edition One lines have
+/// no WHEN bullet.
+///
+/// # Errors
+///
+/// `Or::No` with TooLong and the length in bytes if the text has more than 65,536 bytes, and
+/// otherwise out of memory.
+///
+/// Source: NWS Instruction 10-1701, segmented products; docs/DECISIONS.md and docs/DEFINITIONS.md,
+/// "Product texts".
 #[tactic(auto, unfolding(crate::specs::Text::text_of))]
 pub fn product_text(
     alloc: Global,
@@ -79,12 +90,12 @@ pub fn product_text(
     edition: Edition,
 ) -> Result<Text, Or<Refusal>>
     requires { CanBeText settings.now class plan.now t }
-    // The text is laid out from the settings, the plan and the minute.
+    // The settings, the class, the plan, the minute and the edition determine the text.
     ensures value { IfOk result (λ text. text ≡ text_of settings.now class plan.now t edition) }
     ensures short { IfOk result (λ text. length text ≤ 65536) }
     // The refusal names the length of the text, which is above the limit.
     ensures refused { (r : Reason) → result ≡ Err (No r) → (r ≡ TooLong (length (text_of settings.now class plan.now t edition))) × (65536 < length (text_of settings.now class plan.now t edition)) }
-    // A reader takes the plan's segments and the minute from it.
+    // A reader finds the plan's segments and the minute in it.
     ensures frame { IfOk result (λ text. FrameOf text (frame_of settings.now class plan.now t)) }
     // Its one heading line is its first line, and each line has its end.
     ensures one_product { IfOk result IsOneProduct }

@@ -11,10 +11,10 @@ use hazard_types::{Event, Oom};
 use std::alloc::Global;
 use std::collections::BTreeMap;
 
-/// How many events each hazard has.
+/// The count of events of each hazard.
 pub type Events = BTreeMap<HazardKey, u128>;
 
-/// How many events a hazard has.
+/// Returns the count of events of a hazard.
 pub fn events_of(events: &Events, hazard: &HazardKey) -> u128
     ensures { result ≡ sum_at by_hazard events.now.entries hazard.now }
 {
@@ -24,7 +24,7 @@ pub fn events_of(events: &Events, hazard: &HazardKey) -> u128
     }
 }
 
-/// One event more.
+/// Counts an event of its hazard.
 fn add_event(events: &mut Events, event: &Event) -> Result<(), Oom>
     ensures { OnOk result (events.new.entries ≡ with_event events.old.entries event.now) }
 {
@@ -34,7 +34,11 @@ fn add_event(events: &mut Events, event: &Event) -> Result<(), Oom>
     Ok(())
 }
 
-/// How many events that have spells each hazard has.
+/// Returns the count of events that have rows, of each hazard.
+///
+/// # Errors
+///
+/// Out of memory.
 pub fn events_by_hazard(alloc: Global, spells: &Spells) -> Result<Events, Oom>
     ensures { IfOk result (λ events.
         events.entries ≡ fold with_event [] (keys_of spells.now.entries)) }

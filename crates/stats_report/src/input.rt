@@ -1,4 +1,4 @@
-//! An input is read piece by piece, and its products counted.
+//! Reads an input piece by piece and counts its products.
 ghost use Rattle.std.specs.Prelude.{◌≡◌, ◌≤◌, ◌<◌, ◌+◌, true, false, length, Ok, IfOk, OnOk};
 ghost use Rattle.product_decoder.specs.Decoded.{decode};
 ghost use Rattle.product_decoder.specs.Feeding.{GivesNone};
@@ -16,7 +16,7 @@ use product_frame::read_frame;
 use program_ends::{Pieces, Stop};
 use std::alloc::Global;
 
-/// What is read of a product: its frame, or its first fault.
+/// Reads a product: its frame, or its first fault.
 fn read_product(alloc: Global, bytes: &[u8]) -> Result<Reading, Oom>
     ensures { IfOk result (λ reading. said_of reading ≡ decode bytes.now) }
 {
@@ -27,7 +27,7 @@ fn read_product(alloc: Global, bytes: &[u8]) -> Result<Reading, Oom>
     }
 }
 
-/// Takes the next product that came out. Answers whether there was one.
+/// Takes the next finished product of the feed into the tally. Returns whether there was one.
 fn take_next(alloc: Global, asked: &Asked, feed: &mut Feed, tally: &mut Tally) -> Result<bool, Oom>
     requires { tally.old.count < 2000000000 }
     ensures ended { feed.new.ended ≡ feed.old.ended }
@@ -44,7 +44,7 @@ fn take_next(alloc: Global, asked: &Asked, feed: &mut Feed, tally: &mut Tally) -
     }
 }
 
-/// Takes each product that came out.
+/// Takes each finished product of the feed into the tally.
 fn take_each(alloc: Global, asked: &Asked, feed: &mut Feed, tally: &mut Tally) -> Result<(), Oom>
     requires { tally.old.count + length feed.old.rest < 2000000000 }
     ensures { OnOk result (TakesEach asked.now feed.old feed.new tally.old tally.new) }
@@ -56,8 +56,12 @@ fn take_each(alloc: Global, asked: &Asked, feed: &mut Feed, tally: &mut Tally) -
     Ok(())
 }
 
-/// Reads an input of at most `limit` bytes to its end, and counts its products. One byte more than
-/// the limit is read, and is no product's.
+/// Reads an input of at most `limit` bytes to its end and takes its products into the tally.
+///
+/// # Errors
+///
+/// `Stop::Read` if a read failed, `Stop::TooLong` if the input has more than `limit` bytes (one
+/// byte more than the limit is then read), and `Stop::OutOfMemory`.
 pub fn count_input<S: Source>(
     alloc: Global,
     asked: &Asked,

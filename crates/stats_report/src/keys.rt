@@ -1,4 +1,4 @@
-//! Hazards as keys: compared part by part, letters as bytes.
+//! Hazards as keys of maps, ordered by phenomenon and then significance, letter by letter.
 ghost use Rattle.std.specs.Prelude.{◌≡◌};
 ghost use Rattle.std.specs.Cmp.{partial_order_from_own_ties};
 ghost use Rattle.std.specs.Cmp.Lexicographic.{slice_cmp};
@@ -11,7 +11,7 @@ use hazard_types::Hazard;
 use std::cmp::Ordering;
 use std::marker::Model;
 
-/// How two pairs of letters stand in order.
+/// Compares two pairs of letters.
 fn letter_order(a: [u8; 2], b: [u8; 2]) -> Ordering
     ensures { result ≡ slice_cmp nat_cmp a b }
 {
@@ -22,7 +22,7 @@ fn letter_order(a: [u8; 2], b: [u8; 2]) -> Ordering
     }
 }
 
-/// How two hazards stand in order.
+/// Compares two hazards.
 fn hazard_order(a: &Hazard, b: &Hazard) -> Ordering
     ensures { result ≡ by_hazard a.now b.now }
 {
@@ -32,7 +32,7 @@ fn hazard_order(a: &Hazard, b: &Hazard) -> Ordering
     }
 }
 
-/// A hazard as a key.
+/// A hazard as a key of a map.
 #[derive(Clone, Copy, PartialEq, Eq)]
 pub struct HazardKey {
     pub hazard: Hazard,
@@ -49,6 +49,7 @@ impl Model for HazardKey {
 }
 
 impl HazardKey {
+    /// Returns the hazard as a key.
     pub fn of(hazard: &Hazard) -> Self
         ensures { result ≡ hazard.now }
     {

@@ -1,12 +1,12 @@
-//! Laws of the statistics.
+//! Laws of the statistics. The functions do nothing; their contracts are the laws.
 ghost use Rattle.std.specs.Prelude.{◌≡◌, ◌≤◌, ◌↔◌, ℕ, List, length, take, true};
 ghost use Rattle.event_life.specs.Products.{Product, rows_of};
 ghost use Rattle.stats_report.specs.Adding.{sum_where};
 ghost use Rattle.stats_report.specs.Minutes.{greatest, governing};
 ghost use Rattle.stats_report.specs.Report.{hazards_in, zones_in, hazard_minutes, zone_minutes, total_minutes};
 
-/// The products that govern a minute are the first k, for the greatest k such that the greatest
-/// issue minute of the first k is at most the minute.
+/// The products that govern a minute are the first `k`, for the greatest `k` such that the greatest
+/// issue minute of the first `k` is at most the minute.
 #[tactic(auto, using(crate::proofs::Governing::governing_front, crate::proofs::Governing::governing_greatest))]
 pub fn the_greatest_issue_minute_governs()
     ensures front { (m : ℕ) (products : List Product)
@@ -15,7 +15,7 @@ pub fn the_greatest_issue_minute_governs()
         → (greatest (take k products) ≤ m) ↔ (k ≤ length (governing m products)) }
 {}
 
-/// The total of minutes is the sum over the hazards, and also the sum over the zones.
+/// The total of the minutes is the sum over the hazards, and also the sum over the zones.
 #[tactic(auto, using(crate::proofs::Sharing::hazards_shared, crate::proofs::Sharing::zones_shared))]
 pub fn minutes_add_up()
     ensures hazards { (stamp : ℕ) (products : List Product) →

@@ -1,5 +1,6 @@
-//! Statistics of an office's texts: the minutes in effect, the openings and their leads, by hazard
-//! and by zone.
+//! Counts, in an office's archived texts, the minutes in effect, the openings and their lead times,
+//! by hazard and by zone. For the program `warn_stats`; begin with `run_program`, or with
+//! `stats_run` for other inputs and outputs.
 #![tactic(auto)]
 
 mod events;

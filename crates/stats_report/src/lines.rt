@@ -1,4 +1,5 @@
-//! The lines of the statistics. Each is added to a text, or, when memory runs out, its beginning.
+//! The lines of the statistics. Each function adds one or more to a text. When memory runs out, a
+//! prefix may have been added.
 ghost use Rattle.std.specs.Prelude.{◌≡◌, ◌++◌, ℕ, List as Seq, flat_map, IfOk, OnOk};
 ghost use Rattle.std.specs.Map.{keys_of};
 ghost use Rattle.event_life.specs.Products.{Product};
@@ -15,7 +16,7 @@ use crate::tally::Tally;
 use hazard_types::{List, Oom, Text, Zone, hazard_text, zone_text};
 use std::alloc::Global;
 
-/// A word and a number.
+/// Adds a word and a number.
 fn put_named(alloc: Global, out: &mut Text, word: &[u8], n: u128) -> Result<(), Oom>
     ensures { OnOk result (out.new ≡ out.old ++ named word.now n) }
 {
@@ -24,7 +25,7 @@ fn put_named(alloc: Global, out: &mut Text, word: &[u8], n: u128) -> Result<(), 
     out.extend(digits.as_bytes())
 }
 
-/// The line of a hazard.
+/// Adds the line `hazard H events N openings O lead L minutes M`.
 fn put_hazard(
     alloc: Global,
     out: &mut Text,
@@ -45,7 +46,7 @@ fn put_hazard(
     out.push(b'\n')
 }
 
-/// The line of a zone. `near` is a guess of its place.
+/// Adds the line `zone Z openings O minutes M`. `near` is a guess of the zone's place in the map.
 fn put_zone(
     alloc: Global,
     out: &mut Text,
@@ -63,7 +64,7 @@ fn put_zone(
     out.push(b'\n')
 }
 
-/// The lines of the hazards that have rows.
+/// Adds the lines of the hazards that have rows.
 fn put_hazards(
     alloc: Global,
     out: &mut Text,
@@ -80,7 +81,7 @@ fn put_hazards(
     Ok(())
 }
 
-/// The lines of zones.
+/// Adds the lines of zones.
 fn put_zones(
     alloc: Global,
     out: &mut Text,
@@ -97,7 +98,7 @@ fn put_zones(
     Ok(())
 }
 
-/// The line of the totals.
+/// Adds the line `total openings O minutes M`.
 fn put_total(alloc: Global, out: &mut Text, openings: u128, minutes: u128) -> Result<(), Oom>
     ensures { OnOk result (out.new ≡ out.old ++ total_text openings minutes) }
 {
@@ -106,7 +107,7 @@ fn put_total(alloc: Global, out: &mut Text, openings: u128, minutes: u128) -> Re
     out.push(b'\n')
 }
 
-/// The line of the faults.
+/// Adds the line `faults F`.
 fn put_faults(alloc: Global, out: &mut Text, faults: usize) -> Result<(), Oom>
     ensures { OnOk result (out.new ≡ out.old ++ faults_text faults) }
 {
@@ -114,7 +115,7 @@ fn put_faults(alloc: Global, out: &mut Text, faults: usize) -> Result<(), Oom>
     out.push(b'\n')
 }
 
-/// The lines of the totals and of the faults.
+/// Adds the lines of the totals and of the faults.
 fn put_end(
     alloc: Global,
     out: &mut Text,
@@ -129,7 +130,14 @@ fn put_end(
     put_faults(alloc, out, faults)
 }
 
-/// The text of the statistics.
+/// Returns the text of the statistics: the lines of the hazards and then of the zones that have
+/// rows, the totals and the faults. Each line ends with LF.
+///
+/// # Errors
+///
+/// Out of memory.
+///
+/// Source: docs/STATISTICS.md, "The lines".
 pub fn text_of(alloc: Global, tally: &Tally) -> Result<Text, Oom>
     ensures { (stamp : ℕ) (products : Seq Product) → IsKept stamp products tally.now → IfOk result
         (λ text. text ≡ stats_text stamp products tally.now.faults) }

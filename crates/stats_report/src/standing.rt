@@ -1,4 +1,5 @@
-//! What is kept of rows: the minutes that each still has, and what zones and hazards come to.
+//! The minutes in effect that each row still has, and the sums by zone, by hazard and of all rows.
+//! Minutes are counted from 2000-01-01T00:00Z.
 ghost use Rattle.std.specs.Prelude.{◌≡◌, ◌-◌, ◌∷◌, [], fold, map, OnOk};
 ghost use Rattle.std.specs.BTreeMap.{insert_entry};
 ghost use Rattle.event_life.specs.Lives.{opens, ends};
@@ -20,14 +21,15 @@ use std::alloc::Global;
 use std::collections::BTreeMap;
 use zone_map::ZoneMap;
 
-/// The minutes that a row has from a product on: those from `start` on and before `stop`.
+/// The minutes in which a row is in effect: from `start` on, and before `stop`.
 #[derive(Clone, Copy)]
 pub struct Spell {
     pub start: u32,
     pub stop: u32,
 }
 
-/// The stamp, the first minute that a product governs, and the minute in which it was issued.
+/// A product's place in time: the minute before which minutes are counted, the first minute that
+/// the product governs (the greatest issue minute so far), and its own issue minute.
 #[derive(Clone, Copy)]
 pub struct Moment {
     pub stamp: Minute,
@@ -35,8 +37,8 @@ pub struct Moment {
     pub issue: Minute,
 }
 
-/// What a lawful line changes in each of its zones: the minutes that its row has from there on, and
-/// what it adds to the sums where there was no row.
+/// What a lawful line changes in each of its zones: from the minute `from` on its row has the
+/// minutes of `spell`. `gain` is what it adds to the sums if there was no row before.
 #[derive(Clone, Copy)]
 pub struct Change {
     pub from: u32,
@@ -44,17 +46,17 @@ pub struct Change {
     pub gain: Gain,
 }
 
-/// The minutes that rows still have, by event and zone.
+/// The spell of each row, by event and zone.
 pub type Spells = BTreeMap<EventKey, ZoneMap<Spell>>;
 
-/// What the hazard of an event comes to, and what all come to.
+/// The sums of one hazard and of all rows.
 #[derive(Clone, Copy)]
 pub struct Totals {
     pub own: Sums,
     pub all: Sums,
 }
 
-/// The spells of rows, and what the zones, the hazards and all come to.
+/// The spell of each row, and the sums by zone, by hazard and of all rows.
 #[derive(Drop)]
 pub struct Standing {
     pub spells: Spells,
@@ -63,7 +65,7 @@ pub struct Standing {
     pub all: Sums,
 }
 
-/// The stamp, or the end where it comes first.
+/// Returns the stamp, or the end if that is earlier.
 fn cut_at(stamp: Minute, end: &End) -> u32
     ensures { result ≡ cut_at stamp end.now }
 {
@@ -73,7 +75,7 @@ fn cut_at(stamp: Minute, end: &End) -> u32
     }
 }
 
-/// The begin that a line prints; none is the issue minute.
+/// Returns the begin that a line prints; the issue minute for zeros.
 fn begin_printed(line: &Line, t: Minute) -> u32
     ensures { result ≡ begin_printed line.now t }
 {
@@ -83,21 +85,23 @@ fn begin_printed(line: &Line, t: Minute) -> u32
     }
 }
 
-/// Whether a line ends the row of its event in its zone.
+/// Whether the action ends the row of its event in its zone.
 fn ends(action: &Action) -> bool
     ensures { result ≡ ends action.now }
 {
     matches!(action, Action::Can | Action::Exp | Action::Upg)
 }
 
-/// Whether a line opens an event in its zone.
+/// Whether the action opens an event in its zone.
 fn opens(action: &Action) -> bool
     ensures { result ≡ opens action.now }
 {
     matches!(action, Action::New | Action::Exa | Action::Exb)
 }
 
-/// The minutes that the row of a lawful line has from its product on.
+/// Returns the minutes in which the row of a lawful line is in effect; none if it ends the row.
+///
+/// Source: docs/STATISTICS.md, "What is counted".
 fn spell_after(moment: &Moment, line: &Line) -> Spell
     ensures { result ≡ spell_after moment.now line.now }
 {
@@ -110,14 +114,14 @@ fn spell_after(moment: &Moment, line: &Line) -> Spell
     }
 }
 
-/// How many minutes of a spell are from this one on.
+/// Returns how many minutes of a spell are at or after `from`.
 fn spell_left(from: u32, spell: &Spell) -> u128
     ensures { result ≡ spell_left from spell.now }
 {
     u128::from(spell.stop.saturating_sub(from.max(spell.start)))
 }
 
-/// How many minutes of a spell are from this one on, none where there is no spell.
+/// Returns how many minutes of a spell are at or after `from`; 0 if there is no spell.
 fn left_of(from: u32, spell: &Option<Spell>) -> u128
     ensures { result ≡ left_of from spell.now }
 {
@@ -127,7 +131,7 @@ fn left_of(from: u32, spell: &Option<Spell>) -> u128
     }
 }
 
-/// The minutes from the issue to the begin, of a line that opens an event.
+/// Returns the minutes from the issue to the begin of a line that opens an event.
 fn lead_of(moment: &Moment, line: &Line) -> u128
     ensures { result ≡ begin_printed line.now moment.now.issue - moment.now.issue }
 {
@@ -135,7 +139,7 @@ fn lead_of(moment: &Moment, line: &Line) -> u128
     u128::from(begin.saturating_sub(moment.issue.get()))
 }
 
-/// What a lawful line adds to the sums, where `before` was the row's spell.
+/// Returns what a lawful line adds to the sums. `before` is the row's spell before it.
 fn gain_of(moment: &Moment, line: &Line, before: &Option<Spell>) -> Gain
     ensures { result ≡ gain_of moment.now line.now before.now }
 {
@@ -148,7 +152,7 @@ fn gain_of(moment: &Moment, line: &Line, before: &Option<Spell>) -> Gain
     }
 }
 
-/// What a lawful line changes in each of its zones.
+/// Returns what a lawful line changes in each of its zones.
 fn change_of(moment: &Moment, line: &Line) -> Change
     ensures { result ≡ change_of moment.now line.now }
 {
@@ -159,7 +163,7 @@ fn change_of(moment: &Moment, line: &Line) -> Change
     }
 }
 
-/// What it adds to the sums, where `before` was the row's spell.
+/// Returns what a change adds to the sums. `before` is the row's spell before it.
 fn gain_over(change: &Change, before: &Option<Spell>) -> Gain
     ensures { result ≡ gain_over change.now before.now }
 {
@@ -171,7 +175,7 @@ fn gain_over(change: &Change, before: &Option<Spell>) -> Gain
     }
 }
 
-/// What a zone comes to. `near` is a guess of its place.
+/// Returns the sums of a zone. `near` is a guess of the zone's place in the map.
 pub fn zone_sums(zones: &ZoneMap<Sums>, near: &mut usize, zone: &Zone) -> Sums
     ensures { result ≡ sums_at by_place zones.now zone.now }
 {
@@ -181,7 +185,7 @@ pub fn zone_sums(zones: &ZoneMap<Sums>, near: &mut usize, zone: &Zone) -> Sums
     }
 }
 
-/// What a hazard comes to.
+/// Returns the sums of a hazard.
 pub fn hazard_sums(hazards: &BTreeMap<HazardKey, Sums>, hazard: &HazardKey) -> Sums
     ensures { result ≡ sums_at by_hazard hazards.now.entries hazard.now }
 {
@@ -191,7 +195,7 @@ pub fn hazard_sums(hazards: &BTreeMap<HazardKey, Sums>, hazard: &HazardKey) -> S
     }
 }
 
-/// A zone comes to more. `near` is a guess of its place.
+/// Adds the gain to the sums of a zone. `near` is a guess of the zone's place in the map.
 fn change_zone(
     zones: &mut ZoneMap<Sums>,
     near: &mut usize,
@@ -206,7 +210,7 @@ fn change_zone(
     zones.set(*zone, sums, &mut before)
 }
 
-/// A hazard and all come to more.
+/// Adds the gain to the sums of the hazard and of all rows.
 fn change_totals(totals: &mut Totals, gain: &Gain) -> Result<(), Oom>
     ensures own { OnOk result (totals.new.own ≡ gained totals.old.own gain.now) }
     ensures all { OnOk result (totals.new.all ≡ gained totals.old.all gain.now) }
@@ -216,7 +220,7 @@ fn change_totals(totals: &mut Totals, gain: &Gain) -> Result<(), Oom>
     Ok(())
 }
 
-/// A lawful line changes its row in a zone. `near` is a guess of the place of the zone.
+/// Changes the row in a zone, and the sums. `near` is a guess of the zone's place in the map.
 fn change_row(
     spells: &mut ZoneMap<Spell>,
     zones: &mut ZoneMap<Sums>,
@@ -235,7 +239,7 @@ fn change_row(
     change_totals(totals, &gain)
 }
 
-/// A lawful line changes its rows in zones.
+/// Changes the rows in these zones, and the sums.
 fn change_rows(
     spells: &mut ZoneMap<Spell>,
     zones: &mut ZoneMap<Sums>,
@@ -254,7 +258,7 @@ fn change_rows(
 }
 
 impl Standing {
-    /// There are no rows.
+    /// Returns the sums of no rows.
     pub fn new(alloc: Global) -> Self
         ensures spells { result.spells.entries ≡ [] }
         ensures zones { result.zones ≡ [] }
@@ -269,7 +273,7 @@ impl Standing {
         }
     }
 
-    /// A lawful line of an event changes its rows in zones.
+    /// Changes the rows of an event in these zones, and the sums.
     fn change_event(
         &mut self,
         alloc: Global,
@@ -295,7 +299,7 @@ impl Standing {
         Ok(())
     }
 
-    /// A line changes its rows in zones, where it is lawful.
+    /// Applies a line in these zones if it is lawful.
     fn change_verdict(
         &mut self,
         alloc: Global,
@@ -317,7 +321,7 @@ impl Standing {
         self.change_event(alloc, &change, &verdict.line.event, places)
     }
 
-    /// The lines of a run change their rows, each in all zones.
+    /// Applies the lawful ones of the lines, each in all zones.
     fn change_verdicts(
         &mut self,
         alloc: Global,
@@ -335,7 +339,7 @@ impl Standing {
         Ok(())
     }
 
-    /// The lines of a run, which are of an event each, change their rows.
+    /// Applies the lawful lines of a run, which are of different events.
     fn change_run(&mut self, alloc: Global, moment: &Moment, run: &Run) -> Result<(), Oom>
         requires { HaveOwnEvents (map (λ v. v.line) run.now.verdicts) }
         ensures { OnOk result
@@ -345,7 +349,11 @@ impl Standing {
         self.change_verdicts(alloc, moment, verdicts, run.zones.as_slice())
     }
 
-    /// The lines of a product change their rows.
+    /// Applies the lawful lines of a product, as its runs have them. `moment` is the product's.
+    ///
+    /// # Errors
+    ///
+    /// Out of memory. Some of the lines may then have been applied.
     pub fn change_all(&mut self, alloc: Global, moment: &Moment, runs: &[Run]) -> Result<(), Oom>
         requires { AreApart runs.now }
         ensures { OnOk result

@@ -1,4 +1,4 @@
-//! Statistics by the words of a command.
+//! Runs the statistics as the words of a command ask for them.
 ghost use Rattle.std.specs.Prelude.{◌≤◌};
 ghost use Rattle.byte_streams.specs.Flows.{streams};
 ghost use Rattle.program_ends.specs.Lines.{most_bytes};
@@ -16,7 +16,7 @@ use hazard_types::{List, Text};
 use program_ends::{End, Stop, end_at_once, end_run};
 use std::alloc::Global;
 
-/// Reads an input of at most `limit` bytes to its end, and writes its statistics.
+/// Reads an input of at most `limit` bytes to its end, and then writes its statistics.
 fn tell_stats<S: Source, K: Sink>(
     alloc: Global,
     asked: &Asked,
@@ -41,8 +41,10 @@ fn tell_stats<S: Source, K: Sink>(
     }
 }
 
-/// Does what the words say, with an input of at most `limit` bytes, and returns the status of the
-/// program.
+/// Does what the words `OFFICE CLASS STAMP` ask for, with an input of at most `limit` bytes, and
+/// returns the exit status.
+///
+/// Source: docs/STATISTICS.md, "Exit statuses".
 pub fn stats_within<S: Source, K: Sink>(
     alloc: Global,
     words: &List<Text>,

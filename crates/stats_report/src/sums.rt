@@ -1,12 +1,13 @@
-//! Sums, and what a line adds to them. A sum has 128 bits: an input has less than 2^32 products,
-//! each of less than 2^64 lines of less than 2^26 minutes, so that no sum comes to its type's end;
-//! the additions are checked nevertheless.
+//! Sums, and what a line adds to them. A sum has 128 bits, since an input has fewer than 2^32
+//! products, each of fewer than 2^64 lines of fewer than 2^26 minutes. So no sum overflows; the
+//! additions are checked all the same.
 ghost use Rattle.std.specs.Prelude.{◌≡◌, ◌≤◌, ◌+◌, ◌^◌, IfOk, OnErr};
 ghost use Rattle.stats_report.specs.Spells.{gained, no_sums};
 
 use hazard_types::Oom;
 
-/// Openings, the minutes from issue to begin of these, and minutes in effect.
+/// The count of openings, the sum of their leads and the sum of minutes in effect. A lead is the
+/// minutes from the issue of an opening to its begin.
 #[derive(Clone, Copy)]
 pub struct Sums {
     pub openings: u128,
@@ -14,8 +15,8 @@ pub struct Sums {
     pub minutes: u128,
 }
 
-/// What a line adds to sums: an opening and its lead, or none, and the minutes that its row has
-/// from the product on. Those that the row had before are gone.
+/// What a line adds to sums: an opening and its lead, or none, and the minutes in effect of its row
+/// from the product on. `gone` is the minutes that the row before had from there on.
 #[derive(Clone, Copy)]
 pub struct Gain {
     pub openings: u128,
@@ -24,7 +25,7 @@ pub struct Gain {
     pub gone: u128,
 }
 
-/// The sums of nothing.
+/// Returns sums of zero.
 pub fn no_sums() -> Sums
     ensures { result ≡ no_sums }
 {
@@ -35,8 +36,11 @@ pub fn no_sums() -> Sums
     }
 }
 
-/// The sum and an amount. It never wraps: there is none only where it would come to the end of its
-/// type.
+/// Returns `sum + amount`.
+///
+/// # Errors
+///
+/// `Oom` if the sum overflows, which no input causes.
 pub fn more(sum: u128, amount: u128) -> Result<u128, Oom>
     ensures ok { IfOk result (λ n. n ≡ sum + amount) }
     ensures err { OnErr result (2 ^ 128 ≤ sum + amount) }
@@ -47,7 +51,13 @@ pub fn more(sum: u128, amount: u128) -> Result<u128, Oom>
     }
 }
 
-/// The sums with what a line adds, and without what is gone.
+/// Returns the sums with what the line adds, and without the minutes `gone`.
+///
+/// # Errors
+///
+/// `Oom` if a sum overflows, which no input causes.
+///
+/// Source: docs/DECISIONS.md, "Statistics".
 pub fn gained(sums: &Sums, gain: &Gain) -> Result<Sums, Oom>
     ensures { IfOk result (λ s. s ≡ gained sums.now gain.now) }
 {

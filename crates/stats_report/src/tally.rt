@@ -1,4 +1,4 @@
-//! What the products of an input come to.
+//! What was counted in the products of an input.
 ghost use Rattle.std.specs.Prelude.{◌≡◌, ◌<◌, ◌+◌, ℕ, [], IfOk, OnOk};
 ghost use Rattle.product_decoder.specs.Decoded.{decoded_of};
 ghost use Rattle.archive_report.specs.Readings.{said_of};
@@ -13,25 +13,26 @@ use row_index::RowIndex;
 use std::alloc::Global;
 use std::mem;
 
-/// What is read of a product: its frame, or its first fault.
+/// A product that was read: its frame, or its first fault.
 pub type Reading = Result<Frame, FrameFault>;
 
-/// What the products so far come to. None of them is kept.
+/// What was counted in the products so far. It keeps no product.
 #[derive(Drop)]
 pub struct Tally {
-    /// The rows of those without a fault.
+    /// The rows after the products without a fault.
     pub rows: RowIndex,
-    /// The greatest issue minute of these.
+    /// The greatest issue minute of these products, in minutes since 2000-01-01T00:00Z; 0 if there
+    /// are none.
     pub latest: u32,
-    /// What their rows and openings come to.
+    /// The minutes of these rows, and the sums by zone and by hazard.
     pub standing: Standing,
     /// How many products there are.
     pub count: usize,
-    /// How many of them have a fault.
+    /// How many products have a fault.
     pub faults: usize,
 }
 
-/// One more. It never wraps: there is none only where the count would come to the end of its type.
+/// Returns `count + 1`, or `Oom` if it overflows, which no input causes.
 fn one_more(count: usize) -> Result<usize, Oom>
     ensures { IfOk result (λ n. n ≡ count + 1) }
 {
@@ -42,7 +43,7 @@ fn one_more(count: usize) -> Result<usize, Oom>
 }
 
 impl Tally {
-    /// There are no products yet.
+    /// Returns the tally of no products.
     #[tactic(auto, using(crate::proofs::Keeping::none_kept))]
     pub fn new(alloc: Global) -> Self
         ensures kept { (stamp : ℕ) → IsKept stamp [] result }
@@ -58,7 +59,7 @@ impl Tally {
         }
     }
 
-    /// Takes a product by its frame.
+    /// Takes a product without a fault.
     fn take_product(&mut self, alloc: Global, asked: &Asked, frame: &Frame) -> Result<(), Oom>
         ensures { OnOk result (TakesProduct asked.now (decoded_of frame.now) self.old self.new) }
     {
@@ -76,7 +77,7 @@ impl Tally {
         self.standing.change_all(alloc, &moment, runs)
     }
 
-    /// Counts a product that has a fault.
+    /// Counts a product with a fault.
     fn count_fault(&mut self) -> Result<(), Oom>
         ensures { OnOk result (CountsFault self.old self.new) }
     {
@@ -84,7 +85,7 @@ impl Tally {
         Ok(())
     }
 
-    /// Takes what was read of a product, or counts its fault.
+    /// Takes a product, or counts its fault, apart from the count of all products.
     fn take_reading(&mut self, alloc: Global, asked: &Asked, reading: &Reading) -> Result<(), Oom>
         ensures { OnOk result (TakesReading asked.now (said_of reading.now) self.old self.new) }
     {
@@ -94,7 +95,11 @@ impl Tally {
         }
     }
 
-    /// Takes what was read of the next product, or counts its fault.
+    /// Takes the next product, or counts its fault.
+    ///
+    /// # Errors
+    ///
+    /// Out of memory. The tally is then of no further use.
     pub fn take(&mut self, alloc: Global, asked: &Asked, reading: &Reading) -> Result<(), Oom>
         requires few { self.old.count < 2000000000 }
         ensures { OnOk result (Counts asked.now (said_of reading.now) self.old self.new) }
