@@ -12,7 +12,7 @@ use hazard_types::{
 use hvtec_string::hvtec_columns;
 use std::alloc::Global;
 
-/// The bytes that most lines have at most, for which memory is taken at once.
+/// The capacity with which `row_text` starts a line, in bytes.
 const LINE: usize = 64;
 
 fn put_period(out: &mut Text, period: &Period) -> Result<(), Oom>
@@ -67,9 +67,10 @@ fn row_columns(row: &Row) -> [u8; 48]
     line
 }
 
-/// Appends the line of a row, which ends with LF: `MDZ003 WS.W.0001.2018
-/// 180103T1530Z-180104T0000Z`, with a blank and the H-VTEC string after it if the row has H-VTEC
-/// values. An end until further notice is written as zeros. When it fails, `out` is as before.
+/// Appends the line of a row, which ends with LF:
+/// `MDZ003 WS.W.0001.2018 180103T1530Z-180104T0000Z`, with a blank and the H-VTEC string after it
+/// if the row has H-VTEC values. An end until further notice is written as zeros. When it fails,
+/// `out` is as before.
 ///
 /// # Errors
 ///

@@ -15,7 +15,7 @@ use jiff::tz::TimeZone;
 
 /// Returns the POSIX rule of a time zone, which the desk uses for all years.
 ///
-/// Source: the zones are those of docs/SETTINGS.md (key `zone`).
+/// Source: docs/SETTINGS.md, "Settings" (key `zone`).
 fn rule_text(zone: LocalZone) -> &'static str
     ensures { result.now ≡ rule_text zone }
 {

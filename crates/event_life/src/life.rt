@@ -102,8 +102,8 @@ fn new_breach(stands: bool, line: &Line, t: Minute, around: Around) -> Option<Br
     }
 }
 
-/// Returns the first breach of an EXA or EXB line: `last` if no other applies, and `fails_last`
-/// holds. `stands` is whether the event has an unended life in the zone.
+/// Returns the first breach of an EXA or EXB line; `last` if `fails_last` and no other applies.
+/// `stands` is whether the event has an unended life in the zone.
 fn joining_breach(
     stands: bool,
     line: &Line,
@@ -168,8 +168,7 @@ fn prints_later(line: &Line, t: Minute) -> bool
     }
 }
 
-/// Returns the first breach of a CON, COR or EXT line: `last` if no other applies, and `fails_last`
-/// holds.
+/// Returns the first breach of a CON, COR or EXT line; `last` if `fails_last` and no other applies.
 fn continuing_breach(
     life: &Life,
     line: &Line,
@@ -237,8 +236,7 @@ fn ending_breach(life: &Life, line: &Line, t: Minute) -> Option<Breach>
     }
 }
 
-/// Returns the breach of a CAN line with its period: it must come more than half an hour before the
-/// end.
+/// Returns `TooLate` for a CAN line with half an hour or less to the end, or after it.
 fn can_breach(life: &Life, t: Minute) -> Option<Breach>
     ensures { result ≡ first_of ((cancels_late life.now.period.end t named TooLate) ∷ []) }
 {
@@ -252,8 +250,8 @@ fn can_breach(life: &Life, t: Minute) -> Option<Breach>
     }
 }
 
-/// Returns the breach of an EXP line with its period: it must come at most half an hour before or
-/// after the end.
+/// Returns `TooEarly` for an EXP line more than half an hour before the end, and `TooLate` for one
+/// more than half an hour after it.
 fn exp_breach(life: &Life, t: Minute) -> Option<Breach>
     ensures { result ≡ first_of ((expires_early life.now.period.end t named TooEarly) ∷ (expires_late life.now.period.end t named TooLate) ∷ []) }
 {
@@ -269,8 +267,8 @@ fn exp_breach(life: &Life, t: Minute) -> Option<Breach>
     }
 }
 
-/// Returns the breach of a UPG line with its period: it must come before the end, and a higher row
-/// must overlap.
+/// Returns `TooLate` for a UPG line at the end or later, and else `NoHigher` for one without a
+/// higher row.
 fn upg_breach(life: &Life, t: Minute, around: Around) -> Option<Breach>
     ensures { result ≡ first_of ((not (ends_after life.now.period.end t) named TooLate) ∷ (not around.higher named NoHigher) ∷ []) }
 {

@@ -35,7 +35,8 @@ fn is_new(action: &Action) -> bool
     matches!(action, Action::New)
 }
 
-/// Returns the events that the lawful NEW lines of a product open, in order, each once.
+/// Returns the events that the lawful NEW lines of a product open, in the order of events, each
+/// once.
 ///
 /// # Errors
 ///

@@ -164,9 +164,9 @@ fn when_with(alloc: Global, l: &SegLine, period: &Text) -> Result<Text, Oom>
     Ok(text)
 }
 
-/// Returns the WHEN bullet of a line in a product of minute `t`, as `* WHEN...Until 600 PM EST Wed
-/// Jan 3.`, wrapped, with LF between its lines and none at the end. Empty for CAN, EXP, UPG and
-/// ROU.
+/// Returns the WHEN bullet of a line in a product of minute `t`, as
+/// `* WHEN...Until 600 PM EST Wed Jan 3.`, wrapped, with LF between its lines and none at the end.
+/// Times are local times of `zone`. Empty for CAN, EXP, UPG and ROU.
 ///
 /// # Errors
 ///

@@ -7,10 +7,10 @@ ghost use Rattle.headline_text.specs.NameLines.{name_lines, AreOfNames, EndsInHy
 ghost use Rattle.headline_text.specs.Lines.{lines, has_word, is_one_line, without_blanks, without_breaks, EndWhereFull};
 
 /// A test that blanks, LF and all bytes of the text pass holds for all bytes of the wrapped text,
-/// and a first byte that is no blank stays the first. Of a text without LF the bytes but blanks are
-/// the same in the same order, no line has more than 66 characters, each line after the first
-/// starts with two blanks, and each has a word if the text has one. If no word has more than 64
-/// characters either, no word is cut, and a line ends only where the next word does not fit.
+/// and a first byte that is no blank stays the first. Of a text without LF the bytes but blanks and
+/// LF are the same in the same order, no line has more than 66 characters, each line after the
+/// first starts with two blanks, and each has a word if the text has one. If no word has more than
+/// 64 characters either, no word is cut, and a line ends only where the next word does not fit.
 pub fn wrapping_keeps_words()
     ensures bytes { (p : ℕ → Bool) (text : List ℕ) → p 32 ≡ true → p 10 ≡ true → IsTrue (list_all p text) → IsTrue (list_all p (wrapped text)) }
     ensures begins { (c : ℕ) (cs : List ℕ) → c ≢ 32 → slice_index (wrapped (c ∷ cs)) 0 ≡ c }

@@ -8,8 +8,9 @@ use std::alloc::Global;
 /// The greatest length of a line, in characters.
 const WIDTH: usize = 66;
 
-/// Appends a name and its hyphen, after an LF if the line would become longer than `WIDTH`.
-/// `column` is the length of the line before, and the length after is returned.
+/// Appends a name and its hyphen, after an LF if the line has a name already and would become
+/// longer than `WIDTH`. `column` is the length of the line before, and the length after is
+/// returned.
 fn put(out: &mut Text, column: usize, name: &[u8]) -> Result<usize, Oom>
     ensures text { OnOk result (out.new ≡ out.old ++ name_part column name.now) }
     ensures column { IfOk result (λ next. next ≡ name_column column name.now) }

@@ -33,7 +33,7 @@ pub struct FrameSegment {
     pub zones: List<Zone>,
     /// The expiry of its UGC: day of the month, hour and minute, in UTC.
     pub expiry: DayStamp,
-    /// Its P-VTEC lines, in the order of the text.
+    /// Its P-VTEC lines, each with its H-VTEC line, in the order of the text.
     pub pairs: List<Pair>,
 }
 

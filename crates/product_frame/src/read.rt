@@ -318,9 +318,10 @@ pub fn read_frame_with(
 ) -> Result<Frame, Or<FrameFault>>
     // What is read is the frame of the text.
     ensures found { IfOk result (FrameOf bytes.now) }
-    // Where the text has a frame it is read, unless memory runs out.
+    // If the text has a frame it is read, unless memory runs out.
     ensures only { (f : FrameValue) → FrameOf bytes.now f → Gives result (Ok f) }
-    // What is refused has this fault first, and each first fault is named, unless memory runs out.
+    // A fault that is returned is the first of the text, and the first fault is returned, unless
+    // memory runs out.
     ensures fault { (x : FaultValue) → result ≡ Err (Or.No x) → FrameFaultOf bytes.now x }
     ensures fault_only { (x : FaultValue) → FrameFaultOf bytes.now x → Gives result (Err x) }
 
@@ -342,9 +343,10 @@ pub fn read_frame_with(
 pub fn read_frame(alloc: Global, bytes: &[u8]) -> Result<Frame, Or<FrameFault>>
     // What is read is the frame of the text.
     ensures found { IfOk result (FrameOf bytes.now) }
-    // Where the text has a frame it is read, unless memory runs out.
+    // If the text has a frame it is read, unless memory runs out.
     ensures only { (f : FrameValue) → FrameOf bytes.now f → Gives result (Ok f) }
-    // What is refused has this fault first, and each first fault is named, unless memory runs out.
+    // A fault that is returned is the first of the text, and the first fault is returned, unless
+    // memory runs out.
     ensures fault { (x : FaultValue) → result ≡ Err (Or.No x) → FrameFaultOf bytes.now x }
     ensures fault_only { (x : FaultValue) → FrameFaultOf bytes.now x → Gives result (Err x) }
 

@@ -33,13 +33,13 @@ pub struct UgcRead {
 /// starts, counted from 0.
 #[derive(Clone, Copy, Debug, PartialEq, Eq, Error)]
 pub enum UgcFault {
-    /// The group is no zone, no run of zones and no expiry.
+    /// The group is no zone and no run of zones, nor an expiry after a zone.
     #[error("byte {at}: no zone, run of zones or expiry begins here")]
     NotACode { at: usize },
     /// The group is a run whose last number is not greater than its first.
     #[error("byte {at}: a range must run upwards")]
     BadRange { at: usize },
-    /// No hyphen follows, and no expiry came before.
+    /// The bytes end without an expiry and its hyphen.
     #[error("the bytes end before the expiry does")]
     CutShort,
 }

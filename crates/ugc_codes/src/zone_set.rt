@@ -10,8 +10,8 @@ use std::alloc::Global;
 use std::collections::BTreeSet;
 use std::marker::Model;
 
-/// A set of zones. As long as each comes after all before it they are in a list, and from the first
-/// that does not they are in a tree.
+/// A set of zones. They are in a list while each zone that is added comes after all before it; from
+/// the first that does not they are in a tree.
 #[derive(Drop)]
 pub struct ZoneSet {
     rising: Option<List<Zone>>,
