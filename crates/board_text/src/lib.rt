@@ -1,4 +1,6 @@
 //! The lines of a board: zone, event, period and H-VTEC values of each row that is shown.
+//!
+//! For crates that show a board. One begins with `put_board`, or with `put_row` for one row.
 #![tactic(auto)]
 
 ghost use Rattle.std.specs.Prelude.{◌≡◌, ◌≤◌, ◌++◌, IfOk, OnOk, OnErr, None};
@@ -10,7 +12,7 @@ use hazard_types::{
 use hvtec_string::hvtec_columns;
 use std::alloc::Global;
 
-/// The bytes of most lines, for which memory is taken at once.
+/// The capacity with which `row_text` starts a line, in bytes.
 const LINE: usize = 64;
 
 fn put_period(out: &mut Text, period: &Period) -> Result<(), Oom>
@@ -21,7 +23,7 @@ fn put_period(out: &mut Text, period: &Period) -> Result<(), Oom>
     out.extend(&end_text(&period.end))
 }
 
-/// The H-VTEC text behind a blank, where there is one.
+/// Appends a blank and the H-VTEC string, if there are H-VTEC values.
 fn put_flood(out: &mut Text, flood: &Option<Flood>) -> Result<(), Oom>
     ensures { OnOk result (out.new ≡ out.old ++ flood_part flood.now) }
 {
@@ -34,7 +36,7 @@ fn put_flood(out: &mut Text, flood: &Option<Flood>) -> Result<(), Oom>
     }
 }
 
-/// The line of a row.
+/// Returns the line of a row, with its LF.
 fn row_text(alloc: Global, row: &Row) -> Result<Text, Oom>
     ensures { IfOk result (λ text. text ≡ row_line row.now) }
 {
@@ -49,7 +51,7 @@ fn row_text(alloc: Global, row: &Row) -> Result<Text, Oom>
     Ok(text)
 }
 
-/// The columns of a row without flood values: its line, all of whose parts have their places.
+/// Returns the line of a row without H-VTEC values, each part of which has fixed columns.
 #[tactic(auto, using(hazard_types::proofs::NamesBack::wide_four))]
 fn row_columns(row: &Row) -> [u8; 48]
     requires number { row.now.event.etn ≤ 9999 }
@@ -65,11 +67,16 @@ fn row_columns(row: &Row) -> [u8; 48]
     line
 }
 
-/// Adds the line of a row, or changes nothing.
+/// Appends the line of a row, which ends with LF:
+/// `MDZ003 WS.W.0001.2018 180103T1530Z-180104T0000Z`, with a blank and the H-VTEC string after it
+/// if the row has H-VTEC values. An end until further notice is written as zeros. When it fails,
+/// `out` is as before.
 ///
 /// # Errors
 ///
 /// Out of memory.
+///
+/// Source: docs/CLIENTS.md, "A line of the board".
 pub fn put_row(alloc: Global, out: &mut Text, row: &Row) -> Result<(), Oom>
     ensures ok { OnOk result (out.new ≡ out.old ++ row_line row.now) }
     ensures err { OnErr result (out.new ≡ out.old) }
@@ -81,11 +88,12 @@ pub fn put_row(alloc: Global, out: &mut Text, row: &Row) -> Result<(), Oom>
     out.extend(line.as_slice())
 }
 
-/// Adds the lines of rows, in their order.
+/// Appends the lines of rows, in their order. When it fails, `out` has the lines of the first rows,
+/// each whole, or none.
 ///
 /// # Errors
 ///
-/// Out of memory: the lines of the first rows, each whole, may stand behind the text then.
+/// Out of memory.
 pub fn put_board(alloc: Global, out: &mut Text, rows: &[Row]) -> Result<(), Oom>
     ensures ok { OnOk result (out.new ≡ out.old ++ board_text rows.now) }
     ensures err { OnErr result (HasFirstRows out.old out.new rows.now) }

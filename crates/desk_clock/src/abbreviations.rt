@@ -1,8 +1,9 @@
-//! The abbreviations of local time.
+//! The abbreviations of local time, as `EST`.
 ghost use Rattle.std.specs.Prelude.{◌≡◌, ◌≤◌};
 ghost use Rattle.desk_clock.specs.Abbreviations.{letters_of, hours_behind};
 
-/// What stands for a zone's time in a local line.
+/// The abbreviation that a local line has for the zone of its time. `Gmt` is read and never
+/// written.
 #[derive(Clone, Copy, Debug, PartialEq, Eq)]
 pub enum Abbreviation {
     Ast,
@@ -22,7 +23,7 @@ pub enum Abbreviation {
 }
 
 impl Abbreviation {
-    /// Its letters.
+    /// Returns its capital letters, as `AKST`.
     pub fn letters(self) -> &'static [u8]
         ensures { result.now ≡ letters_of self }
     {
@@ -44,7 +45,7 @@ impl Abbreviation {
         }
     }
 
-    /// How many hours its clock is behind UTC.
+    /// Returns how many hours its clock is behind UTC, 0 to 10.
     pub fn hours_behind(self) -> u8
         ensures value { result ≡ hours_behind self }
         ensures range { result ≤ 10 }

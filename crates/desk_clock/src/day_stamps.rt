@@ -11,10 +11,10 @@ const DAY: u32 = 1440;
 /// The days of the years 2000 to 2099.
 const DAYS: u32 = 36_525;
 
-/// How far a heading's day stamp may lie from the issue, in minutes.
+/// How far the day stamp of a heading may be from the issue minute, in minutes.
 const REACH: u32 = 720;
 
-/// The day, hour and minute of a time.
+/// Returns the day of the month, the hour and the minute of `m`, in UTC.
 pub fn day_stamp(m: Minute) -> DayStamp
     ensures { result ≡ day_stamp_of m }
 {
@@ -26,8 +26,10 @@ pub fn day_stamp(m: Minute) -> DayStamp
     }
 }
 
-/// The first minute at or after `issue` with that day, hour and minute. There is none where the
-/// years end first, or where the stamp is out of range.
+/// Returns the first minute at or after `issue` whose day of the month, hour and minute (UTC) are
+/// those of `d`. `None` if there is none before the year 2100, or if `d` is out of range.
+///
+/// Source: docs/DECISIONS.md, "Reading of texts" (day stamps out of range).
 pub fn resolve_day_stamp(issue: Minute, d: DayStamp) -> Option<Minute>
     ensures found { IfSome result (IsFirst issue d) }
     ensures none { IsNone result → (m : ℕ) → issue ≤ m → m < 52596000 → day_stamp_of m ≢ d }
@@ -47,7 +49,10 @@ pub fn resolve_day_stamp(issue: Minute, d: DayStamp) -> Option<Minute>
     None
 }
 
-/// Whether some minute within 720 of `issue`, either side, has the day stamp.
+/// Whether a minute at most 720 minutes (twelve hours) before or after `issue` has the day stamp
+/// `d`.
+///
+/// Source: docs/LIBRARY.md, "The text of a product" (`IssueDisagrees`).
 pub fn near(issue: Minute, d: DayStamp) -> bool
     ensures { IsTrue result ↔ IsNear issue d }
 {

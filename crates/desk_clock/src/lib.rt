@@ -1,4 +1,8 @@
-//! Day stamps, and the local time of an office.
+//! Day stamps (day, hour and minute, without month and year) and the local time of an office, both
+//! ways.
+//!
+//! For crates that read or write the texts of products. One begins with `local_line`,
+//! `read_local_line` and `near`.
 #![tactic(auto)]
 
 mod abbreviations;

@@ -1,4 +1,4 @@
-//! Local lines as they are written.
+//! Writes local lines.
 ghost use Rattle.std.specs.Prelude.{◌≡◌, ◌<◌, ◌≤◌, ◌+◌, ◌-◌, ◌*◌, ◌++◌, IfOk, OnOk};
 ghost use Rattle.desk_clock.specs.Abbreviations.{hours_behind};
 ghost use Rattle.desk_clock.specs.LocalTimes.{shown_at};
@@ -13,7 +13,7 @@ use crate::zones::abbreviation_at;
 use hazard_types::{LocalZone, Minute, Oom, Text};
 use std::alloc::Global;
 
-/// Adds a number below 100 without leading zero.
+/// Appends a number below 100 without a leading zero.
 fn push_number(text: &mut Text, n: u8) -> Result<(), Oom>
     requires { n < 100 }
     ensures { OnOk result (text.new ≡ text.old ++ one_or_two n) }
@@ -25,7 +25,7 @@ fn push_number(text: &mut Text, n: u8) -> Result<(), Oom>
     }
 }
 
-/// The hour on a clock of twelve hours.
+/// Returns the hour on a clock of twelve hours, on which 0 and 12 are 12.
 fn clock_hour(hour: u8) -> u8
     ensures value { result ≡ clock_hour hour }
     ensures range { result ≤ 12 }
@@ -36,14 +36,14 @@ fn clock_hour(hour: u8) -> u8
     }
 }
 
-/// The half of the day.
+/// Returns `AM` before hour 12, else `PM`.
 fn half_day(hour: u8) -> &'static [u8]
     ensures { result.now ≡ half_day hour }
 {
     if hour < 12 { b"AM" } else { b"PM" }
 }
 
-/// The minutes since the beginning of 1999-12-31 that a clock shows.
+/// Returns what a clock of `a` shows at `m`, in minutes since 1999-12-31T00:00 on that clock.
 fn shown_at(a: Abbreviation, m: Minute) -> u32
     ensures value { result ≡ shown_at a m }
     ensures range { result < 52597440 }
@@ -51,7 +51,8 @@ fn shown_at(a: Abbreviation, m: Minute) -> u32
     m.get() + 1440 - 60 * u32::from(a.hours_behind())
 }
 
-/// The text without the year.
+/// Returns the local line without its year. `shown` is in minutes since 1999-12-31T00:00 local
+/// time.
 #[tactic(auto, unfolding(crate::specs::LocalText::short_of))]
 fn short_of(alloc: Global, a: Abbreviation, shown: u32) -> Result<Text, Oom>
     requires { shown < 52597440 }
@@ -73,7 +74,14 @@ fn short_of(alloc: Global, a: Abbreviation, shown: u32) -> Result<Text, Oom>
     Ok(text)
 }
 
-/// The local line of a minute, as `1030 AM EST Wed Jan 3 2018`.
+/// Returns the local line of `m` in the zone `z`, as `1030 AM EST Wed Jan 3 2018`. Hour and day
+/// have no leading zero, and no line end follows.
+///
+/// # Errors
+///
+/// Out of memory.
+///
+/// Source: NWS Instruction 10-1701, Mass News Disseminator header: date and time line.
 #[tactic(auto, unfolding(crate::specs::LocalText::local_line_of, crate::specs::LocalText::line_of))]
 pub fn local_line(alloc: Global, z: LocalZone, m: Minute) -> Result<Text, Oom>
     ensures { IfOk result (λ text. text ≡ local_line_of z m) }
@@ -92,7 +100,11 @@ pub fn local_line(alloc: Global, z: LocalZone, m: Minute) -> Result<Text, Oom>
     Ok(text)
 }
 
-/// The local line of a minute without its year, as `1030 AM EST Wed Jan 3`.
+/// Returns the local line of `m` in the zone `z` without its year, as `1030 AM EST Wed Jan 3`.
+///
+/// # Errors
+///
+/// Out of memory.
 #[tactic(auto, unfolding(crate::specs::LocalText::local_short_of))]
 pub fn local_short(alloc: Global, z: LocalZone, m: Minute) -> Result<Text, Oom>
     ensures { IfOk result (λ text. text ≡ local_short_of z m) }

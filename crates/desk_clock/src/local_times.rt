@@ -1,4 +1,4 @@
-//! Local dates and times, by jiff's calendar.
+//! Local dates and times, by the calendar of `jiff`.
 ghost use Rattle.std.specs.Prelude.{◌≡◌, ◌<◌, ◌+◌, ◌/◌, ◌%◌, ◌*◌, ◌≤◌, ◌<ℤ◌, pos, IfSome, MatchOption};
 ghost use Rattle.jiff_core.specs.Calendar.{days_from_civil};
 ghost use Rattle.std.specs.Option.{is_some};
@@ -12,7 +12,7 @@ use crate::abbreviations::Abbreviation;
 use hazard_types::Minute;
 use jiff_core::civil::{Date, Weekday};
 
-/// A date and a time of day as a local clock shows them, in a year from 1999 to 2099.
+/// A date and a time of day on a local clock. Month and day count from 1, hours from 0 to 23.
 #[derive(Clone, Copy, Debug, PartialEq, Eq)]
 pub struct LocalTime {
     pub year: u16,
@@ -25,12 +25,13 @@ pub struct LocalTime {
 /// The days from the first day of jiff's calendar to 1999-12-31.
 const FIRST: u32 = 4_382_543;
 
-/// jiff's day numbers are the days of this calendar, where 2000-01-01 is day 10957.
+/// The day numbers of `jiff` are those of the calendar of `hazard_types`: 2000-01-01, its day 0, is
+/// day 10957 of `jiff`.
 pub fn calendars_agree()
     ensures { (c : Civil) → IsCivil c → days_from_civil (pos (2000 + c.year)) c.month c.day ≡ pos (10957 + minute_of c / 1440) }
 {}
 
-/// The local time of a minute since the beginning of 1999-12-31.
+/// Returns the date and time of day `shown` minutes after 1999-12-31T00:00, both local.
 pub fn local_time(shown: u32) -> LocalTime
     requires { shown < 52597440 }
     ensures value { result ≡ local_time shown }
@@ -46,7 +47,7 @@ pub fn local_time(shown: u32) -> LocalTime
     }
 }
 
-/// The weekday of that minute.
+/// Returns the weekday `shown` minutes after 1999-12-31T00:00, both local.
 pub fn weekday(shown: u32) -> Weekday
     requires { shown < 52597440 }
     ensures { monday_zero result ≡ (shown / 1440 + 4) % 7 }
@@ -54,7 +55,7 @@ pub fn weekday(shown: u32) -> Weekday
     Date::from_days_since_min(FIRST + shown / 1440).weekday()
 }
 
-/// The date, if the calendar has it, in a year from 1999 to 2099.
+/// Returns the date of `t`, if it exists and its year is 1999 to 2099.
 #[tactic(auto, unfolding(crate::specs::LocalTimes::has_date))]
 fn date_of(t: LocalTime) -> Option<Date>
     ensures test { is_some result ≡ has_date t }
@@ -70,21 +71,22 @@ fn date_of(t: LocalTime) -> Option<Date>
     }
 }
 
-/// The days from 1999-12-31 to a date.
+/// Returns the days from 1999-12-31 to a date; `None` before that day.
 fn days_to(date: Date) -> Option<u32>
     ensures { MatchOption result (epoch_day date <ℤ pos 10956) (λ days. epoch_day date ≡ pos (10956 + days)) }
 {
     date.days_since_min().checked_sub(FIRST)
 }
 
-/// Whether the calendar has the date, in a year from 1999 to 2099.
+/// Whether the date of `t` exists and its year is 1999 to 2099.
 pub fn has_date(t: LocalTime) -> bool
     ensures { result ≡ has_date t }
 {
     date_of(t).is_some()
 }
 
-/// The minutes since the beginning of 1999-12-31 at which a clock shows this.
+/// Returns the minutes from 1999-12-31T00:00 to `t`, both local; `None` if `t` does not exist or is
+/// earlier.
 fn shown_of(t: LocalTime) -> Option<u32>
     ensures value { result ≡ shown_of t }
     ensures range { IfSome result (λ shown. shown < 52597440) }
@@ -97,7 +99,8 @@ fn shown_of(t: LocalTime) -> Option<u32>
     Some(days * 1440 + u32::from(t.hour) * 60 + u32::from(t.minute))
 }
 
-/// The minute in which a clock of this abbreviation shows this.
+/// Returns the minute at which a clock of `a` shows `t`. `None` if `t` does not exist, or if the
+/// minute is not in the years 2000 to 2099 of UTC.
 #[tactic(auto, unfolding(crate::specs::LocalTimes::minute_shown))]
 pub fn minute_shown(a: Abbreviation, t: LocalTime) -> Option<Minute>
     ensures { result ≡ minute_shown a t }

@@ -49,7 +49,7 @@ fn abbreviations() -> [Abbreviation; 14]
     ]
 }
 
-/// The name of a month from 1 to 12.
+/// Returns the name of a month, which counts from 1, as `Jan`.
 #[tactic(auto, using(crate::proofs::Tables::twelve_names))]
 pub fn month_name(month: u8) -> [u8; 3]
     requires low { 1 ≤ month }
@@ -60,7 +60,7 @@ pub fn month_name(month: u8) -> [u8; 3]
     names[month as usize - 1]
 }
 
-/// The name of a weekday.
+/// Returns the name of a weekday, as `Mon`.
 #[tactic(auto, using(crate::proofs::Tables::seven_names))]
 pub fn weekday_name(weekday: Weekday) -> [u8; 3]
     ensures { result ≡ slice_index_or weekday_names (monday_zero weekday) [] }
@@ -69,14 +69,14 @@ pub fn weekday_name(weekday: Weekday) -> [u8; 3]
     names[weekday.index() as usize]
 }
 
-/// Whether two words differ in letter case at most.
+/// Whether two words are equal but for letter case (ASCII).
 pub fn same_letters(word: &[u8], name: &[u8]) -> bool
     ensures { result ≡ same_letters word.now name.now }
 {
     word.eq_ignore_ascii_case(name)
 }
 
-/// The place of a name among these, whatever its letter case.
+/// Returns the index of a name in `names`, whatever its letter case.
 fn place_of(names: &[[u8; 3]], word: &[u8]) -> Option<usize>
     ensures value { result ≡ place_of names.now word.now }
     ensures range { IfSome result (λ i. i < length names.now) }
@@ -84,7 +84,7 @@ fn place_of(names: &[[u8; 3]], word: &[u8]) -> Option<usize>
     names.iter().position(|name| same_letters(word, name))
 }
 
-/// The number of a month, from 1, less 1.
+/// Returns the index of the month that a word names, 0 for `Jan`, whatever its letter case.
 #[tactic(auto, using(crate::proofs::Tables::twelve_names))]
 pub fn month_place(word: &[u8]) -> Option<usize>
     ensures value { result ≡ place_of month_names word.now }
@@ -93,14 +93,14 @@ pub fn month_place(word: &[u8]) -> Option<usize>
     place_of(&month_names(), word)
 }
 
-/// Whether the word is the name of a weekday.
+/// Whether a word names a weekday, as `Mon`, whatever its letter case.
 pub fn is_weekday(word: &[u8]) -> bool
     ensures { result ≡ is_some (place_of weekday_names word.now) }
 {
     place_of(&weekday_names(), word).is_some()
 }
 
-/// The abbreviation with these letters, whatever their case.
+/// Returns the abbreviation with these letters, whatever their case.
 pub fn abbreviation_named(word: &[u8]) -> Option<Abbreviation>
     ensures { result ≡ abbreviation_named word.now }
 {

@@ -1,4 +1,4 @@
-//! Local lines as they are read.
+//! Reads local lines.
 ghost use Rattle.std.specs.Prelude.{◌≡◌, ◌≤◌, ◌<◌, ◌↔◌, ℕ, IfSome, IfOk};
 ghost use Rattle.hazard_types.specs.declared.codes.LocalZone.{LocalZone as Zone};
 ghost use Rattle.desk_clock.specs.LocalText.{local_line_of};
@@ -14,18 +14,18 @@ use crate::words::{after_aside, after_word, first_word};
 use hazard_types::Minute;
 use thiserror::Error;
 
-/// Why a line gives no minute.
+/// Why a line is not the local line of a minute.
 #[derive(Clone, Copy, Debug, PartialEq, Eq, Error)]
 pub enum LocalFault {
-    /// The form or the range fails.
+    /// The form of the line, its date, or the range of minutes is wrong.
     #[error("the line is no local time, such as 1030 AM EST Wed Jan 3 2018")]
     NoLocalTime,
-    /// All but the abbreviation is right.
+    /// Only the abbreviation is wrong: it has letters alone, and the desk does not know it.
     #[error("the abbreviation of the time zone is unknown")]
     UnknownAbbreviation,
 }
 
-/// What a local line says. An abbreviation of None is none that the desk knows.
+/// The values of a local line. `abbreviation` is `None` if the desk does not know its letters.
 #[derive(Clone, Copy, Debug, PartialEq, Eq)]
 pub struct Written {
     pub abbreviation: Option<Abbreviation>,
@@ -42,7 +42,7 @@ fn digit(c: u8) -> Option<u8>
     }
 }
 
-/// The number that one or two digits spell.
+/// Returns the number of one or two digits.
 #[tactic(auto, unfolding(crate::specs::LocalWords::number_of))]
 fn number_of(word: &[u8]) -> Option<u8>
     ensures { result ≡ number_of word.now }
@@ -54,7 +54,7 @@ fn number_of(word: &[u8]) -> Option<u8>
     }
 }
 
-/// The hour at which the half of a day begins.
+/// Returns the hour at which a half of the day begins: 0 for `AM`, 12 for `PM`.
 #[tactic(auto, unfolding(crate::specs::LocalWords::half_of))]
 fn half_of(word: &[u8]) -> Option<u8>
     ensures value { result ≡ half_of word.now }
@@ -69,7 +69,7 @@ fn half_of(word: &[u8]) -> Option<u8>
     }
 }
 
-/// Hour and minute of a day.
+/// Returns the hour (0 to 23) and the minute of `1030` or `930` and `AM` or `PM`.
 #[tactic(auto, unfolding(crate::specs::LocalWords::time_said))]
 fn time_said(clock: &[u8], half: &[u8]) -> Option<(u8, u8)>
     ensures { result ≡ time_said clock.now half.now }
@@ -85,7 +85,7 @@ fn time_said(clock: &[u8], half: &[u8]) -> Option<(u8, u8)>
     }
 }
 
-/// A year of four digits.
+/// Returns the number of four digits.
 #[tactic(auto, unfolding(crate::specs::LocalWords::year_said))]
 fn year_said(word: &[u8]) -> Option<u16>
     ensures { result ≡ year_said word.now }
@@ -98,7 +98,8 @@ fn year_said(word: &[u8]) -> Option<u16>
     Some(100 * u16::from(century) + u16::from(year))
 }
 
-/// What the words of a date say, beside a time of day.
+/// Returns the values of a line, from its abbreviation, the words of its date, and its hour and
+/// minute.
 #[tactic(auto, unfolding(crate::specs::LocalWords::date_said))]
 fn date_said(
     letters: &[u8],
@@ -124,7 +125,7 @@ fn date_said(
     })
 }
 
-/// What seven words say.
+/// Returns the values of the seven words of a line, if each word has its form.
 #[tactic(auto, unfolding(crate::specs::LocalWords::words_say))]
 fn words_say(
     clock: &[u8],
@@ -157,7 +158,7 @@ fn all_letters(word: &[u8]) -> bool
     word.iter().all(|c| c.is_ascii_alphabetic())
 }
 
-/// What a line says, by its words.
+/// Returns the values of a line, which is split into its seven words here.
 #[tactic(auto, unfolding(crate::specs::LocalForm::written_in))]
 fn written_in(b: &[u8]) -> Option<Written>
     ensures { result ≡ written_in b.now }
@@ -178,7 +179,7 @@ fn written_in(b: &[u8]) -> Option<Written>
     )
 }
 
-/// The minute of what a line says.
+/// Returns the minute of the values of a line.
 #[tactic(auto, unfolding(crate::specs::LocalForm::minute_of))]
 fn minute_of(w: Written) -> Result<Minute, LocalFault>
     ensures { result ≡ minute_of w }
@@ -200,12 +201,18 @@ fn reading_of(b: &[u8]) -> Result<Minute, LocalFault>
     }
 }
 
-/// The minute that a local line reads as. Letter case is ignored, and blanks may be repeated.
+/// Parses a local line, as `1030 AM EST Wed Jan 3 2018`, and returns its minute. Letter case is
+/// ignored, words are separated by one or more blanks, and the weekday need not be that of the
+/// date. One part between slashes may come before the weekday; blanks at either end are refused.
 ///
 /// # Errors
 ///
-/// `UnknownAbbreviation` where all but the abbreviation is right, `NoLocalTime` where the form, the
-/// date or the range fails.
+/// - `UnknownAbbreviation` if only the abbreviation is wrong.
+/// - `NoLocalTime` if the form is wrong, the date does not exist, or the minute is not in the years
+///   2000 to 2099 of UTC.
+///
+/// Source: NWS Instruction 10-1701, Mass News Disseminator header: date and time line;
+/// docs/DECISIONS.md, "Reading of texts" (local lines).
 pub fn read_local_line(b: &[u8]) -> Result<Minute, LocalFault>
     ensures value { result ≡ read_of b.now }
     ensures found { IfOk result (ReadsAs b.now) }
@@ -215,7 +222,7 @@ pub fn read_local_line(b: &[u8]) -> Result<Minute, LocalFault>
     reading_of(b)
 }
 
-/// A local line reads back to its minute.
+/// What `local_line` writes reads back to its minute, in every zone.
 pub fn lines_read_back()
     ensures { (z : Zone) (m : ℕ) → m < 52596000 → read_of (local_line_of z m) ≡ Ok m }
 {}

@@ -1,4 +1,4 @@
-//! The words of a line, which blanks part.
+//! The words of a line, which blanks (spaces and tabs) separate.
 ghost use Rattle.std.specs.Prelude.{◌≡◌, ◌==◌, not};
 ghost use Rattle.std.specs.List.{position};
 ghost use Rattle.desk_clock.specs.Words.{first_word, past_blanks, after_word, past_gap, after_slash, after_aside};
@@ -24,7 +24,7 @@ fn slash_at(b: &[u8]) -> Option<usize>
     b.iter().position(|c| *c == b'/')
 }
 
-/// What stands before the first blank.
+/// Returns the bytes before the first blank, or all of them if there is none.
 pub fn first_word(b: &[u8]) -> &[u8]
     ensures { result.now ≡ first_word b.now }
 {
@@ -43,7 +43,7 @@ fn past_blanks(b: &[u8]) -> &[u8]
     }
 }
 
-/// What stands after the first word and the blanks behind it.
+/// Returns what follows the first word and the blanks after it; empty if no blank follows the word.
 pub fn after_word(b: &[u8]) -> &[u8]
     ensures { result.now ≡ after_word b.now }
 {
@@ -62,7 +62,7 @@ fn after_slash(b: &[u8]) -> &[u8]
     }
 }
 
-/// What stands after the blanks that begin these bytes; nothing, where none does.
+/// Returns what follows the blanks that `b` starts with; empty if it starts with none.
 fn past_gap(b: &[u8]) -> &[u8]
     ensures { result.now ≡ past_gap b.now }
 {
@@ -72,8 +72,8 @@ fn past_gap(b: &[u8]) -> &[u8]
     }
 }
 
-/// What stands after an optional part between slashes; nothing, where such a part does not end,
-/// or no blank stands behind it.
+/// Returns what follows an optional part between slashes and the blanks after it. Empty if such a
+/// part has no second slash, or if no blank follows that slash.
 pub fn after_aside(b: &[u8]) -> &[u8]
     ensures { result.now ≡ after_aside b.now }
 {

@@ -1,4 +1,4 @@
-//! The zones of offices: their rules, and the abbreviation of a minute.
+//! The time zones of offices: their rules, and the abbreviation of a minute.
 ghost use Rattle.std.specs.Prelude.{◌≡◌, ◌<◌, ℕ, ℤ, IsSome};
 ghost use Rattle.jiff.specs.Placed.{IsPosixZone};
 ghost use Rattle.jiff_tz.specs.PosixReader.{read_whole};
@@ -13,7 +13,9 @@ use hazard_types::{LocalZone, Minute};
 use jiff::Timestamp;
 use jiff::tz::TimeZone;
 
-/// The POSIX rule of a zone, used for all years.
+/// Returns the POSIX rule of a time zone, which the desk uses for all years.
+///
+/// Source: docs/SETTINGS.md, "Settings" (key `zone`).
 fn rule_text(zone: LocalZone) -> &'static str
     ensures { result.now ≡ rule_text zone }
 {
@@ -30,7 +32,7 @@ fn rule_text(zone: LocalZone) -> &'static str
     }
 }
 
-/// The abbreviation of a zone's standard time.
+/// Returns the abbreviation of standard time.
 fn standard(zone: LocalZone) -> Abbreviation
     ensures { result ≡ standard zone }
 {
@@ -46,7 +48,7 @@ fn standard(zone: LocalZone) -> Abbreviation
     }
 }
 
-/// The abbreviation of a zone's daylight time, where it has one.
+/// Returns the abbreviation of daylight time, if the zone has it.
 fn daylight(zone: LocalZone) -> Option<Abbreviation>
     ensures { result ≡ daylight zone }
 {
@@ -60,7 +62,7 @@ fn daylight(zone: LocalZone) -> Option<Abbreviation>
     }
 }
 
-/// The offset of a rule text at an instant, in seconds.
+/// Returns the offset from UTC of a POSIX rule at an instant, in seconds.
 fn offset_by(text: &str, instant: Timestamp) -> i32
     ensures { result ≡ text_offset text.now instant.nanosecond }
 {
@@ -70,7 +72,7 @@ fn offset_by(text: &str, instant: Timestamp) -> i32
     }
 }
 
-/// How far the zone's clock is ahead of UTC in a minute, in seconds.
+/// Returns how far the clock of a zone is ahead of UTC at `m`, in seconds.
 #[tactic(auto, unfolding(crate::specs::Zones::offset_of))]
 fn offset_at(zone: LocalZone, m: Minute) -> i32
     ensures { result ≡ offset_of zone m }
@@ -81,7 +83,10 @@ fn offset_at(zone: LocalZone, m: Minute) -> i32
     }
 }
 
-/// The daylight abbreviation where the rule gives its offset, else the standard one.
+/// Returns the abbreviation of a zone at `m`: that of daylight time if the rule has its offset
+/// then, else that of standard time.
+///
+/// Source: docs/DECISIONS.md, "Forms" (the calendar).
 pub fn abbreviation_at(zone: LocalZone, m: Minute) -> Abbreviation
     ensures { result ≡ abbreviation_at zone m }
 {
@@ -91,12 +96,13 @@ pub fn abbreviation_at(zone: LocalZone, m: Minute) -> Abbreviation
     }
 }
 
-/// The text of each zone is a rule, so no offset is one of a text that can't be read.
+/// The rule of every zone can be parsed, so the offset 0 of a text that is no rule is never
+/// returned.
 pub fn rules_are_read()
     ensures { (z : Zone) → IsSome (read_whole (rule_text z)) }
 {}
 
-/// The offset that the desk takes for a zone is the one that `jiff` gives at that instant, once it has read the zone's rule.
+/// The offset of a zone at an instant is the one that `jiff` returns for the zone's rule.
 pub fn offsets_are_jiffs()
     ensures { (z : Zone) (read : JiffZone) (instant : ℤ) → IsPosixZone (rule_text z) read → jiff_offset read instant ≡ text_offset (rule_text z) instant }
 {}

@@ -3,19 +3,22 @@ use hazard_types::Text;
 use std::str;
 use thiserror::Error;
 
-/// Why settings are refused. A key is named as in the file, one of the table `headings` as `headings.WSW`.
+/// Why settings are refused. `key` is written as in the document, and a key of the table `headings`
+/// as `headings.WSW`.
+///
+/// Source: docs/SETTINGS.md, "Faults".
 #[derive(Debug, Drop, PartialEq, Eq, Error)]
 pub enum SettingsFault {
-    /// The bytes are no TOML document.
+    /// The bytes are not UTF-8, or no TOML document. A document that has a key twice is not TOML.
     #[error("the settings are no TOML document")]
     NotToml,
-    /// The first key of the form that is not there.
+    /// The first key that is not there.
     #[error("the key `{}` is missing", name_of(.key))]
     Missing { key: Text },
-    /// The first key whose value has not its form.
+    /// The first key whose value does not have its form.
     #[error("the value of the key `{}` has not its form", name_of(.key))]
     BadValue { key: Text },
-    /// The key in which a value stands twice: the desks.
+    /// A desk is named twice; the key is `desks`.
     #[error("a value stands twice in the key `{}`", name_of(.key))]
     Twice { key: Text },
     /// There are more than 1,048,576 bytes.
@@ -23,7 +26,7 @@ pub enum SettingsFault {
     TooLong,
 }
 
-/// The name of a key, as text.
+/// Returns the key as a string.
 fn name_of(key: &Text) -> &str {
     str::from_utf8(key.as_slice()).unwrap_or("?")
 }

@@ -1,4 +1,4 @@
-//! The fields of settings, each read from its value.
+//! Reads each field of the settings from its value.
 ghost use Rattle.std.specs.Prelude.{◌≡◌, option_map, option_and_then, IfOk, List as Seq, [], Err};
 ghost use Rattle.hazard_types.specs.Given.{Gives};
 ghost use Rattle.toml.specs.Data.{as_str};
@@ -14,13 +14,13 @@ use hazard_types::{Category, Desk, List, LocalZone, Oom, Or, Text, Zone, zone_in
 use std::alloc::Global;
 use toml::{Table, Value};
 
-/// The most desks.
+/// The greatest number of desks.
 const DESKS_MOST: usize = 64;
 
-/// The most zones.
+/// The greatest number of zones.
 const ZONES_MOST: usize = 2_000;
 
-/// The refusal of the value at a key.
+/// Returns the fault `BadValue` of a key.
 fn bad_value<T>(alloc: Global, key: Key) -> Result<T, Or<SettingsFault>>
     ensures { Gives result (Err (BadValue (key_name key))) }
 {
@@ -28,6 +28,11 @@ fn bad_value<T>(alloc: Global, key: Key) -> Result<T, Or<SettingsFault>>
     Err(Or::No(SettingsFault::BadValue { key }))
 }
 
+/// Returns the office.
+///
+/// # Errors
+///
+/// `BadValue` of its key; or out of memory.
 pub fn office_field(alloc: Global, table: &Table) -> Result<[u8; 4], Or<SettingsFault>>
     ensures { Gives result (office_field (table_view table.now)) }
 {
@@ -37,6 +42,11 @@ pub fn office_field(alloc: Global, table: &Table) -> Result<[u8; 4], Or<Settings
     }
 }
 
+/// Returns the site.
+///
+/// # Errors
+///
+/// `BadValue` of its key; or out of memory.
 pub fn site_field(alloc: Global, table: &Table) -> Result<[u8; 3], Or<SettingsFault>>
     ensures { Gives result (site_field (table_view table.now)) }
 {
@@ -46,6 +56,11 @@ pub fn site_field(alloc: Global, table: &Table) -> Result<[u8; 3], Or<SettingsFa
     }
 }
 
+/// Returns the office line.
+///
+/// # Errors
+///
+/// `BadValue` of its key; or out of memory.
 pub fn line_field(alloc: Global, table: &Table) -> Result<Text, Or<SettingsFault>>
     ensures { Gives result (line_field (table_view table.now)) }
 {
@@ -57,6 +72,11 @@ pub fn line_field(alloc: Global, table: &Table) -> Result<Text, Or<SettingsFault
     }
 }
 
+/// Returns the zone of local times.
+///
+/// # Errors
+///
+/// `BadValue` of its key; or out of memory.
 pub fn zone_field(alloc: Global, table: &Table) -> Result<LocalZone, Or<SettingsFault>>
     ensures { Gives result (zone_field (table_view table.now)) }
 {
@@ -80,7 +100,11 @@ fn heading_field(
     }
 }
 
-/// The headings in the order of the categories.
+/// Returns the eight headings, in the order of `Category`.
+///
+/// # Errors
+///
+/// `BadValue` of the first key with a bad value; or out of memory.
 #[tactic(auto, unfolding(crate::specs::Reading::headings_field))]
 pub fn headings_field(alloc: Global, table: &Table) -> Result<[[u8; 6]; 8], Or<SettingsFault>>
     ensures { Gives result (headings_field (table_view table.now)) }
@@ -96,7 +120,7 @@ pub fn headings_field(alloc: Global, table: &Table) -> Result<[[u8; 6]; 8], Or<S
     Ok([wsw, npw, rfw, cfw, mww, ffa, flw, fls])
 }
 
-/// The desks that the items name, or nothing where one is no desk's name.
+/// Returns the desks that the items name, or `None` if an item is not the name of a desk.
 fn desks_of(alloc: Global, items: &[Value]) -> Result<Option<List<Desk>>, Oom>
     ensures { IfOk result (λ desks. desks ≡ names_of (items_view items.now)) }
 {
@@ -110,6 +134,7 @@ fn desks_of(alloc: Global, items: &[Value]) -> Result<Option<List<Desk>>, Oom>
     Ok(Some(desks))
 }
 
+/// Returns the desks of a list of 1 to 64 names, or `None` if the value is not such a list.
 fn desks_in(alloc: Global, value: &Value) -> Result<Option<List<Desk>>, Oom>
     ensures { IfOk result (λ desks. desks ≡ desks_in (view value.now)) }
 {
@@ -126,6 +151,11 @@ fn desks_in(alloc: Global, value: &Value) -> Result<Option<List<Desk>>, Oom>
     }
 }
 
+/// Returns the desks, in the order of the list.
+///
+/// # Errors
+///
+/// `BadValue` of its key; or out of memory.
 pub fn desks_field(alloc: Global, table: &Table) -> Result<List<Desk>, Or<SettingsFault>>
     ensures { Gives result (desks_field (table_view table.now)) }
 {
@@ -138,7 +168,7 @@ pub fn desks_field(alloc: Global, table: &Table) -> Result<List<Desk>, Or<Settin
     }
 }
 
-/// The name of a zone that stands there.
+/// Returns the name of a zone, or `None` if the value is not one.
 fn zone_name_in(value: &Value) -> Option<&str>
     ensures { option_map (λ s. s.now) result ≡ option_and_then zone_name_in (as_str (view value.now)) }
 {
@@ -154,7 +184,8 @@ fn zone_name_in(value: &Value) -> Option<&str>
     }
 }
 
-/// The zones that the members name, or nothing where a key is no zone or a value no name.
+/// Returns the zones of a table with their names, in order, or `None` if a key is not a zone or a
+/// value not the name of one.
 fn zones_of(alloc: Global, table: &Table) -> Result<Option<List<(Zone, Text)>>, Oom>
     ensures { IfOk result (λ zones. zones ≡ option_map in_order (zone_pairs (table_view table.now))) }
 {
@@ -172,6 +203,7 @@ fn zones_of(alloc: Global, table: &Table) -> Result<Option<List<(Zone, Text)>>, 
     Ok(Some(zones))
 }
 
+/// Returns the zones of a table of 1 to 2,000 zones, or `None` if the value is not such a table.
 fn zones_in(alloc: Global, value: &Value) -> Result<Option<List<(Zone, Text)>>, Oom>
     ensures { IfOk result (λ zones. zones ≡ zones_in (view value.now)) }
 {
@@ -188,6 +220,11 @@ fn zones_in(alloc: Global, value: &Value) -> Result<Option<List<(Zone, Text)>>, 
     }
 }
 
+/// Returns the zones with their names, in the order of zones.
+///
+/// # Errors
+///
+/// `BadValue` of its key; or out of memory.
 pub fn zones_field(alloc: Global, table: &Table) -> Result<List<(Zone, Text)>, Or<SettingsFault>>
     ensures { Gives result (zones_field (table_view table.now)) }
 {

@@ -1,4 +1,6 @@
-//! Which bytes have the form of a value.
+//! The forms of the values of settings.
+//!
+//! Source: docs/SETTINGS.md, "Settings".
 ghost use Rattle.std.specs.Prelude.{◌≡◌};
 ghost use Rattle.std.specs.List.{list_all};
 ghost use Rattle.hazard_types.specs.Calendar.{is_digit};
@@ -7,13 +9,13 @@ ghost use Rattle.desk_settings.specs.Forms.{begins_with_letter, is_site, is_line
 
 use hazard_types::{LocalZone, is_name_byte, is_printable};
 
-/// The most characters of an office line.
+/// The greatest length of an office line, in characters.
 const LINE_MOST: usize = 66;
 
-/// The most characters of a zone's name.
+/// The greatest length of a zone's name, in characters.
 const NAME_MOST: usize = 40;
 
-/// The characters of an office: four of `A` to `Z` and `0` to `9`.
+/// Returns the office, if `text` is four characters of A-Z and 0-9.
 pub fn office_in(text: &[u8]) -> Option<[u8; 4]>
     ensures { result ≡ office_in text.now }
 {
@@ -27,7 +29,7 @@ pub fn office_in(text: &[u8]) -> Option<[u8; 4]>
     }
 }
 
-/// The three characters of a site.
+/// Returns the site, if `text` is three characters of A-Z and 0-9.
 pub fn site_in(text: &[u8]) -> Option<[u8; 3]>
     ensures { result ≡ site_in text.now }
 {
@@ -53,14 +55,15 @@ fn are_digits(bytes: &[u8]) -> bool
     bytes.iter().all(|byte| byte.is_ascii_digit())
 }
 
-/// Whether these are four capital letters and two digits.
+/// Whether the bytes are four capital letters and two digits.
 fn is_heading(text: &[u8]) -> bool
     ensures { result ≡ is_heading text.now }
 {
     text.len() == 6 && are_capitals(&text[..4]) && are_digits(&text[4..])
 }
 
-/// What a heading begins with: four capital letters and two digits.
+/// Returns the start of a heading line, if `text` is four capital letters and two digits, as
+/// `WWUS41`.
 pub fn heading_in(text: &[u8]) -> Option<[u8; 6]>
     ensures { result ≡ heading_in text.now }
 {
@@ -74,7 +77,7 @@ pub fn heading_in(text: &[u8]) -> Option<[u8; 6]>
     }
 }
 
-/// The zone of local times that bears this name.
+/// Returns the zone of local times with this name.
 pub fn local_zone_in(text: &str) -> Option<LocalZone>
     ensures { result ≡ local_zone_in text.now }
 {
@@ -92,7 +95,7 @@ pub fn local_zone_in(text: &str) -> Option<LocalZone>
     }
 }
 
-/// Whether the first of these is a letter.
+/// Whether the first character is one of A-Z and a-z.
 fn begins_with_letter(text: &[u8]) -> bool
     ensures { result ≡ begins_with_letter text.now }
 {
@@ -102,6 +105,7 @@ fn begins_with_letter(text: &[u8]) -> bool
     }
 }
 
+/// Whether a character is printable (space to tilde) and not a digit.
 fn is_line_byte(byte: u8) -> bool
     ensures { result ≡ is_line_byte byte }
 {
@@ -114,7 +118,8 @@ fn are_line_bytes(text: &[u8]) -> bool
     text.iter().all(|byte| is_line_byte(*byte))
 }
 
-/// Whether these may stand under a product's name: 1 to 66 printable characters without a digit, of which the first is a letter.
+/// Whether `text` may be the office line: 1 to 66 printable characters without a digit, of which
+/// the first is a letter.
 pub fn is_office_line(text: &[u8]) -> bool
     ensures { result ≡ is_office_line text.now }
 {
@@ -133,7 +138,8 @@ fn are_zone_name_bytes(text: &[u8]) -> bool
     text.iter().all(|byte| is_zone_name_byte(*byte))
 }
 
-/// Whether these are a zone's name: 1 to 40 printable characters without a digit, `$`, `&` and `-`, of which the first is a letter.
+/// Whether `text` may be the name of a zone: 1 to 40 printable characters without a digit, `$`, `&`
+/// and `-`, of which the first is a letter.
 pub fn is_zone_name(text: &[u8]) -> bool
     ensures { result ≡ is_zone_name text.now }
 {

@@ -1,4 +1,4 @@
-//! The keys of settings, and what stands at them.
+//! The keys of the settings, and the values that a document has at them.
 ghost use Rattle.std.specs.Prelude.{◌≡◌, option_map, IfOk, OnOk, ◌++◌};
 ghost use Rattle.hazard_types.specs.Names.{category_code};
 ghost use Rattle.toml.specs.Data.{get_member};
@@ -9,7 +9,7 @@ use hazard_types::{Category, Oom, Text};
 use std::alloc::Global;
 use toml::{Table, Value};
 
-/// A key that settings need: one of the whole, or one of the table `headings`.
+/// A key of the document, or of its table `headings`. All keys are needed.
 #[derive(Clone, Copy, Debug, PartialEq, Eq)]
 pub enum Key {
     Office,
@@ -21,7 +21,7 @@ pub enum Key {
     Zones,
 }
 
-/// The key of a category's heading.
+/// Returns the key of a category's heading, as `WSW`.
 fn category_name(category: Category) -> &'static str
     ensures { result.now ≡ category_code category }
 {
@@ -37,7 +37,9 @@ fn category_name(category: Category) -> &'static str
     }
 }
 
-/// The keys in the order of the form.
+/// Returns the keys in the order in which faults are looked for.
+///
+/// Source: docs/DECISIONS.md, "Settings" (the order of faults).
 #[tactic(auto, unfolding(crate::specs::Keys::keys))]
 fn keys() -> [Key; 14]
     ensures { result ≡ keys }
@@ -61,7 +63,11 @@ fn keys() -> [Key; 14]
 }
 
 impl Key {
-    /// The key as faults name it.
+    /// Returns the key as faults name it, as `headings.WSW`.
+    ///
+    /// # Errors
+    ///
+    /// Out of memory.
     pub fn name(self, alloc: Global) -> Result<Text, Oom>
         ensures { IfOk result (λ name. name ≡ key_name self) }
     {
@@ -81,14 +87,14 @@ impl Key {
     }
 }
 
-/// What a table has at a key.
+/// Returns the value that a table has at a key.
 fn look_up<'a>(table: &'a Table, key: &str) -> Option<&'a Value>
     ensures { option_map (λ v. view v.now) result ≡ get_member key.now (table_view table.now) }
 {
     table.get(key)
 }
 
-/// What the table `headings` has for a category.
+/// Returns the value that the table `headings` has for a category.
 fn heading_at(table: &Table, category: Category) -> Option<&Value>
     ensures { option_map (λ v. view v.now) result ≡ value_at (Key.Heading category) (table_view table.now) }
 {
@@ -101,7 +107,7 @@ fn heading_at(table: &Table, category: Category) -> Option<&Value>
     }
 }
 
-/// What stands at a key.
+/// Returns the value of a key.
 pub fn value_at(table: &Table, key: Key) -> Option<&Value>
     ensures { option_map (λ v. view v.now) result ≡ value_at key (table_view table.now) }
 {
@@ -116,7 +122,7 @@ pub fn value_at(table: &Table, key: Key) -> Option<&Value>
     }
 }
 
-/// The text that stands at a key.
+/// Returns the value of a key, if that is a string.
 pub fn text_at(table: &Table, key: Key) -> Option<&str>
     ensures { option_map (λ s. s.now) result ≡ text_at key (table_view table.now) }
 {
@@ -132,7 +138,7 @@ fn is_missing(table: &Table, key: Key) -> bool
     value_at(table, key).is_none()
 }
 
-/// The first key that is not there.
+/// Returns the first key that the document does not have.
 pub fn missing_key(table: &Table) -> Option<Key>
     ensures { result ≡ missing_key (table_view table.now) }
 {

@@ -1,4 +1,7 @@
-//! The settings of an office, read from TOML.
+//! The settings of an office, read from a TOML document (docs/SETTINGS.md).
+//!
+//! For crates that run an office or write its products. One begins with `read_settings`,
+//! `Settings::zone_name` and `Settings::heading_for`; training has `training_settings`.
 #![tactic(auto)]
 
 mod fault;

@@ -1,4 +1,4 @@
-//! Settings are read.
+//! Reads settings from a TOML document.
 ghost use Rattle.std.specs.Prelude.{◌≡◌, Some, None, IfOk, Err, Ok};
 ghost use Rattle.std.specs.List.{list_any};
 ghost use Rattle.std.specs.Str.{bytes_eq};
@@ -17,10 +17,10 @@ use hazard_types::{Desk, Or};
 use std::alloc::Global;
 use toml::Table;
 
-/// The most bytes of settings.
+/// The greatest length of a document, in bytes.
 const MOST: usize = 1_048_576;
 
-/// Whether a desk stands again behind itself.
+/// Whether a desk is in the list twice.
 fn has_twice(desks: &[Desk]) -> bool
     ensures { result ≡ has_twice desks.now }
 {
@@ -32,7 +32,7 @@ fn has_twice(desks: &[Desk]) -> bool
     false
 }
 
-/// The table that the bytes are.
+/// Parses a TOML document, which must be UTF-8.
 fn read_table(alloc: Global, bytes: &[u8]) -> Result<Table, Or<SettingsFault>>
     ensures ok { IfOk result (λ table. table_of bytes.now ≡ Some (table_view table)) }
     ensures refused { (fault : SettingsFault) → result ≡ Err (Or.No fault) → table_of bytes.now ≡ None }
@@ -50,7 +50,7 @@ fn read_table(alloc: Global, bytes: &[u8]) -> Result<Table, Or<SettingsFault>>
     }
 }
 
-/// The settings of a table that has each key.
+/// Returns the settings of a document that has each key.
 #[tactic(auto, unfolding(crate::specs::Reading::fields_in))]
 fn fields_in(alloc: Global, table: &Table) -> Result<Settings, Or<SettingsFault>>
     ensures { Gives result (fields_in (table_view table.now)) }
@@ -78,7 +78,7 @@ fn fields_in(alloc: Global, table: &Table) -> Result<Settings, Or<SettingsFault>
     })
 }
 
-/// The settings that a table is.
+/// Returns the settings of a document.
 #[tactic(auto, unfolding(crate::specs::Reading::settings_in))]
 fn settings_in(alloc: Global, table: &Table) -> Result<Settings, Or<SettingsFault>>
     ensures { Gives result (settings_in (table_view table.now)) }
@@ -90,11 +90,20 @@ fn settings_in(alloc: Global, table: &Table) -> Result<Settings, Or<SettingsFaul
     fields_in(alloc, table)
 }
 
-/// Reads settings from a TOML document.
+/// Parses the settings of an office from a TOML document in UTF-8. Other keys and the order of keys
+/// are ignored.
 ///
 /// # Errors
 ///
-/// The first fault: `TooLong` above 1,048,576 bytes, `NotToml`, `Missing` and then `BadValue` with the first such key in the order of the form, `Twice`; or want of memory.
+/// The first of these faults, in this order, or out of memory:
+///
+/// - `TooLong` for more than 1,048,576 bytes.
+/// - `NotToml` for bytes that are no TOML document.
+/// - `Missing` with the first key that is not there.
+/// - `BadValue` with the first key whose value does not have its form.
+/// - `Twice` if a desk is named twice.
+///
+/// Source: docs/SETTINGS.md, "Faults"; docs/DECISIONS.md, "Settings".
 #[tactic(auto, unfolding(crate::specs::Reading::settings_of))]
 pub fn read_settings(alloc: Global, bytes: &[u8]) -> Result<Settings, Or<SettingsFault>>
     ensures value { Gives result (settings_of bytes.now) }

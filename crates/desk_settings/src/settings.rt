@@ -1,4 +1,4 @@
-//! The settings of an office, and what is looked up in them.
+//! The settings of an office, and look-ups in them.
 ghost use Rattle.std.specs.Prelude.{◌≡◌, option_map, slice_index_or, [], None, Contains, MatchOption, ◌≢◌, IsTrue, ◌↔◌};
 ghost use Rattle.std.specs.List.{list_any, All};
 ghost use Rattle.std.specs.List.Sorted.{IsStrictlySortedBy};
@@ -8,27 +8,30 @@ ghost use Rattle.hazard_types.specs.Places.{by_place};
 
 use hazard_types::{Category, Desk, List, LocalZone, Text, Zone};
 
-/// The settings of an office. Headings stand in the order of the categories, zones in the order of zones.
+/// The settings of an office.
+///
+/// Source: docs/SETTINGS.md, "Settings".
 #[derive(Debug, Drop)]
 pub struct Settings {
-    /// Four characters of `A` to `Z` and `0` to `9`.
+    /// The office's code: four characters of A-Z and 0-9, as `KLWX`.
     pub office: [u8; 4],
-    /// Three of these.
+    /// The last characters of product identifiers: three of A-Z and 0-9, as `LWX`.
     pub site: [u8; 3],
-    /// What stands under a product's name.
+    /// The line below a product's name.
     pub office_line: Text,
     /// The zone of local times.
     pub zone: LocalZone,
+    /// The names of the desks, in the order of the document, each once.
     pub desks: List<Desk>,
-    /// What a heading begins with, for each category: four capital letters and two digits.
+    /// The start of a heading line for each category, in the order of `Category`, as `WWUS41`.
     pub headings: [[u8; 6]; 8],
-    /// The zones of the office, each with its name.
+    /// The zones of the office, in order, each with its name.
     pub zones: List<(Zone, Text)>,
-    /// Whether zones without a name are taken too, which holds in training alone.
+    /// Whether zones that `zones` does not have are accepted too; only in training.
     pub any_zone: bool,
 }
 
-/// Whether a desk is one of these.
+/// Whether `desk` is one of `desks`.
 pub fn is_among(desk: &Desk, desks: &[Desk]) -> bool
     ensures { result ≡ list_any (bytes_eq desk.now) desks.now }
 {
@@ -46,7 +49,7 @@ impl Settings {
         is_among(desk, self.desks.as_slice())
     }
 
-    /// What a heading of the category begins with.
+    /// Returns the start of the heading line of a category, as `WWUS41`.
     pub fn heading_for(&self, category: Category) -> [u8; 6]
         ensures { result ≡ slice_index_or self.now.headings (category_place category) [] }
     {
@@ -63,7 +66,8 @@ impl Settings {
         self.headings[place]
     }
 
-    /// The name of a zone. None exactly where the settings have no such zone.
+    /// Returns the name of a zone, or `None` if `zones` does not have it. `zones` are in order, as
+    /// in accepted settings and those of training.
     pub fn zone_name(&self, zone: &Zone) -> Option<&Text>
         requires { IsStrictlySortedBy by_place (keys_of self.now.zones) }
         ensures value { option_map (λ name. name.now) result ≡ name_beside self.now.zones zone.now }

@@ -1,4 +1,4 @@
-//! The settings of training.
+//! The settings of the training office.
 ghost use Rattle.std.specs.Prelude.{◌≡◌, [], ◌∷◌, codes, IsTrue, IfOk};
 ghost use Rattle.hazard_types.specs.Characters.{is_office};
 ghost use Rattle.desk_settings.specs.AreSettings.{HasForms, training_of, training_headings};
@@ -7,6 +7,7 @@ use crate::settings::Settings;
 use hazard_types::{Desk, List, LocalZone, Oom, Text};
 use std::alloc::Global;
 
+/// Returns the heading `XXXX00` for each category.
 #[tactic(auto, unfolding(crate::specs::AreSettings::training_headings))]
 fn training_headings() -> [[u8; 6]; 8]
     ensures { result ≡ training_headings }
@@ -14,7 +15,7 @@ fn training_headings() -> [[u8; 6]; 8]
     [*b"XXXX00"; 8]
 }
 
-/// The desk whose numbers are counted for it.
+/// Returns the one desk, `DRY`.
 fn training_desks(alloc: Global) -> Result<List<Desk>, Oom>
     ensures { IfOk result (λ desks. desks ≡ codes "DRY" ∷ []) }
 {
@@ -24,6 +25,7 @@ fn training_desks(alloc: Global) -> Result<List<Desk>, Oom>
     }
 }
 
+/// Returns the settings of the training office of `office`.
 fn made(alloc: Global, office: [u8; 4]) -> Result<Settings, Oom>
     ensures { IfOk result (λ s. s ≡ training_of office) }
 {
@@ -41,7 +43,15 @@ fn made(alloc: Global, office: [u8; 4]) -> Result<Settings, Oom>
     })
 }
 
-/// The settings of training: the site is the last three characters of the office, local time is UTC, the one desk is `DRY`, and any zone is taken.
+/// Returns the settings of the training office of `office`, a code of four characters of A-Z and
+/// 0-9. The site is its last three characters, local time is UTC, the one desk is `DRY`, and any
+/// zone is accepted.
+///
+/// # Errors
+///
+/// Out of memory.
+///
+/// Source: docs/SETTINGS.md, "Training".
 pub fn training_settings(alloc: Global, office: [u8; 4]) -> Result<Settings, Oom>
     requires { IsTrue (is_office office) }
     ensures value { IfOk result (λ s. s ≡ training_of office) }

@@ -1,4 +1,4 @@
-//! The lines of a product, each judged by the rows just before it.
+//! Judges the lines of a product, each by the rows just before it.
 ghost use Rattle.std.specs.Prelude.{◌≡◌, ◌||◌, not, Some, None, if◌then◌else◌, IfOk};
 ghost use Rattle.event_life.specs.declared.life.Breach.TheVariants.{Twice};
 ghost use Rattle.event_life.specs.Higher.{may_yield, outranks};
@@ -13,7 +13,7 @@ use hazard_types::desk_hazards::facts;
 use hazard_types::{End, Flood, Hazard, Line, List, Minute, Oom, Row, Vtec, Zone};
 use std::alloc::Global;
 
-/// The end that a text prints: none is until further notice.
+/// Returns the end that a text prints; zeros (`None`) are until further notice.
 fn end_of(end: &Option<Minute>) -> End
     ensures { result ≡ end_of end.now }
 {
@@ -23,7 +23,8 @@ fn end_of(end: &Option<Minute>) -> End
     }
 }
 
-/// What a line of a text says of its event in a zone. `rows` are the rows just before its product, `t` is the product's issue minute.
+/// Returns the line of a product, given what its text says of one zone. `rows` are the rows just
+/// before the product, and `t` is its issue minute.
 pub fn line_of(rows: &[Row], t: Minute, zone: &Zone, vtec: &Vtec, flood: &Option<Flood>) -> Line
     ensures { result ≡ line_of rows.now t (record { zone = zone.now; vtec = vtec.now; flood = flood.now }) }
 {
@@ -37,7 +38,7 @@ pub fn line_of(rows: &[Row], t: Minute, zone: &Zone, vtec: &Vtec, flood: &Option
     }
 }
 
-/// Whether the desk issues the hazard, and it has a family.
+/// Whether the desk issues the hazard, and the hazard has a family.
 fn may_yield(hazard: &Hazard) -> bool
     ensures { result ≡ may_yield hazard.now }
 {
@@ -47,7 +48,9 @@ fn may_yield(hazard: &Hazard) -> bool
     }
 }
 
-/// Whether the first hazard is of a higher rank of the second's family, which has the greater number.
+/// Whether `high` has a higher rank than `low` in the same family.
+///
+/// Source: docs/HAZARDS.md, "The hazards of the desk" (family, rank).
 fn outranks(high: &Hazard, low: &Hazard) -> bool
     ensures { result ≡ outranks high.now low.now }
 {
@@ -60,7 +63,8 @@ fn outranks(high: &Hazard, low: &Hazard) -> bool
     *family == *other && *under < *rank
 }
 
-/// Whether one of the rows is live, of a higher rank of the row's family, and overlaps it in its zone.
+/// Whether one of `rows` is live at `t`, of a higher rank of the family of `own`, and overlaps it
+/// in its zone.
 fn is_overlapped(rows: &[Row], t: Minute, own: &Row) -> bool
     ensures { result ≡ is_overlapped rows.now t (Some own.now) }
 {
@@ -72,8 +76,9 @@ fn is_overlapped(rows: &[Row], t: Minute, own: &Row) -> bool
     })
 }
 
-/// Whether the line's row is overlapped among the rows after the product, or its hazard yields to none.
-/// `rows` are the rows just before the product.
+/// Whether a UPG line has its higher row: one of `after` that is live, of a higher rank of the
+/// family, and overlaps the line's row in its zone. True for a hazard without a family or one that
+/// the desk does not issue; `rows` are the rows just before the product.
 pub fn has_higher(rows: &[Row], t: Minute, after: &[Row], line: &Line) -> bool
     ensures { result ≡ (not (may_yield line.now.event.hazard) || is_overlapped after.now t (row_at rows.now line.now.event line.now.zone)) }
 {
@@ -86,8 +91,9 @@ pub fn has_higher(rows: &[Row], t: Minute, after: &[Row], line: &Line) -> bool
     }
 }
 
-/// The first breach of a line that stands behind these earlier lines of its product. `rows` are the rows just before the product,
-/// `t` is its issue minute, and `higher` is whether a UPG line's row is overlapped after the product.
+/// Returns the first breach of a line of a product; `None` for a lawful or a routine line. `rows`
+/// are the rows just before the product, `t` is its issue minute, and `earlier` are the product's
+/// lines before this one. `higher` is what `has_higher` returns for it.
 pub fn breach_in(
     rows: &[Row],
     t: Minute,
@@ -106,8 +112,15 @@ pub fn breach_in(
     }
 }
 
-/// The lines of a product, each with its first breach, or None where it is lawful. `rows` are the rows just before the product,
-/// `t` is its issue minute. A routine line has no breach.
+/// Returns the lines of a product, each with its first breach, or `None` for a lawful or a routine
+/// line. `rows` are the rows just before the product, by zone, then event, and `t` is its issue
+/// minute.
+///
+/// # Errors
+///
+/// Out of memory.
+///
+/// Source: NWS Instruction 10-1703, P-VTEC action codes; docs/DECISIONS.md, "Lives".
 #[tactic(auto, unfolding(crate::specs::Products::breach_in))]
 pub fn judge(
     alloc: Global,

@@ -1,4 +1,7 @@
-//! The life of one event in one zone: which lines are lawful, and what they leave.
+//! The life of an event in a zone: which lines are lawful, and what they leave.
+//!
+//! For crates that judge the lines of products, read or planned. One begins with `line_of`, `judge`
+//! and `rows_after`; `life_step` is the table of lawful steps for one event in one zone.
 #![tactic(auto)]
 
 mod judging;

@@ -8,49 +8,70 @@ ghost use Rattle.event_life.specs.Table.{◌named◌, first_of, on_new, on_joini
 use crate::periods::{ends_after, same_at, same_end};
 use hazard_types::{Action, End, Flood, Line, Minute, Period};
 
-/// An event in a zone as the lines so far have left it: its period, its H-VTEC values, and whether a line has ended it.
+/// What the lines so far have left of an event in a zone.
 #[derive(Clone, Copy, Debug, PartialEq, Eq)]
 pub struct Life {
     pub period: Period,
     pub flood: Option<Flood>,
+    /// Whether a line (CAN, EXP or UPG) has ended it; else it is unended.
     pub ended: bool,
 }
 
-/// What stands around a line.
+/// The facts about other rows that a line is judged by.
 #[derive(Clone, Copy, Debug, PartialEq, Eq)]
 pub struct Around {
-    /// The event has rows just before the product.
+    /// The event has rows just before the product, ended or not.
     pub opened: bool,
     /// The event is open just before the product.
     pub going: bool,
     /// An event of an earlier year with this hazard and number is open just before the product.
     pub held: bool,
-    /// A row of the event that is live just before the product has the same period.
+    /// A live row of the event just before the product has the period of the line.
     pub same: bool,
-    /// A row of a higher rank of the family overlaps in the zone after the product, or the hazard has no facts or no family.
+    /// After the product a live row of a higher rank of the family overlaps the line's row in its
+    /// zone, or the hazard has no family, or the desk does not issue it.
     pub higher: bool,
 }
 
-/// Why a line is not lawful.
+/// Why a line is not lawful. An event is open while it has a row that no line has ended and whose
+/// end is at most half an hour past.
+///
+/// Source: docs/ARCHIVE.md, "The lines".
 #[derive(Clone, Copy, Debug, PartialEq, Eq)]
 pub enum Breach {
+    /// NEW of an event that has rows, or EXA or EXB in a zone where the event has an unended life.
     Reopened,
+    /// EXA or EXB of an event that is not open.
     NotOpening,
+    /// NEW with a number that an open event of an earlier year has.
     NumberHeld,
+    /// Zeros where a begin must be printed, or a begin that has passed where zeros must be.
     ZeroBegin,
+    /// A begin before the issue minute in a line that opens; EXP more than half an hour before the
+    /// end, or of a row until further notice.
     TooEarly,
+    /// An end that is not after the begin, or not after the issue minute.
     NoLength,
+    /// Another period where the action keeps it (CON, COR, CAN, EXP, UPG), or EXA with a period
+    /// that no live row of the event has.
     PeriodMoved,
+    /// EXT that keeps the period, or EXB with the period of a live row of the event.
     PeriodSame,
+    /// CON, COR or EXT where the event has no live row in the zone; CAN, EXP or UPG where it has no
+    /// row, or one that a line has ended.
     NotLive,
+    /// A begin after the issue minute for a row that has begun.
     BegunMoved,
+    /// CAN with half an hour or less to the end, or after it; EXP more than half an hour after the
+    /// end; UPG at the end or later.
     TooLate,
+    /// UPG where no live row of a higher rank of the family overlaps after the product.
     NoHigher,
-    /// A second line of one event and zone in one product. Whoever sees the whole product finds it.
+    /// A second line of an event and zone in one product. Found over the whole product only.
     Twice,
 }
 
-/// The printed begin, or the minute of the product where it is zero.
+/// Returns the printed begin of a line, or the issue minute `t` if it is zeros.
 pub(crate) fn begin_of(line: &Line, t: Minute) -> Minute
     ensures { result ≡ unwrap_or line.now.begin t }
 {
@@ -60,7 +81,8 @@ pub(crate) fn begin_of(line: &Line, t: Minute) -> Minute
     }
 }
 
-/// The first breach of a NEW line, where a life that no line has ended stands, or none does.
+/// Returns the first breach of a NEW line. `stands` is whether the event has an unended life in the
+/// zone.
 fn new_breach(stands: bool, line: &Line, t: Minute, around: Around) -> Option<Breach>
     ensures { result ≡ first_of (on_new stands line.now t around) }
 {
@@ -80,7 +102,8 @@ fn new_breach(stands: bool, line: &Line, t: Minute, around: Around) -> Option<Br
     }
 }
 
-/// The first breach of an EXA or EXB line, of which this is the last, where a life that no line has ended stands, or none does.
+/// Returns the first breach of an EXA or EXB line; `last` if `fails_last` and no other applies.
+/// `stands` is whether the event has an unended life in the zone.
 fn joining_breach(
     stands: bool,
     line: &Line,
@@ -107,14 +130,15 @@ fn joining_breach(
     }
 }
 
-/// The earlier of two minutes.
+/// Returns the earlier of two minutes.
 fn earlier(a: Minute, b: Minute) -> Minute
     ensures { result ≡ min a b }
 {
     if a.get() <= b.get() { a } else { b }
 }
 
-/// The period that a CON, COR or EXT line leaves.
+/// Returns the period after a CON, COR or EXT line. A begin of zeros keeps one that has come, and
+/// else is the issue minute.
 fn continued_period(life: &Life, line: &Line, t: Minute) -> Period
     ensures { result ≡ continued_period life.now line.now t }
 {
@@ -124,7 +148,7 @@ fn continued_period(life: &Life, line: &Line, t: Minute) -> Period
     }
 }
 
-/// Whether a begin is printed that is at most the minute.
+/// Whether a line prints a begin that is not after `t`.
 fn prints_past(line: &Line, t: Minute) -> bool
     ensures { result ≡ prints_past line.now.begin t }
 {
@@ -134,7 +158,7 @@ fn prints_past(line: &Line, t: Minute) -> bool
     }
 }
 
-/// Whether a begin after the minute is printed.
+/// Whether a line prints a begin after `t`.
 fn prints_later(line: &Line, t: Minute) -> bool
     ensures { result ≡ prints_later line.now.begin t }
 {
@@ -144,7 +168,7 @@ fn prints_later(line: &Line, t: Minute) -> bool
     }
 }
 
-/// The first breach of a CON, COR or EXT line, of which this is the last.
+/// Returns the first breach of a CON, COR or EXT line; `last` if `fails_last` and no other applies.
 fn continuing_breach(
     life: &Life,
     line: &Line,
@@ -177,7 +201,7 @@ fn stays(life: &Life, line: &Line, t: Minute) -> bool
     same_at(t, &life.period, &continued_period(life, line, t))
 }
 
-/// Whether the printed begin is a later one's, or zero for one that has begun.
+/// Whether a line prints a begin if `begin` is to come, and zeros if it has come.
 fn prints_begin(line: &Line, begin: Minute, t: Minute) -> bool
     ensures { result ≡ prints_begin line.now.begin begin t }
 {
@@ -187,7 +211,7 @@ fn prints_begin(line: &Line, begin: Minute, t: Minute) -> bool
     }
 }
 
-/// Whether another begin is printed.
+/// Whether a line prints another begin.
 fn moves_begin(line: &Line, begin: Minute) -> bool
     ensures { result ≡ moves_begin line.now.begin begin }
 {
@@ -197,7 +221,7 @@ fn moves_begin(line: &Line, begin: Minute) -> bool
     }
 }
 
-/// The first breach that CAN, EXP and UPG lines share.
+/// Returns the first breach of those that CAN, EXP and UPG lines share.
 fn ending_breach(life: &Life, line: &Line, t: Minute) -> Option<Breach>
     ensures { result ≡ first_of (on_ending life.now line.now t []) }
 {
@@ -212,7 +236,7 @@ fn ending_breach(life: &Life, line: &Line, t: Minute) -> Option<Breach>
     }
 }
 
-/// CAN comes before the last half hour.
+/// Returns `TooLate` for a CAN line with half an hour or less to the end, or after it.
 fn can_breach(life: &Life, t: Minute) -> Option<Breach>
     ensures { result ≡ first_of ((cancels_late life.now.period.end t named TooLate) ∷ []) }
 {
@@ -226,7 +250,8 @@ fn can_breach(life: &Life, t: Minute) -> Option<Breach>
     }
 }
 
-/// EXP comes within half an hour of the end.
+/// Returns `TooEarly` for an EXP line more than half an hour before the end, and `TooLate` for one
+/// more than half an hour after it.
 fn exp_breach(life: &Life, t: Minute) -> Option<Breach>
     ensures { result ≡ first_of ((expires_early life.now.period.end t named TooEarly) ∷ (expires_late life.now.period.end t named TooLate) ∷ []) }
 {
@@ -242,7 +267,8 @@ fn exp_breach(life: &Life, t: Minute) -> Option<Breach>
     }
 }
 
-/// UPG comes before the end, where a higher row takes the zone over.
+/// Returns `TooLate` for a UPG line at the end or later, and else `NoHigher` for one without a
+/// higher row.
 fn upg_breach(life: &Life, t: Minute, around: Around) -> Option<Breach>
     ensures { result ≡ first_of ((not (ends_after life.now.period.end t) named TooLate) ∷ (not around.higher named NoHigher) ∷ []) }
 {
@@ -255,7 +281,7 @@ fn upg_breach(life: &Life, t: Minute, around: Around) -> Option<Breach>
     }
 }
 
-/// The first breach of a line on a life.
+/// Returns the first breach of a line where its event has a life in the zone.
 fn breach_on_life(life: &Life, line: &Line, t: Minute, around: Around) -> Option<Breach>
     ensures { result ≡ first_of (on_life line.now.action life.now line.now t around) }
 {
@@ -275,7 +301,7 @@ fn breach_on_life(life: &Life, line: &Line, t: Minute, around: Around) -> Option
     }
 }
 
-/// The first breach of a line where there is no life.
+/// Returns the first breach of a line where its event has no life in the zone.
 fn breach_on_nothing(line: &Line, t: Minute, around: Around) -> Option<Breach>
     ensures { result ≡ first_of (on_nothing line.now.action line.now t around) }
 {
@@ -288,7 +314,7 @@ fn breach_on_nothing(line: &Line, t: Minute, around: Around) -> Option<Breach>
     }
 }
 
-/// The first breach of a line, or None where it is lawful.
+/// Returns the first breach of a line, or `None` if it is lawful.
 #[tactic(auto, unfolding(crate::specs::Table::breach_of_line))]
 pub(crate) fn breach_of_line(
     life: &Option<Life>,
@@ -304,7 +330,7 @@ pub(crate) fn breach_of_line(
     }
 }
 
-/// The values of a line replace those of the life; a line without leaves them.
+/// Returns the H-VTEC values after a line: its own, or those of the life if it has none.
 fn flood_after(life: &Life, line: &Line) -> Option<Flood>
     ensures { result ≡ flood_after life.now.flood line.now.flood }
 {
@@ -314,7 +340,7 @@ fn flood_after(life: &Life, line: &Line) -> Option<Flood>
     }
 }
 
-/// The life that a NEW, EXA or EXB line opens.
+/// Returns the life that a NEW, EXA or EXB line opens.
 fn opened_life(line: &Line, t: Minute) -> Life
     ensures { result ≡ record { period = opened_period line.now t; flood = line.now.flood; ended = false } }
 {
@@ -328,7 +354,7 @@ fn opened_life(line: &Line, t: Minute) -> Life
     }
 }
 
-/// The life that a lawful line leaves of another: NEW, EXA and EXB make it anew.
+/// Returns what a lawful line leaves of a life. NEW, EXA and EXB start a life over.
 fn left_of_life(life: &Life, line: &Line, t: Minute) -> Life
     ensures { result ≡ left_of_life line.now.action life.now line.now t }
 {
@@ -347,7 +373,7 @@ fn left_of_life(life: &Life, line: &Line, t: Minute) -> Life
     }
 }
 
-/// The life that a lawful line leaves.
+/// Returns the life that a lawful line leaves.
 #[tactic(auto, unfolding(crate::specs::Table::life_after))]
 pub(crate) fn life_after(life: &Option<Life>, line: &Line, t: Minute) -> Life
     ensures { result ≡ life_after life.now line.now t }
@@ -358,7 +384,14 @@ pub(crate) fn life_after(life: &Option<Life>, line: &Line, t: Minute) -> Life
     }
 }
 
-/// One step of a life: the first breach of the line at this issue minute, in the order of the table, or the life after it.
+/// Returns the life that a line leaves of `life`, which is `None` where the event has none in the
+/// zone. `t` is the issue minute of the product; the line is not ROU, which touches no life.
+///
+/// # Errors
+///
+/// The first breach of the line, in the order of the table. Never `Twice`.
+///
+/// Source: NWS Instruction 10-1703, P-VTEC action codes; docs/DECISIONS.md, "Lives".
 pub fn life_step(life: Option<Life>, line: &Line, t: Minute, around: Around) -> Result<Life, Breach>
     requires { line.now.action ≢ Rou }
     ensures { result ≡ step life line.now t around }

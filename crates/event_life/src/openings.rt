@@ -1,4 +1,4 @@
-//! The events that the lines of a product open, and the gaps in the numbers of events.
+//! The events that the lines of products open, and the gaps in their numbers.
 ghost use Rattle.std.specs.Prelude.{◌≡◌, ◌++◌, [], IfOk, OnOk};
 ghost use Rattle.std.specs.BTreeMap.{insert_entry};
 ghost use Rattle.event_life.specs.Lasts.{series_of, by_series, wanted_in, gap_in};
@@ -11,12 +11,12 @@ use hazard_types::{Action, Event, Hazard, Line, List, Oom};
 use std::alloc::Global;
 use std::collections::{BTreeMap, BTreeSet};
 
-/// A number was opened where another was wanted.
+/// An event that was opened with another number than the next of its hazard and year.
 #[derive(Clone, Copy, Debug, PartialEq, Eq)]
 pub struct Gap {
     /// The event that was opened.
     pub event: Event,
-    /// One more than the last number of its hazard and year, from 1.
+    /// The next number: one more than the last of its hazard and year, 1 for the first.
     pub wanted: u32,
 }
 
@@ -28,14 +28,19 @@ fn add_event(events: &mut BTreeSet<Event>, event: &Event) -> Result<(), Oom>
     Ok(())
 }
 
-/// Whether a line opens an event of its own.
+/// Whether a line opens an event.
 fn is_new(action: &Action) -> bool
     ensures { result ≡ is_new action.now }
 {
     matches!(action, Action::New)
 }
 
-/// The events that the lawful NEW lines of a product open, in order of events, each once.
+/// Returns the events that the lawful NEW lines of a product open, in the order of events, each
+/// once.
+///
+/// # Errors
+///
+/// Out of memory.
 pub fn opened_by(alloc: Global, judged: &[(Line, Option<Breach>)]) -> Result<List<Event>, Oom>
     ensures { IfOk result (λ events. events ≡ opened_by (lawful_of judged.now)) }
 {
@@ -50,14 +55,14 @@ pub fn opened_by(alloc: Global, judged: &[(Line, Option<Breach>)]) -> Result<Lis
     Ok(List::from_vec(events))
 }
 
-/// A hazard and a year, within which events are numbered.
+/// A hazard and a year, within which events are numbered from 1.
 #[derive(Clone, Copy, PartialEq, Eq, PartialOrd, Ord)]
 pub struct Series {
     pub hazard: Hazard,
     pub year: u16,
 }
 
-/// The last number that was opened of each hazard and year.
+/// The number that was opened last, of each hazard and year.
 type Lasts = BTreeMap<Series, u16>;
 
 fn series_of(event: &Event) -> Series
@@ -69,7 +74,7 @@ fn series_of(event: &Event) -> Series
     }
 }
 
-/// One more than the last number of the event's hazard and year, from 1.
+/// Returns one more than the last number of the event's hazard and year, 1 for the first.
 fn wanted_in(lasts: &Lasts, event: &Event) -> u32
     ensures { result ≡ wanted_in lasts.now.entries event.now }
 {
@@ -80,7 +85,7 @@ fn wanted_in(lasts: &Lasts, event: &Event) -> u32
     1 + u32::from(last)
 }
 
-/// The event's number is the last of its hazard and year.
+/// Sets the last number of the event's hazard and year.
 fn note_last(lasts: &mut Lasts, event: &Event) -> Result<(), Oom>
     ensures { OnOk result (lasts.new.entries ≡ insert_entry by_series lasts.old.entries (series_of event.now) event.now.etn) }
 {
@@ -88,7 +93,7 @@ fn note_last(lasts: &mut Lasts, event: &Event) -> Result<(), Oom>
     Ok(())
 }
 
-/// Adds the gap at an event, if there is one.
+/// Appends the gap at an event, if there is one.
 fn add_gap(found: &mut Vec<Gap>, lasts: &Lasts, event: &Event) -> Result<(), Oom>
     ensures { OnOk result (found.new.items ≡ found.old.items ++ gap_in lasts.now.entries event.now) }
 {
@@ -102,8 +107,15 @@ fn add_gap(found: &mut Vec<Gap>, lasts: &Lasts, event: &Event) -> Result<(), Oom
     Ok(())
 }
 
-/// Where the numbers of a hazard and year are not 1, 2, .., in the order of opening: each event whose number is not the wanted one.
-/// Counting goes on from the number found.
+/// Returns the gaps in the numbers of events, which are in the order of their opening: each event
+/// whose number is not one more than the last of its hazard and year. Counting goes on from its
+/// number.
+///
+/// # Errors
+///
+/// Out of memory.
+///
+/// Source: docs/ARCHIVE.md, "The lines".
 pub fn gaps(alloc: Global, opened: &[Event]) -> Result<List<Gap>, Oom>
     ensures { IfOk result (λ found. found ≡ gaps_from [] opened.now) }
 {

@@ -4,7 +4,7 @@ ghost use Rattle.event_life.specs.Periods.{ends_after, ends_within, same_end, ov
 
 use hazard_types::{End, Minute, Period, Row};
 
-/// Whether the end is after this minute. Until further notice always is.
+/// Whether `end` is after `t`. Until further notice always is.
 pub fn ends_after(end: &End, t: Minute) -> bool
     ensures { result ≡ ends_after end.now t }
 {
@@ -14,7 +14,7 @@ pub fn ends_after(end: &End, t: Minute) -> bool
     }
 }
 
-/// Whether the end is at most half an hour before this minute, or after it.
+/// Whether `end` is at most half an hour before `t`, or not before it.
 pub fn ends_within(end: &End, t: Minute) -> bool
     ensures { result ≡ ends_within end.now t }
 {
@@ -40,14 +40,17 @@ pub fn same_end(a: &End, b: &End) -> bool
     }
 }
 
-/// Whether each begins before the other ends.
+/// Whether each of two periods begins before the other ends.
 pub fn overlaps(p: &Period, q: &Period) -> bool
     ensures { result ≡ overlaps p.now q.now }
 {
     ends_after(&q.end, p.begin) && ends_after(&p.end, q.begin)
 }
 
-/// Whether the ends are equal, and the begins are equal or both at most this minute.
+/// Whether two periods are the same at `t`: their ends are equal, and their begins are equal or
+/// both not after `t`.
+///
+/// Source: docs/PRODUCTS.md, "Which action a line gets".
 pub fn same_at(t: Minute, p: &Period, q: &Period) -> bool
     ensures { result ≡ same_at t p.now q.now }
 {
@@ -56,14 +59,15 @@ pub fn same_at(t: Minute, p: &Period, q: &Period) -> bool
     same_end(&p.end, &q.end) && (b == c || (b <= now && c <= now))
 }
 
-/// Whether no line has ended the row, and this minute is before its end.
+/// Whether a row is live at `t`: no line has ended it, and its end is after `t`.
 pub fn is_live(row: &Row, t: Minute) -> bool
     ensures { result ≡ is_live t row.now }
 {
     !row.ended && ends_after(&row.period.end, t)
 }
 
-/// Whether no line has ended the row, and its end is at most half an hour past.
+/// Whether a row keeps its event open at `t`: no line has ended it, and its end is at most half an
+/// hour past.
 pub fn keeps_open(row: &Row, t: Minute) -> bool
     ensures { result ≡ keeps_open t row.now }
 {

@@ -1,4 +1,4 @@
-//! The rows that the lines of a product leave.
+//! The rows after the lines of a product.
 ghost use Rattle.std.specs.Prelude.{◌≡◌, ◌≤◌, ◌<◌, ◌&&◌, not, [], length, map, is_none, IfOk, OnOk, OnErr};
 ghost use Rattle.std.specs.Vec.{vec_capacity};
 ghost use Rattle.event_life.specs.Products.{by_key, put, row_of, row_after, is_routine, is_upgrade, speaks_of, is_second, put_but_upgrades, rows_for_higher, lawful_of, put_all};
@@ -12,14 +12,15 @@ use hazard_types::{Action, Event, Line, List, Minute, Oom, Row, Zone};
 use std::alloc::{AllocError, Global};
 use std::cmp::Ordering;
 
-/// How two rows stand in the order by zone, then event.
+/// Compares two rows by zone, then event.
 fn order(a: &Row, b: &Row) -> Ordering
     ensures { result ≡ by_key a.now b.now }
 {
     a.zone.cmp(&b.zone).then(a.event.order(&b.event))
 }
 
-/// The place of the row of this zone and event, or else the place where the row belongs.
+/// Returns `Ok` with the index of the row of this zone and event, or `Err` with the index where it
+/// belongs.
 fn seat_of(rows: &[Row], row: &Row) -> Result<usize, usize>
     ensures seat { IsSeat result rows.now }
     ensures seated { seated result row.now rows.now ≡ put row.now rows.now }
@@ -34,7 +35,13 @@ fn seat_of(rows: &[Row], row: &Row) -> Result<usize, usize>
     Err(rows.len())
 }
 
-/// Puts a row in the place of the one of its zone and event, or in its own place. Memory is wanted only where the rows outgrow their capacity.
+/// Replaces the row of the same zone and event, or inserts the row in order. `rows` are by zone,
+/// then event. When it fails, they are as before; it takes memory only if they outgrow their
+/// capacity.
+///
+/// # Errors
+///
+/// Out of memory.
 pub fn put(rows: &mut Vec<Row>, row: &Row) -> Result<(), Oom>
     ensures ok { OnOk result (rows.new.items ≡ put row.now rows.old.items) }
     ensures capacity { vec_capacity rows.old ≤ vec_capacity rows.new }
@@ -48,28 +55,28 @@ pub fn put(rows: &mut Vec<Row>, row: &Row) -> Result<(), Oom>
     Ok(())
 }
 
-/// Whether a line is a routine one, which touches no life.
+/// Whether an action is ROU, whose lines touch no life.
 pub fn is_routine(action: &Action) -> bool
     ensures { result ≡ is_routine action.now }
 {
     matches!(action, Action::Rou)
 }
 
-/// Whether a line says that a higher row takes the zone over.
+/// Whether an action is UPG.
 pub fn is_upgrade(action: &Action) -> bool
     ensures { result ≡ is_upgrade action.now }
 {
     matches!(action, Action::Upg)
 }
 
-/// Whether a line speaks of the event in the zone.
+/// Whether a line is of the event and zone; a routine line is of none.
 pub(crate) fn speaks_of(event: &Event, zone: &Zone, line: &Line) -> bool
     ensures { result ≡ speaks_of event.now zone.now line.now }
 {
     !is_routine(&line.action) && line.event == *event && line.zone == *zone
 }
 
-/// Whether one of the earlier lines speaks of the line's event in its zone.
+/// Whether one of the earlier lines is of the event and zone of `line`.
 pub(crate) fn is_second(earlier: &[Line], line: &Line) -> bool
     ensures { result ≡ is_second earlier.now line.now }
 {
@@ -78,7 +85,7 @@ pub(crate) fn is_second(earlier: &[Line], line: &Line) -> bool
         .any(|other| speaks_of(&line.event, &line.zone, other))
 }
 
-/// Whether a judged line is lawful and touches a life.
+/// Whether a line that was judged has no breach and is not ROU.
 pub fn is_lawful(judged: &(Line, Option<Breach>)) -> bool
     ensures { result ≡ (not (is_routine judged.now.0.action) && is_none judged.now.1) }
 {
@@ -86,7 +93,7 @@ pub fn is_lawful(judged: &(Line, Option<Breach>)) -> bool
     !is_routine(&line.action) && breach.is_none()
 }
 
-/// The row of a line's event in its zone with this life.
+/// Returns the row of a line's event and zone with this life.
 pub fn row_of(line: &Line, life: &Life) -> Row
     ensures { result ≡ row_of line.now life.now }
 {
@@ -99,15 +106,17 @@ pub fn row_of(line: &Line, life: &Life) -> Row
     }
 }
 
-/// The row that a lawful line leaves. `rows` are the rows just before its product, `t` is its issue minute.
+/// Returns the row that a lawful line leaves. `rows` are the rows just before the product, and `t`
+/// is its issue minute.
 pub fn row_after(rows: &[Row], t: Minute, line: &Line) -> Row
     ensures { result ≡ row_after rows.now t line.now }
 {
     row_of(line, &life_after(&life_at(rows, line), line, t))
 }
 
-/// Whether a line is lawful and no UPG, so that its row counts where a higher row is looked for.
-/// `rows` are the rows just before its product, `t` is its issue minute.
+/// Whether a line is lawful and neither UPG nor ROU, so that its row may be the higher row of a UPG
+/// line. `rows` are the rows just before the product, `t` is its issue minute, and `earlier` are
+/// the product's lines before this one.
 pub fn may_count(rows: &[Row], t: Minute, earlier: &[Line], line: &Line) -> bool
     ensures { result ≡ may_count rows.now t earlier.now line.now }
 {
@@ -118,7 +127,7 @@ pub fn may_count(rows: &[Row], t: Minute, earlier: &[Line], line: &Line) -> bool
         && breach.is_none()
 }
 
-/// The rows after the lawful lines other than UPG.
+/// Returns the rows after the lawful lines other than UPG.
 fn put_but_upgrades(alloc: Global, rows: &[Row], t: Minute, lines: &[Line]) -> Result<Vec<Row>, Oom>
     ensures { IfOk result (λ after. after.items ≡ put_but_upgrades rows.now t [] lines.now rows.now) }
 {
@@ -131,14 +140,14 @@ fn put_but_upgrades(alloc: Global, rows: &[Row], t: Minute, lines: &[Line]) -> R
     Ok(after)
 }
 
-/// Whether a UPG line speaks of the row.
+/// Whether a UPG line is of the row.
 fn is_upgraded(lines: &[Line], row: &Row) -> bool
     ensures { result ≡ is_upgraded lines.now row.now }
 {
     lines.iter().any(|line| is_upgrade(&line.action) && speaks_of(&row.event, &row.zone, line))
 }
 
-/// The row, ended where a UPG line speaks of it.
+/// Returns the row, as ended if a UPG line is of it.
 fn end_if_upgraded(lines: &[Line], row: &Row) -> Row
     ensures { result ≡ end_if_upgraded lines.now row.now }
 {
@@ -151,7 +160,11 @@ fn end_if_upgraded(lines: &[Line], row: &Row) -> Row
     }
 }
 
-/// The rows, where each that has a UPG line has ended.
+/// Returns the rows, where each is ended that a UPG line is of, lawful or not.
+///
+/// # Errors
+///
+/// Out of memory.
 pub fn end_upgraded(alloc: Global, lines: &[Line], rows: &[Row]) -> Result<Vec<Row>, AllocError>
     ensures { IfOk result (λ after. after.items ≡ map (end_if_upgraded lines.now) rows.now) }
 {
@@ -160,7 +173,10 @@ pub fn end_upgraded(alloc: Global, lines: &[Line], rows: &[Row]) -> Result<Vec<R
         .collect(alloc)
 }
 
-/// The rows by which UPG's higher row is judged: those after the lawful lines other than UPG, where each that has a UPG line has ended.
+/// Returns the rows among which the higher row of a UPG line is looked for: those after the lawful
+/// lines other than UPG, where each that has a UPG line is ended.
+///
+/// Source: docs/DECISIONS.md, "Lives" (NoHigher).
 #[tactic(auto, using(crate::proofs::SeatLemmas::end_upgraded_map))]
 pub(crate) fn rows_for_higher(
     alloc: Global,
@@ -174,7 +190,13 @@ pub(crate) fn rows_for_higher(
     Ok(end_upgraded(alloc, lines, &after)?)
 }
 
-/// The rows after a product whose lines were judged by the rows before it: each lawful line leaves its row, and no other line changes any.
+/// Returns the rows after a product, by zone, then event. `rows` are those just before it, and
+/// `judged` are its lines with their breaches: a lawful line leaves its row, and no other line
+/// changes one.
+///
+/// # Errors
+///
+/// Out of memory.
 pub fn rows_after(
     alloc: Global,
     rows: &[Row],
@@ -192,7 +214,7 @@ pub fn rows_after(
     Ok(List::from_vec(after))
 }
 
-/// The rows that no line has ended and whose end is until further notice or after the minute.
+/// Returns the rows that are live at `t`.
 fn live(alloc: Global, rows: &[Row], t: Minute) -> Result<Vec<Row>, AllocError>
     ensures { IfOk result (λ live. live.items ≡ shown_at t rows.now) }
 {
@@ -202,7 +224,12 @@ fn live(alloc: Global, rows: &[Row], t: Minute) -> Result<Vec<Row>, AllocError>
         .collect(alloc)
 }
 
-/// The rows that are shown at a minute: those that no line has ended and whose end is until further notice or after it.
+/// Returns the rows that are shown at `t`: no line has ended them, and their end is after `t` or
+/// until further notice.
+///
+/// # Errors
+///
+/// Out of memory.
 pub fn shown(alloc: Global, rows: &[Row], t: Minute) -> Result<List<Row>, Oom>
     ensures { IfOk result (λ shown. shown ≡ shown_at t rows.now) }
 {

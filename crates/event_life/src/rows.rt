@@ -1,4 +1,4 @@
-//! Rows by zone, then event: what stands around a line, read off the rows just before its product.
+//! Looks up rows: the event of a line, its life, and the other rows that it is judged by.
 ghost use Rattle.std.specs.Prelude.{◌≡◌, ◌&&◌};
 ghost use Rattle.std.specs.List.{list_any};
 ghost use Rattle.hazard_types.specs.Same.{same_event};
@@ -10,7 +10,7 @@ use crate::life::{Around, Life, begin_of};
 use crate::periods::{is_live, keeps_open, same_at};
 use hazard_types::{Action, Event, Hazard, Line, Minute, Period, Row, Vtec, Zone, year_of};
 
-/// The row of an event in a zone.
+/// Returns the row of an event in a zone.
 pub fn row_at(rows: &[Row], event: &Event, zone: &Zone) -> Option<Row>
     ensures { result ≡ row_at rows.now event.now zone.now }
 {
@@ -22,14 +22,15 @@ pub fn row_at(rows: &[Row], event: &Event, zone: &Zone) -> Option<Row>
     None
 }
 
-/// Whether the event has rows, ended ones among them.
+/// Whether an event has rows, ended or not.
 pub fn has_rows(rows: &[Row], event: &Event) -> bool
     ensures { result ≡ has_rows rows.now event.now }
 {
     rows.iter().any(|row| row.event == *event)
 }
 
-/// Whether the event has a row that no line has ended and whose end is at most half an hour past.
+/// Whether an event is open at `t`: it has a row that no line has ended, and whose end is at most
+/// half an hour past.
 pub fn is_open(rows: &[Row], t: Minute, event: &Event) -> bool
     ensures { result ≡ is_open rows.now t event.now }
 {
@@ -37,7 +38,7 @@ pub fn is_open(rows: &[Row], t: Minute, event: &Event) -> bool
         .any(|row| row.event == *event && keeps_open(row, t))
 }
 
-/// Whether an open event of an earlier year has this hazard and number.
+/// Whether an event of an earlier year with the same hazard and number is open at `t`.
 pub fn is_held(rows: &[Row], t: Minute, event: &Event) -> bool
     ensures { result ≡ is_held rows.now t event.now }
 {
@@ -49,7 +50,10 @@ pub fn is_held(rows: &[Row], t: Minute, event: &Event) -> bool
     })
 }
 
-/// The period that a NEW, EXA or EXB line opens: a zero begin is taken as the minute of the product.
+/// Returns the period that a NEW, EXA or EXB line opens in a product of minute `t`. A begin of
+/// zeros is `t`.
+///
+/// Source: docs/DECISIONS.md, "Lives" (EXA and EXB with a zero begin).
 pub fn opened_period(line: &Line, t: Minute) -> Period
     ensures { result ≡ opened_period line.now t }
 {
@@ -59,7 +63,7 @@ pub fn opened_period(line: &Line, t: Minute) -> Period
     }
 }
 
-/// Whether a live row of the event has this period.
+/// Whether a live row of the event has this period at `t`.
 pub fn has_period(rows: &[Row], t: Minute, event: &Event, period: &Period) -> bool
     ensures { result ≡ list_any (λ row. same_event row.event event.now && is_live t row && same_at t row.period period.now) rows.now }
 {
@@ -73,7 +77,7 @@ pub fn has_same(rows: &[Row], t: Minute, line: &Line) -> bool
     has_period(rows, t, &line.event, &opened_period(line, t))
 }
 
-/// Of two events the one of the later year.
+/// Returns the event of the later year, the first of two of one year.
 fn later_event(best: Option<Event>, event: &Event) -> Option<Event>
     ensures { result ≡ later_event best event.now }
 {
@@ -89,7 +93,7 @@ fn later_event(best: Option<Event>, event: &Event) -> Option<Event>
     }
 }
 
-/// Of the open events of a hazard and number the one of the greatest year.
+/// Returns the open event with this hazard and number; of several, that of the latest year.
 pub fn going_in(rows: &[Row], hazard: &Hazard, etn: u16, t: Minute) -> Option<Event>
     ensures { result ≡ going_in rows.now hazard.now etn t }
 {
@@ -102,8 +106,11 @@ pub fn going_in(rows: &[Row], hazard: &Hazard, etn: u16, t: Minute) -> Option<Ev
     best
 }
 
-/// The event that a text line speaks of: NEW opens one of the year of issue, another line is of the open one,
-/// or where there is none of the year of issue.
+/// Returns the event of a P-VTEC line, whose text has no year. It is the open event with this
+/// hazard and number, of the latest year; for NEW, or if none is open, the event of the year of the
+/// issue minute `t`. `rows` are the rows just before the product.
+///
+/// Source: docs/PRODUCTS.md, "Which action a line gets".
 pub fn event_of(rows: &[Row], t: Minute, vtec: &Vtec) -> Event
     ensures { result ≡ event_of rows.now t vtec.now }
 {
@@ -121,7 +128,7 @@ pub fn event_of(rows: &[Row], t: Minute, vtec: &Vtec) -> Event
     }
 }
 
-/// The life of a line's event in its zone.
+/// Returns the life of a line's event in its zone.
 pub fn life_at(rows: &[Row], line: &Line) -> Option<Life>
     ensures { result ≡ life_at rows.now line.now }
 {
@@ -135,7 +142,8 @@ pub fn life_at(rows: &[Row], line: &Line) -> Option<Life>
     }
 }
 
-/// What stands around a line, but for the higher row, which is handed in.
+/// Returns the facts about other rows that a line is judged by; `higher` is given. `rows` are the
+/// rows just before the product, and `t` is its issue minute.
 pub fn around(rows: &[Row], t: Minute, line: &Line, higher: bool) -> Around
     ensures { result ≡ around_but_higher rows.now t line.now higher }
 {

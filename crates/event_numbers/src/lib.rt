@@ -1,4 +1,7 @@
-//! The numbers (ETN) of events: for each hazard and year they count from 1.
+//! The event tracking numbers (ETN) of events, which count from 1 for each hazard and year.
+//!
+//! For crates that open events. One begins with `Numbers::next`, `Numbers::reserve` and
+//! `Numbers::commit`.
 #![tactic(auto)]
 
 ghost use Rattle.std.specs.Prelude.{◌≡◌, ◌+◌, ◌<◌, ◌≤◌, [], length, true, false, IfOk, IfErr, OnOk, OnErr};
@@ -19,7 +22,10 @@ struct Count {
     count: u16,
 }
 
-/// The numbers drawn so far, by hazard, then year.
+/// The numbers drawn so far: a count for each hazard and year.
+///
+/// Source: NWS Instruction 10-1703, P-VTEC event tracking number; docs/PRODUCTS.md, "Which action a
+/// line gets".
 #[derive(Drop)]
 pub struct Numbers {
     counted: Vec<Count>,
@@ -38,14 +44,14 @@ impl Model for Numbers {
     ghost invariant = { λ n. IsStrictlySortedBy by_count n.counted.items × AreNumbers n.counted.items };
 }
 
-/// How a count stands against a hazard and year.
+/// Compares the key of a count with a hazard and year.
 fn against(count: &Count, h: &Hazard, year: u16) -> Ordering
     ensures { result ≡ against h.now year count.now }
 {
     count.hazard.cmp(h).then(count.year.cmp(&year))
 }
 
-/// How many of the counts come before a hazard and year.
+/// Returns how many counts come before a hazard and year.
 fn counts_before(counted: &[Count], h: &Hazard, year: u16) -> usize
     requires { IsStrictlySortedBy by_count counted.now }
     ensures bound { result ≤ length counted.now }
@@ -58,7 +64,8 @@ fn counts_before(counted: &[Count], h: &Hazard, year: u16) -> usize
     )
 }
 
-/// The place of the count of a hazard and year, or else the place where it belongs.
+/// Returns `Ok` with the index of the count of a hazard and year, or `Err` with the index where it
+/// belongs.
 fn place_of(counted: &[Count], h: &Hazard, year: u16) -> Result<usize, usize>
     requires { IsStrictlySortedBy by_count counted.now }
     ensures found { IfOk result (IsPlaceOf h.now year counted.now) }
@@ -76,7 +83,7 @@ fn place_of(counted: &[Count], h: &Hazard, year: u16) -> Result<usize, usize>
     }
 }
 
-/// The numbers drawn of a hazard in a year.
+/// Returns how many numbers of a hazard were drawn in a year.
 fn count_of(counted: &[Count], h: &Hazard, year: u16) -> u16
     requires { IsStrictlySortedBy by_count counted.now }
     ensures { result ≡ count_of counted.now h.now year }
@@ -88,7 +95,7 @@ fn count_of(counted: &[Count], h: &Hazard, year: u16) -> u16
 }
 
 impl Numbers {
-    /// No number is drawn, and there is no memory for any.
+    /// Empty, without capacity.
     pub fn new(alloc: Global) -> Self
         ensures { result.counts ≡ [] }
     {
@@ -97,7 +104,11 @@ impl Numbers {
         }
     }
 
-    /// Takes memory for `n` draws.
+    /// Takes memory for `n` draws, of any hazards and years. When it fails, nothing changes.
+    ///
+    /// # Errors
+    ///
+    /// Out of memory.
     pub fn reserve(&mut self, n: usize) -> Result<(), Oom>
         ensures counts { self.new.counts ≡ self.old.counts }
         ensures spare { self.old.spare ≤ self.new.spare }
@@ -108,7 +119,8 @@ impl Numbers {
         Ok(())
     }
 
-    /// The number that a new event of the hazard gets in the year: one more than the numbers drawn. Above 9,999 the numbers are spent.
+    /// Returns the number that the next event of a hazard gets in a year: one more than the numbers
+    /// drawn. 10,000 means that all four-digit numbers are drawn.
     pub fn next(&self, h: Hazard, year: u16) -> u16
         ensures value { result ≡ count_of self.now.counts h year + 1 }
         ensures range { result ≤ 10000 }
@@ -116,7 +128,8 @@ impl Numbers {
         count_of(&self.counted, &h, year) + 1
     }
 
-    /// Draws the next number of the hazard in the year.
+    /// Draws the next number of a hazard in a year, which must be at most 9,999. It takes no memory
+    /// beyond what `reserve` took, and uses up at most one draw of that.
     pub fn commit(&mut self, h: Hazard, year: u16)
         requires number { count_of self.old.counts h year + 1 ≤ 9999 }
         requires spare { 0 < self.old.spare }
@@ -142,7 +155,8 @@ impl Numbers {
         }
     }
 
-    /// Draws the next number of the hazard and year of each of these events, in order.
+    /// Draws the next number of its hazard and year for each of the events, in order. It takes no
+    /// memory beyond what `reserve` took.
     pub fn draw(&mut self, events: &[Event])
         requires numbers { AreDrawnInOrder self.old.counts events.now }
         requires spare { length events.now ≤ self.old.spare }

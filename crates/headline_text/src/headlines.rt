@@ -11,10 +11,10 @@ use hazard_types::desk_hazards::name_of;
 use hazard_types::{Action, End, Hazard, LocalZone, Minute, Oom, SegLine, Text};
 use std::alloc::Global;
 
-/// The room that a headline mostly takes.
+/// The bytes that most headlines have at most, for which memory is taken at once.
 const HEADLINE_ROOM: usize = 128;
 
-/// The name of a hazard that the desk issues.
+/// Returns the name of a hazard that the desk issues.
 fn name_text(hazard: Hazard) -> &'static [u8]
     requires { IsSome (name_of hazard) }
     ensures { result.now ≡ name_text hazard }
@@ -25,7 +25,7 @@ fn name_text(hazard: Hazard) -> &'static [u8]
     }
 }
 
-/// That a hazard is in effect: `...N in effect until E...` and the like.
+/// Returns a headline such as `...N in effect until E...`.
 fn stated(alloc: Global, name: &[u8], effect: &[u8], period: &Text) -> Result<Text, Oom>
     ensures { IfOk result (λ text. text ≡ stated name.now effect.now period.now) }
 {
@@ -38,7 +38,7 @@ fn stated(alloc: Global, name: &[u8], effect: &[u8], period: &Text) -> Result<Te
     Ok(text)
 }
 
-/// What has become of a hazard: `...The N is cancelled...` and the like.
+/// Returns a headline such as `...The N is cancelled...`.
 fn told_text(alloc: Global, name: &[u8], what: &[u8]) -> Result<Text, Oom>
     ensures { IfOk result (λ text. text ≡ told name.now what.now) }
 {
@@ -50,7 +50,7 @@ fn told_text(alloc: Global, name: &[u8], what: &[u8]) -> Result<Text, Oom>
     Ok(text)
 }
 
-/// Whether an event will expire, or has expired.
+/// Returns ` will expire at E` before the end, and ` has expired` from the end on.
 fn expiry_text(alloc: Global, end: &End, zone: LocalZone, t: Minute) -> Result<Text, Oom>
     ensures { IfOk result (λ text. text ≡ expiry_of end.now zone t) }
 {
@@ -69,6 +69,7 @@ fn expiry_text(alloc: Global, end: &End, zone: LocalZone, t: Minute) -> Result<T
     }
 }
 
+/// Whether lines of this action have a WHEN bullet.
 fn has_when(action: Action) -> bool
     ensures { result ≡ has_when action }
 {
@@ -78,8 +79,8 @@ fn has_when(action: Action) -> bool
     )
 }
 
-/// The words of a line's period, which a headline and a WHEN bullet say.
-/// CAN, EXP, UPG and ROU say none, an empty text.
+/// Returns the words of a line's period, which its headline and its WHEN bullet share. Empty for
+/// CAN, EXP, UPG and ROU.
 fn said_period(alloc: Global, l: &SegLine, zone: LocalZone, t: Minute) -> Result<Text, Oom>
     ensures { IfOk result (λ text. text ≡ said_period l.now zone t) }
 {
@@ -90,7 +91,7 @@ fn said_period(alloc: Global, l: &SegLine, zone: LocalZone, t: Minute) -> Result
     }
 }
 
-/// The headline with the words of its period, before it is wrapped.
+/// Returns the headline of a line before it is wrapped. `period` are the words of its period.
 #[tactic(auto, unfolding(crate::specs::Headlines::headline_of))]
 fn headline_with(
     alloc: Global,
@@ -118,7 +119,14 @@ fn headline_with(
     }
 }
 
-/// The headline of a line in a product of minute `t`, wrapped, with LF between its lines and none at the end. ROU has none, an empty text.
+/// Returns the headline of a line in a product of minute `t`, wrapped, with LF between its lines
+/// and none at the end. Times are local times of `zone`. Empty for ROU.
+///
+/// # Errors
+///
+/// Out of memory.
+///
+/// Source: NWS Instruction 10-1701, segmented products: headlines; docs/PRODUCTS.md, "Headlines".
 pub fn headline(alloc: Global, l: &SegLine, zone: LocalZone, t: Minute) -> Result<Text, Oom>
     requires named { IsSome (name_of l.now.event.hazard) }
     requires expiry { l.now.action ≡ Action.Exp → IsTrue (is_minute l.now.end) }
@@ -129,7 +137,7 @@ pub fn headline(alloc: Global, l: &SegLine, zone: LocalZone, t: Minute) -> Resul
     wrapped(alloc, text.as_slice())
 }
 
-/// Adds a text, its first letter in upper case.
+/// Appends a text with its first letter in upper case.
 fn push_capital(out: &mut Text, text: &[u8]) -> Result<(), Oom>
     ensures { OnOk result (out.new ≡ out.old ++ capital text.now) }
 {
@@ -142,7 +150,7 @@ fn push_capital(out: &mut Text, text: &[u8]) -> Result<(), Oom>
     }
 }
 
-/// The WHEN bullet with the words of its period, before it is wrapped.
+/// Returns the WHEN bullet of a line before it is wrapped. `period` are the words of its period.
 fn when_with(alloc: Global, l: &SegLine, period: &Text) -> Result<Text, Oom>
     ensures { IfOk result (λ text. text ≡ when_with l.now.action period.now) }
 {
@@ -156,7 +164,15 @@ fn when_with(alloc: Global, l: &SegLine, period: &Text) -> Result<Text, Oom>
     Ok(text)
 }
 
-/// The WHEN bullet of a line in a product of minute `t`, as `* WHEN...Until 600 PM EST Wed Jan 3.`, wrapped. CAN, EXP, UPG and ROU have none, an empty text.
+/// Returns the WHEN bullet of a line in a product of minute `t`, as
+/// `* WHEN...Until 600 PM EST Wed Jan 3.`, wrapped, with LF between its lines and none at the end.
+/// Times are local times of `zone`. Empty for CAN, EXP, UPG and ROU.
+///
+/// # Errors
+///
+/// Out of memory.
+///
+/// Source: docs/PRODUCTS.md, "Headlines".
 #[tactic(auto, using(crate::proofs::Saying::when_is))]
 pub fn when_bullet(alloc: Global, l: &SegLine, zone: LocalZone, t: Minute) -> Result<Text, Oom>
     ensures { IfOk result (λ text. text ≡ wrapped (when_of l.now zone t)) }
@@ -166,14 +182,18 @@ pub fn when_bullet(alloc: Global, l: &SegLine, zone: LocalZone, t: Minute) -> Re
     wrapped(alloc, text.as_slice())
 }
 
-/// What is said of a line in a product: its headline and its WHEN bullet, wrapped.
+/// The headline and the WHEN bullet of a line, wrapped; each may be empty.
 #[derive(Debug, Drop)]
 pub struct LineTexts {
     pub headline: Text,
     pub when: Text,
 }
 
-/// What `headline` and `when_bullet` give of a line, whose period is put into words once.
+/// Returns what `headline` and `when_bullet` return for a line, whose period is written once.
+///
+/// # Errors
+///
+/// Out of memory.
 #[tactic(auto, using(crate::proofs::Saying::when_is))]
 pub fn line_texts(alloc: Global, l: &SegLine, zone: LocalZone, t: Minute) -> Result<LineTexts, Oom>
     requires named { IsSome (name_of l.now.event.hazard) }

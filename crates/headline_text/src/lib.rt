@@ -1,4 +1,7 @@
-//! Headlines, the words of periods, wrapped text and lines of names.
+//! Headlines, WHEN bullets, the words of periods, wrapped text, and lines of zone names.
+//!
+//! For crates that write the bodies of products. One begins with `line_texts`, `wrapped` and
+//! `name_lines`.
 #![tactic(auto)]
 
 mod headlines;

@@ -1,14 +1,16 @@
-//! Names of zones are laid on lines.
+//! Writes the names of zones on lines.
 ghost use Rattle.std.specs.Prelude.{◌≡◌, ◌≤◌, ◌<◌, ◌^◌, ◌++◌, map, length, OnOk, IfOk};
 ghost use Rattle.headline_text.specs.NameLines.{name_part, name_column, name_lines};
 
 use hazard_types::{Oom, Text};
 use std::alloc::Global;
 
-/// The most characters of a line.
+/// The greatest length of a line, in characters.
 const WIDTH: usize = 66;
 
-/// Puts a name and its hyphen on the line, or on the next; the answer is the column behind them.
+/// Appends a name and its hyphen, after an LF if the line has a name already and would become
+/// longer than `WIDTH`. `column` is the length of the line before, and the length after is
+/// returned.
 fn put(out: &mut Text, column: usize, name: &[u8]) -> Result<usize, Oom>
     ensures text { OnOk result (out.new ≡ out.old ++ name_part column name.now) }
     ensures column { IfOk result (λ next. next ≡ name_column column name.now) }
@@ -26,7 +28,16 @@ fn put(out: &mut Text, column: usize, name: &[u8]) -> Result<usize, Oom>
     })
 }
 
-/// The names, each followed by a hyphen, on lines of at most 66 characters, with LF between them and none at the end. A name is never broken.
+/// Returns the names, each with a hyphen after it, on lines with LF between them and none at the
+/// end. A line has at most 66 characters, unless one name with its hyphen is longer: no name is
+/// broken.
+///
+/// # Errors
+///
+/// Out of memory.
+///
+/// Source: NWS Instruction 10-1701, segmented products; docs/DECISIONS.md, "Headlines and wrapped
+/// text".
 #[tactic(auto, unfolding(crate::specs::NameLines::name_lines))]
 pub fn name_lines(alloc: Global, names: &[&[u8]]) -> Result<Text, Oom>
     ensures { IfOk result (λ lines. lines ≡ name_lines (map (λ name. name.now) names.now)) }

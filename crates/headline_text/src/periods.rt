@@ -1,4 +1,4 @@
-//! When an event is in effect, in words.
+//! The period of an event, in words.
 ghost use Rattle.std.specs.Prelude.{◌≡◌, [], IfOk};
 ghost use Rattle.headline_text.specs.Periods.{until_of, from_of, period_of};
 
@@ -6,16 +6,17 @@ use desk_clock::local_short;
 use hazard_types::{End, LocalZone, Minute, Oom, Text};
 use std::alloc::Global;
 
-/// The room that the words of a period mostly take.
+/// The bytes that most periods have at most, for which memory is taken at once.
 pub(crate) const PERIOD_ROOM: usize = 64;
 
-/// An empty text with room for so many bytes.
+/// Returns an empty text with a capacity of `room` bytes.
 pub(crate) fn empty_text(alloc: Global, room: usize) -> Result<Text, Oom>
     ensures { IfOk result (λ text. text ≡ []) }
 {
     Ok(Text::from_vec(Vec::with_capacity(alloc, room)?))
 }
 
+/// Returns `until E`, or `until further notice`.
 fn until_text(alloc: Global, zone: LocalZone, end: &End) -> Result<Text, Oom>
     ensures { IfOk result (λ text. text ≡ until_of zone end.now) }
 {
@@ -30,6 +31,7 @@ fn until_text(alloc: Global, zone: LocalZone, end: &End) -> Result<Text, Oom>
     }
 }
 
+/// Returns `from B to E`, or `from B until further notice`.
 fn from_text(alloc: Global, zone: LocalZone, begin: Minute, end: &End) -> Result<Text, Oom>
     ensures { IfOk result (λ text. text ≡ from_of zone begin end.now) }
 {
@@ -46,7 +48,15 @@ fn from_text(alloc: Global, zone: LocalZone, begin: Minute, end: &End) -> Result
     Ok(text)
 }
 
-/// The words of a period in a product of minute `t`: `until E`, or `from B to E` where the begin is still to come; `until further notice` where there is no end. A begin of None has begun.
+/// Returns the words of a period in a product of minute `t`: `until E` if its begin has come, else
+/// `from B to E`, and without an end `until further notice` or `from B until further notice`. A
+/// begin of `None` has come. Times are local times of `zone`, as `600 PM EST Wed Jan 3`.
+///
+/// # Errors
+///
+/// Out of memory.
+///
+/// Source: docs/PRODUCTS.md, "Headlines"; docs/DECISIONS.md, "Headlines and wrapped text".
 #[tactic(auto, unfolding(crate::specs::Periods::period_of))]
 pub fn period_text(
     alloc: Global,

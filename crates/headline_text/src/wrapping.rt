@@ -1,20 +1,21 @@
-//! Text is wrapped.
+//! Wraps texts.
 ghost use Rattle.std.specs.Prelude.{◌≡◌, ◌≤◌, ◌<◌, [], ◌∷◌, ◌++◌, length, true, OnOk, IfOk};
 ghost use Rattle.headline_text.specs.Wrapping.{room, fits_behind, lead, start, fill, behind, part, column_behind, wrapped, Follows};
 
 use hazard_types::{Oom, Text};
 use std::alloc::Global;
 
-/// The most characters of a line.
+/// The greatest length of a line, in characters.
 const WIDTH: usize = 66;
 
-/// The most characters of a word that is never cut.
+/// The greatest length of a word that is never cut, in characters.
 const WHOLE: usize = 64;
 
-/// What begins a line after the first.
+/// The bytes between a line and the next, which starts with two blanks.
 const NEXT_LINE: &[u8] = b"\n  ";
 
-/// Whether a word fits behind the word before it and one blank.
+/// Whether a word fits on the line after one blank. A word that may be cut fits if one character
+/// does.
 fn fits_behind(column: usize, word: &[u8]) -> bool
     requires { column ≤ 66 }
     ensures { result ≡ fits_behind column word.now }
@@ -23,7 +24,8 @@ fn fits_behind(column: usize, word: &[u8]) -> bool
     column + 1 + room <= WIDTH
 }
 
-/// Begins a word at a column; the answer is the column at which it begins.
+/// Appends what comes before a word: nothing on an empty line, a blank, or the start of the next
+/// line. Returns the column at which the word starts.
 fn begin(out: &mut Text, column: usize, word: &[u8]) -> Result<usize, Oom>
     requires { column ≤ 66 }
     ensures text { OnOk result (out.new ≡ out.old ++ lead column word.now) }
@@ -42,7 +44,7 @@ fn begin(out: &mut Text, column: usize, word: &[u8]) -> Result<usize, Oom>
     }
 }
 
-/// Puts a character on the line, or on the next where it is full; the answer is the column behind it.
+/// Appends a character, on the next line if this one is full. Returns the column after it.
 fn put_byte(out: &mut Text, column: usize, byte: u8) -> Result<usize, Oom>
     requires { column ≤ 66 }
     ensures text { OnOk result (out.new ≡ out.old ++ fill column (byte ∷ [])) }
@@ -59,7 +61,7 @@ fn put_byte(out: &mut Text, column: usize, byte: u8) -> Result<usize, Oom>
     }
 }
 
-/// Puts characters on the line, and on the next ones where it is full; the answer is the column behind them.
+/// Appends characters, on the next lines if this one is full. Returns the column after them.
 fn fill(out: &mut Text, column: usize, word: &[u8]) -> Result<usize, Oom>
     requires { column ≤ 66 }
     ensures text { OnOk result (out.new ≡ out.old ++ fill column word.now) }
@@ -77,7 +79,7 @@ fn fill(out: &mut Text, column: usize, word: &[u8]) -> Result<usize, Oom>
     Ok(next)
 }
 
-/// Puts a word on the line, or on the next; the answer is the column behind it.
+/// Appends a word, on the next line if it does not fit. Returns the column after it.
 fn put(out: &mut Text, column: usize, word: &[u8]) -> Result<usize, Oom>
     requires { column ≤ 66 }
     ensures text { OnOk result (out.new ≡ out.old ++ part column word.now) }
@@ -91,8 +93,8 @@ fn put(out: &mut Text, column: usize, word: &[u8]) -> Result<usize, Oom>
     fill(out, first, word)
 }
 
-/// Whether the word that ends at `end` follows on the line of the one that ends at `to`,
-/// behind the one blank that parts them in the text.
+/// Whether the word from `start` to `end` comes after one blank in the text, and fits on the line
+/// in the same way. `to` is the end of the word before it, which ends at `column`.
 fn follows(text: &[u8], column: usize, to: usize, start: usize, end: usize) -> bool
     requires column { column ≤ 66 }
     requires to { to ≤ end }
@@ -106,7 +108,15 @@ fn follows(text: &[u8], column: usize, to: usize, start: usize, end: usize) -> b
     text[to] == b' '
 }
 
-/// The text on lines of at most 66 characters, with LF between them and none at the end. Blanks part words, a run of them is one parting; each line after the first begins with two blanks, and a word of more than 64 characters is cut where the line is full.
+/// Returns the words of a text, which spaces separate, on lines of at most 66 characters, with LF
+/// between them and none at the end. Each line after the first starts with two blanks, and a word
+/// of more than 64 characters is cut where the line is full. A text without a word has no line.
+///
+/// # Errors
+///
+/// Out of memory.
+///
+/// Source: docs/DECISIONS.md, "Headlines and wrapped text".
 pub fn wrapped(alloc: Global, text: &[u8]) -> Result<Text, Oom>
     ensures { IfOk result (λ lines. lines ≡ wrapped text.now) }
 {

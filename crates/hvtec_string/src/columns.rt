@@ -1,7 +1,9 @@
-//! Where the columns stand.
+//! The columns of an H-VTEC string, as indices of its bytes.
+//!
+//! Source: NWS Instruction 10-1703, H-VTEC.
 use std::ops::Range;
 
-/// How many characters an H-VTEC text has.
+/// The length of an H-VTEC string, in bytes.
 pub const LENGTH: usize = 54;
 
 pub const LOCATION: Range<usize> = 1..6;

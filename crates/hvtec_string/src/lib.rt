@@ -1,4 +1,6 @@
-//! H-VTEC texts: `/nwsli.s.ic.yymmddThhnnZ.yymmddThhnnZ.yymmddThhnnZ.fr/`.
+//! H-VTEC strings, as `/nwsli.s.ic.yymmddThhnnZ.yymmddThhnnZ.yymmddThhnnZ.fr/`, read and written.
+//!
+//! For crates that read or write products of floods. One begins with `read_hvtec` and `hvtec_text`.
 #![tactic(auto)]
 
 mod columns;

@@ -1,4 +1,4 @@
-//! H-VTEC texts are read.
+//! Reads H-VTEC strings.
 ghost use Rattle.std.specs.Prelude.{◌≡◌, ◌&&◌, ◌||◌, ◌≤◌, ◌<◌, ◌==◌, ◌∷◌, [], length, slice_index, codes, bytes_eq, true, Some, IfSome};
 ghost use Rattle.hazard_types.specs.declared.line.Flood.{Flood as Values};
 ghost use Rattle.hvtec_string.specs.Columns.{separators, has_columns, cause_at, values, hvtec_of, IsHvtec};
@@ -6,7 +6,7 @@ ghost use Rattle.hvtec_string.specs.Columns.{separators, has_columns, cause_at, 
 use crate::columns::{BEGIN, CAUSE, CREST, END, LENGTH, LOCATION, SEVERITY, STATUS};
 use hazard_types::{Cause, Flood, Minute, Severity, Status, location_in, time_in};
 
-/// The cause of two letters; None where they are none.
+/// Returns the immediate cause, or `None` if a character is not A-Z.
 fn cause_of(text: &[u8]) -> Option<Cause>
     requires { length text.now ≡ 2 }
     ensures { result ≡ cause_at text.now }
@@ -14,7 +14,7 @@ fn cause_of(text: &[u8]) -> Option<Cause>
     Cause::new([text[0], text[1]])
 }
 
-/// Whether length and separators are those of an H-VTEC text.
+/// Whether length and separators are those of an H-VTEC string.
 #[tactic(auto, unfolding(crate::specs::Columns::has_columns))]
 fn has_columns(bytes: &[u8]) -> bool
     ensures value { result ≡ has_columns bytes.now }
@@ -29,7 +29,7 @@ fn has_columns(bytes: &[u8]) -> bool
     separators == *b"/....../"
 }
 
-/// The values, where each column has one.
+/// Returns the values of all columns, or `None` if one of them is missing.
 fn values(
     site: Option<[u8; 5]>,
     severity: Option<Severity>,
@@ -70,12 +70,15 @@ fn values_of(bytes: &[u8]) -> Option<Flood>
     )
 }
 
-/// The values of an H-VTEC text; None where the bytes are none.
+/// Parses an H-VTEC string: 54 bytes, from slash to slash, without a line end. `None` if `bytes` is
+/// not one. Any two capital letters are a cause, and a time of zeros is `None`.
+///
+/// Source: NWS Instruction 10-1703, H-VTEC.
 #[tactic(auto, using(crate::proofs::Laying::values_found, crate::proofs::Laying::hvtec_hit))]
 pub fn read_hvtec(bytes: &[u8]) -> Option<Flood>
-    // The text has these values.
+    // The bytes have these values.
     ensures found { IfSome result (IsHvtec bytes.now) }
-    // Each text is read, so None comes exactly where the bytes are no H-VTEC text.
+    // Every H-VTEC string is read, so `None` means that the bytes are not one.
     ensures only { (h : Values) → IsHvtec bytes.now h → result ≡ Some h }
     // The same as one function of the bytes.
     ensures exact { result ≡ hvtec_of bytes.now }

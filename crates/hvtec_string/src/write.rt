@@ -1,4 +1,4 @@
-//! H-VTEC texts are written.
+//! Writes H-VTEC strings.
 ghost use Rattle.std.specs.Prelude.{◌≡◌, IsTrue, List as Seq, ℕ, length};
 ghost use Rattle.hazard_types.specs.Places.{are_letters};
 ghost use Rattle.hazard_types.specs.Characters.{is_location};
@@ -8,7 +8,7 @@ ghost use Rattle.hvtec_string.specs.Columns.{hvtec_text, IsHvtec};
 use crate::columns::{BEGIN, CAUSE, CREST, END, LENGTH, LOCATION, SEVERITY, STATUS};
 use hazard_types::{Flood, time_text};
 
-/// The template, filled.
+/// Returns the template with the values in its columns.
 #[tactic(auto, unfolding(crate::specs::Columns::hvtec_text))]
 fn filled(h: &Flood) -> [u8; LENGTH]
     ensures value { result ≡ hvtec_text h.now }
@@ -28,20 +28,24 @@ fn filled(h: &Flood) -> [u8; LENGTH]
     text
 }
 
-/// The 54 columns as the values fill them, whatever bytes the location has: a text by `hvtec_text`, where it has its form.
+/// Returns the 54 columns of `h`, whatever bytes its site has. This is `hvtec_text` without its
+/// condition on the site.
 pub fn hvtec_columns(h: &Flood) -> [u8; LENGTH]
     ensures { result ≡ hvtec_text h.now }
 {
     filled(h)
 }
 
-/// The 54 characters of these values.
+/// Returns the H-VTEC string of `h`, 54 bytes from slash to slash, without a line end. A time of
+/// `None` is written as zeros, `000000T0000Z`.
+///
+/// Source: NWS Instruction 10-1703, H-VTEC.
 pub fn hvtec_text(h: &Flood) -> [u8; LENGTH]
     requires { IsTrue (is_location h.now.site) }
     ensures value { result ≡ hvtec_text h.now }
     // Each column has what the values say.
     ensures columns { IsHvtec result h.now }
-    // No other text has these values.
+    // No other bytes have these values.
     ensures only { (bytes : Seq ℕ) → IsHvtec bytes h.now → bytes ≡ result }
 {
     filled(h)

@@ -1,4 +1,8 @@
-//! Frames of products: what a reader takes from the lines of a transmitted text.
+//! The frames of products: heading, identifier, issue minute, and the zones, expiry and VTEC lines
+//! of each segment, read from a text and written as one.
+//!
+//! For crates that read or write whole products. One begins with `read_frame`, `split_products` and
+//! `frame_text`.
 #![tactic(auto)]
 
 mod frame;

@@ -1,4 +1,4 @@
-//! Frames are read.
+//! Reads frames.
 ghost use Rattle.std.specs.Prelude.{◌≡◌, ◌⊎◌, ℕ, List as Seq, ◌≤◌, ◌<◌, ◌^◌, ◌+◌, length, [], ◌∷◌, drop, IfOk, IfSome, OnOk, is_some, take};
 ghost use Rattle.std.specs.List.{All};
 ghost use Rattle.hazard_types.specs.Given.{Gives};
@@ -21,6 +21,7 @@ use hazard_types::{
 };
 use std::alloc::Global;
 
+/// Whether the line starts as a heading does, up to the blank before the day stamp.
 fn is_front(line: &[u8]) -> bool
     requires { 12 ≤ length line.now }
     ensures { result ≡ is_front line.now }
@@ -39,6 +40,7 @@ fn is_front(line: &[u8]) -> bool
         && is_blank(line[11])
 }
 
+/// Whether the three bytes from `i` on are capital letters.
 fn is_bbb(line: &[u8], i: usize) -> bool
     requires { i + 3 ≤ length line.now }
     ensures { result ≡ is_bbb line.now i }
@@ -48,6 +50,7 @@ fn is_bbb(line: &[u8], i: usize) -> bool
         && line[i + 2].is_ascii_uppercase()
 }
 
+/// Returns the values of a heading line whose `BBB` was read before.
 #[tactic(auto, unfolding(crate::specs::Parts::heading_by))]
 fn heading_by(line: &[u8], bbb: Option<[u8; 3]>) -> Option<Heading>
     requires { 18 ≤ length line.now }
@@ -67,7 +70,7 @@ fn heading_by(line: &[u8], bbb: Option<[u8; 3]>) -> Option<Heading>
     })
 }
 
-/// What a heading line says, if the line is one.
+/// Returns the values of a heading line, if `line` is one.
 #[tactic(auto, unfolding(crate::specs::Parts::heading_of))]
 pub fn heading_of(line: &[u8]) -> Option<Heading>
     ensures { result ≡ heading_of line.now }
@@ -81,14 +84,14 @@ pub fn heading_of(line: &[u8]) -> Option<Heading>
     None
 }
 
-/// Whether these bytes begin as a heading line does.
+/// Whether the bytes start as a heading line does.
 fn may_be_heading(rest: &[u8]) -> bool
     ensures { result ≡ may_be_heading rest.now }
 {
     rest.len() >= 12 && is_front(rest)
 }
 
-/// Whether the first line of these bytes is a heading line.
+/// Whether the first line of `bytes` is a heading line, as `WWUS41 KLWX 031530`.
 #[tactic(auto, using(crate::proofs::LineFronts::no_heading))]
 pub fn is_heading(bytes: &[u8]) -> bool
     ensures { result ≡ is_some (heading_of (line_of bytes.now)) }
@@ -105,7 +108,7 @@ fn is_identifier(line: &[u8]) -> bool
     line.len() >= 4 && line.len() <= 6 && is_bbb(line, 0) && are_name_bytes(&line[3..])
 }
 
-/// The minute that a line reads as, if it is a local line.
+/// Returns the minute of a local line, if `line` is one.
 #[tactic(auto, unfolding(crate::specs::Parts::local_at))]
 fn local_at(line: &[u8]) -> Option<Minute>
     ensures { result ≡ local_at line.now }
@@ -125,7 +128,7 @@ fn begins_by_digit(rest: &[u8]) -> bool
     }
 }
 
-/// The minute that the first line of these bytes reads as, if it is a local line.
+/// Returns the minute of the first line of `rest`, if that is a local line.
 #[tactic(auto, using(crate::proofs::LineFronts::no_local))]
 fn issue_at(rest: &[u8]) -> Option<Minute>
     ensures { result ≡ local_at (line_of rest.now) }
@@ -136,14 +139,14 @@ fn issue_at(rest: &[u8]) -> Option<Minute>
     local_at(line_of(rest))
 }
 
-/// Whether some minute within 720 of the issue, either side, has the day stamp.
+/// Whether a minute at most 720 minutes before or after the issue has the day stamp.
 fn is_near(issue: Minute, day: DayStamp) -> bool
     ensures { result ≡ is_near issue day }
 {
     near(issue, day)
 }
 
-/// Whether the line that begins at a place is a heading line.
+/// Whether the line that starts at byte `at` is a heading line.
 fn is_heading_at(bytes: &[u8], at: usize) -> bool
     requires { at ≤ length bytes.now }
     ensures { result ≡ is_some (heading_of (line_at bytes.now at)) }
@@ -151,7 +154,7 @@ fn is_heading_at(bytes: &[u8], at: usize) -> bool
     is_heading(&bytes[at..])
 }
 
-/// Where the first heading line begins behind the first line.
+/// Returns where the first heading line after the first line starts.
 fn later_heading(bytes: &[u8]) -> Option<usize>
     ensures value { result ≡ first_heading bytes.now (starts_from 0 bytes.now) }
     ensures within { IfSome result (λ at. at ≤ length bytes.now) }
@@ -166,7 +169,7 @@ fn later_heading(bytes: &[u8]) -> Option<usize>
     None
 }
 
-/// Where the first heading line begins.
+/// Returns where the first heading line starts.
 fn first_heading(bytes: &[u8]) -> Option<usize>
     ensures value { result ≡ first_heading bytes.now (starts bytes.now) }
     ensures within { IfSome result (λ at. at ≤ length bytes.now) }
@@ -177,7 +180,7 @@ fn first_heading(bytes: &[u8]) -> Option<usize>
     later_heading(bytes)
 }
 
-/// Which is the first line that is not empty.
+/// Returns the index of the first of the lines at `places` that is not empty.
 fn full_index(bytes: &[u8], places: &[usize]) -> Option<usize>
     requires { All (λ start. start ≤ length bytes.now) places.now }
     ensures value { result ≡ full_index bytes.now 0 places.now }
@@ -191,7 +194,7 @@ fn full_index(bytes: &[u8], places: &[usize]) -> Option<usize>
     None
 }
 
-/// The minute of the first local line.
+/// Returns the minute of the first local line at `places`.
 fn issue_in(bytes: &[u8], places: &[usize]) -> Option<Minute>
     requires { All (λ start. start ≤ length bytes.now) places.now }
     ensures value { result ≡ issue_in bytes.now places.now }
@@ -205,7 +208,8 @@ fn issue_in(bytes: &[u8], places: &[usize]) -> Option<Minute>
     None
 }
 
-/// Lists where the lines of a product begin behind its heading, which the bytes begin with. Returns where it ends.
+/// Lists where the lines after the heading start, of the product that `rest` starts with. Returns
+/// the length of the product in bytes.
 fn list_lines(places: &mut Vec<usize>, rest: &[u8]) -> Result<usize, Oom>
     requires { places.old.items ≡ [] }
     ensures listed { OnOk result (places.new.items ≡ starts_from 0 (product_in rest.now)) }
@@ -223,7 +227,7 @@ fn list_lines(places: &mut Vec<usize>, rest: &[u8]) -> Result<usize, Oom>
     Ok(rest.len())
 }
 
-/// What stands behind the identifier.
+/// Returns the frame; the identifier is the line at `places[k]`, and what follows it is read.
 #[tactic(auto, unfolding(crate::specs::Frames::behind))]
 fn behind(
     alloc: Global,
@@ -255,7 +259,8 @@ fn behind(
     })
 }
 
-/// The frame of one product, whose first line is its heading. The lines behind it begin at these places.
+/// Returns the frame of one product, whose first line is its heading and whose later lines start at
+/// `places`.
 #[tactic(auto, unfolding(crate::specs::Frames::frame_in), using(crate::proofs::Listed::starts_within))]
 fn frame_in(
     alloc: Global,
@@ -277,7 +282,7 @@ fn frame_in(
     behind(alloc, product, heading, identifier, places, k)
 }
 
-/// The frame of the product that begins with the bytes' first line.
+/// Returns the frame of the product that starts at the first line of `rest`.
 #[tactic(auto, unfolding(crate::specs::Frames::frame_from))]
 fn frame_from(alloc: Global, rest: &[u8], places: &mut Vec<usize>) -> Result<Frame, Or<FrameFault>>
     ensures { Gives result (frame_from rest.now) }
@@ -290,7 +295,7 @@ fn frame_from(alloc: Global, rest: &[u8], places: &mut Vec<usize>) -> Result<Fra
     frame_in(alloc, &rest[..end], heading, places)
 }
 
-/// The frame of the first product.
+/// Returns the frame of the first product of `bytes`.
 fn frame_of(alloc: Global, bytes: &[u8], places: &mut Vec<usize>) -> Result<Frame, Or<FrameFault>>
     ensures { Gives result (frame_of bytes.now) }
 {
@@ -300,12 +305,12 @@ fn frame_of(alloc: Global, bytes: &[u8], places: &mut Vec<usize>) -> Result<Fram
     frame_from(alloc, &bytes[at..], places)
 }
 
-/// The frame of the first product of a text, as `read_frame` reads it. `places` is room for the places of its lines, which frame after
-/// frame may use.
+/// Parses the frame of the first product of a text, as `read_frame` does. `places` is a buffer for
+/// where lines start, which the caller may use again; its content is overwritten.
 ///
 /// # Errors
 ///
-/// The first fault, with its line, which counts from the heading as line 1.
+/// The first fault, with its line, which counts from the heading as line 1; or out of memory.
 pub fn read_frame_with(
     alloc: Global,
     bytes: &[u8],
@@ -313,9 +318,10 @@ pub fn read_frame_with(
 ) -> Result<Frame, Or<FrameFault>>
     // What is read is the frame of the text.
     ensures found { IfOk result (FrameOf bytes.now) }
-    // Where the text has a frame it is read, unless memory runs out.
+    // If the text has a frame it is read, unless memory runs out.
     ensures only { (f : FrameValue) → FrameOf bytes.now f → Gives result (Ok f) }
-    // What is refused has this fault first, and each first fault is named, unless memory runs out.
+    // A fault that is returned is the first of the text, and the first fault is returned, unless
+    // memory runs out.
     ensures fault { (x : FaultValue) → result ≡ Err (Or.No x) → FrameFaultOf bytes.now x }
     ensures fault_only { (x : FaultValue) → FrameFaultOf bytes.now x → Gives result (Err x) }
 
@@ -325,18 +331,22 @@ pub fn read_frame_with(
     frame_of(alloc, bytes, places)
 }
 
-/// The frame of the first product of a text: what stands before its heading line is skipped, and it
-/// ends before the next heading line.
+/// Parses the frame of the first product of a text. Bytes before its heading line are skipped, and
+/// it ends before the next heading line.
 ///
 /// # Errors
 ///
-/// The first fault, with its line, which counts from the heading as line 1.
+/// The first fault, with its line, which counts from the heading as line 1; or out of memory.
+///
+/// Source: NWS Instruction 10-1701, segmented products; docs/DECISIONS.md, "Reading of texts"
+/// (frames).
 pub fn read_frame(alloc: Global, bytes: &[u8]) -> Result<Frame, Or<FrameFault>>
     // What is read is the frame of the text.
     ensures found { IfOk result (FrameOf bytes.now) }
-    // Where the text has a frame it is read, unless memory runs out.
+    // If the text has a frame it is read, unless memory runs out.
     ensures only { (f : FrameValue) → FrameOf bytes.now f → Gives result (Ok f) }
-    // What is refused has this fault first, and each first fault is named, unless memory runs out.
+    // A fault that is returned is the first of the text, and the first fault is returned, unless
+    // memory runs out.
     ensures fault { (x : FaultValue) → result ≡ Err (Or.No x) → FrameFaultOf bytes.now x }
     ensures fault_only { (x : FaultValue) → FrameFaultOf bytes.now x → Gives result (Err x) }
 

@@ -1,4 +1,4 @@
-//! Texts are split into products.
+//! Splits texts into products.
 ghost use Rattle.std.specs.Prelude.{◌≡◌, ◌≤◌, ℕ, List as Seq, length, IfOk};
 ghost use Rattle.std.specs.List.{All, concat};
 ghost use Rattle.product_frame.specs.Text.{starts};
@@ -9,7 +9,7 @@ use crate::text::starts;
 use hazard_types::{List, Oom, Span};
 use std::alloc::Global;
 
-/// Those of these places where a heading line begins.
+/// Returns those of `places` where a heading line starts.
 fn headings_in(alloc: Global, bytes: &[u8], places: &[usize]) -> Result<List<usize>, Oom>
     requires { All (λ start. start ≤ length bytes.now) places.now }
     ensures { IfOk result (λ list. list ≡ headings_in bytes.now places.now) }
@@ -23,6 +23,7 @@ fn headings_in(alloc: Global, bytes: &[u8], places: &[usize]) -> Result<List<usi
     Ok(list)
 }
 
+/// Returns the first of `places`, or `end` if there is none.
 fn first_or(end: usize, places: &[usize]) -> usize
     ensures { result ≡ first_or end places.now }
 {
@@ -32,7 +33,7 @@ fn first_or(end: usize, places: &[usize]) -> usize
     }
 }
 
-/// From each place up to the next, from the last up to the end.
+/// Returns the spans from each of `places` up to the next, and from the last up to `end`.
 fn spans_to(alloc: Global, end: usize, places: &[usize]) -> Result<List<Span>, Oom>
     ensures { IfOk result (λ list. list ≡ spans_to end places.now) }
 {
@@ -44,8 +45,14 @@ fn spans_to(alloc: Global, end: usize, places: &[usize]) -> Result<List<Span>, O
     Ok(list)
 }
 
-/// The products of a text: one span for each heading line, up to the next heading line or the end.
-/// Bytes before the first heading line belong to none.
+/// Returns the products of a text as spans of bytes, one for each heading line, up to the next
+/// heading line or the end. Bytes before the first heading line belong to no product.
+///
+/// # Errors
+///
+/// Out of memory.
+///
+/// Source: NWS Instruction 10-1701, WMO heading.
 #[tactic(auto, unfolding(crate::specs::Splitting::spans_of), using(crate::proofs::Splitting::laid_end_to_end))]
 pub fn split_products(alloc: Global, bytes: &[u8]) -> Result<List<Span>, Oom>
     ensures value { IfOk result (λ spans. spans ≡ spans_of bytes.now) }
@@ -57,7 +64,8 @@ pub fn split_products(alloc: Global, bytes: &[u8]) -> Result<List<Span>, Oom>
     spans_to(alloc, bytes.len(), headings.as_slice())
 }
 
-/// Texts of which each has one heading line, its first, and the end of each line: laid end to end they are split where one ends and the next begins.
+/// Texts that are laid end to end are split where one ends and the next starts, if the first line
+/// of each is its one heading line, and each line has its LF.
 #[tactic(auto, using(crate::proofs::EndToEnd::split_apart))]
 pub fn texts_are_split_apart()
     ensures { (texts : Seq (Seq ℕ)) → All IsOneProduct texts → spans_of (concat texts) ≡ spans_from 0 texts }

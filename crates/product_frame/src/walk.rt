@@ -1,4 +1,4 @@
-//! The walk over the lines behind the identifier.
+//! Reads the segments from the lines after the identifier.
 ghost use Rattle.std.specs.Prelude.{◌≡◌, ◌≤◌, ◌<◌, ◌^◌, ◌+◌, length, [], drop, IfOk};
 ghost use Rattle.std.specs.List.{All};
 ghost use Rattle.hazard_types.specs.Given.{Gives};
@@ -22,7 +22,7 @@ use std::mem;
 use ugc_codes::{UgcFault, read_ugc};
 use vtec_string::read_vtec;
 
-/// Where the walk is.
+/// Where the next line is: outside of segments, among the VTEC lines of a segment, or after these.
 #[derive(Clone, Copy, Debug)]
 pub enum Stage {
     Outside,
@@ -30,21 +30,21 @@ pub enum Stage {
     Rest,
 }
 
-/// What was walked over.
+/// The segments so far, and the values of the one that is not yet complete.
 #[derive(Debug, Drop)]
 pub struct Walk {
     pub segments: List<FrameSegment>,
     pub zones: List<Zone>,
     pub expiry: DayStamp,
     pub pairs: List<Pair>,
-    /// The line of the segment's UGC.
+    /// The number of the line on which the segment's UGC starts; the heading is line 1.
     pub first: usize,
-    /// How many lines come next that were read ahead: of the UGC, or an H-VTEC line.
+    /// How many of the next lines were read already: later lines of the UGC, or an H-VTEC line.
     pub left: usize,
     pub stage: Stage,
 }
 
-/// The pair of a P-VTEC line and the line behind it.
+/// Returns the values of a P-VTEC line, and those of the next line if it is an H-VTEC line.
 #[tactic(auto, unfolding(crate::specs::Events::pair_of))]
 fn pair_of(line: &[u8], next: &[u8]) -> Option<Pair>
     ensures { result ≡ pair_of line.now next.now }
@@ -54,7 +54,7 @@ fn pair_of(line: &[u8], next: &[u8]) -> Option<Pair>
     Some(Pair { vtec, flood })
 }
 
-/// The pair of a line that begins with `/`, or that it is none.
+/// Returns the pair of a line that starts with `/`, or `BadVtec`.
 fn pair_or_fault(line: &[u8], next: &[u8], number: usize) -> Result<Pair, Or<FrameFault>>
     ensures { Gives result (or_fault (pair_of line.now next.now) (BadVtec number) (λ p. Ok p)) }
 {
@@ -64,6 +64,7 @@ fn pair_or_fault(line: &[u8], next: &[u8], number: usize) -> Result<Pair, Or<Fra
     }
 }
 
+/// Whether a line starts as a segment does: with the code of a zone and a hyphen or `>`.
 fn begins(line: &[u8]) -> bool
     ensures { result ≡ begins line.now }
 {
@@ -83,13 +84,14 @@ fn has_slash(line: &[u8]) -> bool
     line.len() >= 1 && line[0] == b'/'
 }
 
+/// Whether a line is `$$`, which ends a segment.
 fn is_end(line: &[u8]) -> bool
     ensures { result ≡ is_end line.now }
 {
     line.len() == 2 && line[0] == b'$' && line[1] == b'$'
 }
 
-/// Whether the first line of these bytes begins a segment.
+/// Whether the first line of `rest` starts a segment.
 #[tactic(auto, using(crate::proofs::LineFronts::no_begin))]
 fn line_begins(rest: &[u8]) -> bool
     ensures { result ≡ begins (line_of rest.now) }
@@ -100,7 +102,7 @@ fn line_begins(rest: &[u8]) -> bool
     begins(line_of(rest))
 }
 
-/// Whether the first line of these bytes begins with a slash.
+/// Whether the first line of `rest` starts with a slash.
 #[tactic(auto, using(crate::proofs::LineFronts::same_slash))]
 fn line_has_slash(rest: &[u8]) -> bool
     ensures { result ≡ has_slash (line_of rest.now) }
@@ -117,7 +119,7 @@ fn begins_by(byte: u8, rest: &[u8]) -> bool
     }
 }
 
-/// Whether the first line of these bytes ends a segment.
+/// Whether the first line of `rest` is `$$`.
 #[tactic(auto, using(crate::proofs::LineFronts::no_end))]
 fn line_is_end(rest: &[u8]) -> bool
     ensures { result ≡ is_end (line_of rest.now) }
@@ -128,6 +130,7 @@ fn line_is_end(rest: &[u8]) -> bool
     is_end(line_of(rest))
 }
 
+/// Returns the fault of a frame for that of a UGC text.
 fn bad_ugc(fault: Or<UgcFault>, line: usize) -> Or<FrameFault>
     ensures { IsBadUgc fault line result }
 {
@@ -137,7 +140,7 @@ fn bad_ugc(fault: Or<UgcFault>, line: usize) -> Or<FrameFault>
     }
 }
 
-/// A line that begins a segment by its UGC.
+/// Starts a segment with the UGC text that `rest` starts with.
 fn open_segment(
     alloc: Global,
     walk: &mut Walk,
@@ -163,7 +166,7 @@ fn open_segment(
     Ok(())
 }
 
-/// A line outside a segment, which may begin one.
+/// Takes a line outside of segments, which may start one.
 #[tactic(auto, unfolding(crate::specs::Walking::at_outside))]
 fn at_outside(
     alloc: Global,
@@ -179,7 +182,7 @@ fn at_outside(
     open_segment(alloc, walk, number, rest)
 }
 
-/// A line behind the events of a segment.
+/// Takes a line after the VTEC lines of a segment, which may end it.
 fn at_rest(alloc: Global, walk: &mut Walk, rest: &[u8]) -> Result<(), Or<FrameFault>>
     ensures { Moves result walk.new (at_rest walk.old (line_of rest.now)) }
 {
@@ -198,7 +201,7 @@ fn at_rest(alloc: Global, walk: &mut Walk, rest: &[u8]) -> Result<(), Or<FrameFa
     Ok(())
 }
 
-/// The first of the lines that begin at these places; empty where there is none.
+/// Returns the line that starts at the first of `starts`; empty if there is none.
 fn next_at<'a>(bytes: &'a [u8], starts: &[usize]) -> &'a [u8]
     requires { All (λ start. start ≤ length bytes.now) starts.now }
     ensures { result.now ≡ next_at bytes.now starts.now }
@@ -209,7 +212,7 @@ fn next_at<'a>(bytes: &'a [u8], starts: &[usize]) -> &'a [u8]
     }
 }
 
-/// How many lines an H-VTEC text makes.
+/// Returns the number of H-VTEC lines of a pair, 1 or 0.
 fn ahead(flood: &Option<Flood>) -> usize
     ensures { result ≡ ahead flood.now }
 {
@@ -219,7 +222,7 @@ fn ahead(flood: &Option<Flood>) -> usize
     }
 }
 
-/// One pair more, whose H-VTEC line, if it has one, comes next.
+/// Appends a pair; its H-VTEC line, if it has one, is the next line.
 fn add_pair(walk: &mut Walk, pair: &Pair) -> Result<(), Or<FrameFault>>
     ensures { Moves result walk.new (Ok (with_pair walk.old pair.now)) }
 {
@@ -228,7 +231,7 @@ fn add_pair(walk: &mut Walk, pair: &Pair) -> Result<(), Or<FrameFault>>
     Ok(())
 }
 
-/// A line behind a segment's UGC.
+/// Takes a line after the UGC of a segment, where VTEC lines may be.
 fn at_pairs(
     alloc: Global,
     walk: &mut Walk,
@@ -247,6 +250,8 @@ fn at_pairs(
     }
 }
 
+/// Takes the line that starts at byte `start` and has this number. `later` are the starts of the
+/// lines after it.
 #[tactic(auto, unfolding(crate::specs::Walking::step))]
 fn step(
     alloc: Global,
@@ -272,6 +277,7 @@ fn step(
     }
 }
 
+/// Returns the segments, or the fault of the one that has no end.
 fn segments_at_end(walk: Walk) -> Result<List<FrameSegment>, Or<FrameFault>>
     ensures { Gives result (ended walk walk.stage) }
 {
@@ -282,7 +288,7 @@ fn segments_at_end(walk: Walk) -> Result<List<FrameSegment>, Or<FrameFault>>
     }
 }
 
-/// The segments of the lines that begin at these places, the first of which has this number.
+/// Returns the segments of the lines that start at `starts`, of which the first has this number.
 fn walk_over(
     alloc: Global,
     bytes: &[u8],
@@ -319,7 +325,12 @@ fn walk_over(
     segments_at_end(walk)
 }
 
-/// The segments of the lines that begin at these places, the first of which has this number.
+/// Returns the segments of the lines that start at `starts` (bytes). `number` is the number of the
+/// first of them; the heading is line 1.
+///
+/// # Errors
+///
+/// The first of `BadUgc`, `BadVtec` and `NoSegmentEnd` in the order of the lines; or out of memory.
 pub fn walk_lines(
     alloc: Global,
     bytes: &[u8],
@@ -328,11 +339,11 @@ pub fn walk_lines(
 ) -> Result<List<FrameSegment>, Or<FrameFault>>
     requires within { All (λ start. start ≤ length bytes.now) starts.now }
     requires numbers { number + length starts.now < 2 ^ 64 }
-    // What is walked over is in the grammar.
+    // The segments that are returned are in the grammar.
     ensures found { IfOk result (λ segments. AreSegments bytes.now starts.now segments) }
-    // What is in the grammar is walked over, unless memory runs out.
+    // Segments in the grammar are returned, unless memory runs out.
     ensures only { (segments : Seq FrameSegmentValue) → AreSegments bytes.now starts.now segments → Gives result (Ok segments) }
-    // Which fault it is.
+    // The same as one function of the bytes.
     ensures exact { Gives result (segments_of bytes.now number starts.now) }
 {
     walk_over(alloc, bytes, number, starts)

@@ -1,4 +1,4 @@
-//! Texts are written for frames.
+//! Writes the texts of frames.
 ghost use Rattle.std.specs.Prelude.{◌≡◌, ◌≤◌, ◌<◌, ◌++◌, ◌∷◌, [], length, IsTrue, IfOk, OnOk};
 ghost use Rattle.std.specs.List.{All};
 ghost use Rattle.hazard_types.specs.Digits.{is_day_stamp};
@@ -15,22 +15,29 @@ use std::alloc::Global;
 use ugc_codes::write_ugc;
 use vtec_string::vtec_text;
 
-/// What stands between identifier and segments: the product's name, the office's line, the local line.
+/// The lines between identifier and segments, without line ends.
+///
+/// Source: NWS Instruction 10-1701, Mass News Disseminator header.
 #[derive(Clone, Debug, Drop, PartialEq, Eq)]
 pub struct Block {
+    /// The product's name, as `URGENT - WINTER WEATHER MESSAGE`.
     pub name: Text,
+    /// The office, as `National Weather Service Baltimore MD/Washington DC`.
     pub office_line: Text,
+    /// The local line of the issue minute.
     pub local: Text,
 }
 
-/// What stands behind the pairs of a segment: the names of its zones, without the last line's end, and
-/// its text, each line of which has its end.
+/// What a segment has after its VTEC lines, but for the local line.
 #[derive(Clone, Debug, Drop, PartialEq, Eq)]
 pub struct Body {
+    /// The names of its zones: lines with LF between them and none at the end. Empty for no names.
     pub names: Text,
+    /// The text after the local line and an empty line; each of its lines ends with LF.
     pub text: Text,
 }
 
+/// Appends a line and its LF.
 fn put_line(out: &mut Text, line: &[u8]) -> Result<(), Oom>
     ensures { OnOk result (out.new ≡ out.old ++ ended line.now) }
 {
@@ -38,6 +45,7 @@ fn put_line(out: &mut Text, line: &[u8]) -> Result<(), Oom>
     out.push(b'\n')
 }
 
+/// Appends a blank and the `BBB` of a heading, if it has one.
 fn put_letters(out: &mut Text, letters: &Option<[u8; 3]>) -> Result<(), Oom>
     ensures { OnOk result (out.new ≡ out.old ++ letters_text letters.now) }
 {
@@ -47,6 +55,7 @@ fn put_letters(out: &mut Text, letters: &Option<[u8; 3]>) -> Result<(), Oom>
     }
 }
 
+/// Returns the heading line.
 fn heading_of(alloc: Global, h: &Heading) -> Result<Text, Oom>
     requires { IsTrue (is_day_stamp h.now.day) }
     ensures { IfOk result (λ text. text ≡ heading_text h.now) }
@@ -60,6 +69,7 @@ fn heading_of(alloc: Global, h: &Heading) -> Result<Text, Oom>
     Ok(text)
 }
 
+/// Appends the H-VTEC line, if there is one.
 fn put_flood(out: &mut Text, flood: &Option<Flood>) -> Result<(), Oom>
     requires { HasLocation flood.now }
     ensures value { OnOk result (out.new ≡ out.old ++ flood_text flood.now) }
@@ -71,7 +81,7 @@ fn put_flood(out: &mut Text, flood: &Option<Flood>) -> Result<(), Oom>
     }
 }
 
-/// The P-VTEC line of a pair, and its H-VTEC line behind it.
+/// Appends the P-VTEC line of a pair, and its H-VTEC line.
 fn put_pair(out: &mut Text, pair: &Pair) -> Result<(), Oom>
     requires { IsPairWritten pair.now }
     ensures value { OnOk result (out.new ≡ out.old ++ (ended (vtec_text pair.now.vtec) ++ flood_text pair.now.flood)) }
@@ -158,14 +168,23 @@ fn put_block(out: &mut Text, block: &Block) -> Result<(), Oom>
     put_line(out, b"")
 }
 
-/// The text of a frame, its block, and its bodies, one for each segment.
+/// Returns the text of a product: the heading, the identifier, `block`, and each segment with its
+/// body, `$$` and an empty line. There is one body for each segment, and lines end with LF. The
+/// text reads back as `f`, and it is one product.
+///
+/// # Errors
+///
+/// Out of memory.
+///
+/// Source: NWS Instruction 10-1701, segmented products; docs/DECISIONS.md, "Reading of texts" (line
+/// rules of `frame_text`).
 pub fn frame_text(alloc: Global, f: &Frame, block: &Block, bodies: &List<Body>) -> Result<Text, Oom>
     requires { IsWritable f.now block.now bodies.now }
     // The text is laid out from the frame, the block and the bodies.
     ensures layout { IfOk result (λ text. text ≡ layout_of f.now block.now bodies.now) }
-    // The frame of the text is this one.
+    // The frame of the text is `f`.
     ensures frame { IfOk result (λ text. FrameOf text f.now) }
-    // Its one heading line is its first line, and each line has its end.
+    // Its one heading line is its first line, and each line has its LF.
     ensures one { IfOk result IsOneProduct }
 {
     let heading = heading_of(alloc, &f.heading)?;

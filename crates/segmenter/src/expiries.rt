@@ -1,14 +1,15 @@
-//! The minute at which a segment's text expires.
+//! When a segment expires.
 ghost use Rattle.std.specs.Prelude.{◌≡◌, ◌≤◌};
 ghost use Rattle.std.specs.List.{list_any};
 ghost use Rattle.segmenter.specs.Expiry.{leaves_live, lesser, lesser_left, is_routine, stands_long, expiry_of};
 
 use hazard_types::{Action, End, Minute, SegLine};
 
-/// How many minutes a segment stands that leaves a row live, or has a routine line.
+/// How many minutes after its issue a segment expires at the latest, if it leaves a row live or has
+/// a routine line.
 const LONG: u32 = 480;
 
-/// How many minutes every other segment stands.
+/// How many minutes after its issue any other segment expires.
 const SHORT: u32 = 60;
 
 /// Whether a line of this action leaves its row live.
@@ -28,7 +29,7 @@ fn is_routine(action: Action) -> bool
     matches!(action, Action::Rou)
 }
 
-/// The lesser of a minute and a closed end.
+/// Returns the earlier of a minute and an end; an end until further notice does not count.
 fn lesser(minute: Minute, end: &End) -> Minute
     ensures { result ≡ lesser minute end.now }
 {
@@ -38,7 +39,8 @@ fn lesser(minute: Minute, end: &End) -> Minute
     }
 }
 
-/// The lesser of a minute and the closed end of the row that a line leaves live.
+/// Returns the earlier of a minute and the end of the row that the line leaves live, if it leaves
+/// one.
 fn lesser_left(minute: Minute, line: &SegLine) -> Minute
     ensures { result ≡ lesser_left minute line.now }
 {
@@ -49,21 +51,25 @@ fn lesser_left(minute: Minute, line: &SegLine) -> Minute
     }
 }
 
-/// Whether a line leaves a row live, or is a routine one.
+/// Whether a line leaves a row live, or is ROU.
 fn stands_long(line: &SegLine) -> bool
     ensures { result ≡ stands_long line.now }
 {
     leaves_live(line.action) || is_routine(line.action)
 }
 
-/// Whether one of the lines leaves a row live, or is a routine one.
+/// Whether one of the lines leaves a row live, or is ROU.
 fn stand_long(lines: &[SegLine]) -> bool
     ensures { result ≡ list_any stands_long lines.now }
 {
     lines.iter().any(stands_long)
 }
 
-/// The minute at which the text of a segment with these lines expires, issued at t: the least of eight hours on and the closed ends of the rows that the lines leave live. One hour on, where they leave none and no line is ROU.
+/// Returns the minute at which a segment with these lines expires, if it is issued at `t`: the
+/// earliest of eight hours after `t` and the ends of the rows that the lines leave live. It is one
+/// hour after `t`, if they leave none and no line is ROU.
+///
+/// Source: docs/PRODUCTS.md, "Segments".
 pub fn expiry(lines: &[SegLine], t: Minute) -> Minute
     requires { t ≤ 52000000 }
     ensures { result ≡ expiry_of t lines.now }

@@ -1,4 +1,4 @@
-//! The lines of each group, in order.
+//! The groups of lines, and the lines of each in order.
 ghost use Rattle.std.specs.Prelude.{◌≡◌, ◌≤◌, not, [], length, insert, IfOk, OnOk};
 ghost use Rattle.std.specs.Ordering.{is_lt};
 ghost use Rattle.segmenter.specs.Groups.{flood_event, group_of, without_zone, same_group, action_rank, by_line, placed};
@@ -11,21 +11,21 @@ use std::alloc::Global;
 use std::cmp::Ordering;
 use std::marker::Model;
 
-/// What sets lines apart: their zone, and their event where its phenomenon is FL.
+/// The key of a group: the zone, and the event if its phenomenon is FL.
 #[derive(Clone, Copy, PartialEq, Eq, Hash)]
 pub struct Group {
     pub zone: Zone,
     pub flood: Option<Event>,
 }
 
-/// What segments are in order by: the least zone, then the event of the first line.
+/// The key by which segments are ordered: the first zone, then the event of the first line.
 #[derive(Clone, Copy, PartialEq, Eq, PartialOrd, Ord)]
 pub struct Head {
     pub zone: Zone,
     pub first: Event,
 }
 
-/// Lines of a segment, in order.
+/// The lines of a segment, by action, then event.
 #[derive(Drop)]
 pub struct Ordered {
     lines: Vec<SegLine>,
@@ -46,7 +46,9 @@ impl Model for Ordered {
 /// The lines of each group.
 pub type Groups = IndexMap<Group, Ordered>;
 
-/// The event that has a group of its own.
+/// Returns the event, if its phenomenon is FL, so that it has a group of its own.
+///
+/// Source: docs/DECISIONS.md, "Segments" (flood hazards).
 fn flood_event(event: &Event) -> Option<Event>
     ensures { result ≡ flood_event event.now }
 {
@@ -57,7 +59,7 @@ fn flood_event(event: &Event) -> Option<Event>
     }
 }
 
-/// The group of a line.
+/// Returns the group of a line.
 pub fn group_of(line: &Line) -> Group
     ensures { result ≡ group_of line.now }
 {
@@ -67,7 +69,7 @@ pub fn group_of(line: &Line) -> Group
     }
 }
 
-/// A line without its zone, as a segment has it.
+/// Returns a line without its zone, as a segment has it.
 pub fn without_zone(line: &Line) -> SegLine
     ensures { result ≡ without_zone line.now }
 {
@@ -80,7 +82,9 @@ pub fn without_zone(line: &Line) -> SegLine
     }
 }
 
-/// The place of an action among a segment's lines.
+/// Returns the rank of an action in the order of a segment's lines.
+///
+/// Source: docs/PRODUCTS.md, "Segments".
 fn action_rank(action: &Action) -> u8
     ensures { result ≡ action_rank action.now }
 {
@@ -98,7 +102,7 @@ fn action_rank(action: &Action) -> u8
     }
 }
 
-/// How two lines of a segment stand: by action, then by event.
+/// Compares two lines of a segment by action, then event.
 fn by_line(a: &SegLine, b: &SegLine) -> Ordering
     ensures { result ≡ by_line a.now b.now }
 {
@@ -107,8 +111,8 @@ fn by_line(a: &SegLine, b: &SegLine) -> Ordering
         .then(a.event.order(&b.event))
 }
 
-/// The place before the first line that comes after this one. Where none does, the last line
-/// alone is looked at.
+/// Returns the index of the first line that comes after this one, or the end. Lines mostly come in
+/// order, so the last is compared first.
 fn place_of(lines: &[SegLine], line: &SegLine) -> usize
     requires { AreInOrder lines.now }
     ensures range { result ≤ length lines.now }
@@ -129,7 +133,7 @@ fn place_of(lines: &[SegLine], line: &SegLine) -> usize
 }
 
 impl Ordered {
-    /// No lines.
+    /// Returns no lines, without capacity.
     fn new(alloc: Global) -> Self
         ensures { result ≡ [] }
     {
@@ -138,7 +142,11 @@ impl Ordered {
         }
     }
 
-    /// No lines, and memory for some.
+    /// Returns no lines, with a capacity of `n`.
+    ///
+    /// # Errors
+    ///
+    /// Out of memory.
     pub fn with_room(alloc: Global, n: usize) -> Result<Self, Oom>
         ensures { IfOk result (λ ordered. ordered ≡ []) }
     {
@@ -147,7 +155,11 @@ impl Ordered {
         })
     }
 
-    /// Puts a line before the first that comes after it.
+    /// Inserts a line before the first that comes after it.
+    ///
+    /// # Errors
+    ///
+    /// Out of memory.
     pub fn place(&mut self, line: &SegLine) -> Result<(), Oom>
         ensures { OnOk result (self.new ≡ placed line.now self.old) }
     {
@@ -156,7 +168,7 @@ impl Ordered {
         Ok(())
     }
 
-    /// The lines as a list.
+    /// Returns the lines.
     pub fn into_vec(self) -> Vec<SegLine>
         ensures { result.items ≡ self }
     {
@@ -164,7 +176,7 @@ impl Ordered {
     }
 }
 
-/// Puts a line into its group.
+/// Adds a line to its group.
 fn add_line(alloc: Global, groups: &mut Groups, line: &Line) -> Result<(), Oom>
     ensures { OnOk result (groups_view groups.new.entries ≡ put same_group placed (groups_view groups.old.entries) (group_of line.now) (without_zone line.now)) }
 {
@@ -173,7 +185,11 @@ fn add_line(alloc: Global, groups: &mut Groups, line: &Line) -> Result<(), Oom>
     Ok(())
 }
 
-/// The lines of each group, in order, the groups in the order in which they first stand.
+/// Returns the groups in the order of their first lines, each with its lines in order.
+///
+/// # Errors
+///
+/// Out of memory.
 pub fn groups_of(alloc: Global, lines: &[Line]) -> Result<Groups, Oom>
     ensures { IfOk result (λ groups. groups_view groups.entries ≡ groups_of lines.now) }
 {

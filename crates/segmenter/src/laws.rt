@@ -12,29 +12,31 @@ ghost use Rattle.segmenter.specs.Said.{lines_in_text, IsApart};
 ghost use Rattle.segmenter.specs.Segments.{AreSegments};
 ghost use Rattle.segmenter.specs.declared.groups.Group.{Group};
 
-/// A segment of a zone has exactly the lines that stand with that zone.
+/// A segment of a zone has exactly the lines that the product has for that zone.
 pub fn segments_say_the_lines()
     ensures { (lines : List Line) (segments : List Segment) → AreSegments lines segments → (z : Place) (l : SegLine) → IsSaid segments z l ↔ IsOfLines lines z l }
 {}
 
-/// The lines of a group are in order by action, then by event.
+/// The lines of a group are by action, then by event.
 #[tactic(auto, using(crate::proofs::OrderLemmas::lines_in_order))]
 pub fn lines_are_in_order()
     ensures { (lines : List Line) (g : Group) → AreInOrder (lines_of lines g) }
 {}
 
-/// Lines have one list of segments.
+/// A product's lines have one list of segments.
 pub fn segments_are_determined()
     ensures { (lines : List Line) (segments others : List Segment) → AreSegments lines segments → AreSegments lines others → segments ≡ others }
 {}
 
-/// The lines of segments, as a text says them, are those that the segments are of. Where no two of these are of one event in one zone, no two in the text are, so that it says each once.
+/// The lines of the segments, zone by zone, are the lines that the segments were made of. If no two
+/// of these are of one event and zone, the segments have each once.
 pub fn segments_say_each_line_once()
     ensures lines { (lines : List Line) (segments : List Segment) → AreSegments lines segments → (line : Line) → Contains (lines_in_text segments) line ↔ Contains lines line }
     ensures once { (lines : List Line) (segments : List Segment) → AreSegments lines segments → AllPairs IsApart lines → AllPairs IsApart (lines_in_text segments) }
 {}
 
-/// A text expires after its issue, where each row that it leaves live ends after it.
+/// A segment expires after its issue minute, if each row that it leaves live ends after that
+/// minute.
 #[tactic(auto, using(crate::proofs::ExpiryLemmas::later))]
 pub fn expiry_is_later()
     ensures { (t : ℕ) (lines : List SegLine) → EndAfter t lines → t < expiry_of t lines }

@@ -1,6 +1,8 @@
-//! The segments of a product: the zones that share their lines.
+//! The segments of a product: the zones that share their lines, and when each segment expires. A
+//! group is a zone with its lines of one FL event, or with all its other lines. Groups with equal
+//! lists of lines make one segment.
 //!
-//! A group is a zone with all its lines but those of phenomenon FL, or a zone with its lines of one event of phenomenon FL, where there is such a line. The groups whose lists of lines are equal, H-VTEC included, make one segment. So a zone stands in one segment for its river floods of each event, and in one for all else.
+//! For crates that write products. One begins with `segments` and `expiry`.
 #![tactic(auto)]
 
 ghost use Rattle.std.specs.Prelude.{IfOk};
@@ -23,14 +25,18 @@ use one_group::{are_of_one_group, segments_of_one};
 use std::alloc::Global;
 use zones::{classes_of, heads_of, segments_of};
 
-/// The segments of a product's lines, by the least zone, then by the event of the first line.
+/// Returns the segments of a product's lines, by first zone, then by the event of the first line.
+/// The zones of a segment are in order, each once; its lines are by action (UPG, CAN, EXP, NEW,
+/// EXB, EXA, EXT, CON, COR, ROU), then by event, ties as in `lines`. For n lines, of which at most
+/// k are of one group, it makes O(n log n) comparisons, and moves at most k lines for each that it
+/// places.
 ///
-/// The zones of a segment are in order, each once. Its lines are in order by action (UPG, CAN, EXP, NEW, EXB, EXA, EXT, CON, COR, ROU), then by event; lines that tie in both stand as they were given. No two segments tie: where two have the same least zone, their first events differ, since the groups of a zone have no event in common.
+/// # Errors
 ///
-/// Any lines may be given. A line that is repeated stands in its segment as often, and no lines
-/// give no segments. The work grows as the lines do, times a logarithm, and moves the lines of
-/// a zone that come after one that is placed. Lines that are all of one group want no maps. The
-/// error is want of memory.
+/// Out of memory.
+///
+/// Source: NWS Instruction 10-1701, segmented products; docs/PRODUCTS.md, "Segments";
+/// docs/DECISIONS.md, "Segments".
 pub fn segments(alloc: Global, lines: &List<Line>) -> Result<List<Segment>, Oom>
     ensures { IfOk result (λ segments. AreSegments lines.now segments) }
 {

@@ -1,4 +1,4 @@
-//! The segment of lines that are all of one group: no map is wanted.
+//! The segment of lines that are all of one group, made without maps.
 ghost use Rattle.std.specs.Prelude.{◌≡◌, ◌∷◌, [], true, IfOk};
 ghost use Rattle.std.specs.List.{list_all};
 ghost use Rattle.hazard_types.specs.declared.line.Line.{Line as AnyLine};
@@ -24,7 +24,7 @@ fn are_of_group(lines: &[Line], group: &Group) -> bool
     lines.iter().all(|line| is_of_group(line, group))
 }
 
-/// Whether all lines are of one group.
+/// Whether all lines are of one group; true for no lines.
 pub fn are_of_one_group(lines: &[Line]) -> bool
     ensures { result ≡ are_of_one_group lines.now }
 {
@@ -37,7 +37,7 @@ pub fn are_of_one_group(lines: &[Line]) -> bool
     }
 }
 
-/// The lines in order, without their zones.
+/// Returns the lines in order, without their zones.
 fn in_order(alloc: Global, lines: &[Line]) -> Result<Ordered, Oom>
     ensures { IfOk result (λ ordered. ordered ≡ in_order lines.now) }
 {
@@ -48,7 +48,7 @@ fn in_order(alloc: Global, lines: &[Line]) -> Result<Ordered, Oom>
     Ok(ordered)
 }
 
-/// The segment of a zone with these lines.
+/// Returns the segment of one zone with these lines.
 fn segment_of(alloc: Global, zone: Zone, lines: Ordered) -> Result<Segment, Oom>
     ensures { IfOk result (λ segment. segment ≡ record { zones = zone ∷ []; lines = lines }) }
 {
@@ -59,7 +59,7 @@ fn segment_of(alloc: Global, zone: Zone, lines: Ordered) -> Result<Segment, Oom>
     })
 }
 
-/// A list of one segment.
+/// Returns a list of one segment.
 fn list_of(alloc: Global, segment: Segment) -> Result<List<Segment>, Oom>
     ensures { IfOk result (λ segments. segments ≡ segment ∷ []) }
 {
@@ -68,7 +68,11 @@ fn list_of(alloc: Global, segment: Segment) -> Result<List<Segment>, Oom>
     Ok(segments)
 }
 
-/// The segment of lines that are all of one group: none, where there are none.
+/// Returns the segment of lines that are all of one group; none for no lines.
+///
+/// # Errors
+///
+/// Out of memory.
 pub fn segments_of_one(alloc: Global, lines: &[Line]) -> Result<List<Segment>, Oom>
     requires { are_of_one_group lines.now ≡ true }
     ensures { IfOk result (λ segments. segments ≡ segments_of (classes_of (heads_of (groups_of lines.now)))) }

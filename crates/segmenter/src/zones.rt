@@ -1,4 +1,4 @@
-//! The lists of the groups, by zone and first event, and the zones of each.
+//! The groups in the order of segments, and the zones that share a list of lines.
 ghost use Rattle.std.specs.Prelude.{◌≡◌, IfOk, OnOk};
 ghost use Rattle.segmenter.specs.Steps.{put, same_lines, pushed, add_head, heads_of, classes_of, segments_of, groups_view, heads_view, classes_view};
 
@@ -8,13 +8,13 @@ use indexmap::IndexMap;
 use std::alloc::Global;
 use std::collections::BTreeMap;
 
-/// The lists of the groups, by zone and first event.
+/// The lists of lines of the groups, by zone and first event.
 pub type Heads = BTreeMap<Head, Vec<SegLine>>;
 
-/// The zones of each list.
+/// The zones of each list of lines.
 pub type Classes<'a> = IndexMap<&'a [SegLine], Vec<Zone>>;
 
-/// Puts the lines of a group into their place.
+/// Adds the lines of a group, if it has any.
 fn add_head(heads: &mut Heads, group: &Group, lines: Vec<SegLine>) -> Result<(), Oom>
     ensures { OnOk result (heads_view heads.new.entries ≡ add_head (heads_view heads.old.entries) group.now lines.items) }
 {
@@ -28,7 +28,11 @@ fn add_head(heads: &mut Heads, group: &Group, lines: Vec<SegLine>) -> Result<(),
     Ok(())
 }
 
-/// The lists of the groups, by zone and first event.
+/// Returns the lists of lines of the groups, by zone and first event.
+///
+/// # Errors
+///
+/// Out of memory.
 pub fn heads_of(alloc: Global, groups: Groups) -> Result<Heads, Oom>
     ensures { IfOk result (λ heads. heads_view heads.entries ≡ heads_of (groups_view groups.entries)) }
 {
@@ -39,7 +43,7 @@ pub fn heads_of(alloc: Global, groups: Groups) -> Result<Heads, Oom>
     Ok(heads)
 }
 
-/// Puts a zone behind those of its list.
+/// Appends a zone to those of a list of lines.
 fn add_zone<'a>(
     alloc: Global,
     classes: &mut Classes<'a>,
@@ -55,7 +59,11 @@ fn add_zone<'a>(
     Ok(())
 }
 
-/// The zones of each list, the lists in the order in which they first stand.
+/// Returns the zones of each list of lines, in the order of `heads`.
+///
+/// # Errors
+///
+/// Out of memory.
 pub fn classes_of<'a>(alloc: Global, heads: &'a Heads) -> Result<Classes<'a>, Oom>
     ensures { IfOk result (λ classes. classes_view classes.entries ≡ classes_of (heads_view heads.now.entries)) }
 {
@@ -66,7 +74,11 @@ pub fn classes_of<'a>(alloc: Global, heads: &'a Heads) -> Result<Classes<'a>, Oo
     Ok(classes)
 }
 
-/// A segment of each list and its zones.
+/// Returns a segment for each list of lines and its zones.
+///
+/// # Errors
+///
+/// Out of memory.
 pub fn segments_of(alloc: Global, classes: &Classes<'_>) -> Result<List<Segment>, Oom>
     ensures { IfOk result (λ segments. segments ≡ segments_of (classes_view classes.now.entries)) }
 {

@@ -1,4 +1,4 @@
-//! UGC texts are read.
+//! Reads UGC texts.
 ghost use Rattle.std.specs.Prelude.{◌≡◌, ◌⊎◌, ◌+◌, ◌*◌, ◌-◌, ◌≤◌, ◌<◌, ◌++◌, [], Some, None, Ok, IfOk, IfSome, length, IsTrue, List as Seq, ℕ};
 ghost use Rattle.std.specs.List.Sorted.{IsStrictlySortedBy};
 ghost use Rattle.hazard_types.specs.Calendar.{is_digit};
@@ -18,44 +18,48 @@ use hazard_types::{DayStamp, Kind, List, Or, Zone, day_stamp_in};
 use std::alloc::Global;
 use thiserror::Error;
 
-/// What a UGC text says, and how many bytes it has.
+/// The values of a UGC text, and its length.
 #[derive(Clone, Debug, Drop, PartialEq, Eq)]
 pub struct UgcRead {
-    /// The zones named, in order, each once.
+    /// The zones, in order, each once; runs are spelled out.
     pub zones: List<Zone>,
-    /// The day, hour and minute (UTC) of the last group.
+    /// The day of the month, hour and minute (UTC) of the last group.
     pub expiry: DayStamp,
-    /// The bytes up to the hyphen of the expiry, with it.
+    /// The length of the text in bytes, up to and with the hyphen after the expiry.
     pub used: usize,
 }
 
-/// Why bytes begin with no UGC text: the first fault.
+/// Why bytes do not start with a UGC text: the first fault. `at` is the byte where the group
+/// starts, counted from 0.
 #[derive(Clone, Copy, Debug, PartialEq, Eq, Error)]
 pub enum UgcFault {
-    /// The group at a byte is no code, run or expiry.
+    /// The group is no zone and no run of zones, nor an expiry after a zone.
     #[error("byte {at}: no zone, run of zones or expiry begins here")]
     NotACode { at: usize },
-    /// The end of the run at a byte is not greater.
+    /// The group is a run whose last number is not greater than its first.
     #[error("byte {at}: a range must run upwards")]
     BadRange { at: usize },
-    /// The bytes end before the expiry does.
+    /// The bytes end without an expiry and its hyphen.
     #[error("the bytes end before the expiry does")]
     CutShort,
 }
 
-/// What a group says: a zone, or a run of zones to a last number; or the expiry.
+/// The value of a group: the zones from one to a last number (its own, for one zone), or the
+/// expiry.
 #[derive(Clone, Copy, Debug)]
 pub enum Group {
     Zones(Zone, u16),
     Expiry(DayStamp),
 }
 
+/// Why a group has no value: it has no form of a group, or it is a run that does not go up.
 #[derive(Clone, Copy, Debug)]
 pub enum Refused {
     NoCode,
     NoRange,
 }
 
+/// Returns the number of three digits.
 #[tactic(auto, unfolding(crate::specs::Codes::three_of))]
 fn three_of(x: u8, y: u8, z: u8) -> Option<u16>
     ensures value { result ≡ three_of x y z }
@@ -68,6 +72,7 @@ fn three_of(x: u8, y: u8, z: u8) -> Option<u16>
     }
 }
 
+/// Parses a zone of six characters, as `MDZ003`.
 #[tactic(auto, unfolding(crate::specs::Codes::full_code))]
 fn full_code(text: &[u8; 6]) -> Option<Zone>
     ensures { result ≡ full_code text.now }
@@ -77,6 +82,7 @@ fn full_code(text: &[u8; 6]) -> Option<Zone>
     Zone::new([text[0], text[1]], kind, number)
 }
 
+/// Parses three digits, which take state and kind from the zone before.
 #[tactic(auto, unfolding(crate::specs::Codes::short_code))]
 fn short_code(before: &Option<Zone>, text: &[u8; 3]) -> Option<Zone>
     ensures { result ≡ short_code before.now text.now }
@@ -112,6 +118,7 @@ fn run_to(first: Zone, last: u16) -> Result<Group, Refused>
     }
 }
 
+/// Parses a run, as `MDZ003>006` or `003>006`.
 #[tactic(auto, unfolding(crate::specs::Codes::run_of))]
 fn run_of(before: &Option<Zone>, text: &[u8]) -> Result<Group, Refused>
     requires { 4 ≤ length text.now }
@@ -128,6 +135,7 @@ fn run_of(before: &Option<Zone>, text: &[u8]) -> Result<Group, Refused>
     run_to(first, last)
 }
 
+/// Parses a group of one zone.
 #[tactic(auto, unfolding(crate::specs::Codes::single_of))]
 fn single_of(before: &Option<Zone>, text: &[u8]) -> Result<Group, Refused>
     ensures value { result ≡ single_of before.now text.now }
@@ -139,6 +147,7 @@ fn single_of(before: &Option<Zone>, text: &[u8]) -> Result<Group, Refused>
     }
 }
 
+/// Parses an expiry, which only comes after a zone.
 #[tactic(auto, unfolding(crate::specs::Codes::day_of))]
 fn day_of(before: &Option<Zone>, text: &[u8]) -> Result<Group, Refused>
     ensures value { result ≡ day_of before.now text.now }
@@ -153,6 +162,7 @@ fn day_of(before: &Option<Zone>, text: &[u8]) -> Result<Group, Refused>
     }
 }
 
+/// Parses the bytes before a hyphen. A `>` before the last three bytes makes them a run.
 #[tactic(auto, unfolding(crate::specs::Codes::group_of))]
 fn group_of(before: &Option<Zone>, text: &[u8]) -> Result<Group, Refused>
     ensures value { result ≡ group_of before.now text.now }
@@ -174,7 +184,7 @@ fn is_gap(c: u8) -> bool
     c == b' ' || c == b'\t' || c == b'\r' || c == b'\n'
 }
 
-/// The zones named so far, and the last code.
+/// The zones so far, and the first zone of the group before.
 #[derive(Drop)]
 struct Named {
     zones: ZoneSet,
@@ -190,7 +200,7 @@ fn fault_at(at: usize, refused: Refused) -> UgcFault
     }
 }
 
-/// A group ends: its zones are added, or it is the expiry.
+/// Takes the group `text`, which starts at byte `start`: adds its zones, or returns the expiry.
 fn close(named: &mut Named, text: &[u8], start: usize) -> Result<Option<DayStamp>, Or<UgcFault>>
     ensures { Closes result start named.old.before named.old.zones named.new.before named.new.zones (group_of named.old.before text.now) }
 {
@@ -238,17 +248,28 @@ fn read(alloc: Global, bytes: &[u8]) -> Result<UgcRead, Or<UgcFault>>
     Err(Or::No(UgcFault::CutShort))
 }
 
-/// The UGC text that bytes begin with, or the first fault.
+/// Parses the UGC text that `bytes` starts with, whatever follows it. Groups end with a hyphen,
+/// after which blanks and line ends are skipped; a group without state and kind takes those of the
+/// group before.
+///
+/// # Errors
+///
+/// The first fault of the bytes, with its byte; or out of memory.
+///
+/// Source: NWS Instruction 10-1702, UGC; docs/DECISIONS.md, "Reading of texts" (UGC).
 pub fn read_ugc(alloc: Global, bytes: &[u8]) -> Result<UgcRead, Or<UgcFault>>
-    // What is read is in the grammar, and each text of the grammar is read, unless memory runs out.
+    // Every text that is read is in the grammar, and every text of the grammar is read, unless
+    // memory runs out.
     ensures found { IfOk result (λ u. IsUgc bytes.now u.zones u.expiry u.used) }
     ensures only { (zones : Seq Place) (d : Expiry) (n : ℕ) → IsUgc bytes.now zones d n → Gives result (Ok (record { zones = zones; expiry = d; used = n })) }
 
-    // What is refused has this fault first, and each first fault is named, unless memory runs out.
+    // A fault that is returned is the first of the bytes, and the first fault is returned, unless
+    // memory runs out.
     ensures fault { (f : UgcFault) → result ≡ Err (Or.No f) → FirstFault bytes.now f }
     ensures fault_only { (f : UgcFault) → FirstFault bytes.now f → Gives result (Err f) }
 
-    // What is read may be written: some zones in order, each once, and an expiry in its range.
+    // What is read may be written: at least one zone, in order, each once, and an expiry in its
+    // range.
     ensures some { IfOk result (λ u. 0 < length u.zones) }
     ensures sorted { IfOk result (λ u. IsStrictlySortedBy by_place u.zones) }
     ensures expiry { IfOk result (λ u. IsTrue (is_day_stamp u.expiry)) }
@@ -260,13 +281,14 @@ pub fn read_ugc(alloc: Global, bytes: &[u8]) -> Result<UgcRead, Or<UgcFault>>
     read(alloc, bytes)
 }
 
-/// Bytes begin with one UGC text at most, whatever follows it, and no UGC text is a proper prefix of another.
+/// Bytes start with at most one UGC text, whatever follows it, and no UGC text is a proper prefix
+/// of another.
 pub fn one_text()
     ensures same { (bytes more : Seq ℕ) (zones zones' : Seq Place) (d d' : Expiry) (n n' : ℕ) → IsUgc bytes zones d n → IsUgc (bytes ++ more) zones' d' n' → (zones ≡ zones') × (d ≡ d') × (n ≡ n') }
     ensures no_prefix { (text more : Seq ℕ) (zones zones' : Seq Place) (d d' : Expiry) → IsUgc text zones d (length text) → IsUgc (text ++ more) zones' d' (length (text ++ more)) → more ≡ [] }
 {}
 
-/// Bytes begin with a UGC text or have a first fault, never both, and one fault at most.
+/// Bytes start with a UGC text or have a first fault, never both, and they have at most one.
 pub fn text_or_fault()
     ensures either { (bytes : Seq ℕ) → ((zones : Seq Place) × (d : Expiry) × (n : ℕ) × IsUgc bytes zones d n) ⊎ ((f : UgcFault) × FirstFault bytes f) }
     ensures not_both { (bytes : Seq ℕ) (zones : Seq Place) (d : Expiry) (n : ℕ) (f : UgcFault) → IsUgc bytes zones d n → FirstFault bytes f → ⊥ }

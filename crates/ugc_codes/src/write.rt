@@ -1,4 +1,4 @@
-//! UGC texts are written.
+//! Writes UGC texts.
 ghost use Rattle.std.specs.Prelude.{◌≡◌, ◌+◌, ◌≤◌, ◌<◌, ◌++◌, ◌∷◌, [], List as Seq, ℕ, Some, IfOk, OnOk, IsTrue, length, if◌then◌else◌};
 ghost use Rattle.std.specs.List.{All};
 ghost use Rattle.std.specs.List.Sorted.{IsStrictlySortedBy};
@@ -13,7 +13,7 @@ use crate::span::Span;
 use hazard_types::{DayStamp, List, Oom, Text, Zone, day_text, three_digits, zone_text};
 use std::alloc::Global;
 
-/// Whether two places have one state and kind.
+/// Whether two zones have the same state and kind.
 fn are_alike(a: &Zone, b: &Zone) -> bool
     ensures { result ≡ are_alike a.now b.now }
 {
@@ -22,7 +22,7 @@ fn are_alike(a: &Zone, b: &Zone) -> bool
     x[0] == y[0] && x[1] == y[1] && a.kind().letter() == b.kind().letter()
 }
 
-/// Whether a place comes just behind a span.
+/// Whether a zone is the next after those of a span.
 fn goes_on(span: &Span, zone: &Zone) -> bool
     ensures value { result ≡ goes_on span.now zone.now }
     ensures place { IsPlace zone.now }
@@ -31,7 +31,7 @@ fn goes_on(span: &Span, zone: &Zone) -> bool
     are_alike(&span.first, zone) && u32::from(number) == u32::from(span.last) + 1
 }
 
-/// Adds a run, where it has three zones or more, or its zones.
+/// Appends the groups of a span: two zones are two groups, else there is one.
 fn push_pieces(groups: &mut List<Span>, span: &Span) -> Result<(), Oom>
     requires { span.now.last ≤ 999 }
     ensures value { OnOk result (groups.new ≡ groups.old ++ pieces span.now) }
@@ -57,7 +57,7 @@ fn push_pieces(groups: &mut List<Span>, span: &Span) -> Result<(), Oom>
     }
 }
 
-/// The groups of zones in order.
+/// Returns the groups of zones, which are in order.
 fn groups_of(alloc: Global, zones: &[Zone]) -> Result<List<Span>, Oom>
     requires { 0 < length zones.now }
     ensures value { IfOk result (λ list. list ≡ groups zones.now) }
@@ -85,7 +85,7 @@ fn groups_of(alloc: Global, zones: &[Zone]) -> Result<List<Span>, Oom>
     Ok(list)
 }
 
-/// Adds a code, short behind another of its state and kind.
+/// Appends a zone, or its number alone if state and kind are those of the group before.
 fn push_code(own: &mut Text, before: &Option<Zone>, zone: &Zone) -> Result<(), Oom>
     ensures value { OnOk result (own.new ≡ own.old ++ code_part before.now zone.now) }
     ensures short { OnOk result (length own.new ≤ length own.old + 6) }
@@ -102,7 +102,7 @@ fn push_code(own: &mut Text, before: &Option<Zone>, zone: &Zone) -> Result<(), O
     }
 }
 
-/// Adds the end of a run.
+/// Appends `>` and the last number of a run; nothing for one zone.
 #[tactic(auto, unfolding(crate::specs::Grammar::run_end))]
 fn push_end(own: &mut Text, span: &Span) -> Result<(), Oom>
     requires { span.now.last ≤ 999 }
@@ -116,7 +116,7 @@ fn push_end(own: &mut Text, span: &Span) -> Result<(), Oom>
     own.extend(&[b'>', digits[0], digits[1], digits[2]])
 }
 
-/// A group and its hyphen.
+/// Returns a group and its hyphen.
 fn own_of(alloc: Global, before: &Option<Zone>, span: &Span) -> Result<Text, Oom>
     requires { span.now.last ≤ 999 }
     ensures value { IfOk result (λ own. own ≡ own_text before.now span.now) }
@@ -129,10 +129,13 @@ fn own_of(alloc: Global, before: &Option<Zone>, span: &Span) -> Result<Text, Oom
     Ok(own)
 }
 
-/// The most columns of a line.
+/// The greatest length of a line, in characters.
+///
+/// Source: docs/DECISIONS.md, "Reading of texts" (UGC width).
 const WIDTH: usize = 66;
 
-/// Puts a group on the line, or on the next, and returns the column behind it.
+/// Appends a group, after an LF if the line would become longer than `WIDTH`. `column` is the
+/// length of the line before, and the length after is returned.
 fn put(out: &mut Text, column: usize, own: &[u8]) -> Result<usize, Oom>
     requires column { column ≤ 66 }
     requires short { length own.now ≤ 11 }
@@ -180,7 +183,16 @@ fn write(alloc: Global, zones: &[Zone], expiry: DayStamp) -> Result<Text, Oom>
     Ok(text)
 }
 
-/// The UGC text of zones in order, each once. Its lines have at most 66 characters, with LF between them and none at the end.
+/// Returns the one UGC text that the desk writes for `zones`, which are in order, each once, and
+/// `expiry`. Three and more zones in a row are a run, state and kind come where they change, and
+/// lines have at most 66 characters, with LF between them and none at the end.
+///
+/// # Errors
+///
+/// Out of memory.
+///
+/// Source: NWS Instruction 10-1702, UGC: zone ranges; docs/DECISIONS.md, "Reading of texts" (UGC
+/// width).
 pub fn write_ugc(alloc: Global, zones: &List<Zone>, expiry: DayStamp) -> Result<Text, Oom>
     requires some { 0 < length zones.now }
     requires sorted { IsStrictlySortedBy by_place zones.now }
@@ -188,7 +200,7 @@ pub fn write_ugc(alloc: Global, zones: &List<Zone>, expiry: DayStamp) -> Result<
     ensures value { IfOk result (λ text. text ≡ ugc_text zones.now expiry) }
     // It reads back, whatever bytes follow.
     ensures back { IfOk result (λ text. (rest : Seq ℕ) → IsUgc (text ++ rest) zones.now expiry (length text)) }
-    // No longer UGC text begins with it.
+    // No longer UGC text starts with it.
     ensures alone { IfOk result (λ text. (more : Seq ℕ) (named : Seq Place) (d : Expiry) (n : ℕ) → IsUgc (text ++ more) named d n → (named ≡ zones.now) × (d ≡ expiry) × (n ≡ length text)) }
 {
     write(alloc, zones.as_slice(), expiry)

@@ -1,4 +1,4 @@
-//! Zones gathered, each once.
+//! Collects zones, each once.
 ghost use Rattle.std.specs.Prelude.{◌≡◌, ◌+◌, ◌-◌, ◌≤◌, [], true, None, IfOk, OnOk};
 ghost use Rattle.std.specs.List.Sorted.{IsStrictlySortedBy};
 ghost use Rattle.hazard_types.specs.Places.{by_place};
@@ -10,10 +10,8 @@ use std::alloc::Global;
 use std::collections::BTreeSet;
 use std::marker::Model;
 
-/// Zones, each once.
-///
-/// They stand in a list while each new one is behind the last. From the first one that is not,
-/// they stand in a set.
+/// A set of zones. They are in a list while each zone that is added comes after all before it; from
+/// the first that does not they are in a tree.
 #[derive(Drop)]
 pub struct ZoneSet {
     rising: Option<List<Zone>>,
@@ -32,7 +30,7 @@ impl Model for ZoneSet {
     ghost invariant = { λ z. IsKept z.rising z.mixed.keys };
 }
 
-/// Whether a zone is behind the last of these.
+/// Whether a zone comes after the last of `zones`, which are in order.
 fn is_behind(zones: &[Zone], zone: &Zone) -> bool
     ensures { result ≡ is_behind zones.now zone.now }
 {
@@ -42,7 +40,7 @@ fn is_behind(zones: &[Zone], zone: &Zone) -> bool
     }
 }
 
-/// Adds the zones from one to a last number at the end. The first is behind those that are there.
+/// Appends the zones from `first` to the number `last`; `first` comes after those in the list.
 fn push_run(rising: &mut List<Zone>, first: Zone, last: u16) -> Result<(), Oom>
     requires range { last ≤ 999 }
     requires sorted { IsStrictlySortedBy by_place rising.old }
@@ -56,7 +54,7 @@ fn push_run(rising: &mut List<Zone>, first: Zone, last: u16) -> Result<(), Oom>
     Ok(())
 }
 
-/// Adds the zones from one to a last number, each in its place.
+/// Inserts the zones from `first` to the number `last`.
 fn insert_run(mixed: &mut BTreeSet<Zone>, first: Zone, last: u16) -> Result<(), Oom>
     requires { last ≤ 999 }
     ensures { OnOk result (mixed.new.keys ≡ add_run mixed.old.keys first (last + 1 - first.number)) }
@@ -67,7 +65,7 @@ fn insert_run(mixed: &mut BTreeSet<Zone>, first: Zone, last: u16) -> Result<(), 
     Ok(())
 }
 
-/// Zones in order come into a set that has none.
+/// Inserts zones, which are in order, into an empty set.
 fn insert_all(mixed: &mut BTreeSet<Zone>, zones: &[Zone]) -> Result<(), Oom>
     requires sorted { IsStrictlySortedBy by_place zones.now }
     requires empty { mixed.old.keys ≡ [] }
@@ -79,7 +77,7 @@ fn insert_all(mixed: &mut BTreeSet<Zone>, zones: &[Zone]) -> Result<(), Oom>
     Ok(())
 }
 
-/// The zones that rose, if there are any, come into the set.
+/// Moves the zones of the list into the set, if there is a list.
 fn mix(rising: &mut Option<List<Zone>>, mixed: &mut BTreeSet<Zone>) -> Result<(), Oom>
     requires { IsKept rising.old mixed.old.keys }
     ensures none { rising.new ≡ None }
@@ -91,7 +89,7 @@ fn mix(rising: &mut Option<List<Zone>>, mixed: &mut BTreeSet<Zone>) -> Result<()
     }
 }
 
-/// The zones of a set in order.
+/// Returns the zones of a set, in order.
 fn list_of(alloc: Global, mixed: BTreeSet<Zone>) -> Result<List<Zone>, Oom>
     ensures value { IfOk result (λ list. list ≡ mixed.keys) }
     ensures sorted { IfOk result (λ list. IsStrictlySortedBy by_place list) }
@@ -104,6 +102,7 @@ fn list_of(alloc: Global, mixed: BTreeSet<Zone>) -> Result<List<Zone>, Oom>
 }
 
 impl ZoneSet {
+    /// Returns an empty set.
     pub fn new(alloc: Global) -> Self
         ensures { result ≡ [] }
     {
@@ -113,7 +112,13 @@ impl ZoneSet {
         }
     }
 
-    /// Adds the zones from one to a last number.
+    /// Adds the zones from `first` to the number `last`; none if `last` is less than the number of
+    /// `first`. When it fails, some of the zones may be missing, also of those that were added
+    /// before.
+    ///
+    /// # Errors
+    ///
+    /// Out of memory.
     pub fn add_run(&mut self, first: Zone, last: u16) -> Result<(), Oom>
         requires { last ≤ 999 }
         ensures { OnOk result (self.new ≡ add_run self.old first (last + 1 - first.number)) }
@@ -127,7 +132,11 @@ impl ZoneSet {
         insert_run(&mut self.mixed, first, last)
     }
 
-    /// The zones in order.
+    /// Returns the zones, in order.
+    ///
+    /// # Errors
+    ///
+    /// Out of memory.
     pub fn into_list(self, alloc: Global) -> Result<List<Zone>, Oom>
         ensures value { IfOk result (λ list. list ≡ self) }
         ensures sorted { IfOk result (λ list. IsStrictlySortedBy by_place list) }

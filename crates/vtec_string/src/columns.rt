@@ -1,7 +1,9 @@
-//! Where the columns stand.
+//! The columns of a P-VTEC string, as indices of its bytes.
+//!
+//! Source: NWS Instruction 10-1703, P-VTEC.
 use std::ops::Range;
 
-/// How many characters a P-VTEC text has.
+/// The length of a P-VTEC string, in bytes.
 pub const LENGTH: usize = 48;
 
 pub const CLASS: usize = 1;

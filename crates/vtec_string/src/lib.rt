@@ -1,4 +1,6 @@
-//! P-VTEC texts: `/k.aaa.cccc.pp.s.####.yymmddThhnnZ-yymmddThhnnZ/`.
+//! P-VTEC strings, as `/k.aaa.cccc.pp.s.####.yymmddThhnnZ-yymmddThhnnZ/`, read and written.
+//!
+//! For crates that read or write products. One begins with `read_vtec` and `vtec_text`.
 #![tactic(auto)]
 
 mod columns;

@@ -1,4 +1,4 @@
-//! P-VTEC texts are read.
+//! Reads P-VTEC strings.
 ghost use Rattle.std.specs.Prelude.{◌≡◌, ◌&&◌, ◌||◌, ◌==◌, ◌∷◌, [], length, slice_index, codes, bytes_eq, true, Some, IfSome};
 ghost use Rattle.hazard_types.specs.declared.line.Vtec.{Vtec as Values};
 ghost use Rattle.vtec_string.specs.Columns.{separators, has_columns, office_at, phenomenon_at, number_at, values, vtec_of, IsVtec};
@@ -8,7 +8,7 @@ use hazard_types::{
     Action, Class, Hazard, Minute, Phen, Sig, Vtec, are_name_bytes, significance_in, time_in,
 };
 
-/// The office of four characters; None where they are none.
+/// Returns the office, or `None` if a character is not A-Z or 0-9.
 fn office_of(text: &[u8]) -> Option<[u8; 4]>
     ensures { result ≡ office_at text.now }
 {
@@ -22,7 +22,7 @@ fn office_of(text: &[u8]) -> Option<[u8; 4]>
     }
 }
 
-/// The phenomenon of two letters; None where they are none.
+/// Returns the phenomenon, or `None` if a character is not A-Z.
 fn phenomenon_of(text: &[u8]) -> Option<Phen>
     requires { length text.now ≡ 2 }
     ensures { result ≡ phenomenon_at text.now }
@@ -30,7 +30,7 @@ fn phenomenon_of(text: &[u8]) -> Option<Phen>
     Phen::new([text[0], text[1]])
 }
 
-/// The number of four digits; None where a byte is no digit.
+/// Returns the event tracking number, or `None` if a character is not a digit.
 #[tactic(auto, using(crate::proofs::Numbers::number_hit, crate::proofs::Numbers::number_back), unfolding(crate::specs::Columns::number_at))]
 fn number_of(text: &[u8]) -> Option<u16>
     ensures { result ≡ number_at text.now }
@@ -47,7 +47,7 @@ fn number_of(text: &[u8]) -> Option<u16>
     }
 }
 
-/// Whether length and separators are those of a P-VTEC text.
+/// Whether length and separators are those of a P-VTEC string.
 #[tactic(auto, unfolding(crate::specs::Columns::has_columns))]
 fn has_columns(bytes: &[u8]) -> bool
     ensures value { result ≡ has_columns bytes.now }
@@ -63,7 +63,7 @@ fn has_columns(bytes: &[u8]) -> bool
     separators == *b"/......-/"
 }
 
-/// The values, where each column has one.
+/// Returns the values of all columns, or `None` if one of them is missing.
 fn values(
     class: Option<Class>,
     action: Option<Action>,
@@ -109,12 +109,15 @@ fn values_of(bytes: &[u8]) -> Option<Vtec>
     )
 }
 
-/// The values of a P-VTEC text; None where the bytes are none.
+/// Parses a P-VTEC string: 48 bytes, from slash to slash, without a line end. `None` if `bytes` is
+/// not one. A time of zeros is `None`: a begin that has passed, an end until further notice.
+///
+/// Source: NWS Instruction 10-1703, P-VTEC.
 #[tactic(auto, using(crate::proofs::Laying::values_found, crate::proofs::Laying::vtec_hit))]
 pub fn read_vtec(bytes: &[u8]) -> Option<Vtec>
-    // The text has these values.
+    // The bytes have these values.
     ensures found { IfSome result (IsVtec bytes.now) }
-    // Each text is read, so None comes exactly where the bytes are no P-VTEC text.
+    // Every P-VTEC string is read, so `None` means that the bytes are not one.
     ensures only { (v : Values) → IsVtec bytes.now v → result ≡ Some v }
     // The same as one function of the bytes.
     ensures exact { result ≡ vtec_of bytes.now }

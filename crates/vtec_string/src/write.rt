@@ -1,4 +1,4 @@
-//! P-VTEC texts are written.
+//! Writes P-VTEC strings.
 ghost use Rattle.std.specs.Prelude.{◌≡◌, ◌≤◌, IsTrue, List as Seq, ℕ, length};
 ghost use Rattle.hazard_types.specs.Places.{are_letters};
 ghost use Rattle.hazard_types.specs.Characters.{is_office};
@@ -8,7 +8,7 @@ ghost use Rattle.vtec_string.specs.Columns.{vtec_text, IsVtec};
 use crate::columns::{ACTION, BEGIN, CLASS, END, LENGTH, NUMBER, OFFICE, PHENOMENON, SIGNIFICANCE};
 use hazard_types::{Phen, Vtec, four_digits, time_text};
 
-/// The letters of a phenomenon.
+/// Returns the two letters of a phenomenon, with what the proof needs of them.
 fn letters_of(phen: Phen) -> [u8; 2]
     ensures value { result ≡ phen }
     ensures letters { IsTrue (are_letters result) }
@@ -17,7 +17,7 @@ fn letters_of(phen: Phen) -> [u8; 2]
     phen.letters()
 }
 
-/// The template, filled.
+/// Returns the template with the values in its columns.
 #[tactic(auto, unfolding(crate::specs::Columns::vtec_text))]
 fn filled(v: &Vtec) -> [u8; LENGTH]
     requires { v.now.etn ≤ 9999 }
@@ -38,14 +38,17 @@ fn filled(v: &Vtec) -> [u8; LENGTH]
     text
 }
 
-/// The 48 characters of these values.
+/// Returns the P-VTEC string of `v`, 48 bytes from slash to slash, without a line end. A time of
+/// `None` is written as zeros, `000000T0000Z`.
+///
+/// Source: NWS Instruction 10-1703, P-VTEC.
 pub fn vtec_text(v: &Vtec) -> [u8; LENGTH]
     requires office { IsTrue (is_office v.now.office) }
     requires number { v.now.etn ≤ 9999 }
     ensures value { result ≡ vtec_text v.now }
     // Each column has what the values say.
     ensures columns { IsVtec result v.now }
-    // No other text has these values.
+    // No other bytes have these values.
     ensures only { (bytes : Seq ℕ) → IsVtec bytes v.now → bytes ≡ result }
 {
     filled(v)

@@ -1,4 +1,4 @@
-//! A zone as one number.
+//! A zone as one number, by which zones compare fast.
 ghost use Rattle.std.specs.Prelude.{◌≡◌};
 ghost use Rattle.std.specs.Cmp.{partial_equiv_from_equiv, partial_order_from_total};
 ghost use Rattle.std.specs.Ordering.{as_partial_cmp, eq_by_cmp};
@@ -11,7 +11,7 @@ use hazard_types::{Kind, Zone};
 use std::cmp::Ordering;
 use std::marker::Model;
 
-/// A zone as one number, which tells it. The numbers are in order as their zones are, so that they compare at once.
+/// A zone as one number. The numbers are in the order of their zones.
 #[derive(Clone, Copy)]
 pub struct ZoneCode {
     code: u32,
@@ -32,7 +32,7 @@ impl Model for ZoneCode {
     ghost inverse_ok = { λ z h. λ i. record { code = code_back z.code i } };
 }
 
-/// Counties come before public zones.
+/// Returns 0 for counties, which come first, and 1 for public zones.
 fn kind_rank(kind: Kind) -> u32
     ensures { result ≡ kind_rank kind }
 {
@@ -42,7 +42,7 @@ fn kind_rank(kind: Kind) -> u32
     }
 }
 
-/// The number of a zone.
+/// Returns the number of a zone: its letters, a bit for its kind, and ten bits for its number.
 fn code_of(zone: &Zone) -> u32
     ensures value { result ≡ code_of zone.now }
     ensures place { IsPlace zone.now }
@@ -53,6 +53,7 @@ fn code_of(zone: &Zone) -> u32
 }
 
 impl ZoneCode {
+    /// Returns the number of a zone.
     pub fn new(zone: &Zone) -> Self
         ensures { result ≡ zone.now }
     {
@@ -61,7 +62,7 @@ impl ZoneCode {
         }
     }
 
-    /// The zone.
+    /// Returns the zone of the number.
     pub fn zone(&self) -> Zone
         ensures { result ≡ self.now }
     {

@@ -1,4 +1,7 @@
-//! Values by zone: found mostly by one comparison, where zones are asked for in the order in which they stand.
+//! A map by zone, fast for look-ups in order.
+//!
+//! For crates that hold a value in many zones. One begins with `ZoneMap::set`, `ZoneMap::get` and
+//! `ZoneMap::list`.
 #![tactic(auto)]
 
 mod code;

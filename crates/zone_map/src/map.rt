@@ -1,4 +1,4 @@
-//! A value at each of some zones.
+//! A map from zones to values.
 ghost use Rattle.std.specs.Prelude.{◌≡◌, [], None, option_map, slice_get, IfOk, OnOk};
 ghost use Rattle.std.specs.BTreeMap.{insert_entry, is_at};
 ghost use Rattle.std.specs.List.Sorted.{IsStrictlySortedBy};
@@ -13,13 +13,13 @@ use std::alloc::Global;
 use std::collections::BTreeMap;
 use std::marker::Model;
 
-/// A value at each of some zones.
-///
-/// They stand in a list while few stand behind the place of each new zone. From the first new zone
-/// behind whose place more stand, they stand in a tree.
+/// A map from zones to values, in the order of zones. The entries are in a sorted list while few of
+/// them come after each new one. From the first new one that comes before more than 64 others they
+/// are in a tree, and so after `clear`.
 #[derive(Drop)]
 pub struct ZoneMap<V> {
     rising: Option<Vec<(ZoneCode, V)>>,
+    /// The index after the entry that was set last.
     near: usize,
     others: BTreeMap<ZoneCode, V>,
 }
@@ -36,7 +36,7 @@ impl<V> Model for ZoneMap<V> {
     ghost invariant = { λ m. AreKept m.rising m.others.entries };
 }
 
-/// Sets the value of a zone in a tree. `before` becomes the one that was there.
+/// Sets the value of a zone in the tree. `before` becomes the value before, if there was one.
 fn set_among<V: Copy>(
     others: &mut BTreeMap<ZoneCode, V>,
     zone: ZoneCode,
@@ -51,7 +51,7 @@ fn set_among<V: Copy>(
     Ok(())
 }
 
-/// Entries in order come into a tree that has none.
+/// Inserts entries, which are in order, into an empty tree.
 fn insert_all<V: Copy>(
     others: &mut BTreeMap<ZoneCode, V>,
     list: &[(ZoneCode, V)],
@@ -68,7 +68,7 @@ fn insert_all<V: Copy>(
     Ok(())
 }
 
-/// The entries that rose, if there are any, come into the tree.
+/// Moves the entries of the list into the tree, if there is a list.
 fn settle<V: Copy>(
     rising: &mut Option<Vec<(ZoneCode, V)>>,
     others: &mut BTreeMap<ZoneCode, V>,
@@ -84,7 +84,7 @@ fn settle<V: Copy>(
     }
 }
 
-/// The entries of a list.
+/// Returns the entries of the list.
 fn entries_in<V: Copy>(alloc: Global, list: &[(ZoneCode, V)]) -> Result<List<(Zone, V)>, Oom>
     ensures { IfOk result (λ entries. entries ≡ list.now) }
 {
@@ -95,7 +95,7 @@ fn entries_in<V: Copy>(alloc: Global, list: &[(ZoneCode, V)]) -> Result<List<(Zo
     Ok(List::from_vec(entries))
 }
 
-/// The entries of a tree in order.
+/// Returns the entries of the tree, in order.
 fn listed<V: Copy>(alloc: Global, others: &BTreeMap<ZoneCode, V>) -> Result<List<(Zone, V)>, Oom>
     ensures { IfOk result (λ list. list ≡ others.now.entries) }
 {
@@ -106,7 +106,7 @@ fn listed<V: Copy>(alloc: Global, others: &BTreeMap<ZoneCode, V>) -> Result<List
     Ok(List::from_vec(list))
 }
 
-/// The value of the first zone of a tree.
+/// Returns the value of the first zone of the tree.
 fn first_among<V: Copy>(others: &BTreeMap<ZoneCode, V>) -> Option<V>
     ensures { result ≡ option_map (λ e. e.1) (slice_get others.now.entries 0) }
 {
@@ -117,7 +117,7 @@ fn first_among<V: Copy>(others: &BTreeMap<ZoneCode, V>) -> Option<V>
 }
 
 impl<V: Copy> ZoneMap<V> {
-    /// No zones.
+    /// Returns an empty map, without capacity.
     pub fn new(alloc: Global) -> Self
         ensures { result ≡ [] }
     {
@@ -128,7 +128,8 @@ impl<V: Copy> ZoneMap<V> {
         }
     }
 
-    /// The value at a zone. `near` is a guess of its place, and becomes the place behind the one found.
+    /// Returns the value at a zone. `near` is a guess of its index, and becomes the index after it
+    /// if the zone is found in the list; so it is right if zones are asked for in order.
     pub fn get(&self, near: &mut usize, zone: &Zone) -> Option<V>
         ensures value { result ≡ lookup (is_at (by_place zone.now)) self.now }
         ensures order { IsStrictlySortedBy by_place (keys_of self.now) }
@@ -140,7 +141,12 @@ impl<V: Copy> ZoneMap<V> {
         }
     }
 
-    /// Sets the value at a zone. `before` becomes the one that was there. When memory runs out, values may be gone.
+    /// Sets the value at a zone. `before` becomes the value before, if there was one. When it
+    /// fails, values of other zones may be lost.
+    ///
+    /// # Errors
+    ///
+    /// Out of memory.
     pub fn set(&mut self, zone: Zone, value: V, before: &mut Option<V>) -> Result<(), Oom>
         ensures set { OnOk result (self.new ≡ insert_entry by_place self.old zone value) }
         ensures before { OnOk result (before.new ≡ lookup (is_at (by_place zone)) self.old) }
@@ -157,7 +163,7 @@ impl<V: Copy> ZoneMap<V> {
         set_among(&mut self.others, code, value, before)
     }
 
-    /// The value at the first zone.
+    /// Returns the value at the first zone.
     pub fn first(&self) -> Option<V>
         ensures { result ≡ option_map (λ e. e.1) (slice_get self.now 0) }
     {
@@ -167,7 +173,11 @@ impl<V: Copy> ZoneMap<V> {
         }
     }
 
-    /// The zones in order, each with its value.
+    /// Returns the zones in order, each with its value.
+    ///
+    /// # Errors
+    ///
+    /// Out of memory.
     pub fn list(&self, alloc: Global) -> Result<List<(Zone, V)>, Oom>
         ensures value { IfOk result (λ list. list ≡ self.now) }
         ensures order { IsStrictlySortedBy by_place (keys_of self.now) }
@@ -178,7 +188,7 @@ impl<V: Copy> ZoneMap<V> {
         }
     }
 
-    /// No zone has a value any more.
+    /// Removes all entries.
     pub fn clear(&mut self)
         ensures { self.new ≡ [] }
     {

@@ -1,4 +1,4 @@
-//! Entries in a list, in order by zone.
+//! Looks up and sets values in a list of entries, which is sorted by zone.
 ghost use Rattle.std.specs.Prelude.{◌≡◌, ◌≤◌, true, length, None, MatchOption, OnOk};
 ghost use Rattle.std.specs.BTreeMap.{insert_entry, is_at};
 ghost use Rattle.std.specs.List.Sorted.{IsStrictlySortedBy};
@@ -9,10 +9,10 @@ ghost use Rattle.zone_map.specs.Rising.{is_behind, is_seat, stands_at};
 use crate::code::ZoneCode;
 use hazard_types::Oom;
 
-/// So many entries are moved for one that comes before them.
+/// How many entries are moved at most for a new one that comes before them.
 const FEW: usize = 64;
 
-/// Whether a zone stands at a place.
+/// Whether the entry at index `place` is that of the zone.
 fn stands_at<V: Copy>(list: &[(ZoneCode, V)], place: usize, zone: &ZoneCode) -> bool
     ensures { result ≡ stands_at list.now place zone.now }
 {
@@ -22,7 +22,7 @@ fn stands_at<V: Copy>(list: &[(ZoneCode, V)], place: usize, zone: &ZoneCode) -> 
     }
 }
 
-/// The place of a zone, where it stands in the list. `near` is a guess.
+/// Returns the index of a zone's entry. `near` is a guess.
 fn place_of<V: Copy>(list: &[(ZoneCode, V)], near: usize, zone: &ZoneCode) -> Option<usize>
     requires { IsStrictlySortedBy by_place (keys_of list.now) }
     ensures { MatchOption result (lookup (is_at (by_place zone.now)) list.now ≡ None) (λ place. stands_at list.now place zone.now ≡ true) }
@@ -36,7 +36,8 @@ fn place_of<V: Copy>(list: &[(ZoneCode, V)], near: usize, zone: &ZoneCode) -> Op
     }
 }
 
-/// The value of a zone, where it stands in the list. `near` is a guess, and becomes the place behind the one found.
+/// Returns the value of a zone. `near` is a guess of its index, and becomes the index after it if
+/// the zone is found.
 pub fn value_near<V: Copy>(list: &[(ZoneCode, V)], near: &mut usize, zone: &ZoneCode) -> Option<V>
     requires { IsStrictlySortedBy by_place (keys_of list.now) }
     ensures { result ≡ lookup (is_at (by_place zone.now)) list.now }
@@ -50,7 +51,7 @@ pub fn value_near<V: Copy>(list: &[(ZoneCode, V)], near: &mut usize, zone: &Zone
     }
 }
 
-/// Whether a zone is behind the last of these.
+/// Whether a zone comes after the last entry.
 fn is_behind<V: Copy>(list: &[(ZoneCode, V)], zone: &ZoneCode) -> bool
     ensures { result ≡ is_behind list.now zone.now }
 {
@@ -60,7 +61,8 @@ fn is_behind<V: Copy>(list: &[(ZoneCode, V)], zone: &ZoneCode) -> bool
     }
 }
 
-/// The place where a zone stands, or where it is to come. `near` is a guess.
+/// Returns the index of a zone's entry, or the index at which it is to be inserted. `near` is a
+/// guess.
 pub fn seat_of<V: Copy>(list: &[(ZoneCode, V)], near: usize, zone: &ZoneCode) -> usize
     requires { IsStrictlySortedBy by_place (keys_of list.now) }
     ensures seat { is_seat list.now result zone.now ≡ true }
@@ -78,14 +80,19 @@ pub fn seat_of<V: Copy>(list: &[(ZoneCode, V)], near: usize, zone: &ZoneCode) ->
     }
 }
 
-/// Whether a zone stands at its seat, or few of the others stand behind it.
+/// Whether the zone has its entry at `seat`, or at most 64 entries would be moved for it.
 pub fn has_room<V: Copy>(list: &[(ZoneCode, V)], seat: usize, zone: &ZoneCode) -> bool
     requires { seat ≤ length list.now }
 {
     list.len() - seat <= FEW || stands_at(list, seat, zone)
 }
 
-/// Sets the value of a zone at its seat. `before` becomes the one that was there.
+/// Sets the value of a zone, whose entry is or belongs at index `seat`. `before` becomes the value
+/// before, if there was one.
+///
+/// # Errors
+///
+/// Out of memory; the list is as before.
 pub fn set_at<V: Copy>(
     list: &mut Vec<(ZoneCode, V)>,
     seat: usize,
