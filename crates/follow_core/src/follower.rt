@@ -29,8 +29,8 @@ pub enum Heard {
 
 /// Takes the products of an office in order, each once, whatever answers are late, lost or
 /// repeated. It keeps the rows after them and no lines; which products it took is known to
-/// contracts alone. If memory runs out while a product is added, the rows are lost, and each text
-/// to come and `shown` are out of memory.
+/// contracts alone. If memory runs out while a product is added, the rows are lost: from then on no
+/// text is taken, and `shown` is out of memory.
 ///
 /// Source: docs/FOLLOWING.md, "Nothing is lost".
 #[derive(Drop)]

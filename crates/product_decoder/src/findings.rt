@@ -57,7 +57,7 @@ pub fn breaches_in(alloc: Global, taken: &[Taken]) -> Result<List<Found>, Oom>
     Ok(out)
 }
 
-/// Adds the lines of a run, each once.
+/// Adds the lines of a run, each once rather than in each zone.
 fn put_lines(verdicts: &[Verdict], out: &mut Vec<(Line, Option<Breach>)>) -> Result<(), Oom>
     ensures { OnOk result (out.new.items ≡ out.old.items ++ map judged_by verdicts.now) }
 {
@@ -67,7 +67,7 @@ fn put_lines(verdicts: &[Verdict], out: &mut Vec<(Line, Option<Breach>)>) -> Res
     Ok(())
 }
 
-/// Adds the lines of a run, each once, if it has zones.
+/// Adds the lines of a run, each once rather than in each zone, if it has zones.
 fn put_firsts(run: &Run, out: &mut Vec<(Line, Option<Breach>)>) -> Result<(), Oom>
     ensures { OnOk result (out.new.items ≡ out.old.items ++ firsts_in run.now) }
 {
@@ -77,7 +77,7 @@ fn put_firsts(run: &Run, out: &mut Vec<(Line, Option<Breach>)>) -> Result<(), Oo
     }
 }
 
-/// Returns the lines of runs, each once for its run.
+/// Returns the lines of runs that have zones, each once rather than in each zone.
 fn firsts_of(alloc: Global, runs: &[Run]) -> Result<List<(Line, Option<Breach>)>, Oom>
     ensures { IfOk result (λ firsts. firsts ≡ firsts_of runs.now) }
 {

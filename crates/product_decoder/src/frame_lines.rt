@@ -60,7 +60,7 @@ fn event_pairs(
     Ok(said)
 }
 
-/// Returns the line that a pair is in a zone.
+/// Converts a pair to the line of one zone.
 fn line_in(zone: &Zone, said: &EventPair) -> Line
     ensures { result ≡ line_in zone.now said.now }
 {
@@ -74,7 +74,7 @@ fn line_in(zone: &Zone, said: &EventPair) -> Line
     }
 }
 
-/// Returns the lines that pairs are in a zone.
+/// Converts pairs to the lines of one zone.
 fn lines_at(alloc: Global, zone: &Zone, said: &[EventPair]) -> Result<List<Line>, Oom>
     ensures { IfOk result (λ lines. lines ≡ map (line_in zone.now) said.now) }
 {
@@ -85,7 +85,7 @@ fn lines_at(alloc: Global, zone: &Zone, said: &[EventPair]) -> Result<List<Line>
     Ok(List::from_vec(lines))
 }
 
-/// Adds zones with the lines that pairs are in each of them, if there are zones.
+/// Adds zones and the lines of pairs as a part, if there are zones.
 fn put_part<'a>(
     alloc: Global,
     parts: &mut Vec<Part<'a>>,

@@ -251,7 +251,8 @@ impl Held {
         self.give_all(alloc)
     }
 
-    /// Returns the last line of a stream that has ended, if it is a heading line.
+    /// Returns the last line of a stream that has ended if it is a heading line, and passes over it
+    /// otherwise.
     fn last_line(&mut self, alloc: Global) -> Result<Option<Text>, Oom>
         requires holds { HeldIs self.old }
         requires quiet { IsQuiet (rest_of self.old) }

@@ -197,7 +197,7 @@ impl Reader {
     ///
     /// Out of memory.
     ///
-    /// Source: docs/DECISIONS.md, "Lives".
+    /// Source: NWS Instruction 10-1703, P-VTEC event tracking numbers; docs/DECISIONS.md, "Lives".
     pub fn gaps(&self, alloc: Global) -> Result<List<GapFound>, Oom>
         ensures value { IfOk result (λ gaps. gaps ≡ gaps_found self.now.products) }
         // There is none exactly if the numbers of each hazard and year are 1, 2, .., k in the order

@@ -98,7 +98,7 @@ pub fn is_vtec_by(office: &[u8; 4], class: &Class, vtec: &Vtec) -> bool
     same_office(vtec.office, *office) && vtec.class == *class
 }
 
-/// Whether the P-VTEC line is of an office and class.
+/// Whether the P-VTEC line of `pair` is of an office and class.
 pub fn is_by(office: &[u8; 4], class: &Class, pair: &ZonePair) -> bool
     ensures { result ≡ is_by office.now class.now pair.now }
 {
@@ -149,7 +149,7 @@ pub fn end_of(end: &Option<Minute>) -> End
     }
 }
 
-/// Returns the line that a text's line is, given its event.
+/// Converts a line of a text, given its event.
 fn line_of_event(event: &Event, pair: &ZonePair) -> Line
     ensures { result ≡ line_of_event event.now (line_said pair.now) }
 {
@@ -163,8 +163,8 @@ fn line_of_event(event: &Event, pair: &ZonePair) -> Line
     }
 }
 
-/// Returns the line that a text's line is, with its event. `known` is an earlier line of the
-/// product with its event.
+/// Converts a line of a text and finds its event. `known` is an earlier line of the product with
+/// its event.
 fn line_of(rows: &RowIndex, t: Minute, known: &Option<Known>, pair: &ZonePair) -> Line
     requires { IsKnown rows.now t known.now }
     ensures { result ≡ line_of rows.now t (line_said pair.now) }

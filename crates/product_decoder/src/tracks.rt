@@ -84,7 +84,7 @@ fn add_product(alloc: Global, steps: &mut Steps, product: &Taken) -> Result<(), 
     Ok(())
 }
 
-/// Returns the steps of each event in its zones that the lawful lines of the products are.
+/// Returns the steps that the lawful lines of the products add, by event.
 fn steps_of_all(alloc: Global, taken: &[Taken]) -> Result<Steps, Oom>
     ensures { IfOk result (λ steps. flat steps.entries ≡ steps_of_all taken.now) }
 {

@@ -85,7 +85,8 @@ impl EventRows {
         RowsOf { rows: Some(self) }
     }
 
-    /// Returns the life of the row of an event in a zone. `near` is a guess of its index.
+    /// Returns the life of the row of an event in a zone. `near` is a guess of its index, and
+    /// becomes the index after it.
     fn life_at(&self, near: &mut usize, event: &Event, zone: &Zone) -> Option<&Life>
         ensures { option_map (λ life. life.now) result ≡ option_map life_of (row_at self.now event.now zone.now) }
     {
@@ -180,7 +181,8 @@ impl<'a> RowsOf<'a> {
         RowsOf { rows: None }
     }
 
-    /// Returns the life of the row of an event in a zone. `near` is a guess of its index.
+    /// Returns the life of the row of an event in a zone. `near` is a guess of its index, and
+    /// becomes the index after it.
     pub fn life_at(&self, near: &mut usize, event: &Event, zone: &Zone) -> Option<&Life>
         ensures { option_map (λ life. life.now) result ≡ option_map life_of (row_at self.now event.now zone.now) }
     {
@@ -208,7 +210,8 @@ impl<'a> RowsOf<'a> {
         }
     }
 
-    /// Returns the row of an event in a zone. `near` is a guess of its index.
+    /// Returns the row of an event in a zone. `near` is a guess of its index, and becomes the index
+    /// after it.
     pub fn row_at(&self, near: &mut usize, event: &Event, zone: &Zone) -> Option<Row>
         ensures { result ≡ row_at self.now event.now zone.now }
     {

@@ -178,8 +178,8 @@ impl RowIndex {
         self.latest_open(t, events_at(&self.events, number))
     }
 
-    /// Returns the open event that a line of a text is of, or `None` if it is NEW or no such event
-    /// is open.
+    /// Returns the open event of a line of a text, or `None` if the line is NEW or no event of its
+    /// hazard and number is open.
     fn event_going(&self, t: Minute, vtec: &Vtec) -> Option<Event>
         ensures { result ≡ event_going self.now t vtec.now }
     {
@@ -195,9 +195,9 @@ impl RowIndex {
         }
     }
 
-    /// Returns the event that a line of a text is of: NEW opens one of the year of issue, another
-    /// line is of the open one, or of one of the year of issue if none is open. `self` has the rows
-    /// just before the product, and `t` is the product's issue minute.
+    /// Returns the event of a line of a text: NEW opens one of the year of issue; any other line is
+    /// of the open event of its hazard and number, or of one of the year of issue if none is open.
+    /// `self` has the rows just before the product, and `t` is the product's issue minute.
     pub fn event_of(&self, t: Minute, vtec: &Vtec) -> Event
         ensures { result ≡ event_of self.now t vtec.now }
     {

@@ -284,7 +284,7 @@ impl LifeMap {
         }
     }
 
-    /// Returns the life of a zone. `near` is a guess of its index.
+    /// Returns the life of a zone. `near` is a guess of its index, and becomes the index after it.
     pub fn get(&self, near: &mut usize, zone: &Zone) -> Option<&Life>
         ensures { option_map (λ life. life.now) result ≡ lookup (is_at (by_place zone.now)) self.now }
     {

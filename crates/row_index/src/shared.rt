@@ -45,7 +45,8 @@ impl SharedRows {
         }
     }
 
-    /// Returns the life of the row of an event in a zone. `near` is a guess of its index.
+    /// Returns the life of the row of an event in a zone. `near` is a guess of its index, and
+    /// becomes the index after it.
     pub fn life_at(&self, near: &mut usize, event: &Event, zone: &Zone) -> Option<&Life>
         ensures { option_map (λ life. life.now) result ≡ option_map life_of (row_at (values_of self.now) event.now zone.now) }
     {

@@ -10,8 +10,8 @@ use event_life::{Breach, Life, is_routine};
 use hazard_types::{Line, List, Minute, Oom, Zone};
 use std::alloc::Global;
 
-/// Zones and the lines that a product has for each of them, as a segment does. The `zone` of a line
-/// here is not read.
+/// Zones, and the lines that a product has for each of them: those of one segment. The `zone` of a
+/// line here is not read.
 #[derive(Drop)]
 pub struct Part<'a> {
     pub zones: &'a [Zone],
