@@ -95,8 +95,8 @@ impl BoardRows {
         self.source(t).slice_of(z)
     }
 
-    /// Leaves the rows out of `live` that are not live at the last product's minute, unless more
-    /// than `MANY` are.
+    /// Leaves only the rows in `live` that are live at the last product's minute, unless these are
+    /// more than `MANY`.
     fn renew(&mut self) -> Result<(), Oom>
         ensures rows { self.new.rows ≡ self.old.rows }
         ensures spare { self.new.spare ≡ self.old.spare }

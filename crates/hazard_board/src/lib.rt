@@ -125,8 +125,8 @@ impl Board {
         self.rows.slice_of(&z)
     }
 
-    /// Returns rows of a zone, by event, among which are all that are live at `t`. They are fewer
-    /// than those of `slice_of` where many rows have ended.
+    /// Returns rows of a zone, by event, among which are all that are live at `t`. They may be far
+    /// fewer than those of `slice_of`, since most ended rows are left out.
     pub fn live_slice(&self, z: Zone, t: Minute) -> &[Row]
         ensures rows { shown_at t result.now ≡ live_in z t self.now.rows }
         ensures order { IsStrictlySortedBy by_row_event result.now }

@@ -36,7 +36,7 @@ impl Handle {
         }
     }
 
-    /// Returns the box of a handle that owns one.
+    /// Returns what a handle owns, which must be something, as a box taken apart.
     pub fn into_loose(self) -> Loose<Archive, Global>
         requires { IsSome self.value }
         ensures { Some result.value ≡ self.value }
