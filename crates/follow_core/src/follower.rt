@@ -1,4 +1,4 @@
-//! A follower of an office's products.
+//! The follower of an office's products.
 ghost use Rattle.std.specs.Prelude.{◌≡◌, ◌≢◌, ◌≤◌, ◌<◌, ◌++◌, ◌∷◌, List as Seq, [], Ok, Some, IfOk, OnOk, OnErr};
 ghost use Rattle.hazard_types.specs.Given.{Gives};
 ghost use Rattle.event_life.specs.Lives.{judged_product};
@@ -21,22 +21,27 @@ use std::snapshot::Snapshot;
 /// What became of a text.
 #[derive(Clone, Copy, Debug, PartialEq, Eq)]
 pub enum Heard {
-    /// It answers another question than the one after the follower's place, and was passed over.
+    /// It answers the question after another place than the follower's, and was not taken.
     Old,
     /// It was taken.
     New,
 }
 
-/// Takes the products of an office in their order, each once, whatever is asked twice, late or lost.
-/// It holds the rows after these and none of their lines; what was heard is there for contracts
-/// alone, without a byte. Where memory runs out while a product leaves its rows they are gone, and
-/// the follower answers out of memory from then on.
+/// Takes the products of an office in order, each once, whatever answers are late, lost or
+/// repeated. It keeps the rows after them and no lines; which products it took is known to
+/// contracts alone. If memory runs out while a product is added, the rows are lost: from then on no
+/// text is taken, and `shown` is out of memory.
+///
+/// Source: docs/FOLLOWING.md, "Nothing is lost".
 #[derive(Drop)]
 pub struct Follower {
     office: [u8; 4],
     class: Class,
+    /// The rows after the products, or `None` once they were lost.
     rows: Option<RowIndex>,
+    /// The frames that were taken, for contracts alone: they have no bytes.
     heard: Vec<Snapshot<Frame>>,
+    /// How many products were taken.
     place: u32,
 }
 
@@ -59,7 +64,7 @@ impl Model for Follower {
 }
 
 impl Follower {
-    /// No text is taken yet.
+    /// Returns a follower of an office and class that has taken no text.
     pub fn new(alloc: Global, office: [u8; 4], class: Class) -> Self
         ensures office { result.office ≡ office }
         ensures class { result.class ≡ class }
@@ -74,14 +79,14 @@ impl Follower {
         }
     }
 
-    /// How many texts were taken. The next question is the one after this place.
+    /// Returns how many texts were taken. The next question is the one after this place.
     pub fn place(&self) -> u32
         ensures { result ≡ place_of self.now }
     {
         self.place
     }
 
-    /// Takes a product, by its frame and its lines, which were judged by the rows before it.
+    /// Takes a product by its frame, and its lines as they were judged by the rows before it.
     fn keep(&mut self, alloc: Global, frame: &Frame, judged: &[Run]) -> Result<(), Oom>
         requires few { place_of self.old < 8192 }
         requires judged { spelled judged.now ≡ judged_product (rows_of self.old.products)
@@ -121,12 +126,13 @@ impl Follower {
         self.keep(alloc, frame, judged.as_slice())
     }
 
-    /// Hears a text that answers the question after a place, as a step of a schedule. It is taken exactly
-    /// where that is the follower's place and the text decodes.
+    /// Takes the text that answers the question after the place `after`, if that is the follower's
+    /// place; otherwise it is passed over. `after` is at most the place, which must be below 8,192.
     ///
     /// # Errors
     ///
-    /// The fault of the text's frame, and out of memory. Nothing is changed then.
+    /// The first fault of the text's frame, or out of memory; the products that were taken are as
+    /// before.
     pub fn hear(&mut self, alloc: Global, after: u32, text: &[u8]) -> Result<Heard, Or<FrameFault>>
         requires asked { after ≤ place_of self.old }
         requires few { place_of self.old < 8192 }
@@ -135,7 +141,8 @@ impl Follower {
         ensures ok { OnOk result (self.new ≡ having_heard self.old after text.now) }
         ensures err { OnErr result (self.new ≡ self.old) }
         ensures onward { place_of self.old ≤ place_of self.new }
-        // Where a schedule led to this follower and this text was the answer, the delivery leads on, and nothing is lost.
+        // If a schedule led to this follower and the text was the answer, its delivery leads on,
+        // and nothing is lost.
         ensures scheduled { OnOk result ((events : Seq Event) → (run events (begun self.old.office self.old.class)).follower ≡ self.old
             → answer_at (run events (begun self.old.office self.old.class)) after ≡ Some text.now
             → ((run (events ++ Delivered after ∷ []) (begun self.old.office self.old.class)).follower ≡ self.new)
@@ -149,11 +156,11 @@ impl Follower {
         Ok(Heard::New)
     }
 
-    /// The rows that are shown at a minute, by zone, then event.
+    /// Returns the rows that the products leave live at `t`, by zone, then event.
     ///
     /// # Errors
     ///
-    /// Out of memory.
+    /// Out of memory, here or while a product was added.
     pub fn shown(&self, alloc: Global, t: Minute) -> Result<List<Row>, Oom>
         ensures { IfOk result (λ rows. rows ≡ shown_at t (rows_of self.now.products)) }
     {

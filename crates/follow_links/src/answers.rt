@@ -1,4 +1,4 @@
-//! The head of an answer, by httparse.
+//! Parses the head of an HTTP answer, with `httparse`.
 ghost use Rattle.std.specs.Prelude.{◌≡◌, ◌≤◌, length};
 ghost use Rattle.httparse.specs.Spans.{IsResponseOf, IsResponseWithin};
 ghost use Rattle.follow_links.specs.Readings.{Says};
@@ -13,26 +13,29 @@ pub const ROOM: usize = 2731;
 /// The most bytes of a head.
 pub const MOST_BYTES: usize = 8192;
 
-/// What a head says of its answer.
+/// What the head of an answer says.
 #[derive(Clone, Copy, Debug)]
 pub struct Shape {
-    /// Where the body begins, and how many bytes it has.
+    /// The byte of the answer at which the body starts.
     pub from: usize,
+    /// The length of the body in bytes.
     pub body: u32,
     pub status: u16,
-    /// The link closes behind the answer.
+    /// Whether the link closes after the answer.
     pub closes: bool,
 }
 
-/// The head at the front of the bytes.
+/// The head at the start of some bytes.
 #[derive(Clone, Copy, Debug)]
 pub enum Head {
+    /// It is not whole yet.
     More,
+    /// There is none, or it is bad.
     Bad,
     Whole(Shape),
 }
 
-/// What the spans of a whole head say.
+/// Returns what the parts of a whole head say.
 fn shape_of(bytes: &[u8], fields: &[HeaderSpan], spans: &ResponseSpans) -> Head
     requires within { IsResponseWithin bytes.now fields.now spans.now }
     requires is { IsResponseOf bytes.now fields.now spans.now }
@@ -53,7 +56,9 @@ fn shape_of(bytes: &[u8], fields: &[HeaderSpan], spans: &ResponseSpans) -> Head
     }
 }
 
-/// Reads the head at the front of at most 8,192 bytes.
+/// Parses the head at the start of at most 8,192 bytes.
+///
+/// Source: docs/FOLLOWING.md, "How it ends".
 pub fn head_of(bytes: &[u8], fields: &mut [HeaderSpan]) -> Head
     requires short { length bytes.now ≤ 8192 }
     requires room { length fields.old ≡ 2731 }

@@ -1,11 +1,14 @@
-//! The question after a place.
+//! The request for the next product.
 ghost use Rattle.std.specs.Prelude.{◌≡◌, IfOk};
 ghost use Rattle.follow_links.specs.Talks.{ask};
 
 use hazard_types::{Oom, Text, put_number};
 use std::alloc::Global;
 
-/// The bytes of the question after a place.
+/// Returns the request for the product after a place, `GET /products/after/N HTTP/1.1` and an empty
+/// line.
+///
+/// Source: docs/FOLLOWING.md, "A round".
 pub fn ask_text(alloc: Global, place: u32) -> Result<Text, Oom>
     ensures { IfOk result (λ text. text ≡ ask place) }
 {

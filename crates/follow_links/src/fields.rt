@@ -1,4 +1,4 @@
-//! What the fields of a head say of the answer's length and end.
+//! What the fields of a head say of the answer's length and of the end of the link.
 ghost use Rattle.std.specs.Prelude.{◌≡◌, ◌≤◌, ◌<◌, None, IfSome, length, map, All};
 ghost use Rattle.httparse.specs.Spans.{IsHeaderWithin, header_bytes};
 ghost use Rattle.follow_links.specs.Answers.{is_named, same_letters, has_field, length_in, asks_to_close, closes};
@@ -22,7 +22,7 @@ fn is_named(buf: &[u8], field: &HeaderSpan, name: &[u8]) -> bool
     same_letters(field.name.of(buf), name)
 }
 
-/// Whether a field has this name, in any letter case.
+/// Whether there is a field with this name, in any letter case.
 fn has_field(buf: &[u8], fields: &[HeaderSpan], name: &[u8]) -> bool
     requires { All (IsHeaderWithin (length buf.now)) fields.now }
     ensures { result ≡ has_field name.now (map (header_bytes buf.now) fields.now) }
@@ -35,7 +35,10 @@ fn has_field(buf: &[u8], fields: &[HeaderSpan], name: &[u8]) -> bool
     false
 }
 
-/// The body's length, which one field states.
+/// Returns the length of the body in bytes, if exactly one `Content-Length` states it as a decimal
+/// number of at most 65,536.
+///
+/// Source: docs/DECISIONS.md, "Following".
 pub fn length_in(buf: &[u8], fields: &[HeaderSpan]) -> Option<u64>
     requires { All (IsHeaderWithin (length buf.now)) fields.now }
     ensures value { result ≡ length_in (map (header_bytes buf.now) fields.now) }
@@ -62,7 +65,9 @@ fn asks_to_close(buf: &[u8], field: &HeaderSpan) -> bool
     is_named(buf, field, b"connection") && same_letters(field.value.of(buf), b"close")
 }
 
-/// Whether the link closes behind an answer with these fields.
+/// Whether the link closes after an answer with these fields: one is `Connection: close`.
+///
+/// Source: docs/DECISIONS.md, "Following".
 pub fn closes(buf: &[u8], fields: &[HeaderSpan]) -> bool
     requires { All (IsHeaderWithin (length buf.now)) fields.now }
     ensures { result ≡ closes (map (header_bytes buf.now) fields.now) }

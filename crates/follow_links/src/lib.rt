@@ -1,5 +1,6 @@
-//! A follower over links: it asks a server for the office's products, one after another, and tells
-//! the board that they give.
+//! A follower over links: asks a server for an office's products, one after another, and writes the
+//! rows that they leave live. For `warn_follow` and programs like it: begin with `run_program`,
+//! which is the whole program over a `Network`, or with `follow_run` over a dialer.
 #![tactic(auto)]
 
 mod answers;

@@ -9,23 +9,25 @@ use std::time::Clock;
 pub trait Network {
     type Dialer: Dialer + Drop;
 
-    /// Asking for the dialer of a port gave this one, and left this.
+    /// `dials network port dialer network'`: the call `dialer` for the port returned this dialer,
+    /// and left the network as the last.
     ghost dials: { Self → ℕ → Self.Dialer → Self → Type 0 };
 
-    /// A dialer of that port, which has given no link yet.
+    /// Returns a dialer of that port, which has given no link yet.
     fn dialer(&mut self, port: u16) -> Self::Dialer
         ensures dials { dials self.old port result self.new }
         ensures none_given { (Self.Dialer.state result).given ≡ 0 }
         ensures none_returned { (Self.Dialer.state result).returned ≡ 0 };
 }
 
-/// The network of the system. It is trusted.
+/// The network of the system, over TCP. It is trusted, not proved.
 #[derive(Drop)]
 pub struct HostNetwork<R> {
     net: R,
 }
 
 impl<R> HostNetwork<R> {
+    /// Returns the network whose dialers use `net`.
     pub fn new(net: R) -> Self {
         HostNetwork { net }
     }

@@ -1,4 +1,4 @@
-//! One answer is read off a link, and nothing behind it.
+//! Reads one answer from a link, and nothing after it.
 ghost use Rattle.std.specs.Prelude.{◌≡◌, ◌≤◌, ◌<◌, ◌+◌, ◌++◌, [], length, take, IfOk, OnOk, OnErr};
 ghost use Rattle.desk_traits.specs.Faults.{HasCause};
 ghost use Rattle.byte_streams.specs.Flows.{Takes};
@@ -20,8 +20,9 @@ const AT_ONCE: usize = 512;
 /// Why no whole answer was read.
 #[derive(Clone, Copy, Debug, PartialEq, Eq)]
 pub enum Miss {
-    /// The link failed, or ended.
+    /// The link failed, or ended before the answer was whole.
     Failed,
+    /// The head is bad.
     Bad,
     OutOfMemory,
 }
@@ -36,7 +37,7 @@ impl From<Oom> for Miss {
     }
 }
 
-/// Reads at most `room` bytes into the start of the buffer.
+/// Reads at least one and at most `room` bytes into the start of the buffer.
 fn read_up_to<L: Peer>(link: &mut L, buffer: &mut [u8], room: usize) -> Result<usize, Failed>
     requires some { 1 ≤ room }
     requires within { room ≤ length buffer.old }
@@ -56,7 +57,7 @@ fn read_up_to<L: Peer>(link: &mut L, buffer: &mut [u8], room: usize) -> Result<u
     Ok(count)
 }
 
-/// Reads at least one byte and at most so many, by way of the buffer.
+/// Reads at least one and at most `most` bytes, by way of the buffer, and appends them to `bytes`.
 fn read_more<L: Peer>(
     link: &mut L,
     buffer: &mut [u8],
@@ -81,7 +82,7 @@ fn read_more<L: Peer>(
     Ok(())
 }
 
-/// The head at the front of the bytes that were read and those that wait.
+/// Parses the head at the start of `bytes` with `waiting` after them.
 fn look_ahead(bytes: &Text, waiting: &[u8], fields: &mut [HeaderSpan]) -> Result<Head, Oom>
     requires short { length bytes.now + length waiting.now ≤ 8192 }
     requires none { HasNoResponse bytes.now }
@@ -94,7 +95,7 @@ fn look_ahead(bytes: &Text, waiting: &[u8], fields: &mut [HeaderSpan]) -> Result
     Ok(head_of(both.as_slice(), fields))
 }
 
-/// Reads one byte of a head, and tells the head that ends with it.
+/// Reads one byte of a head, and returns the head if it ends with that byte.
 fn read_byte<L: Peer>(
     link: &mut L,
     fields: &mut [HeaderSpan],
@@ -120,8 +121,11 @@ fn read_byte<L: Peer>(
     }
 }
 
-/// Reads of a head what waits, or one byte where nothing waits or a bad head does: then each byte
-/// is read alone from there on, so that nothing behind the one that decides it is read.
+/// Reads what waits of a head and nothing after it, or one byte if nothing waits. If what waits
+/// makes the head bad, `alone` is set: from there on each byte is read by itself, so that none is
+/// read after the one that decides it.
+///
+/// Source: docs/DECISIONS.md, "Following".
 fn read_on<L: Peer>(
     link: &mut L,
     fields: &mut [HeaderSpan],
@@ -160,7 +164,7 @@ fn read_on<L: Peer>(
     }
 }
 
-/// Reads a head, as it arrives, and nothing behind it.
+/// Reads a head as it arrives, and nothing after it.
 fn read_head<L: Peer>(
     link: &mut L,
     fields: &mut [HeaderSpan],
@@ -186,7 +190,7 @@ fn read_head<L: Peer>(
     Err(Miss::Bad)
 }
 
-/// Reads until there are so many bytes.
+/// Reads until there are `wanted` bytes.
 fn read_body<L: Peer>(link: &mut L, bytes: &mut Text, wanted: usize) -> Result<(), Miss>
     requires { length bytes.old ≤ wanted }
     ensures read { ReadsBody (L.state link.old).input.left (L.state link.new).input.left
@@ -204,12 +208,13 @@ fn read_body<L: Peer>(link: &mut L, bytes: &mut Text, wanted: usize) -> Result<(
     Ok(())
 }
 
-/// Reads one answer.
+/// Reads one answer into `bytes`, which are empty before, and returns what its head says. `fields`
+/// is room for the fields of the head.
 ///
 /// # Errors
 ///
-/// A link that failed or ended before the answer was whole, an answer whose head is bad, and out of
-/// memory.
+/// `Failed` if the link failed or ended before the answer was whole, `Bad` if the head is bad, or
+/// out of memory.
 pub fn read_answer<L: Peer>(
     link: &mut L,
     fields: &mut [HeaderSpan],

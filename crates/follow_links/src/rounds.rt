@@ -22,8 +22,10 @@ pub enum Stop {
     OutOfMemory,
 }
 
-/// Asks for the products behind those that the follower has, in at most so many rounds. A round is
+/// Asks for the products after those that the follower has, in at most `rounds` rounds. A round is
 /// a dial that failed, or a question on a link.
+///
+/// Source: docs/FOLLOWING.md, "A round".
 pub fn follow_rounds<D: Dialer>(
     alloc: Global,
     dialer: &mut D,

@@ -21,7 +21,7 @@ use program_outside::Outside;
 use std::alloc::Global;
 use std::process::ExitCode;
 
-/// The words that the program takes.
+/// The arguments that the program takes.
 const USAGE: &str = "warn_follow OFFICE CLASS STAMP PORT ROUNDS\n";
 
 const USAGE_STATUS: u8 = 2;
@@ -32,7 +32,7 @@ const ROUNDS_SPENT: u8 = 15;
 
 const BAD_ANSWER: u8 = 16;
 
-/// What is told where a run stopped so.
+/// Returns what is written if a run stopped so: what the follower shows, or the line of the fault.
 fn text_at(alloc: Global, follower: &Follower, minute: Minute, stop: Stop) -> Result<Text, Oom>
     ensures { IfOk result (λ text. text ≡ text_of stop (place_of follower.now) minute
         (shown_at minute (rows_of follower.now.products))) }
@@ -46,7 +46,7 @@ fn text_at(alloc: Global, follower: &Follower, minute: Minute, stop: Stop) -> Re
 }
 
 impl Stop {
-    /// The status of a run that stopped so.
+    /// Returns the exit status of a run that stopped so.
     fn status(self) -> u8
         ensures { result ≡ status_of self }
     {
@@ -59,7 +59,7 @@ impl Stop {
     }
 }
 
-/// Tells how a run stopped.
+/// Writes how a run stopped, and returns the exit status.
 fn tell_stop<K: Sink>(
     alloc: Global,
     follower: &Follower,
@@ -77,7 +77,7 @@ fn tell_stop<K: Sink>(
     }
 }
 
-/// Follows as asked.
+/// Follows an office as asked, and returns the exit status.
 fn follow<D: Dialer, K: Sink>(alloc: Global, asked: &Asked, dialer: &mut D, output: &mut K) -> u8
     requires none_out { (D.state dialer.old).given ≡ (D.state dialer.old).returned }
     requires few { (D.state dialer.old).returned + asked.now.rounds < 2 ^ 32 }
@@ -90,8 +90,11 @@ fn follow<D: Dialer, K: Sink>(alloc: Global, asked: &Asked, dialer: &mut D, outp
     tell_stop(alloc, &follower, asked.minute, stop, output)
 }
 
-/// Does what the words `OFFICE CLASS STAMP PORT ROUNDS` say over a dialer, and returns the status
-/// of the program.
+/// Runs the follower over a dialer, as the arguments `OFFICE CLASS STAMP PORT ROUNDS` ask, and
+/// returns the exit status. PORT is only parsed: the dialer has its own port. All links that the
+/// dialer gave are returned to it.
+///
+/// Source: docs/FOLLOWING.md, "How it ends".
 pub fn follow_run<D: Dialer, K: Sink>(
     alloc: Global,
     words: &List<Text>,
@@ -110,7 +113,8 @@ pub fn follow_run<D: Dialer, K: Sink>(
     follow(alloc, &asked, dialer, output)
 }
 
-/// Does what the words say, over a dialer of the port that they name. Other words make no dialer.
+/// Runs the follower over a dialer of the port that the arguments name. Other arguments make no
+/// dialer.
 fn follow_words<N: Network, K: Sink>(
     alloc: Global,
     words: &List<Text>,
@@ -127,8 +131,8 @@ fn follow_words<N: Network, K: Sink>(
     follow(alloc, &asked, &mut dialer, output)
 }
 
-/// Does what the words behind the program's name say. Where memory ran out for them, the status is
-/// 12, and nothing is dialed or written.
+/// Runs the follower with the arguments after the program's name. If memory ran out for them, the
+/// status is 12, and nothing is dialed or written.
 fn run_words<S, K: Sink, M, N: Network>(outside: &mut Outside<S, K, M>, network: &mut N) -> u8
     ensures ran { Starts outside.old.words 1
         ((network.new ≡ network.old)
@@ -144,8 +148,11 @@ fn run_words<S, K: Sink, M, N: Network>(outside: &mut Outside<S, K, M>, network:
     }
 }
 
-/// The whole program: does what its command line says, over a dialer of the port that it names,
-/// with its output, and ends with the status of that run. It reads nothing of its input.
+/// Runs the whole program: parses the command line, follows over a dialer of the port that it
+/// names, writes to the output, and returns the exit status. The input is not read; for a usage
+/// error the usage goes to the messages.
+///
+/// Source: docs/FOLLOWING.md, "How it ends".
 pub fn run_program<S, K: Sink, M: Sink, N: Network>(
     outside: &mut Outside<S, K, M>,
     network: &mut N,

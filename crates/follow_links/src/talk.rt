@@ -1,4 +1,4 @@
-//! What is asked and heard on one link.
+//! Questions and answers on one link.
 ghost use Rattle.std.specs.Prelude.{◌≡◌, ◌↔◌, length, IsTrue};
 ghost use Rattle.follow_links.specs.Answers.{no_product};
 ghost use Rattle.follow_links.specs.Rounding.{IsAsk, IsTaken, Talks, RoseIfFailed, end_of};
@@ -20,7 +20,7 @@ pub enum LinkEnd {
     Spent,
     /// The last answer closed it.
     Closed,
-    /// It failed, or ended within an answer.
+    /// It failed, or ended before an answer was whole.
     Failed,
     /// The office has no further product.
     Ended,
@@ -29,7 +29,7 @@ pub enum LinkEnd {
     OutOfMemory,
 }
 
-/// How a link is left where no whole answer was read.
+/// Returns how a link is left if no whole answer was read.
 fn end_of(miss: Miss) -> LinkEnd
     ensures { result ≡ end_of miss }
 {
@@ -41,6 +41,8 @@ fn end_of(miss: Miss) -> LinkEnd
 }
 
 /// The body of the answer that there is no further product.
+///
+/// Source: docs/FOLLOWING.md, "A round".
 const NO_PRODUCT: &[u8] = b"{\"no\":\"E14\",\"rule\":\"NoProduct\"}";
 
 /// The most products of an office.
@@ -53,7 +55,7 @@ fn says_end(body: &[u8]) -> bool
     body == NO_PRODUCT
 }
 
-/// Takes the text of a whole answer. Answers whether the link closes behind it.
+/// Takes the text of a whole answer, and returns whether the link closes after it.
 fn take_answer(
     alloc: Global,
     follower: &mut Follower,
@@ -81,7 +83,7 @@ fn take_answer(
     }
 }
 
-/// Asks once, and takes the answer. Answers whether the link closes behind it.
+/// Asks once and takes the answer. Returns whether the link closes after it.
 fn ask_once<L: Peer>(
     alloc: Global,
     link: &mut L,
@@ -107,7 +109,7 @@ fn ask_once<L: Peer>(
     }
 }
 
-/// Asks on a link until it is left. Each ask takes one of the rounds that are left.
+/// Asks on a link until it is left. Each question takes one of the rounds that are left.
 pub fn talk<L: Peer>(
     alloc: Global,
     link: &mut L,

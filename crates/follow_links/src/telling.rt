@@ -1,4 +1,4 @@
-//! What a run tells.
+//! What a run writes.
 ghost use Rattle.std.specs.Prelude.{◌≡◌, ◌≢◌, ◌++◌, ◌⊎◌, ℕ, List as Seq, None, Some, IfOk, OnOk};
 ghost use Rattle.program_ends.specs.Ends.{HasWritten};
 ghost use Rattle.event_life.specs.Products.{rows_of};
@@ -13,7 +13,7 @@ use hazard_types::{Minute, Oom, Text, put_number, stamp};
 use program_ends::{End, end_run};
 use std::alloc::Global;
 
-/// Writes a text, or a front of it before a fault.
+/// Writes a text, or a prefix of it before a fault. Returns the fault, if there is one.
 fn write_text<K: Sink>(output: &mut K, text: &[u8]) -> Option<End>
     ensures written { (written : Seq ℕ)
         × HasWritten text.now written (K.outflow output.old) (K.outflow output.new) result }
@@ -25,7 +25,7 @@ fn write_text<K: Sink>(output: &mut K, text: &[u8]) -> Option<End>
     }
 }
 
-/// Writes what a run tells, and returns its status, or that of a write fault.
+/// Writes the text of a run, and returns `status`, or 8 if a write failed.
 pub fn tell<K: Sink>(output: &mut K, text: &[u8], status: u8) -> u8
     requires { status ≢ 8 }
     ensures { IsToldAs text.now status (K.outflow output.old) (K.outflow output.new) result }
@@ -35,7 +35,7 @@ pub fn tell<K: Sink>(output: &mut K, text: &[u8], status: u8) -> u8
     if ended == 0 { status } else { ended }
 }
 
-/// The line of a bad answer.
+/// Returns the line `fault BadAnswer PLACE`.
 pub fn bad_line(alloc: Global, place: u32) -> Result<Text, Oom>
     ensures { IfOk result (λ text. text ≡ bad_line place) }
 {
@@ -46,7 +46,7 @@ pub fn bad_line(alloc: Global, place: u32) -> Result<Text, Oom>
     Ok(text)
 }
 
-/// The line of the place.
+/// Adds the line `place PLACE`.
 fn put_place(alloc: Global, out: &mut Text, place: u32) -> Result<(), Oom>
     ensures { OnOk result (out.new ≡ out.old ++ place_line place) }
 {
@@ -55,7 +55,7 @@ fn put_place(alloc: Global, out: &mut Text, place: u32) -> Result<(), Oom>
     out.push(b'\n')
 }
 
-/// What stands before the rows: the minute, and their count.
+/// Adds the line `shown STAMP COUNT`.
 fn put_shown(alloc: Global, out: &mut Text, minute: Minute, count: usize) -> Result<(), Oom>
     ensures { OnOk result (out.new ≡ out.old ++ shown_front minute count) }
 {
@@ -66,7 +66,8 @@ fn put_shown(alloc: Global, out: &mut Text, minute: Minute, count: usize) -> Res
     out.push(b'\n')
 }
 
-/// The place of a follower, and the rows that it shows at a minute; then a last line.
+/// Returns the lines of a follower's place and of the rows that are live at `minute`, with `last`
+/// after them.
 pub fn report(alloc: Global, follower: &Follower, minute: Minute, last: &[u8]) -> Result<Text, Oom>
     ensures { IfOk result (λ text. text ≡ report (place_of follower.now) minute
         (shown_at minute (rows_of follower.now.products)) ++ last.now) }

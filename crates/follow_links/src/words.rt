@@ -1,22 +1,24 @@
-//! The words of the command line.
+//! The arguments of the command line.
 ghost use Rattle.std.specs.Prelude.{◌≡◌, ◌≤◌, IfSome};
 ghost use Rattle.follow_links.specs.Words.{asked_of};
 
 use hazard_types::{Class, List, Minute, Text, classes, find, read_stamp};
 use program_ends::{count_in, office_of};
 
-/// Whose products are followed, the minute whose rows are shown, the server's port, and the rounds.
+/// What the arguments ask for.
 #[derive(Clone, Copy, Debug)]
 pub struct Asked {
     pub office: [u8; 4],
     pub class: Class,
+    /// The minute at which the rows are shown.
     pub minute: Minute,
+    /// The server's port, from 1 on.
     pub port: u16,
+    /// The most rounds, 1 to 100,000.
     pub rounds: u32,
 }
 
-/// The office, the class, the minute, the port and the rounds of the words
-/// `OFFICE CLASS STAMP PORT ROUNDS`.
+/// Parses the arguments `OFFICE CLASS STAMP PORT ROUNDS`; `None` if they are others.
 #[tactic(auto, unfolding(crate::specs::Words::asked_of))]
 pub fn asked_of(words: &List<Text>) -> Option<Asked>
     ensures value { result ≡ asked_of words.now }

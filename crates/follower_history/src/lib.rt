@@ -1,5 +1,6 @@
-//! A follower beside the history of the office that it follows. The functions do nothing; their
-//! contracts are the laws.
+//! Laws of a follower and the history of the office that it follows, for proofs of crates above:
+//! the functions do nothing, and their contracts are the laws. Begin with
+//! `followers_show_the_board`.
 #![tactic(auto)]
 
 mod laws;

@@ -1,4 +1,5 @@
-//! The rows of a board, and beside them those that may be live, so that what is live is found without those that have ended.
+//! The rows of a board, with those that may be live apart, so that live rows are found without a
+//! walk over ended ones.
 ghost use Rattle.std.specs.Prelude.{◌≡◌, ◌≤◌, ◌<◌, ◌+◌, [], length, IfOk, OnOk, OnErr};
 ghost use Rattle.std.specs.List.Sorted.{IsStrictlySortedBy};
 ghost use Rattle.event_life.specs.Products.{by_key, put, row_at};
@@ -10,23 +11,27 @@ use hazard_types::{Event, Minute, Oom, Row, Zone};
 use std::alloc::Global;
 use std::marker::Model;
 
-/// For so many rows more than those that are live memory is taken before rows that have ended are left out.
+/// Ended rows are left out of `live` after memory was taken for half as many rows as were live, and
+/// this many more.
 const FEW: usize = 64;
 
-/// More rows than these are not put on one shelf: where so many are live, those that have ended stay among them.
+/// If more rows than this are live, ended ones are not left out, since all that are left would be
+/// put on one shelf.
 const MANY: usize = 1024;
 
-/// Rows by zone, then event. Those that may be live stand on shelves of their own too.
+/// Rows by zone, then event, and those that may be live on shelves of their own too.
+///
+/// Source: docs/DECISIONS.md, "Plans".
 #[derive(Drop)]
 pub struct BoardRows {
     all: Shelves,
-    // Of the rows those that may be live, and some that have ended since.
+    // The rows that may be live, and some that have ended since.
     live: Shelves,
-    // From this minute on those that are live are all among them. None where that is not known.
+    // From this minute on all live rows are in `live`. `None` if that is not known.
     since: Option<Minute>,
     // The minute of the last product.
     last: Option<Minute>,
-    // For how many more rows memory is taken before those that have ended are left out.
+    // For how many more rows memory is taken before ended ones are left out of `live`.
     until: usize,
 }
 
@@ -44,7 +49,7 @@ impl Model for BoardRows {
 }
 
 impl BoardRows {
-    /// No rows, and no memory for any.
+    /// Empty, without capacity.
     pub fn new(alloc: Global) -> Self
         ensures { result.rows ≡ [] }
     {
@@ -57,7 +62,7 @@ impl BoardRows {
         }
     }
 
-    /// Rows among which are all that are live at a minute: before the minute from which on that is known of those that may be live, all rows.
+    /// Returns rows among which are all that are live at `t`: `live` if it has them, else all rows.
     fn source(&self, t: Minute) -> &Shelves
         ensures alike { shown_at t result.now.rows ≡ shown_at t self.now.rows }
         ensures order { IsStrictlySortedBy by_key result.now.rows }
@@ -74,14 +79,14 @@ impl BoardRows {
         }
     }
 
-    /// The live rows.
+    /// Returns the rows that are live at `t`, by zone, then event.
     pub fn shown(&self, alloc: Global, t: Minute) -> Result<Vec<Row>, Oom>
         ensures { IfOk result (λ shown. shown.items ≡ shown_at t self.now.rows) }
     {
         self.source(t).shown(alloc, t)
     }
 
-    /// Rows of a zone among which are all that are live at a minute.
+    /// Returns rows of a zone, by event, among which are all that are live at `t`.
     pub fn live_slice(&self, z: &Zone, t: Minute) -> &[Row]
         ensures alike { shown_at t result.now ≡ shown_at t (slice_of z.now self.now.rows) }
         ensures order { IsStrictlySortedBy by_key result.now }
@@ -90,7 +95,8 @@ impl BoardRows {
         self.source(t).slice_of(z)
     }
 
-    /// Leaves the rows out of those that may be live that have ended before the last product.
+    /// Leaves only the rows in `live` that are live at the last product's minute, unless these are
+    /// more than `MANY`.
     fn renew(&mut self) -> Result<(), Oom>
         ensures rows { self.new.rows ≡ self.old.rows }
         ensures spare { self.new.spare ≡ self.old.spare }
@@ -108,7 +114,8 @@ impl BoardRows {
         Ok(())
     }
 
-    /// Takes memory for `n` more rows among those that may be live. Where it can't be had, they are no longer known to be all.
+    /// Takes memory for `n` more rows in `live`, if it can, and first leaves ended rows out if it
+    /// is time to. A row that finds no room later makes `live` unknown.
     fn make_ready(&mut self, n: usize)
         ensures rows { self.new.rows ≡ self.old.rows }
         ensures spare { self.new.spare ≡ self.old.spare }
@@ -121,7 +128,7 @@ impl BoardRows {
         let _done = self.live.reserve(n);
     }
 
-    /// Takes memory for `n` more rows, wherever they stand.
+    /// Takes memory for `n` more rows, in whatever zones.
     pub fn reserve(&mut self, n: usize) -> Result<(), Oom>
         ensures rows { self.new.rows ≡ self.old.rows }
         ensures spare { self.old.spare ≤ self.new.spare }
@@ -133,7 +140,7 @@ impl BoardRows {
         Ok(())
     }
 
-    /// The rows of a zone, by event.
+    /// Returns the rows of a zone, by event.
     pub fn slice_of(&self, z: &Zone) -> &[Row]
         ensures rows { result.now ≡ slice_of z.now self.now.rows }
         ensures order { IsStrictlySortedBy by_row_event result.now }
@@ -141,14 +148,15 @@ impl BoardRows {
         self.all.slice_of(z)
     }
 
-    /// The row of an event in a zone.
+    /// Returns the row of an event in a zone.
     pub fn row_at(&self, e: &Event, z: &Zone) -> Option<Row>
         ensures { result ≡ row_at self.now.rows e.now z.now }
     {
         self.all.row_at(e, z)
     }
 
-    /// Puts a row in the place of the one of its zone and event, or in its own place. It takes no memory: where there is none for it among those that may be live, they are no longer known to be all.
+    /// Puts a row, in place of the one with its zone and event if there is one, and takes no
+    /// memory. If `live` has no room for the row, it is no longer known to have all live rows.
     pub fn put(&mut self, row: &Row)
         requires { length (put row.now self.old.rows) ≤ self.old.spare + length self.old.rows }
         ensures rows { self.new.rows ≡ put row.now self.old.rows }

@@ -1,4 +1,4 @@
-//! Lines by their zones.
+//! Lines by zone.
 ghost use Rattle.std.specs.Prelude.{◌≡◌, [], IfOk, OnOk};
 ghost use Rattle.hazard_board.specs.ByZone.{lines_at, add_to_zone, add_to_zones};
 
@@ -6,10 +6,10 @@ use hazard_types::{Line, List, Oom, Zone};
 use std::alloc::Global;
 use std::collections::BTreeMap;
 
-/// The lines of each zone.
+/// The lines of each zone, in their order.
 pub type LinesByZone = BTreeMap<Zone, List<Line>>;
 
-/// Adds a line behind those of its zone.
+/// Adds a line after those of its zone.
 fn add_to_zone(alloc: Global, zones: &mut LinesByZone, line: &Line) -> Result<(), Oom>
     ensures { OnOk result (zones.new.entries ≡ add_to_zone zones.old.entries line.now) }
 {
@@ -17,7 +17,7 @@ fn add_to_zone(alloc: Global, zones: &mut LinesByZone, line: &Line) -> Result<()
     lines.extend(&[*line])
 }
 
-/// The lines of each zone among some, in their order.
+/// Returns the lines by zone, those of one zone in their order.
 pub fn lines_by_zone(alloc: Global, lines: &[Line]) -> Result<LinesByZone, Oom>
     ensures { IfOk result (λ zones. zones.entries ≡ add_to_zones [] lines.now) }
 {
@@ -28,7 +28,7 @@ pub fn lines_by_zone(alloc: Global, lines: &[Line]) -> Result<LinesByZone, Oom>
     Ok(zones)
 }
 
-/// The lines of a zone.
+/// Returns the lines of a zone.
 pub fn lines_in<'a>(zones: &'a LinesByZone, zone: &Zone) -> &'a [Line]
     ensures { result.now ≡ lines_at zones.now.entries zone.now }
 {

@@ -1,4 +1,4 @@
-//! Clashes of rows.
+//! Clashes: live rows of one zone and family whose periods overlap.
 ghost use Rattle.std.specs.Prelude.{◌≡◌, ◌∷◌, find, filter, option_map, true, IfOk, IfSome};
 ghost use Rattle.std.specs.List.{list_any, list_all};
 ghost use Rattle.std.specs.List.Sorted.{IsStrictlySortedBy};
@@ -23,6 +23,8 @@ use std::alloc::{AllocError, Global};
 use std::collections::BTreeSet;
 
 /// Whether two hazards are of one family.
+///
+/// Source: docs/HAZARDS.md.
 fn are_kin(g: &Hazard, h: &Hazard) -> bool
     ensures { result ≡ are_kin g.now h.now }
 {
@@ -45,14 +47,15 @@ fn has_family(h: &Hazard) -> bool
     }
 }
 
-/// Whether the row is live, with a hazard that has a family. No other clashes.
+/// Whether the row is live at `t` and its hazard has a family. No other row clashes.
 fn may_clash(t: Minute, row: &Row) -> bool
     ensures { result ≡ may_clash t row.now }
 {
     is_live(row, t) && has_family(&row.event.hazard)
 }
 
-/// Whether both rows are live in one zone, with events of one family whose periods overlap.
+/// Whether both rows are live at `t` in one zone, and are of two events of one family with periods
+/// that overlap.
 fn clash(t: Minute, a: &Row, b: &Row) -> bool
     ensures { result ≡ clash t a.now b.now }
 {
@@ -64,7 +67,8 @@ fn clash(t: Minute, a: &Row, b: &Row) -> bool
         && are_kin(&a.event.hazard, &b.event.hazard)
 }
 
-/// The first of the rows behind this one that clashes with it: none where this one is not live. Only its own zone's are looked at.
+/// Returns the clash of `first` with the first row after it that it clashes with; `None` if `first`
+/// is not live. Only rows of its zone are read.
 fn clash_with(first: &Row, others: &[Row], t: Minute) -> Option<Clash>
     requires { IsStrictlySortedBy by_key (first.now ∷ others.now) }
     ensures { result ≡ option_map (clash_of first.now) (find (clash t first.now) others.now) }
@@ -87,7 +91,7 @@ fn clash_with(first: &Row, others: &[Row], t: Minute) -> Option<Clash>
     None
 }
 
-/// The first row that clashes with a later one, with the first that it clashes with.
+/// Returns the clash of the first row that clashes with a later one, with the first of these.
 fn first_clash(rows: &[Row], t: Minute) -> Option<Clash>
     requires { IsStrictlySortedBy by_key rows.now }
     ensures { result ≡ first_clash t rows.now }
@@ -101,7 +105,7 @@ fn first_clash(rows: &[Row], t: Minute) -> Option<Clash>
     None
 }
 
-/// The rows that may clash, of some.
+/// Returns those of the rows that may clash.
 fn those_that_may_clash(alloc: Global, rows: &[Row], t: Minute) -> Result<Vec<Row>, AllocError>
     ensures { IfOk result (λ some. some.items ≡ filter (may_clash t) rows.now) }
 {
@@ -118,28 +122,28 @@ fn clash_either(t: Minute, a: &Row, b: &Row) -> bool
     clash(t, a, b) || clash(t, b, a)
 }
 
-/// Whether the row clashes with one of some.
+/// Whether the row clashes with one of `some`.
 fn clashes_among(t: Minute, some: &[Row], row: &Row) -> bool
     ensures { result ≡ clashes_among t some.now row.now }
 {
     some.iter().any(|other| clash_either(t, row, other))
 }
 
-/// Whether a row that is left is new or not as it was, and clashes with one of some.
+/// Whether the row that is left is new or changed, and clashes with one of `some`.
 fn clashes_newly(t: Minute, some: &[Row], left: &Left) -> bool
     ensures { result ≡ clashes_newly t some.now left.now }
 {
     left.is_new && clashes_among(t, some, &left.row)
 }
 
-/// Whether one of the rows that are left is new or not as it was, and clashes with one of some.
+/// Whether one of the rows that are left is new or changed, and clashes with one of `some`.
 fn has_new_clash(t: Minute, some: &[Row], lefts: &[Left]) -> bool
     ensures { result ≡ list_any (clashes_newly t some.now) lefts.now }
 {
     lefts.iter().any(|left| clashes_newly(t, some, left))
 }
 
-/// Of two clashes the one in the earlier zone.
+/// Returns the clash in the earlier zone; `best` if both are in one.
 fn earlier_clash(best: Option<Clash>, found: Option<Clash>) -> Option<Clash>
     ensures { result ≡ earlier_clash best found }
 {
@@ -158,8 +162,10 @@ fn earlier_clash(best: Option<Clash>, found: Option<Clash>) -> Option<Clash>
     }
 }
 
-/// The first clash in a zone after the lines, of which these are the zone's own. All pairs are
-/// gone through only where a row that is new or not as it was clashes: the others were apart.
+/// Returns the first clash in a zone after the lines, of which `own` are the zone's. All pairs are
+/// compared only if a new or changed row clashes, since the others did not clash before.
+///
+/// Source: docs/DECISIONS.md, "Plans".
 fn clash_in(
     alloc: Global,
     rows: &BoardRows,
@@ -196,7 +202,7 @@ fn are_of_zone(lines: &[Line], zone: &Zone) -> bool
     lines.iter().all(|line| is_of_zone(line, zone))
 }
 
-/// The zone of the lines, where all are of one.
+/// Returns the zone of the lines, if all are of one.
 fn only_zone(lines: &[Line]) -> Option<Zone>
     ensures { IfSome result (λ z. list_all (λ (line : AnyLine). same_zone line.zone z) lines.now ≡ true) }
 {
@@ -213,7 +219,8 @@ fn only_zone(lines: &[Line]) -> Option<Zone>
     }
 }
 
-/// The first clash after the lines, of rows of which no two of one zone and family that no line has ended overlap: only the zones of the lines are looked at.
+/// Returns the first clash after `lines`, given that no two unended rows of one zone and family
+/// overlap. Looks at the zones of `lines` only.
 pub fn clash_in_zones(
     alloc: Global,
     rows: &BoardRows,
@@ -241,7 +248,7 @@ pub fn clash_in_zones(
     Ok(best)
 }
 
-/// The first clash after the lines, in whatever zone it is.
+/// Returns the first clash after `lines`, in any zone.
 pub fn clash_anywhere(
     alloc: Global,
     rows: &BoardRows,

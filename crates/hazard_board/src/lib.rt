@@ -1,4 +1,7 @@
-//! The board: the rows of the events that were opened, by zone, then event.
+//! The board of an office: the rows of all events that were opened, by zone, then event. For crates
+//! that plan products, as `action_planner` does, and that apply them: begin with `Board::new`,
+//! `Board::reserve` and `Board::apply`, then read with `Board::shown` and `Board::going`. A row is
+//! unended while no line has ended it.
 #![tactic(auto)]
 
 ghost use Rattle.std.specs.Prelude.{◌≡◌, ◌+◌, ◌≤◌, ◌<◌, [], find, IfOk, OnOk, OnErr, IsTrue, true};
@@ -44,14 +47,15 @@ use standing::settle;
 use std::alloc::Global;
 use std::marker::Model;
 
-/// The rows of all events that were opened, by zone, then event, each pair once.
+/// The rows of all events that were opened, in order by zone, then event, with one row for each
+/// pair. `reserve` takes the memory that `apply` needs, so `apply` cannot fail.
 #[derive(Drop)]
 pub struct Board {
     rows: BoardRows,
     standing: Vec<Standing>,
-    // Where the events have rows, ended ones among them: the event and zone of each row, by event.
+    // The event and zone of each row, ended ones among them, by event.
     spots: Vec<Spot>,
-    // The periods of the rows that no line has ended, by event, each with the number of these rows.
+    // The periods of the unended rows by event, each with the count of these rows.
     periods: Vec<PeriodCount>,
 }
 
@@ -73,7 +77,7 @@ impl Model for Board {
 }
 
 impl Board {
-    /// No row stands, and there is no memory for any.
+    /// Returns an empty board without capacity.
     pub fn new(alloc: Global) -> Self
         ensures { result.rows ≡ [] }
     {
@@ -85,7 +89,11 @@ impl Board {
         }
     }
 
-    /// Takes memory for `n` more rows.
+    /// Takes memory for at least `n` more rows.
+    ///
+    /// # Errors
+    ///
+    /// Out of memory; no row changes.
     pub fn reserve(&mut self, n: usize) -> Result<(), Oom>
         ensures rows { self.new.rows ≡ self.old.rows }
         ensures spare { self.old.spare ≤ self.new.spare }
@@ -100,7 +108,7 @@ impl Board {
         Ok(())
     }
 
-    /// The row of an event in a zone.
+    /// Returns the row of an event in a zone, ended or not.
     pub fn row(&self, e: Event, z: Zone) -> Option<Row>
         ensures value { result ≡ row_at self.now.rows e z }
         ensures order { IsStrictlySortedBy by_key self.now.rows }
@@ -108,7 +116,7 @@ impl Board {
         self.rows.row_at(&e, &z)
     }
 
-    /// All rows of a zone, ended ones among them, by event.
+    /// Returns all rows of a zone, ended ones among them, by event.
     pub fn slice_of(&self, z: Zone) -> &[Row]
         ensures rows { result.now ≡ slice_of z self.now.rows }
         ensures order { IsStrictlySortedBy by_row_event result.now }
@@ -117,8 +125,8 @@ impl Board {
         self.rows.slice_of(&z)
     }
 
-    /// Rows of a zone among which are all that are live at a minute: fewer than all of its
-    /// rows, where those that have ended are many.
+    /// Returns rows of a zone, by event, among which are all that are live at `t`. They may be far
+    /// fewer than those of `slice_of`, since most ended rows are left out.
     pub fn live_slice(&self, z: Zone, t: Minute) -> &[Row]
         ensures rows { shown_at t result.now ≡ live_in z t self.now.rows }
         ensures order { IsStrictlySortedBy by_row_event result.now }
@@ -134,35 +142,42 @@ impl Board {
         first_row(&self.rows, &self.spots, &e).is_some()
     }
 
-    /// The first row of an event, by zone, ended or not.
+    /// Returns the first row of an event, by zone, ended or not.
     pub fn first(&self, e: Event) -> Option<Row>
         ensures { result ≡ find (λ r. same_event r.event e) self.now.rows }
     {
         first_row(&self.rows, &self.spots, &e)
     }
 
-    /// The open event of a hazard and number, of the greatest year where there are several.
+    /// Returns the event with a hazard and number that is open at `t`, the one of the greatest year
+    /// if there are several. An event is open if an unended row of it has an end that is at most
+    /// half an hour past.
     pub fn going(&self, h: Hazard, etn: u16, t: Minute) -> Option<Event>
         ensures { result ≡ going_in self.now.rows h etn t }
     {
         open_event(&self.standing, &h, etn, t)
     }
 
-    /// The standing events of a hazard, by number, then year: those with a row that no line has ended, each with the greatest end of these rows.
+    /// Returns the events of a hazard that have an unended row, by number, then year.
     pub fn standing(&self, h: Hazard) -> &[Standing]
         ensures { AreStandingOf h self.now.rows result.now }
     {
         of_hazard(&self.standing, &h)
     }
 
-    /// Whether a live row of the event has the same period.
+    /// Whether a row of the event that is live at `t` has this period. Begins at `t` or before
+    /// count as equal.
     pub fn same_period(&self, e: Event, p: Period, t: Minute) -> bool
         ensures { result ≡ has_period self.now.rows e p t }
     {
         has_period(&self.periods, t, &e, &p)
     }
 
-    /// The live rows of a zone, by event.
+    /// Returns the rows of a zone that are live at `t`, by event.
+    ///
+    /// # Errors
+    ///
+    /// Out of memory.
     pub fn rows_of(&self, alloc: Global, z: Zone, t: Minute) -> Result<List<Row>, Oom>
         ensures rows { IfOk result (λ live. live ≡ live_in z t self.now.rows) }
         ensures order { IfOk result (λ live. IsStrictlySortedBy by_row_event live) }
@@ -170,7 +185,11 @@ impl Board {
         Ok(List::from_vec(live(alloc, self.rows.live_slice(&z, t), t)?))
     }
 
-    /// The live rows, by zone, then event.
+    /// Returns all rows that are live at `t`, by zone, then event.
+    ///
+    /// # Errors
+    ///
+    /// Out of memory.
     pub fn shown(&self, alloc: Global, t: Minute) -> Result<List<Row>, Oom>
         ensures rows { IfOk result (λ live. live ≡ shown_at t self.now.rows) }
         ensures order { IsStrictlySortedBy by_key self.now.rows }
@@ -178,7 +197,8 @@ impl Board {
         Ok(List::from_vec(self.rows.shown(alloc, t)?))
     }
 
-    /// Applies the lawful lines of a product. ROU leaves the rows as they are.
+    /// Applies the lawful lines of a product with the issue minute `t`. Memory for
+    /// `openings(lines)` more rows must be reserved. A ROU line changes no row.
     pub fn apply(&mut self, lines: &List<Line>, t: Minute)
         requires lawful { IsTrue (are_lawful self.old.rows t lines.now) }
         requires spare { openings lines.now ≤ self.old.spare }
@@ -191,7 +211,16 @@ impl Board {
         self.rows.pass(t);
     }
 
-    /// The least clash after the lines, with NumberHeld left aside: two live rows of one zone whose events are of one family and whose periods overlap.
+    /// Returns the least clash after the lines, by zone, then by the pair of events: two rows of
+    /// one zone that are live at `t`, of events of one family, with periods that overlap. Each line
+    /// is judged by the life that it meets alone, as if the facts about other rows were those of a
+    /// lawful line.
+    ///
+    /// # Errors
+    ///
+    /// Out of memory.
+    ///
+    /// Source: docs/DECISIONS.md, "Lives".
     pub fn conflict(
         &self,
         alloc: Global,
@@ -205,7 +234,12 @@ impl Board {
         clash_anywhere(alloc, &self.rows, lines.as_slice(), t)
     }
 
-    /// The same, for rows of which no two of one zone and family that no line has ended overlap: only the zones of the lines are looked at.
+    /// Returns what `conflict` returns, given that no two unended rows of one zone and family
+    /// overlap. Looks at the zones of `lines` only.
+    ///
+    /// # Errors
+    ///
+    /// Out of memory.
     pub fn conflict_in_zones(
         &self,
         alloc: Global,

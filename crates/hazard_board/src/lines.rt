@@ -1,4 +1,4 @@
-//! The rows that lines leave.
+//! The rows that lines leave, and how they are put on a board.
 ghost use Rattle.std.specs.Prelude.{◌≡◌, ◌≤◌, ◌<◌, ◌+◌, ◌++◌, length, option_map, option_to_list, IfOk, OnOk, OnErr};
 ghost use Rattle.std.specs.List.Sorted.{IsStrictlySortedBy};
 ghost use Rattle.std.specs.Vec.{vec_capacity};
@@ -19,7 +19,7 @@ use event_life::{Around, Life, is_routine, life_step, row_of};
 use hazard_types::{Action, Line, Minute, Oom, Row, Zone};
 use std::alloc::Global;
 
-/// What stands around a line, taken as a lawful line of this action has it.
+/// Returns the facts about other rows as a lawful line of this action has them.
 fn wanted(action: &Action) -> Around
     ensures { result ≡ wanted action.now }
 {
@@ -32,7 +32,7 @@ fn wanted(action: &Action) -> Around
     }
 }
 
-/// The life of a row.
+/// Returns the life of a row, if there is one.
 fn life_of(row: &Option<Row>) -> Option<Life>
     ensures { result ≡ option_map life_of row.now }
 {
@@ -46,7 +46,8 @@ fn life_of(row: &Option<Row>) -> Option<Life>
     }
 }
 
-/// The row that a line leaves of a life. None for a routine line, and where the life does not allow the line.
+/// Returns the row that a line leaves of a life, or `None` if the line is routine or the life does
+/// not allow it.
 fn left_on(life: Option<Life>, line: &Line, t: Minute) -> Option<Row>
     ensures { result ≡ left_on life t line.now }
 {
@@ -59,14 +60,14 @@ fn left_on(life: Option<Life>, line: &Line, t: Minute) -> Option<Row>
     }
 }
 
-/// The row that a line leaves of the life that it meets.
+/// Returns the row that a line leaves of the life that it meets among `rows`.
 pub fn row_left(rows: &BoardRows, line: &Line, t: Minute) -> Option<Row>
     ensures { result ≡ row_left rows.now.rows t line.now }
 {
     left_on(life_of(&rows.row_at(&line.event, &line.zone)), line, t)
 }
 
-/// Whether the row is the one that is held.
+/// Whether there was a row and it is equal to `row`.
 fn is_same(held: &Option<Row>, row: &Row) -> bool
     ensures { result ≡ is_same held.now row.now }
 {
@@ -76,7 +77,7 @@ fn is_same(held: &Option<Row>, row: &Row) -> bool
     }
 }
 
-/// Whether a line leaves the row that it meets as it was, or leaves none.
+/// Whether a line leaves no row, or the one that was there.
 fn stays(old: &Option<Row>, row: &Option<Row>) -> bool
     ensures { result ≡ stays old.now row.now }
 {
@@ -86,14 +87,15 @@ fn stays(old: &Option<Row>, row: &Option<Row>) -> bool
     }
 }
 
-/// A row that a line leaves, and whether it is new or not as it was.
+/// A row that a line leaves.
 #[derive(Clone, Copy, Debug, PartialEq, Eq)]
 pub struct Left {
     pub row: Row,
+    /// Whether there was no row with its zone and event, or another one.
     pub is_new: bool,
 }
 
-/// What is left of a row that is held, where a row is left.
+/// Returns the row that is left, if there is one, marked as new or not by the one that was there.
 fn left_if(held: &Option<Row>, row: Option<Row>) -> Option<Left>
     ensures { result ≡ left_if held.now row }
 {
@@ -106,7 +108,7 @@ fn left_if(held: &Option<Row>, row: Option<Row>) -> Option<Left>
     }
 }
 
-/// Adds what is left, if there is anything.
+/// Adds the row that is left, if there is one.
 fn add_if(lefts: &mut Vec<Left>, left: &Option<Left>) -> Result<(), Oom>
     ensures { OnOk result (lefts.new.items ≡ lefts.old.items ++ option_to_list left.now) }
 {
@@ -119,7 +121,7 @@ fn add_if(lefts: &mut Vec<Left>, left: &Option<Left>) -> Result<(), Oom>
     }
 }
 
-/// Adds the row that a line leaves.
+/// Adds the row that a line leaves, if it leaves one.
 fn add_left(lefts: &mut Vec<Left>, rows: &BoardRows, line: &Line, t: Minute) -> Result<(), Oom>
     ensures { OnOk result (lefts.new.items ≡ lefts.old.items ++ left_by rows.now.rows t line.now) }
 {
@@ -128,7 +130,7 @@ fn add_left(lefts: &mut Vec<Left>, rows: &BoardRows, line: &Line, t: Minute) -> 
     add_if(lefts, &left)
 }
 
-/// The rows that lines leave, each of which meets the rows before them.
+/// Returns the rows that lines leave, each of which meets the rows before all of them.
 pub fn lefts(alloc: Global, rows: &BoardRows, lines: &[Line], t: Minute) -> Result<Vec<Left>, Oom>
     ensures { IfOk result (λ some. some.items ≡ lefts rows.now.rows t lines.now) }
 {
@@ -153,7 +155,7 @@ fn put_if(rows: &mut Vec<Row>, row: &Option<Row>) -> Result<(), Oom>
     }
 }
 
-/// Puts a row on its shelf, if there is one.
+/// Puts a row on the board, if there is one.
 fn shelve_if(rows: &mut BoardRows, row: &Option<Row>)
     requires { length (put_if row.now rows.old.rows) ≤ rows.old.spare + length rows.old.rows }
     ensures rows { rows.new.rows ≡ put_if row.now rows.old.rows }
@@ -165,9 +167,8 @@ fn shelve_if(rows: &mut BoardRows, row: &Option<Row>)
     }
 }
 
-/// Brings the row that a line leaves of the life that it meets among the rows, its spot among
-/// the spots, and its period among the periods. A row that stays as it was is not put again,
-/// and one that takes the place of another has its spot.
+/// Puts the row that a line leaves of the life that it meets, with its spot and its period. A row
+/// that is as before is not put again, and one in place of another has its spot already.
 fn bring_line(
     rows: &mut BoardRows,
     spots: &mut Vec<Spot>,
@@ -204,7 +205,8 @@ fn bring_line(
     }
 }
 
-/// Brings the rows that lines leave among the rows, with their spots and periods. Each line meets the rows that the lines before it left.
+/// Puts the rows that lines leave, with their spots and periods. Each line meets the rows that the
+/// lines before it left.
 pub fn bring_lines(
     rows: &mut BoardRows,
     spots: &mut Vec<Spot>,
@@ -230,7 +232,8 @@ pub fn bring_lines(
     }
 }
 
-/// Rows among which are all that are live after the lines, each of which meets the rows before them.
+/// Returns rows, by zone, then event, among which are all that are live at `t` after the lines.
+/// Each line meets the rows before all of them.
 pub fn rows_taken(
     alloc: Global,
     rows: &BoardRows,
@@ -249,7 +252,7 @@ pub fn rows_taken(
     Ok(after)
 }
 
-/// A copy of rows, with room for some more.
+/// Returns a copy of the rows with capacity for `more` others.
 fn with_room(alloc: Global, rows: &[Row], more: usize) -> Result<Vec<Row>, Oom>
     ensures { IfOk result (λ copy. copy.items ≡ rows.now) }
 {
@@ -258,7 +261,8 @@ fn with_room(alloc: Global, rows: &[Row], more: usize) -> Result<Vec<Row>, Oom>
     Ok(copy)
 }
 
-/// Rows of a zone among which are all that are live after lines that have left some rows there.
+/// Returns rows of a zone, by event, among which are all that are live at `t` after the rows of
+/// `left` are put.
 pub fn zone_taken(
     alloc: Global,
     rows: &BoardRows,
@@ -284,7 +288,10 @@ fn opens(action: &Action) -> bool
     matches!(action, Action::New | Action::Exa | Action::Exb)
 }
 
-/// How many of the lines open a row: for so many rows memory is wanted where they are applied.
+/// Returns how many of the lines open a row (NEW, EXA and EXB): `Board::apply` needs memory for so
+/// many rows.
+///
+/// Source: docs/DECISIONS.md, "Plans".
 pub fn openings(lines: &[Line]) -> usize
     ensures { result ≡ openings lines.now }
 {

@@ -1,4 +1,4 @@
-//! The standing events of a hazard, and which of a number is open.
+//! The events of a hazard that have an unended row, and which of a number is open.
 ghost use Rattle.std.specs.Prelude.{◌≡◌, ◌≤◌, length};
 ghost use Rattle.std.specs.List.{AllByRecursion, prefix_len};
 ghost use Rattle.std.specs.List.Sorted.{IsStrictlySortedBy};
@@ -12,7 +12,7 @@ use crate::standing::Standing;
 use event_life::ends_within;
 use hazard_types::{Event, Hazard, Minute};
 
-/// How many of the standing events are of hazards before this one.
+/// Returns how many of the events are of hazards before `h`.
 fn hazards_before(standing: &[Standing], h: &Hazard) -> usize
     requires { IsStrictlySortedBy by_standing standing.now }
     ensures value { result ≡ prefix_len (λ s. is_lt (by_hazard s.event.hazard h.now)) standing.now }
@@ -25,7 +25,7 @@ fn hazards_before(standing: &[Standing], h: &Hazard) -> usize
     )
 }
 
-/// How many of the standing events are of this hazard or of hazards before it.
+/// Returns how many of the events are of `h` or of hazards before it.
 fn hazards_through(standing: &[Standing], h: &Hazard) -> usize
     requires { IsStrictlySortedBy by_standing standing.now }
     ensures value { result ≡ prefix_len (λ s. is_le (by_hazard s.event.hazard h.now)) standing.now }
@@ -38,7 +38,7 @@ fn hazards_through(standing: &[Standing], h: &Hazard) -> usize
     )
 }
 
-/// The standing events of a hazard, by number, then year.
+/// Returns the events of a hazard, by number, then year.
 pub fn of_hazard<'a>(standing: &'a [Standing], h: &Hazard) -> &'a [Standing]
     requires { IsStrictlySortedBy by_standing standing.now }
     ensures events { result.now ≡ of_hazard h.now standing.now }
@@ -50,7 +50,7 @@ pub fn of_hazard<'a>(standing: &'a [Standing], h: &Hazard) -> &'a [Standing]
     &rest[..count]
 }
 
-/// How many of the standing events of a hazard have numbers before this one.
+/// Returns how many of a hazard's events have numbers before `etn`.
 fn numbers_before(standing: &[Standing], etn: u16) -> usize
     requires { IsStrictlySortedBy by_number standing.now }
     ensures value { result ≡ prefix_len (λ s. is_lt (nat_cmp s.event.etn etn)) standing.now }
@@ -63,7 +63,7 @@ fn numbers_before(standing: &[Standing], etn: u16) -> usize
     )
 }
 
-/// How many of the standing events of a hazard have this number or numbers before it.
+/// Returns how many of a hazard's events have the number `etn` or one before it.
 fn numbers_through(standing: &[Standing], etn: u16) -> usize
     requires { IsStrictlySortedBy by_number standing.now }
     ensures value { result ≡ prefix_len (λ s. is_le (nat_cmp s.event.etn etn)) standing.now }
@@ -76,7 +76,7 @@ fn numbers_through(standing: &[Standing], etn: u16) -> usize
     )
 }
 
-/// The standing events of a number among those of a hazard.
+/// Returns the events with a number among those of a hazard.
 fn of_number(standing: &[Standing], etn: u16) -> &[Standing]
     requires { IsStrictlySortedBy by_number standing.now }
     ensures { result.now ≡ of_number etn standing.now }
@@ -87,7 +87,7 @@ fn of_number(standing: &[Standing], etn: u16) -> &[Standing]
     &rest[..count]
 }
 
-/// Of two events the one of the later year.
+/// Returns the event of the later year; `best` if the years are equal.
 fn later_event(best: &Option<Event>, event: &Event) -> Option<Event>
     ensures { result ≡ later_event best.now event.now }
 {
@@ -103,7 +103,8 @@ fn later_event(best: &Option<Event>, event: &Event) -> Option<Event>
     }
 }
 
-/// Of the events whose end is at most half an hour past the one of the greatest year.
+/// Returns the event of the greatest year among those with an end that is at most half an hour
+/// before `t`, or later.
 fn last_open(standing: &[Standing], t: Minute) -> Option<Event>
     ensures { result ≡ last_open t standing.now }
 {
@@ -116,7 +117,8 @@ fn last_open(standing: &[Standing], t: Minute) -> Option<Event>
     best
 }
 
-/// The open event of a hazard and number, of the greatest year where there are several.
+/// Returns the open event of a hazard and number, the one of the greatest year if there are
+/// several.
 pub fn open_event(standing: &[Standing], h: &Hazard, etn: u16, t: Minute) -> Option<Event>
     requires { IsStrictlySortedBy by_standing standing.now }
     ensures { result ≡ last_open t (of_number etn (of_hazard h.now standing.now)) }

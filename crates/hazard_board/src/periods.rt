@@ -1,4 +1,4 @@
-//! The periods of rows that no line has ended, by event, each with the number of these rows.
+//! The periods of unended rows by event, each with the count of these rows.
 ghost use Rattle.std.specs.Prelude.{◌≡◌, ◌≤◌, ◌<◌, ◌+◌, Bool, length, IfOk, IfErr};
 ghost use Rattle.std.specs.List.{prefix_len};
 ghost use Rattle.std.specs.List.Sorted.{IsStrictlySortedBy};
@@ -14,7 +14,7 @@ use event_life::ends_after;
 use hazard_types::{End, Event, Minute, Period, Row};
 use std::cmp::Ordering;
 
-/// A period of an event, and how many of the event's rows have it, of those that no line has ended.
+/// A period of an event, and how many of the event's unended rows have it.
 #[derive(Clone, Copy, Debug, PartialEq, Eq)]
 pub struct PeriodCount {
     pub event: Event,
@@ -22,7 +22,7 @@ pub struct PeriodCount {
     pub rows: usize,
 }
 
-/// How two ends stand where a later one comes first.
+/// Compares two ends, a later one first. Until further notice is the latest.
 fn later_first(a: &End, b: &End) -> Ordering
     ensures { result ≡ later_first a.now b.now }
 {
@@ -38,7 +38,7 @@ fn later_first(a: &End, b: &End) -> Ordering
     }
 }
 
-/// How two counts stand in the order by event, then end, a later one first.
+/// Compares two counts by event, then end, a later one first.
 fn order_of_ends(a: &PeriodCount, b: &PeriodCount) -> Ordering
     ensures { result ≡ by_event_end a.now b.now }
 {
@@ -49,7 +49,7 @@ fn order_of_ends(a: &PeriodCount, b: &PeriodCount) -> Ordering
     }
 }
 
-/// How two periods of one event stand, a later end first, then by begin.
+/// Compares two periods of one event by end, a later one first, then by begin.
 fn order_in_event(a: &Period, b: &Period) -> Ordering
     ensures { result ≡ ordering_then (later_first a.now.end b.now.end) (nat_cmp a.now.begin b.now.begin) }
 {
@@ -60,7 +60,7 @@ fn order_in_event(a: &Period, b: &Period) -> Ordering
     }
 }
 
-/// How two counts stand in the order by event, then end, a later one first, then begin.
+/// Compares two counts by event, then end, a later one first, then begin.
 fn order(a: &PeriodCount, b: &PeriodCount) -> Ordering
     ensures { result ≡ by_period a.now b.now }
 {
@@ -71,7 +71,7 @@ fn order(a: &PeriodCount, b: &PeriodCount) -> Ordering
     }
 }
 
-/// How many of the counts come before this one.
+/// Returns how many of the counts come before `key`.
 fn counts_below(periods: &[PeriodCount], key: &PeriodCount) -> usize
     requires { IsStrictlySortedBy by_period periods.now }
     ensures value { result ≡ prefix_len (λ x. is_lt (by_period x key.now)) periods.now }
@@ -84,7 +84,8 @@ fn counts_below(periods: &[PeriodCount], key: &PeriodCount) -> usize
     )
 }
 
-/// The place of the count of this period of this event, or else the place where it belongs.
+/// Returns the index of the count of this event and period, or as `Err` the index at which it
+/// belongs.
 fn place_of(periods: &[PeriodCount], key: &PeriodCount) -> Result<usize, usize>
     requires { IsStrictlySortedBy by_period periods.now }
     ensures found { IfOk result (IsCountAt key.now periods.now) }
@@ -162,7 +163,7 @@ fn take_off(periods: &mut Vec<PeriodCount>, event: &Event, period: &Period)
     }
 }
 
-/// Counts a row no longer, if there is one, and no line has ended it.
+/// Counts one row less, if there is a row and it is unended.
 fn take_off_if(periods: &mut Vec<PeriodCount>, row: &Option<Row>)
     requires stand { AreInOrder periods.old.items }
     requires some { (q : AnyEvent → AnyPeriod → Bool) → one_if q row.now ≤ counted q periods.old.items }
@@ -180,7 +181,7 @@ fn take_off_if(periods: &mut Vec<PeriodCount>, row: &Option<Row>)
     }
 }
 
-/// Counts a row, if no line has ended it.
+/// Counts a row, if it is unended.
 fn add_if(periods: &mut Vec<PeriodCount>, row: &Row)
     requires stand { AreInOrder periods.old.items }
     requires room { counted any_period periods.old.items + one_of any_period row.now ≤ vec_capacity periods.old }
@@ -193,7 +194,7 @@ fn add_if(periods: &mut Vec<PeriodCount>, row: &Row)
     }
 }
 
-/// Whether a row that is put counts as the one in its place does.
+/// Whether both rows are unended and of one event and period, so that no count changes.
 fn count_alike(old: &Option<Row>, row: &Row) -> bool
     ensures { result ≡ count_alike old.now row.now }
 {
@@ -205,7 +206,7 @@ fn count_alike(old: &Option<Row>, row: &Row) -> bool
     }
 }
 
-/// Counts a row that is put among rows, in place of the one of its zone and event.
+/// Corrects the counts for a row that is put in place of `old`.
 fn count_put(periods: &mut Vec<PeriodCount>, old: &Option<Row>, row: &Row)
     requires stand { AreInOrder periods.old.items }
     requires some { (q : AnyEvent → AnyPeriod → Bool) → one_if q old.now ≤ counted q periods.old.items }
@@ -221,7 +222,7 @@ fn count_put(periods: &mut Vec<PeriodCount>, old: &Option<Row>, row: &Row)
     add_if(periods, row);
 }
 
-/// Counts a row that is put among rows, if there is one, in place of the one of its zone and event.
+/// Corrects the counts for a row that is put in place of `old`, if a row is put.
 pub fn count_if(periods: &mut Vec<PeriodCount>, old: &Option<Row>, row: &Option<Row>)
     requires stand { AreInOrder periods.old.items }
     requires some { (q : AnyEvent → AnyPeriod → Bool) → one_if q old.now ≤ counted q periods.old.items }
@@ -236,7 +237,7 @@ pub fn count_if(periods: &mut Vec<PeriodCount>, old: &Option<Row>, row: &Option<
     }
 }
 
-/// How many of the counts are of events before this one.
+/// Returns how many of the counts are of events before `e`.
 fn events_before(periods: &[PeriodCount], e: &Event) -> usize
     requires { IsStrictlySortedBy by_period periods.now }
     ensures value { result ≡ prefix_len (λ x. is_lt (by_year x.event e.now)) periods.now }
@@ -249,7 +250,7 @@ fn events_before(periods: &[PeriodCount], e: &Event) -> usize
     )
 }
 
-/// The latest end of the periods of an event: its first count has it.
+/// Returns the latest end of an event's unended rows: its first count has it.
 pub fn latest_in(periods: &[PeriodCount], e: &Event) -> Option<End>
     requires { IsStrictlySortedBy by_period periods.now }
     ensures { result ≡ latest_in periods.now e.now }
@@ -266,7 +267,8 @@ pub fn latest_in(periods: &[PeriodCount], e: &Event) -> Option<End>
     }
 }
 
-/// How many of the counts are of events before that of the key, or of its event and later ends.
+/// Returns how many of the counts are of events before that of `key`, or of its event and later
+/// ends.
 fn ends_before(periods: &[PeriodCount], key: &PeriodCount) -> usize
     requires { IsStrictlySortedBy by_period periods.now }
     ensures value { result ≡ prefix_len (λ x. is_lt (by_event_end x key.now)) periods.now }
@@ -279,7 +281,8 @@ fn ends_before(periods: &[PeriodCount], key: &PeriodCount) -> usize
     )
 }
 
-/// Whether a period of the event of the key, with its end, has begun: the first of them has.
+/// Whether a period with the event and end of `key` begins at `t` or before: the first of them does
+/// if one does.
 fn has_begun(periods: &[PeriodCount], key: &PeriodCount, t: Minute) -> bool
     requires { IsStrictlySortedBy by_period periods.now }
     ensures { result ≡ begun_in periods.now key.now t }
@@ -292,7 +295,8 @@ fn has_begun(periods: &[PeriodCount], key: &PeriodCount, t: Minute) -> bool
     order_of_ends(found, key).is_eq() && found.period.begin.get() <= t.get()
 }
 
-/// Whether a live row of an event has the same period.
+/// Whether a row of an event that is live at `t` has this period. Begins at `t` or before count as
+/// equal.
 pub fn has_period(periods: &[PeriodCount], t: Minute, e: &Event, p: &Period) -> bool
     requires { AreInOrder periods.now }
     ensures { result ≡ same_in periods.now e.now p.now t }

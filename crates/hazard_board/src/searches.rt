@@ -1,4 +1,4 @@
-//! Rows and their places in lists that stand in order, by binary search.
+//! Binary searches in sorted rows.
 ghost use Rattle.std.specs.Prelude.{◌≡◌, ◌≤◌, ◌<◌, length, filter, OnOk, OnErr};
 ghost use Rattle.std.specs.List.{prefix_len};
 ghost use Rattle.std.specs.List.Sorted.{IsStrictlySortedBy};
@@ -13,7 +13,7 @@ ghost use Rattle.hazard_board.specs.Board.{by_row_event, slice_of, stands_by};
 use hazard_types::{Event, Oom, Row, Zone};
 use std::cmp::Ordering;
 
-/// How many of the rows are of zones before this one.
+/// Returns how many of the rows are of zones before `z`.
 pub fn rows_before(rows: &[Row], z: &Zone) -> usize
     requires { IsStrictlySortedBy by_key rows.now }
     ensures value { result ≡ prefix_len (λ row. is_lt (by_place row.zone z.now)) rows.now }
@@ -26,7 +26,7 @@ pub fn rows_before(rows: &[Row], z: &Zone) -> usize
     )
 }
 
-/// How many of the rows are of this zone or of zones before it.
+/// Returns how many of the rows are of `z` or of zones before it.
 pub fn rows_through(rows: &[Row], z: &Zone) -> usize
     requires { IsStrictlySortedBy by_key rows.now }
     ensures value { result ≡ prefix_len (λ row. is_le (by_place row.zone z.now)) rows.now }
@@ -39,7 +39,7 @@ pub fn rows_through(rows: &[Row], z: &Zone) -> usize
     )
 }
 
-/// The rows of a zone, by event.
+/// Returns the rows of a zone, by event.
 pub fn slice_of<'a>(rows: &'a [Row], z: &Zone) -> &'a [Row]
     requires { IsStrictlySortedBy by_key rows.now }
     ensures rows { result.now ≡ slice_of z.now rows.now }
@@ -51,7 +51,8 @@ pub fn slice_of<'a>(rows: &'a [Row], z: &Zone) -> &'a [Row]
     &rest[..count]
 }
 
-/// The first order, or where it is a tie that of two events, which are not compared otherwise.
+/// Returns `first`, or if that is `Equal` the order of the two events, which are compared only
+/// then.
 pub fn then_by_event(first: Ordering, a: &Event, b: &Event) -> Ordering
     ensures { result ≡ ordering_then first (by_event a.now b.now) }
 {
@@ -62,14 +63,14 @@ pub fn then_by_event(first: Ordering, a: &Event, b: &Event) -> Ordering
     }
 }
 
-/// How a row stands by that of an event in a zone.
+/// Compares the key of a row with that of an event in a zone.
 fn stands_by(row: &Row, e: &Event, z: &Zone) -> Ordering
     ensures { result ≡ stands_by e.now z.now row.now }
 {
     then_by_event(row.zone.cmp(z), &row.event, e)
 }
 
-/// How many of the rows come before that of an event in a zone.
+/// Returns how many of the rows come before that of an event in a zone.
 fn keys_below(rows: &[Row], e: &Event, z: &Zone) -> usize
     requires { IsStrictlySortedBy by_key rows.now }
     ensures value { result ≡ prefix_len (λ row. is_lt (stands_by e.now z.now row)) rows.now }
@@ -82,7 +83,7 @@ fn keys_below(rows: &[Row], e: &Event, z: &Zone) -> usize
     )
 }
 
-/// The row of an event in a zone.
+/// Returns the row of an event in a zone.
 pub fn row_at(rows: &[Row], e: &Event, z: &Zone) -> Option<Row>
     requires { IsStrictlySortedBy by_key rows.now }
     ensures { result ≡ row_at rows.now e.now z.now }
@@ -99,14 +100,14 @@ pub fn row_at(rows: &[Row], e: &Event, z: &Zone) -> Option<Row>
     }
 }
 
-/// How two rows stand in the order by zone, then event.
+/// Compares two rows by zone, then event.
 fn order(a: &Row, b: &Row) -> Ordering
     ensures { result ≡ by_key a.now b.now }
 {
     then_by_event(a.zone.cmp(&b.zone), &a.event, &b.event)
 }
 
-/// How many of the rows come before this one.
+/// Returns how many of the rows come before `row`.
 fn rows_below(rows: &[Row], row: &Row) -> usize
     requires { IsStrictlySortedBy by_key rows.now }
     ensures value { result ≡ prefix_len (λ other. is_lt (by_key other row.now)) rows.now }
@@ -119,7 +120,8 @@ fn rows_below(rows: &[Row], row: &Row) -> usize
     )
 }
 
-/// The place of the row of this zone and event, or else the place where the row belongs.
+/// Returns the index of the row with this zone and event, or as `Err` the index at which it
+/// belongs.
 fn seat_of(rows: &[Row], row: &Row) -> Result<usize, usize>
     requires { IsStrictlySortedBy by_key rows.now }
     ensures seat { IsSeat result rows.now }
@@ -137,7 +139,8 @@ fn seat_of(rows: &[Row], row: &Row) -> Result<usize, usize>
     }
 }
 
-/// Puts a row in the place of the one of its zone and event, or in its own place. Memory is wanted only where the rows outgrow their capacity.
+/// Puts a row, in place of the one with its zone and event if there is one. Memory is taken only if
+/// the rows outgrow their capacity; on `Oom` nothing changes.
 pub fn put(rows: &mut Vec<Row>, row: &Row) -> Result<(), Oom>
     requires { IsStrictlySortedBy by_key rows.old.items }
     ensures ok { OnOk result (rows.new.items ≡ put row.now rows.old.items) }

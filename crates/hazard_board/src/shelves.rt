@@ -1,4 +1,4 @@
-//! The rows on shelves: a row that comes in moves those of its own shelf alone.
+//! Rows on shelves: a row that is put moves those of its own shelf alone.
 ghost use Rattle.std.specs.Prelude.{◌≡◌, ◌≤◌, ◌<◌, ◌+◌, ◌-◌, ◌++◌, ℕ, [], length, drop, get_or, IfOk, IfSome, OnOk, OnErr, if◌then◌else◌};
 ghost use Rattle.std.specs.List.Sorted.{IsStrictlySortedBy};
 ghost use Rattle.std.specs.Ordering.{is_le};
@@ -16,17 +16,20 @@ use hazard_types::{Event, Minute, Oom, Row, Zone};
 use std::alloc::{AllocError, Global};
 use std::marker::Model;
 
-/// A shelf with more rows than these is long.
+/// A shelf with more rows than this is long.
 const LIMIT: usize = 64;
 
-/// Rows of zones from a first one on, up to the first zone of the next shelf.
+/// The rows of zones from a first one on, up to the first zone of the next shelf.
 #[derive(Drop)]
 struct Shelf {
     from: Zone,
     rows: Vec<Row>,
 }
 
-/// Rows by zone, then event, on shelves in the order of zones: all rows of a zone stand on one shelf. A shelf that has grown long is parted in two where a zone begins.
+/// Rows by zone, then event, on shelves in the order of zones. All rows of a zone are on one shelf,
+/// and a long shelf is split where a zone starts.
+///
+/// Source: docs/DECISIONS.md, "Plans".
 #[derive(Drop)]
 pub struct Shelves {
     // The rows of zones before those of the later shelves.
@@ -48,7 +51,7 @@ impl Model for Shelves {
     ghost invariant = { λ s. AreShelved s.first.items s.later.items };
 }
 
-/// How many of the shelves begin with this zone or with zones before it.
+/// Returns how many of the shelves start with `z` or with zones before it.
 fn shelves_through(later: &[Shelf], z: &Zone) -> usize
     requires { IsStrictlySortedBy by_from later.now }
     ensures value { result ≡ through z.now later.now }
@@ -74,7 +77,8 @@ fn put_within(rows: &mut Vec<Row>, row: &Row)
     }
 }
 
-/// Puts a row among rows if they have room for it. Otherwise nothing changes, and the answer is false.
+/// Puts a row among rows if they have room for it, and returns whether they have. If not, nothing
+/// changes.
 fn put_if_fits(rows: &mut Vec<Row>, row: &Row) -> bool
     requires { IsStrictlySortedBy by_key rows.old.items }
     ensures rows { rows.new.items ≡ (if result then put row.now rows.old.items else rows.old.items) }
@@ -88,7 +92,8 @@ fn put_if_fits(rows: &mut Vec<Row>, row: &Row) -> bool
     }
 }
 
-/// Where a zone begins in the midst of rows that are many: that of the middle row, or the one behind it.
+/// Returns an index at which a zone starts in the middle of long rows: the start of the middle
+/// row's zone, or of the next. `None` if the rows are not long or are all of one zone.
 fn cut_of(rows: &[Row]) -> Option<usize>
     requires { IsStrictlySortedBy by_key rows.now }
     ensures { IfSome result (IsCut rows.now) }
@@ -108,7 +113,7 @@ fn cut_of(rows: &[Row]) -> Option<usize>
     None
 }
 
-/// The rows from a place on as a shelf of their own, with room for `n` more.
+/// Returns the rows from an index on as a shelf of their own, with capacity for `n` more.
 fn shelf_from(alloc: Global, rows: &[Row], at: usize, n: usize) -> Result<Shelf, Oom>
     requires { at < length rows.now }
     ensures rows { IfOk result (λ shelf. shelf.rows.items ≡ drop at rows.now) }
@@ -121,7 +126,7 @@ fn shelf_from(alloc: Global, rows: &[Row], at: usize, n: usize) -> Result<Shelf,
     Ok(Shelf { from, rows: back })
 }
 
-/// Parts a shelf in two at a place in its rows. What is parted off has room for `n` more rows.
+/// Splits a shelf in two at an index of its rows. The second part has capacity for `n` more rows.
 fn part_at(later: &mut Vec<Shelf>, place: usize, at: usize, n: usize) -> Result<(), Oom>
     requires place { place < vec_len later.old }
     requires order { IsStrictlySortedBy by_key (on_shelves later.old.items) }
@@ -138,7 +143,7 @@ fn part_at(later: &mut Vec<Shelf>, place: usize, at: usize, n: usize) -> Result<
     Ok(())
 }
 
-/// Parts a shelf in two, if it is long. What is parted off has room for `n` more rows.
+/// Splits a long shelf in two. The second part has capacity for `n` more rows.
 fn part(later: &mut Vec<Shelf>, place: usize, n: usize) -> Result<(), Oom>
     requires place { place < vec_len later.old }
     requires order { IsStrictlySortedBy by_key (on_shelves later.old.items) }
@@ -153,7 +158,7 @@ fn part(later: &mut Vec<Shelf>, place: usize, n: usize) -> Result<(), Oom>
     }
 }
 
-/// Takes memory for `n` more rows on each of the shelves, from the last on. Those that are long are parted.
+/// Takes memory for `n` more rows on each of the shelves, from the last on, and splits long ones.
 fn reserve_later(later: &mut Vec<Shelf>, n: usize) -> Result<(), Oom>
     requires { IsStrictlySortedBy by_key (on_shelves later.old.items) }
     ensures kept { AreKept n later.old.items later.new.items }
@@ -167,7 +172,8 @@ fn reserve_later(later: &mut Vec<Shelf>, n: usize) -> Result<(), Oom>
     Ok(())
 }
 
-/// Parts the rows in front of the shelves in two, if they are many. What is parted off is a shelf with room for `n` more rows.
+/// Splits the rows before the shelves in two, if they are long. The second part is a shelf with
+/// capacity for `n` more rows.
 fn part_first(first: &mut Vec<Row>, later: &mut Vec<Shelf>, n: usize) -> Result<(), Oom>
     requires { AreShelved first.old.items later.old.items }
     ensures rows { first.new.items ++ on_shelves later.new.items ≡ first.old.items ++ on_shelves later.old.items }
@@ -184,7 +190,7 @@ fn part_first(first: &mut Vec<Row>, later: &mut Vec<Shelf>, n: usize) -> Result<
     Ok(())
 }
 
-/// Takes memory for `n` more rows on each shelf, the first rows' too. What is long is parted.
+/// Takes memory for `n` more rows on each shelf, the first rows among them, and splits long ones.
 fn reserve_each(first: &mut Vec<Row>, later: &mut Vec<Shelf>, n: usize) -> Result<(), Oom>
     requires { AreShelved first.old.items later.old.items }
     ensures rows { first.new.items ++ on_shelves later.new.items ≡ first.old.items ++ on_shelves later.old.items }
@@ -198,7 +204,7 @@ fn reserve_each(first: &mut Vec<Row>, later: &mut Vec<Shelf>, n: usize) -> Resul
     Ok(())
 }
 
-/// The live rows among some.
+/// Returns those of the rows that are live at `t`.
 pub fn live(alloc: Global, rows: &[Row], t: Minute) -> Result<Vec<Row>, AllocError>
     ensures { IfOk result (λ live. live.items ≡ shown_at t rows.now) }
 {
@@ -209,7 +215,7 @@ pub fn live(alloc: Global, rows: &[Row], t: Minute) -> Result<Vec<Row>, AllocErr
 }
 
 impl Shelves {
-    /// No rows, and no memory for any.
+    /// Empty, without capacity.
     pub fn new(alloc: Global) -> Self
         ensures { result.rows ≡ [] }
     {
@@ -219,7 +225,7 @@ impl Shelves {
         }
     }
 
-    /// These rows, on one shelf.
+    /// Returns the rows on one shelf.
     pub fn from_rows(rows: Vec<Row>) -> Self
         requires { IsStrictlySortedBy by_key rows.items }
         ensures { result.rows ≡ rows.items }
@@ -231,12 +237,12 @@ impl Shelves {
         }
     }
 
-    /// What memory for the rows is taken of.
+    /// Returns the allocator of the rows.
     pub fn allocator(&self) -> Global {
         *self.first.allocator()
     }
 
-    /// For how many more rows there is memory, wherever they stand.
+    /// Returns for how many more rows there is memory, in whatever zones.
     fn spare(&self) -> usize
         ensures { result ≡ self.now.spare }
     {
@@ -247,7 +253,8 @@ impl Shelves {
         least
     }
 
-    /// Takes memory for `n` more rows, wherever they stand. Where it is wanted, long shelves are parted.
+    /// Takes memory for `n` more rows, in whatever zones. Long shelves are split if memory has to
+    /// be taken.
     pub fn reserve(&mut self, n: usize) -> Result<(), Oom>
         ensures rows { self.new.rows ≡ self.old.rows }
         ensures spare { self.old.spare ≤ self.new.spare }
@@ -260,7 +267,7 @@ impl Shelves {
         reserve_each(&mut self.first, &mut self.later, n)
     }
 
-    /// The rows of the shelf on which a zone's rows stand.
+    /// Returns the rows of the shelf that has a zone's rows.
     fn shelf(&self, z: &Zone) -> &[Row]
         ensures rows { slice_of z.now result.now ≡ slice_of z.now self.now.rows }
         ensures order { IsStrictlySortedBy by_key result.now }
@@ -273,7 +280,7 @@ impl Shelves {
         }
     }
 
-    /// The rows of a zone, by event.
+    /// Returns the rows of a zone, by event.
     pub fn slice_of(&self, z: &Zone) -> &[Row]
         ensures rows { result.now ≡ slice_of z.now self.now.rows }
         ensures order { IsStrictlySortedBy by_row_event result.now }
@@ -281,14 +288,15 @@ impl Shelves {
         slice_of(self.shelf(z), z)
     }
 
-    /// The row of an event in a zone.
+    /// Returns the row of an event in a zone.
     pub fn row_at(&self, e: &Event, z: &Zone) -> Option<Row>
         ensures { result ≡ row_at self.now.rows e.now z.now }
     {
         row_at(self.shelf(z), e, z)
     }
 
-    /// Puts a row in the place of the one of its zone and event, or in its own place. Only the rows of its shelf move.
+    /// Puts a row, in place of the one with its zone and event if there is one. Only rows of its
+    /// shelf move.
     pub fn put(&mut self, row: &Row)
         requires { length (put row.now self.old.rows) ≤ self.old.spare + length self.old.rows }
         ensures rows { self.new.rows ≡ put row.now self.old.rows }
@@ -303,7 +311,8 @@ impl Shelves {
         }
     }
 
-    /// Puts a row as `put` does if there is memory for it on its shelf. Otherwise nothing changes, and the answer is false.
+    /// Puts a row as `put` does if its shelf has room for it, and returns whether it has. If not,
+    /// nothing changes.
     pub fn put_if_room(&mut self, row: &Row) -> bool
         ensures { self.new.rows ≡ (if result then put row.now self.old.rows else self.old.rows) }
     {
@@ -316,7 +325,7 @@ impl Shelves {
         }
     }
 
-    /// The live rows.
+    /// Returns the rows that are live at `t`, by zone, then event.
     pub fn shown(&self, alloc: Global, t: Minute) -> Result<Vec<Row>, Oom>
         ensures { IfOk result (λ shown. shown.items ≡ shown_at t self.now.rows) }
     {

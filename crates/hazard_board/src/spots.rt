@@ -1,4 +1,5 @@
-//! The spots of the rows: the event and zone of each, by which the rows of one event are found without the others.
+//! The event and zone of each row in order by event, so that the rows of one event are found
+//! without the others.
 ghost use Rattle.std.specs.Prelude.{◌≡◌, ◌≤◌, ◌<◌, length, filter, find, IfOk, OnOk, OnErr};
 ghost use Rattle.std.specs.List.{prefix_len};
 ghost use Rattle.std.specs.List.Sorted.{IsStrictlySortedBy};
@@ -20,21 +21,21 @@ pub struct Spot {
     pub zone: Zone,
 }
 
-/// How two events stand in the order by year, then number, then hazard.
+/// Compares two events by year, then number, then hazard.
 pub fn order_by_year(a: &Event, b: &Event) -> Ordering
     ensures { result ≡ by_year a.now b.now }
 {
     then_by_event(a.year.cmp(&b.year).then(a.etn.cmp(&b.etn)), a, b)
 }
 
-/// How two spots stand in the order by event, then zone.
+/// Compares two spots by event, then zone.
 fn order(a: &Spot, b: &Spot) -> Ordering
     ensures { result ≡ by_spot a.now b.now }
 {
     order_by_year(&a.event, &b.event).then(a.zone.cmp(&b.zone))
 }
 
-/// How many of the spots come before this one.
+/// Returns how many of the spots come before `spot`.
 fn spots_below(spots: &[Spot], spot: &Spot) -> usize
     requires { IsStrictlySortedBy by_spot spots.now }
     ensures value { result ≡ prefix_len (λ other. is_lt (by_spot other spot.now)) spots.now }
@@ -47,7 +48,7 @@ fn spots_below(spots: &[Spot], spot: &Spot) -> usize
     )
 }
 
-/// The place of the spot, or else the place where it belongs.
+/// Returns the index of the spot, or as `Err` the index at which it belongs.
 fn seat_of(spots: &[Spot], spot: &Spot) -> Result<usize, usize>
     requires { IsStrictlySortedBy by_spot spots.now }
     ensures seat { IsSpotSeat result spots.now }
@@ -65,7 +66,7 @@ fn seat_of(spots: &[Spot], spot: &Spot) -> Result<usize, usize>
     }
 }
 
-/// Puts a spot into its place, if it is not there. Memory is wanted only where the spots outgrow their capacity.
+/// Puts a spot, unless it is there. Memory is taken only if the spots outgrow their capacity.
 fn put(spots: &mut Vec<Spot>, spot: &Spot) -> Result<(), Oom>
     requires { IsStrictlySortedBy by_spot spots.old.items }
     ensures ok { OnOk result (spots.new.items ≡ put_spot spot.now spots.old.items) }
@@ -79,7 +80,7 @@ fn put(spots: &mut Vec<Spot>, spot: &Spot) -> Result<(), Oom>
     Ok(())
 }
 
-/// Puts the spot of a row into its place, if there is a row.
+/// Puts the spot of a row, if there is a row.
 pub fn put_spot_if(spots: &mut Vec<Spot>, row: &Option<Row>) -> Result<(), Oom>
     requires { IsStrictlySortedBy by_spot spots.old.items }
     ensures ok { OnOk result (spots.new.items ≡ put_spot_if row.now spots.old.items) }
@@ -98,7 +99,7 @@ pub fn put_spot_if(spots: &mut Vec<Spot>, row: &Option<Row>) -> Result<(), Oom>
     }
 }
 
-/// How many of the spots are of events before this one.
+/// Returns how many of the spots are of events before `e`.
 fn events_before(spots: &[Spot], e: &Event) -> usize
     requires { IsStrictlySortedBy by_spot spots.now }
     ensures value { result ≡ prefix_len (λ s. is_lt (by_year s.event e.now)) spots.now }
@@ -111,7 +112,7 @@ fn events_before(spots: &[Spot], e: &Event) -> usize
     )
 }
 
-/// How many of the spots are of this event or of events before it.
+/// Returns how many of the spots are of `e` or of events before it.
 fn events_through(spots: &[Spot], e: &Event) -> usize
     requires { IsStrictlySortedBy by_spot spots.now }
     ensures value { result ≡ prefix_len (λ s. is_le (by_year s.event e.now)) spots.now }
@@ -124,7 +125,7 @@ fn events_through(spots: &[Spot], e: &Event) -> usize
     )
 }
 
-/// The spots of an event, by zone.
+/// Returns the spots of an event, by zone.
 pub fn spots_of<'a>(spots: &'a [Spot], e: &Event) -> &'a [Spot]
     requires { IsStrictlySortedBy by_spot spots.now }
     ensures { result.now ≡ spots_of e.now spots.now }
@@ -135,7 +136,7 @@ pub fn spots_of<'a>(spots: &'a [Spot], e: &Event) -> &'a [Spot]
     &rest[..count]
 }
 
-/// The first row at the spots.
+/// Returns the first row at the spots.
 fn first_on(rows: &BoardRows, spots: &[Spot]) -> Option<Row>
     ensures { result ≡ first_of (rows_on rows.now.rows spots.now) }
 {
@@ -148,7 +149,7 @@ fn first_on(rows: &BoardRows, spots: &[Spot]) -> Option<Row>
     None
 }
 
-/// The first row of an event, by zone. Only its own rows are looked at.
+/// Returns the first row of an event, by zone. Only the event's rows are read.
 pub fn first_row(rows: &BoardRows, spots: &[Spot], e: &Event) -> Option<Row>
     requires order { IsStrictlySortedBy by_key rows.now.rows }
     requires spots { AreSpots rows.now.rows spots.now }

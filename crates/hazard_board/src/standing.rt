@@ -1,4 +1,4 @@
-//! The events that stand: those with a row that no line has ended.
+//! The events that have an unended row, each with the greatest end of these rows.
 ghost use Rattle.std.specs.Prelude.{◌≡◌, ◌≤◌, ◌<◌, ◌+◌, true, false, length, None, is_none, IfOk, IfErr, IsSome, if◌then◌else◌};
 ghost use Rattle.std.specs.List.{prefix_len};
 ghost use Rattle.std.specs.List.Sorted.{IsStrictlySortedBy};
@@ -14,14 +14,15 @@ use crate::periods::{PeriodCount, latest_in};
 use event_life::is_routine;
 use hazard_types::{End, Event, Line};
 
-/// An event with a row that no line has ended, and the greatest end of its rows that no line has ended. Until further notice is the greatest.
+/// An event that has an unended row.
 #[derive(Clone, Copy, Debug, PartialEq, Eq)]
 pub struct Standing {
     pub event: Event,
+    /// The greatest end of its unended rows. Until further notice is greater than any minute.
     pub latest: End,
 }
 
-/// How many of the standing events come before this one.
+/// Returns how many of the events come before `e`.
 fn events_before(standing: &[Standing], e: &Event) -> usize
     requires { IsStrictlySortedBy by_standing standing.now }
     ensures value { result ≡ prefix_len (λ s. is_lt (by_event s.event e.now)) standing.now }
@@ -34,7 +35,7 @@ fn events_before(standing: &[Standing], e: &Event) -> usize
     )
 }
 
-/// The place at which an event stands, or else the place where it belongs.
+/// Returns the index of an event, or as `Err` the index at which it belongs.
 fn place_of(standing: &[Standing], e: &Event) -> Result<usize, usize>
     requires { IsStrictlySortedBy by_standing standing.now }
     ensures found { IfOk result (IsPlaceOf e.now standing.now) }
@@ -52,7 +53,7 @@ fn place_of(standing: &[Standing], e: &Event) -> Result<usize, usize>
     }
 }
 
-/// Puts a standing event into its place.
+/// Puts an event with its end, in place of the one that is there if it is.
 fn put_standing(standing: &mut Vec<Standing>, s: &Standing)
     requires order { IsStrictlySortedBy by_standing standing.old.items }
     requires room { end_in standing.old.items s.now.event ≡ None → vec_len standing.old < vec_capacity standing.old }
@@ -69,7 +70,7 @@ fn put_standing(standing: &mut Vec<Standing>, s: &Standing)
     }
 }
 
-/// Takes an event out of the list, if it stands there.
+/// Removes an event, if it is in the list.
 fn take_out(standing: &mut Vec<Standing>, e: &Event)
     requires order { IsStrictlySortedBy by_standing standing.old.items }
     ensures items { standing.new.items ≡ without e.now standing.old.items }
@@ -81,7 +82,7 @@ fn take_out(standing: &mut Vec<Standing>, e: &Event)
     }
 }
 
-/// Sets the end of an event: none where it no longer stands.
+/// Sets the end of an event, or removes the event if there is no end.
 fn set_end(standing: &mut Vec<Standing>, e: &Event, latest: &Option<End>)
     requires order { IsStrictlySortedBy by_standing standing.old.items }
     requires room { IsSome latest.now → end_in standing.old.items e.now ≡ None → vec_len standing.old < vec_capacity standing.old }
@@ -102,7 +103,7 @@ fn set_end(standing: &mut Vec<Standing>, e: &Event, latest: &Option<End>)
     }
 }
 
-/// The end that stands for an event.
+/// Returns the end of an event, if it is in the list.
 fn end_in(standing: &[Standing], e: &Event) -> Option<End>
     requires { IsStrictlySortedBy by_standing standing.now }
     ensures { result ≡ end_in standing.now e.now }
@@ -119,7 +120,7 @@ fn end_in(standing: &[Standing], e: &Event) -> Option<End>
     }
 }
 
-/// Whether both are one end, or none.
+/// Whether the two ends are equal, or both are `None`.
 fn are_one(first: &Option<End>, second: &Option<End>) -> bool
     ensures { result ≡ are_one first.now second.now }
 {
@@ -135,14 +136,14 @@ fn are_one(first: &Option<End>, second: &Option<End>) -> bool
     }
 }
 
-/// Whether the line touches a life of the event.
+/// Whether the line is of the event and not routine.
 fn touches(line: &Line, e: &Event) -> bool
     ensures { result ≡ touches e.now line.now }
 {
     !is_routine(&line.action) && line.event == *e
 }
 
-/// Whether the line touches a life of an event that does not stand with this end.
+/// Whether the line is not routine and its event does not have this end in the list.
 fn moves_end(standing: &[Standing], line: &Line, latest: &Option<End>) -> bool
     requires { IsStrictlySortedBy by_standing standing.now }
     ensures { result ≡ moves_end standing.now line.now latest.now }
@@ -150,7 +151,7 @@ fn moves_end(standing: &[Standing], line: &Line, latest: &Option<End>) -> bool
     !is_routine(&line.action) && !are_one(&end_in(standing, &line.event), latest)
 }
 
-/// Whether the last of the lines touches a life of the event.
+/// Whether the last of the lines is of the event and not routine.
 fn touches_last(lines: &[Line], e: &Event) -> bool
     ensures { result ≡ true → touched lines.now e.now ≡ true }
 {
@@ -162,8 +163,7 @@ fn touches_last(lines: &[Line], e: &Event) -> bool
     touches(line, e)
 }
 
-/// Whether the end of the event of a line is to be set: where it moves. It has been set where
-/// the line before is of the event.
+/// Whether the end of a line's event is to be set: it differs, and was not set for the line before.
 fn is_to_settle(
     standing: &[Standing],
     periods: &[PeriodCount],
@@ -182,7 +182,7 @@ fn is_to_settle(
     moves_end(standing, line, &latest)
 }
 
-/// Sets the ends of the events of the lines as the periods have them. Most stand with them already.
+/// Sets the ends of the lines' events to the latest ends of the periods. Most have these already.
 pub fn settle(standing: &mut Vec<Standing>, periods: &[PeriodCount], lines: &[Line])
     requires periods { IsStrictlySortedBy by_period periods.now }
     requires order { IsStrictlySortedBy by_standing standing.old.items }

@@ -1,4 +1,4 @@
-//! Products come of a stream in pieces.
+//! Cuts a stream that comes in pieces into its products.
 ghost use Rattle.std.specs.Prelude.{◌≡◌, ◌<◌, ◌++◌, ℕ, false, true, Ok, [], length, IfOk, OnOk, OnErr, List as Seq};
 ghost use Rattle.std.specs.List.{concat};
 ghost use Rattle.product_decoder.specs.Feeding.{texts_of, products_in, Keeps, Takes};
@@ -8,7 +8,8 @@ use hazard_types::{List, Oom, Text};
 use std::alloc::Global;
 use std::marker::Model;
 
-/// The bytes of a stream from the first product on that was not given.
+/// Takes the bytes of a stream piece by piece, and returns its products one after another. It keeps
+/// the bytes of the products that were not returned.
 #[derive(Drop)]
 pub struct Feed {
     held: Held,
@@ -27,7 +28,7 @@ impl Model for Feed {
 }
 
 impl Feed {
-    /// No bytes are taken yet.
+    /// Returns a feed of a stream of which no byte has come.
     pub fn new(alloc: Global) -> Self
         ensures rest { result.rest ≡ [] }
         ensures going { result.ended ≡ false }
@@ -38,7 +39,11 @@ impl Feed {
         }
     }
 
-    /// Takes a piece behind what was taken before. Out of memory changes nothing.
+    /// Adds a piece after those before. The end must not be marked.
+    ///
+    /// # Errors
+    ///
+    /// Out of memory; nothing changes.
     pub fn push(&mut self, alloc: Global, piece: &[u8]) -> Result<(), Oom>
         requires { self.old.ended ≡ false }
         ensures ok { OnOk result (self.new.rest ≡ self.old.rest ++ piece.now) }
@@ -48,7 +53,7 @@ impl Feed {
         self.held.push(alloc, piece)
     }
 
-    /// Marks the end of the stream. The last line counts, whether it has its end or not.
+    /// Marks the end of the stream. The last line then counts, whether it has its line end or not.
     pub fn end(&mut self)
         ensures rest { self.new.rest ≡ self.old.rest }
         ensures ended { self.new.ended ≡ true }
@@ -56,12 +61,15 @@ impl Feed {
         self.ended = true;
     }
 
-    /// The next product. Before the end was marked there is none exactly where the whole lines have no second heading line, and then
-    /// exactly where nothing is left.
+    /// Returns the next product, from its heading line up to the next one. Before the end is marked
+    /// it is `None` until the heading line after the product is whole; after that it is `None` once
+    /// nothing is left.
     ///
     /// # Errors
     ///
-    /// Out of memory. No product is lost then.
+    /// Out of memory; no product is lost.
+    ///
+    /// Source: docs/DECISIONS.md, "The archive's report".
     pub fn take(&mut self, alloc: Global) -> Result<Option<Text>, Oom>
         ensures ended { self.new.ended ≡ self.old.ended }
         ensures taken { IfOk result (λ text. Takes self.old text self.new) }
@@ -74,7 +82,7 @@ impl Feed {
         }
     }
 
-    /// How many bytes are kept.
+    /// Returns how many bytes are kept.
     pub fn held(&self) -> usize
         ensures { result ≡ length self.now.rest }
     {
@@ -82,7 +90,7 @@ impl Feed {
     }
 }
 
-/// Adds the next product, if there is one.
+/// Adds the next product to `out`, if there is one, and returns whether there is.
 fn take_one(alloc: Global, feed: &mut Feed, out: &mut List<Text>) -> Result<bool, Oom>
     ensures ended { feed.new.ended ≡ feed.old.ended }
     ensures going { OnOk result (feed.old.ended ≡ false → (more : Seq ℕ) → out.old ++ products_in (feed.old.rest ++ more) ≡ out.new ++ products_in (feed.new.rest ++ more)) }
@@ -99,7 +107,7 @@ fn take_one(alloc: Global, feed: &mut Feed, out: &mut List<Text>) -> Result<bool
     }
 }
 
-/// Adds the products that are finished, or all where the stream's end was marked.
+/// Adds the products that are finished to `out`, or all that are left if the end is marked.
 fn take_each(alloc: Global, feed: &mut Feed, out: &mut List<Text>) -> Result<(), Oom>
     ensures ended { feed.new.ended ≡ feed.old.ended }
     ensures going { OnOk result (feed.old.ended ≡ false → (more : Seq ℕ) → out.old ++ products_in (feed.old.rest ++ more) ≡ out.new ++ products_in (feed.new.rest ++ more)) }
@@ -112,7 +120,11 @@ fn take_each(alloc: Global, feed: &mut Feed, out: &mut List<Text>) -> Result<(),
     Ok(())
 }
 
-/// The products of a stream that comes in these pieces, whichever they are.
+/// Returns the products of a stream that comes in these pieces, however it is cut.
+///
+/// # Errors
+///
+/// Out of memory.
 pub fn products_of(alloc: Global, pieces: &[Text]) -> Result<List<Text>, Oom>
     ensures { IfOk result (λ texts. texts ≡ texts_of (concat pieces.now)) }
 {
@@ -127,7 +139,7 @@ pub fn products_of(alloc: Global, pieces: &[Text]) -> Result<List<Text>, Oom>
     Ok(out)
 }
 
-/// The products of the lines of a text are those that it is split into.
+/// The products of a text, line by line, are those that it is split into.
 #[tactic(auto, using(crate::proofs::Dividing::products_told))]
 pub fn lines_tell_the_products()
     ensures { (bytes : Seq ℕ) → texts_of bytes ≡ products_in bytes }

@@ -1,4 +1,4 @@
-//! Lines in breach, and gaps.
+//! The lines in breach, and the gaps in numbers.
 ghost use Rattle.std.specs.Prelude.{◌≡◌, ◌<◌, ◌++◌, [], length, map, IfOk, OnOk};
 ghost use Rattle.event_life.specs.Openings.{gaps_from, opened_by};
 ghost use Rattle.event_life.specs.Products.{lawful_of};
@@ -13,7 +13,7 @@ use hazard_types::{Event, Line, List, Oom};
 use row_index::{Run, Verdict};
 use std::alloc::{AllocError, Global};
 
-/// Adds the lines of a product that are in breach.
+/// Adds those of a product's lines that are in breach.
 fn put_found(
     out: &mut List<Found>,
     product: u32,
@@ -34,7 +34,7 @@ fn put_found(
     Ok(())
 }
 
-/// Adds the lines of a product that are in breach. Most products have none.
+/// Adds the lines of a product that are in breach; most products have none.
 fn put_product(alloc: Global, out: &mut List<Found>, count: u32, product: &Taken) -> Result<(), Oom>
     ensures { OnOk result (out.new ≡ out.old ++ found_in count product.now.judged) }
 {
@@ -45,7 +45,7 @@ fn put_product(alloc: Global, out: &mut List<Found>, count: u32, product: &Taken
     put_found(out, count, judged.as_slice())
 }
 
-/// The lines of products that are in breach. Products count from 1.
+/// Returns the lines of products that are in breach. Products count from 1.
 pub fn breaches_in(alloc: Global, taken: &[Taken]) -> Result<List<Found>, Oom>
     requires { length taken.now < 4294967296 }
     ensures { IfOk result (λ found. found ≡ breaches_in 1 taken.now) }
@@ -57,7 +57,7 @@ pub fn breaches_in(alloc: Global, taken: &[Taken]) -> Result<List<Found>, Oom>
     Ok(out)
 }
 
-/// Adds the lines of a run, each in one zone.
+/// Adds the lines of a run, each once rather than in each zone.
 fn put_lines(verdicts: &[Verdict], out: &mut Vec<(Line, Option<Breach>)>) -> Result<(), Oom>
     ensures { OnOk result (out.new.items ≡ out.old.items ++ map judged_by verdicts.now) }
 {
@@ -67,7 +67,7 @@ fn put_lines(verdicts: &[Verdict], out: &mut Vec<(Line, Option<Breach>)>) -> Res
     Ok(())
 }
 
-/// Adds what a run says in one zone. One without zones says nothing.
+/// Adds the lines of a run, each once rather than in each zone, if it has zones.
 fn put_firsts(run: &Run, out: &mut Vec<(Line, Option<Breach>)>) -> Result<(), Oom>
     ensures { OnOk result (out.new.items ≡ out.old.items ++ firsts_in run.now) }
 {
@@ -77,7 +77,7 @@ fn put_firsts(run: &Run, out: &mut Vec<(Line, Option<Breach>)>) -> Result<(), Oo
     }
 }
 
-/// What runs say in one zone each.
+/// Returns the lines of runs that have zones, each once rather than in each zone.
 fn firsts_of(alloc: Global, runs: &[Run]) -> Result<List<(Line, Option<Breach>)>, Oom>
     ensures { IfOk result (λ firsts. firsts ≡ firsts_of runs.now) }
 {
@@ -88,8 +88,8 @@ fn firsts_of(alloc: Global, runs: &[Run]) -> Result<List<(Line, Option<Breach>)>
     Ok(List::from_vec(firsts))
 }
 
-/// The events that a product opened. The lines of a run are of the same events in each zone, so
-/// those of one say them.
+/// Returns the events that a product opened. The lines of a run have the same events in each zone,
+/// so one zone is enough.
 fn opened_of(alloc: Global, product: &Taken) -> Result<List<Event>, Oom>
     ensures { IfOk result (λ events. events ≡ opened_by (lawful_of product.now.judged)) }
 {
@@ -97,7 +97,7 @@ fn opened_of(alloc: Global, product: &Taken) -> Result<List<Event>, Oom>
     opened_by(alloc, firsts.as_slice())
 }
 
-/// The events that products opened, product by product.
+/// Returns the events that products opened, product by product.
 fn opened_in(alloc: Global, taken: &[Taken]) -> Result<List<Event>, Oom>
     ensures { IfOk result (λ events. events ≡ opened_in taken.now) }
 {
@@ -109,6 +109,7 @@ fn opened_in(alloc: Global, taken: &[Taken]) -> Result<List<Event>, Oom>
     Ok(events)
 }
 
+/// Returns the gap with 16-bit numbers; a greater wanted number becomes 65,535.
 fn gap_found(gap: &Gap) -> GapFound
     ensures { result ≡ gap_found gap.now }
 {
@@ -126,7 +127,7 @@ fn all_found(alloc: Global, gaps: &[Gap]) -> Result<Vec<GapFound>, AllocError>
     gaps.iter().map(|gap| gap_found(gap)).collect(alloc)
 }
 
-/// The gaps in the numbers of the events that products opened.
+/// Returns the gaps in the numbers of the events that products opened.
 pub fn gaps_in(alloc: Global, taken: &[Taken]) -> Result<List<GapFound>, Oom>
     ensures { IfOk result (λ found. found ≡ map gap_found (gaps_from [] (opened_in taken.now))) }
 {

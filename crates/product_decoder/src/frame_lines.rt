@@ -1,4 +1,5 @@
-//! What the frame of a product says of the events of an office and class: each P-VTEC line of a segment is looked up once, for all zones.
+//! The lines of an office and class that the frame of a product has. The event of each P-VTEC line
+//! is looked up once for all zones of its segment.
 ghost use Rattle.std.specs.Prelude.{◌≡◌, ◌++◌, map, IfOk, OnOk};
 ghost use Rattle.event_life.specs.Lives.{judged_product};
 ghost use Rattle.event_life.specs.Products.{lines_of};
@@ -14,7 +15,7 @@ use product_frame::{Frame, FrameSegment, Pair};
 use row_index::{Part, RowIndex, Run};
 use std::alloc::Global;
 
-/// A P-VTEC line with the values of the H-VTEC line behind it, and the event that it is of.
+/// A P-VTEC line with the values of the H-VTEC line after it, and its event.
 #[derive(Clone, Copy)]
 pub struct EventPair {
     pub event: Event,
@@ -22,7 +23,7 @@ pub struct EventPair {
     pub flood: Option<Flood>,
 }
 
-/// A pair with its event. `known` is the event of one before it in the product.
+/// Returns a pair with its event. `known` is an earlier P-VTEC line of the product with its event.
 fn event_pair(rows: &RowIndex, t: Minute, known: &Option<Known>, pair: &Pair) -> EventPair
     requires { IsKnown rows.now t known.now }
     ensures { result ≡ event_pair rows.now t pair.now }
@@ -34,7 +35,7 @@ fn event_pair(rows: &RowIndex, t: Minute, known: &Option<Known>, pair: &Pair) ->
     }
 }
 
-/// The pairs of the office and class, each with its event.
+/// Returns the pairs of the office and class, each with its event.
 fn event_pairs(
     alloc: Global,
     office: &[u8; 4],
@@ -59,7 +60,7 @@ fn event_pairs(
     Ok(said)
 }
 
-/// What a pair says of its event in a zone.
+/// Converts a pair to the line of one zone.
 fn line_in(zone: &Zone, said: &EventPair) -> Line
     ensures { result ≡ line_in zone.now said.now }
 {
@@ -73,7 +74,7 @@ fn line_in(zone: &Zone, said: &EventPair) -> Line
     }
 }
 
-/// What pairs say in a zone.
+/// Converts pairs to the lines of one zone.
 fn lines_at(alloc: Global, zone: &Zone, said: &[EventPair]) -> Result<List<Line>, Oom>
     ensures { IfOk result (λ lines. lines ≡ map (line_in zone.now) said.now) }
 {
@@ -84,7 +85,7 @@ fn lines_at(alloc: Global, zone: &Zone, said: &[EventPair]) -> Result<List<Line>
     Ok(List::from_vec(lines))
 }
 
-/// Adds what pairs say in each of these zones, if there are any.
+/// Adds zones and the lines of pairs as a part, if there are zones.
 fn put_part<'a>(
     alloc: Global,
     parts: &mut Vec<Part<'a>>,
@@ -103,7 +104,7 @@ fn put_part<'a>(
     }
 }
 
-/// What the pairs of segments say of their events, in the zones of each.
+/// Returns the lines of segments as parts, one for each segment that has zones.
 fn parts_of<'a>(
     alloc: Global,
     office: &[u8; 4],
@@ -123,7 +124,7 @@ fn parts_of<'a>(
     Ok(List::from_vec(parts))
 }
 
-/// What the lines of an office and class say of their events, by the frame of their product.
+/// Returns the lines of an office and class as parts, by the frame of their product.
 #[tactic(auto, using(crate::proofs::FrameLemmas::frame_told))]
 fn parts_by_frame<'a>(
     alloc: Global,
@@ -144,8 +145,8 @@ fn parts_by_frame<'a>(
     )
 }
 
-/// The lines of the office and class of a product, by its frame, each with its breach. `rows` are
-/// the rows just before it.
+/// Returns the lines of an office and class of a product, judged, as runs in the order of the text.
+/// `rows` are the rows just before the product.
 ///
 /// # Errors
 ///

@@ -1,4 +1,4 @@
-//! What a feed holds of a stream.
+//! The bytes that a feed keeps of a stream, and how far they were searched for heading lines.
 ghost use Rattle.std.specs.Prelude.{◌≡◌, ◌≤◌, ◌++◌, false, true, Ok, Some, None, [], length, drop, IfOk, OnOk, OnErr};
 ghost use Rattle.std.specs.List.{slice_range};
 ghost use Rattle.product_decoder.specs.Feeding.{has_heading, IsQuiet, Keeps};
@@ -8,30 +8,30 @@ use hazard_types::{List, Oom, Text};
 use product_frame::{is_heading, next_start};
 use std::alloc::Global;
 
-/// Bytes of a stream, of which those from a place on count. Their lines were looked at up to another.
+/// Bytes of a stream, of which those from `from` on count. All positions are offsets into `bytes`.
 #[derive(Drop)]
 pub struct Held {
     pub bytes: Vec<u8>,
-    /// What counts begins here.
+    /// Where the bytes that count start.
     pub from: usize,
-    /// The line that is looked at next begins here.
+    /// Where the line starts that is looked at next.
     pub seen: usize,
     /// No line ends between `seen` and here.
     pub looked: usize,
-    /// A heading line begins at `from`, and no other before `seen`.
+    /// Whether a heading line starts at `from`, and no other before `seen`.
     pub headed: bool,
 }
 
-/// What is found among whole lines.
+/// What is found among whole lines, as offsets.
 #[derive(Clone, Copy, Debug)]
 pub enum Scan {
-    /// The first heading line, from one place to another.
+    /// The first heading line, from its start to its end.
     Heading(usize, usize),
-    /// There is none up to the line that begins here, and is not whole.
+    /// There is none; the line that starts here is not whole.
     Line(usize),
 }
 
-/// Whether the first line from a place on, and up to another, is a heading line.
+/// Whether the first line between two offsets is a heading line.
 fn is_heading_at(bytes: &[u8], from: usize, to: usize) -> bool
     requires order { from ≤ to }
     requires within { to ≤ length bytes.now }
@@ -40,7 +40,7 @@ fn is_heading_at(bytes: &[u8], from: usize, to: usize) -> bool
     is_heading(&bytes[from..to])
 }
 
-/// Whether the first line from a place on is a heading line.
+/// Whether the first line from an offset on is a heading line.
 fn is_heading_from(bytes: &[u8], from: usize) -> bool
     requires { from ≤ length bytes.now }
     ensures { result ≡ has_heading (drop from bytes.now) }
@@ -48,7 +48,8 @@ fn is_heading_from(bytes: &[u8], from: usize) -> bool
     is_heading(&bytes[from..])
 }
 
-/// The first heading line among the whole lines from a place on. No line ends between it and where it was looked.
+/// Returns the first heading line among the whole lines from `from` on. No line ends between `from`
+/// and `looked`.
 fn find_heading(bytes: &[u8], from: usize, looked: usize) -> Scan
     requires order { from ≤ looked }
     requires within { looked ≤ length bytes.now }
@@ -68,7 +69,7 @@ fn find_heading(bytes: &[u8], from: usize, looked: usize) -> Scan
 }
 
 impl Held {
-    /// Nothing is held.
+    /// Empty, without capacity.
     pub fn new(alloc: Global) -> Self
         ensures holds { HeldIs result }
         ensures rest { rest_of result ≡ [] }
@@ -82,7 +83,7 @@ impl Held {
         }
     }
 
-    /// How many bytes count.
+    /// Returns how many bytes count.
     pub fn len(&self) -> usize
         requires { HeldIs self.now }
         ensures { result ≡ length (rest_of self.now) }
@@ -90,7 +91,7 @@ impl Held {
         self.bytes.len() - self.from
     }
 
-    /// Lets go the bytes that do not count.
+    /// Drops the bytes that do not count.
     fn shrink(&mut self, alloc: Global) -> Result<(), Oom>
         requires { HeldIs self.old }
         ensures holds { HeldIs self.new }
@@ -104,7 +105,7 @@ impl Held {
         Ok(())
     }
 
-    /// Adds a piece, or changes nothing that counts.
+    /// Appends a piece. On `Oom` the bytes that count are as before.
     fn add(&mut self, piece: &[u8]) -> Result<(), Oom>
         requires { HeldIs self.old }
         ensures holds { HeldIs self.new }
@@ -115,7 +116,8 @@ impl Held {
         Ok(())
     }
 
-    /// Adds a piece, or changes nothing that counts. Bytes that do not count are let go once they are the greater part.
+    /// Appends a piece, after dropping the bytes that do not count if they are the greater part. On
+    /// `Oom` the bytes that count are as before.
     pub fn push(&mut self, alloc: Global, piece: &[u8]) -> Result<(), Oom>
         requires { HeldIs self.old }
         ensures holds { HeldIs self.new }
@@ -128,7 +130,8 @@ impl Held {
         self.add(piece)
     }
 
-    /// Drops whole lines in front of the first heading line. Where there is none, a line that is not whole is left.
+    /// Passes over whole lines before the first heading line, or over all whole lines if there is
+    /// none.
     fn settle(&mut self)
         requires { HeldIs self.old }
         ensures holds { HeldIs self.new }
@@ -153,7 +156,7 @@ impl Held {
         }
     }
 
-    /// Gives the whole lines from the heading line up to the next, if there is one.
+    /// Returns the whole lines from the heading line up to the next one, if there is one.
     fn advance(&mut self, alloc: Global) -> Result<Option<Text>, Oom>
         requires holds { HeldIs self.old }
         requires headed { self.old.headed ≡ true }
@@ -179,7 +182,7 @@ impl Held {
         }
     }
 
-    /// The next product, where it is finished.
+    /// Returns the next product, if the heading line after it is whole.
     pub fn take_whole(&mut self, alloc: Global) -> Result<Option<Text>, Oom>
         requires { HeldIs self.old }
         ensures holds { HeldIs self.new }
@@ -193,7 +196,7 @@ impl Held {
         self.advance(alloc)
     }
 
-    /// All bytes that count, which count no more.
+    /// Returns all bytes that count, after which none do.
     fn give_all(&mut self, alloc: Global) -> Result<Option<Text>, Oom>
         requires { HeldIs self.old }
         ensures holds { HeldIs self.new }
@@ -206,7 +209,7 @@ impl Held {
         Ok(Some(text))
     }
 
-    /// No bytes count any more.
+    /// Passes over all bytes.
     fn clear(&mut self)
         requires { HeldIs self.old }
         ensures holds { HeldIs self.new }
@@ -218,7 +221,7 @@ impl Held {
         self.headed = false;
     }
 
-    /// The last product but for what the last line is.
+    /// Returns the bytes up to the last line, which starts the next product.
     fn give_front(&mut self, alloc: Global) -> Result<Option<Text>, Oom>
         requires holds { HeldIs self.old }
         ensures holds { HeldIs self.new }
@@ -232,7 +235,8 @@ impl Held {
         Ok(Some(text))
     }
 
-    /// The last product of a stream that has ended, or the one before it where the last line is a heading line.
+    /// Returns the last product of a stream that has ended, or the one before it if the last line
+    /// is a heading line.
     fn last_product(&mut self, alloc: Global) -> Result<Option<Text>, Oom>
         requires holds { HeldIs self.old }
         requires headed { self.old.headed ≡ true }
@@ -247,7 +251,8 @@ impl Held {
         self.give_all(alloc)
     }
 
-    /// The last line of a stream that has ended, if it is a heading line.
+    /// Returns the last line of a stream that has ended if it is a heading line, and passes over it
+    /// otherwise.
     fn last_line(&mut self, alloc: Global) -> Result<Option<Text>, Oom>
         requires holds { HeldIs self.old }
         requires quiet { IsQuiet (rest_of self.old) }
@@ -262,7 +267,8 @@ impl Held {
         Ok(None)
     }
 
-    /// The next product of a stream that has ended, where a heading line begins it.
+    /// Returns the next product of a stream that has ended, if a heading line starts the bytes that
+    /// count.
     fn last_headed(&mut self, alloc: Global) -> Result<Option<Text>, Oom>
         requires holds { HeldIs self.old }
         requires headed { self.old.headed ≡ true }
@@ -277,7 +283,7 @@ impl Held {
         self.last_product(alloc)
     }
 
-    /// The next product of a stream that has ended.
+    /// Returns the next product of a stream that has ended.
     pub fn take_last(&mut self, alloc: Global) -> Result<Option<Text>, Oom>
         requires { HeldIs self.old }
         ensures holds { HeldIs self.new }

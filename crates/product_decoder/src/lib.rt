@@ -1,4 +1,6 @@
-//! What the products of an office say: read, taken in order, and judged.
+//! Reads the products of an office and judges their lines. For whoever has texts, an archive or a
+//! stream: `decode` reads one product, `Reader::new` and `Reader::take` take product after product,
+//! and `Feed` cuts a stream into products.
 #![tactic(auto)]
 
 mod feed;

@@ -1,4 +1,4 @@
-//! What the product last taken did: its lawful lines, and those of them that open an event in a zone.
+//! The lawful lines of the product last taken, and what they opened.
 ghost use Rattle.std.specs.Prelude.{◌≡◌, ◌++◌, ◌∷◌, [], IfOk, OnOk};
 ghost use Rattle.event_life.specs.Lives.{opens};
 ghost use Rattle.event_life.specs.Products.{lawful_of};
@@ -11,14 +11,14 @@ use event_life::{Breach, is_lawful, opened_period};
 use hazard_types::{Action, Line, List, Minute, Oom};
 use std::alloc::Global;
 
-/// Whether a line opens an event in its zone.
+/// Whether a line with this action opens an event in its zone.
 fn opens(action: &Action) -> bool
     ensures { result ≡ opens action.now }
 {
     matches!(action, Action::New | Action::Exa | Action::Exb)
 }
 
-/// What a line opens in a product that was issued at this minute.
+/// Returns what a line opens, in a product with the issue minute `t`.
 fn opening_of(t: Minute, line: &Line) -> Opening
     ensures { result ≡ opening_of t line.now }
 {
@@ -30,7 +30,7 @@ fn opening_of(t: Minute, line: &Line) -> Opening
     }
 }
 
-/// Adds what a line opens, if it does.
+/// Adds what a line opens, if it opens anything.
 fn put_opening(out: &mut List<Opening>, t: Minute, line: &Line) -> Result<(), Oom>
     ensures { OnOk result (out.new ≡ out.old ++ openings_in t (line.now ∷ [])) }
 {
@@ -40,7 +40,7 @@ fn put_opening(out: &mut List<Opening>, t: Minute, line: &Line) -> Result<(), Oo
     Ok(())
 }
 
-/// What the lawful lines of a product open.
+/// Returns what the lawful lines of a product open.
 fn openings_in(
     alloc: Global,
     t: Minute,
@@ -57,7 +57,7 @@ fn openings_in(
     Ok(out)
 }
 
-/// The lawful lines of a product.
+/// Returns the lawful lines of a product.
 fn lawful_in(alloc: Global, judged: &[(Line, Option<Breach>)]) -> Result<List<Line>, Oom>
     ensures { IfOk result (λ lines. lines ≡ lawful_of judged.now) }
 {
@@ -70,7 +70,7 @@ fn lawful_in(alloc: Global, judged: &[(Line, Option<Breach>)]) -> Result<List<Li
     Ok(out)
 }
 
-/// What the last of these products opened.
+/// Returns what the last of these products opened.
 fn last_openings(alloc: Global, taken: &[Taken]) -> Result<List<Opening>, Oom>
     ensures { IfOk result (λ openings. openings ≡ openings_taken [] taken.now) }
 {
@@ -83,7 +83,7 @@ fn last_openings(alloc: Global, taken: &[Taken]) -> Result<List<Opening>, Oom>
     }
 }
 
-/// The lawful lines of the last of these products.
+/// Returns the lawful lines of the last of these products.
 fn last_lawful(alloc: Global, taken: &[Taken]) -> Result<List<Line>, Oom>
     ensures { IfOk result (λ lines. lines ≡ lawful_taken [] taken.now) }
 {
@@ -97,14 +97,24 @@ fn last_lawful(alloc: Global, taken: &[Taken]) -> Result<List<Line>, Oom>
 }
 
 impl Reader {
-    /// What the lawful NEW, EXA and EXB lines of the product last taken opened, in the order of the text. Nothing before the first.
+    /// Returns what the lawful NEW, EXA and EXB lines of the product last taken opened, in the
+    /// order of the text. Empty before the first product.
+    ///
+    /// # Errors
+    ///
+    /// Out of memory.
     pub fn openings(&self, alloc: Global) -> Result<List<Opening>, Oom>
         ensures { IfOk result (λ openings. openings ≡ last_openings self.now.products) }
     {
         last_openings(alloc, self.taken.as_slice())
     }
 
-    /// The lawful lines of the product last taken that touch a life, in the order of the text. None before the first.
+    /// Returns the lawful lines of the product last taken that are not routine, in the order of the
+    /// text. Empty before the first product.
+    ///
+    /// # Errors
+    ///
+    /// Out of memory.
     pub fn lawful(&self, alloc: Global) -> Result<List<Line>, Oom>
         ensures { IfOk result (λ lines. lines ≡ last_lawful self.now.products) }
     {

@@ -1,4 +1,4 @@
-//! Products are read.
+//! Reads one product.
 ghost use Rattle.std.specs.Prelude.{◌≡◌, ◌++◌, map, Ok, Err, IfOk, OnOk};
 ghost use Rattle.hazard_types.specs.Given.{Gives};
 ghost use Rattle.product_frame.specs.Frame.{FrameOf};
@@ -13,7 +13,7 @@ use hazard_types::{List, Oom, Or, Zone};
 use product_frame::{FrameFault, FrameSegment, Pair, read_frame};
 use std::alloc::Global;
 
-/// Adds what the pairs say of a zone.
+/// Adds what the pairs say of one zone.
 fn put_zone(out: &mut List<ZonePair>, zone: &Zone, pairs: &[Pair]) -> Result<(), Oom>
     ensures { OnOk result (out.new ≡ out.old ++ map pair_of (lines_of_zone zone.now pairs.now)) }
 {
@@ -27,7 +27,7 @@ fn put_zone(out: &mut List<ZonePair>, zone: &Zone, pairs: &[Pair]) -> Result<(),
     Ok(())
 }
 
-/// Adds what the pairs say of each zone.
+/// Adds what the pairs say of each zone, zone by zone.
 fn put_zones(out: &mut List<ZonePair>, zones: &[Zone], pairs: &[Pair]) -> Result<(), Oom>
     ensures { OnOk result (out.new ≡ out.old ++ map pair_of (lines_of_zones zones.now pairs.now)) }
 {
@@ -37,7 +37,7 @@ fn put_zones(out: &mut List<ZonePair>, zones: &[Zone], pairs: &[Pair]) -> Result
     Ok(())
 }
 
-/// What segments say of their zones.
+/// Returns what segments say of their zones.
 fn pairs_of(alloc: Global, segments: &List<FrameSegment>) -> Result<List<ZonePair>, Oom>
     ensures { IfOk result (λ pairs. pairs ≡ map pair_of (lines_of_segments segments.now)) }
 {
@@ -48,18 +48,19 @@ fn pairs_of(alloc: Global, segments: &List<FrameSegment>) -> Result<List<ZonePai
     Ok(out)
 }
 
-/// What the first product of a text says.
+/// Returns what the first product of a text says. What comes before its heading line is skipped.
 ///
 /// # Errors
 ///
-/// The first fault of its frame, with its line, which counts from the heading as line 1.
+/// The first fault of its frame, with its line, where the heading line is line 1; or out of memory.
 #[tactic(auto, unfolding(product_frame::specs::ZoneLinesOf::zone_lines_of))]
 pub fn decode(alloc: Global, bytes: &[u8]) -> Result<Decoded, Or<FrameFault>>
     // What is read is what the frame of the text says.
     ensures found { IfOk result (IsDecoded bytes.now) }
-    // Where the text has a frame it is read, unless memory runs out.
+    // If the text has a frame, it is read, unless memory runs out.
     ensures only { (f : FrameValue) → FrameOf bytes.now f → Gives result (Ok (decoded_of f)) }
-    // What is refused has this fault first, and each first fault is named, unless memory runs out.
+    // What is refused has this fault first, and each first fault is reported, unless memory runs
+    // out.
     ensures fault { (x : FaultValue) → result ≡ Err (Or.No x) → FrameFaultOf bytes.now x }
     ensures fault_only { (x : FaultValue) → FrameFaultOf bytes.now x → Gives result (Err x) }
 

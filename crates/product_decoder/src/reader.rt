@@ -1,4 +1,4 @@
-//! The reader of an office's products of a class.
+//! The reader of the products of an office and class.
 ghost use Rattle.std.specs.Prelude.{◌≡◌, ◌↔◌, ◌<◌, ◌++◌, ◌∷◌, [], length, IfOk, OnOk, OnErr};
 ghost use Rattle.std.specs.List.{flat_map};
 ghost use Rattle.std.specs.List.Sorted.{IsStrictlySortedBy};
@@ -26,12 +26,14 @@ use std::alloc::Global;
 use std::marker::Model;
 use std::mem;
 
-/// Takes the products of an office in order, and of each the lines of the office and class. Its answers depend on the list of
-/// products that it took alone. The rows after these are not held once memory ran out, until the next product is taken.
+/// Takes the products of an office in order, and of each the lines of the office and class. What it
+/// returns depends on the list of products that it took alone. After an `Oom` the rows are made
+/// again at the next call that needs them.
 #[derive(Drop)]
 pub struct Reader {
     office: [u8; 4],
     class: Class,
+    /// The rows after the products, or `None` after a call that ran out of memory.
     rows: Option<RowIndex>,
     pub(crate) taken: List<Taken>,
 }
@@ -48,7 +50,7 @@ impl Model for Reader {
 }
 
 impl Reader {
-    /// No product is taken yet.
+    /// Returns a reader of an office and class that has taken no product.
     pub fn new(alloc: Global, office: [u8; 4], class: Class) -> Self
         ensures office { result.office ≡ office }
         ensures class { result.class ≡ class }
@@ -62,7 +64,7 @@ impl Reader {
         }
     }
 
-    /// The rows after the products. The reader holds them no more.
+    /// Takes the rows after the products out of the reader; they are made again if it has none.
     fn rows_before(&mut self, alloc: Global) -> Result<RowIndex, Oom>
         ensures unchanged { self.new ≡ self.old }
         ensures rows { IfOk result (λ rows. rows ≡ rows_of self.old.products) }
@@ -73,7 +75,7 @@ impl Reader {
         }
     }
 
-    /// Takes a product of which these lines were judged by the rows before it.
+    /// Takes a product whose lines were judged as these runs, by the rows before it.
     fn keep(
         &mut self,
         alloc: Global,
@@ -98,11 +100,11 @@ impl Reader {
         Ok(())
     }
 
-    /// Takes a product. Lines of another office or class are passed over.
+    /// Takes a product, after those before. Lines of another office or class are passed over.
     ///
     /// # Errors
     ///
-    /// Out of memory. Nothing is taken then.
+    /// Out of memory; the products that were taken are as before.
     pub fn take(&mut self, alloc: Global, d: &Decoded) -> Result<(), Oom>
         requires { length self.old.products < 4294967295 }
         ensures office { self.new.office ≡ self.old.office }
@@ -115,11 +117,12 @@ impl Reader {
         self.keep(alloc, rows, d.issue, runs)
     }
 
-    /// Takes a product by its frame. Lines of another office or class are passed over.
+    /// Takes a product by its frame, after those before. Lines of another office or class are
+    /// passed over.
     ///
     /// # Errors
     ///
-    /// Out of memory. Nothing is taken then.
+    /// Out of memory; the products that were taken are as before.
     pub fn take_frame(&mut self, alloc: Global, frame: &Frame) -> Result<(), Oom>
         requires { length self.old.products < 4294967295 }
         ensures office { self.new.office ≡ self.old.office }
@@ -132,7 +135,12 @@ impl Reader {
         self.keep(alloc, rows, frame.issue, runs)
     }
 
-    /// The rows that are shown at a minute, by zone, then event.
+    /// Returns the rows that the products leave live at `t`, by zone, then event: no line has ended
+    /// them, and their end is after `t` or until further notice.
+    ///
+    /// # Errors
+    ///
+    /// Out of memory.
     pub fn shown(&self, alloc: Global, t: Minute) -> Result<List<Row>, Oom>
         ensures { IfOk result (λ rows. rows ≡ shown_at t (rows_of self.now.products)) }
     {
@@ -142,7 +150,12 @@ impl Reader {
         }
     }
 
-    /// One life for each row, by event, then zone: the action and issue minute of each lawful line, in the order of the products.
+    /// Returns the life of each row, by event, then zone: the action and issue minute of each
+    /// lawful line, in the order of the products.
+    ///
+    /// # Errors
+    ///
+    /// Out of memory.
     pub fn lives(&self, alloc: Global) -> Result<List<Track>, Oom>
         ensures value { IfOk result (λ tracks. tracks ≡ lives_of self.now.products) }
         ensures sorted { IfOk result (λ tracks. IsStrictlySortedBy by_life tracks) }
@@ -150,26 +163,45 @@ impl Reader {
         tracks_in(alloc, self.taken.as_slice())
     }
 
-    /// The lives, event by event: together they are `lives`.
+    /// Returns the lives of each event by themselves, by event; one after another they are what
+    /// `lives` returns.
+    ///
+    /// # Errors
+    ///
+    /// Out of memory.
     pub fn lives_by_event(&self, alloc: Global) -> Result<List<EventLives>, Oom>
         ensures value { IfOk result (λ events. flat_map (λ e. e) events ≡ lives_of self.now.products) }
     {
         events_in(alloc, self.taken.as_slice())
     }
 
-    /// The lines in breach, product by product, and within one in the order of the text.
+    /// Returns the lines in breach, product by product, and within one in the order of the text.
+    ///
+    /// # Errors
+    ///
+    /// Out of memory.
+    ///
+    /// Source: docs/ARCHIVE.md, "The lines".
     pub fn breaches(&self, alloc: Global) -> Result<List<Found>, Oom>
         ensures value { IfOk result (λ found. found ≡ found_of self.now.products) }
-        // None is found exactly where each life is lawful.
+        // There is none exactly if each life is lawful.
         ensures lawful { (found_of self.now.products ≡ []) ↔ ((e : EventValue) (z : Place) → IsLawfulLife self.now.products e z) }
     {
         breaches_in(alloc, self.taken.as_slice())
     }
 
-    /// The gaps in the numbers of each hazard and year, in the order in which the events were opened.
+    /// Returns the gaps in the numbers of each hazard and year, in the order in which the events
+    /// were opened.
+    ///
+    /// # Errors
+    ///
+    /// Out of memory.
+    ///
+    /// Source: NWS Instruction 10-1703, P-VTEC event tracking numbers; docs/DECISIONS.md, "Lives".
     pub fn gaps(&self, alloc: Global) -> Result<List<GapFound>, Oom>
         ensures value { IfOk result (λ gaps. gaps ≡ gaps_found self.now.products) }
-        // None is found exactly where the numbers of each hazard and year are 1, 2, .., k in the order of opening.
+        // There is none exactly if the numbers of each hazard and year are 1, 2, .., k in the order
+        // of opening.
         ensures gapless { (gaps_found self.now.products ≡ []) ↔ IsGapless (opened_of self.now.products) }
     {
         gaps_in(alloc, self.taken.as_slice())

@@ -1,4 +1,4 @@
-//! What is taken of a product: its lines of an office and class, judged by the rows before it.
+//! What is kept of a product: its lines of an office and class, judged by the rows before it.
 ghost use Rattle.std.specs.Prelude.{◌≡◌, IfOk};
 ghost use Rattle.std.specs.List.{list_any};
 ghost use Rattle.std.specs.Str.{bytes_eq};
@@ -16,7 +16,8 @@ use row_index::{RowIndex, Run, spelled};
 use std::alloc::Global;
 use std::marker::Model;
 
-/// What was taken of a product: its issue minute, and what its lines of the office and class say of their events, each with its breach.
+/// What is kept of a product: its issue minute, and its lines of the office and class with their
+/// breaches.
 #[derive(Drop)]
 pub struct Taken {
     issue: Minute,
@@ -34,7 +35,7 @@ impl Model for Taken {
     ghost invariant = { λ x. AreApart x.runs };
 }
 
-/// Whether a line of runs is in breach.
+/// Whether a line of the runs is in breach.
 fn any_breach(runs: &[Run]) -> bool
     ensures { result ≡ list_any has_breach runs.now }
 {
@@ -42,7 +43,7 @@ fn any_breach(runs: &[Run]) -> bool
 }
 
 impl Taken {
-    /// The product of which these runs are the lines.
+    /// Returns the product whose lines are these runs.
     pub fn new(issue: Minute, runs: List<Run>) -> Self
         requires { AreApart runs }
         ensures issue { result.issue ≡ issue }
@@ -51,14 +52,15 @@ impl Taken {
         Taken { issue, runs }
     }
 
-    /// The minute at which the product was issued.
+    /// Returns the issue minute of the product.
     pub fn issue(&self) -> Minute
         ensures { result ≡ self.now.issue }
     {
         self.issue
     }
 
-    /// The runs of the lines of the office and class. The lines of each are of an event each.
+    /// Returns the lines of the office and class as runs. No two lines of a run have the same
+    /// event.
     pub fn runs(&self) -> &[Run]
         ensures judged { spelled result.now ≡ self.now.judged }
         ensures apart { AreApart result.now }
@@ -73,7 +75,8 @@ impl Taken {
         any_breach(self.runs.as_slice())
     }
 
-    /// The lines of the office and class, each with its breach, or None where it is lawful.
+    /// Returns the lines of the office and class, each with its first breach, or `None` if it is
+    /// lawful or routine.
     pub fn judged(&self, alloc: Global) -> Result<List<(Line, Option<Breach>)>, Oom>
         ensures { IfOk result (λ judged. judged ≡ self.now.judged) }
     {
@@ -81,7 +84,7 @@ impl Taken {
     }
 }
 
-/// Whether two offices are one. Byte by byte: `==` of arrays takes ten times as long.
+/// Whether two offices are equal, byte by byte: `==` of arrays takes ten times as long.
 fn same_office(a: [u8; 4], b: [u8; 4]) -> bool
     ensures { result ≡ bytes_eq a b }
 {
@@ -95,28 +98,29 @@ pub fn is_vtec_by(office: &[u8; 4], class: &Class, vtec: &Vtec) -> bool
     same_office(vtec.office, *office) && vtec.class == *class
 }
 
-/// Whether what a P-VTEC line says of a zone is of an office and class.
+/// Whether the P-VTEC line of `pair` is of an office and class.
 pub fn is_by(office: &[u8; 4], class: &Class, pair: &ZonePair) -> bool
     ensures { result ≡ is_by office.now class.now pair.now }
 {
     is_vtec_by(office, class, &pair.vtec)
 }
 
-/// The event that a P-VTEC line is of.
+/// A P-VTEC line and its event.
 #[derive(Clone, Copy)]
 pub struct Known {
     pub vtec: Vtec,
     pub event: Event,
 }
 
-/// Whether two P-VTEC lines of a product name one event.
+/// Whether two P-VTEC lines of a product name the same event.
 fn same_named(a: &Vtec, b: &Vtec) -> bool
     ensures { result ≡ same_named a.now b.now }
 {
     a.etn == b.etn && a.action == b.action && a.hazard == b.hazard
 }
 
-/// The event that a P-VTEC line is of. `known` is that of one before it in the product, which mostly names the same.
+/// Returns the event of a P-VTEC line. `known` is an earlier line of the product with its event,
+/// which mostly names the same.
 pub fn event_of(rows: &RowIndex, t: Minute, known: &Option<Known>, vtec: &Vtec) -> Event
     requires { IsKnown rows.now t known.now }
     ensures { result ≡ event_of rows.now t vtec.now }
@@ -133,7 +137,9 @@ pub fn event_of(rows: &RowIndex, t: Minute, known: &Option<Known>, vtec: &Vtec) 
     }
 }
 
-/// The end that a text prints: none is until further notice.
+/// Returns the end that a text prints: zeros (`None`) are until further notice.
+///
+/// Source: NWS Instruction 10-1703, P-VTEC event ending date and time.
 pub fn end_of(end: &Option<Minute>) -> End
     ensures { result ≡ end_of end.now }
 {
@@ -143,7 +149,7 @@ pub fn end_of(end: &Option<Minute>) -> End
     }
 }
 
-/// What a line of a text says of this event in a zone.
+/// Converts a line of a text, given its event.
 fn line_of_event(event: &Event, pair: &ZonePair) -> Line
     ensures { result ≡ line_of_event event.now (line_said pair.now) }
 {
@@ -157,7 +163,8 @@ fn line_of_event(event: &Event, pair: &ZonePair) -> Line
     }
 }
 
-/// What a line of a text says of its event in a zone. `known` is the event of one before it in the product.
+/// Converts a line of a text and finds its event. `known` is an earlier line of the product with
+/// its event.
 fn line_of(rows: &RowIndex, t: Minute, known: &Option<Known>, pair: &ZonePair) -> Line
     requires { IsKnown rows.now t known.now }
     ensures { result ≡ line_of rows.now t (line_said pair.now) }
@@ -166,7 +173,7 @@ fn line_of(rows: &RowIndex, t: Minute, known: &Option<Known>, pair: &ZonePair) -
     line_of_event(&event, pair)
 }
 
-/// What the lines of an office and class say of their events.
+/// Returns the lines of an office and class, with their events.
 fn lines_by(
     alloc: Global,
     office: &[u8; 4],
@@ -191,7 +198,8 @@ fn lines_by(
     Ok(lines)
 }
 
-/// The lines of the office and class of a product, each with its breach. `rows` are the rows just before it.
+/// Returns the lines of an office and class of a product, judged, as runs. `rows` are the rows just
+/// before the product.
 pub fn judged_lines(
     alloc: Global,
     office: &[u8; 4],
@@ -207,7 +215,7 @@ pub fn judged_lines(
     rows.judge_lines(alloc, d.issue, lines.as_slice())
 }
 
-/// The rows that products leave, each judged by the rows before it.
+/// Returns the rows that products leave, one after another.
 pub fn rows_taken(alloc: Global, taken: &[Taken]) -> Result<RowIndex, Oom>
     ensures { IfOk result (λ rows. rows ≡ rows_taken taken.now) }
 {

@@ -1,4 +1,4 @@
-//! Lives, by event, then zone.
+//! The lives of events in their zones, by event, then zone.
 ghost use Rattle.std.specs.Prelude.{◌≡◌, ◌++◌, map, IfOk, OnOk};
 ghost use Rattle.std.specs.BTreeMap.{insert_entry};
 ghost use Rattle.std.specs.List.{flat_map};
@@ -22,7 +22,7 @@ use std::marker::Model;
 /// The steps of each event, by event.
 type Steps = BTreeMap<EventKey, ZoneSteps>;
 
-/// Adds the steps of a line in these zones to those of its event.
+/// Adds the steps of a line in `zones` to those of its event.
 fn put_line(
     alloc: Global,
     steps: &mut Steps,
@@ -39,7 +39,7 @@ fn put_line(
     known.add(alloc, issue, &line.action, zones)
 }
 
-/// Adds the steps of a line in these zones, where it is lawful.
+/// Adds the steps of a line in `zones`, if it is lawful.
 fn put_verdict(
     alloc: Global,
     steps: &mut Steps,
@@ -57,8 +57,7 @@ fn put_verdict(
     put_line(alloc, steps, issue, &verdict.line, zones)
 }
 
-/// Adds the steps of the lines of a run, where these are lawful: line by line, since they are of
-/// different events.
+/// Adds the steps of the lawful lines of a run, line by line, since they are of different events.
 fn add_run(alloc: Global, steps: &mut Steps, issue: &Minute, run: &Run) -> Result<(), Oom>
     requires apart { HaveOwnEvents (map (λ v. v.line) run.now.verdicts) }
     requires ascending { AreAscending steps.old.entries }
@@ -72,7 +71,7 @@ fn add_run(alloc: Global, steps: &mut Steps, issue: &Minute, run: &Run) -> Resul
     Ok(())
 }
 
-/// Adds the lawful lines of a product.
+/// Adds the steps of the lawful lines of a product.
 fn add_product(alloc: Global, steps: &mut Steps, product: &Taken) -> Result<(), Oom>
     requires ascending { AreAscending steps.old.entries }
     ensures put { OnOk result (flat steps.new.entries ≡ with_product (flat steps.old.entries) product.now) }
@@ -85,7 +84,7 @@ fn add_product(alloc: Global, steps: &mut Steps, product: &Taken) -> Result<(), 
     Ok(())
 }
 
-/// What the lawful lines of the products did to each event in a zone.
+/// Returns the steps that the lawful lines of the products add, by event.
 fn steps_of_all(alloc: Global, taken: &[Taken]) -> Result<Steps, Oom>
     ensures { IfOk result (λ steps. flat steps.entries ≡ steps_of_all taken.now) }
 {
@@ -115,14 +114,18 @@ impl Model for EventLives {
 }
 
 impl EventLives {
-    /// Adds the lives.
+    /// Adds the lives to `tracks`.
     fn put_tracks(&self, alloc: Global, tracks: &mut List<Track>) -> Result<(), Oom>
         ensures { OnOk result (tracks.new ≡ tracks.old ++ self.now) }
     {
         self.zones.put_tracks(alloc, &self.event, tracks)
     }
 
-    /// The lives.
+    /// Returns the lives, by zone.
+    ///
+    /// # Errors
+    ///
+    /// Out of memory.
     pub fn tracks(&self, alloc: Global) -> Result<List<Track>, Oom>
         ensures { IfOk result (λ tracks. tracks ≡ self.now) }
     {
@@ -132,7 +135,7 @@ impl EventLives {
     }
 }
 
-/// The lives of each event, from its steps.
+/// Returns the lives of each event.
 fn lives_of(alloc: Global, steps: Steps) -> Result<List<EventLives>, Oom>
     ensures { IfOk result (λ events. flat_map (λ e. e) events ≡ tracks_told (flat steps.entries)) }
 {
@@ -144,7 +147,7 @@ fn lives_of(alloc: Global, steps: Steps) -> Result<List<EventLives>, Oom>
     Ok(events)
 }
 
-/// The life of each row that the products left, event by event.
+/// Returns the life of each row that the products left, event by event.
 pub fn events_in(alloc: Global, taken: &[Taken]) -> Result<List<EventLives>, Oom>
     ensures value { IfOk result (λ events. flat_map (λ e. e) events ≡ map (track_in taken.now) (living_in (rows_taken taken.now))) }
     ensures sorted { IfOk result (λ events. IsStrictlySortedBy by_life (flat_map (λ e. e) events)) }
@@ -153,7 +156,7 @@ pub fn events_in(alloc: Global, taken: &[Taken]) -> Result<List<EventLives>, Oom
     lives_of(alloc, steps)
 }
 
-/// The lives of events, one after another.
+/// Returns the lives of events, one event after another.
 fn tracks_of(alloc: Global, events: &[EventLives]) -> Result<List<Track>, Oom>
     ensures { IfOk result (λ tracks. tracks ≡ flat_map (λ e. e) events.now) }
 {
@@ -164,7 +167,7 @@ fn tracks_of(alloc: Global, events: &[EventLives]) -> Result<List<Track>, Oom>
     Ok(tracks)
 }
 
-/// The life of each row that the products left.
+/// Returns the life of each row that the products left, by event, then zone.
 pub fn tracks_in(alloc: Global, taken: &[Taken]) -> Result<List<Track>, Oom>
     ensures value { IfOk result (λ tracks. tracks ≡ map (track_in taken.now) (living_in (rows_taken taken.now))) }
     ensures sorted { IfOk result (λ tracks. IsStrictlySortedBy by_life tracks) }

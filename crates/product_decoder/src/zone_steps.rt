@@ -1,4 +1,4 @@
-//! The steps of one event in each of its zones. Zones with one history share its steps.
+//! The steps of one event in each of its zones. Zones with the same history share its steps.
 ghost use Rattle.std.specs.Prelude.{◌≡◌, ◌<◌, ◌++◌, [], suc, Some, length, reverse, IfOk, OnOk};
 ghost use Rattle.product_decoder.specs.Chains.{below, height, told, chains_of, same_place, is_last, IsPlaced};
 ghost use Rattle.product_decoder.specs.Steps.{tracks_told};
@@ -11,7 +11,7 @@ use std::marker::Model;
 use std::mem;
 use zone_map::ZoneMap;
 
-/// What a line did in a zone, and the place of what was done there before, which is below its own.
+/// What a line did in a zone, and the index of the step before it, which is below its own.
 #[derive(Clone, Copy)]
 pub struct SharedStep {
     pub action: Action,
@@ -20,7 +20,7 @@ pub struct SharedStep {
 }
 
 impl SharedStep {
-    /// The place of the step before this one, which stands at this place.
+    /// Returns the index of the step before this one, whose own index is `place`.
     fn before(&self, place: u32) -> Option<u32>
         ensures { result ≡ below place self.now.before }
     {
@@ -31,7 +31,7 @@ impl SharedStep {
     }
 }
 
-/// Whether two places are one.
+/// Whether the two indices are equal, or both are `None`.
 fn same_place(a: Option<u32>, b: Option<u32>) -> bool
     ensures { result ≡ same_place a b }
 {
@@ -42,7 +42,7 @@ fn same_place(a: Option<u32>, b: Option<u32>) -> bool
     }
 }
 
-/// Whether this step, behind the one at a place, stands last.
+/// Whether the step at `last` is this one, with the same step before it.
 fn is_last(
     shared: &[SharedStep],
     last: u32,
@@ -60,7 +60,8 @@ fn is_last(
     }
 }
 
-/// The place of a step behind the one at a place: that of the last, where it is this step, and else of one that is added.
+/// Returns the index of a step after the one at `before`: that of the last step if it is the same,
+/// else of a new one.
 fn place_of(
     shared: &mut Vec<SharedStep>,
     action: &Action,
@@ -83,10 +84,10 @@ fn place_of(
     Ok(place)
 }
 
-/// The place of the last step in each zone.
+/// The index of the last step in each zone.
 type Lasts = ZoneMap<u32>;
 
-/// Adds what a line of a product did in its zone. `near` is where its last step is looked for first.
+/// Adds the step of a line in its zone. `near` is a guess of where the zone is in `lasts`.
 fn add_step(
     shared: &mut Vec<SharedStep>,
     lasts: &mut Lasts,
@@ -105,7 +106,7 @@ fn add_step(
     lasts.set(*zone, place, &mut known)
 }
 
-/// Adds what the lines of a run did in their zones.
+/// Adds the step of a line in each of the zones.
 fn add_steps(
     shared: &mut Vec<SharedStep>,
     lasts: &mut Lasts,
@@ -124,7 +125,7 @@ fn add_steps(
     Ok(())
 }
 
-/// Adds the step at a place to those behind it. Returns the place of the step before it.
+/// Appends the step at an index to `steps`, and returns the index of the step before it.
 fn put_step(
     shared: &[SharedStep],
     place: u32,
@@ -142,7 +143,7 @@ fn put_step(
     }
 }
 
-/// The steps of a zone of which this is the place of the last.
+/// Returns the steps of a zone in order, given the index of the last.
 fn steps_to(alloc: Global, shared: &[SharedStep], last: u32) -> Result<Vec<(Action, Minute)>, Oom>
     ensures { IfOk result (λ steps. steps.items ≡ told (chains_of shared.now) (Some last)) }
 {
@@ -155,7 +156,7 @@ fn steps_to(alloc: Global, shared: &[SharedStep], last: u32) -> Result<Vec<(Acti
     Ok(steps)
 }
 
-/// Adds the life of an event in each of these zones.
+/// Adds the life of an event in each of the zones to `tracks`.
 fn put_each(
     alloc: Global,
     shared: &[SharedStep],
@@ -195,7 +196,7 @@ impl Model for ZoneSteps {
 }
 
 impl ZoneSteps {
-    /// No steps.
+    /// Empty, without capacity.
     pub fn new(alloc: Global) -> Self
         ensures { result ≡ [] }
     {
@@ -205,7 +206,7 @@ impl ZoneSteps {
         }
     }
 
-    /// Adds what the lines of a run did in their zones. None is left where memory ran out.
+    /// Adds the step of a line in each of the zones. On `Oom` no steps are left.
     pub fn add(
         &mut self,
         alloc: Global,
@@ -224,7 +225,7 @@ impl ZoneSteps {
         Ok(())
     }
 
-    /// Adds the life of the event in each zone.
+    /// Adds the life of the event in each zone to `tracks`.
     pub fn put_tracks(
         &self,
         alloc: Global,

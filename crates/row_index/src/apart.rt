@@ -1,4 +1,4 @@
-//! Whether no line of a product is a second one of its event and zone.
+//! Whether a product has no second line of an event and zone, read off its parts.
 
 ghost use Rattle.std.specs.Prelude.{◌≡◌, not, true, [], None, IfOk, OnOk};
 ghost use Rattle.std.specs.BTreeMap.{is_at};
@@ -19,7 +19,7 @@ use hazard_types::{Event, Line, Oom, Zone};
 use std::alloc::Global;
 use std::collections::BTreeSet;
 
-/// Whether a zone is behind the last one, if there is one.
+/// Whether `zone` comes after `last`, or there is no last zone.
 fn is_past(last: &Option<Zone>, zone: &Zone) -> bool
     ensures { result ≡ is_past last.now zone.now }
 {
@@ -29,7 +29,7 @@ fn is_past(last: &Option<Zone>, zone: &Zone) -> bool
     }
 }
 
-/// Whether the zones rise, behind this one if there is one. It becomes the last of them.
+/// Whether the zones ascend and all come after `last`. If so, `last` becomes the last of them.
 fn zones_rise(last: &mut Option<Zone>, zones: &[Zone]) -> bool
     ensures rise { result ≡ zones_rise last.old zones.now }
     ensures last { result ≡ true → last.new ≡ last_zone last.old zones.now }
@@ -43,7 +43,7 @@ fn zones_rise(last: &mut Option<Zone>, zones: &[Zone]) -> bool
     true
 }
 
-/// Whether the zones of all parts rise.
+/// Whether the zones ascend over all parts.
 fn all_rise(parts: &[Part<'_>]) -> bool
     ensures { result ≡ all_rise None parts.now }
 {
@@ -56,7 +56,7 @@ fn all_rise(parts: &[Part<'_>]) -> bool
     true
 }
 
-/// Adds an event, and returns whether it is new.
+/// Adds an event and returns whether it was not there before.
 fn note_event(events: &mut BTreeSet<EventKey>, event: &Event) -> Result<bool, Oom>
     ensures new { IfOk result (λ new. new ≡ not (list_any (is_at (by_event event.now)) events.old.keys)) }
     ensures keys { OnOk result (events.new.keys ≡ insert_key by_event events.old.keys event.now) }
@@ -65,7 +65,7 @@ fn note_event(events: &mut BTreeSet<EventKey>, event: &Event) -> Result<bool, Oo
     Ok(new)
 }
 
-/// Whether the lines are of an event each.
+/// Whether no two of the lines have the same event.
 fn has_own_events(alloc: Global, lines: &[Line]) -> Result<bool, Oom>
     ensures { IfOk result (λ own. own ≡ true → HaveOwnEvents lines.now) }
 {
@@ -82,7 +82,7 @@ fn has_own_events(alloc: Global, lines: &[Line]) -> Result<bool, Oom>
     Ok(true)
 }
 
-/// Whether the lines of each part are of an event each.
+/// Whether in each part no two lines have the same event.
 fn have_own_events(alloc: Global, parts: &[Part<'_>]) -> Result<bool, Oom>
     ensures { IfOk result (λ own. own ≡ true → AllByRecursion (λ (p : PartValue). HaveOwnEvents p.lines) parts.now) }
 {
@@ -95,7 +95,8 @@ fn have_own_events(alloc: Global, parts: &[Part<'_>]) -> Result<bool, Oom>
     Ok(true)
 }
 
-/// Whether none of the lines is a second one in the zone.
+/// Whether none of the lines is a second one of its event in `zone`. Adds their keys to `spoken`,
+/// up to the first that is one.
 fn speak_zone(spoken: &mut Spoken, zone: &Zone, lines: &[Line]) -> Result<bool, Oom>
     requires { IsFree spoken.old.last spoken.old.rising.items }
     ensures first { IfOk result (λ first. first ≡ true → Spoke (seats_of spoken.old.rising.items spoken.old.others.keys) (seats_of spoken.new.rising.items spoken.new.others.keys) (said_at lines.now zone.now)) }
@@ -110,7 +111,8 @@ fn speak_zone(spoken: &mut Spoken, zone: &Zone, lines: &[Line]) -> Result<bool, 
     Ok(true)
 }
 
-/// Whether none of the lines of a part is a second one.
+/// Whether none of the lines of a part is a second one of its event and zone. Adds their keys to
+/// `spoken`, up to the first that is one.
 fn speak_part(spoken: &mut Spoken, part: &Part<'_>) -> Result<bool, Oom>
     requires { IsFree spoken.old.last spoken.old.rising.items }
     ensures first { IfOk result (λ first. first ≡ true → Spoke (seats_of spoken.old.rising.items spoken.old.others.keys) (seats_of spoken.new.rising.items spoken.new.others.keys) (said_in part.now)) }
@@ -125,7 +127,7 @@ fn speak_part(spoken: &mut Spoken, part: &Part<'_>) -> Result<bool, Oom>
     Ok(true)
 }
 
-/// Whether no line is a second one.
+/// Whether no line of the parts is a second one of its event and zone.
 fn none_second(alloc: Global, parts: &[Part<'_>]) -> Result<bool, Oom>
     ensures { IfOk result (λ first. first ≡ true → AreFirst [] (lines_in parts.now)) }
 {
@@ -139,8 +141,8 @@ fn none_second(alloc: Global, parts: &[Part<'_>]) -> Result<bool, Oom>
     Ok(true)
 }
 
-/// Whether no line of these parts is a second one of its event and zone, and those of each part are
-/// of an event each.
+/// Whether no line of the parts is a second one of its event and zone, and no two lines of a part
+/// have the same event.
 pub fn are_apart(alloc: Global, parts: &[Part<'_>]) -> Result<bool, Oom>
     ensures first { IfOk result (λ apart. apart ≡ true → AreFirst [] (lines_in parts.now)) }
     ensures events { IfOk result (λ apart. apart ≡ true → AllByRecursion (λ (p : PartValue). HaveOwnEvents p.lines) parts.now) }

@@ -12,7 +12,7 @@ use hazard_types::{Line, List, Oom, Zone};
 use std::alloc::Global;
 use std::mem;
 
-/// A line in zones where it found the same and was judged alike.
+/// A line in zones where it has the same verdict.
 #[derive(Drop)]
 pub struct Alone {
     pub verdict: Verdict,
@@ -20,7 +20,7 @@ pub struct Alone {
 }
 
 impl Alone {
-    /// Adds a zone.
+    /// Adds the zone of another line with this verdict.
     fn put(&mut self, verdict: &Verdict) -> Result<(), Oom>
         ensures { OnOk result (self.new ≡ further self.old verdict.now) }
     {
@@ -29,7 +29,7 @@ impl Alone {
     }
 }
 
-/// A line in its own zone.
+/// Returns a line in its own zone alone.
 fn begun(alloc: Global, verdict: &Verdict) -> Result<Alone, Oom>
     ensures zones { IfOk result (λ a. a.zones ≡ verdict.now.line.zone ∷ []) }
     ensures verdict { IfOk result (λ a. a.verdict ≡ verdict.now) }
@@ -42,7 +42,7 @@ fn begun(alloc: Global, verdict: &Verdict) -> Result<Alone, Oom>
     })
 }
 
-/// The run of a line.
+/// Returns the run of a line.
 fn run_of(alloc: Global, alone: Alone) -> Result<Run, Oom>
     ensures { IfOk result (λ run. run ≡ run_of alone) }
 {
@@ -53,14 +53,16 @@ fn run_of(alloc: Global, alone: Alone) -> Result<Run, Oom>
     })
 }
 
-/// Whether two lines found the same, were judged alike, and differ in their zones alone.
+/// Whether two verdicts have the same life and breach, and their lines differ in their zones at
+/// most.
 fn same_verdict(a: &Verdict, b: &Verdict) -> bool
     ensures { result ≡ same_verdict a.now b.now }
 {
     same_life(&a.found, &b.found) && a.breach == b.breach && is_alike(&a.line, &b.line)
 }
 
-/// Adds a line to the pending run, if it is of that. Returns whether it is.
+/// Adds the zone of a line to the pending run if the verdict is the same, and returns whether it
+/// is.
 fn join(last: &mut Option<Alone>, verdict: &Verdict) -> Result<bool, Oom>
     ensures { IfOk result (λ joined. IsJoined joined verdict.now last.old last.new) }
 {
@@ -76,7 +78,7 @@ fn join(last: &mut Option<Alone>, verdict: &Verdict) -> Result<bool, Oom>
     }
 }
 
-/// Adds the pending run, if there is one, and begins another.
+/// Adds the pending run, if there is one, to `runs`, and makes `next` the pending one.
 fn begin(
     alloc: Global,
     runs: &mut Vec<Run>,
@@ -95,7 +97,7 @@ fn begin(
     }
 }
 
-/// The runs with the pending one, if there is one.
+/// Returns the runs, and the pending one after them if there is one.
 fn ended(alloc: Global, runs: Vec<Run>, last: Option<Alone>) -> Result<List<Run>, Oom>
     ensures { IfOk result (λ all. all ≡ with_last runs.items last) }
 {
@@ -109,7 +111,7 @@ fn ended(alloc: Global, runs: Vec<Run>, last: Option<Alone>) -> Result<List<Run>
     }
 }
 
-/// Adds a line, to the pending run or as one behind it.
+/// Adds a line to the pending run, or makes it the next pending one.
 fn collect(
     alloc: Global,
     runs: &mut Vec<Run>,
@@ -127,7 +129,7 @@ fn collect(
 }
 
 impl RowIndex {
-    /// Lines that were judged, as runs of one line.
+    /// Returns judged lines as runs of one line each, with the lives that they found in `self`.
     pub(crate) fn collected(
         &self,
         alloc: Global,

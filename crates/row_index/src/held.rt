@@ -1,4 +1,4 @@
-//! The rows of each event, by zone.
+//! The rows of each event by zone, with counts of their periods.
 ghost use Rattle.std.specs.Prelude.{◌≡◌, ◌&&◌, [], flat_map, option_map, IfOk, OnOk};
 ghost use Rattle.std.specs.List.{list_any};
 ghost use Rattle.std.specs.List.Sorted.{IsStrictlySortedBy};
@@ -29,7 +29,7 @@ use std::alloc::Global;
 use std::collections::BTreeMap;
 use std::marker::Model;
 
-/// The rows of an event in these zones come to a life, and are counted where no line has ended them.
+/// Puts rows of the event with `life` in `zones`, and corrects the counts of unended rows.
 fn put_standing(
     alloc: Global,
     rows: &mut SharedRows,
@@ -46,7 +46,7 @@ fn put_standing(
     restand(standing, &befores, zones.len(), life)
 }
 
-/// The rows of one event, each at its zone, and how many of those that no line has ended have each period.
+/// The rows of one event by zone, and how many of its unended rows have each period.
 #[derive(Drop)]
 pub struct EventRows {
     rows: SharedRows,
@@ -76,7 +76,7 @@ impl EventRows {
         }
     }
 
-    /// The rows, to be read.
+    /// Returns a view of the rows.
     fn found(&self) -> RowsOf<'_>
         ensures rows { result ≡ self.now }
         ensures order { IsStrictlySortedBy by_key result }
@@ -85,36 +85,36 @@ impl EventRows {
         RowsOf { rows: Some(self) }
     }
 
-    /// The life of the row of an event in a zone. `near` is a guess of its place.
+    /// Returns the life of the row of an event in a zone. `near` is a guess of its index, and
+    /// becomes the index after it.
     fn life_at(&self, near: &mut usize, event: &Event, zone: &Zone) -> Option<&Life>
         ensures { option_map (λ life. life.now) result ≡ option_map life_of (row_at self.now event.now zone.now) }
     {
         self.rows.life_at(near, event, zone)
     }
 
-    /// Whether a row is of an event.
+    /// Whether a row is of `event`.
     fn has_rows(&self, event: &Event) -> bool
         ensures { result ≡ has_rows self.now event.now }
     {
         self.rows.is_of(event)
     }
 
-    /// All the rows.
+    /// Returns all the rows by zone.
     fn all(&self, alloc: Global) -> Result<Vec<Row>, Oom>
         ensures { IfOk result (λ rows. rows.items ≡ self.now) }
     {
         self.rows.values(alloc)
     }
 
-    /// The rows that are shown at a minute.
+    /// Returns the rows that are live at `t`.
     fn shown(&self, alloc: Global, t: Minute) -> Result<List<Row>, Oom>
         ensures { IfOk result (λ rows. rows ≡ shown_at t self.now) }
     {
         event_life::shown(alloc, &self.all(alloc)?, t)
     }
 
-    /// The rows of the event in these zones come to a life. When memory runs out, the event has no
-    /// rows.
+    /// Puts rows of the event with `life` in `zones`. On `Oom` the event has no rows.
     fn put(&mut self, alloc: Global, event: &Event, life: &Life, zones: &[Zone]) -> Result<(), Oom>
         requires { AreOf event.now self.old }
         ensures { OnOk result (self.new ≡ put_each (rows_along event.now life.now zones.now) self.old) }
@@ -136,12 +136,12 @@ impl EventRows {
         }
     }
 
-    /// About how many rows there are.
+    /// Returns the number of rows, as a hint that no contract promises.
     fn count(&self) -> usize {
         self.rows.count()
     }
 
-    /// Whether a row stands whose end is at most half an hour past.
+    /// Whether an unended row has an end that is at most half an hour before `t`, or later.
     fn is_open(&self, t: Minute) -> bool
         ensures open { result ≡ list_any (keeps_open t) self.now }
         ensures order { IsStrictlySortedBy by_key self.now }
@@ -149,7 +149,7 @@ impl EventRows {
         is_open_among(&self.standing, t)
     }
 
-    /// Whether a live row has this period.
+    /// Whether a row that is live at `t` has this period. Begins at `t` or before count as equal.
     fn has_period(&self, t: Minute, period: &Period) -> bool
         ensures same { result ≡ list_any (λ r. is_live t r && same_at t r.period period.now) self.now }
         ensures order { IsStrictlySortedBy by_key self.now }
@@ -158,7 +158,7 @@ impl EventRows {
     }
 }
 
-/// The rows of an event to be read, which may have none.
+/// A view of the rows of one event, which may have none.
 #[derive(Drop)]
 pub struct RowsOf<'a> {
     rows: Option<&'a EventRows>,
@@ -174,14 +174,15 @@ impl<'a> Model for RowsOf<'a> {
 }
 
 impl<'a> RowsOf<'a> {
-    /// No rows.
+    /// Returns a view without rows.
     pub fn none() -> Self
         ensures { result ≡ [] }
     {
         RowsOf { rows: None }
     }
 
-    /// The life of the row of an event in a zone. `near` is a guess of its place.
+    /// Returns the life of the row of an event in a zone. `near` is a guess of its index, and
+    /// becomes the index after it.
     pub fn life_at(&self, near: &mut usize, event: &Event, zone: &Zone) -> Option<&Life>
         ensures { option_map (λ life. life.now) result ≡ option_map life_of (row_at self.now event.now zone.now) }
     {
@@ -191,7 +192,7 @@ impl<'a> RowsOf<'a> {
         }
     }
 
-    /// All the rows.
+    /// Returns all the rows by zone.
     pub fn all(&self, alloc: Global) -> Result<Vec<Row>, Oom>
         ensures { IfOk result (λ rows. rows.items ≡ self.now) }
     {
@@ -201,7 +202,7 @@ impl<'a> RowsOf<'a> {
         }
     }
 
-    /// About how many rows there are.
+    /// Returns the number of rows, as a hint that no contract promises.
     pub fn count(&self) -> usize {
         match self.rows {
             Some(rows) => rows.count(),
@@ -209,7 +210,8 @@ impl<'a> RowsOf<'a> {
         }
     }
 
-    /// The row of an event in a zone. `near` is a guess of its place.
+    /// Returns the row of an event in a zone. `near` is a guess of its index, and becomes the index
+    /// after it.
     pub fn row_at(&self, near: &mut usize, event: &Event, zone: &Zone) -> Option<Row>
         ensures { result ≡ row_at self.now event.now zone.now }
     {
@@ -219,7 +221,7 @@ impl<'a> RowsOf<'a> {
         }
     }
 
-    /// Whether a row is of an event.
+    /// Whether a row is of `event`.
     pub fn has_rows(&self, event: &Event) -> bool
         ensures { result ≡ has_rows self.now event.now }
     {
@@ -230,10 +232,10 @@ impl<'a> RowsOf<'a> {
     }
 }
 
-/// The rows of all events.
+/// The rows of all events, by event.
 pub type Held = BTreeMap<EventKey, EventRows>;
 
-/// The rows of an event.
+/// Returns the rows of an event.
 pub fn rows_of<'a>(held: &'a Held, event: &Event) -> RowsOf<'a>
     ensures rows { result ≡ list_at by_event held.now.entries event.now }
     ensures order { IsStrictlySortedBy by_key result }
@@ -244,7 +246,8 @@ pub fn rows_of<'a>(held: &'a Held, event: &Event) -> RowsOf<'a>
     }
 }
 
-/// Whether an event has a row that stands whose end is at most half an hour past.
+/// Whether an event is open: an unended row has an end that is at most half an hour before `t`, or
+/// later.
 pub fn is_open(held: &Held, t: Minute, event: &Event) -> bool
     ensures open { result ≡ list_any (keeps_open t) (list_at by_event held.now.entries event.now) }
     ensures order { IsStrictlySortedBy by_key (list_at by_event held.now.entries event.now) }
@@ -255,7 +258,7 @@ pub fn is_open(held: &Held, t: Minute, event: &Event) -> bool
     }
 }
 
-/// Whether a live row of an event has this period.
+/// Whether a row of an event that is live at `t` has this period.
 pub fn has_period(held: &Held, t: Minute, event: &Event, period: &Period) -> bool
     ensures same { result ≡ list_any (λ r. is_live t r && same_at t r.period period.now) (list_at by_event held.now.entries event.now) }
     ensures order { IsStrictlySortedBy by_key (list_at by_event held.now.entries event.now) }
@@ -266,7 +269,8 @@ pub fn has_period(held: &Held, t: Minute, event: &Event, period: &Period) -> boo
     }
 }
 
-/// The rows of an event in these zones come to a life, and how far they reach is kept.
+/// Puts rows of an event with `life` in `zones`, and enters the event by its number and how far its
+/// rows reach.
 pub fn put_held(
     alloc: Global,
     held: &mut Held,
@@ -290,7 +294,7 @@ pub fn put_held(
     reach_each(reaches, event, life, zones)
 }
 
-/// The rows of all events that are shown at a minute, one event after another.
+/// Returns the rows of all events that are live at `t`, event by event.
 pub fn all_shown(alloc: Global, held: &Held, t: Minute) -> Result<Vec<Row>, Oom>
     ensures { IfOk result (λ rows. rows.items ≡ flat_map (shown_at t) (values_of held.now.entries)) }
 {
@@ -301,7 +305,7 @@ pub fn all_shown(alloc: Global, held: &Held, t: Minute) -> Result<Vec<Row>, Oom>
     Ok(all)
 }
 
-/// Rows at their seats.
+/// Returns the rows in a map by zone, then event.
 pub fn seated(alloc: Global, rows: &[Row]) -> Result<Seated, Oom>
     ensures { IfOk result (λ seated. values_of seated.entries ≡ puts rows.now []) }
 {

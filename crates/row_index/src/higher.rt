@@ -1,4 +1,4 @@
-//! What a product changes where a higher row is looked for.
+//! What a product changes where the higher row of a UPG line is looked for.
 ghost use Rattle.std.specs.Prelude.{◌≡◌, IfOk, filter};
 ghost use Rattle.std.specs.List.{list_any};
 ghost use Rattle.std.specs.Map.{values_of};
@@ -16,26 +16,28 @@ use hazard_types::{Event, Family, Hazard, Line, Minute, Oom, Row, Zone};
 use std::alloc::Global;
 use std::collections::BTreeSet;
 
-/// A hazard's family and its rank there, if it has one.
+/// A hazard's family and its rank there, or `None` if it has no family.
 pub type Rank = Option<(Family, u8)>;
 
-/// The rows that a product's lawful lines other than UPG leave, the seats that its UPG lines speak of, and the live rows of events
-/// above theirs in the zones of these.
+/// What a product changes for the search for higher rows.
 #[derive(Drop)]
 pub struct Changed {
+    /// The rows that its lawful lines other than UPG leave.
     pub counted: Seated,
+    /// The zones and events of its UPG lines.
     pub upgraded: Seats,
+    /// The live rows before it, in the zones of its UPG lines, of events that rank above theirs.
     pub higher: Seated,
 }
 
-/// Whether one of the lines says that a higher row takes a zone over.
+/// Whether one of the lines is UPG.
 pub fn any_upgrades(lines: &[Line]) -> bool
     ensures { result ≡ list_any upgrades lines.now }
 {
     lines.iter().any(|line| is_upgrade(&line.action))
 }
 
-/// The seats that UPG lines speak of.
+/// Returns the zones and events of the UPG lines.
 pub fn upgraded_by(alloc: Global, lines: &[Line]) -> Result<Seats, Oom>
     ensures { IfOk result (λ seats. Tells upgrades seat_said seats.keys lines.now) }
 {
@@ -46,7 +48,10 @@ pub fn upgraded_by(alloc: Global, lines: &[Line]) -> Result<Seats, Oom>
     Ok(seats)
 }
 
-/// A hazard's family and its rank there. None where it has none, or the desk does not issue it.
+/// Returns a hazard's family and its rank there, or `None` if it has no family or the desk does not
+/// issue it.
+///
+/// Source: docs/HAZARDS.md.
 pub fn rank_of(hazard: &Hazard) -> Rank
     ensures { result ≡ family_of (facts_of hazard.now) }
 {
@@ -56,7 +61,7 @@ pub fn rank_of(hazard: &Hazard) -> Rank
     }
 }
 
-/// Whether the first rank is higher than the second in one family, and so has the greater number.
+/// Whether `high` is a greater rank of the same family than `low`.
 pub fn is_above(high: &Rank, low: &Rank) -> bool
     ensures { result ≡ is_above high.now low.now }
 {
@@ -66,7 +71,7 @@ pub fn is_above(high: &Rank, low: &Rank) -> bool
     *family == *other && *under < *rank
 }
 
-/// Whether a row is live and above a rank, and overlaps `own`.
+/// Whether `row` is live, ranks above `low` and overlaps `own`.
 pub fn rises_over(t: Minute, low: &Rank, own: &Row, row: &Row) -> bool
     ensures { result ≡ rises_over t low.now own.now row.now }
 {
@@ -75,15 +80,16 @@ pub fn rises_over(t: Minute, low: &Rank, own: &Row, row: &Row) -> bool
         && is_above(&rank_of(&row.event.hazard), low)
 }
 
-/// Whether a row is live and above a rank, overlaps `own`, and no UPG line speaks of it.
+/// Whether `row` is live, ranks above `low` and overlaps `own`, and no UPG line has its event and
+/// zone.
 fn stays_over(upgraded: &Seats, t: Minute, low: &Rank, own: &Row, row: &Row) -> bool
     ensures { result ≡ stays_over t low.now upgraded.now.keys own.now row.now }
 {
     rises_over(t, low, own, row) && !has_seat(upgraded, &row.event, &row.zone)
 }
 
-/// Whether one of the rows that a product leaves in the zone of `own` is live and above a rank, overlaps `own`, and no UPG line
-/// speaks of it.
+/// Whether a row that the product leaves in the zone of `own` is live, ranks above `low` and
+/// overlaps `own`, and no UPG line has its event and zone.
 pub fn any_counted_over(changed: &Changed, t: Minute, low: &Rank, own: &Row) -> bool
     requires { AreSeated changed.now.counted.entries }
     ensures { result ≡ list_any (stays_over t low.now changed.now.upgraded.keys own.now) (filter (is_in_zone own.now.zone) (values_of changed.now.counted.entries)) }
@@ -96,7 +102,7 @@ pub fn any_counted_over(changed: &Changed, t: Minute, low: &Rank, own: &Row) -> 
     false
 }
 
-/// Whether no UPG line speaks of an event in a zone, and no other line leaves a row of it there.
+/// Whether no UPG line has an event in a zone, and no other lawful line leaves a row of it there.
 pub fn is_free(changed: &Changed, zone: &Zone, event: &Event) -> bool
     requires { AreSeated changed.now.counted.entries }
     ensures { result ≡ is_free (values_of changed.now.counted.entries) changed.now.upgraded.keys zone.now event.now }
@@ -104,7 +110,8 @@ pub fn is_free(changed: &Changed, zone: &Zone, event: &Event) -> bool
     !has_seat(&changed.upgraded, event, zone) && row_in(&changed.counted, event, zone).is_none()
 }
 
-/// Whether a row is live and above a rank, overlaps `own`, and the product changes nothing of it in the zone of `own`.
+/// Whether `row` is live, ranks above `low` and overlaps `own`, and the product changes nothing of
+/// its event in the zone of `own`.
 fn is_still_over(changed: &Changed, t: Minute, low: &Rank, own: &Row, row: &Row) -> bool
     requires { AreSeated changed.now.counted.entries }
     ensures { result ≡ still_over t low.now (values_of changed.now.counted.entries) changed.now.upgraded.keys own.now row.now }
@@ -112,7 +119,8 @@ fn is_still_over(changed: &Changed, t: Minute, low: &Rank, own: &Row, row: &Row)
     rises_over(t, low, own, row) && is_free(changed, &own.zone, &row.event)
 }
 
-/// Whether one of the live rows of higher events in the zone of `own` overlaps it, and the product changes nothing of it.
+/// Whether a row from before the product in the zone of `own` is live, ranks above `low` and
+/// overlaps `own`, and the product changes nothing of its event there.
 fn any_still_over(changed: &Changed, t: Minute, low: &Rank, own: &Row) -> bool
     requires counted { AreSeated changed.now.counted.entries }
     requires higher { AreSeated changed.now.higher.entries }
@@ -126,7 +134,9 @@ fn any_still_over(changed: &Changed, t: Minute, low: &Rank, own: &Row) -> bool
     false
 }
 
-/// Whether a row is overlapped by a higher one after the product, or its hazard yields to none.
+/// Whether a higher row overlaps `own` after the product, or the hazard of `own` has no rank.
+///
+/// Source: docs/DECISIONS.md, "Lives".
 pub fn is_overlapped(changed: &Changed, t: Minute, own: &Row) -> bool
     requires counted { AreSeated changed.now.counted.entries }
     requires higher { AreSeated changed.now.higher.entries }

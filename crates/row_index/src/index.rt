@@ -1,4 +1,4 @@
-//! The rows of an office's class, as the judging of its lines needs them.
+//! The index of rows: the event of a line, its first breach, and the live rows.
 ghost use Rattle.std.specs.Prelude.{◌≡◌, ◌&&◌, not, true, false, nat_lt, [], List as Seq, Some, None, Option, if◌then◌else◌, is_none, unwrap_or, IfOk, OnOk};
 ghost use Rattle.std.specs.List.{list_any};
 ghost use Rattle.hazard_types.specs.Hazards.{facts_of};
@@ -34,7 +34,9 @@ use std::alloc::Global;
 use std::collections::{BTreeMap, BTreeSet};
 use std::marker::Model;
 
-/// Rows in order by zone, then event, each pair once.
+/// The rows of one office and class, in order by zone, then event, with one row for each pair. They
+/// are kept by event, with the events of each hazard and number, and the ends up to which the rows
+/// of an event reach.
 #[derive(Drop)]
 pub struct RowIndex {
     pub(crate) held: Held,
@@ -57,7 +59,7 @@ impl Model for RowIndex {
 }
 
 impl RowIndex {
-    /// The index of no rows.
+    /// Returns an index without rows.
     pub fn new(alloc: Global) -> Self
         ensures { result ≡ [] }
     {
@@ -68,14 +70,15 @@ impl RowIndex {
         }
     }
 
-    /// The rows of an event.
+    /// Returns the rows of an event.
     pub(crate) fn rows_of(&self, event: &Event) -> RowsOf<'_>
         ensures { AreRowsOf self.now event.now result }
     {
         rows_of(&self.held, event)
     }
 
-    /// The rows of an event. `rows` are those of the line before, which mostly is of the same.
+    /// Returns the rows of an event. `near` and `rows` are the previous line's event and its rows,
+    /// usually the same event's.
     pub(crate) fn rows_near<'a>(
         &'a self,
         near: &Option<Event>,
@@ -97,7 +100,8 @@ impl RowIndex {
         }
     }
 
-    /// The row of a line's event in its zone. `rows` are the event's, and `near` is a guess of the row's place among them.
+    /// Returns the row of a line's event in its zone. `rows` are the event's, and `near` is a guess
+    /// of the row's index among them.
     fn own_row(&self, rows: &RowsOf<'_>, near: &mut usize, line: &Line) -> Option<Row>
         requires { AreRowsOf self.now line.now.event rows.now }
         ensures { result ≡ row_at self.now line.now.event line.now.zone }
@@ -105,7 +109,7 @@ impl RowIndex {
         rows.row_at(near, &line.event, &line.zone)
     }
 
-    /// The row of an event in a zone.
+    /// Returns the row of an event in a zone.
     fn row_at(&self, event: &Event, zone: &Zone) -> Option<Row>
         ensures { result ≡ row_at self.now event.now zone.now }
     {
@@ -113,7 +117,7 @@ impl RowIndex {
         self.rows_of(event).row_at(&mut near, event, zone)
     }
 
-    /// Whether a line's event has rows, ended ones among them. `rows` are the event's.
+    /// Whether a line's event has rows, ended or not. `rows` are the event's.
     fn has_rows(&self, rows: &RowsOf<'_>, line: &Line) -> bool
         requires { AreRowsOf self.now line.now.event rows.now }
         ensures { result ≡ has_rows self.now line.now.event }
@@ -121,14 +125,14 @@ impl RowIndex {
         rows.has_rows(&line.event)
     }
 
-    /// Whether the event has a row that no line has ended and whose end is at most half an hour past.
+    /// Whether the event is open: it has an unended row whose end is at most half an hour past.
     fn is_open(&self, t: Minute, event: &Event) -> bool
         ensures { result ≡ is_open self.now t event.now }
     {
         is_open(&self.held, t, event)
     }
 
-    /// Whether one of the events is of an earlier year and open.
+    /// Whether one of `events` is open and of an earlier year than `event`.
     fn any_held(&self, t: Minute, events: &[Event], event: &Event) -> bool
         ensures { result ≡ list_any (λ d. nat_lt d.year event.now.year && is_open self.now t d) events.now }
     {
@@ -154,7 +158,7 @@ impl RowIndex {
         has_period(&self.held, t, &line.event, &opened_period(line, t))
     }
 
-    /// Of the events that are open the one of the greatest year.
+    /// Returns the open event of the greatest year among `events`.
     fn latest_open(&self, t: Minute, events: &[Event]) -> Option<Event>
         ensures { result ≡ latest_open self.now t events.now }
     {
@@ -167,14 +171,15 @@ impl RowIndex {
         best
     }
 
-    /// Of the open events of a hazard and number the one of the greatest year.
+    /// Returns the open event of the greatest year with a hazard and number.
     fn going_in(&self, t: Minute, number: &Number) -> Option<Event>
         ensures { result ≡ going_in self.now number.now.hazard number.now.etn t }
     {
         self.latest_open(t, events_at(&self.events, number))
     }
 
-    /// The open event that a line of a text is of, where it opens none.
+    /// Returns the open event of a line of a text, or `None` if the line is NEW or no event of its
+    /// hazard and number is open.
     fn event_going(&self, t: Minute, vtec: &Vtec) -> Option<Event>
         ensures { result ≡ event_going self.now t vtec.now }
     {
@@ -190,7 +195,9 @@ impl RowIndex {
         }
     }
 
-    /// The event that a line of a text is of. The rows are those just before its product, `t` is the product's issue minute.
+    /// Returns the event of a line of a text: NEW opens one of the year of issue; any other line is
+    /// of the open event of its hazard and number, or of one of the year of issue if none is open.
+    /// `self` has the rows just before the product, and `t` is the product's issue minute.
     pub fn event_of(&self, t: Minute, vtec: &Vtec) -> Event
         ensures { result ≡ event_of self.now t vtec.now }
     {
@@ -200,7 +207,7 @@ impl RowIndex {
         }
     }
 
-    /// What stands around a NEW line. `rows` are its event's.
+    /// Returns the facts about other rows that a NEW line is judged by. `rows` are its event's.
     fn around_new(&self, rows: &RowsOf<'_>, t: Minute, line: &Line, higher: bool) -> Around
         requires { AreRowsOf self.now line.now.event rows.now }
         ensures { result ≡ around_new self.now t line.now higher }
@@ -216,7 +223,7 @@ impl RowIndex {
         }
     }
 
-    /// What stands around an EXA or EXB line.
+    /// Returns the facts about other rows that an EXA or EXB line is judged by.
     fn around_joining(&self, t: Minute, line: &Line, higher: bool) -> Around
         ensures { result ≡ around_joining self.now t line.now higher }
     {
@@ -231,7 +238,8 @@ impl RowIndex {
         }
     }
 
-    /// What stands around a line, as far as its action asks for it. `rows` are its event's.
+    /// Returns the facts about other rows that a line is judged by, as far as its action needs
+    /// them. `rows` are its event's, and `higher` goes into the result as it is.
     pub(crate) fn around(&self, rows: &RowsOf<'_>, t: Minute, line: &Line, higher: bool) -> Around
         requires { AreRowsOf self.now line.now.event rows.now }
         ensures { result ≡ asked_around line.now.action self.now t line.now higher }
@@ -243,8 +251,8 @@ impl RowIndex {
         }
     }
 
-    /// What stands around a line, as far as its action asks for it, where its row is overlapped. `asked` is what stood around the line
-    /// before, which mostly asks for the same.
+    /// Returns what `around` returns for a line whose row is overlapped. `asked` is the previous
+    /// line with its facts, which are used again if both lines ask for the same.
     fn around_near(
         &self,
         asked: &Option<(Line, Around)>,
@@ -271,7 +279,8 @@ impl RowIndex {
         }
     }
 
-    /// The first breach of a line on the life of its event in its zone.
+    /// Returns the first breach of a line that is not routine, by the life of its event in its zone
+    /// and the facts about other rows.
     fn step_breach(
         &self,
         rows: &RowsOf<'_>,
@@ -292,7 +301,8 @@ impl RowIndex {
         }
     }
 
-    /// The first breach of a line, which is a second one of its event and zone or not.
+    /// Returns the first breach of a line. `second` says whether an earlier line of the product has
+    /// its event and zone.
     fn first_breach(
         &self,
         rows: &RowsOf<'_>,
@@ -315,7 +325,8 @@ impl RowIndex {
         self.step_breach(rows, near, t, line, around)
     }
 
-    /// The row that a lawful line leaves. `rows` are its event's, and `near` is a guess of the row's place among them.
+    /// Returns the row that a lawful line leaves. `rows` are its event's, and `near` is a guess of
+    /// the row's index among them.
     fn row_after(&self, rows: &RowsOf<'_>, near: &mut usize, t: Minute, line: &Line) -> Row
         requires { AreRowsOf self.now line.now.event rows.now }
         ensures { result ≡ row_after self.now t line.now }
@@ -329,7 +340,7 @@ impl RowIndex {
         }
     }
 
-    /// The first breach of a line, where its row is overlapped.
+    /// Returns the first breach of a line whose row is overlapped by a higher one.
     fn breach_but_higher(
         &self,
         rows: &RowsOf<'_>,
@@ -346,7 +357,7 @@ impl RowIndex {
         self.first_breach(rows, near, t, line, second, around)
     }
 
-    /// The first breach of a UPG line, where its row is overlapped or not.
+    /// Returns the first breach of a UPG line. `higher` says whether a higher row overlaps its row.
     fn breach_of_upgrade(
         &self,
         rows: &RowsOf<'_>,
@@ -363,7 +374,8 @@ impl RowIndex {
         self.first_breach(rows, near, t, line, second, nothing_around(higher))
     }
 
-    /// Whether a line is lawful and no UPG, so that its row counts where a higher row is looked for.
+    /// Whether a line is lawful, not routine and not UPG, so that the row it leaves may be the
+    /// higher row of a UPG line.
     fn may_count(
         &self,
         rows: &RowsOf<'_>,
@@ -386,7 +398,7 @@ impl RowIndex {
         !is_routine(&line.action) && !is_upgrade(&line.action) && !second && breach.is_none()
     }
 
-    /// The rows that the lawful lines other than UPG leave.
+    /// Returns the rows that the lawful lines other than UPG leave.
     fn counted(&self, alloc: Global, t: Minute, lines: &[Line]) -> Result<Seated, Oom>
         ensures rows { IfOk result (λ counted. values_of counted.entries ≡ put_but_upgrades self.now t [] lines.now []) }
         ensures seated { IfOk result (λ counted. AreSeated counted.entries) }
@@ -407,7 +419,8 @@ impl RowIndex {
         Ok(counted)
     }
 
-    /// Adds the row that a line other than UPG leaves where it is lawful, and no second one.
+    /// Puts the row that a line leaves, if the line is lawful, not routine and not UPG. The line is
+    /// taken as the first of its event and zone.
     fn count_first(
         &self,
         counted: &mut Seated,
@@ -429,7 +442,7 @@ impl RowIndex {
         count_row(counted, true, &row)
     }
 
-    /// The rows that the lawful lines other than UPG leave, where no line is a second one.
+    /// `counted` for lines of which none is a second one of its event and zone.
     fn counted_first(&self, alloc: Global, t: Minute, lines: &[Line]) -> Result<Seated, Oom>
         requires first { AreFirst [] lines.now }
         ensures rows { IfOk result (λ counted. values_of counted.entries ≡ put_but_upgrades self.now t [] lines.now []) }
@@ -449,7 +462,7 @@ impl RowIndex {
         Ok(counted)
     }
 
-    /// The live rows of these events in zones.
+    /// Returns the rows of `events` in `zones` that are live at `t`.
     fn live_rows(
         &self,
         alloc: Global,
@@ -468,7 +481,8 @@ impl RowIndex {
         Ok(higher)
     }
 
-    /// The least minute behind which rows must end that are live and overlap the row of one of the UPG lines, if these have any.
+    /// Returns the least minute after which a row must end to be live and overlap the row of one of
+    /// the UPG lines, or `None` if no UPG line has a row.
     fn least_needed(&self, t: Minute, lines: &[Line]) -> Option<Minute>
         ensures { result ≡ least_of self.now t None lines.now }
     {
@@ -485,7 +499,7 @@ impl RowIndex {
         least
     }
 
-    /// A minute behind which every row ends that is live and overlaps the row of a UPG line.
+    /// Returns a minute after which every row ends that is live and overlaps the row of a UPG line.
     fn needed_from(&self, t: Minute, lines: &[Line]) -> Minute
         ensures { result ≡ unwrap_or (least_of self.now t None lines.now) t }
     {
@@ -495,7 +509,8 @@ impl RowIndex {
         }
     }
 
-    /// The rows of events above those of UPG lines, in the zones of these lines, that may overlap their rows.
+    /// Returns rows of events that rank above those of the UPG lines, in the zones of these lines.
+    /// All that are live and overlap the row of one of them are there.
     fn higher(&self, alloc: Global, t: Minute, lines: &[Line]) -> Result<Seated, Oom>
         ensures rows { IfOk result (λ higher. AreOver self.now t lines.now (values_of higher.entries)) }
         ensures seated { IfOk result (λ higher. AreSeated higher.entries) }
@@ -507,7 +522,8 @@ impl RowIndex {
         self.live_rows(alloc, from, &zones, &events)
     }
 
-    /// What a product changes where a higher row is looked for, where no line is a second one.
+    /// Returns what a product changes for the search for higher rows, if none of its lines is a
+    /// second one of its event and zone.
     pub(crate) fn change_first(
         &self,
         alloc: Global,
@@ -530,7 +546,8 @@ impl RowIndex {
         })
     }
 
-    /// What a product changes where a higher row is looked for, as far as a UPG line asks for it.
+    /// Returns what a product changes for the search for higher rows. Without a UPG line it is
+    /// empty, since none is looked for.
     pub(crate) fn change_of(&self, alloc: Global, t: Minute, lines: &[Line]) -> Result<Changed, Oom>
         ensures changed { list_any upgrades lines.now ≡ true → IfOk result (λ c. IsChanged self.now t lines.now (values_of c.counted.entries) c.upgraded.keys) }
         ensures over { list_any upgrades lines.now ≡ true → IfOk result (λ c. AreOver self.now t lines.now (values_of c.higher.entries)) }
@@ -554,8 +571,8 @@ impl RowIndex {
         })
     }
 
-    /// Whether the row of a UPG line, its `own` where it has one, is overlapped by a higher one after the product, or its hazard
-    /// yields to none.
+    /// Whether a higher row overlaps the row of a UPG line after the product, or the line's hazard
+    /// has no rank. `own` is the line's row, if it has one.
     fn has_higher(&self, changed: &Changed, t: Minute, line: &Line, own: &Option<Row>) -> bool
         requires counted { AreSeated changed.now.counted.entries }
         requires higher { AreSeated changed.now.higher.entries }
@@ -570,7 +587,8 @@ impl RowIndex {
         }
     }
 
-    /// The first breach of a line of a product. `rows` are its event's, and `around` is what stands around it, where it is no UPG line.
+    /// Returns the first breach of a line of a product. `rows` are its event's, and `around` has
+    /// the facts about other rows if it is no UPG line.
     pub(crate) fn breach_in(
         &self,
         t: Minute,
@@ -595,8 +613,15 @@ impl RowIndex {
         self.breach_of_upgrade(rows, near, t, line, second, higher)
     }
 
-    /// The lines of a product, each with its first breach, or None where it is lawful. The rows are those just before the product,
-    /// `t` is its issue minute. A routine line has no breach.
+    /// Returns the lines of a product in order, each with its first breach, or `None` if it is
+    /// lawful or routine. `self` has the rows just before the product, and `t` is the product's
+    /// issue minute.
+    ///
+    /// # Errors
+    ///
+    /// Out of memory.
+    ///
+    /// Source: docs/ARCHIVE.md, "The lines".
     pub fn judge(
         &self,
         alloc: Global,
@@ -624,7 +649,12 @@ impl RowIndex {
         Ok(List::from_vec(found))
     }
 
-    /// The rows that are shown at a minute: those that no line has ended and whose end is until further notice or after it.
+    /// Returns the rows that are live at `t`, by zone, then event: unended, and with an end after
+    /// `t` or until further notice.
+    ///
+    /// # Errors
+    ///
+    /// Out of memory.
     pub fn shown(&self, alloc: Global, t: Minute) -> Result<List<Row>, Oom>
         ensures { IfOk result (λ shown. shown ≡ shown_at t self.now) }
     {

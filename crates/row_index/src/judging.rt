@@ -1,4 +1,4 @@
-//! The lines of a product judged for all zones that find the same at once.
+//! Judging the lines of a product for all zones at once that find the same.
 
 ghost use Rattle.std.specs.Prelude.{◌≡◌, ◌≤◌, ◌++◌, ◌∷◌, [], List as Seq, length, take, map, option_map, true, IfOk, OnOk};
 ghost use Rattle.std.specs.List.{AllByRecursion, list_any};
@@ -23,7 +23,7 @@ use event_life::{Around, Breach, Life, is_upgrade};
 use hazard_types::{Event, Line, List, Minute, Oom, Zone};
 use std::alloc::Global;
 
-/// A line that is judged in one zone after another.
+/// What a line is judged by in one zone after another.
 #[derive(Drop)]
 struct Asking<'a> {
     t: Minute,
@@ -33,7 +33,7 @@ struct Asking<'a> {
     around: Around,
 }
 
-/// Whether a life is the one found, or there is none of both.
+/// Whether the two lives are equal, or both are `None`.
 fn is_found(found: &Option<Life>, life: Option<&Life>) -> bool
     ensures { result ≡ same_life found.now (option_map (λ l. l.now) life.entry) }
 {
@@ -44,7 +44,7 @@ fn is_found(found: &Option<Life>, life: Option<&Life>) -> bool
     }
 }
 
-/// How many of the zones, from the first on, have this life of an event.
+/// Returns how many of the zones, from the first on, have the life `found` of an event.
 fn count_alike(
     rows: &RowsOf<'_>,
     near: &mut usize,
@@ -65,14 +65,14 @@ fn count_alike(
     count
 }
 
-/// Whether lines found the same.
+/// Whether two verdicts have the same life and the same breach.
 fn find_alike(a: &Verdict, b: &Verdict) -> bool
     ensures { result ≡ true → (a.now.found ≡ b.now.found) × (a.now.breach ≡ b.now.breach) }
 {
     same_life(&a.found, &b.found) && a.breach == b.breach
 }
 
-/// A run with one verdict more.
+/// Returns the run with one more verdict.
 fn with_verdict(run: Run, verdict: &Verdict) -> Result<Run, Oom>
     ensures zones { IfOk result (λ more. more.zones ≡ run.zones) }
     ensures verdicts { IfOk result (λ more. more.verdicts ≡ run.verdicts ++ verdict.now ∷ []) }
@@ -83,7 +83,7 @@ fn with_verdict(run: Run, verdict: &Verdict) -> Result<Run, Oom>
 }
 
 impl RowIndex {
-    /// What a line finds in a zone.
+    /// Judges a line in one zone.
     fn verdict_at(&self, asking: &Asking<'_>, near: &mut usize, zone: &Zone) -> Verdict
         requires { IsAsking self.now asking.now }
         ensures line { result.line ≡ asking.now.line }
@@ -109,7 +109,7 @@ impl RowIndex {
         }
     }
 
-    /// In how many of the zones, from the first on, a UPG line finds this.
+    /// Returns in how many of the zones, from the first on, a UPG line has this verdict.
     fn count_upgraded(
         &self,
         asking: &Asking<'_>,
@@ -134,7 +134,8 @@ impl RowIndex {
         count
     }
 
-    /// In how many of the zones, from the first on, a line finds this.
+    /// Returns in how many of the zones, from the first on, a line has this verdict. A line other
+    /// than UPG is judged by its life alone, so the zones are compared by that.
     fn count_of(
         &self,
         asking: &Asking<'_>,
@@ -161,8 +162,8 @@ impl RowIndex {
         )
     }
 
-    /// What a line finds in the first of some zones, and in how many of the rest, from there on, it
-    /// finds the same.
+    /// Judges a line in `first`, and returns its verdict and in how many zones at the start of
+    /// `rest` it has the same.
     fn find_first(
         &self,
         asking: &Asking<'_>,
@@ -181,7 +182,7 @@ impl RowIndex {
         (verdict, more)
     }
 
-    /// Adds these zones with one verdict more, parted where it differs.
+    /// Adds runs of `zones` with one more verdict to `out`, split where the verdict differs.
     fn put_parted(
         &self,
         alloc: Global,
@@ -206,7 +207,7 @@ impl RowIndex {
         Ok(())
     }
 
-    /// Adds the zones of a run with one verdict more, parted where it differs.
+    /// Adds `run` with one more verdict to `out`, split where the verdict differs.
     fn put_verdicts(
         &self,
         alloc: Global,
@@ -235,7 +236,7 @@ impl RowIndex {
         Ok(())
     }
 
-    /// One line judged in the zones of runs.
+    /// Judges one line in the zones of all runs.
     fn judge_line(
         &self,
         alloc: Global,
@@ -268,7 +269,7 @@ impl RowIndex {
         Ok(out)
     }
 
-    /// The lines of a part judged.
+    /// Judges the lines of one part.
     fn judge_part(
         &self,
         alloc: Global,
@@ -290,7 +291,7 @@ impl RowIndex {
         Ok(runs)
     }
 
-    /// The lines of parts judged, of which no one is a second one of its event and zone.
+    /// Judges the lines of parts, if none is a second one of its event and zone.
     fn judge_apart(&self, alloc: Global, t: Minute, parts: &[Part<'_>]) -> Result<List<Run>, Oom>
         requires first { AreFirst [] (lines_in parts.now) }
         requires events { AllByRecursion (λ (p : PartValue). HaveOwnEvents p.lines) parts.now }
@@ -307,7 +308,8 @@ impl RowIndex {
         Ok(List::from_vec(all))
     }
 
-    /// What a product changes where a higher row is looked for, as far as a UPG line asks for it.
+    /// Returns what a product changes for the search for higher rows; it is empty without a UPG
+    /// line.
     fn change_in(&self, alloc: Global, t: Minute, parts: &[Part<'_>]) -> Result<Changed, Oom>
         requires first { AreFirst [] (lines_in parts.now) }
         ensures changed { list_any upgrades (lines_in parts.now) ≡ true
@@ -324,7 +326,13 @@ impl RowIndex {
         self.change_first(alloc, t, lines.as_slice())
     }
 
-    /// The lines of a product judged one by one, as runs.
+    /// Judges the lines of a product one by one and returns them as runs: `spelled` makes of these
+    /// what `judge` returns. `self` has the rows just before the product, and `t` is the product's
+    /// issue minute.
+    ///
+    /// # Errors
+    ///
+    /// Out of memory.
     pub fn judge_lines(&self, alloc: Global, t: Minute, lines: &[Line]) -> Result<List<Run>, Oom>
         ensures told { IfOk result (λ runs. spelled runs ≡ judged self.now t (lines.now)) }
         ensures found { IfOk result (λ runs. AreFound self.now runs) }
@@ -334,7 +342,15 @@ impl RowIndex {
         self.collected(alloc, judged.as_slice())
     }
 
-    /// The lines of a product judged.
+    /// Judges the lines of a product for all zones at once that find the same, and returns them as
+    /// runs in the order of the text. `self` has the rows just before the product, and `t` is the
+    /// product's issue minute.
+    ///
+    /// # Errors
+    ///
+    /// Out of memory.
+    ///
+    /// Source: docs/DECISIONS.md, "The archive's report".
     pub fn judge_parts(
         &self,
         alloc: Global,
@@ -354,7 +370,7 @@ impl RowIndex {
     }
 }
 
-/// Whether one of the lines says that a higher row takes a zone over.
+/// Whether one of the lines is UPG.
 fn upgrade_in(parts: &[Part<'_>]) -> bool
     ensures { result ≡ list_any has_upgrade parts.now }
 {

@@ -1,4 +1,4 @@
-//! Sets and counts of keys in order.
+//! Additions to ordered sets, and a range query on ordered counts.
 ghost use Rattle.std.specs.Prelude.{◌≡◌, if◌then◌else◌, OnOk};
 ghost use Rattle.std.specs.BTreeMap.Range.{range_contains, IsLeBy};
 ghost use Rattle.std.specs.BTreeSet.{insert_key};
@@ -9,7 +9,7 @@ ghost use Rattle.std.specs.declared.ops.Bound.TheVariants.{Included};
 use hazard_types::Oom;
 use std::collections::{BTreeMap, BTreeSet};
 
-/// Adds a key.
+/// Adds a key, which may be there already.
 pub fn add_key<K: Ord + Drop>(keys: &mut BTreeSet<K>, key: K) -> Result<(), Oom>
     ensures { OnOk result (keys.new.keys ≡ insert_key K.cmp keys.old.keys key) }
 {
@@ -17,7 +17,7 @@ pub fn add_key<K: Ord + Drop>(keys: &mut BTreeSet<K>, key: K) -> Result<(), Oom>
     Ok(())
 }
 
-/// Adds a key, where it counts.
+/// Adds a key if `counts`.
 pub fn add_counted<K: Ord + Drop>(keys: &mut BTreeSet<K>, counts: bool, key: K) -> Result<(), Oom>
     ensures { OnOk result (keys.new.keys ≡ (if counts then insert_key K.cmp keys.old.keys key else keys.old.keys)) }
 {
@@ -27,7 +27,7 @@ pub fn add_counted<K: Ord + Drop>(keys: &mut BTreeSet<K>, counts: bool, key: K) 
     Ok(())
 }
 
-/// Whether a key is counted that stands between two places, or at one of them.
+/// Whether the map has a key from `from` to `to`, both included.
 pub fn any_between<K: Ord + Drop>(counts: &BTreeMap<K, usize>, from: K, to: K) -> bool
     requires { IsLeBy K.cmp from to }
     ensures { result ≡ list_any (range_contains K.cmp (Included from) (Included to)) (keys_of counts.now.entries) }

@@ -1,4 +1,4 @@
-//! The rows that the lines of a product leave.
+//! The rows after a product.
 ghost use Rattle.std.specs.Prelude.{◌≡◌, IfOk};
 ghost use Rattle.event_life.specs.Products.{lawful_of, put_all};
 ghost use Rattle.row_index.specs.LineRows.{rows_of_line, rows_of_run, rows_of_runs};
@@ -14,7 +14,7 @@ use hazard_types::{Line, List, Minute, Oom, Zone};
 use std::alloc::Global;
 
 impl RowIndex {
-    /// Puts the rows that a line leaves in these zones.
+    /// Puts the rows that a lawful line leaves in `zones`.
     fn put_left(
         self,
         alloc: Global,
@@ -49,7 +49,7 @@ impl RowIndex {
         })
     }
 
-    /// Puts the rows that a line leaves in these zones, where it is lawful.
+    /// Puts the rows that a line leaves in `zones`, if it is lawful.
     fn put_line(
         self,
         alloc: Global,
@@ -66,7 +66,7 @@ impl RowIndex {
         }
     }
 
-    /// Puts the rows of a run.
+    /// Puts the rows that the lawful lines of a run leave.
     fn put_run(self, alloc: Global, t: Minute, run: &Run) -> Result<Self, Oom>
         ensures { IfOk result (λ index. index ≡ put_each (rows_of_run t run.now) self) }
     {
@@ -77,7 +77,7 @@ impl RowIndex {
         Ok(index)
     }
 
-    /// Puts the rows of runs, line by line.
+    /// Puts the rows that the lawful lines of runs leave, run by run.
     fn put_runs(self, alloc: Global, t: Minute, runs: &[Run]) -> Result<Self, Oom>
         ensures { IfOk result (λ index. index ≡ put_each (rows_of_runs t runs.now) self) }
     {
@@ -88,7 +88,12 @@ impl RowIndex {
         Ok(index)
     }
 
-    /// The rows after a product of these runs.
+    /// Returns the rows after a product whose lines `judge_parts` or `judge_lines` judged as these
+    /// runs, by the rows in `self`. `t` is the product's issue minute.
+    ///
+    /// # Errors
+    ///
+    /// Out of memory; the index is dropped.
     pub fn leave_runs(self, alloc: Global, t: Minute, runs: &[Run]) -> Result<Self, Oom>
         requires found { AreFound self runs.now }
         requires apart { AreApart runs.now }
@@ -98,8 +103,12 @@ impl RowIndex {
         self.put_runs(alloc, t, runs)
     }
 
-    /// The rows after a product whose lines were judged by these: each lawful line leaves its row, and no other line changes any.
-    /// When memory runs out, the index is gone.
+    /// Returns the rows after a product whose lines were judged so: each lawful line leaves its
+    /// row, and no other line changes any. `t` is the product's issue minute.
+    ///
+    /// # Errors
+    ///
+    /// Out of memory; the index is dropped.
     pub fn leave(
         self,
         alloc: Global,

@@ -1,4 +1,7 @@
-//! The rows of a long history, found by zone and event, and by hazard and number, without a walk over other rows.
+//! The rows of a long history in memory, found by zone and event, or by hazard and number, without
+//! a walk over other rows. For readers of a stream of products, as `product_decoder` is one: begin
+//! with `RowIndex::new`, then for each product `RowIndex::event_of`, `RowIndex::judge_parts` and
+//! `RowIndex::leave_runs`. A row is unended while no line has ended it.
 #![tactic(auto)]
 
 mod apart;

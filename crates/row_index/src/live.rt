@@ -1,4 +1,4 @@
-//! The live rows of events in the zones that a product's UPG lines speak of.
+//! The live rows that may overlap those of a product's UPG lines.
 ghost use Rattle.std.specs.Prelude.{◌≡◌, option_map, None, if◌then◌else◌, IfOk, OnOk};
 ghost use Rattle.std.specs.List.{list_any};
 ghost use Rattle.std.specs.Map.{values_of};
@@ -16,10 +16,10 @@ use hazard_types::{Event, Line, Minute, Oom, Row, Zone};
 use std::alloc::Global;
 use std::collections::BTreeSet;
 
-/// Zones that UPG lines speak of.
+/// The zones of UPG lines.
 pub type Zones = BTreeSet<Zone>;
 
-/// The zones that UPG lines speak of.
+/// Returns the zones of the UPG lines.
 pub fn upgraded_zones(alloc: Global, lines: &[Line]) -> Result<Zones, Oom>
     ensures { IfOk result (λ zones. Tells upgrades zone_said zones.keys lines.now) }
 {
@@ -30,7 +30,7 @@ pub fn upgraded_zones(alloc: Global, lines: &[Line]) -> Result<Zones, Oom>
     Ok(zones)
 }
 
-/// Whether two ranks are one.
+/// Whether two ranks are equal, or both are `None`.
 fn same_rank(a: &Rank, b: &Rank) -> bool
     ensures { result ≡ same_rank a.now b.now }
 {
@@ -41,14 +41,14 @@ fn same_rank(a: &Rank, b: &Rank) -> bool
     }
 }
 
-/// Whether a rank is among these.
+/// Whether `rank` is in the list.
 fn has_rank(ranks: &[Rank], rank: &Rank) -> bool
     ensures { result ≡ list_any (λ r. same_rank r rank.now) ranks.now }
 {
     ranks.iter().any(|other| same_rank(other, rank))
 }
 
-/// Adds a rank, where it counts and is not among these.
+/// Adds a rank if `counts`, unless it is in the list.
 fn add_rank(ranks: &mut Vec<Rank>, counts: bool, rank: Rank) -> Result<(), Oom>
     ensures { OnOk result (ranks.new.items ≡ (if counts then with_rank rank ranks.old.items else ranks.old.items)) }
 {
@@ -60,7 +60,7 @@ fn add_rank(ranks: &mut Vec<Rank>, counts: bool, rank: Rank) -> Result<(), Oom>
     Ok(())
 }
 
-/// The ranks of the hazards that UPG lines speak of, each once.
+/// Returns the ranks of the hazards of UPG lines, each once.
 pub fn upgraded_ranks(alloc: Global, lines: &[Line]) -> Result<Vec<Rank>, Oom>
     ensures { IfOk result (λ ranks. Tells upgrades rank_said ranks.items lines.now) }
 {
@@ -75,7 +75,7 @@ pub fn upgraded_ranks(alloc: Global, lines: &[Line]) -> Result<Vec<Rank>, Oom>
     Ok(ranks)
 }
 
-/// Adds a row, if there is one and it is live.
+/// Adds a row if there is one and it is live at `t`.
 fn add_row(higher: &mut Seated, t: Minute, row: &Option<Row>) -> Result<(), Oom>
     requires { AreSeated higher.old.entries }
     ensures rows { OnOk result (values_of higher.new.entries ≡ with_row t row.now (values_of higher.old.entries)) }
@@ -87,7 +87,7 @@ fn add_row(higher: &mut Seated, t: Minute, row: &Option<Row>) -> Result<(), Oom>
     }
 }
 
-/// Adds the live rows of an event in these zones. `rows` are the event's.
+/// Adds the live rows of an event in `zones`, zone by zone. `rows` are the event's.
 fn add_in_zones(
     higher: &mut Seated,
     rows: &RowsOf<'_>,
@@ -107,7 +107,8 @@ fn add_in_zones(
     Ok(())
 }
 
-/// The row of an event in a zone, if that is among these. `rows` are the event's, and `near` is a guess of its place.
+/// Returns the row of an event in a zone if `zones` has it. `rows` are the event's, and `near` is a
+/// guess of the row's index.
 fn row_among(
     rows: &RowsOf<'_>,
     near: &mut usize,
@@ -123,7 +124,7 @@ fn row_among(
     rows.row_at(near, event, zone)
 }
 
-/// Adds the live rows of an event whose zones are among these. `all` are the event's rows, and `rows` are the same.
+/// Adds the live rows of an event in `zones`, row by row. `all` and `rows` are both the event's.
 fn add_among(
     higher: &mut Seated,
     all: &[Row],
@@ -145,7 +146,8 @@ fn add_among(
     Ok(())
 }
 
-/// Adds the live rows of an event in these zones: by the zones of either, of whichever there are fewer. `rows` are the event's.
+/// Adds the live rows of an event in `zones`, by a walk over its rows or over the zones, whichever
+/// are fewer. `rows` are the event's.
 pub fn add_rows(
     alloc: Global,
     higher: &mut Seated,
@@ -166,14 +168,15 @@ pub fn add_rows(
     }
 }
 
-/// The later of a minute and another.
+/// Returns the later of the two minutes.
 fn or_later(t: Minute, begin: Minute) -> Minute
     ensures { result ≡ or_later t begin }
 {
     if t.get() <= begin.get() { begin } else { t }
 }
 
-/// The minute behind which a row must end that is live and overlaps the row of a line, if it is a UPG line that has one.
+/// Returns the minute after which a row must end to be live at `t` and overlap `own`, the row of a
+/// UPG line. `None` for another line, or if there is no such row.
 pub fn needed(t: Minute, line: &Line, own: &Option<Row>) -> Option<Minute>
     ensures { result ≡ (if upgrades line.now then option_map (λ r. or_later t r.period.begin) own.now else None) }
 {
@@ -186,7 +189,7 @@ pub fn needed(t: Minute, line: &Line, own: &Option<Row>) -> Option<Minute>
     }
 }
 
-/// The lesser of two minutes, as far as they are there.
+/// Returns the lesser of the minutes that are there.
 pub fn lesser(found: &Option<Minute>, other: &Option<Minute>) -> Option<Minute>
     ensures { result ≡ lesser found.now other.now }
 {

@@ -1,4 +1,4 @@
-//! What lives have come to, by zone: zones share what is the same.
+//! The lives of one event by zone; zones share equal lives.
 ghost use Rattle.std.specs.Prelude.{◌≡◌, ◌<◌, ◌+◌, Bool, [], length, is_some, option_map, slice_get, IfOk, OnOk};
 ghost use Rattle.std.specs.BTreeMap.{insert_entry, is_at};
 ghost use Rattle.std.specs.List.Sorted.{IsStrictlySortedBy};
@@ -16,13 +16,13 @@ use std::alloc::Global;
 use std::marker::Model;
 use zone_map::ZoneMap;
 
-/// The places of lives, by zone.
+/// The indices of lives, by zone.
 type Seats = ZoneMap<u32>;
 
-/// How many lives more than twice the zones there may be.
+/// How many more lives than twice the zones there may be before unreferenced ones are dropped.
 const SPARE: usize = 16;
 
-/// The row of an event in a zone whose life has come to this.
+/// Returns the row of an event in a zone with this life.
 pub fn row_with(event: &Event, zone: &Zone, life: &Life) -> Row
     ensures { result ≡ row_with event.now zone.now life.now }
 {
@@ -35,7 +35,7 @@ pub fn row_with(event: &Event, zone: &Zone, life: &Life) -> Row
     }
 }
 
-/// What the life of a row has come to.
+/// Returns the life of a row.
 pub fn life_of(row: &Row) -> Life
     ensures { result ≡ life_of row.now }
 {
@@ -46,7 +46,7 @@ pub fn life_of(row: &Row) -> Life
     }
 }
 
-/// Whether the life at a place, if there is one, is this one.
+/// Whether there is a life at an index and it is equal to `life`.
 fn is_life(lives: &[Life], place: u32, life: &Life) -> bool
     ensures { result ≡ is_life (slice_get lives.now place) life.now }
 {
@@ -56,7 +56,7 @@ fn is_life(lives: &[Life], place: u32, life: &Life) -> bool
     }
 }
 
-/// The life at a place, if there is a place.
+/// Returns the life at an index, if there is one.
 fn life_there(lives: &[Life], place: &Option<u32>) -> Option<Life>
     requires { IsThere lives.now place.now }
     ensures { result ≡ option_map (life_at lives.now) place.now }
@@ -67,7 +67,7 @@ fn life_there(lives: &[Life], place: &Option<u32>) -> Option<Life>
     }
 }
 
-/// The rows of an event in zones whose lives stand at these places.
+/// Returns the rows of an event in zones, with the lives at their indices.
 fn rows_at(
     alloc: Global,
     event: &Event,
@@ -84,7 +84,7 @@ fn rows_at(
     Ok(rows)
 }
 
-/// The place of a life, which comes behind the others unless it stands at `near`.
+/// Returns the index of a life: `near` if that is equal, else a new last entry.
 fn place_with(lives: &mut Vec<Life>, near: u32, life: &Life) -> Result<u32, Oom>
     ensures { IfOk result (λ place. IsPlaced lives.old.items lives.new.items place life.now) }
 {
@@ -98,8 +98,7 @@ fn place_with(lives: &mut Vec<Life>, near: u32, life: &Life) -> Result<u32, Oom>
     Ok(place)
 }
 
-/// The place of a life, which comes behind the others unless it stands at `near` or is that of the
-/// zone.
+/// Returns the index of a life: `near` or that of `zone` if one is equal, else a new last entry.
 fn place_for(
     lives: &mut Vec<Life>,
     seats: &Seats,
@@ -119,7 +118,7 @@ fn place_for(
     }
 }
 
-/// Adds what the lives of some zones had come to, if there are such zones.
+/// Adds that `zones` zones had the life at an index, unless `zones` is 0.
 fn put_before(
     befores: &mut Vec<Before>,
     lives: &[Life],
@@ -137,7 +136,7 @@ fn put_before(
     Ok(())
 }
 
-/// Whether two places are one, or there is none of both.
+/// Whether the two indices are equal, or both are `None`.
 fn same_place(a: &Option<u32>, b: &Option<u32>) -> bool
     ensures { result ≡ same_place a.now b.now }
 {
@@ -148,8 +147,8 @@ fn same_place(a: &Option<u32>, b: &Option<u32>) -> bool
     }
 }
 
-/// One zone more, whose life stood at this place, or which had none. `count` zones before it had
-/// the one at `last`.
+/// Counts one more zone, which had the life at `place` or none. The `count` zones before it had
+/// that at `last`, and are added to `befores` if `place` differs.
 fn count_zone(
     befores: &mut Vec<Before>,
     lives: &[Life],
@@ -175,7 +174,7 @@ fn count_zone(
     Ok(())
 }
 
-/// Zones come to name the life at a place. Returns what their lives had come to.
+/// Sets the life at an index for each of the zones, and returns the lives that it replaces.
 fn seat_each(
     alloc: Global,
     lives: &[Life],
@@ -201,7 +200,7 @@ fn seat_each(
     Ok(befores)
 }
 
-/// A life is put in each of the zones.
+/// Sets a life for each of the zones, and returns the lives that it replaces.
 fn put_lives(
     alloc: Global,
     lives: &mut Vec<Life>,
@@ -223,7 +222,7 @@ fn put_lives(
     seat_each(alloc, lives, seats, place, zones)
 }
 
-/// Puts the life of a row. Returns its place.
+/// Sets the life of a row, and returns its index.
 fn put_life(lives: &mut Vec<Life>, seats: &mut Seats, near: u32, row: &Row) -> Result<u32, Oom>
     requires { AreShared lives.old.items seats.old }
     ensures set { OnOk result (lives_told lives.new.items seats.new ≡ insert_entry by_place (lives_told lives.old.items seats.old) row.now.zone (life_of row.now)) }
@@ -235,7 +234,7 @@ fn put_life(lives: &mut Vec<Life>, seats: &mut Seats, near: u32, row: &Row) -> R
     Ok(place)
 }
 
-/// How many of the zones had no life.
+/// Returns how many of the zones had no life.
 fn new_zones(befores: &[Before]) -> usize {
     let mut count: usize = 0;
     for before in befores {
@@ -246,16 +245,14 @@ fn new_zones(befores: &[Before]) -> usize {
     count
 }
 
-/// What lives have come to, by zone.
-///
-/// Each stands once for many zones, though it may stand more than once.
+/// Lives by zone. Zones share equal lives, though a life may be in the list more than once.
 #[derive(Drop)]
 pub struct LifeMap {
     lives: Vec<Life>,
     seats: Seats,
-    /// The place of the life that was set last.
+    /// The index of the life that was set last.
     near: u32,
-    /// How many zones there are.
+    /// The number of zones, as a hint that no invariant promises.
     zones: usize,
 }
 
@@ -275,7 +272,7 @@ impl Model for LifeMap {
 }
 
 impl LifeMap {
-    /// No zones.
+    /// Returns a map without zones.
     pub fn new(alloc: Global) -> Self
         ensures { result ≡ [] }
     {
@@ -287,7 +284,7 @@ impl LifeMap {
         }
     }
 
-    /// The life at a zone. `near` is a guess of its place.
+    /// Returns the life of a zone. `near` is a guess of its index, and becomes the index after it.
     pub fn get(&self, near: &mut usize, zone: &Zone) -> Option<&Life>
         ensures { option_map (λ life. life.now) result ≡ lookup (is_at (by_place zone.now)) self.now }
     {
@@ -304,12 +301,12 @@ impl LifeMap {
         self.seats.first().is_some()
     }
 
-    /// About how many zones there are.
+    /// Returns the number of zones, as a hint that no contract promises.
     pub fn count(&self) -> usize {
         self.zones
     }
 
-    /// The rows of an event with these lives, in the order of the zones.
+    /// Returns the rows of an event with these lives, by zone.
     pub fn rows(&self, alloc: Global, event: &Event) -> Result<Vec<Row>, Oom>
         ensures rows { IfOk result (λ rows. rows.items ≡ values_of (rows_with event.now self.now)) }
         ensures order { IsStrictlySortedBy by_place (keys_of self.now) }
@@ -322,7 +319,7 @@ impl LifeMap {
         )
     }
 
-    /// No zone has a life any more.
+    /// Drops all zones and lives.
     pub fn clear(&mut self)
         ensures { self.new ≡ [] }
     {
@@ -331,8 +328,8 @@ impl LifeMap {
         self.zones = 0;
     }
 
-    /// A life is put in each of the zones. Returns what their lives had come to. When memory runs
-    /// out, there are none.
+    /// Sets a life for each of the zones, and returns the lives that it replaces. On `Oom` the map
+    /// is empty.
     fn put_each(&mut self, alloc: Global, life: &Life, zones: &[Zone]) -> Result<Vec<Before>, Oom>
         ensures set { OnOk result (self.new ≡ lives_put life.now zones.now self.old) }
         ensures before { IfOk result (λ befores. (p : LifeValue → Bool) → IsTallied p (values_of self.old) (values_of self.new) befores.items (length zones.now) life.now) }
@@ -357,7 +354,7 @@ impl LifeMap {
         }
     }
 
-    /// Puts the life of a row, where memory that runs out leaves none.
+    /// Sets the life of a row. On `Oom` the map is empty.
     fn put(&mut self, row: &Row) -> Result<(), Oom>
         ensures { OnOk result (self.new ≡ insert_entry by_place self.old row.now.zone (life_of row.now)) }
     {
@@ -375,7 +372,7 @@ impl LifeMap {
         }
     }
 
-    /// Puts rows, whose zones are in order, where there are none.
+    /// Sets the lives of rows, by zone, in a map without zones. On `Oom` the map is empty.
     fn put_all(&mut self, rows: &[Row]) -> Result<(), Oom>
         requires none { self.old ≡ [] }
         requires order { IsStrictlySortedBy by_place (keys_of (lives_of rows.now)) }
@@ -387,7 +384,7 @@ impl LifeMap {
         Ok(())
     }
 
-    /// The same zones and lives, without what no zone names.
+    /// Returns the same map without unreferenced lives.
     fn settled(&self, alloc: Global, event: &Event) -> Result<LifeMap, Oom>
         ensures { IfOk result (λ map. map ≡ self.now) }
     {
@@ -397,12 +394,12 @@ impl LifeMap {
         Ok(settled)
     }
 
-    /// Whether most of the lives are named by no zone.
+    /// Whether there are more lives than twice the zones and `SPARE`.
     fn is_loose(&self) -> bool {
         self.lives.len() > self.zones.saturating_mul(2).saturating_add(SPARE)
     }
 
-    /// Lives that no zone names go, where they are most of all.
+    /// Drops unreferenced lives once they outnumber the others.
     fn settle(&mut self, alloc: Global, event: &Event) -> Result<(), Oom>
         ensures { self.new ≡ self.old }
     {
@@ -412,8 +409,8 @@ impl LifeMap {
         Ok(())
     }
 
-    /// The lives of an event's zones come to this one. Returns what they had come to. When memory
-    /// runs out, lives may be gone.
+    /// Sets a life of an event for each of the zones, and returns the lives that it replaces. On
+    /// `Oom` lives may be lost.
     pub fn set(
         &mut self,
         alloc: Global,

@@ -1,4 +1,4 @@
-//! What is read off a row or two, without a walk.
+//! What is read off a line, a life or two of them, without a walk.
 ghost use Rattle.std.specs.Prelude.{◌≡◌, option_map};
 ghost use Rattle.event_life.specs.Lives.{opens};
 ghost use Rattle.event_life.specs.Products.{later_event};
@@ -8,7 +8,7 @@ ghost use Rattle.row_index.specs.Steps.{asks_alike, nothing_around, stays};
 use event_life::{Around, Life, opened_period};
 use hazard_types::{Action, Event, Line, Minute, Zone};
 
-/// The same line of another zone.
+/// Returns the line with another zone.
 pub fn in_zone(line: &Line, zone: &Zone) -> Line
     ensures { result ≡ in_zone line.now zone.now }
 {
@@ -22,14 +22,14 @@ pub fn in_zone(line: &Line, zone: &Zone) -> Line
     }
 }
 
-/// Whether two lines differ in their zones alone.
+/// Whether two lines differ in their zones at most.
 pub fn is_alike(a: &Line, b: &Line) -> bool
     ensures { result ≡ is_alike a.now b.now }
 {
     in_zone(a, &b.zone) == *b
 }
 
-/// A life, if there is one.
+/// Returns a copy of the life, if there is one.
 pub fn life_of(life: Option<&Life>) -> Option<Life>
     ensures { result ≡ option_map (λ l. l.now) life.entry }
 {
@@ -39,14 +39,14 @@ pub fn life_of(life: Option<&Life>) -> Option<Life>
     }
 }
 
-/// Whether two lives are one, or there is none of both.
+/// Whether the two lives are equal, or both are `None`.
 pub fn same_life(a: &Option<Life>, b: &Option<Life>) -> bool
     ensures { result ≡ same_life a.now b.now }
 {
     *a == *b
 }
 
-/// Of two events the one of the later year.
+/// Returns the event of the later year; `best` if the years are equal.
 pub fn later_event(best: Option<Event>, event: &Event) -> Option<Event>
     ensures { result ≡ later_event best event.now }
 {
@@ -62,7 +62,7 @@ pub fn later_event(best: Option<Event>, event: &Event) -> Option<Event>
     }
 }
 
-/// What stands around a line that asks for nothing but a higher row.
+/// Returns the facts about other rows for a line that needs none but `higher`.
 pub fn nothing_around(higher: bool) -> Around
     ensures { result ≡ nothing_around higher }
 {
@@ -75,21 +75,22 @@ pub fn nothing_around(higher: bool) -> Around
     }
 }
 
-/// Whether a line opens a spell, and so leaves nothing of the one before.
+/// Whether the action opens a spell, so that the row before counts for nothing.
 pub fn opens(action: &Action) -> bool
     ensures { result ≡ opens action.now }
 {
     matches!(action, Action::New | Action::Exa | Action::Exb)
 }
 
-/// Whether two lines are of one action and event, and would open one period.
+/// Whether two lines have one action and event and would open one period, so that the facts about
+/// other rows are the same for both.
 pub fn asks_alike(t: Minute, a: &Line, b: &Line) -> bool
     ensures { result ≡ asks_alike t a.now b.now }
 {
     a.action == b.action && a.event == b.event && opened_period(a, t) == opened_period(b, t)
 }
 
-/// Whether a life stands as the one before did: no line has ended either, and they have one period.
+/// Whether neither life is ended and both have one period.
 pub fn stays(before: &Option<Life>, life: &Life) -> bool
     ensures { result ≡ stays before.now life.now }
 {

@@ -11,17 +11,17 @@ use hazard_types::{Event, Oom};
 use std::alloc::Global;
 use std::collections::BTreeMap;
 
-/// A hazard and a number, which events of several years may have.
+/// A hazard and an event tracking number. Events of several years may have both.
 #[derive(Clone, Copy, PartialEq, Eq, PartialOrd, Ord)]
 pub struct Number {
     pub hazard: HazardKey,
     pub etn: u16,
 }
 
-/// The events of each hazard and number.
+/// The events by hazard and number.
 pub type Events = BTreeMap<Number, Vec<Event>>;
 
-/// The hazard and number of an event.
+/// Returns the hazard and number of an event.
 pub fn number_of(event: &Event) -> Number
     ensures { result ≡ number_of event.now }
 {
@@ -33,14 +33,14 @@ pub fn number_of(event: &Event) -> Number
     }
 }
 
-/// Whether an event is among these.
+/// Whether `event` is in the list.
 fn has_event(events: &[Event], event: &Event) -> bool
     ensures { result ≡ list_any (λ d. same_event d event.now) events.now }
 {
     events.iter().any(|other| *other == *event)
 }
 
-/// Adds an event, unless it is among these.
+/// Adds an event unless it is in the list.
 fn add_event(events: &mut Vec<Event>, event: &Event) -> Result<(), Oom>
     ensures { OnOk result (events.new.items ≡ with_event event.now events.old.items) }
 {
@@ -50,7 +50,7 @@ fn add_event(events: &mut Vec<Event>, event: &Event) -> Result<(), Oom>
     Ok(())
 }
 
-/// Puts an event among those of its hazard and number.
+/// Adds an event to those of its hazard and number, unless it is among them.
 pub fn put_event(alloc: Global, events: &mut Events, event: &Event) -> Result<(), Oom>
     ensures { OnOk result (lists_of events.new.entries ≡ insert_entry by_number (lists_of events.old.entries) (number_of event.now) (with_event event.now (list_at by_number (lists_of events.old.entries) (number_of event.now)))) }
 {
@@ -58,7 +58,7 @@ pub fn put_event(alloc: Global, events: &mut Events, event: &Event) -> Result<()
     add_event(known, event)
 }
 
-/// Puts an event among those of its hazard and number, unless it had rows before.
+/// Adds an event to those of its hazard and number, unless it had rows before.
 pub fn put_event_of(
     alloc: Global,
     events: &mut Events,
@@ -73,7 +73,7 @@ pub fn put_event_of(
     put_event(alloc, events, event)
 }
 
-/// The events of a hazard and number.
+/// Returns the events of a hazard and number.
 pub fn events_at<'a>(events: &'a Events, number: &Number) -> &'a [Event]
     ensures { result.now ≡ list_at by_number (lists_of events.now.entries) number.now }
 {

@@ -1,4 +1,4 @@
-//! Zones and events as keys: compared part by part, letters as bytes.
+//! Zones, events and hazards as keys, compared part by part, letters as bytes.
 ghost use Rattle.std.specs.Prelude.{◌≡◌};
 ghost use Rattle.std.specs.Cmp.{partial_order_from_own_ties, po};
 ghost use Rattle.std.specs.Cmp.Lexicographic.{slice_cmp};
@@ -13,7 +13,7 @@ use hazard_types::{Event, Hazard, Zone};
 use std::cmp::Ordering;
 use std::marker::Model;
 
-/// How two pairs of letters stand in order.
+/// Compares two pairs of letters.
 fn letter_order(a: [u8; 2], b: [u8; 2]) -> Ordering
     ensures { result ≡ slice_cmp nat_cmp a b }
 {
@@ -24,7 +24,7 @@ fn letter_order(a: [u8; 2], b: [u8; 2]) -> Ordering
     }
 }
 
-/// How two zones stand in order.
+/// Compares zones by state, kind and number.
 pub fn zone_order(a: &Zone, b: &Zone) -> Ordering
     ensures { result ≡ by_place a.now b.now }
 {
@@ -49,7 +49,7 @@ fn hazard_order(a: &Hazard, b: &Hazard) -> Ordering
     }
 }
 
-/// How two events stand in order.
+/// Compares events by hazard, number and year.
 pub fn event_order(a: &Event, b: &Event) -> Ordering
     ensures { result ≡ by_event a.now b.now }
 {
@@ -65,7 +65,7 @@ pub fn event_order(a: &Event, b: &Event) -> Ordering
     }
 }
 
-/// A zone as a key.
+/// A zone as a key, ordered by state, kind (C before Z) and number.
 #[derive(Clone, Copy, PartialEq, Eq)]
 pub struct ZoneKey {
     pub zone: Zone,
@@ -105,7 +105,7 @@ impl PartialOrd for ZoneKey {
     }
 }
 
-/// An event as a key.
+/// An event as a key, ordered by hazard, number and year.
 #[derive(Clone, Copy, PartialEq, Eq)]
 pub struct EventKey {
     pub event: Event,
@@ -145,7 +145,7 @@ impl PartialOrd for EventKey {
     }
 }
 
-/// A hazard as a key.
+/// A hazard as a key, ordered by phenomenon and significance.
 #[derive(Clone, Copy, PartialEq, Eq)]
 pub struct HazardKey {
     pub hazard: Hazard,

@@ -1,4 +1,4 @@
-//! How far the rows of each event reach in each area, where its hazard has a rank.
+//! How far the rows of each event reach in each area, if its hazard has a rank.
 ghost use Rattle.std.specs.Prelude.{◌≡◌, ◌||◌, Some, is_none, filter, true, IfOk, OnOk};
 ghost use Rattle.std.specs.List.{list_any};
 ghost use Rattle.event_life.specs.Higher.{is_above};
@@ -16,7 +16,7 @@ use std::alloc::Global;
 use std::collections::BTreeSet;
 use std::collections::btree_set::Range;
 
-/// An end up to which rows of an event were seen in an area. They are in order by area, then end, then event.
+/// An end up to which rows of an event reach in an area. Ordered by area, then end, then event.
 #[derive(Clone, Copy, PartialEq, Eq, PartialOrd, Ord)]
 pub struct Reach {
     pub area: u32,
@@ -24,10 +24,13 @@ pub struct Reach {
     pub spot: Spot,
 }
 
-/// How far the rows of each event reach in each area. What is here once stays.
+/// How far the rows of each event reach in each area. Entries are only added, so an end may be
+/// later than those of the rows that are left.
 pub type Reaches = BTreeSet<Reach>;
 
-/// The area of a zone: sixteen numbers of a state.
+/// Returns the area of a zone: sixteen numbers of a state.
+///
+/// Source: docs/DECISIONS.md, "The archive's report".
 fn area_of(zone: &Zone) -> u32
     ensures { result ≡ area_of zone.now }
 {
@@ -36,7 +39,7 @@ fn area_of(zone: &Zone) -> u32
     letters * 64 + u32::from(zone.number()) / 16
 }
 
-/// Whether an area is the last.
+/// Whether `area` is the last one, if there is one.
 fn is_area(last: &Option<u32>, area: u32) -> bool
     ensures { result ≡ is_area last.now area }
 {
@@ -46,7 +49,8 @@ fn is_area(last: &Option<u32>, area: u32) -> bool
     }
 }
 
-/// A zone's area reaches to the end of a life of an event, unless it is the one that did last.
+/// Adds the end of a life of `event` in the area of `zone`, unless that area is `last`. `last`
+/// becomes the area.
 fn reach_zone(
     reaches: &mut Reaches,
     last: &mut Option<u32>,
@@ -70,14 +74,14 @@ fn reach_zone(
     Ok(())
 }
 
-/// Whether a line has ended a life of an event, or the event's hazard has no rank.
+/// Whether the life is ended or the event's hazard has no rank.
 fn is_idle(event: &Event, life: &Life) -> bool
     ensures { result ≡ (life.now.ended || is_none (rank_of event.now)) }
 {
     life.ended || rank_of(&event.hazard).is_none()
 }
 
-/// The areas of zones reach to the end of a life of an event, unless a line has ended that or its
+/// Adds the end of a life of `event` in the areas of the zones, unless the life is ended or the
 /// hazard has no rank.
 pub fn reach_each(
     reaches: &mut Reaches,
@@ -98,7 +102,7 @@ pub fn reach_each(
     Ok(())
 }
 
-/// Those of an area whose ends are not before a minute, in order.
+/// Returns the entries of an area with an end at `t` or later, in order.
 fn lasting(reaches: &Reaches, area: u32, t: Minute) -> Range<'_, Reach>
     ensures { result ≡ filter (lasts area t) reaches.now.keys }
 {
@@ -110,21 +114,21 @@ fn lasting(reaches: &Reaches, area: u32, t: Minute) -> Range<'_, Reach>
     reaches.range(from..Reach { area, end, spot })
 }
 
-/// Whether one rank is above one of the others.
+/// Whether `own` ranks above one of `ranks`.
 fn is_above_one(ranks: &[Rank], own: &Rank) -> bool
     ensures { result ≡ list_any (is_above own.now) ranks.now }
 {
     ranks.iter().any(|low| is_above(own, low))
 }
 
-/// Whether an event is above one of the ranks.
+/// Whether an event ranks above one of `ranks`.
 fn is_above_any(ranks: &[Rank], event: &Event) -> bool
     ensures { result ≡ is_above_any ranks.now event.now }
 {
     is_above_one(ranks, &rank_of(&event.hazard))
 }
 
-/// Adds the event of a spot, if it is above one of the ranks.
+/// Adds the event of a key if it ranks above one of `ranks`.
 fn add_event(events: &mut BTreeSet<Event>, ranks: &[Rank], spot: &Spot) -> Result<(), Oom>
     ensures { OnOk result (events.new.keys ≡ with_spot ranks.now spot.now events.old.keys) }
 {
@@ -136,7 +140,7 @@ fn add_event(events: &mut BTreeSet<Event>, ranks: &[Rank], spot: &Spot) -> Resul
     Ok(())
 }
 
-/// Adds the events above one of the ranks whose rows may reach to a minute in an area.
+/// Adds the events that rank above one of `ranks` and whose rows may reach to `t` in an area.
 fn add_events(
     events: &mut BTreeSet<Event>,
     reaches: &Reaches,
@@ -152,7 +156,7 @@ fn add_events(
     Ok(())
 }
 
-/// The same of an area, unless it is the one whose events were added last.
+/// `add_events` for an area, unless it is the one whose events were added last.
 fn add_other(
     events: &mut BTreeSet<Event>,
     last: &Option<u32>,
@@ -171,7 +175,8 @@ fn add_other(
     add_events(events, reaches, area, t, ranks)
 }
 
-/// The events above one of the ranks whose rows may reach to a minute in the areas of zones.
+/// Returns the events that rank above one of `ranks` and whose rows may reach to `t` in the areas
+/// of the zones.
 pub fn events_above(
     alloc: Global,
     reaches: &Reaches,

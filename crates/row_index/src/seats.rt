@@ -1,4 +1,4 @@
-//! The rows of an office's class, each at its seat: found by zone and event.
+//! Rows in a map by zone, then event.
 ghost use Rattle.std.specs.Prelude.{◌≡◌, filter, if◌then◌else◌, IfOk, OnOk};
 ghost use Rattle.std.specs.BTreeMap.{insert_entry, is_at};
 ghost use Rattle.std.specs.Map.{lookup, values_of};
@@ -13,7 +13,7 @@ use std::alloc::{AllocError, Global};
 use std::collections::btree_map::Range;
 use std::collections::{BTreeMap, BTreeSet};
 
-/// A spot in a zone: in front of all events, at an event, or behind them all.
+/// A position in a zone: before all events, at an event, or after all.
 #[derive(Clone, Copy, PartialEq, Eq, PartialOrd, Ord)]
 pub enum Spot {
     Front,
@@ -21,17 +21,17 @@ pub enum Spot {
     Back,
 }
 
-/// Where a row stands among all rows. Seats are in order by zone, then spot.
+/// The key of a row: its zone, then its position there.
 #[derive(Clone, Copy, PartialEq, Eq, PartialOrd, Ord)]
 pub struct Seat {
     pub zone: ZoneKey,
     pub spot: Spot,
 }
 
-/// The rows, each at its seat.
+/// Rows by zone, then event.
 pub type Seated = BTreeMap<Seat, Row>;
 
-/// The seats that lines speak of.
+/// The zones and events of lines.
 pub type Seats = BTreeSet<Seat>;
 
 fn seat_at(event: &Event, zone: &Zone) -> Seat
@@ -43,14 +43,14 @@ fn seat_at(event: &Event, zone: &Zone) -> Seat
     }
 }
 
-/// Whether the seat of an event in a zone is among these.
+/// Whether the key of an event in a zone is in the set.
 pub fn has_seat(seats: &Seats, event: &Event, zone: &Zone) -> bool
     ensures { result ≡ has_seat seats.now.keys (seat_at event.now zone.now) }
 {
     seats.contains(&seat_at(event, zone))
 }
 
-/// Adds the seat that a line speaks of, where it counts.
+/// Adds the key of a line if `counts`.
 pub fn add_seat(seats: &mut Seats, counts: bool, line: &Line) -> Result<(), Oom>
     ensures { OnOk result (seats.new.keys ≡ seats_with counts line.now seats.old.keys) }
 {
@@ -65,7 +65,7 @@ pub fn add_seat(seats: &mut Seats, counts: bool, line: &Line) -> Result<(), Oom>
     Ok(())
 }
 
-/// The row of an event in a zone.
+/// Returns the row of an event in a zone.
 pub fn row_in(seated: &Seated, event: &Event, zone: &Zone) -> Option<Row>
     requires { AreSeated seated.now.entries }
     ensures { result ≡ row_at (values_of seated.now.entries) event.now zone.now }
@@ -76,7 +76,7 @@ pub fn row_in(seated: &Seated, event: &Event, zone: &Zone) -> Option<Row>
     }
 }
 
-/// Sets the value at a key. `before` becomes the one that was there.
+/// Sets the value at a key. `before` becomes the value that was there, if any.
 pub fn set<K: Ord + Drop, V: Copy>(
     map: &mut BTreeMap<K, V>,
     key: K,
@@ -90,7 +90,8 @@ pub fn set<K: Ord + Drop, V: Copy>(
     Ok(())
 }
 
-/// Puts a row in the place of the one of its zone and event, or in its own place. `before` becomes the one that was there.
+/// Puts a row, in place of the one with its zone and event if there is one. `before` becomes that
+/// one.
 pub fn put_seated(seated: &mut Seated, row: &Row, before: &mut Option<Row>) -> Result<(), Oom>
     requires { AreSeated seated.old.entries }
     ensures before { OnOk result (before.new ≡ row_at (values_of seated.old.entries) row.now.event row.now.zone) }
@@ -105,7 +106,7 @@ pub fn put_seated(seated: &mut Seated, row: &Row, before: &mut Option<Row>) -> R
     set(seated, seat, row, before)
 }
 
-/// Puts a row that counts.
+/// Puts a row if `counts`.
 pub fn count_row(seated: &mut Seated, counts: bool, row: &Row) -> Result<(), Oom>
     requires { AreSeated seated.old.entries }
     ensures rows { OnOk result (values_of seated.new.entries ≡ (if counts then put row.now (values_of seated.old.entries) else values_of seated.old.entries)) }
@@ -118,7 +119,7 @@ pub fn count_row(seated: &mut Seated, counts: bool, row: &Row) -> Result<(), Oom
     Ok(())
 }
 
-/// The rows of a zone at their seats, in order.
+/// Returns the rows of a zone with their keys, by event.
 pub fn seated_in<'a>(seated: &'a Seated, zone: &Zone) -> Range<'a, Seat, Row>
     requires { AreSeated seated.now.entries }
     ensures { values_of result ≡ filter (is_in_zone zone.now) (values_of seated.now.entries) }
@@ -134,7 +135,7 @@ pub fn seated_in<'a>(seated: &'a Seated, zone: &Zone) -> Range<'a, Seat, Row>
     seated.range(front..back)
 }
 
-/// All rows, in order.
+/// Returns all rows, by zone, then event.
 pub fn all_rows(alloc: Global, seated: &Seated) -> Result<Vec<Row>, AllocError>
     ensures { IfOk result (λ rows. rows.items ≡ values_of seated.now.entries) }
 {

@@ -1,4 +1,4 @@
-//! The rows of one event, each at its zone, which share what their lives have come to.
+//! The rows of one event by zone, which share equal lives.
 ghost use Rattle.std.specs.Prelude.{◌≡◌, Bool, [], length, option_map, slice_get, IfOk, OnOk};
 ghost use Rattle.std.specs.Map.{values_of};
 ghost use Rattle.event_life.specs.Products.{life_of, row_at};
@@ -14,7 +14,7 @@ use hazard_types::{Event, Oom, Row, Zone};
 use std::alloc::Global;
 use std::marker::Model;
 
-/// The rows of one event at their zones. What lives have come to stands once for many of them.
+/// The rows of one event by zone. Zones whose rows have the same life share it.
 #[derive(Drop)]
 pub struct SharedRows {
     event: Option<Event>,
@@ -35,7 +35,7 @@ impl Model for SharedRows {
 }
 
 impl SharedRows {
-    /// No rows.
+    /// Returns a map without rows.
     pub fn new(alloc: Global) -> Self
         ensures { result ≡ [] }
     {
@@ -45,7 +45,8 @@ impl SharedRows {
         }
     }
 
-    /// The life of the row of an event in a zone. `near` is a guess of its place.
+    /// Returns the life of the row of an event in a zone. `near` is a guess of its index, and
+    /// becomes the index after it.
     pub fn life_at(&self, near: &mut usize, event: &Event, zone: &Zone) -> Option<&Life>
         ensures { option_map (λ life. life.now) result ≡ option_map life_of (row_at (values_of self.now) event.now zone.now) }
     {
@@ -61,7 +62,7 @@ impl SharedRows {
         }
     }
 
-    /// Whether there is a row, and it is of an event.
+    /// Whether there are rows and they are of `event`.
     pub fn is_of(&self, event: &Event) -> bool
         ensures { result ≡ is_first_of (option_map (λ e. e.1) (slice_get self.now 0)) event.now }
     {
@@ -71,12 +72,12 @@ impl SharedRows {
         }
     }
 
-    /// About how many rows there are.
+    /// Returns the number of rows, as a hint that no contract promises.
     pub fn count(&self) -> usize {
         self.lives.count()
     }
 
-    /// The rows in the order of their zones.
+    /// Returns the rows by zone.
     pub fn values(&self, alloc: Global) -> Result<Vec<Row>, Oom>
         ensures { IfOk result (λ values. values.items ≡ values_of self.now) }
     {
@@ -86,8 +87,8 @@ impl SharedRows {
         }
     }
 
-    /// The rows of the event in these zones come to a life. Returns what their lives had come to.
-    /// When memory runs out, rows may be gone.
+    /// Puts rows of the event with `life` in `zones`, and returns the lives that they replace. On
+    /// `Oom` rows may be lost.
     pub fn set(
         &mut self,
         alloc: Global,
@@ -103,7 +104,7 @@ impl SharedRows {
         self.lives.set(alloc, event, life, zones)
     }
 
-    /// There are no rows any more.
+    /// Drops all rows.
     pub fn clear(&mut self)
         ensures { self.new ≡ [] }
     {

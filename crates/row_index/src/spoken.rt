@@ -1,4 +1,4 @@
-//! The seats that the lines of a product speak of, which mostly come in rising order.
+//! A set of the keys of a product's lines, which mostly come in ascending order.
 ghost use Rattle.std.specs.Prelude.{◌≡◌, true, [], IfOk, OnOk};
 ghost use Rattle.row_index.specs.Seating.{seat_said, has_seat};
 ghost use Rattle.row_index.specs.Risen.{is_behind, last_said, rising_with, seats_of, IsFree, Joins, Says};
@@ -10,7 +10,8 @@ use hazard_types::{Line, Oom};
 use std::alloc::Global;
 use std::collections::BTreeSet;
 
-/// The seats that lines spoke of. Those that came in rising order stand in a list, until one comes that is not behind the last of them.
+/// The keys (zone and event) of lines. Those that ascend are in a list, until one comes that is not
+/// after the last of them; then they are moved to the set.
 #[derive(Drop)]
 pub struct Spoken {
     pub last: Option<Seat>,
@@ -28,7 +29,7 @@ fn seat_said(line: &Line) -> Seat
     }
 }
 
-/// Whether a seat is behind the last one.
+/// Whether `seat` comes after `last`, or there is no last one.
 fn is_behind(last: &Option<Seat>, seat: &Seat) -> bool
     ensures { result ≡ is_behind last.now seat.now }
 {
@@ -38,7 +39,7 @@ fn is_behind(last: &Option<Seat>, seat: &Seat) -> bool
     }
 }
 
-/// The seats that rose come among the others.
+/// Moves the ascending keys to the set.
 fn settle(rising: &mut Vec<Seat>, others: &mut Seats) -> Result<(), Oom>
     ensures none { OnOk result (rising.new.items ≡ []) }
     ensures all { OnOk result (Joins rising.old.items others.old.keys others.new.keys) }
@@ -48,7 +49,7 @@ fn settle(rising: &mut Vec<Seat>, others: &mut Seats) -> Result<(), Oom>
     Ok(())
 }
 
-/// The seats come among the others.
+/// Adds keys to the set.
 fn join(seats: &[Seat], others: &mut Seats) -> Result<(), Oom>
     ensures { OnOk result (Joins seats.now others.old.keys others.new.keys) }
 {
@@ -58,7 +59,7 @@ fn join(seats: &[Seat], others: &mut Seats) -> Result<(), Oom>
     Ok(())
 }
 
-/// Adds the seat of a line that counts behind the others.
+/// Appends the key of a line to the ascending ones if `counts`.
 fn rise(
     last: &mut Option<Seat>,
     rising: &mut Vec<Seat>,
@@ -87,7 +88,7 @@ impl Spoken {
         }
     }
 
-    /// What `speak` does with a line whose seat is behind those that rose.
+    /// `speak` for a key that is after the last of the ascending ones.
     fn speak_behind(&mut self, counts: bool, line: &Line) -> Result<bool, Oom>
         requires free { IsFree self.old.last self.old.rising.items }
         requires behind { is_behind self.old.last (seat_said line.now) ≡ true }
@@ -100,7 +101,7 @@ impl Spoken {
         Ok(second)
     }
 
-    /// What `speak` does with any other line: the seats that rose come among the others first.
+    /// `speak` for any other key: the ascending ones are moved to the set first.
     fn speak_among(&mut self, counts: bool, line: &Line) -> Result<bool, Oom>
         ensures second { IfOk result (λ second. second ≡ has_seat (seats_of self.old.rising.items self.old.others.keys) (seat_said line.now)) }
         ensures said { OnOk result (Says (seats_of self.old.rising.items self.old.others.keys) (seats_of self.new.rising.items self.new.others.keys) counts line.now) }
@@ -112,7 +113,7 @@ impl Spoken {
         Ok(second)
     }
 
-    /// Returns whether a line's seat is among these, and adds it where the line counts.
+    /// Returns whether the key of a line is there, and adds it if `counts`.
     pub fn speak(&mut self, counts: bool, line: &Line) -> Result<bool, Oom>
         requires { IsFree self.old.last self.old.rising.items }
         ensures second { IfOk result (λ second. second ≡ has_seat (seats_of self.old.rising.items self.old.others.keys) (seat_said line.now)) }

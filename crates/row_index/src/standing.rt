@@ -1,4 +1,5 @@
-//! How many rows of an event that no line has ended have each period, in the order in which what is asked of them stands together.
+//! Counts of an event's unended rows by period, in an order in which each question about them is
+//! one range.
 ghost use Rattle.std.specs.Prelude.{◌≡◌, ◌≤◌, ◌&&◌, ◌-◌, OnOk};
 ghost use Rattle.std.specs.List.{list_any};
 ghost use Rattle.std.specs.Map.{keys_of};
@@ -11,17 +12,17 @@ use event_life::{Life, ends_after};
 use hazard_types::{End, Minute, Oom, Period};
 use std::collections::BTreeMap;
 
-/// A period of rows. Periods are in order by end, then begin.
+/// A period of rows. Ordered by end, then begin.
 #[derive(Clone, Copy, PartialEq, Eq, PartialOrd, Ord)]
 pub struct Standing {
     pub end: End,
     pub begin: Minute,
 }
 
-/// How many rows of an event that no line has ended have each period. A period that none of them has is not there.
+/// How many unended rows of an event have each period. No count is 0.
 pub type Standings = BTreeMap<Standing, usize>;
 
-/// What the lives of zones had come to, or that these had none, and how many zones they are.
+/// A life that zones had before, or `None` if they had none, and the count of these zones.
 #[derive(Clone, Copy)]
 pub struct Before {
     pub life: Option<Life>,
@@ -38,7 +39,7 @@ fn standing_of(life: &Life) -> Standing
     }
 }
 
-/// The minute so many before this one, or the first of all.
+/// Returns the minute `count` minutes before `t`, or the first of all.
 pub fn minutes_before(t: Minute, count: u32) -> Minute
     ensures { result ≡ t - count }
 {
@@ -48,14 +49,14 @@ pub fn minutes_before(t: Minute, count: u32) -> Minute
     }
 }
 
-/// Whether a row stands with this period or one behind it.
+/// Whether an unended row has the period `from` or one after it.
 fn any_from(standings: &Standings, from: Standing) -> bool
     ensures { result ≡ list_any (lies_from from) (keys_of standings.now.entries) }
 {
     standings.range(from..).next().is_some()
 }
 
-/// Whether a row stands whose end is at most half an hour past.
+/// Whether an unended row has an end that is at most half an hour before `t`, or later.
 pub fn is_open_among(standings: &Standings, t: Minute) -> bool
     ensures { result ≡ list_any (lies_from (open_from t)) (keys_of standings.now.entries) }
 {
@@ -65,7 +66,7 @@ pub fn is_open_among(standings: &Standings, t: Minute) -> bool
     any_from(standings, from)
 }
 
-/// Whether a row stands with the end of a period, and with a begin from one minute to another.
+/// Whether an unended row has the end of `period`, and a begin from `first` to `last`.
 fn any_with(standings: &Standings, period: &Period, first: Minute, last: Minute) -> bool
     requires { first ≤ last }
     ensures { result ≡ list_any (lies (period_at period.now.end first) (period_at period.now.end last)) (keys_of standings.now.entries) }
@@ -81,7 +82,7 @@ fn any_with(standings: &Standings, period: &Period, first: Minute, last: Minute)
     any_between(standings, from, to)
 }
 
-/// Whether a live row has this period.
+/// Whether a row that is live at `t` has this period. Begins at `t` or before count as equal.
 pub fn has_same_among(standings: &Standings, t: Minute, period: &Period) -> bool
     ensures { result ≡ (ends_after period.now.end t && list_any (lies (same_from t period.now) (same_to t period.now)) (keys_of standings.now.entries)) }
 {
@@ -95,7 +96,7 @@ pub fn has_same_among(standings: &Standings, t: Minute, period: &Period) -> bool
     }
 }
 
-/// How many rows stand with a period.
+/// Returns how many unended rows have a period.
 fn count_at(standings: &Standings, period: &Standing) -> usize
     ensures { result ≡ count_at standings.now.entries period.now }
 {
@@ -105,7 +106,7 @@ fn count_at(standings: &Standings, period: &Standing) -> usize
     }
 }
 
-/// Sets the count at a key, which is taken out where it is nought.
+/// Sets the count at a key, which is removed at 0.
 fn set_count<K: Ord + Drop>(
     counts: &mut BTreeMap<K, usize>,
     key: K,
@@ -121,7 +122,7 @@ fn set_count<K: Ord + Drop>(
     Ok(())
 }
 
-/// So many rows with the life stand no more, if there is one and no line had ended it.
+/// Subtracts rows from the count of their period, if they had a life that was not ended.
 fn stand_less(standings: &mut Standings, before: &Before) -> Result<(), Oom>
     ensures { OnOk result (standings.new.entries ≡ some_less before.now standings.old.entries) }
 {
@@ -140,7 +141,7 @@ fn stand_less(standings: &mut Standings, before: &Before) -> Result<(), Oom>
     set_count(standings, period, count)
 }
 
-/// So many rows with the lives stand no more.
+/// Subtracts rows with several lives from the counts of their periods.
 fn stand_all_less(standings: &mut Standings, befores: &[Before]) -> Result<(), Oom>
     ensures { OnOk result (standings.new.entries ≡ all_less befores.now standings.old.entries) }
 {
@@ -150,7 +151,7 @@ fn stand_all_less(standings: &mut Standings, befores: &[Before]) -> Result<(), O
     Ok(())
 }
 
-/// So many rows with the life stand, unless a line has ended it.
+/// Adds `zones` rows to the count of the period of `life`, unless it is ended.
 fn stand_more(standings: &mut Standings, zones: usize, life: &Life) -> Result<(), Oom>
     ensures { OnOk result (standings.new.entries ≡ some_more zones life.now standings.old.entries) }
 {
@@ -168,7 +169,7 @@ fn stand_more(standings: &mut Standings, zones: usize, life: &Life) -> Result<()
     set_count(standings, period, count)
 }
 
-/// Whether all of so many zones had one life, which stands as this one does.
+/// Whether all `zones` had one life, neither that nor `life` is ended, and both have one period.
 fn all_stay(befores: &[Before], zones: usize, life: &Life) -> bool
     ensures { result ≡ all_stay befores.now zones life.now }
 {
@@ -178,7 +179,8 @@ fn all_stay(befores: &[Before], zones: usize, life: &Life) -> bool
     }
 }
 
-/// So many zones have come to a life, unless a line has ended that, from those that they had.
+/// Replaces the rows of zones in the counts: those with the lives of `befores` by `zones` rows with
+/// `life`. An ended row is not counted.
 pub fn restand(
     standings: &mut Standings,
     befores: &[Before],

@@ -1,4 +1,4 @@
-//! What lines say in each of some zones, and what they found there.
+//! Lines for several zones at once (`Part`), and what was found of them in these zones (`Run`).
 
 ghost use Rattle.std.specs.Prelude.{◌≡◌, ◌++◌, ◌∷◌, [], IfOk, OnOk};
 ghost use Rattle.std.specs.List.{list_any};
@@ -10,24 +10,27 @@ use event_life::{Breach, Life, is_routine};
 use hazard_types::{Line, List, Minute, Oom, Zone};
 use std::alloc::Global;
 
-/// What lines say in each of some zones. The zone that a line has here counts for nothing.
+/// Zones, and the lines that a product has for each of them: those of one segment. The `zone` of a
+/// line here is not read.
 #[derive(Drop)]
 pub struct Part<'a> {
     pub zones: &'a [Zone],
     pub lines: List<Line>,
 }
 
-/// A line in some zones: the life of its event that it found in each of them, if there was one, and
-/// its first breach there.
+/// A line judged in several zones: the life that it found in each of them, and its first breach
+/// there.
 #[derive(Clone, Copy)]
 pub struct Verdict {
     pub line: Line,
+    /// The life of its event just before the product, or `None` if there is no row.
     pub found: Option<Life>,
+    /// `None` if the line is lawful or routine.
     pub breach: Option<Breach>,
 }
 
 impl Verdict {
-    /// Whether the line is lawful and touches lives.
+    /// Whether the line is lawful and not routine.
     pub fn is_lawful(&self) -> bool
         ensures { result ≡ is_lawful self.now }
     {
@@ -35,14 +38,15 @@ impl Verdict {
     }
 }
 
-/// Whether a verdict is a breach.
+/// Whether one of the verdicts is a breach.
 fn any_breach(verdicts: &[Verdict]) -> bool
     ensures { result ≡ list_any is_breach verdicts.now }
 {
     verdicts.iter().any(|verdict| verdict.breach.is_some())
 }
 
-/// Zones in each of which these lines, one after another, found the same.
+/// Zones in each of which the same lines, in order, found the same lives and have the same
+/// breaches.
 #[derive(Drop)]
 pub struct Run {
     pub zones: List<Zone>,
@@ -50,7 +54,12 @@ pub struct Run {
 }
 
 impl Run {
-    /// All the zones of a part, of which no line is judged yet, with room for so many.
+    /// Returns a run of all the zones of a part without a verdict, with capacity for `room`
+    /// verdicts.
+    ///
+    /// # Errors
+    ///
+    /// Out of memory.
     pub fn whole(alloc: Global, zones: &[Zone], room: usize) -> Result<Run, Oom>
         ensures zones { IfOk result (λ run. run.zones ≡ zones.now) }
         ensures verdicts { IfOk result (λ run. run.verdicts ≡ []) }
@@ -61,7 +70,11 @@ impl Run {
         })
     }
 
-    /// Some zones with one verdict more.
+    /// Returns a run of `zones` with `verdicts` and `verdict` after them.
+    ///
+    /// # Errors
+    ///
+    /// Out of memory.
     pub fn part(
         alloc: Global,
         zones: &[Zone],
@@ -80,7 +93,7 @@ impl Run {
         })
     }
 
-    /// Whether a line is in breach.
+    /// Whether one of the lines is in breach. `false` for a run without zones.
     pub fn has_breach(&self) -> bool
         ensures { result ≡ has_breach self.now }
     {
@@ -90,7 +103,7 @@ impl Run {
         }
     }
 
-    /// Adds the lines of a zone.
+    /// Adds the lines of the run in one zone to `out`.
     fn put_zone(&self, zone: &Zone, out: &mut Vec<(Line, Option<Breach>)>) -> Result<(), Oom>
         ensures { OnOk result (out.new.items ≡ out.old.items ++ spelled_at self.now.verdicts zone.now) }
     {
@@ -100,7 +113,11 @@ impl Run {
         Ok(())
     }
 
-    /// Adds the lines of the run, in the order of the text.
+    /// Adds the lines of the run to `out`, zone by zone, in the order of the text.
+    ///
+    /// # Errors
+    ///
+    /// Out of memory.
     pub fn put_spelled(&self, out: &mut Vec<(Line, Option<Breach>)>) -> Result<(), Oom>
         ensures { OnOk result (out.new.items ≡ out.old.items ++ spelled_run self.now) }
     {
@@ -111,7 +128,12 @@ impl Run {
     }
 }
 
-/// The lines of runs, in the order of the text, each with its breach, or None where it is lawful.
+/// Returns the lines of runs zone by zone, in the order of the text, each with its first breach, or
+/// `None` if it is lawful or routine.
+///
+/// # Errors
+///
+/// Out of memory.
 pub fn spelled(alloc: Global, runs: &[Run]) -> Result<List<(Line, Option<Breach>)>, Oom>
     ensures { IfOk result (λ judged. judged ≡ spelled runs.now) }
 {
@@ -122,7 +144,7 @@ pub fn spelled(alloc: Global, runs: &[Run]) -> Result<List<(Line, Option<Breach>
     Ok(List::from_vec(out))
 }
 
-/// Adds what the lines of a part say in a zone.
+/// Adds the lines of a part in one zone to `out`.
 fn put_said(part: &Part<'_>, zone: &Zone, out: &mut Vec<Line>) -> Result<(), Oom>
     ensures { OnOk result (out.new.items ≡ out.old.items ++ said_at part.now.lines zone.now) }
 {
@@ -132,7 +154,7 @@ fn put_said(part: &Part<'_>, zone: &Zone, out: &mut Vec<Line>) -> Result<(), Oom
     Ok(())
 }
 
-/// Adds what the lines of a part say in each of its zones.
+/// Adds the lines of a part in each of its zones to `out`, zone by zone.
 fn put_part(part: &Part<'_>, out: &mut Vec<Line>) -> Result<(), Oom>
     ensures { OnOk result (out.new.items ≡ out.old.items ++ said_in part.now) }
 {
@@ -142,7 +164,7 @@ fn put_part(part: &Part<'_>, out: &mut Vec<Line>) -> Result<(), Oom>
     Ok(())
 }
 
-/// What the lines of parts say in each zone, in the order of the text.
+/// Returns the lines of parts in each of their zones, in the order of the text.
 pub fn lines_in(alloc: Global, parts: &[Part<'_>]) -> Result<List<Line>, Oom>
     ensures { IfOk result (λ lines. lines ≡ lines_in parts.now) }
 {
@@ -153,7 +175,7 @@ pub fn lines_in(alloc: Global, parts: &[Part<'_>]) -> Result<List<Line>, Oom>
     Ok(List::from_vec(out))
 }
 
-/// The life that a lawful line leaves of the one that it found.
+/// Returns the life that a lawful line leaves, given the one that it found.
 pub fn life_left(verdict: &Verdict, t: Minute) -> Life
     ensures { result ≡ left_by t verdict.now }
 {

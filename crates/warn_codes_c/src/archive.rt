@@ -6,15 +6,16 @@ use product_decoder::{Feed, Reader};
 use product_frame::read_frame;
 use std::alloc::Global;
 
-/// What the products of a stream come to so far. Where memory ran out, the rest of the stream is not taken.
+/// What the products of a stream come to so far. After an `Oom` the rest of the stream must not be
+/// taken.
 #[derive(Drop)]
 pub struct Archive {
     pub feed: Feed,
-    /// The reader of those without a fault.
+    /// The reader of the products without a fault.
     pub reader: Reader,
-    /// Their numbers among all, which count from 1.
+    /// The 1-based number of each of these among all products.
     pub numbers: List<u32>,
-    /// How many products there were.
+    /// How many products came, those with a fault among them.
     pub count: u32,
     pub ghost few: { length reader.products ≤ count },
 }
@@ -24,7 +25,7 @@ impl Archive {
     ghost use Rattle.product_decoder.specs.Decoded.{decode};
     ghost use Rattle.warn_codes_c.specs.Archive.{Adds, Same, Pushed, Ended, Finished, readings_of, products_of, numbers_from};
 
-    /// Nothing is taken yet.
+    /// Returns an archive that has taken nothing.
     pub fn new(alloc: Global, office: [u8; 4], class: Class) -> Self
         ensures office { result.reader.office ≡ office }
         ensures class { result.reader.class ≡ class }
@@ -42,7 +43,7 @@ impl Archive {
         }
     }
 
-    /// Takes the text of a product. A product beyond 4,294,967,295 finds no room.
+    /// Takes the text of a product. After 4,294,967,295 products it is out of memory.
     fn take_text(&mut self, alloc: Global, text: &[u8]) -> Result<(), Oom>
         ensures adds { OnOk result (Adds self.old (decode text.now) self.new) }
         ensures feed { self.new.feed ≡ self.old.feed }
@@ -61,7 +62,7 @@ impl Archive {
         }
     }
 
-    /// Takes the next product that came out of the stream. Returns whether there was one.
+    /// Takes the next product of the feed, and returns whether there is one.
     #[tactic(auto, using(crate::proofs::Taking::same_next, crate::proofs::Taking::same_end, crate::proofs::Taking::nothing_left))]
     fn take_next(&mut self, alloc: Global) -> Result<bool, Oom>
         ensures same { OnOk result (Same self.old self.new) }
@@ -77,7 +78,7 @@ impl Archive {
         }
     }
 
-    /// Takes each product that came out of the stream.
+    /// Takes each product that the feed has.
     #[tactic(auto, using(crate::proofs::Taking::same_none, crate::proofs::Taking::same_after, crate::proofs::Taking::smaller))]
     fn take_each(&mut self, alloc: Global) -> Result<(), Oom>
         ensures same { OnOk result (Same self.old self.new) }
@@ -90,7 +91,7 @@ impl Archive {
         Ok(())
     }
 
-    /// Takes a piece of the stream, and the products that it finishes.
+    /// Takes a piece of the stream, and the products that it ends.
     #[tactic(auto, using(crate::proofs::Taking::pushed))]
     pub fn push(&mut self, alloc: Global, piece: &[u8]) -> Result<(), Oom>
         requires { self.old.feed.ended ≡ false }
@@ -100,7 +101,7 @@ impl Archive {
         self.take_each(alloc)
     }
 
-    /// Takes what is left at the stream's end.
+    /// Takes what is left at the end of the stream.
     #[tactic(auto, using(crate::proofs::Taking::ended))]
     pub fn end(&mut self, alloc: Global) -> Result<(), Oom>
         ensures { OnOk result (Ended self.old self.new) }
@@ -109,7 +110,7 @@ impl Archive {
         self.take_each(alloc)
     }
 
-    /// Takes what is left at the stream's end. What is taken next begins another stream.
+    /// Takes what is left at the end of the stream. The next piece starts another stream.
     #[tactic(auto, using(crate::proofs::Taking::finished))]
     pub fn finish(&mut self, alloc: Global) -> Result<(), Oom>
         ensures { OnOk result (Finished self.old self.new) }
@@ -124,7 +125,7 @@ impl Archive {
     ghost use Rattle.std.specs.Prelude.{◌≡◌, IfOk};
     ghost use Rattle.warn_codes_c.specs.Archive.{readings_of, products_of, numbers_from};
 
-    /// The products of a whole stream.
+    /// Returns the products of a whole stream.
     #[tactic(auto, using(crate::proofs::Taking::whole_products, crate::proofs::Taking::whole_numbers))]
     pub fn of(alloc: Global, office: [u8; 4], class: Class, stream: &[u8]) -> Result<Self, Oom>
         ensures products { IfOk result (λ a. a.reader.products ≡ products_of office class (readings_of stream.now)) }

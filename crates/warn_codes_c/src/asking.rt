@@ -1,4 +1,4 @@
-//! What is asked of the products of a stream.
+//! Questions about the products of a stream.
 ghost use Rattle.std.specs.Prelude.{◌≡◌, ◌++◌, IfOk, OnOk, Some};
 ghost use Rattle.warn_codes_c.specs.Asking.{question_of, rows_for, life_rows, breach_rows, gap_rows, shown_rows, all_rows, answer, Answers};
 
@@ -9,14 +9,17 @@ use crate::status::{BAD_ARGUMENT, NO_MEMORY, OK, TOO_SMALL};
 use hazard_types::{Class, List, Minute, Oom, is_office};
 use std::alloc::Global;
 
-/// What is asked, and of whose products: 1 is the lives of events, 2 the lines in breach, 3 the gaps in their numbers, 4 the rows that are
-/// shown at a minute, 5 all of these one after another.
+/// A question about the lines of an office and class.
 #[repr(C)]
 #[derive(Clone, Copy)]
 pub struct AskedFields {
+    /// 1 is the lives of events, 2 the lines in breach, 3 the gaps in their numbers, 4 the rows
+    /// that are live at `minute`, 5 all of these one after another.
     pub question: u32,
+    /// Minutes since 2000-01-01T00:00Z UTC; it counts for the questions 4 and 5 alone.
     pub minute: u32,
     pub office: [u8; 4],
+    /// The letter O, T, E or X.
     pub class: u8,
 }
 
@@ -29,7 +32,7 @@ pub enum Question {
     All(Minute),
 }
 
-/// The question of a number; the minute counts where rows that are shown are asked for.
+/// Returns the question of a number, if there is one. The minute counts for 4 and 5 alone.
 pub fn question_of(number: u32, minute: u32) -> Option<Question>
     ensures { result ≡ question_of number minute }
 {
@@ -82,7 +85,7 @@ fn put_shown_at(
     put_shown(rows, shown.as_slice())
 }
 
-/// Adds the answers to all questions.
+/// Adds the rows that answer all questions.
 fn put_all(
     alloc: Global,
     rows: &mut List<RowFields>,
@@ -115,7 +118,7 @@ fn put_rows(
     }
 }
 
-/// The rows that answer a question.
+/// Returns the rows that answer a question.
 pub fn rows_for(
     alloc: Global,
     archive: &Archive,
@@ -128,7 +131,8 @@ pub fn rows_for(
     Ok(rows)
 }
 
-/// Writes rows at the front of a buffer, if it has room for all of them, and their count.
+/// Writes the count of the rows to `needed`, and the rows to `out` if it has room for all of them.
+/// Returns the status.
 pub fn tell_rows(rows: &[RowFields], out: &mut [RowFields], needed: &mut usize) -> u32
     ensures { Answers (Some rows.now) result out.old out.new needed.old needed.new }
 {
@@ -136,7 +140,10 @@ pub fn tell_rows(rows: &[RowFields], out: &mut [RowFields], needed: &mut usize) 
     if hand_out(rows, out) { OK } else { TOO_SMALL }
 }
 
-/// Reads the products of a stream, and answers a question about those of an office and class.
+/// Reads the products of a whole stream, and writes the rows that answer a question to `rows`, and
+/// their count to `needed`. Returns `OK`; `TOO_SMALL` if `rows` has no room for all, and then only
+/// `needed` is written; `BAD_ARGUMENT` if office, class, question or minute is none, or
+/// `NO_MEMORY`, and then nothing is written.
 #[unsafe(no_mangle)]
 pub extern "C" fn warn_codes_c_ask(
     alloc: Global,

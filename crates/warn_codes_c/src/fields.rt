@@ -4,12 +4,16 @@ ghost use Rattle.warn_codes_c.specs.Fields.{time_number, vtec_fields, flood_fiel
 
 use hazard_types::{Flood, Minute, Vtec, Zone};
 
-/// The values of a P-VTEC text. A time is in minutes since 2000-01-01T00:00Z; 4,294,967,295 stands for zeros.
+/// The values of a P-VTEC text. A time is in minutes since 2000-01-01T00:00Z UTC, and 4,294,967,295
+/// for zeros.
+///
+/// Source: NWS Instruction 10-1703, P-VTEC.
 #[repr(C)]
 #[derive(Clone, Copy)]
 pub struct VtecFields {
     pub begin: u32,
     pub end: u32,
+    /// The event tracking number, 0 to 9999.
     pub number: u16,
     pub phenomenon: [u8; 2],
     pub office: [u8; 4],
@@ -18,29 +22,36 @@ pub struct VtecFields {
     pub significance: u8,
 }
 
-/// The values of an H-VTEC text. Times are as in a P-VTEC text.
+/// The values of an H-VTEC text. Times are as in `VtecFields`.
+///
+/// Source: NWS Instruction 10-1703, H-VTEC.
 #[repr(C)]
 #[derive(Clone, Copy)]
 pub struct FloodFields {
     pub begin: u32,
     pub crest: u32,
     pub end: u32,
+    /// The NWS location identifier.
     pub location: [u8; 5],
     pub severity: u8,
+    /// The immediate cause.
     pub cause: [u8; 2],
     pub record_status: [u8; 2],
 }
 
 /// A county (kind `C`) or a public zone (kind `Z`) of a state.
+///
+/// Source: NWS Instruction 10-1702, UGC.
 #[repr(C)]
 #[derive(Clone, Copy)]
 pub struct ZoneFields {
+    /// 1 to 999.
     pub number: u16,
     pub state: [u8; 2],
     pub kind: u8,
 }
 
-/// The number of a time.
+/// Returns the number of a time: its minute, or 4,294,967,295 for zeros.
 pub fn time_number(time: &Option<Minute>) -> u32
     ensures { result ≡ time_number time.now }
 {
@@ -50,7 +61,7 @@ pub fn time_number(time: &Option<Minute>) -> u32
     }
 }
 
-/// The fields of a P-VTEC text's values.
+/// Returns the fields of P-VTEC values.
 pub fn vtec_fields(v: &Vtec) -> VtecFields
     ensures { result ≡ vtec_fields v.now }
 {
@@ -67,7 +78,7 @@ pub fn vtec_fields(v: &Vtec) -> VtecFields
     }
 }
 
-/// The fields of an H-VTEC text's values.
+/// Returns the fields of H-VTEC values.
 pub fn flood_fields(h: &Flood) -> FloodFields
     ensures { result ≡ flood_fields h.now }
 {
@@ -83,7 +94,7 @@ pub fn flood_fields(h: &Flood) -> FloodFields
     }
 }
 
-/// The fields of a zone.
+/// Returns the fields of a zone.
 pub fn zone_fields(zone: &Zone) -> ZoneFields
     ensures { result ≡ zone_fields zone.now }
 {

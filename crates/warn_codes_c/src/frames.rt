@@ -1,4 +1,4 @@
-//! Frames of products.
+//! Reads frames of products.
 ghost use Rattle.std.specs.Prelude.{◌≡◌, ◌++◌, map, flat_map, Ok, Err, IfOk, OnOk};
 ghost use Rattle.product_frame.specs.Frames.{frame_of};
 ghost use Rattle.product_frame.specs.Frame.{FrameOf};
@@ -16,46 +16,58 @@ use hazard_types::{Flood, List, Oom, Or};
 use product_frame::{Frame, FrameFault, FrameSegment, Pair, read_frame};
 use std::alloc::Global;
 
-/// What a product says in its heading and above its segments, and how many segments, zones and P-VTEC lines it has in all. Where it has no
-/// frame, the line of the fault, counted from the heading as line 1, or 0. Bytes behind the identifier, and those of no BBB, are 0.
+/// What a product says before its segments, and how many segments, zones and P-VTEC lines it has in
+/// all; or where its first fault is, and all other fields are then 0.
+///
+/// Source: NWS Instruction 10-1701, segmented products.
 #[repr(C)]
 #[derive(Clone, Copy)]
 pub struct FrameFields {
     pub segments: usize,
     pub zones: usize,
     pub lines: usize,
+    /// The 1-based line of the fault, counted from the heading line; 0 without a fault, or if it is
+    /// of no line.
     pub fault_line: usize,
+    /// Minutes since 2000-01-01T00:00Z UTC.
     pub issue: u32,
+    /// The TTAAii of the heading.
     pub heading: [u8; 6],
+    /// Filled up with zeros; zeros alone if it has more than six characters.
     pub identifier: [u8; 6],
+    /// The CCCC of the heading.
     pub office: [u8; 4],
+    /// The BBB of the heading; zeros if there is none.
     pub bbb: [u8; 3],
+    /// The day of the month in the heading, with hour and minute in UTC.
     pub day: u8,
     pub hour: u8,
     pub minute: u8,
 }
 
-/// How many zones and P-VTEC lines a segment has, and the day, hour and minute (UTC) at which it expires.
+/// How many zones and P-VTEC lines a segment has, and when it expires.
 #[repr(C)]
 #[derive(Clone, Copy)]
 pub struct SegmentFields {
     pub zones: usize,
     pub lines: usize,
+    /// The day of the month on which it expires, with hour and minute in UTC.
     pub day: u8,
     pub hour: u8,
     pub minute: u8,
 }
 
-/// A P-VTEC line, and the H-VTEC line behind it if `has_flood` is 1.
+/// A P-VTEC line, with the values of the H-VTEC line after it.
 #[repr(C)]
 #[derive(Clone, Copy)]
 pub struct LineFields {
     pub vtec: VtecFields,
     pub flood: FloodFields,
+    /// 1 if there is an H-VTEC line; otherwise `flood` is zeros.
     pub has_flood: u8,
 }
 
-/// The rows of a frame's segments, and of their zones and lines one segment after another.
+/// The rows of a frame: its segments, and their zones and lines, one segment after another.
 #[derive(Drop)]
 struct FrameRows {
     segments: List<SegmentFields>,
@@ -63,7 +75,7 @@ struct FrameRows {
     lines: List<LineFields>,
 }
 
-/// At most six bytes, and zeros behind them; zeros alone where there are more.
+/// Returns the bytes with zeros after them, or zeros alone if there are more than six.
 fn six_of(text: &[u8]) -> [u8; 6]
     ensures { result ≡ six_of text.now }
 {
@@ -74,7 +86,7 @@ fn six_of(text: &[u8]) -> [u8; 6]
     six
 }
 
-/// The letters of a BBB group, or zeros.
+/// Returns the letters of a BBB group, or zeros.
 fn bbb_of(bbb: &Option<[u8; 3]>) -> [u8; 3]
     ensures { result ≡ bbb_of bbb.now }
 {
@@ -84,7 +96,7 @@ fn bbb_of(bbb: &Option<[u8; 3]>) -> [u8; 3]
     }
 }
 
-/// The fields of H-VTEC values, or zeros.
+/// Returns the fields of H-VTEC values, or zeros.
 pub fn flood_or_none(flood: &Option<Flood>) -> FloodFields
     ensures { result ≡ flood_or_none flood.now }
 {
@@ -160,7 +172,7 @@ fn put_all_lines(rows: &mut List<LineFields>, segments: &[FrameSegment]) -> Resu
     Ok(())
 }
 
-/// The rows of a frame.
+/// Returns the rows of a frame.
 fn rows_of(alloc: Global, frame: &Frame) -> Result<FrameRows, Oom>
     ensures { IfOk result (λ rows. rows ≡ rows_of frame.now) }
 {
@@ -177,7 +189,7 @@ fn rows_of(alloc: Global, frame: &Frame) -> Result<FrameRows, Oom>
     })
 }
 
-/// The fields of a frame with these rows.
+/// Returns the fields of a frame with these rows.
 fn frame_fields(frame: &Frame, rows: &FrameRows) -> FrameFields
     ensures { result ≡ frame_fields frame.now rows.now }
 {
@@ -199,7 +211,7 @@ fn frame_fields(frame: &Frame, rows: &FrameRows) -> FrameFields
     }
 }
 
-/// The status of a fault, and its line.
+/// Returns the status of a fault, and its line, or 0 if it has none.
 pub fn frame_fault(fault: FrameFault) -> (u32, usize)
     ensures { result ≡ frame_fault fault }
 {
@@ -214,7 +226,7 @@ pub fn frame_fault(fault: FrameFault) -> (u32, usize)
     }
 }
 
-/// The fields of a fault on a line.
+/// Returns the fields of a fault on a line.
 fn fault_fields(fault_line: usize) -> FrameFields
     ensures { result ≡ fault_fields fault_line }
 {
@@ -234,7 +246,7 @@ fn fault_fields(fault_line: usize) -> FrameFields
     }
 }
 
-/// Writes the rows at the front of each buffer, if all have room. Returns whether they have.
+/// Writes the rows to the start of each buffer, if all have room, and returns whether they have.
 fn hand_out_rows(
     rows: &FrameRows,
     segments: &mut [SegmentFields],
@@ -257,7 +269,8 @@ fn hand_out_rows(
     fit
 }
 
-/// Tells what was read: the rows into the buffers, if each has room for its own, and the fields.
+/// Writes what was read, the fields to `out` and the rows to the buffers if each has room for its
+/// own, and returns the status.
 fn tell_frame(
     alloc: Global,
     answer: Result<Frame, Or<FrameFault>>,
@@ -288,7 +301,13 @@ fn tell_frame(
     }
 }
 
-/// Reads the frame of the first product of a text.
+/// Reads the frame of the first product of a text, and writes its fields to `out` and its segments,
+/// zones and lines, one segment after another, to the buffers. Returns `OK`; `TOO_SMALL` if a
+/// buffer has no room for all of its rows, with their counts in `out`; 20 to 26 for the first
+/// fault, in the order of `FrameFault`, with its line in `out`; or `NO_MEMORY`, and then nothing is
+/// written.
+///
+/// Source: NWS Instruction 10-1701, segmented products.
 #[unsafe(no_mangle)]
 pub extern "C" fn warn_codes_c_read_frame(
     alloc: Global,
@@ -298,7 +317,8 @@ pub extern "C" fn warn_codes_c_read_frame(
     lines: &mut [LineFields],
     out: &mut FrameFields,
 ) -> u32
-    // What has a frame is told, and so is the first fault of what has none, unless memory runs out.
+    // If the text has a frame it is read, and the first fault of one that has none is reported,
+    // unless memory runs out.
     ensures only { (f : FrameValue) → FrameOf text.now f → ReadsFrame (Ok f) result segments.old segments.new zones.old zones.new lines.old lines.new out.old out.new }
     ensures fault_only { (x : FaultValue) → FrameFaultOf text.now x → ReadsFrame (Err x) result segments.old segments.new zones.old zones.new lines.old lines.new out.old out.new }
     // The same as one function of the bytes.

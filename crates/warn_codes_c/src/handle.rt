@@ -1,4 +1,4 @@
-//! The products of a stream, behind a pointer that C may keep.
+//! The products of a stream behind a pointer that C may keep.
 ghost use Rattle.std.specs.Prelude.{◌≡◌, Option, Some, None, IsSome, IsTrue};
 ghost use Rattle.std.specs.contracts.impls.GlobalAllocator.TheImpl.{ghosts};
 ghost use Rattle.warn_codes_c.specs.Kept.{kept, is_known};
@@ -11,7 +11,7 @@ use std::alloc::Global;
 use std::marker::Model;
 use std::ptr::null_mut;
 
-/// A pointer to the products that it owns, without their type; or null, which owns nothing.
+/// A pointer, without its type, to the products that it owns; or null, which owns nothing.
 #[repr(C)]
 #[derive(Drop)]
 pub struct Handle {
@@ -25,6 +25,7 @@ impl Model for Handle {
 }
 
 impl Handle {
+    /// Returns a handle that owns what the box owned.
     pub fn of(loose: Loose<Archive, Global>) -> Handle
         ensures { result.value ≡ Some loose.value }
     {
@@ -35,6 +36,7 @@ impl Handle {
         }
     }
 
+    /// Returns what a handle owns, which must be something, as a box taken apart.
     pub fn into_loose(self) -> Loose<Archive, Global>
         requires { IsSome self.value }
         ensures { Some result.value ≡ self.value }
@@ -46,7 +48,7 @@ impl Handle {
         }
     }
 
-    /// A handle of nothing.
+    /// Returns a handle that owns nothing.
     pub fn closed(alloc: Global) -> Handle
         ensures { result.value ≡ None }
     {
@@ -57,11 +59,15 @@ impl Handle {
     }
 }
 
-/// A reader, open where `is_open` is 1; zeros are a closed one. C changes nothing in it but by these calls, and makes no copy.
+/// A reader of a stream of products; zeros are a closed one. C changes it by calls alone, and does
+/// not go on with a copy.
+///
+/// Source: docs/DECISIONS.md, "The library for C".
 #[repr(C)]
 #[derive(Drop)]
 pub struct ReaderFields {
     pub handle: Handle,
+    /// 1 if the reader is open.
     pub is_open: u32,
     ghost known: { IsTrue (is_known is_open handle.value) },
 }

@@ -1,5 +1,8 @@
-//! The codes of NWS products for callers in C and in languages that call C: P-VTEC, H-VTEC and UGC texts, frames of
-//! products, and the lives, breaches and gaps of a stream of products.
+//! The codes of NWS products for callers in C and in languages that call C: P-VTEC, H-VTEC and UGC
+//! texts, frames of products, and the lives, breaches and gaps of a stream of products. Begin with
+//! `warn_codes_c_read_vtec`, `warn_codes_c_read_frame` and `warn_codes_c_ask`;
+//! bindings/c/warn_codes.h declares them and says what a caller owes. Each call returns a status of
+//! the module `status`, or that of a fault.
 #![tactic(auto)]
 
 mod archive;

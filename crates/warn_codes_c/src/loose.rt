@@ -1,4 +1,4 @@
-//! A box taken apart.
+//! A box taken apart into its pointer and its allocator.
 ghost use Rattle.std.specs.Prelude.{◌≡◌};
 ghost use Rattle.std.specs.Box.Ownership.{box_owns};
 
@@ -17,6 +17,7 @@ impl<T, A: Allocator> Model for Loose<T, A> {
 }
 
 impl<T, A: Allocator> Loose<T, A> {
+    /// Takes a box apart.
     pub fn of(value: Box<T, A>) -> Loose<T, A>
     where
         T: Drop,
@@ -26,6 +27,7 @@ impl<T, A: Allocator> Loose<T, A> {
         Loose { ptr, alloc }
     }
 
+    /// Puts the box together again.
     pub fn into_box(self) -> Box<T, A>
         ensures { result.value ≡ self.value }
     {

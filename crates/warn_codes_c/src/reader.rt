@@ -35,7 +35,7 @@ fn opened(archive: Box<Archive, Global>) -> ReaderFields
     }
 }
 
-/// What an open reader has taken; the reader is closed.
+/// Returns what an open reader has taken, and closes the reader. `None` if it is closed.
 #[tactic(auto, using(crate::proofs::OpenLemmas::is_some, crate::proofs::OpenLemmas::is_going_on))]
 fn taken_out(alloc: Global, reader: &mut ReaderFields) -> Option<Box<Archive, Global>>
     ensures value { MatchOption result (taken_in reader.old ≡ None) (λ b. taken_in reader.old ≡ Some b.value) }
@@ -49,7 +49,8 @@ fn taken_out(alloc: Global, reader: &mut ReaderFields) -> Option<Box<Archive, Gl
     Some(handle.into_loose().into_box())
 }
 
-/// A new reader of an office and class.
+/// Returns an open reader of an office and class that has taken nothing, or `None` if memory runs
+/// out.
 fn opened_for(alloc: Global, office: [u8; 4], class: Class) -> Option<ReaderFields>
     ensures { IfSome result (λ r. IsSomeAnd (taken_in r) (IsFresh office class)) }
 {
@@ -60,7 +61,9 @@ fn opened_for(alloc: Global, office: [u8; 4], class: Class) -> Option<ReaderFiel
     }
 }
 
-/// Opens a closed reader for the products of an office, of which it follows a class.
+/// Opens a closed reader of the products of an office, of which it follows the lines of a class
+/// (the letter O, T, E or X). Returns `OK`; `BAD_ARGUMENT` if the reader is open, or the class or
+/// the office is none; or `NO_MEMORY`. If it does not return `OK`, the reader is as before.
 #[unsafe(no_mangle)]
 pub extern "C" fn warn_codes_c_open(
     alloc: Global,
@@ -88,7 +91,10 @@ pub extern "C" fn warn_codes_c_open(
     }
 }
 
-/// Takes a piece of a stream of products. Out of memory closes the reader.
+/// Takes a piece of a stream of products, which may end anywhere. Returns `OK`; `BAD_ARGUMENT` if
+/// the reader is closed; or `NO_MEMORY`, and then the reader is closed.
+///
+/// Source: docs/DECISIONS.md, "The library for C".
 #[unsafe(no_mangle)]
 pub extern "C" fn warn_codes_c_take(alloc: Global, reader: &mut ReaderFields, piece: &[u8]) -> u32
     ensures { GoesOn (λ a b. Pushed a piece.now b) (taken_in reader.old) result (taken_in reader.new) }
@@ -103,7 +109,8 @@ pub extern "C" fn warn_codes_c_take(alloc: Global, reader: &mut ReaderFields, pi
     OK
 }
 
-/// Says that the stream has ended; the next piece begins another. Out of memory closes the reader.
+/// Ends the stream and with it its last product; the next piece starts another stream. Returns
+/// `OK`; `BAD_ARGUMENT` if the reader is closed; or `NO_MEMORY`, and then the reader is closed.
 #[unsafe(no_mangle)]
 pub extern "C" fn warn_codes_c_end(alloc: Global, reader: &mut ReaderFields) -> u32
     ensures { GoesOn Finished (taken_in reader.old) result (taken_in reader.new) }
@@ -118,7 +125,11 @@ pub extern "C" fn warn_codes_c_end(alloc: Global, reader: &mut ReaderFields) -> 
     OK
 }
 
-/// Answers a question about the products that have ended.
+/// Writes the rows that answer a question about the products that have ended to `rows`, and their
+/// count to `needed`; `question` and `minute` are those of `AskedFields`. Returns `OK`; `TOO_SMALL`
+/// if `rows` has no room for all, and then only `needed` is written; or `BAD_ARGUMENT` (a closed
+/// reader, no such question or minute) or `NO_MEMORY`, and then nothing is written. The reader is
+/// as before.
 #[unsafe(no_mangle)]
 pub extern "C" fn warn_codes_c_tell(
     alloc: Global,
@@ -145,7 +156,7 @@ pub extern "C" fn warn_codes_c_tell(
     }
 }
 
-/// Closes a reader, and frees what it took.
+/// Closes a reader and frees what it has taken. Returns `OK`, for a closed reader too.
 #[unsafe(no_mangle)]
 pub extern "C" fn warn_codes_c_close(alloc: Global, reader: &mut ReaderFields) -> u32
     ensures status { result ≡ 0 }

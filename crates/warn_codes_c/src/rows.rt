@@ -8,33 +8,41 @@ use event_life::Breach;
 use hazard_types::{Action, End, Event, List, Minute, Oom, Row};
 use product_decoder::{Found, GapFound, Track};
 
-/// An event: its number, the year in which it was opened, and its hazard.
+/// An event.
 #[repr(C)]
 #[derive(Clone, Copy)]
 pub struct EventFields {
     pub number: u16,
+    /// The year in which it was opened.
     pub year: u16,
     pub phenomenon: [u8; 2],
     pub significance: u8,
 }
 
-/// A row of an answer, of the kind of its question's number; what that does not ask for is 0. Of lives (1): a lawful line of an event in a zone, its action and the issue
-/// minute of its product. Of breaches (2): the line's event and zone, the number of its product, and the rule. Of gaps (3): the event whose number
-/// was found, and the number that was wanted. Of rows shown (4): event, zone, begin and end, and H-VTEC values if `has_flood` is 1.
+/// A row of an answer; a field that its kind does not use is 0. A lawful line (1) has event, zone,
+/// action and issue minute; a line in breach (2) has event, zone, product and rule; a gap (3) has
+/// the event with the number that it has, and the number wanted; a live row (4) has event, zone,
+/// period and H-VTEC values. Times are in minutes since 2000-01-01T00:00Z UTC.
 #[repr(C)]
 #[derive(Clone, Copy)]
 pub struct RowFields {
+    /// The 1-based number of the line's product among all, those with a fault among them.
     pub product: u32,
+    /// The issue minute of the line's product.
     pub issue: u32,
     pub begin: u32,
+    /// 4,294,967,295 if it is until further notice.
     pub end: u32,
     pub flood: FloodFields,
     pub event: EventFields,
     pub zone: ZoneFields,
     pub wanted: u16,
     pub action: [u8; 3],
+    /// The rule that the line breaks, 1 to 13, in the order of `Breach`.
     pub breach: u8,
+    /// 1 if `flood` has values.
     pub has_flood: u8,
+    /// The number of the question that the row answers, 1 to 4.
     pub kind: u8,
 }
 
@@ -77,7 +85,7 @@ fn blank_row() -> RowFields
     }
 }
 
-/// The row of a lawful line.
+/// Returns the row of a lawful line.
 fn step_row(life: &Track, step: &(Action, Minute)) -> RowFields
     ensures { result ≡ step_row life.now step.now }
 {
@@ -108,7 +116,7 @@ pub fn put_lives(rows: &mut List<RowFields>, lives: &[Track]) -> Result<(), Oom>
     Ok(())
 }
 
-/// The number of a breach.
+/// Returns the number of a breach.
 fn breach_code(breach: Breach) -> u8
     ensures { result ≡ breach_code breach }
 {
@@ -129,7 +137,8 @@ fn breach_code(breach: Breach) -> u8
     }
 }
 
-/// The number of a product, which counts from 1 among those without a fault, among all.
+/// Returns the number among all products of one that has the 1-based number `product` among those
+/// without a fault; 0 if there is none.
 fn number_at(numbers: &[u32], product: u32) -> u32
     ensures { result ≡ number_at numbers.now product }
 {
@@ -186,7 +195,7 @@ pub fn put_gaps(rows: &mut List<RowFields>, gaps: &[GapFound]) -> Result<(), Oom
     Ok(())
 }
 
-/// The number of an end; until further notice has that of zeros.
+/// Returns the number of an end: its minute, or 4,294,967,295 for until further notice.
 fn end_number(end: &End) -> u32
     ensures { result ≡ end_number end.now }
 {

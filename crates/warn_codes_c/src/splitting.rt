@@ -1,4 +1,4 @@
-//! The products of a text, by their places.
+//! Splits a text into its products.
 ghost use Rattle.std.specs.Prelude.{◌≡◌, ◌++◌, map, IfOk, OnOk};
 ghost use Rattle.product_frame.specs.Splitting.{spans_of};
 ghost use Rattle.warn_codes_c.specs.Splits.{span_fields, Splits};
@@ -9,11 +9,13 @@ use hazard_types::{List, Oom, Span};
 use product_decoder::split_products;
 use std::alloc::Global;
 
-/// Bytes from a place up to another, which is not among them.
+/// Where a product is in a text, as 0-based bytes.
 #[repr(C)]
 #[derive(Clone, Copy)]
 pub struct SpanFields {
+    /// Its first byte.
     pub from: usize,
+    /// The byte after its last one.
     pub to: usize,
 }
 
@@ -35,7 +37,7 @@ fn put_spans(rows: &mut List<SpanFields>, spans: &[Span]) -> Result<(), Oom>
     Ok(())
 }
 
-/// The places of the products.
+/// Returns where the products are.
 fn spans_in(alloc: Global, text: &[u8]) -> Result<List<SpanFields>, Oom>
     ensures { IfOk result (λ rows. rows ≡ map span_fields (spans_of text.now)) }
 {
@@ -45,7 +47,9 @@ fn spans_in(alloc: Global, text: &[u8]) -> Result<List<SpanFields>, Oom>
     Ok(rows)
 }
 
-/// Splits a text into its products: one for each heading line, up to the next one or the end.
+/// Writes where the products of a text are to `spans`, and their count to `needed`: one for each
+/// heading line, up to the next one or the end. Returns `OK`; `TOO_SMALL` if `spans` has no room
+/// for all, and then only `needed` is written; or `NO_MEMORY`, and then nothing is written.
 #[unsafe(no_mangle)]
 pub extern "C" fn warn_codes_c_split(
     alloc: Global,

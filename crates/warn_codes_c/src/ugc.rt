@@ -1,4 +1,4 @@
-//! UGC texts.
+//! Reads UGC texts.
 ghost use Rattle.std.specs.Prelude.{◌≡◌, ◌++◌, map, Ok, Err, IfOk, OnOk, List as Seq, ℕ};
 ghost use Rattle.hazard_types.specs.Places.{Place};
 ghost use Rattle.hazard_types.specs.declared.calendar.DayStamp.{DayStamp as Expiry};
@@ -15,20 +15,24 @@ use hazard_types::{List, Oom, Or, Zone};
 use std::alloc::Global;
 use ugc_codes::{UgcFault, UgcRead, read_ugc};
 
-/// What a UGC text says beside its zones: how many these are, how many bytes the text has, and the day, hour and minute (UTC) at which
-/// it expires. Where it is none, the byte at which the fault begins, counted from 0.
+/// What a UGC text says besides its zones, or where its first fault is; all other fields are then
+/// 0.
 #[repr(C)]
 #[derive(Clone, Copy)]
 pub struct UgcFields {
+    /// The count of its zones.
     pub zones: usize,
+    /// Its length in bytes, up to the hyphen after its expiry, and with it.
     pub used: usize,
+    /// The 0-based byte at which the fault starts; 0 without a fault, or if the text is cut short.
     pub fault_at: usize,
+    /// The day of the month on which it expires, with hour and minute in UTC.
     pub day: u8,
     pub hour: u8,
     pub minute: u8,
 }
 
-/// Adds the fields of zones.
+/// Adds the fields of zones to `rows`.
 pub fn put_zones(rows: &mut List<ZoneFields>, zones: &[Zone]) -> Result<(), Oom>
     ensures { OnOk result (rows.new ≡ rows.old ++ map zone_fields zones.now) }
 {
@@ -38,7 +42,7 @@ pub fn put_zones(rows: &mut List<ZoneFields>, zones: &[Zone]) -> Result<(), Oom>
     Ok(())
 }
 
-/// The fields of zones.
+/// Returns the fields of zones.
 fn zone_rows(alloc: Global, zones: &[Zone]) -> Result<List<ZoneFields>, Oom>
     ensures { IfOk result (λ rows. rows ≡ map zone_fields zones.now) }
 {
@@ -47,7 +51,7 @@ fn zone_rows(alloc: Global, zones: &[Zone]) -> Result<List<ZoneFields>, Oom>
     Ok(rows)
 }
 
-/// The fields of what was read.
+/// Returns the fields of what was read.
 fn ugc_fields(read: &UgcRead) -> UgcFields
     ensures { result ≡ ugc_fields read.now }
 {
@@ -61,7 +65,7 @@ fn ugc_fields(read: &UgcRead) -> UgcFields
     }
 }
 
-/// The status of a fault, and the byte at which it begins.
+/// Returns the status of a fault, and the byte at which it starts, or 0 if the text is cut short.
 fn fault_parts(fault: UgcFault) -> (u32, usize)
     ensures { result ≡ ugc_fault fault }
 {
@@ -72,7 +76,7 @@ fn fault_parts(fault: UgcFault) -> (u32, usize)
     }
 }
 
-/// The fields of a fault that begins at a byte.
+/// Returns the fields of a fault that starts at a byte.
 fn fault_fields(fault_at: usize) -> UgcFields
     ensures { result ≡ fault_fields fault_at }
 {
@@ -86,7 +90,8 @@ fn fault_fields(fault_at: usize) -> UgcFields
     }
 }
 
-/// Tells what was read: the zones into the buffer, if it has room for all of them, and the fields.
+/// Writes what was read, the fields to `out` and the zones to the buffer if it has room for all of
+/// them, and returns the status.
 fn tell_ugc(
     alloc: Global,
     answer: Result<UgcRead, Or<UgcFault>>,
@@ -115,7 +120,12 @@ fn tell_ugc(
     }
 }
 
-/// Reads the UGC text that bytes begin with.
+/// Reads the UGC text at the start of `text`, and writes its fields to `out` and its zones, in
+/// order and each once, to `zones`. Returns `OK`; `TOO_SMALL` if `zones` has no room for all, with
+/// their count in `out`; 10 (not a code), 11 (bad range) or 12 (cut short) for the first fault,
+/// with its byte in `out`; or `NO_MEMORY`, and then nothing is written.
+///
+/// Source: NWS Instruction 10-1702, UGC.
 #[unsafe(no_mangle)]
 pub extern "C" fn warn_codes_c_read_ugc(
     alloc: Global,
@@ -123,7 +133,8 @@ pub extern "C" fn warn_codes_c_read_ugc(
     zones: &mut [ZoneFields],
     out: &mut UgcFields,
 ) -> u32
-    // What is in the grammar is told, and so is the first fault of what is not, unless memory runs out.
+    // What is in the grammar is read, and the first fault of what is not is reported, unless memory
+    // runs out.
     ensures only { (zs : Seq Place) (d : Expiry) (n : ℕ) → IsUgc text.now zs d n → ReadsUgc (Ok (record { zones = zs; expiry = d; used = n })) result zones.old zones.new out.old out.new }
     ensures fault_only { (f : UgcFault) → FirstFault text.now f → ReadsUgc (Err f) result zones.old zones.new out.old out.new }
     // The same as one function of the bytes.

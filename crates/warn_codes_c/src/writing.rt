@@ -1,4 +1,4 @@
-//! P-VTEC and H-VTEC texts are written from fields.
+//! Writes P-VTEC and H-VTEC texts.
 ghost use Rattle.std.specs.Prelude.{◌≡◌, ◌⊎◌, Some, IfSome, List as Seq, ℕ};
 ghost use Rattle.hazard_types.specs.declared.line.Flood.{Flood as FloodValues};
 ghost use Rattle.hazard_types.specs.declared.line.Vtec.{Vtec as Values};
@@ -16,7 +16,7 @@ use hazard_types::{
 use hvtec_string::hvtec_text;
 use vtec_string::vtec_text;
 
-/// The time of a number. None where no time has it.
+/// Returns the time of a number, which is `Some(None)` for zeros, or `None` if no time has it.
 fn time_of(number: u32) -> Option<Option<Minute>>
     ensures { result ≡ time_of number }
 {
@@ -45,7 +45,7 @@ fn number_of(number: u16) -> Option<u16>
     if number <= 9999 { Some(number) } else { None }
 }
 
-/// The values, where each field has one.
+/// Returns the values, if each field has one.
 fn vtec_by(
     class: Option<Class>,
     action: Option<Action>,
@@ -72,7 +72,7 @@ fn vtec_by(
     })
 }
 
-/// The values that have these fields.
+/// Returns the values that have these fields, if there are any.
 #[tactic(auto, unfolding(crate::specs::Writing::vtec_of))]
 fn vtec_of(fields: &VtecFields) -> Option<Vtec>
     ensures { result ≡ vtec_of fields.now }
@@ -90,7 +90,7 @@ fn vtec_of(fields: &VtecFields) -> Option<Vtec>
     )
 }
 
-/// The values, where each field has one.
+/// Returns the values, if each field has one.
 fn flood_by(
     site: Option<[u8; 5]>,
     severity: Option<Severity>,
@@ -123,7 +123,7 @@ fn location_of(location: [u8; 5]) -> Option<[u8; 5]>
     }
 }
 
-/// The values that have these fields, and that may be written.
+/// Returns the values that have these fields, if there are any.
 #[tactic(auto, unfolding(crate::specs::Writing::flood_of))]
 fn flood_of(fields: &FloodFields) -> Option<Flood>
     ensures { result ≡ flood_of fields.now }
@@ -140,7 +140,7 @@ fn flood_of(fields: &FloodFields) -> Option<Flood>
     )
 }
 
-/// The text of the values that have these fields, if there is one.
+/// Returns the text whose values have these fields, if there is one.
 #[tactic(auto, using(crate::proofs::Fitting::vtec_back, crate::proofs::Fitting::vtec_hit, crate::proofs::Fitting::vtec_may))]
 fn vtec_text_of(fields: &VtecFields) -> Option<[u8; 48]>
     ensures found { IfSome result (λ bytes. (v : Values) × (vtec_fields v ≡ fields.now) × IsVtec bytes v) }
@@ -152,7 +152,7 @@ fn vtec_text_of(fields: &VtecFields) -> Option<[u8; 48]>
     }
 }
 
-/// The text of the values that have these fields, if there is one.
+/// Returns the text whose values have these fields, if there is one.
 #[tactic(auto, using(crate::proofs::Fitting::flood_back, crate::proofs::Fitting::flood_hit, crate::proofs::Fitting::flood_may))]
 fn hvtec_text_of(fields: &FloodFields) -> Option<[u8; 54]>
     ensures found { IfSome result (λ bytes. (h : FloodValues) × (flood_fields h ≡ fields.now) × IsHvtec bytes h) }
@@ -164,12 +164,15 @@ fn hvtec_text_of(fields: &FloodFields) -> Option<[u8; 54]>
     }
 }
 
-/// Writes the P-VTEC text of these fields.
+/// Writes the one P-VTEC text with these fields to `out`, 48 bytes without a NUL. Returns `OK`, or
+/// `BAD_VALUE` if no text has these fields, and then nothing is written.
+///
+/// Source: NWS Instruction 10-1703, P-VTEC.
 #[unsafe(no_mangle)]
 pub extern "C" fn warn_codes_c_write_vtec(fields: &VtecFields, out: &mut [u8; 48]) -> u32
     // What is written is a text whose values have these fields.
     ensures found { result ≡ 0 → (v : Values) × (vtec_fields v ≡ fields.now) × IsVtec out.new v }
-    // Where there is such a text it is written.
+    // If there is such a text, it is written.
     ensures only { (bytes : Seq ℕ) (v : Values) → IsVtec bytes v → vtec_fields v ≡ fields.now → (result ≡ 0) × (out.new ≡ bytes) }
     ensures refused { (result ≡ 0) ⊎ ((result ≡ 6) × (out.new ≡ out.old)) }
 {
@@ -182,12 +185,15 @@ pub extern "C" fn warn_codes_c_write_vtec(fields: &VtecFields, out: &mut [u8; 48
     }
 }
 
-/// Writes the H-VTEC text of these fields.
+/// Writes the one H-VTEC text with these fields to `out`, 54 bytes without a NUL. Returns `OK`, or
+/// `BAD_VALUE` if no text has these fields, and then nothing is written.
+///
+/// Source: NWS Instruction 10-1703, H-VTEC.
 #[unsafe(no_mangle)]
 pub extern "C" fn warn_codes_c_write_hvtec(fields: &FloodFields, out: &mut [u8; 54]) -> u32
     // What is written is a text whose values have these fields.
     ensures found { result ≡ 0 → (h : FloodValues) × (flood_fields h ≡ fields.now) × IsHvtec out.new h }
-    // Where there is such a text it is written.
+    // If there is such a text, it is written.
     ensures only { (bytes : Seq ℕ) (h : FloodValues) → IsHvtec bytes h → flood_fields h ≡ fields.now → (result ≡ 0) × (out.new ≡ bytes) }
     ensures refused { (result ≡ 0) ⊎ ((result ≡ 6) × (out.new ≡ out.old)) }
 {
