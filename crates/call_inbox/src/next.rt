@@ -89,7 +89,7 @@ fn next_when_due(
 }
 
 /// Returns the next call of a link, after the bytes that were skipped. It reads until the call at
-/// the start of the inbox is whole or refused, and no further, and writes nothing.
+/// the start of the inbox is whole or refused, so not at all if it is already, and writes nothing.
 pub fn next_call<L: Link>(
     alloc: Global,
     routes: &Routes,

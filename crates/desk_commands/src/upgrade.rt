@@ -25,8 +25,8 @@ fn tell_upgrade<K: Sink>(output: &mut K, upgrade: Upgrade) -> u8
     }
 }
 
-/// Appends the mark to the journal, unless it is there, after which its office writes texts of
-/// edition Two, writes `edition 2` and ends the run.
+/// Appends the mark of edition Two to the journal unless it is there, writes `edition 2` and ends
+/// the run. Later texts of the office are of edition Two.
 pub fn run_upgrade<K: Sink, D: Disk>(alloc: Global, output: &mut K, disk: D) -> Ended<D>
     ensures { IsUnopenedRun D.Disk disk result.disk
         (K.outflow output.old) (K.outflow output.new) result.status

@@ -54,7 +54,7 @@ impl Ahead {
         &self.bytes[self.from..self.to]
     }
 
-    /// Reads `source` once into the buffer, which must be empty. It is empty afterwards exactly at
+    /// Reads `source` once into the buffer, which must be empty. After `Ok` it is empty exactly at
     /// the source's end.
     ///
     /// # Errors

@@ -35,8 +35,8 @@ pub trait Door {
 pub trait Port {
     type Door: Door + Send + Drop;
 
-    /// The links that came back with their doors, the port numbers that were listened at, if the
-    /// port exposes them, and the number of failures of the port and of its returned doors.
+    /// The links that came back with their doors and the port numbers that were listened at, both
+    /// if the port exposes them, and the number of failures of the port and of its returned doors.
     ghost state: { Self → PortState };
 
     /// Listens at `port` and returns `doors` unused doors of it.

@@ -116,7 +116,8 @@ impl Side {
 }
 
 impl Pace {
-    // The time limit, `seconds` after the start, with the seconds that the bytes so far add.
+    // The time limit: `seconds` after the start, and one second more for every `BYTES_A_SECOND`
+    // bytes so far, at most `MOST` in all.
     fn end(&self, seconds: u64) -> Duration {
         let more = self.count / BYTES_A_SECOND;
         let all = Duration::from_secs(seconds.saturating_add(more).min(MOST));

@@ -101,7 +101,8 @@ fn three_words(first: &[u8], second: &[u8], third: &[u8]) -> Option<Command>
     drill_words(first, second, third)
 }
 
-/// Parses the arguments. `None` exactly if they are no command.
+/// Parses the arguments. `None` exactly if they are none of these commands; `serve` is parsed by
+/// `serve_command`.
 #[tactic(auto, unfolding(crate::specs::Words::command_of))]
 pub fn command_of(words: &List<Text>) -> Option<Command>
     ensures value { result ≡ command_of words.now }

@@ -8,8 +8,8 @@ use hazard_types::Oom;
 use std::alloc::Global;
 
 /// A disk of fixed size in memory, which never fails and exposes nothing of its file. Bytes past
-/// its size are dropped. The programs use it for the path `-` (docs/DECISIONS.md, "Journal and
-/// disk").
+/// its size are dropped, and a read past the file's end leaves the rest of the buffer as it is. The
+/// programs use it for the path `-` (docs/DECISIONS.md, "Journal and disk").
 #[derive(Debug, Drop)]
 pub struct SureDisk {
     room: Vec<u8>,

@@ -26,7 +26,7 @@ pub enum End {
     DiskFault,
     /// The port can't be had, or an accept failed.
     PortFault,
-    /// The minute is outside the years that the program serves.
+    /// The minute is outside 2000-01-01T00:00Z to 2098-11-13T02:40Z.
     ClockOut,
     OutOfMemory,
     /// The input has more bytes than the limit.

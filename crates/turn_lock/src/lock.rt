@@ -69,7 +69,7 @@ impl<T: Storied> TurnLock<T> {
     }
 
     /// Runs `job` once on the value, after it has waited for its turn, and returns the job's
-    /// result. The pass then has seen all entries of the value.
+    /// result. The pass then has seen all entries up to the end of that turn.
     pub fn turn<R: Wait, J: Job<T>>(&self, rt: &R, pass: &mut Pass<T>, job: J) -> J::Out
         requires pass { pass.old.lock ≡ self.now }
         requires job { J.may_run job }

@@ -117,7 +117,7 @@ pub fn read_call(alloc: Global, routes: &Routes, bytes: &[u8]) -> HttpRead
 }
 
 /// The number of bytes that are missing after a head of `size` bytes, of `total` bytes in all, by
-/// the length that its fields state; 1 if that says nothing.
+/// the length that its fields state; 1 if none is known to be missing.
 fn missing(size: usize, total: usize, stated: Stated) -> usize
     requires { size ≤ total }
     ensures { result ≡ missing size total stated }

@@ -26,7 +26,7 @@ pub const MOST_CALLS: u64 = 10_000;
 /// How a link ended.
 #[derive(Clone, Copy, Debug, PartialEq, Eq)]
 pub enum LinkEnd {
-    /// The input ended between calls, a call asked to close, or one was refused by F1 to F6.
+    /// The input ended between calls, a call closed the link, or one was refused by F1 to F6.
     Closed,
     /// The input ended within a call.
     Cut,
@@ -34,7 +34,7 @@ pub enum LinkEnd {
     Spent,
     /// A read or a write failed.
     LinkFault,
-    /// Memory ran out for reading a call or for the bytes of an answer.
+    /// Memory ran out for the inbox, for reading a call, or for the bytes of an answer.
     OutOfMemory,
 }
 
