@@ -116,6 +116,8 @@ fn tell_made<K: Sink, D: Disk>(output: &mut K, _kept: &KeptOffice<D>) -> u8
 
 /// Reads the settings of an office from `input`, makes its journal on a fresh disk, writes `ready`
 /// and ends the run.
+///
+/// docs/JOURNAL.md, "What is a journal, and what is not".
 pub fn run_init<S: Source, K: Sink, D: Disk>(
     alloc: Global,
     input: &mut S,

@@ -6,7 +6,7 @@ const FACTOR: u64 = 6_364_136_223_846_793_005;
 
 const STEP: u64 = 1_442_695_040_888_963_407;
 
-/// A generator of numbers of 31 bits: the state is multiplied, added to, and shifted.
+/// A linear congruential generator of numbers of 31 bits (docs/DEFINITIONS.md, "desk_drill").
 #[derive(Clone, Copy, Debug)]
 pub struct Draws {
     pub state: u64,

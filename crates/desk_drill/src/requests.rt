@@ -1,4 +1,4 @@
-//! The requests of a drill.
+//! The requests of a drill (docs/DEFINITIONS.md, "desk_drill").
 ghost use Rattle.std.specs.Prelude.{◌≡◌, ◌≤◌, ◌<◌, ◌+◌, ◌%◌, IfOk, IsTrue};
 ghost use Rattle.std.specs.List.{All};
 ghost use Rattle.hazard_types.specs.Desks.{is_desk_name};

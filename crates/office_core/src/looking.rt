@@ -93,7 +93,7 @@ impl Office {
 
     /// Returns the text that a query asks to see: the board at `reading`, in minutes since
     /// 2000-01-01T00:00Z UTC; a product as it was sent; a draft as JSON; or what a send of a draft
-    /// would give at `reading`.
+    /// would give, at the later of `reading` and the last entry's minute.
     ///
     /// # Errors
     ///

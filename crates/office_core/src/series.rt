@@ -1,10 +1,10 @@
-//! What a correction asks of earlier products.
+//! What a correction asks of earlier products (docs/REQUESTS.md, "What a product says").
 ghost use Rattle.std.specs.Prelude.{◌≡◌, ◌≤◌};
 ghost use Rattle.office_core.specs.Making.{corrects, counted_as, last_of_category, letters_of, original_of, same_category};
 
 use hazard_types::{Category, Sent};
 
-/// The most corrections of a product.
+/// The most corrections of a product, CCA to CCX.
 const MOST_LETTERS: usize = 24;
 
 /// The category that a product counts for: FLW and FLS count as one.

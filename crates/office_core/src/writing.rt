@@ -1,4 +1,4 @@
-//! The rules on a forecaster's texts.
+//! The rules on a forecaster's texts (docs/REQUESTS.md, "Drafts and the parts of a request").
 ghost use Rattle.std.specs.Prelude.{◌≡◌, IfOk, map};
 ghost use Rattle.hazard_types.specs.declared.request.EventTexts.{EventTexts as TextsOn};
 ghost use Rattle.office_core.specs.Requests.{texts_in};

@@ -18,6 +18,8 @@ use std::sync::Wait;
 
 /// A value that one caller at a time works on, in the order of the tickets that callers draw. A
 /// contract sees the lock as its name.
+///
+/// docs/DECISIONS.md, "Turns".
 #[derive(Drop)]
 pub struct TurnLock<T: Storied> {
     pub(crate) table: Table<Option<T>, View<T::Base, T::Entry>, Snapshot<T>, Turns, Global>,

@@ -8,8 +8,8 @@ ghost use Rattle.warn_http.specs.Heads.{has_line_feed};
 ghost use Rattle.warn_http.specs.Calls.{Called, HasNoWholeCall, IsCall, IsRefused, IsUnfinished, IsCut, Stop, AreCalls, IsFinal, AreAlike};
 
 /// A call at the start of some bytes is the same call when more bytes follow, and a refused call
-/// stays refused. So the calls of a stream that end before its last bytes are those of every longer
-/// stream.
+/// stays refused. So where a stream's calls end for another reason than that its bytes end, they
+/// are the calls of every longer stream.
 pub fn calls_stay()
     ensures call { (bytes more : List ℕ) (c : Called) → IsCall bytes c → IsCall (bytes ++ more) c }
     ensures refused { (bytes more : List ℕ) (f : Refusal) → IsRefused bytes f → IsRefused (bytes ++ more) f }
