@@ -1,5 +1,9 @@
-//! Sources and sinks of bytes. Each shows one value: what is left to read or what was taken, where
-//! it tells the bytes, and how often it has failed.
+//! Inputs and outputs of bytes as traits, over std's readers and writers and in memory. For
+//! programs that read standard input and write standard output, and for their tests. One begins
+//! with `StdSource::new` and `StdSink::new`, then `Source::read` and `write_whole`.
+//!
+//! Each stream counts its failed calls. Implementations in memory also expose their bytes to
+//! contracts.
 #![tactic(auto)]
 
 mod real;

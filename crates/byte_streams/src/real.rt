@@ -1,11 +1,11 @@
-//! The real ones, over any reader and writer of std. They tell nothing of the bytes.
+//! Streams over std's readers and writers. They expose nothing of the bytes, and are trusted.
 ghost use Rattle.std.specs.Prelude.{None};
 
 use crate::streams::{Sink, Source};
 use desk_traits::Failed;
 use std::io::{Read, Write};
 
-/// A reader, with a count of its faults.
+/// A reader with a count of its failed reads.
 #[derive(Drop)]
 pub struct StdSource<R> {
     inner: R,
@@ -13,6 +13,7 @@ pub struct StdSource<R> {
 }
 
 impl<R: Read> StdSource<R> {
+    /// Returns a source that reads from `inner`.
     pub fn new(inner: R) -> Self {
         StdSource { inner, faults: 0 }
     }
@@ -34,7 +35,8 @@ impl<R: Read> Source for StdSource<R> {
     }
 }
 
-/// A writer, with a count of its faults. A writer that takes nothing of a piece has failed.
+/// A writer with a count of its failed writes. A writer that takes no byte of a non-empty slice has
+/// failed.
 #[derive(Drop)]
 pub struct StdSink<W> {
     inner: W,
@@ -42,6 +44,7 @@ pub struct StdSink<W> {
 }
 
 impl<W: Write> StdSink<W> {
+    /// Returns a sink that writes to `inner`.
     pub fn new(inner: W) -> Self {
         StdSink { inner, faults: 0 }
     }

@@ -1,5 +1,4 @@
-//! Sources and sinks in memory, which fail at exactly the calls that they are told, and a sink where
-//! memory lacks.
+//! A source and a sink in memory, which fail at given calls.
 ghost use Rattle.std.specs.Prelude.{◌≡◌, ◌≤◌, ◌↔◌, length, min, IfOk, OnErr, IsErr, Contains, [], false};
 ghost use Rattle.desk_traits.specs.Faults.{next_count};
 ghost use Rattle.byte_streams.specs.Flows.{Reads, Writes};
@@ -11,7 +10,7 @@ use hazard_types::{List, Oom, Text};
 use std::alloc::Global;
 use std::marker::Model;
 
-/// Bytes in memory, given in pieces.
+/// Bytes in memory, handed out in pieces.
 #[derive(Debug, Drop)]
 pub struct MemSource {
     bytes: Text,
@@ -34,8 +33,12 @@ impl Model for MemSource {
 }
 
 impl MemSource {
-    /// A source of these bytes that gives at most `piece` of them at once.
-    /// The calls whose numbers, counted from 1, are among the failing ones answer `Failed`.
+    /// Returns a source of `bytes` that hands out at most `piece` bytes a call. Call n, counted
+    /// from 1, fails if n is in `failing`.
+    ///
+    /// # Errors
+    ///
+    /// Out of memory.
     pub fn new(alloc: Global, bytes: &[u8], piece: usize, failing: &List<u64>) -> Result<Self, Oom>
         requires { 1 ≤ piece }
         ensures { IfOk result (λ s. s ≡ record { left = bytes.now; piece = piece; failing = failing.now; calls = 0; faults = 0 }) }
@@ -61,8 +64,8 @@ impl Source for MemSource {
         ensures counted { OnErr result (self.new.faults ≡ next_count self.old.faults) }
         ensures beside { Unit {0} }
 
-        // It fails at exactly the listed calls, and gives all that a piece and the buffer may hold at
-        // the others.
+        // It fails exactly at the listed calls; otherwise it returns as many bytes as remain and
+        // fit both the piece and the buffer.
         ensures failing { IsErr result ↔ Contains self.old.failing (next_count self.old.calls) }
         ensures amount { IfOk result (λ n. n ≡ min (min (length self.old.left) self.old.piece) (length into.old)) }
         ensures called { self.new.calls ≡ next_count self.old.calls }
@@ -81,7 +84,7 @@ impl Source for MemSource {
     }
 }
 
-/// Keeps what it takes.
+/// A sink that keeps the written bytes.
 #[derive(Debug, Drop)]
 pub struct MemSink {
     taken: Text,
@@ -100,9 +103,12 @@ impl Model for MemSink {
 }
 
 impl MemSink {
-    /// A sink that has taken nothing.
-    /// The calls whose numbers, counted from 1, are among the failing ones answer `Failed`, and each for which
-    /// memory lacks.
+    /// Returns a sink without bytes. Call n, counted from 1, fails if n is in `failing`, and so
+    /// does each call for which memory runs out.
+    ///
+    /// # Errors
+    ///
+    /// Out of memory.
     pub fn new(alloc: Global, failing: &List<u64>) -> Result<Self, Oom>
         ensures { IfOk result (λ s. s ≡ record { taken = []; failing = failing.now; calls = 0; faults = 0; lacked = false }) }
     {
@@ -115,7 +121,7 @@ impl MemSink {
         })
     }
 
-    /// The bytes that were taken.
+    /// Returns the written bytes.
     pub fn taken(&self) -> &Text
         ensures { result.now ≡ self.now.taken }
     {
@@ -132,14 +138,14 @@ impl Sink for MemSink {
 
     ghost more_writes = { λ _ _ _ _ _. tt };
 
-    /// Takes the whole piece. A growth of its memory that is refused is a counted fault.
+    /// Writes all of `bytes`. If memory runs out the call fails, and is counted.
     fn write(&mut self, bytes: &[u8]) -> Result<usize, Failed>
         ensures written { Writes (outflow_of self.old) (outflow_of self.new) result bytes.now }
         ensures counted { OnErr result (self.new.faults ≡ next_count self.old.faults) }
         ensures beside { Unit {0} }
 
-        // It fails at exactly the listed calls, and where memory lacks, and takes the whole piece at
-        // the others.
+        // It fails exactly at the listed calls and where memory runs out; otherwise it takes all
+        // bytes.
         ensures failing { FailsAsTold (Contains self.old.failing (next_count self.old.calls)) self.old.lacked self.new.lacked result }
         ensures amount { IfOk result (λ n. n ≡ length bytes.now) }
         ensures called { self.new.calls ≡ next_count self.old.calls }

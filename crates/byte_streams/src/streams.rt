@@ -1,49 +1,48 @@
-//! A source of bytes, and a sink.
+//! The traits for an input and an output of bytes.
 ghost use Rattle.byte_streams.specs.Flows.{Inflow, Outflow, Reads, Writes, WritesWhole};
 
 use desk_traits::Failed;
 
-/// Bytes that come in.
+/// An input of bytes.
 pub trait Source {
-    /// What it shows: the bytes that are left, where it tells them, and how often it has failed.
+    /// The remaining bytes, if the source exposes them, and the number of failed reads.
     ghost inflow: { Self → Inflow };
 
-    /// What a read keeps of the rest of it: a link, which is a sink as well, has more to keep.
+    /// What a read leaves unchanged in the rest of the value: a link is a sink as well.
     ghost reads: { Self → Self → Type 0 };
 
-    /// Reads up to `into.len()` bytes into the start of `into`, and returns how many. 0 for a buffer
-    /// that has room means the end.
+    /// Reads up to `into.len()` bytes into the start of `into` and returns how many. `Ok(0)` for a
+    /// non-empty buffer means the end of the input.
     ///
     /// # Errors
     ///
-    /// `Failed` where nothing was read; the count of faults rose.
+    /// `Failed` if the read failed; nothing was read, and the count of faults has risen.
     fn read(&mut self, into: &mut [u8]) -> Result<usize, Failed>
         ensures read { Reads (inflow self.old) (inflow self.new) result into.new }
         ensures beside { reads self.old self.new };
 }
 
-/// Bytes that go out.
+/// An output of bytes.
 pub trait Sink {
-    /// What it shows: the bytes that were taken, where it tells them, and how often it has failed.
+    /// The bytes written so far, if the sink exposes them, and the number of failed writes.
     ghost outflow: { Self → Outflow };
 
-    /// What writes, however many, keep of the rest of it.
+    /// What any number of writes leaves unchanged in the rest of the value.
     ghost writes: { Self → Self → Type 0 };
 
-    /// Writes the first bytes of `bytes`, and returns how many: at least one, unless `bytes` is
-    /// empty.
+    /// Writes a prefix of `bytes` and returns its length, at least 1 unless `bytes` is empty.
     ///
     /// # Errors
     ///
-    /// `Failed` where nothing was taken; the count of faults rose.
+    /// `Failed` if the write failed; nothing was written, and the count of faults has risen.
     fn write(&mut self, bytes: &[u8]) -> Result<usize, Failed>
         ensures written { Writes (outflow self.old) (outflow self.new) result bytes.now }
         ensures beside { writes self.old self.new };
 
-    /// `writes` is reflexive,
+    /// `writes` is reflexive.
     ghost no_writes: { (sink : Self) → writes sink sink };
 
-    /// and transitive.
+    /// `writes` is transitive.
     ghost more_writes: { (old mid new : Self) → writes old mid → writes mid new → writes old new };
 }
 
@@ -51,8 +50,8 @@ pub trait Sink {
 ///
 /// # Errors
 ///
-/// `Failed` where a write failed; the count of faults rose. A part of `bytes`, from its start on,
-/// may have been written.
+/// `Failed` if a write failed; the count of faults has risen, and a prefix of `bytes` may have been
+/// written.
 pub fn write_whole<K: Sink>(sink: &mut K, bytes: &[u8]) -> Result<(), Failed>
     ensures written { WritesWhole (K.outflow sink.old) (K.outflow sink.new) result bytes.now }
     ensures beside { K.writes sink.old sink.new }

@@ -1,4 +1,4 @@
-//! A source and a sink whose counts of faults can't rise.
+//! A source and a sink that never fail.
 ghost use Rattle.std.specs.Prelude.{◌≡◌, ◌≤◌, None, Some, drop, length, IfOk};
 ghost use Rattle.byte_streams.specs.Flows.{inflow, outflow};
 
@@ -7,7 +7,7 @@ use desk_traits::Failed;
 use hazard_types::{List, Oom, Text};
 use std::alloc::Global;
 
-/// Bytes in memory. It tells them, and no read fails.
+/// A source over bytes in memory that never fails and exposes its bytes.
 #[derive(Debug, Drop)]
 pub struct SureSource {
     bytes: Text,
@@ -16,7 +16,11 @@ pub struct SureSource {
 }
 
 impl SureSource {
-    /// A source of these bytes.
+    /// Returns a source of `bytes`.
+    ///
+    /// # Errors
+    ///
+    /// Out of memory.
     pub fn new(alloc: Global, bytes: &[u8]) -> Result<Self, Oom>
         ensures { IfOk result (λ source. ⟦<SureSource as Source>⟧.inflow source ≡ inflow (Some bytes.now) 0) }
     {
@@ -41,7 +45,7 @@ impl Source for SureSource {
     }
 }
 
-/// Takes all and keeps nothing. It tells nothing, and no write fails.
+/// A sink that drops all that is written to it. It never fails, and exposes nothing.
 #[derive(Debug, Drop)]
 pub struct SureSink;
 

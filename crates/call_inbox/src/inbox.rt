@@ -1,4 +1,4 @@
-//! What was read from a link and not yet used.
+//! The bytes of a link that were read and not yet used.
 ghost use Rattle.std.specs.Prelude.{◌≡◌, ◌≤◌, ◌<◌, ◌+◌, ◌-◌, [], length};
 ghost use Rattle.std.specs.Prelude.{take, drop, IfOk, OnErr, OnOk};
 ghost use Rattle.desk_traits.specs.Faults.{HasCause};
@@ -18,10 +18,10 @@ pub const MOST_HEAD: usize = 8_192;
 /// The most bytes of a body.
 const MOST_BODY: usize = 65_536;
 
-/// The most bytes of a call.
+/// The most bytes of a call, and the size of the buffer.
 pub const MOST_CALL: usize = MOST_HEAD + MOST_BODY;
 
-/// The bytes that were read from a link and not yet used, at most 73,728.
+/// The bytes of a link that were read and not yet used, at most 73,728.
 #[derive(Drop)]
 pub struct Inbox {
     buffer: Vec<u8>,
@@ -41,7 +41,11 @@ impl Model for Inbox {
 }
 
 impl Inbox {
-    /// An inbox with no bytes. It takes all its memory at once.
+    /// Returns an inbox without bytes, with all the memory that it ever takes.
+    ///
+    /// # Errors
+    ///
+    /// Out of memory.
     pub fn new(alloc: Global) -> Result<Self, Oom>
         ensures { IfOk result (λ inbox. inbox ≡ []) }
     {
@@ -53,7 +57,7 @@ impl Inbox {
         })
     }
 
-    /// The bytes.
+    /// Returns the bytes.
     pub fn as_slice(&self) -> &[u8]
         ensures { result.now ≡ self.now }
     {
@@ -76,12 +80,12 @@ impl Inbox {
         self.end = 0;
     }
 
-    /// Reads some bytes of the link behind those that are there, and answers how many: none at the
-    /// end.
+    /// Reads from `link` after the bytes that are there, and returns how many: 0 only at the end of
+    /// the input.
     ///
     /// # Errors
     ///
-    /// `Failed` where nothing was read; the link's count of faults rose.
+    /// `Failed` if the read failed; nothing was read, and the link's count of faults has risen.
     pub(crate) fn fill<L: Link>(&mut self, link: &mut L) -> Result<usize, Failed>
         requires { length self.old < 73728 }
         ensures read { HasRead self.old self.new (L.state link.old) (L.state link.new) }
@@ -102,8 +106,8 @@ impl Inbox {
     }
 }
 
-// Moves the bytes between two places to the buffer's front where they stand at its end, and answers
-// between which places they then stand.
+// Moves `start..end` of the buffer to its start if they are at its end, and returns where they are
+// then.
 fn places_with_room(buffer: &mut [u8], start: usize, end: usize) -> (usize, usize)
     requires order { start ≤ end }
     requires within { end ≤ length buffer.old }
@@ -121,7 +125,7 @@ fn places_with_room(buffer: &mut [u8], start: usize, end: usize) -> (usize, usiz
     (0, end - start)
 }
 
-// Reads some bytes of the link into the buffer, from a place on.
+// Reads from `link` into the buffer from index `end` on, and returns how many bytes.
 fn read_behind<L: Link>(link: &mut L, buffer: &mut [u8], end: usize) -> Result<usize, Failed>
     requires { end < length buffer.old }
     ensures len { length buffer.new ≡ length buffer.old }

@@ -1,5 +1,5 @@
-//! The bytes of one HTTP link, before the office is asked: what was read and not yet used, and the
-//! next call in it.
+//! The bytes of one HTTP link that were read and not yet used, and the next call in them. For
+//! servers. One begins with `Inbox::new` and `next_call`, and removes a call with `Inbox::skip`.
 #![tactic(auto)]
 
 mod inbox;

@@ -19,21 +19,21 @@ use warn_http::{
 /// What comes next on a link.
 #[derive(Clone, Debug, Drop, PartialEq, Eq)]
 pub enum NextCall {
-    /// A whole call: what it asks for, how many bytes its head and body take, and whether the link
-    /// closes after it. Its bytes stand at the front of the inbox, until they are skipped.
+    /// A whole call: what it asks for, the bytes of its head and body in all, and whether the link
+    /// closes after it. Its bytes are at the start of the inbox until they are skipped.
     Call { call: Call, used: usize, last: bool },
-    /// An F rule refuses the call.
+    /// The call is refused by one of F1 to F6.
     Refused(Refusal),
-    /// The input has ended, and no byte of a call stands in the inbox.
+    /// The input ended between calls: the inbox is empty.
     Closed,
-    /// The input has ended in the midst of a call.
+    /// The input ended within a call.
     Cut,
     /// A read failed.
     LinkFault,
     OutOfMemory,
 }
 
-// What is told of the call at the front of the bytes: nothing where it is not whole.
+// The call at the start of the bytes, or `None` if it is not whole.
 fn next_in(alloc: Global, routes: &Routes, bytes: &[u8]) -> Option<NextCall>
     ensures some { IfSome result (Tells bytes.now ⊥ ⊥) }
     ensures none { IfNone result (IsUnfinished bytes.now) }
@@ -57,7 +57,7 @@ fn next_at_end(alloc: Global, routes: &Routes, bytes: &[u8]) -> NextCall
     }
 }
 
-// The same where it is worth judging: nothing where more bytes are to be read.
+// The same if `watch` says that the bytes are to be judged; `None` if more must be read.
 fn next_when_due(
     alloc: Global,
     routes: &Routes,
@@ -88,9 +88,8 @@ fn next_when_due(
     }
 }
 
-/// The next call of a link, behind the bytes that were skipped. It reads on until the call at the
-/// front of the inbox is whole or refused, and writes nothing. Where a whole call is there it reads
-/// nothing more, so where a read fails there was none.
+/// Returns the next call of a link, after the bytes that were skipped. It reads until the call at
+/// the start of the inbox is whole or refused, so not at all if it is already, and writes nothing.
 pub fn next_call<L: Link>(
     alloc: Global,
     routes: &Routes,

@@ -1,5 +1,5 @@
-//! When the bytes of a call that came so far are worth judging, so that no head is judged for each
-//! of its bytes.
+//! When the bytes of an unfinished call are judged again, so that a head is not parsed for each of
+//! its bytes (docs/DECISIONS.md, "HTTP").
 ghost use Rattle.std.specs.Prelude.{◌≡◌, ◌≤◌, ◌<◌, ◌+◌, [], drop, length, false, true};
 ghost use Rattle.warn_http.specs.Calls.{IsUnfinished};
 ghost use Rattle.warn_http.specs.Heads.{has_line_feed};
@@ -8,20 +8,20 @@ ghost use Rattle.call_inbox.specs.Watching.{Waits};
 use crate::inbox::{MOST_CALL, MOST_HEAD};
 use warn_http::{heads_end_with_a_line_feed, still_wants};
 
-/// When the bytes are worth judging again.
+/// When the bytes are to be judged again.
 #[derive(Clone, Copy, Debug)]
 pub struct Watch {
-    /// How many bytes there were.
+    /// The number of bytes at the last judgement or the last look for a line end.
     pub seen: usize,
-    /// From how many bytes on they are.
+    /// The number of bytes from which on they are to be judged.
     pub from: usize,
-    /// Whether they are at the next end of a line, too.
+    /// Whether they are to be judged at the next line end, too.
     pub by_line: bool,
     ghost few: { from ≤ 73728 },
 }
 
 impl Watch {
-    /// Before any byte of a call: at its first one.
+    /// Returns the watch before any byte of a call: they are judged at the first one.
     pub fn new() -> Self
         ensures seen { result.seen ≡ 0 }
         ensures waits { Waits result.from result.by_line [] }
@@ -34,7 +34,7 @@ impl Watch {
         }
     }
 
-    /// Until the bytes are so many more than those that were seen.
+    /// Until `missing` more bytes are there.
     fn for_body(seen: usize, missing: usize) -> Self
         ensures seen { result.seen ≡ seen }
         ensures by_line { result.by_line ≡ false }
@@ -47,7 +47,7 @@ impl Watch {
         }
     }
 
-    /// Until the next end of a line, or until the bytes are twice those that were seen.
+    /// Until the next line end, or until there are twice as many bytes.
     fn for_line(seen: usize) -> Self
         ensures seen { result.seen ≡ seen }
         ensures by_line { result.by_line ≡ true }
@@ -59,8 +59,9 @@ impl Watch {
         }
     }
 
-    /// After the unfinished start of a call: when its body is whole, or else at the next line, when
-    /// the bytes of its head have doubled, and when they are as many as a head may have.
+    /// Returns the watch after an unfinished call was judged: until its body may be complete, or,
+    /// while its head is not whole, until the next line end, twice as many bytes, or the most bytes
+    /// of a head.
     pub fn behind(bytes: &[u8]) -> Self
         requires { IsUnfinished bytes.now }
         ensures seen { result.seen ≡ length bytes.now }
@@ -72,7 +73,7 @@ impl Watch {
         }
     }
 
-    /// Whether the bytes are worth judging.
+    /// Whether the bytes are to be judged now.
     pub fn is_due(&self, bytes: &[u8]) -> bool
         requires { self.now.seen ≤ length bytes.now }
         ensures room { result ≡ false → length bytes.now < 73728 }

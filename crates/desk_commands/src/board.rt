@@ -14,7 +14,8 @@ use office_journal::KeptOffice;
 use program_ends::{End, end_at_once, tell};
 use std::alloc::Global;
 
-/// Tells the board at a reading.
+/// Writes the board at minute `at` since 2000-01-01T00:00Z UTC, ends the run and returns the exit
+/// status.
 fn tell_board<D: Disk, K: Sink>(alloc: Global, kept: &KeptOffice<D>, at: i64, output: &mut K) -> u8
     ensures { TellsBoard (state_of kept.now) at
         (K.outflow output.old) (K.outflow output.new) result }
@@ -26,7 +27,7 @@ fn tell_board<D: Disk, K: Sink>(alloc: Global, kept: &KeptOffice<D>, at: i64, ou
     }
 }
 
-/// The minute of the board: the one that is named, or the clock's reading.
+/// The minute of the board: the one given, or the clock's reading.
 fn board_at<C: Clock>(minute: Option<Minute>, clock: &mut C) -> i64
     ensures { IsBoardAt C.Clock minute clock.old clock.new result }
 {
@@ -36,7 +37,8 @@ fn board_at<C: Clock>(minute: Option<Minute>, clock: &mut C) -> i64
     }
 }
 
-/// Writes the board of the office whose journal the disk holds.
+/// Writes the board of the office in the journal, at `minute` or at the clock's reading, and ends
+/// the run. The clock is read only if the office was opened and `minute` is `None`.
 pub fn run_board<K: Sink, D: Disk, C: Clock>(
     alloc: Global,
     minute: Option<Minute>,

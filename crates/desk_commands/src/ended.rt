@@ -1,6 +1,6 @@
 //! How a run over a disk ends.
 
-/// The status of a run, and the disk that it was handed.
+/// The exit status of a run, and the disk that it was given.
 #[derive(Drop)]
 pub struct Ended<D> {
     pub status: u8,

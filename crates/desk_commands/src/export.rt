@@ -15,7 +15,8 @@ use office_journal::KeptOffice;
 use program_ends::{End, end_at_once, end_run};
 use std::alloc::Global;
 
-/// Writes the texts of the products, one after another.
+/// Writes the texts of all products, in the order in which they were sent. Returns the fault at
+/// which it stopped, if there was one.
 fn write_products<D: Disk, K: Sink>(
     alloc: Global,
     kept: &KeptOffice<D>,
@@ -37,7 +38,8 @@ fn write_products<D: Disk, K: Sink>(
     None
 }
 
-/// Writes the texts of all products of the office whose journal the disk holds.
+/// Writes the texts of all products of the office in the journal, in the order in which they were
+/// sent, and ends the run.
 pub fn run_export<K: Sink, D: Disk>(alloc: Global, output: &mut K, disk: D) -> Ended<D>
     ensures { IsUnopenedRun D.Disk disk result.disk
         (K.outflow output.old) (K.outflow output.new) result.status

@@ -17,10 +17,10 @@ use office_journal::{KeepFault, KeptOffice};
 use program_ends::{End, Stop, end_at_once, read_front, tell};
 use std::alloc::Global;
 
-/// The most bytes of a settings' file, and one.
+/// The most bytes of a settings' file, and one more.
 const ENOUGH: usize = 1_048_577;
 
-/// Reads the settings to the input's end, or one byte more than settings may have.
+/// Reads the input to its end, or up to `ENOUGH` bytes.
 fn read_settings<S: Source>(alloc: Global, input: &mut S) -> Result<Text, Stop>
     ensures { SettingsRead (S.inflow input.old) (S.inflow input.new) result }
 {
@@ -43,7 +43,7 @@ fn read_settings<S: Source>(alloc: Global, input: &mut S) -> Result<Text, Stop>
     unreachable!()
 }
 
-/// A fault of settings, and its key.
+/// The text of a settings' fault, with its key if it has one (docs/SETTINGS.md, "Faults").
 fn fault_text(alloc: Global, fault: &SettingsFault) -> Result<Text, Oom>
     ensures { IfOk result (λ text. text ≡ fault_text fault.now) }
 {
@@ -56,7 +56,7 @@ fn fault_text(alloc: Global, fault: &SettingsFault) -> Result<Text, Oom>
     }
 }
 
-/// A word and a key.
+/// `word` and then `key`.
 fn with_key(alloc: Global, word: &[u8], key: &Text) -> Result<Text, Oom>
     ensures { IfOk result (λ text. text ≡ word.now ++ key.now) }
 {
@@ -65,7 +65,7 @@ fn with_key(alloc: Global, word: &[u8], key: &Text) -> Result<Text, Oom>
     Ok(text)
 }
 
-/// How a run ends that made no journal.
+/// The end of a run that made no journal.
 fn end_of(alloc: Global, fault: &KeepFault) -> End
     requires { MayUnmake fault.now }
     ensures { EndsAs fault.now result }
@@ -107,14 +107,17 @@ fn make<D: Disk>(alloc: Global, disk: D, settings: &[u8]) -> Result<KeptOffice<D
     }
 }
 
-/// Tells that the office is ready, whose journal was made.
+/// Writes `ready`, ends the run and returns the exit status.
 fn tell_made<K: Sink, D: Disk>(output: &mut K, _kept: &KeptOffice<D>) -> u8
     ensures { TellsText (codes "ready\n") (K.outflow output.old) (K.outflow output.new) result }
 {
     tell(output, b"ready\n")
 }
 
-/// Reads the settings of an office, and makes its journal on a fresh disk.
+/// Reads the settings of an office from `input`, makes its journal on a fresh disk, writes `ready`
+/// and ends the run.
+///
+/// docs/JOURNAL.md, "What is a journal, and what is not".
 pub fn run_init<S: Source, K: Sink, D: Disk>(
     alloc: Global,
     input: &mut S,

@@ -1,4 +1,8 @@
-//! The commands over a journal: what each reads, writes and leaves.
+//! The commands over a journal: `init`, `script`, `export`, `board` and `upgrade`. For the desk's
+//! program and for tests. Each takes the journal's disk, and returns it with the exit status; one
+//! begins with `run_init`, then `run_script`.
+//!
+//! docs/COMMANDS.md, "The commands".
 #![tactic(auto)]
 
 mod board;

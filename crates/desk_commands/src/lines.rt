@@ -1,4 +1,4 @@
-//! Answers as lines.
+//! Refusals as lines.
 ghost use Rattle.std.specs.Prelude.{◌≡◌, IfOk};
 ghost use Rattle.desk_commands.specs.Lines.{refusal_line};
 
@@ -6,7 +6,7 @@ use hazard_types::{Oom, Refusal, Text};
 use request_json::refusal_text;
 use std::alloc::Global;
 
-/// The text of a refusal, and LF.
+/// Returns the text of a refusal, JSON, with an LF.
 ///
 /// # Errors
 ///

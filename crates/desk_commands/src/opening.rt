@@ -8,12 +8,16 @@ use office_journal::{KeepFault, KeptOffice};
 use program_ends::End;
 use std::alloc::Global;
 
-/// Opens the office whose journal the disk holds.
+/// Opens the office of the journal on `disk`.
 ///
 /// # Errors
 ///
-/// The disk, as a read and a crash would find it before, with `NoJournal` where its file is fresh,
-/// `Damaged` with a place in bytes, `DiskFault`, or `OutOfMemory`.
+/// The disk, whose file is as before, and
+///
+/// - `NoJournal` if the file is fresh,
+/// - `Damaged` with a byte, counted from 0, if it is neither fresh nor a journal,
+/// - `DiskFault` if a call of the disk failed,
+/// - `OutOfMemory`.
 pub fn open<D: Disk>(alloc: Global, disk: D) -> Result<KeptOffice<D>, (D, End)>
     ensures opened { MatchResult result (IsOpened D.Disk disk)
         (λ e. IsUnopened D.Disk disk e.0 e.1) }

@@ -22,14 +22,14 @@ use program_ends::{Answers, Reply, end_at_once, run_lines};
 use request_json::{Asked, disk_fault_text, out_of_memory_text, read_request, refusal_text};
 use std::alloc::Global;
 
-/// A kept office, and the clock by which its lines are judged.
+/// An office over its journal, and the clock at whose readings its lines are judged.
 #[derive(Drop)]
 pub struct Script<'a, D: Disk, C: Clock> {
     kept: &'a mut KeptOffice<D>,
     clock: &'a mut C,
 }
 
-/// The reply to a refused line, or the one that memory ran out for its text.
+/// The reply to a refused line, or the fixed one for out of memory if its text finds no memory.
 fn refusal_reply(alloc: Global, refusal: &Refusal) -> Reply
     ensures { (bytes_of result ≡ refusal_line refusal.now)
         ⊎ (bytes_of result ≡ ended out_of_memory_text) }
@@ -41,7 +41,7 @@ fn refusal_reply(alloc: Global, refusal: &Refusal) -> Reply
 }
 
 impl<'a, D: Disk, C: Clock> Script<'a, D, C> {
-    /// Judges a request at a reading.
+    /// Submits a request at a reading of the clock, in minutes since 2000-01-01T00:00Z UTC.
     fn judge(&mut self, alloc: Global, asked: &Asked, reading: i64) -> Reply
         requires form { HasForm asked.now }
         ensures judged { (gave : Gave)
@@ -89,7 +89,9 @@ impl<'a, D: Disk, C: Clock> Answers for Script<'a, D, C> {
     }
 }
 
-/// Answers each line of an input by the office whose journal the disk holds.
+/// Answers each line of an input of at most `limit` bytes by the office in the journal, and ends
+/// the run. The clock is read once for each line that is not empty. If no office is opened nothing
+/// of the input is read.
 pub fn run_script<S: Source, K: Sink, D: Disk, C: Clock>(
     alloc: Global,
     limit: usize,
@@ -116,7 +118,7 @@ pub fn run_script<S: Source, K: Sink, D: Disk, C: Clock>(
     }
 }
 
-/// Answers each line of an input by a kept office.
+/// Answers each line of an input by an office that was opened.
 fn answer_script<S: Source, K: Sink, D: Disk, C: Clock>(
     alloc: Global,
     limit: usize,
@@ -141,7 +143,7 @@ fn answer_script<S: Source, K: Sink, D: Disk, C: Clock>(
     }
 }
 
-/// Answers each line of an input by an office at a clock's readings.
+/// Answers each line of an input by an office at the clock's readings.
 fn answer_lines<S: Source, K: Sink, D: Disk, C: Clock>(
     alloc: Global,
     limit: usize,

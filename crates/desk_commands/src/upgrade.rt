@@ -12,7 +12,7 @@ use office_journal::Upgrade;
 use program_ends::{End, end_at_once, tell};
 use std::alloc::Global;
 
-/// Tells what became of an upgrade.
+/// Writes what became of an upgrade, ends the run and returns the exit status.
 fn tell_upgrade<K: Sink>(output: &mut K, upgrade: Upgrade) -> u8
     ensures { TellsUpgrade upgrade (K.outflow output.old) (K.outflow output.new) result }
 {
@@ -25,7 +25,8 @@ fn tell_upgrade<K: Sink>(output: &mut K, upgrade: Upgrade) -> u8
     }
 }
 
-/// Has the office whose journal the disk holds write its texts in edition Two from now on.
+/// Appends the mark of edition Two to the journal unless it is there, writes `edition 2` and ends
+/// the run. Later texts of the office are of edition Two.
 pub fn run_upgrade<K: Sink, D: Disk>(alloc: Global, output: &mut K, disk: D) -> Ended<D>
     ensures { IsUnopenedRun D.Disk disk result.disk
         (K.outflow output.old) (K.outflow output.new) result.status

@@ -1,4 +1,4 @@
-//! The office of a drill, with what is counted of it, and the reader of its texts.
+//! The office of a drill with its counts, and the reader of its texts.
 ghost use Rattle.std.specs.Prelude.{◌≡◌, ◌<◌, ◌≤◌, ◌++◌, ◌+◌, Some, IfOk, IfSome, IsSome, OnOk, length, option_map, set, slice_index};
 ghost use Rattle.request_json.specs.Formed.{IsIssuePart};
 ghost use Rattle.office_core.specs.Agreement.{ReadsAsTheBoard, texts_of};
@@ -17,23 +17,25 @@ use hazard_types::{Class, Edition, Event, List, Minute, Oom, Or, Reply, Request}
 use office_core::{Office, Prepared, Ready, offices_begin_in_agreement};
 use std::alloc::Global;
 
-/// The office of a drill. A request goes in and the next such office comes out.
+/// The office of a drill with its counts. `answer` leads from one such office to the next.
 #[derive(Drop)]
 pub struct DrillDesk {
     pub office: Office,
-    /// The reader of the texts, which has those of all products.
+    /// The reader, which has read the texts of all products.
     pub texts: TextReader,
-    /// The number of each desk's last accepted request.
+    /// The number of each desk's last accepted request, 0 before the first.
     pub numbers: [u32; 4],
-    /// The minute of the last entry, 0 at first.
+    /// The minute of the last entry, 0 before the first.
     pub last: Minute,
+    /// The number of accepted requests.
     pub accepted: u32,
+    /// The number of requests that broke a rule of the office.
     pub refused: u32,
-    /// The events that were opened, in order.
+    /// The events opened, in order.
     pub opened: List<Event>,
 }
 
-/// The minute that counts as the last entry's before there is one.
+/// The minute of the last entry before there is one, 0.
 fn first_minute() -> Minute
     ensures { result ≡ 0 }
 {
@@ -55,7 +57,7 @@ fn events_of(prepared: &Prepared) -> &[Event]
     }
 }
 
-/// The text of a product.
+/// The text of the prepared product.
 fn text_of(prepared: &Prepared) -> &[u8]
     requires { IsSome prepared.now.made }
     ensures { option_map (λ made. made.sent.text) prepared.now.made ≡ Some result.now }
@@ -67,7 +69,7 @@ fn text_of(prepared: &Prepared) -> &[u8]
 }
 
 impl DrillDesk {
-    /// The office of a drill before its first request.
+    /// Returns the office of a drill before its first request.
     ///
     /// # Errors
     ///
@@ -91,7 +93,7 @@ impl DrillDesk {
         })
     }
 
-    /// Counts and commits a request of the desk at a place, and reads the text of its product.
+    /// Counts and commits a request of desk `place`, and reads the text of its product.
     fn accept(&mut self, alloc: Global, place: u32, prepared: Prepared) -> Result<(), Oom>
         requires may { MayCommit self.old.office prepared }
         requires made { IsSome prepared.made }
@@ -126,11 +128,11 @@ impl DrillDesk {
         Ok(())
     }
 
-    /// Answers a request.
+    /// Answers a request, and counts it as accepted or refused.
     ///
     /// # Errors
     ///
-    /// Out of memory. What is counted is of no use then.
+    /// Out of memory; the counts are of no use then.
     pub fn answer(&mut self, alloc: Global, r: DrillRequest) -> Result<(), Oom>
         requires kept { IsKept self.old }
         requires place { r.desk < 4 }
@@ -159,7 +161,12 @@ impl DrillDesk {
         }
     }
 
-    /// How many rows are shown at the minute of the last entry.
+    /// Returns the number of rows shown at the minute of the last entry, as a reader of the texts
+    /// finds them.
+    ///
+    /// # Errors
+    ///
+    /// Out of memory.
     pub fn shown(&self, alloc: Global) -> Result<usize, Oom>
         requires { IsKept self.now }
         ensures { IfOk result (λ n. n ≡ shown_last (drilled_of self.now)) }
@@ -167,7 +174,11 @@ impl DrillDesk {
         self.texts.shown(alloc, self.last)
     }
 
-    /// How many breaches, gaps and faults a reader finds in the texts.
+    /// Returns the number of breaches, gaps and faults that a reader finds in the texts, added up.
+    ///
+    /// # Errors
+    ///
+    /// Out of memory.
     pub fn breaches(&self, alloc: Global) -> Result<usize, Oom>
         requires { IsKept self.now }
         ensures { IfOk result (λ n. n ≡ breaches_in (texts_of self.now.office.state)) }

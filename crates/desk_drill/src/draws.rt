@@ -1,4 +1,4 @@
-//! The numbers that a drill draws.
+//! The random numbers of a drill.
 ghost use Rattle.std.specs.Prelude.{◌≡◌};
 ghost use Rattle.desk_drill.specs.Draws.{drawn, next_draw};
 
@@ -6,14 +6,14 @@ const FACTOR: u64 = 6_364_136_223_846_793_005;
 
 const STEP: u64 = 1_442_695_040_888_963_407;
 
-/// Draws numbers of 31 bits, one after another.
+/// A linear congruential generator of numbers of 31 bits (docs/DEFINITIONS.md, "desk_drill").
 #[derive(Clone, Copy, Debug)]
 pub struct Draws {
     pub state: u64,
 }
 
 impl Draws {
-    /// The next number.
+    /// Returns the next number, below 2^31.
     pub fn draw(&mut self) -> u64
         ensures state { self.new.state ≡ next_draw self.old.state }
         ensures value { result ≡ drawn self.new.state }

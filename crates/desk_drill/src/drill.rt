@@ -1,4 +1,4 @@
-//! The top call.
+//! The run of a drill.
 ghost use Rattle.std.specs.Prelude.{◌≡◌, ◌⊎◌, ◌≤◌, IfOk};
 ghost use Rattle.desk_traits.specs.Faults.{Rose};
 ghost use Rattle.desk_drill.specs.Keeping.{IsKept, drilled_of};
@@ -16,7 +16,7 @@ use office_core::a_request_has_one_answer;
 use program_ends::{End, end_at_once, tell};
 use std::alloc::Global;
 
-/// A drill: the state of its draws at first, and how many requests it has, which are at most 8,192.
+/// A drill: the first state of its random numbers, and its number of requests, at most 8,192.
 #[derive(Clone, Copy, Debug)]
 pub struct Drill {
     pub number: u64,
@@ -51,18 +51,19 @@ fn summary_of(alloc: Global, drill: &Drill) -> Result<Text, Oom>
     summary(alloc, &desk)
 }
 
-/// Runs a drill, writes its summary, and returns the status of the program.
+/// Runs a drill, writes its summary and returns the exit status. If memory runs out nothing of the
+/// summary is written.
 pub fn run_drill<K: Sink>(alloc: Global, drill: &Drill, output: &mut K) -> u8
     requires { drill.now.count ≤ 8192 }
-    // The six lines, or that memory lacked.
+    // The six lines, or the line for out of memory.
     ensures run { IsDrillRun drill.now.number drill.now.count
         (K.outflow output.old) (K.outflow output.new) result }
-    // A write fault is told only where the count rose, and want of memory only where it did not.
+    // A write fault is reported only if the count rose, and out of memory only if it did not.
     ensures write_fault { result ≡ 8
         → Rose (K.outflow output.old).faults (K.outflow output.new).faults }
     ensures no_memory { result ≡ 12
         → (K.outflow output.new).faults ≡ (K.outflow output.old).faults }
-    // Where no write failed the six lines were written, unless memory lacked.
+    // If no write failed the six lines were written, unless memory ran out.
     ensures complete { ¬ Rose (K.outflow output.old).faults (K.outflow output.new).faults
         → (result ≡ 0) ⊎ (result ≡ 12) }
 {

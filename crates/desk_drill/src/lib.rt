@@ -1,5 +1,8 @@
 //! The drill: generated requests through an office in memory, whose texts are read as they are
-//! written.
+//! written. For the program `warn_main` and for tests. One begins with `drill_in` for the arguments
+//! and `run_drill`.
+//!
+//! docs/COMMANDS.md, "The commands".
 #![tactic(auto)]
 
 mod desk;

@@ -1,4 +1,4 @@
-//! The requests of a drill, one after another.
+//! The requests of a drill (docs/DEFINITIONS.md, "desk_drill").
 ghost use Rattle.std.specs.Prelude.{◌≡◌, ◌≤◌, ◌<◌, ◌+◌, ◌%◌, IfOk, IsTrue};
 ghost use Rattle.std.specs.List.{All};
 ghost use Rattle.hazard_types.specs.Desks.{is_desk_name};
@@ -14,16 +14,17 @@ use hazard_types::{
 };
 use std::alloc::Global;
 
-/// The minute 180101T0000Z.
+/// The minute 180101T0000Z, since 2000-01-01T00:00Z UTC.
 const FIRST_MINUTE: u32 = 9_468_000;
 
-/// For how many minutes an issue is in effect.
+/// The minutes for which an issue is in effect.
 const LASTING: u32 = 240;
 
-/// How many zones an issue has.
+/// The number of zones of an issue.
 const ZONES: u32 = 6;
 
-/// A request of a drill: an issue of a desk, which is known by its place among the four, from 0.
+/// A request of a drill: an issue of one of the four desks, which is named by its index from 0, at
+/// a minute.
 #[derive(Debug, Drop)]
 pub struct DrillRequest {
     pub desk: u32,
@@ -31,7 +32,7 @@ pub struct DrillRequest {
     pub minute: Minute,
 }
 
-/// The letters of zone i.
+/// The state's letters of zone i.
 fn letters_at(i: u32) -> [u8; 2]
     ensures value { result ≡ letters_at i }
     ensures letters { IsTrue (are_letters result) }
@@ -45,7 +46,7 @@ fn letters_at(i: u32) -> [u8; 2]
     }
 }
 
-/// Zone i, of the number i mod 999 + 1.
+/// Zone i, whose number is i mod 999 + 1.
 fn zone_at(i: u32) -> Zone
     ensures { result ≡ zone_at i }
 {
@@ -55,7 +56,11 @@ fn zone_at(i: u32) -> Zone
     }
 }
 
-/// So many zones from zone i on.
+/// Returns `count` zones from zone i on.
+///
+/// # Errors
+///
+/// Out of memory.
 #[tactic(auto, using(crate::proofs::Zones::zones_more, crate::proofs::Zones::no_zones, crate::proofs::Zones::are_places))]
 pub fn zones_from(alloc: Global, i: u32, count: u32) -> Result<List<Zone>, Oom>
     requires { i + count ≤ 4294967295 }
@@ -69,7 +74,7 @@ pub fn zones_from(alloc: Global, i: u32, count: u32) -> Result<List<Zone>, Oom>
     Ok(zones)
 }
 
-/// The name of the desk at a place, from 0 on; the fourth is the last.
+/// The name of desk `place`, counted from 0.
 fn name_at(place: u32) -> [u8; 2]
     ensures value { result ≡ desk_at place }
     ensures name { IsTrue (is_desk_name result) }
@@ -85,7 +90,7 @@ fn name_at(place: u32) -> [u8; 2]
     }
 }
 
-/// The desk at a place.
+/// Returns desk `place` of the four, counted from 0.
 pub fn desk_at(place: u32) -> Desk
     ensures { result ≡ desk_at place }
 {
@@ -107,7 +112,7 @@ fn hazard(letters: [u8; 2], sig: Sig) -> Hazard
     }
 }
 
-/// The hazard at a place, from 0 on; the fifth is the last.
+/// Hazard `place` of the five, counted from 0.
 fn hazard_at(place: u64) -> Hazard
     ensures value { result ≡ hazard_at place }
     ensures form { IsHazard result }
@@ -125,7 +130,7 @@ fn hazard_at(place: u64) -> Hazard
     }
 }
 
-/// The minute so many after 180101T0000Z.
+/// The minute `count` minutes after 180101T0000Z.
 fn minute_behind(count: u32) -> Minute
     requires { count ≤ 50000 }
     ensures { result ≡ 9468000 + count }
@@ -148,7 +153,7 @@ fn no_texts(alloc: Global) -> Texts
     }
 }
 
-/// What request i asks for, by what was drawn first and then.
+/// What request i asks for, by its two random numbers: `a` chooses the hazard, `b` the zones.
 fn part_of(alloc: Global, a: u64, b: u64, i: u32) -> Result<PutPart, Oom>
     requires { i ≤ 8192 }
     ensures value { IfOk result (λ part. part ≡ part_of a b (minute_at i)) }
@@ -165,7 +170,12 @@ fn part_of(alloc: Global, a: u64, b: u64, i: u32) -> Result<PutPart, Oom>
     })
 }
 
-/// Request i, by the next two numbers that are drawn.
+/// Returns request i, counted from 0, with the next two random numbers. It is of desk i mod 4, five
+/// minutes after the one before it.
+///
+/// # Errors
+///
+/// Out of memory.
 pub fn request_at(alloc: Global, i: u32, draws: &mut Draws) -> Result<DrillRequest, Oom>
     requires { i ≤ 8192 }
     ensures state { draws.new.state ≡ next_draw (next_draw draws.old.state) }

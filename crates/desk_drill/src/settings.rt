@@ -8,7 +8,7 @@ use desk_settings::Settings;
 use hazard_types::{Desk, List, LocalZone, Oom, Text, Zone};
 use std::alloc::Global;
 
-/// How many zones there are.
+/// The number of zones.
 const ZONES: u32 = 2000;
 
 #[tactic(auto, unfolding(desk_settings::specs::AreSettings::training_headings))]
@@ -55,7 +55,12 @@ fn made(alloc: Global) -> Result<Settings, Oom>
     })
 }
 
-/// The settings of a drill: those of training, with four desks and 2,000 zones.
+/// Returns the settings of a drill: those of training, with four desks and 2,000 zones
+/// (docs/DECISIONS.md, "The drill").
+///
+/// # Errors
+///
+/// Out of memory.
 pub fn drill_settings(alloc: Global) -> Result<Settings, Oom>
     ensures value { IfOk result (λ s. s ≡ drill_settings) }
     ensures forms { IfOk result HasForms }

@@ -7,7 +7,7 @@ use crate::desk::DrillDesk;
 use hazard_types::{List, Oom, Text, put_number};
 use std::alloc::Global;
 
-/// Adds a name, a number and LF.
+/// Appends a name, a blank, a number and LF.
 fn put_count(alloc: Global, out: &mut Text, name: &[u8], n: usize) -> Result<(), Oom>
     ensures { OnOk result (out.new ≡ out.old ++ count_line name.now n) }
 {
@@ -17,7 +17,7 @@ fn put_count(alloc: Global, out: &mut Text, name: &[u8], n: usize) -> Result<(),
     out.push(b'\n')
 }
 
-/// Adds the lines on the requests.
+/// Appends the lines on the requests.
 fn put_requests(alloc: Global, out: &mut Text, desk: &DrillDesk) -> Result<(), Oom>
     ensures { OnOk result (out.new ≡ out.old ++ request_lines (drilled_of desk.now)) }
 {
@@ -26,7 +26,7 @@ fn put_requests(alloc: Global, out: &mut Text, desk: &DrillDesk) -> Result<(), O
     put_count(alloc, out, b"products", desk.office.products() as usize)
 }
 
-/// Adds the lines on what the requests made.
+/// Appends the lines on what the requests made.
 fn put_events(alloc: Global, out: &mut Text, desk: &DrillDesk) -> Result<(), Oom>
     requires { IsKept desk.now }
     ensures { OnOk result (out.new ≡ out.old ++ event_lines (drilled_of desk.now)) }
@@ -38,7 +38,12 @@ fn put_events(alloc: Global, out: &mut Text, desk: &DrillDesk) -> Result<(), Oom
     put_count(alloc, out, b"breaches", breaches)
 }
 
-/// The six lines.
+/// Returns the six lines of the summary, each a name, a blank, a number and LF: accepted, refused,
+/// products, events, shown, breaches.
+///
+/// # Errors
+///
+/// Out of memory.
 #[tactic(auto, unfolding(crate::specs::Tellings::summary))]
 pub fn summary(alloc: Global, desk: &DrillDesk) -> Result<Text, Oom>
     requires { IsKept desk.now }

@@ -1,4 +1,4 @@
-//! The reader of a drill's texts, which has nothing else.
+//! The reader of a drill's texts, which has the texts alone.
 ghost use Rattle.std.specs.Prelude.{◌≡◌, ◌≤◌, ◌<◌, ◌+◌, ◌^◌, ◌++◌, [], IfOk, OnOk, length};
 ghost use Rattle.hazard_types.specs.declared.codes.Class.TheVariants as classes;
 ghost use Rattle.event_life.specs.Products.{rows_of};
@@ -12,7 +12,7 @@ use hazard_types::{Class, Minute, Oom, Or};
 use product_decoder::{Reader, decode};
 use std::alloc::Global;
 
-/// A reader of texts, and how many of them did not decode.
+/// A reader of texts, and the number of texts that did not decode.
 #[derive(Drop)]
 pub struct TextReader {
     pub reader: Reader,
@@ -20,7 +20,7 @@ pub struct TextReader {
 }
 
 impl TextReader {
-    /// Before the first text.
+    /// Returns a reader before the first text.
     pub fn new(alloc: Global) -> Self
         ensures office { result.reader.office ≡ drill_office }
         ensures class { result.reader.class ≡ classes.O }
@@ -33,7 +33,7 @@ impl TextReader {
         }
     }
 
-    /// Decodes a text and takes its product, or counts its fault.
+    /// Decodes a text and takes its product, or counts a text that does not decode.
     ///
     /// # Errors
     ///
@@ -58,7 +58,7 @@ impl TextReader {
         }
     }
 
-    /// How many breaches and gaps there are in the products that were read.
+    /// The number of breaches and gaps in the products, added up.
     fn findings(&self, alloc: Global) -> Result<usize, Oom>
         ensures value { IfOk result (λ n. n ≡ findings_in self.now.reader.products) }
         ensures bound { IfOk result (λ n. n + 8192 < 2 ^ 64) }
@@ -68,7 +68,11 @@ impl TextReader {
         Ok(breaches.len() + gaps.len())
     }
 
-    /// How many breaches, gaps and faults were found.
+    /// Returns the number of breaches, gaps and texts that did not decode, added up.
+    ///
+    /// # Errors
+    ///
+    /// Out of memory.
     pub fn breaches(&self, alloc: Global) -> Result<usize, Oom>
         requires { self.now.faults ≤ 8192 }
         ensures { IfOk result (λ n. n ≡ self.now.faults + findings_in self.now.reader.products) }
@@ -77,7 +81,11 @@ impl TextReader {
         Ok(self.faults as usize + findings)
     }
 
-    /// How many rows are shown at a minute.
+    /// Returns the number of rows shown at minute t.
+    ///
+    /// # Errors
+    ///
+    /// Out of memory.
     pub fn shown(&self, alloc: Global, t: Minute) -> Result<usize, Oom>
         ensures { IfOk result (λ n. n ≡ length (shown_at t (rows_of self.now.reader.products))) }
     {

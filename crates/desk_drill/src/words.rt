@@ -1,4 +1,4 @@
-//! The words of a drill.
+//! The arguments of a drill.
 ghost use Rattle.std.specs.Prelude.{◌≡◌, ◌≤◌, IfSome};
 ghost use Rattle.desk_drill.specs.Words.{drill_in};
 
@@ -8,7 +8,8 @@ use program_ends::number_in;
 /// The most requests of a drill.
 const MOST: u64 = 8192;
 
-/// The drill that the words ask for. None exactly where they ask for none.
+/// Parses the arguments `drill NUMBER COUNT`, decimal digits with leading zeros allowed, a number
+/// below 2^64 and a count of at most 8,192. `None` exactly if they are something else.
 #[tactic(auto, unfolding(crate::specs::Words::drill_in))]
 pub fn drill_in(command: &[u8], number: &[u8], count: &[u8]) -> Option<Drill>
     ensures value { result ≡ drill_in command.now number.now count.now }

@@ -1,4 +1,4 @@
-//! Bytes that are read before they are asked for.
+//! A buffer of bytes that are read before they are asked for.
 ghost use Rattle.std.specs.Prelude.{◌≡◌, ◌++◌, ◌↔◌, [], length, take, min, IsTrue, OnOk, OnErr};
 ghost use Rattle.desk_traits.specs.Faults.{HasCause};
 ghost use Rattle.byte_streams.specs.Flows.{Takes, IsAtEnd};
@@ -7,10 +7,10 @@ use byte_streams::Source;
 use desk_traits::Failed;
 use std::marker::Model;
 
-// The most bytes that are read ahead.
+// The size of the buffer in bytes.
 const ROOM: usize = 4096;
 
-/// The bytes that were read of a source and not handed out yet.
+/// The bytes that were read from a source and not yet handed out.
 #[derive(Drop)]
 pub struct Ahead {
     bytes: [u8; ROOM],
@@ -29,7 +29,7 @@ impl Model for Ahead {
 }
 
 impl Ahead {
-    /// No bytes.
+    /// Returns a buffer without bytes.
     pub fn none() -> Self
         ensures { result ≡ [] }
     {
@@ -47,18 +47,20 @@ impl Ahead {
         self.bytes[self.from..self.to].is_empty()
     }
 
-    /// The bytes that are left.
+    /// Returns the bytes that are left.
     pub fn as_slice(&self) -> &[u8]
         ensures { result.now ≡ self.now }
     {
         &self.bytes[self.from..self.to]
     }
 
-    /// Reads a source once, where no byte is left. Then none is left exactly at the source's end.
+    /// Reads `source` once into the buffer, which must be empty. After `Ok` it is empty exactly at
+    /// the source's end.
     ///
     /// # Errors
     ///
-    /// `Failed` where nothing was read; the source's count of faults rose.
+    /// `Failed` if the read failed; the buffer stays empty, and the source's count of faults has
+    /// risen.
     pub fn fill<S: Source>(&mut self, source: &mut S) -> Result<(), Failed>
         requires { self.old ≡ [] }
         ensures bytes { OnOk result
@@ -76,7 +78,8 @@ impl Ahead {
         Ok(())
     }
 
-    /// Hands out the first of the bytes, as many as there is room for.
+    /// Moves the first bytes of the buffer to the start of `into`, as many as fit, and returns how
+    /// many.
     pub fn hand_out(&mut self, into: &mut [u8]) -> usize
         ensures count { result ≡ min (length self.old) (length into.old) }
         ensures bytes { self.old ≡ take result into.new ++ self.new }

@@ -1,4 +1,4 @@
-//! A dialer, which gives links to the other side of a port.
+//! The traits of the asking side: a dialer connects to a port, and lends one link at a time.
 ghost use Rattle.std.specs.Prelude.{◌≡◌, ◌<◌, ◌+◌, ◌^◌, ℕ, List, length, IfOk};
 ghost use Rattle.desk_links.specs.Links.{BeginsLeft, DialerState, GivesLink, HandsOut, ReadsLink};
 ghost use Rattle.desk_links.specs.Links.{with_count};
@@ -6,50 +6,54 @@ ghost use Rattle.desk_links.specs.Links.{with_count};
 use crate::link::Link;
 use desk_traits::Failed;
 
-/// A link of which a read fails where the other side's bytes end, so that the end is counted.
+/// A link whose read fails, and is counted, where the other side's bytes end.
 pub trait Peer: Link {
-    /// The bytes that it holds already, which the next reads hand out.
+    /// The bytes that were received and not yet handed out; the next reads return them first.
     ghost held: { Self → List ℕ };
 
-    /// The bytes that it holds already. There may be none.
+    /// Returns the bytes that were received and not yet handed out. There may be none.
     fn waiting(&self) -> &[u8]
         ensures { result.now ≡ held self.now };
 
-    /// Its read, for a buffer that has room: it gives at least one byte.
+    /// Reads 1 to `into.len()` bytes into the start of `into`, which must not be empty, and returns
+    /// how many.
     ///
     /// # Errors
     ///
-    /// `Failed` where nothing was read, at the end too; the count of the reads' faults rose.
+    /// `Failed` if the read failed or the other side's bytes ended; nothing was read, and the count
+    /// of the reads' faults has risen.
     fn read_some(&mut self, into: &mut [u8]) -> Result<usize, Failed>
         requires { 0 < length into.old }
         ensures read { ReadsLink (Self.state self.old) (Self.state self.new) result into.new }
         ensures some { IfOk result (λ n. 0 < n) }
         ensures waited { HandsOut (held self.old) result into.new };
 
-    /// Where what is left is told, what it holds begins it.
+    /// If the link exposes its remaining bytes, they start with the bytes held.
     ghost held_first: { (peer : Self)
         → BeginsLeft (Self.Link.state peer).input.left (held peer) };
 }
 
-/// Gives links, one at a time, and takes each back with its count.
+/// A client side that lends links, one at a time, and takes each back.
 pub trait Dialer {
     type Link: Peer;
 
-    /// What it shows: the links given and returned, and how many dials have failed, with the counts
-    /// of the links that came back.
+    /// The number of links lent and of links returned, the returned links in their final states if
+    /// the dialer exposes them, and the number of failed dials and of failures on the returned
+    /// links.
     ghost state: { Self → DialerState };
 
-    /// A link of which nothing was read and on which nothing was written.
+    /// Connects, and returns a link of which nothing was read and to which nothing was written.
     ///
     /// # Errors
     ///
-    /// `Failed` where no link came; the count of faults rose.
+    /// `Failed` if no link came; the count of faults has risen.
     fn dial(&mut self) -> Result<Self::Link, Failed>
         requires none_out { (state self.old).given ≡ (state self.old).returned }
         requires few { (state self.old).returned < 2 ^ 32 }
         ensures { GivesLink Self.Link.state (state self.old) (state self.new) result };
 
-    /// Takes a link back. It takes no memory and can't be refused.
+    /// Takes a link back, and adds its counts of faults to that of the dialer. Takes no memory and
+    /// can't fail.
     fn return_link(&mut self, link: Self::Link)
         requires one_out { (state self.old).given ≡ (state self.old).returned + 1 }
         ensures { state self.new ≡ with_count (state self.old) (Self.Link.state link) };

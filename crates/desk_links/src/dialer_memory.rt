@@ -1,4 +1,4 @@
-//! A dialer in memory, which gives the links that it was made with.
+//! A dialer in memory, which lends the links that it was made with.
 ghost use Rattle.std.specs.Prelude.{◌≡◌, ◌⊎◌, ◌<◌, ◌+◌, ◌++◌, ◌∷◌, ◌^◌, ◌↔◌, [], All};
 ghost use Rattle.std.specs.Prelude.{length, min, Some, Contains, IfOk, OnOk, OnErr, IsErr};
 ghost use Rattle.desk_traits.specs.Faults.{next_count};
@@ -33,14 +33,14 @@ impl Model for MemPeer {
 }
 
 impl MemPeer {
-    /// A peer over a link.
+    /// Returns a peer over `link`.
     pub fn new(link: MemLink) -> Self
         ensures { result ≡ link }
     {
         MemPeer { link }
     }
 
-    /// The bytes that were written.
+    /// Returns the written bytes.
     pub fn written(&self) -> &Text
         ensures { result.now ≡ self.now.written }
     {
@@ -58,14 +58,14 @@ impl Source for MemPeer {
         ensures counted { OnErr result (self.new.read_faults ≡ next_count self.old.read_faults) }
         ensures beside { KeepsOut self.old self.new }
 
-        // It fails at exactly the listed calls, and where no byte is left for a buffer with room.
+        // It fails exactly at the listed calls, and where no byte is left for a non-empty buffer.
         ensures failing { IsErr result ↔ (Contains self.old.failing (next_count self.old.calls)
             ⊎ ((self.old.left ≡ []) × (0 < length into.old))) }
         ensures amount { IfOk result
             (λ n. n ≡ min (min (length self.old.left) self.old.piece) (length into.old)) }
         ensures called { self.new.calls ≡ next_count self.old.calls }
 
-        // A read for no more than the next piece has is given its front.
+        // A read of no more bytes than the next piece has returns a prefix of it.
         ensures waited { HandsOut (next_piece self.old) result into.new }
     {
         if !into.is_empty() && self.link.is_at_end() {
@@ -125,8 +125,7 @@ impl Peer for MemPeer {
     }
 }
 
-/// A dialer that gives its links in order. It fails at the dials that it was told, and where it has
-/// no link left.
+/// A dialer that lends its links in order. It fails at given dials, and once no link is left.
 #[derive(Drop)]
 pub struct MemDialer {
     links: LentLinks,
@@ -141,8 +140,12 @@ impl Model for MemDialer {
 }
 
 impl MemDialer {
-    /// A dialer of these links. The dials whose numbers, counted from 1, are among the failing ones
-    /// answer `Failed`, and each for which no link is left.
+    /// Returns a dialer of `links`. Dial n, counted from 1, fails if n is in `failing`, and so does
+    /// each dial once no link is left.
+    ///
+    /// # Errors
+    ///
+    /// Out of memory.
     pub fn new(alloc: Global, links: List<MemLink>, failing: &List<u64>) -> Result<Self, Oom>
         requires { All IsUntouched links }
         ensures { IfOk result (λ dialer. dialer ≡ door_with links failing.now) }
@@ -153,7 +156,7 @@ impl MemDialer {
         })
     }
 
-    /// The links returned, in order.
+    /// Returns the returned links, in order.
     pub fn links(&self) -> &[MemLink]
         ensures { result.now ≡ self.now.back }
     {

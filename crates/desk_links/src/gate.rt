@@ -1,15 +1,15 @@
-//! A gate, at which a test may hold a call back.
+//! Hooks around the calls of a link, with which a test may hold up a call.
 
-/// Is told of each call before it is judged and after it was answered.
+/// A hook called before each call is judged and after it was handled.
 pub trait Gate {
-    /// Call number `call` of a link was read, and is judged next.
+    /// Call `call` of a link, counted from 1, was read whole and is judged next.
     fn enter(&self, call: u64);
 
-    /// Its answer was written.
+    /// Call `call` was handled: its answer was written, or its link ended.
     fn leave(&self, call: u64);
 }
 
-/// Does nothing.
+/// The hook that does nothing.
 #[derive(Clone, Copy, Debug)]
 pub struct OpenGate;
 

@@ -1,5 +1,4 @@
-//! The links of a door or of a dialer in memory: those that it has still to give, and those
-//! returned.
+//! The links of a door or of a dialer in memory: those still to lend, and those returned.
 ghost use Rattle.std.specs.Prelude.{◌≡◌, ◌<◌, ◌+◌, ◌^◌, All, length, IfOk};
 ghost use Rattle.desk_links.specs.Links.{GivesLink};
 ghost use Rattle.desk_links.specs.LinkMemory.{IsUntouched, Lends, door_state, door_with};
@@ -12,8 +11,8 @@ use std::alloc::Global;
 use std::collections::VecDeque;
 use std::marker::Model;
 
-/// Links that are given in order. A call for one fails at the numbers that it was told, and where
-/// no link is left. The list in which the links come back has room for all of them.
+/// Links in memory, lent in order. `back` has room for all of them, so taking one back takes no
+/// memory.
 #[derive(Drop)]
 pub struct LentLinks {
     waiting: VecDeque<MemLink>,
@@ -44,8 +43,12 @@ impl Model for LentLinks {
 }
 
 impl LentLinks {
-    /// These links, of which none was given. The calls whose numbers, counted from 1, are among the
-    /// failing ones fail, and each for which no link is left.
+    /// Returns `links`, none of them lent. Call n of `lend`, counted from 1, fails if n is in
+    /// `failing`, and so does each call once no link is left.
+    ///
+    /// # Errors
+    ///
+    /// Out of memory.
     pub fn new(alloc: Global, links: List<MemLink>, failing: List<u64>) -> Result<Self, Oom>
         requires { All IsUntouched links }
         ensures { IfOk result (λ lent. lent ≡ door_with links failing) }
@@ -61,11 +64,11 @@ impl LentLinks {
         })
     }
 
-    /// The next link.
+    /// Returns the next link.
     ///
     /// # Errors
     ///
-    /// `Failed` where the call was told to fail, or no link is left; the count of faults rose.
+    /// `Failed` if the call is in `failing` or no link is left; the count of faults has risen.
     pub fn lend(&mut self) -> Result<MemLink, Failed>
         requires none_out { self.old.given ≡ length self.old.back }
         requires few { length self.old.back < 2 ^ 32 }
@@ -91,28 +94,28 @@ impl LentLinks {
         self.back.push_reserved(link);
     }
 
-    /// Counts so many faults more.
+    /// Adds `count` to the count of faults.
     pub fn add_faults(&mut self, count: u64)
         ensures { self.new ≡ with_faults self.old count }
     {
         self.faults = self.faults.saturating_add(count);
     }
 
-    /// The links returned, in order.
+    /// Returns the returned links, in order.
     pub fn back(&self) -> &[MemLink]
         ensures { result.now ≡ self.now.back }
     {
         &self.back
     }
 
-    /// How many calls have failed.
+    /// Returns the count of faults: failed calls of `lend`, and what `add_faults` added.
     pub fn faults(&self) -> u64
         ensures { result ≡ self.now.faults }
     {
         self.faults
     }
 
-    /// The links returned, in order.
+    /// Returns the returned links, in order, and drops the others.
     pub fn into_back(self) -> Vec<MemLink>
         ensures { result.items ≡ self.back }
     {

@@ -1,4 +1,8 @@
-//! Links, doors, ports and gates: the outside of a program that serves calls.
+//! The network of a program as traits, over TCP and in memory: links (connections), doors
+//! (listeners that accept one link at a time), ports that lend doors, and dialers for the other
+//! side. For servers and clients, and for their tests. A server begins with `TcpPort::new`,
+//! `Port::listen` and `Door::accept`, a client with `TcpDialer::new` and `Dialer::dial`; both then
+//! use `read_link` and `write_link`.
 #![tactic(auto)]
 
 mod ahead;

@@ -1,4 +1,4 @@
-//! A link in memory, which fails at exactly the calls that it is told.
+//! A link in memory, which fails at given calls.
 ghost use Rattle.std.specs.Prelude.{◌≡◌, ◌≤◌, ◌+◌, ◌-◌, ◌^◌, ◌↔◌, length, min, IfOk};
 ghost use Rattle.std.specs.Prelude.{OnErr, IsErr, IsTrue, Contains, []};
 ghost use Rattle.desk_traits.specs.Faults.{next_count};
@@ -14,7 +14,7 @@ use hazard_types::{List, Oom, Text};
 use std::alloc::Global;
 use std::marker::Model;
 
-/// A link that gives bytes in pieces and keeps those that are written.
+/// A link over bytes in memory, handed out in pieces, that keeps the written bytes.
 #[derive(Debug, Drop)]
 pub struct MemLink {
     bytes: Text,
@@ -50,9 +50,13 @@ impl Model for MemLink {
 }
 
 impl MemLink {
-    /// A link of these bytes that gives at most `piece` of them at once. Its reads and writes are
-    /// counted together, from 1. Those among the failing ones answer `Failed`, and each write for
-    /// which memory lacks.
+    /// Returns a link over `bytes` that hands out at most `piece` bytes a read. Reads and writes
+    /// are counted together, from 1; call n fails if n is in `failing`, and so does each write for
+    /// which memory runs out.
+    ///
+    /// # Errors
+    ///
+    /// Out of memory.
     pub fn new(alloc: Global, bytes: &[u8], piece: usize, failing: &List<u64>) -> Result<Self, Oom>
         requires { 1 ≤ piece }
         ensures { IfOk result (λ l. l ≡ link_with bytes.now piece failing.now) }
@@ -70,21 +74,20 @@ impl MemLink {
         })
     }
 
-    /// The bytes that were written.
+    /// Returns the written bytes.
     pub fn written(&self) -> &Text
         ensures { result.now ≡ self.now.written }
     {
         &self.written
     }
 
-    // Whether no byte is left.
     pub(crate) fn is_at_end(&self) -> bool
         ensures { IsTrue result ↔ (self.now.left ≡ []) }
     {
         self.bytes.as_slice()[self.at..].is_empty()
     }
 
-    // The bytes that its next read may give.
+    // The bytes that the next read may return.
     pub(crate) fn next_piece(&self) -> &[u8]
         ensures { result.now ≡ next_piece self.now }
     {
@@ -92,7 +95,7 @@ impl MemLink {
         &rest[..rest.len().min(self.piece)]
     }
 
-    // Counts a read, and that it failed.
+    // Counts a read that failed.
     pub(crate) fn fail_read(&mut self)
         ensures later { self.old.read_faults ≤ self.new.read_faults }
         ensures new { self.new ≡ with_failed_read self.old }
@@ -101,7 +104,7 @@ impl MemLink {
         self.read_faults = self.read_faults.saturating_add(1);
     }
 
-    // How many of its reads and writes failed.
+    // The number of failed reads and writes, together.
     pub(crate) fn all_faults(&self) -> u64
         ensures { result ≡ min (self.now.read_faults + self.now.write_faults) (2 ^ 64 - 1) }
     {
@@ -119,8 +122,8 @@ impl Source for MemLink {
         ensures counted { OnErr result (self.new.read_faults ≡ next_count self.old.read_faults) }
         ensures beside { KeepsOut self.old self.new }
 
-        // It fails at exactly the listed calls, and gives all that a piece and the buffer may hold
-        // at the others.
+        // It fails exactly at the listed calls; otherwise it returns as many bytes as remain and
+        // fit both the piece and the buffer.
         ensures failing { IsErr result ↔ Contains self.old.failing (next_count self.old.calls) }
         ensures amount { IfOk result
             (λ n. n ≡ min (min (length self.old.left) self.old.piece) (length into.old)) }
@@ -152,14 +155,14 @@ impl Sink for MemLink {
 
     ghost more_writes = { keeps_in_more };
 
-    /// Takes the whole piece. A growth of its memory that is refused is a counted fault.
+    /// Writes all of `bytes`. If memory runs out the call fails, and is counted.
     fn write(&mut self, bytes: &[u8]) -> Result<usize, Failed>
         ensures written { Writes (link_output self.old) (link_output self.new) result bytes.now }
         ensures counted { OnErr result (self.new.write_faults ≡ next_count self.old.write_faults) }
         ensures beside { KeepsIn self.old self.new }
 
-        // It fails at exactly the listed calls, and where memory lacks, and takes the whole piece
-        // at the others.
+        // It fails exactly at the listed calls and where memory runs out; otherwise it takes all
+        // bytes.
         ensures failing { FailsAsTold (Contains self.old.failing (next_count self.old.calls))
             self.old.lacked self.new.lacked result }
         ensures amount { IfOk result (λ n. n ≡ length bytes.now) }

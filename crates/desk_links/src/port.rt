@@ -1,4 +1,4 @@
-//! A port with doors, each of which gives one link at a time.
+//! The traits of the serving side: a port lends doors, and a door lends one link at a time.
 ghost use Rattle.std.specs.Prelude.{◌≡◌, ◌<◌, ◌+◌, ◌^◌};
 ghost use Rattle.desk_links.specs.Links.{DoorState, GivesLink, PortState, with_door, with_link};
 ghost use Rattle.desk_links.specs.Listening.{Listens};
@@ -7,47 +7,49 @@ use crate::link::Link;
 use desk_traits::Failed;
 use hazard_types::{List, Or};
 
-/// Gives links, one at a time, and takes each back.
+/// A listener that lends links, one at a time, and takes each back.
 pub trait Door {
     type Link: Link + Send;
 
-    /// What it shows: the links given and returned, and how many accepts have failed.
+    /// The number of links lent and of links returned, the returned links in their final states if
+    /// the door exposes them, and the number of failed accepts.
     ghost state: { Self → DoorState };
 
-    /// A link of which nothing was read and on which nothing was written.
+    /// Accepts a link, of which nothing was read and to which nothing was written.
     ///
     /// # Errors
     ///
-    /// `Failed` where no link came; the count of faults rose.
+    /// `Failed` if no link came; the count of faults has risen.
     fn accept(&mut self) -> Result<Self::Link, Failed>
         requires none_out { (state self.old).given ≡ (state self.old).returned }
         requires few { (state self.old).returned < 2 ^ 32 }
         ensures { GivesLink Self.Link.state (state self.old) (state self.new) result };
 
-    /// Takes a link back. It takes no memory and can't be refused.
+    /// Takes a link back. Takes no memory and can't fail.
     fn return_link(&mut self, link: Self::Link)
         requires one_out { (state self.old).given ≡ (state self.old).returned + 1 }
         ensures { state self.new ≡ with_link (state self.old) (Self.Link.state link) };
 }
 
-/// Gives doors, and takes each back.
+/// A port that lends doors, and takes each back.
 pub trait Port {
     type Door: Door + Send + Drop;
 
-    /// What it shows: the links that came back with their doors, the numbers at which it has
-    /// listened, and how often it and these doors have failed.
+    /// The links that came back with their doors and the port numbers that were listened at, both
+    /// if the port exposes them, and the number of failures of the port and of its returned doors.
     ghost state: { Self → PortState };
 
-    /// So many doors at the port of this number, none of which was used.
+    /// Listens at `port` and returns `doors` unused doors of it.
     ///
     /// # Errors
     ///
-    /// `No(Failed)` where the port can't be had; the count of faults rose. `OutOfMemory`, where it
-    /// did not.
+    /// - `No(Failed)` if the port can't be had; the count of faults has risen.
+    /// - `OutOfMemory`; the count of faults is as before.
     fn listen(&mut self, port: u16, doors: usize) -> Result<List<Self::Door>, Or<Failed>>
         ensures { Listens Self.Door.state (state self.old) (state self.new) port doors result };
 
-    /// Takes a door back, with its count and its links. It takes no memory and can't be refused.
+    /// Takes a door back, and adds its count of faults and its returned links to those of the port.
+    /// Takes no memory and can't fail.
     fn return_door(&mut self, door: Self::Door)
         requires none_out { (Self.Door.state door).given ≡ (Self.Door.state door).returned }
         requires few { (state self.old).returned + (Self.Door.state door).returned < 2 ^ 32 }

@@ -1,4 +1,4 @@
-//! A port in memory, whose doors give the links that it was made with.
+//! A port in memory, whose doors lend the links that it was made with.
 ghost use Rattle.std.specs.Prelude.{◌≡◌, ◌≤◌, ◌<◌, ◌+◌, ◌-◌, ◌^◌, ◌++◌, ◌∷◌, []};
 ghost use Rattle.std.specs.Prelude.{All, length, drop, min, IfOk, OnOk, OnErr};
 ghost use Rattle.desk_links.specs.Links.{GivesLink};
@@ -17,8 +17,9 @@ use std::alloc::Global;
 use std::collections::{LinkedList, VecDeque};
 use std::marker::Model;
 
-/// A door that gives its links in order. It fails at the accepts that it was told, and where it has
-/// no link left. The list in which the links come back has a node in which it goes to the port.
+/// A door that lends its links in order. It fails at given accepts, and once no link is left.
+/// `node` is the list node in which the returned links go to the port, so that this takes no
+/// memory.
 #[derive(Drop)]
 pub struct MemDoor {
     links: LentLinks,
@@ -37,7 +38,7 @@ impl Model for MemDoor {
 }
 
 impl MemDoor {
-    // A door that was not used.
+    // An unused door.
     fn new(alloc: Global, links: List<MemLink>, failing: List<u64>) -> Result<Self, Oom>
         requires { All IsUntouched links }
         ensures { IfOk result (λ door. door ≡ door_with links failing) }
@@ -48,7 +49,7 @@ impl MemDoor {
         Ok(MemDoor { links, node })
     }
 
-    // Its links, in the node that was kept for them.
+    // The returned links, in the list node made for them.
     fn into_node(self) -> LinkedList<List<MemLink>>
         ensures { result ≡ self.back ∷ [] }
     {
@@ -82,7 +83,7 @@ impl Door for MemDoor {
     }
 }
 
-// The list at a place, or an empty one.
+// The list at index `place`, or an empty one.
 #[tactic(auto, using(crate::proofs::Dealing::first_told))]
 fn told_at(alloc: Global, failing: &List<List<u64>>, place: usize) -> Result<List<u64>, Oom>
     ensures { IfOk result (λ told. told ≡ first_list (drop place failing.now)) }
@@ -104,7 +105,8 @@ fn next_door(alloc: Global, doors: &mut VecDeque<MemDoor>) -> Result<MemDoor, Oo
     }
 }
 
-/// A port that gives the doors that it was made with, and keeps the numbers at which it listened.
+/// A port that lends the doors that it was made with, and keeps the port numbers that were listened
+/// at.
 #[derive(Drop)]
 pub struct MemPort {
     alloc: Global,
@@ -132,9 +134,13 @@ impl Model for MemPort {
 }
 
 impl MemPort {
-    /// A port with a door for each list of links, which it gives in this order, and then doors
-    /// without links. The accepts of door k whose numbers, counted from 1, are in list k of the
-    /// failing ones answer `Failed`, and each for which the door has no link left.
+    /// Returns a port with a door for each list of `links`, lent in this order, and after them
+    /// doors without links. Accept n of door k, counted from 1, fails if n is in list k of
+    /// `failing`, and so does each accept once the door has no link left.
+    ///
+    /// # Errors
+    ///
+    /// Out of memory.
     pub fn new(
         alloc: Global,
         links: List<List<MemLink>>,
@@ -159,15 +165,15 @@ impl MemPort {
         })
     }
 
-    /// The links taken back: a list for each door that came back with one, in the order in which
-    /// the doors came back, and in it the links in the order in which the door took them back.
+    /// Returns the links that came back: a list for each door that came back with a link, in the
+    /// order in which the doors came back, each list in the order in which its door took them back.
     pub fn links(&self) -> &LinkedList<List<MemLink>>
         ensures { result.now ≡ self.now.back }
     {
         &self.back
     }
 
-    /// The numbers at which it has listened, in order.
+    /// Returns the port numbers that were listened at, in order.
     pub fn numbers(&self) -> &[u16]
         ensures { result.now ≡ self.now.numbers }
     {
@@ -190,7 +196,7 @@ impl Port for MemPort {
         ensures numbers { OnOk result (self.new.numbers ≡ self.old.numbers ++ port ∷ []) }
         ensures kept { OnErr result (self.new.numbers ≡ self.old.numbers) }
 
-        // It gives the next of its doors.
+        // It lends the next of its doors.
         ensures dealt { IfOk result (λ list. list ≡ dealt doors self.old.doors) }
     {
         self.numbers.reserve(1)?;

@@ -1,5 +1,5 @@
-//! The port and doors of the system, over TCP on this machine's own address. They tell nothing of
-//! the links, and are trusted.
+//! The port and the doors of the system, over TCP on 127.0.0.1. They expose nothing of the links,
+//! and are trusted.
 ghost use Rattle.std.specs.Prelude.{◌≡◌, All, length, IfOk};
 
 use crate::port::{Door, Port};
@@ -12,18 +12,18 @@ use std::net::{Ipv4Addr, Net, SocketAddr, SocketAddrV4, TcpListener, TcpStream};
 use std::sync::Arc;
 use std::time::{Clock, Duration};
 
-// How often an accept is tried in a row where a connection broke off before it was taken, or where
-// the system has no descriptor or no memory for it just now.
+// The number of tries of one accept, where a connection broke off before it was taken or the system
+// is short of descriptors or memory (docs/DECISIONS.md, "Links and doors").
 const TRIES: usize = 100;
 
-// The milliseconds that are waited before an accept is tried again for want of these.
+// The pause in milliseconds before the next try where the system is short of them.
 const PAUSE: u64 = 100;
 
-// The system's numbers for want of memory, of descriptors in the system and in the program, and of
-// room for sockets.
+// The system's error numbers for out of memory, for no descriptors in the system and in the
+// program, and for no room for sockets.
 const LACKS: [i32; 4] = [12, 23, 24, 105];
 
-// Whether an accept failed for want of something that may be there again soon.
+// Whether an accept failed for a reason that may pass soon.
 fn is_want(error: &Error) -> bool {
     match error.raw_os_error() {
         Some(code) => LACKS.contains(&code),
@@ -31,8 +31,7 @@ fn is_want(error: &Error) -> bool {
     }
 }
 
-// The next stream. A connection that broke off before it was taken is passed over, and a want of
-// descriptors or memory is waited for, some times.
+// Accepts the next stream, with up to `TRIES` tries.
 fn next_stream<C: Clock>(clock: &C, listener: &TcpListener) -> Option<TcpStream> {
     for _ in 0..TRIES {
         match listener.accept() {
@@ -83,7 +82,7 @@ impl<C: Clock + Copy + Send + Drop> Door for TcpDoor<C> {
     }
 }
 
-/// A port of the system, on this machine's own address.
+/// A port of the system, on 127.0.0.1.
 #[derive(Drop)]
 pub struct TcpPort<R> {
     net: R,
@@ -93,7 +92,7 @@ pub struct TcpPort<R> {
 }
 
 impl<R: Net<Listener = TcpListener, Stream = TcpStream>> TcpPort<R> {
-    /// A port over the runtime's network.
+    /// Returns a port over the runtime's network.
     pub fn new(alloc: Global, net: R) -> Self
         ensures faults { result.faults ≡ 0 }
         ensures returned { result.returned ≡ 0 }
@@ -107,7 +106,7 @@ impl<R: Net<Listener = TcpListener, Stream = TcpStream>> TcpPort<R> {
     }
 }
 
-// So many doors over one listener.
+// Returns `doors` doors over one listener.
 fn doors_over<C: Clock + Copy>(
     alloc: Global,
     clock: C,

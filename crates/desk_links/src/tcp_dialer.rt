@@ -1,4 +1,4 @@
-//! The dialer of the system, over TCP on this machine's own address. It is trusted.
+//! The dialer of the system, over TCP on 127.0.0.1. It is trusted.
 ghost use Rattle.std.specs.Prelude.{◌≡◌, ◌≢◌, ◌<◌, ◌++◌, [], take, None, length, IfOk, OnOk};
 ghost use Rattle.byte_streams.specs.Flows.{Reads};
 ghost use Rattle.desk_links.specs.Links.{HandsOut};
@@ -13,9 +13,8 @@ use desk_traits::Failed;
 use std::net::{Ipv4Addr, Net, SocketAddr, SocketAddrV4, TcpListener, TcpStream};
 use std::time::Clock;
 
-/// A stream whose reads fail where the other side's bytes end. It takes what the system has of
-/// them, up to 4,096 bytes, and hands out those that are asked for; the others wait for the next
-/// read.
+/// A connection whose reads fail where the other side's bytes end. It takes up to 4,096 bytes at
+/// once from the system; those that were not asked for wait for the next read.
 #[derive(Drop)]
 pub struct TcpPeer<C> {
     link: TcpLink<C>,
@@ -33,7 +32,7 @@ impl<C: Clock> Source for TcpPeer<C> {
         ensures beside { self.new.link.write_faults ≡ self.old.link.write_faults }
         ensures some { IfOk result (λ n. 0 < length into.old → 0 < n) }
 
-        // What waits is handed out first, in its order, and nothing of it is lost.
+        // The bytes of an earlier read are handed out first and in order, and none is lost.
         ensures waiting { self.old.ahead ≢ []
             → IfOk result (λ n. self.old.ahead ≡ take n into.new ++ self.new.ahead) }
         ensures waited { HandsOut self.old.ahead result into.new }
@@ -101,7 +100,7 @@ impl<C: Clock> Peer for TcpPeer<C> {
     }
 }
 
-/// A dialer of one port of this machine. It closes the links that it takes back.
+/// A dialer of one port of 127.0.0.1. It closes the links that it takes back.
 #[derive(Drop)]
 pub struct TcpDialer<R> {
     net: R,
@@ -112,7 +111,7 @@ pub struct TcpDialer<R> {
 }
 
 impl<R: Net<Listener = TcpListener, Stream = TcpStream>> TcpDialer<R> {
-    /// A dialer of the port, over the runtime's network.
+    /// Returns a dialer of `port` over the runtime's network.
     pub fn new(net: R, port: u16) -> Self
         ensures faults { result.faults ≡ 0 }
         ensures given { result.given ≡ 0 }

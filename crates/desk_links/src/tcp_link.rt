@@ -1,5 +1,5 @@
-//! The link of the system, over TCP, with a bound for all that it waits for. It tells nothing of
-//! the bytes, and is trusted.
+//! The link of the system, over TCP, with a limit for each wait. It exposes nothing of the bytes,
+//! and is trusted.
 ghost use Rattle.std.specs.Prelude.{◌≡◌, ◌≤◌, ◌<◌, length, IfSome};
 ghost use Rattle.desk_links.specs.LinkLaws.{untold_input, untold_output};
 
@@ -10,13 +10,12 @@ use std::io::{ErrorKind, Read, Write};
 use std::net::{Shutdown, TcpStream};
 use std::time::{Clock, Duration};
 
-// The seconds for which a link that is served may be silent between two calls. No single read of
-// such a link waits longer.
+// The seconds that a served link may be silent between two calls, and the longest wait of one of
+// its reads.
 const IDLE: u64 = 5;
 
-// The seconds that a call has, from its first byte to its last, and those that an answer has. Each
-// has one second more for so many bytes of it, and the most seconds in all. So a head has the first
-// of these, but for one that comes fast.
+// The seconds from the first byte of a call to its last, and those of an answer. Each gets one more
+// for every `BYTES_A_SECOND` bytes, up to `MOST` in all.
 const CALL: u64 = 10;
 
 const ANSWER: u64 = 5;
@@ -25,30 +24,30 @@ const BYTES_A_SECOND: u64 = 1_024;
 
 const MOST: u64 = 30;
 
-// The seconds of a single write, and those within which an answer that is taken whole is taken
-// quickly.
+// The seconds that one write of a served link may wait, and those within which an answer counts as
+// taken quickly.
 const WRITE: u64 = 3;
 
 const QUICK: u64 = 1;
 
-// The seconds after which a single read or write of a link that was dialled has failed.
+// The longest wait in seconds of one read or write of a dialled link.
 const PATIENCE: u64 = 30;
 
-// How often a read or a write is tried that was interrupted, or whose bound has not come.
+// The number of tries of a read or write that was interrupted or timed out early.
 const TRIES: u32 = 64;
 
-// What is read behind an answer after which the link closes, so that a client that is still sending
-// hears it: the seconds in all, those of one wait, and the most pieces.
+// The limits of what is read after the last answer of a link, so that a client that still sends
+// receives the answer: seconds in all, seconds of one wait, and pieces.
 const LINGER: u64 = 2;
 
 const LINGER_WAIT: u64 = 1;
 
 const LINGER_PIECES: u32 = 4_096;
 
-// The bytes of such a piece.
+// The size of such a piece in bytes.
 const PIECE: usize = 4_096;
 
-// Which side of a link this is.
+// The side of a link.
 #[derive(Clone, Copy, Debug, PartialEq, Eq)]
 pub(crate) enum Side {
     // It reads calls and writes answers.
@@ -57,14 +56,15 @@ pub(crate) enum Side {
     Asks,
 }
 
-// How a call comes, or answers go: when that began, and how many bytes there were.
+// The progress of a call that is read or of an answer that is written: when it began, and its bytes
+// so far.
 #[derive(Clone, Copy, Debug)]
 struct Pace {
     first: Duration,
     count: u64,
 }
 
-// A stream, and what is known of it by the order of its own reads and writes.
+// A stream with its limits, and what the order of its reads and writes says of calls and answers.
 #[derive(Drop)]
 struct Wire<C> {
     stream: TcpStream,
@@ -72,16 +72,16 @@ struct Wire<C> {
     side: Side,
     // The call that is being read.
     call: Option<Pace>,
-    // The answer that is being written, and those before it if they were not taken quickly.
+    // The answer that is being written, together with those before it that were not taken quickly.
     answer: Option<Pace>,
-    // Whether the last that was done is a whole answer.
+    // Whether the last read or write wrote the end of an answer.
     answered: bool,
-    // The longest waits of a read and of a write that the system was told.
+    // The timeouts of reads and of writes that the system has now.
     read_wait: Duration,
     write_wait: Duration,
 }
 
-// Whether a read or write that failed like this may be tried again.
+// Whether a read or write that failed with this kind of error may be tried again.
 fn may_go_on(kind: ErrorKind) -> bool {
     match kind {
         ErrorKind::Interrupted | ErrorKind::WouldBlock | ErrorKind::TimedOut => true,
@@ -90,7 +90,7 @@ fn may_go_on(kind: ErrorKind) -> bool {
 }
 
 impl Side {
-    // The longest wait of a single read.
+    // The longest wait of one read.
     fn read_wait(self) -> Duration {
         match self {
             Side::Serves => Duration::from_secs(IDLE),
@@ -98,7 +98,7 @@ impl Side {
         }
     }
 
-    // The longest wait of a single write.
+    // The longest wait of one write.
     fn write_wait(self) -> Duration {
         match self {
             Side::Serves => Duration::from_secs(WRITE),
@@ -106,7 +106,7 @@ impl Side {
         }
     }
 
-    // The seconds that what is written has at first.
+    // The seconds of an answer before its bytes add to them.
     fn answer_seconds(self) -> u64 {
         match self {
             Side::Serves => ANSWER,
@@ -116,14 +116,15 @@ impl Side {
 }
 
 impl Pace {
-    // The end of what may go on for so many seconds at first, with so many bytes.
+    // The time limit: `seconds` after the start, and one second more for every `BYTES_A_SECOND`
+    // bytes so far, at most `MOST` in all.
     fn end(&self, seconds: u64) -> Duration {
         let more = self.count / BYTES_A_SECOND;
         let all = Duration::from_secs(seconds.saturating_add(more).min(MOST));
         self.first.saturating_add(all)
     }
 
-    // The same with so many bytes more.
+    // The progress with `count` bytes more.
     fn with(&self, count: usize) -> Self {
         Pace {
             first: self.first,
@@ -133,7 +134,7 @@ impl Pace {
 }
 
 impl<C: Clock> Wire<C> {
-    // Where the system does not take one of the settings it goes without.
+    // Settings that the system refuses are passed over.
     fn new(clock: C, stream: TcpStream, side: Side) -> Self {
         let read_wait = side.read_wait();
         let write_wait = side.write_wait();
@@ -152,13 +153,13 @@ impl<C: Clock> Wire<C> {
         }
     }
 
-    // The time since some start. Where the clock can't be read none passes, and the single waits
-    // are the only bound.
+    // The time since some fixed start. Where the clock can't be read it does not advance, and only
+    // the limits of single waits hold.
     fn now(&self) -> Duration {
         self.clock.monotonic().unwrap_or(Duration::ZERO)
     }
 
-    // Until when a read that begins now may wait. Who asks waits for each read by itself.
+    // The time limit of a read that begins now.
     fn read_end(&self, now: Duration) -> Duration {
         match &self.call {
             Some(call) => call.end(CALL),
@@ -166,8 +167,7 @@ impl<C: Clock> Wire<C> {
         }
     }
 
-    // How long a wait may be that ends then at the latest, and the most; None where the time is
-    // over.
+    // The time left until `end`, at most `most`, or `None` if it has passed.
     fn wait_until(&self, end: Duration, most: Duration) -> Option<Duration> {
         let left = end.saturating_sub(self.now());
         if left.is_zero() {
@@ -176,7 +176,7 @@ impl<C: Clock> Wire<C> {
         Some(left.min(most))
     }
 
-    // The system is told only where the wait is another one.
+    // Sets the read timeout, if it differs from the present one.
     fn set_read_wait(&mut self, wait: Duration) {
         if wait != self.read_wait {
             let _ = self.stream.set_read_timeout(Some(wait));
@@ -191,7 +191,8 @@ impl<C: Clock> Wire<C> {
         }
     }
 
-    // So many bytes came: those of a call that began now, or more of it, where calls are served.
+    // Adds `count` bytes to the call that is being read, or begins a call with them. A link that
+    // was dialled reads no calls.
     fn note_read(&mut self, count: usize, now: Duration) {
         if count == 0 || self.side == Side::Asks {
             return;
@@ -206,7 +207,8 @@ impl<C: Clock> Wire<C> {
         self.call = Some(before.with(count));
     }
 
-    // Reads some bytes; None where the read failed, or its bound came.
+    // Reads into the start of `into` and returns how many bytes, or `None` if the read failed or
+    // its time was over.
     fn receive(&mut self, into: &mut [u8]) -> Option<usize>
         ensures { IfSome result (λ n. n ≤ length into.new) }
     {
@@ -231,7 +233,7 @@ impl<C: Clock> Wire<C> {
         None
     }
 
-    // How the answer goes that is written now. What is read behind it is another call.
+    // The progress of the answer that is written now. What is read after it is another call.
     fn answer_pace(&mut self) -> Pace {
         self.call = None;
         self.answered = false;
@@ -244,7 +246,8 @@ impl<C: Clock> Wire<C> {
         }
     }
 
-    // So many bytes of a piece were taken: the whole answer, or a part of it.
+    // Adds `count` written bytes to the answer. `whole` says that they end it; an ended answer that
+    // was taken quickly is forgotten.
     fn note_write(&mut self, pace: &Pace, count: usize, whole: bool) {
         let spent = self.now().saturating_sub(pace.first);
         let is_quick = spent < Duration::from_secs(QUICK);
@@ -256,8 +259,8 @@ impl<C: Clock> Wire<C> {
         };
     }
 
-    // Writes some bytes, at least one of a piece that has one; None where the write failed, or its
-    // bound came.
+    // Writes a prefix of `bytes` and returns its length, at least 1 unless `bytes` is empty, or
+    // `None` if the write failed or its time was over.
     fn send(&mut self, bytes: &[u8]) -> Option<usize>
         ensures { IfSome result (λ n. (n ≤ length bytes.now) × (0 < length bytes.now → 0 < n)) }
     {
@@ -278,9 +281,8 @@ impl<C: Clock> Wire<C> {
         None
     }
 
-    // Behind a whole answer the other side may still be sending, and loses the answer where bytes
-    // of it are unread when the link closes. So its end is told, and what it sends is read for a
-    // while.
+    // After a whole answer, ends the output and reads what the other side still sends, within
+    // limits. If the link closed with unread bytes the other side might lose the answer.
     fn linger(&mut self) {
         if !self.answered || self.stream.shutdown(Shutdown::Write).is_err() {
             return;
@@ -306,15 +308,10 @@ impl<C: Clock> Wire<C> {
     }
 }
 
-/// A stream with a count of the reads that failed and one of the writes. It knows by the order of
-/// its own reads and writes what it waits for: what is read before anything is written is a call,
-/// and what is written then is an answer, up to a write that takes the whole of its piece. A read
-/// or write that passes a bound has failed. These are five seconds of silence between calls, ten
-/// seconds for a call and five for an answer, each with one more for every 1,024 bytes of it, up to
-/// thirty. No three seconds of an answer may pass without a byte, and answers that are not taken
-/// quickly share their seconds with the next one. On a link that was dialled each read and each
-/// write has thirty seconds. A write that takes nothing of a piece has failed, too. What a signal
-/// interrupts is tried again.
+/// A TCP connection with a count of failed reads and one of failed writes. What is read before
+/// something is written is a call, and what is written then is an answer, up to a write that takes
+/// all of its bytes; a read or write that goes past a time limit fails. docs/SERVING.md, "How long
+/// a link may take", has the limits, and docs/DECISIONS.md, "Links and doors", their reasons.
 #[derive(Drop)]
 pub struct TcpLink<C> {
     wire: Wire<C>,
@@ -323,7 +320,6 @@ pub struct TcpLink<C> {
 }
 
 impl<C: Clock> TcpLink<C> {
-    // A link over the stream.
     pub(crate) fn over(clock: C, stream: TcpStream, side: Side) -> Self
         ensures read { result.read_faults ≡ 0 }
         ensures write { result.write_faults ≡ 0 }
@@ -337,7 +333,7 @@ impl<C: Clock> TcpLink<C> {
 }
 
 impl<C: Clock + Drop> TcpLink<C> {
-    // Closes the link, so that a whole answer that stands last on it is heard.
+    // Closes the link, and waits within limits for the other side to take the last answer.
     pub(crate) fn close(self) {
         let mut link = self;
         link.wire.linger();

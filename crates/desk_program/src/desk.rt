@@ -1,4 +1,4 @@
-//! What the words ask for is done.
+//! The run of a command.
 ghost use Rattle.std.specs.Prelude.{◌<◌, ◌+◌, ◌^◌};
 ghost use Rattle.desk_program.specs.Runs.{DoesAsAsked};
 ghost use Rattle.desk_program.specs.Worlds.{world};
@@ -13,8 +13,9 @@ use hazard_types::{List, Text};
 use program_ends::{End, end_at_once};
 use std::alloc::Global;
 
-/// Does what the words say, with an input of at most `limit` bytes. Returns the status of the
-/// program, and the disk.
+/// Runs the command of the arguments `words`, with an input of at most `limit` bytes, and returns
+/// the exit status and the disk. `dry` and `drill` leave the disk unused; words that are no command
+/// end with `Usage`.
 pub fn desk_within<S: Source, K: Sink, D: Disk, C: Clock>(
     alloc: Global,
     words: &List<Text>,

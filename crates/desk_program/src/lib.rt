@@ -1,4 +1,6 @@
-//! What the words of the desk's program ask for, and training in memory.
+//! The commands of the desk's program but `serve`, and training in memory. For the program
+//! `warn_main` and for tests. One begins with `command_of` for the arguments, or with `desk_within`
+//! for a whole run.
 #![tactic(auto)]
 
 mod desk;

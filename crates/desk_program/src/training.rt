@@ -12,7 +12,9 @@ use program_ends::{End, end_at_once, run_lines};
 use std::alloc::Global;
 
 /// Answers each line of an input of at most `limit` bytes by a training office, and returns the
-/// status of the program.
+/// exit status.
+///
+/// docs/TRAINING.md, and docs/DECISIONS.md, "Training lines".
 pub fn run_training<S: Source, K: Sink>(
     alloc: Global,
     dry: &Dry,

@@ -1,4 +1,4 @@
-//! The training office: an office in memory that takes each line as a request of its one desk, at
+//! The training office: an office in memory that takes each line as an issue of its one desk, at
 //! one minute.
 ghost use Rattle.std.specs.Prelude.{◌≡◌, ◌<◌, IfOk, IsSome, IsTrue};
 ghost use Rattle.std.specs.Prelude.{OnErr, OnOk, Ok, Some, option_map};
@@ -39,7 +39,7 @@ impl Model for TrainingDesk {
     ghost invariant = { λ d. IsTraining d.office.state d.at };
 }
 
-/// The desk whose requests the lines are.
+/// The desk whose issues the lines are.
 fn dry_desk() -> Desk
     ensures { result ≡ dry_desk }
 {
@@ -49,7 +49,7 @@ fn dry_desk() -> Desk
     }
 }
 
-/// The text of the product that is to be committed.
+/// A copy of the text of the prepared product.
 fn product_text(prepared: &Prepared) -> Result<Text, Oom>
     requires { IsSome prepared.now.made }
     ensures { IfOk result
@@ -61,8 +61,8 @@ fn product_text(prepared: &Prepared) -> Result<Text, Oom>
     }
 }
 
-/// Commits an issue that was accepted, and returns the text of its product, whose memory is taken
-/// first.
+/// Commits an accepted issue and returns the text of its product. The text is copied before the
+/// commit, so that the office is unchanged on `Oom`.
 fn accept(office: &mut Office, prepared: Prepared) -> Result<Reply, Oom>
     requires may { MayCommit office.old prepared }
     requires made { IsSome prepared.made }
@@ -88,7 +88,7 @@ fn refusal_reply(alloc: Global, refusal: &Refusal) -> Result<Reply, Oom>
     Ok(Reply::Line(text))
 }
 
-/// What an issue is answered at a minute.
+/// The answer to an issue at a minute.
 fn answer_issue(alloc: Global, office: &mut Office, at: Minute, part: PutPart) -> Result<Reply, Oom>
     requires form { IsIssuePart part }
     requires training { IsTraining office.old.state at }
@@ -112,7 +112,7 @@ fn answer_issue(alloc: Global, office: &mut Office, at: Minute, part: PutPart) -
 }
 
 impl TrainingDesk {
-    /// A training office before its first line.
+    /// Returns a training office before its first line.
     ///
     /// # Errors
     ///
@@ -140,7 +140,7 @@ impl Answers for TrainingDesk {
     ghost lacks = { Lacks };
 
     fn answer(&mut self, alloc: Global, line: Option<&[u8]>) -> Result<Reply, Oom> {
-        // What stands between lines is known from here on.
+        // What holds between lines comes to the proof by this read.
         let _ = &self.office;
         let Some(line) = line else {
             return refusal_reply(alloc, &Refusal::LineTooLong);

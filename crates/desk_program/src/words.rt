@@ -1,4 +1,4 @@
-//! The words of the command line.
+//! The arguments of the command line.
 ghost use Rattle.std.specs.Prelude.{◌≡◌, IfSome};
 ghost use Rattle.desk_program.specs.Words.{IsCommand, board_words, command_of, drill_words};
 ghost use Rattle.desk_program.specs.Words.{dry_words, single_word, three_words};
@@ -7,33 +7,33 @@ use desk_drill::{Drill, drill_in};
 use hazard_types::{List, Minute, Text, read_stamp};
 use program_ends::office_of;
 
-/// Training at an office and a minute.
+/// Training for an office at a minute.
 #[derive(Clone, Copy, Debug)]
 pub struct Dry {
     pub office: [u8; 4],
     pub minute: Minute,
 }
 
-/// What the words ask for.
+/// A command of the desk's program, without `serve` (docs/COMMANDS.md, "The commands").
 #[derive(Clone, Copy, Debug)]
 pub enum Command {
     /// Makes the journal of an office.
     Init,
-    /// Answers requests, a line each.
+    /// Answers requests, one a line.
     Script,
     /// Writes the texts of all products.
     Export,
-    /// Goes over to edition Two.
+    /// Marks the journal, so that later texts are of edition Two.
     Upgrade,
-    /// Writes the board, at a minute or now.
+    /// Writes the board at a minute, or at the clock's for `None`.
     Board(Option<Minute>),
-    /// Training in memory.
+    /// Answers training lines in memory.
     Dry(Dry),
-    /// Generated requests in memory.
+    /// Answers generated requests in memory.
     Drill(Drill),
 }
 
-/// The command of a single word.
+/// The command of one word.
 fn single_word(word: &[u8]) -> Option<Command>
     ensures { result ≡ single_word word.now }
 {
@@ -101,7 +101,8 @@ fn three_words(first: &[u8], second: &[u8], third: &[u8]) -> Option<Command>
     drill_words(first, second, third)
 }
 
-/// The command that the words are. None exactly where they are none.
+/// Parses the arguments. `None` exactly if they are none of these commands; `serve` is parsed by
+/// `serve_command`.
 #[tactic(auto, unfolding(crate::specs::Words::command_of))]
 pub fn command_of(words: &List<Text>) -> Option<Command>
     ensures value { result ≡ command_of words.now }

@@ -1,4 +1,4 @@
-//! Clocks, which give minutes from 2000-01-01T00:00Z.
+//! Clocks, which return minutes since 2000-01-01T00:00Z UTC.
 ghost use Rattle.std.specs.Prelude.{◌≡◌, ◌<◌, ◌↔◌, ℤ, ℕ, List as Seq, Option, None, Some, Contains, length, drop, IfOk};
 ghost use Rattle.desk_traits.specs.Clocks.{Ticks, GivesTheSame};
 
@@ -7,32 +7,33 @@ use std::sync::atomic::{AtomicU64, Ordering};
 use std::time;
 use std::time::SystemTime;
 
-/// A clock with minutes from 2000-01-01T00:00Z.
+/// A clock whose readings are minutes since 2000-01-01T00:00Z UTC.
 pub trait Clock {
-    /// The readings ahead, at least one, where the clock tells them.
+    /// The future readings, if the clock exposes them; never empty.
     ghost ahead: { Self → Option (Seq ℤ) };
 
-    /// What a reading may be. No call changes it.
+    /// The readings that may come. No call changes them.
     ghost gives: { Self → ℤ → Type 0 };
 
-    /// A reading, in minutes, for callers that share the clock. It says nothing of the readings
-    /// ahead.
+    /// Returns a reading, in minutes since 2000-01-01T00:00Z UTC, for callers that share the clock.
+    /// No clause says which of the readings it is.
     fn minute(&self) -> i64
         ensures { gives self.now result };
 
-    /// The first of the readings ahead, which is taken away unless it is the only one.
+    /// Returns the first of the future readings, in minutes since 2000-01-01T00:00Z UTC, and
+    /// removes it unless it is the only one.
     fn tick(&mut self) -> i64
         ensures reading { gives self.old result }
         ensures same { GivesTheSame (gives self.old) (gives self.new) }
         ensures ahead { Ticks (ahead self.old) (ahead self.new) result };
 
-    /// There is always a reading ahead.
+    /// A clock that exposes its future readings has at least one.
     ghost never_out: { (clock : Self) (readings : Seq ℤ) → ahead clock ≡ Some readings
         → 0 < length readings };
 }
 
-/// A clock with set readings, the last of which is repeated. It counts the calls of `tick` and
-/// those of `minute` each by themselves.
+/// A clock with fixed readings, of which the last is repeated. The calls of `tick` and those of
+/// `minute` go through the readings separately (docs/DECISIONS.md, "Journal and disk").
 #[derive(Drop)]
 pub struct SetClock {
     readings: List<i64>,
@@ -42,7 +43,7 @@ pub struct SetClock {
 }
 
 impl SetClock {
-    /// A clock with these readings, in minutes from 2000-01-01T00:00Z.
+    /// Returns a clock with these readings, in minutes since 2000-01-01T00:00Z UTC.
     ///
     /// # Errors
     ///
@@ -88,17 +89,18 @@ impl Clock for SetClock {
         some_ahead clock.readings readings clock.at clock.in_range told };
 }
 
-// The seconds from 1970 to 2000.
+// The seconds from 1970-01-01T00:00Z to 2000-01-01T00:00Z.
 const TO_2000: u64 = 946_684_800;
 
-/// The system's clock, which is trusted. It tells no readings ahead.
+/// The system's clock, which is trusted and exposes no future readings. A reading is the whole
+/// minutes passed, or -1 where the system's clock can't be read or shows a time before 2000.
 #[derive(Drop)]
 pub struct SystemClock<R> {
     clock: R,
 }
 
 impl<R: time::Clock> SystemClock<R> {
-    /// A clock over the runtime's.
+    /// Returns a clock that reads `clock`, the runtime's.
     pub fn new(clock: R) -> Self {
         SystemClock { clock }
     }

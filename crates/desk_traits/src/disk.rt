@@ -1,4 +1,4 @@
-//! A disk with one file: what a read gives, and what a crash may leave.
+//! The disk of a journal: one file, what a read of it returns, and what a crash may leave of it.
 ghost use Rattle.std.specs.Prelude.{◌≡◌, ◌+◌, ℕ, List, Option, Some, length, IfOk, OnOk};
 ghost use Rattle.desk_traits.specs.Crash.{AreCrashes, Crashes, Passes};
 ghost use Rattle.desk_traits.specs.Faults.{HasCause};
@@ -6,25 +6,26 @@ ghost use Rattle.desk_traits.specs.File.{Torn, Same, IsWithin, WritesAt, Gives, 
 
 use crate::faults::Failed;
 
-/// A file that may be cut short by a crash at any moment.
+/// A file, and what a crash at any moment may leave of it. A range that was written since the last
+/// successful sync may hold any bytes after a crash (docs/DECISIONS.md, "Journal and disk").
 pub trait Disk {
-    /// What a read gives, where the disk tells it.
+    /// The bytes that a read returns, if the disk exposes them.
     ghost seen: { Self → Option (List ℕ) };
 
-    /// What crashes may leave, at this moment and since earlier ones.
+    /// What a crash may leave, at this moment and since earlier ones.
     ghost crash: { Self → Crashes };
 
-    /// The moments at which its syncs answered Ok, in order, where it tells them.
+    /// The moments of its successful syncs, in order, if the disk exposes them.
     ghost syncs: { Self → Option (List ℕ) };
 
-    /// How often it has failed.
+    /// The number of failed calls. It stays at 2^64 - 1 once it is there.
     ghost faults: { Self → ℕ };
 
-    /// The file's length, in bytes.
+    /// Returns the file's length in bytes.
     ///
     /// # Errors
     ///
-    /// `Failed`; the count of faults rose.
+    /// `Failed` if the call failed; the count of faults has risen.
     fn len(&mut self) -> Result<u64, Failed>
         ensures told { IfOk result (λ n. IsLength n (seen self.old)) }
         ensures seen { seen self.new ≡ seen self.old }
@@ -33,11 +34,11 @@ pub trait Disk {
         ensures cause { HasCause (faults self.old) (faults self.new) result }
         ensures steady { OnOk result (faults self.new ≡ faults self.old) };
 
-    /// The bytes from the `at`th on, counted from 0, into the whole buffer.
+    /// Reads the bytes from byte `at` on, counted from 0, into all of `into`.
     ///
     /// # Errors
     ///
-    /// `Failed`; the count of faults rose, and what the buffer holds is not told.
+    /// `Failed` if the read failed; the count of faults has risen, and `into` may hold any bytes.
     fn read_at(&mut self, at: u64, into: &mut [u8]) -> Result<(), Failed>
         requires { IsWithin (at + length into.old) (seen self.old) }
         ensures told { OnOk result (Gives at into.new (seen self.old)) }
@@ -47,11 +48,13 @@ pub trait Disk {
         ensures cause { HasCause (faults self.old) (faults self.new) result }
         ensures steady { OnOk result (faults self.new ≡ faults self.old) };
 
-    /// Writes from the `at`th byte on, counted from 0, over what is there and past the end.
+    /// Writes `bytes` from byte `at` on, counted from 0, over what is there and past the end. A
+    /// crash before the next successful sync may leave any bytes in this range.
     ///
     /// # Errors
     ///
-    /// `Failed`; the count of faults rose. Any bytes may stand where these were to be written.
+    /// `Failed` if the write failed; the count of faults has risen, and the range may hold any
+    /// bytes.
     fn write_at(&mut self, at: u64, bytes: &[u8]) -> Result<(), Failed>
         requires { IsWithin at (seen self.old) }
         ensures seen { WritesAt at bytes.now (seen self.old) (seen self.new) result }
@@ -60,11 +63,11 @@ pub trait Disk {
         ensures cause { HasCause (faults self.old) (faults self.new) result }
         ensures steady { OnOk result (faults self.new ≡ faults self.old) };
 
-    /// After it a crash leaves what a read gives. A failed one makes nothing stable.
+    /// Makes all earlier writes stable: a crash directly after it leaves what a read returns.
     ///
     /// # Errors
     ///
-    /// `Failed`; the count of faults rose.
+    /// `Failed` if the sync failed; the count of faults has risen, and nothing more is stable.
     fn sync(&mut self) -> Result<(), Failed>
         ensures durable { OnOk result (Only (seen self.old) (crash self.new).may_leave) }
         ensures seen { seen self.new ≡ seen self.old }
@@ -73,10 +76,10 @@ pub trait Disk {
         ensures cause { HasCause (faults self.old) (faults self.new) result }
         ensures steady { OnOk result (faults self.new ≡ faults self.old) };
 
-    /// A crash that changes nothing is one that may come.
+    /// A crash may leave the file as a read returns it.
     ghost seen_is_left: { (disk : Self) (file : List ℕ) → seen disk ≡ Some file
         → (crash disk).may_leave file };
 
-    /// What crashes since earlier moments might have left has grown by what they may leave now.
+    /// What a crash may leave now is part of what crashes since earlier moments might have left.
     ghost are_crashes: { (disk : Self) → AreCrashes (crash disk) };
 }

@@ -1,4 +1,4 @@
-//! What a crash leaves of a file, chosen by a pick.
+//! What a crash leaves of a file in memory, chosen by the digits of a number, the pick.
 ghost use Rattle.std.specs.Prelude.{◌≡◌, ◌≤◌, ◌<◌, ◌+◌, ◌++◌, length, take, drop, IfOk};
 ghost use Rattle.desk_traits.specs.DiskMemory.{written, torn_to, crash_after, picked};
 
@@ -6,7 +6,8 @@ use crate::disk_record::DiskCall;
 use hazard_types::{List, Oom, Text};
 use std::alloc::Global;
 
-/// A file as a read gives it and as a crash leaves it, and the digits of the pick that are left.
+/// A file as a read returns it, the same file as a crash leaves it, and the remaining digits of the
+/// pick, in base 4 from the lowest on.
 #[derive(Debug, Drop)]
 pub struct Crashed {
     pub seen: Text,
@@ -14,7 +15,7 @@ pub struct Crashed {
     pub digits: u64,
 }
 
-/// The file with the bytes at a place of it, counted from 0.
+/// Returns `file` with `bytes` in place of what it has from byte `at` on, counted from 0.
 ///
 /// # Errors
 ///
@@ -33,7 +34,7 @@ pub fn splice(alloc: Global, file: &Text, at: usize, bytes: &[u8]) -> Result<Tex
     Ok(List::from_vec(next))
 }
 
-// The file with the bytes at a place, if that is in it.
+// The file with `bytes` from byte `at` on, or unchanged if `at` is past its end.
 fn file_after(alloc: Global, file: Text, at: u64, bytes: &[u8]) -> Result<Text, Oom>
     ensures { IfOk result (λ new. new ≡ written at bytes.now file) }
 {
@@ -44,7 +45,8 @@ fn file_after(alloc: Global, file: Text, at: u64, bytes: &[u8]) -> Result<Text, 
     }
 }
 
-// The file with what a digit chooses of a write.
+// The file with what a digit of the pick leaves of a write: 0 nothing, 1 all, 2 the first half of
+// the bytes, 3 as many bytes `G`.
 fn torn_to(alloc: Global, digit: u64, at: u64, bytes: &[u8], file: Text) -> Result<Text, Oom>
     ensures { IfOk result (λ new. new ≡ torn_to digit at bytes.now file) }
 {
@@ -61,7 +63,7 @@ fn torn_to(alloc: Global, digit: u64, at: u64, bytes: &[u8], file: Text) -> Resu
     file_after(alloc, file, at, &other)
 }
 
-// The same after a call more.
+// The files and the digits after one more call.
 fn crash_after(alloc: Global, pick: u64, call: &DiskCall, crash: Crashed) -> Result<Crashed, Oom>
     ensures { IfOk result (λ new. new ≡ crash_after pick call.now crash) }
 {
@@ -92,7 +94,7 @@ fn crash_after(alloc: Global, pick: u64, call: &DiskCall, crash: Crashed) -> Res
     }
 }
 
-/// The file that a crash after the calls leaves by the pick.
+/// Returns the file that a crash after `calls` leaves, by the digits of `pick`.
 ///
 /// # Errors
 ///

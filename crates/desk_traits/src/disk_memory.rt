@@ -1,4 +1,4 @@
-//! A disk in memory, as a disk.
+//! The calls of a disk in memory.
 ghost use Rattle.std.specs.Prelude.{◌≡◌, ◌⊎◌, ◌≤◌, ◌<◌, ◌+◌, ◌++◌, ◌∷◌, ◌↔◌, [], ℕ, Some, true, false, Contains, length, take, drop, OnOk, OnErr, IfOk, IsTrue, if◌then◌else◌};
 ghost use Rattle.desk_traits.specs.Crash.{Passes};
 ghost use Rattle.desk_traits.specs.Faults.{HasCause, Rose, next_count};
@@ -14,7 +14,7 @@ use crate::faults::Failed;
 use hazard_types::{List, Oom, Text};
 use std::alloc::Global;
 
-// Puts the bytes at a place of the file, and notes it.
+// Writes `bytes` into the file from byte `at` on, and records the write.
 fn put(
     alloc: Global,
     file: &mut Text,
@@ -36,14 +36,14 @@ fn put(
     Ok(())
 }
 
-// Notes a call, where there is memory for it.
+// Records a call, and returns whether there was memory for it.
 fn note(calls: &mut Vec<DiskCall>, call: DiskCall) -> bool
     ensures { calls.new.items ≡ (if result then calls.old.items ++ call ∷ [] else calls.old.items) }
 {
     calls.push(call).is_ok()
 }
 
-// Notes a failed write, where there is memory for it.
+// Records a failed write, and returns whether there was memory for it.
 fn note_failed(alloc: Global, calls: &mut Vec<DiskCall>, at: u64, bytes: &[u8]) -> bool
     ensures { calls.new.items
         ≡ (if result then calls.old.items ++ WriteFailed at bytes.now ∷ [] else calls.old.items) }
@@ -54,7 +54,7 @@ fn note_failed(alloc: Global, calls: &mut Vec<DiskCall>, at: u64, bytes: &[u8]) 
     }
 }
 
-// Whether the call of a number is to fail.
+// Whether call `number`, counted from 1, is to fail.
 fn is_to_fail(failing: &List<u64>, stop: Option<u64>, number: u64) -> bool
     ensures { IsTrue result ↔ (Contains failing.now number ⊎ IsPast stop number) }
 {
@@ -65,11 +65,11 @@ fn is_to_fail(failing: &List<u64>, stop: Option<u64>, number: u64) -> bool
 }
 
 impl MemDisk {
-    /// A disk with this file, all of it stable. Calls count from 1. Those among the failing ones
-    /// fail, each after the stop, and each for which memory lacks. The pick chooses what a crash
-    /// leaves: read in base 4 from the lowest digit on, a digit for each write since the last good
-    /// sync, it says that nothing of the write is left (0), all (1), half (2), or as many bytes
-    /// `G` (3).
+    /// Returns a disk with the file `bytes`, all of it stable. Call n, counted from 1, fails if n
+    /// is in `failing` or greater than `stop`, and so does each call for which memory runs out.
+    /// `pick` chooses what a crash leaves: in base 4 from the lowest digit on, each write since the
+    /// last successful sync takes a digit, 0 for nothing of it, 1 all, 2 the first half, 3 as many
+    /// bytes `G` (docs/DECISIONS.md, "Journal and disk").
     ///
     /// # Errors
     ///
@@ -110,21 +110,22 @@ impl MemDisk {
         })
     }
 
-    /// What a read gives.
+    /// Returns the file as a read returns it.
     pub fn file(&self) -> &Text
         ensures { ⟦<MemDisk as Disk>⟧.seen self.now ≡ Some result.now }
     {
         &self.file
     }
 
-    /// The calls that were made, with what came of them, but for those for which memory lacked.
+    /// Returns the calls so far, in order, with their outcomes; those for which memory ran out are
+    /// not among them.
     pub fn calls(&self) -> &[DiskCall]
         ensures { result.now ≡ calls_of self.now }
     {
         &self.calls
     }
 
-    /// The file that a crash now leaves by the pick.
+    /// Returns the file that a crash at this moment leaves, by the digits of the pick.
     ///
     /// # Errors
     ///
@@ -137,7 +138,7 @@ impl MemDisk {
         file_left(self.alloc, &self.first, self.pick, &self.calls)
     }
 
-    // Counts a call, and says whether it is to fail.
+    // Counts a call, and returns whether it is to fail.
     fn called(&mut self) -> bool
         ensures first { self.new.first ≡ self.old.first }
         ensures file { self.new.file ≡ self.old.file }
@@ -157,7 +158,7 @@ impl MemDisk {
         is_to_fail(&self.failing, self.stop, self.count)
     }
 
-    // Counts a fault, and keeps whether memory lacked for the call.
+    // Counts a fault, and keeps in mind if memory ran out for the call's record.
     fn failed(&mut self, noted: bool)
         ensures first { self.new.first ≡ self.old.first }
         ensures file { self.new.file ≡ self.old.file }
@@ -172,7 +173,7 @@ impl MemDisk {
         self.lacked = self.lacked || !noted;
     }
 
-    // Counts and notes a call that is no good write, and says whether it was good.
+    // Counts and records a call that is not a successful write, and returns whether it succeeded.
     fn asked(&mut self, good: DiskCall, failed: DiskCall) -> bool
         requires good { is_write good ≡ false }
         requires failed { is_write failed ≡ false }

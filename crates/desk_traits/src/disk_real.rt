@@ -1,4 +1,4 @@
-//! A file of the system, as a disk. It tells nothing of its content, and is trusted.
+//! A file of the system as a disk. It exposes nothing of its content, and is trusted.
 ghost use Rattle.std.specs.Prelude.{◌≡◌, None};
 ghost use Rattle.desk_traits.specs.Crash.{any_crash, any_are};
 
@@ -7,7 +7,7 @@ use crate::faults::Failed;
 use std::fs::File;
 use std::os::unix::fs::FileExt;
 
-/// A file of the system with a count of its faults. Without a file each call fails.
+/// A file of the system with a count of its failed calls. Without a file each call fails.
 #[derive(Drop)]
 pub struct FileDisk {
     file: Option<File>,
@@ -15,7 +15,7 @@ pub struct FileDisk {
 }
 
 impl FileDisk {
-    /// A disk over an open file, or over none.
+    /// Returns a disk over an open file, or one without a file.
     pub fn new(file: Option<File>) -> Self
         ensures { ⟦<FileDisk as Disk>⟧.faults result ≡ 0 }
     {

@@ -1,11 +1,12 @@
-//! A disk in memory as it stands: its file, the calls that were made, and which of them fail.
+//! The data of a disk in memory: its file, the calls so far, and which calls fail.
 ghost use Rattle.std.specs.Prelude.{◌≡◌};
 ghost use Rattle.desk_traits.specs.DiskMemory.{replay};
 
 use hazard_types::{List, Text};
 use std::alloc::Global;
 
-/// A call of a disk, and what came of it.
+/// A call of a disk with its outcome. `Looked` is a call of `len`; `at` is an offset in bytes from
+/// 0, and `count` a number of bytes.
 #[derive(Debug, Drop, PartialEq, Eq)]
 pub enum DiskCall {
     Looked,
@@ -18,7 +19,7 @@ pub enum DiskCall {
     SyncFailed,
 }
 
-/// A disk in memory, which keeps a record of its calls and fails at those that it was told.
+/// A disk in memory. It records its calls, and fails at those that `MemDisk::new` was given.
 #[derive(Debug, Drop)]
 pub struct MemDisk {
     pub(crate) alloc: Global,

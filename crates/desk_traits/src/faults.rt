@@ -1,5 +1,5 @@
-//! The one answer of the outside that is not Ok.
+//! The one error of calls to the outside.
 
-/// A call of the outside failed.
+/// A call of the disk, a stream or the network failed.
 #[derive(Clone, Copy, Debug, PartialEq, Eq)]
 pub struct Failed;

@@ -1,4 +1,8 @@
-//! Disks and clocks as traits. A disk counts its faults, and each shows what it tells.
+//! The disk and the clock of a program as traits, with implementations over the system and in
+//! memory. For crates that keep a journal or ask for the time, and for their tests. One begins with
+//! `FileDisk::new` and `SystemClock::new`, or with `MemDisk::new` and `SetClock::new` in a test.
+//!
+//! A disk counts its failures. Implementations in memory also expose their content to contracts.
 #![tactic(auto)]
 
 mod clocks;

@@ -1,4 +1,4 @@
-//! A write and a sync as one step.
+//! A write and a sync together.
 ghost use Rattle.std.specs.Prelude.{◌≡◌, ◌≤◌, ◌+◌, ℕ, List, Option, Some, length, IfOk, OnOk};
 ghost use Rattle.desk_traits.specs.Crash.{Passes};
 ghost use Rattle.desk_traits.specs.Faults.{HasCause};
@@ -7,12 +7,12 @@ ghost use Rattle.desk_traits.specs.File.{Torn, Same, IsWithin, WritesAt, Only, N
 use crate::disk::Disk;
 use crate::faults::Failed;
 
-/// Writes the bytes from the `at`th on, counted from 0, and makes them stable.
+/// Writes `bytes` from byte `at` on, counted from 0, and makes all writes stable.
 ///
 /// # Errors
 ///
-/// `Failed` where the write or the sync failed; the count of faults rose. Any bytes may stand where
-/// these were to be written.
+/// `Failed` if the write or the sync failed; the count of faults has risen, and the range may hold
+/// any bytes.
 pub fn write_synced<D: Disk>(disk: &mut D, at: u64, bytes: &[u8]) -> Result<(), Failed>
     requires { IsWithin at (D.seen disk.old) }
     ensures seen { WritesAt at bytes.now (D.seen disk.old) (D.seen disk.new) result }

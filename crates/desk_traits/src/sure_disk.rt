@@ -1,4 +1,4 @@
-//! A disk in memory whose count of faults can't rise.
+//! A disk in memory that never fails.
 ghost use Rattle.std.specs.Prelude.{◌≤◌, None, length};
 ghost use Rattle.desk_traits.specs.Crash.{any_crash, any_are};
 
@@ -7,7 +7,9 @@ use crate::faults::Failed;
 use hazard_types::Oom;
 use std::alloc::Global;
 
-/// Keeps what fits the room that it was made with. It never fails, and tells nothing of its file.
+/// A disk of fixed size in memory, which never fails and exposes nothing of its file. Bytes past
+/// its size are dropped, and a read past the file's end leaves the rest of the buffer as it is. The
+/// programs use it for the path `-` (docs/DECISIONS.md, "Journal and disk").
 #[derive(Debug, Drop)]
 pub struct SureDisk {
     room: Vec<u8>,
@@ -16,7 +18,7 @@ pub struct SureDisk {
 }
 
 impl SureDisk {
-    /// An empty disk with room for this many bytes.
+    /// Returns an empty disk of `room` bytes.
     ///
     /// # Errors
     ///

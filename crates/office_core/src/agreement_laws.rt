@@ -1,4 +1,5 @@
-//! Laws: the texts of an office agree with its board at first, and after each product.
+//! Laws: the texts of an office agree with its board at first, and after each product. They have no
+//! code.
 ghost use Rattle.std.specs.Prelude.{◌≡◌, ◌≤◌, List, [], Option, None};
 ghost use Rattle.hazard_types.specs.declared.codes.Class.{Class};
 ghost use Rattle.hazard_types.specs.declared.request.Edition.{Edition};
@@ -14,12 +15,13 @@ ghost use Rattle.office_core.specs.State.{State, first_state};
 ghost use Rattle.office_core.specs.Step.{state_after};
 ghost use Rattle.office_core.specs.declared.made.Made.{Made};
 
-/// No texts agree with an empty board.
+/// Before any request there are no texts, and they agree with the empty board.
 pub fn offices_begin_in_agreement()
     ensures { (settings : Settings) (class : Class) (edition : Edition) → Agrees (first_state settings class edition) [] }
 {}
 
-/// After an entry the texts agree with the board still, where what it made was planned without a broken rule and reads as its plan, once the events that it opens drew their numbers.
+/// After an entry the texts still agree with the board, if its product was planned without a broken
+/// rule and reads as its plan, and the events that it opens have drawn their numbers.
 pub fn products_keep_the_agreement()
     ensures { (s : State) (counts after : List Count) (making : Making) (made : Option Made) (e : Entry) →
         IsSound s counts → Agrees s counts → s.last ≤ e.minute → MayBePlanned s counts e.minute making →

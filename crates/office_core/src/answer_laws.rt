@@ -1,4 +1,5 @@
-//! Laws: a request has one answer, and so has a look; a request's minute serves as its reading, and what is prepared stays so while others are prepared.
+//! Laws: a request has one answer, and so has a look; a request may be judged again at its own
+//! minute; and what is prepared stays valid while other requests are prepared. They have no code.
 ghost use Rattle.std.specs.Prelude.{◌≡◌, ◌⊎◌, ◌≤◌, ℕ, ℤ, pos, List, Option};
 ghost use Rattle.hazard_types.specs.declared.refusal.Refusal.{Refusal};
 ghost use Rattle.hazard_types.specs.declared.request.Query.{Query};
@@ -11,7 +12,8 @@ ghost use Rattle.office_core.specs.Step.{Accepts, Refuses, Repeats};
 ghost use Rattle.office_core.specs.Views.{IsRoomier, OfficeView};
 ghost use Rattle.office_core.specs.declared.made.Made.{Made};
 
-/// A request that is accepted makes one thing at one minute, and one that is refused breaks one first rule. No request is answered in two of the three ways.
+/// No request is answered in two of the three ways accepted, refused and repeated. An accepted one
+/// makes one thing at one minute, and a refused one has one first broken rule.
 pub fn a_request_has_one_answer()
     ensures accepted { (s : State) (desk : List ℕ) (seq : ℕ) (r : Request) (reading : ℤ) (t u : ℕ) (made other : Option Made) →
         Accepts s desk seq r reading t made → Accepts s desk seq r reading u other → (t ≡ u) × (made ≡ other) }
@@ -25,7 +27,7 @@ pub fn a_request_has_one_answer()
         Repeats s desk seq r kept → Refuses s desk seq r reading x → ⊥ }
 {}
 
-/// A look has one answer, whatever the state of the office: there is one text that it shows or one refusal of it, and never both.
+/// A look has one answer in each state of the office: one text or one refusal, never both.
 pub fn a_look_has_one_answer()
     ensures either { (s : State) (q : Query) (reading : ℤ) → ((text : List ℕ) × Shows s q reading text) ⊎ ((x : Refusal) × RefusesLook s q reading x) }
     ensures not_both { (s : State) (q : Query) (reading : ℤ) (text : List ℕ) (x : Refusal) → Shows s q reading text → RefusesLook s q reading x → ⊥ }
@@ -33,14 +35,16 @@ pub fn a_look_has_one_answer()
     ensures one_refusal { (s : State) (q : Query) (reading : ℤ) (x y : Refusal) → RefusesLook s q reading x → RefusesLook s q reading y → x ≡ y }
 {}
 
-/// A request that is accepted at a reading is accepted at its own minute as the reading, and makes the same. The last entry's minute is at most 52,000,000, as that of each sound state.
+/// A request that is accepted at a reading is accepted at its own minute as the reading too, and
+/// makes the same.
 #[tactic(auto, using(crate::proofs::ReadingLemmas::at_own_minute))]
 pub fn accepted_requests_are_accepted_at_their_minute()
     ensures { (s : State) (desk : List ℕ) (seq : ℕ) (r : Request) (reading : ℤ) (t : ℕ) (made : Option Made) →
         s.last ≤ 52000000 → Accepts s desk seq r reading t made → Accepts s desk seq r (pos t) t made }
 {}
 
-/// What was prepared may be committed by an office that has since prepared other requests, as long as none was committed: state and counts are the same, and the room is as large at least.
+/// What was prepared may be committed by an office that has since prepared other requests, if none
+/// was committed.
 pub fn what_is_prepared_may_wait()
     ensures { (o now : OfficeView) (p : Readied) → now.state ≡ o.state → now.counts ≡ o.counts → IsRoomier o.room now.room → MayCommit o p → MayCommit now p }
 {}

@@ -1,4 +1,4 @@
-//! What becomes of the open drafts.
+//! The change of the open drafts by a request.
 ghost use Rattle.std.specs.Prelude.{◌≡◌, ◌<◌, IfOk, None, [], position};
 ghost use Rattle.office_core.specs.Prepared.{HasPlace, changed};
 ghost use Rattle.office_core.specs.Rules.{drafts_full};
@@ -12,14 +12,14 @@ use crate::prepared::DraftChange;
 use hazard_types::{Category, Desk, Draft, Intent, List, Minute, Oom, Request};
 use std::alloc::Global;
 
-/// The place of the open draft with this id.
+/// The index of the open draft `id`.
 pub(crate) fn place_of(drafts: &[Draft], id: u32) -> Option<usize>
     ensures { result ≡ position (is_draft id) drafts.now }
 {
     drafts.iter().position(|draft| draft.id == id)
 }
 
-/// The draft with other intents, touched at t.
+/// The draft with other intents, touched at minute t.
 fn touched(draft: &Draft, t: Minute, intents: List<Intent>) -> Draft
     ensures { result ≡ record { id = draft.now.id; owner = draft.now.owner; category = draft.now.category; touched = t; intents = intents } }
 {
@@ -32,7 +32,7 @@ fn touched(draft: &Draft, t: Minute, intents: List<Intent>) -> Draft
     }
 }
 
-/// The draft with one more intent.
+/// The draft with one more intent, after the others.
 fn with_intent(alloc: Global, draft: &Draft, t: Minute, intent: Intent) -> Result<Draft, Oom>
     ensures { IfOk result (λ new. new ≡ with_intent t intent draft.now) }
 {
@@ -41,7 +41,7 @@ fn with_intent(alloc: Global, draft: &Draft, t: Minute, intent: Intent) -> Resul
     Ok(touched(draft, t, intents))
 }
 
-/// The draft without the intent at a place.
+/// The draft without the intent at a place, counted from 0. The later ones move down by one.
 fn without_intent(alloc: Global, draft: &Draft, t: Minute, place: usize) -> Result<Draft, Oom>
     ensures { IfOk result (λ new. new ≡ without_intent t place draft.now) }
 {
@@ -52,7 +52,7 @@ fn without_intent(alloc: Global, draft: &Draft, t: Minute, place: usize) -> Resu
     Ok(touched(draft, t, List::from_vec(intents)))
 }
 
-/// The draft in the hands of another desk.
+/// The draft with `desk` as its owner.
 fn taken_by(alloc: Global, draft: &Draft, t: Minute, desk: &Desk) -> Result<Draft, Oom>
     ensures { IfOk result (λ new. new ≡ taken_by t desk.now draft.now) }
 {
@@ -66,7 +66,7 @@ fn taken_by(alloc: Global, draft: &Draft, t: Minute, desk: &Desk) -> Result<Draf
     })
 }
 
-/// One more intent in the draft with this id.
+/// Adds an intent to draft `id`.
 pub(crate) fn put_in(
     alloc: Global,
     drafts: &[Draft],
@@ -86,7 +86,7 @@ pub(crate) fn put_in(
     }
 }
 
-/// One intent less in the draft with this id.
+/// Removes the intent at `place`, counted from 0, from draft `id`.
 pub(crate) fn drop_from(
     alloc: Global,
     drafts: &[Draft],
@@ -106,7 +106,7 @@ pub(crate) fn drop_from(
     }
 }
 
-/// The draft with this id in the hands of another desk.
+/// Makes `desk` the owner of draft `id`.
 pub(crate) fn take_over(
     alloc: Global,
     drafts: &[Draft],
@@ -126,7 +126,7 @@ pub(crate) fn take_over(
     }
 }
 
-/// The drafts without the one with this id.
+/// Removes draft `id`.
 pub(crate) fn take_away(drafts: &[Draft], id: u32) -> DraftChange
     ensures drafts { changed result drafts.now ≡ without_draft id drafts.now }
     ensures place { HasPlace result drafts.now }
@@ -137,7 +137,7 @@ pub(crate) fn take_away(drafts: &[Draft], id: u32) -> DraftChange
     }
 }
 
-/// A draft that is opened, without an intent.
+/// Opens a draft without intents.
 fn opened_draft(alloc: Global, id: u32, owner: &Desk, category: Category, t: Minute) -> DraftChange
     ensures { result ≡ Open (record { id = id; owner = owner.now; category = category; touched = t; intents = [] }) }
 {
@@ -151,7 +151,7 @@ fn opened_draft(alloc: Global, id: u32, owner: &Desk, category: Category, t: Min
 }
 
 impl Office {
-    /// What becomes of the drafts.
+    /// The change of the drafts by a request that breaks none of its rules.
     #[tactic(auto, unfolding(crate::specs::Step::drafts_after))]
     pub(crate) fn change_of(
         &self,

@@ -36,14 +36,14 @@ fn change_drafts(drafts: &mut Vec<Draft>, change: DraftChange)
     }
 }
 
-/// The place of a desk.
+/// The index of a desk.
 fn place_of(heard: &[Heard], desk: &Desk) -> Option<usize>
     ensures { result ≡ position (λ h. bytes_eq h.desk desk.now) heard.now }
 {
     heard.iter().position(|h| h.desk.bytes() == desk.bytes())
 }
 
-/// The desk's last request is this one.
+/// Records a request as the desk's last.
 fn hear(heard: &mut Vec<Heard>, desk: &Desk, said: Said)
     ensures { heard.new.items ≡ heard_after heard.old.items desk.now said }
 {
@@ -52,7 +52,7 @@ fn hear(heard: &mut Vec<Heard>, desk: &Desk, said: Said)
     }
 }
 
-/// How many drafts were opened, with the change.
+/// The number of drafts opened so far, after the change.
 fn begun_with(begun: u32, change: &DraftChange) -> u32
     ensures { result ≡ begun_with begun change.now }
 {
@@ -62,7 +62,7 @@ fn begun_with(begun: u32, change: &DraftChange) -> u32
     }
 }
 
-/// A product becomes part of the board, the numbers and the products.
+/// Adds a product to the board, the numbers and the products.
 fn take_made(
     board: &mut Board,
     numbers: &mut Numbers,
@@ -87,7 +87,8 @@ fn take_made(
 }
 
 impl Office {
-    /// Commits what was prepared by this office, where nothing was committed since. It takes no memory and can't fail. The reply is kept as the desk's last.
+    /// Commits what this office prepared, if nothing was committed since. The reply is stored as
+    /// the one to the desk's last request. Takes no memory and can't fail.
     pub fn commit(&mut self, p: Prepared)
         requires { MayCommit self.old p }
         ensures state { self.new.state ≡ state_after self.old.state p.entry p.made }

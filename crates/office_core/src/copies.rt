@@ -4,28 +4,24 @@ ghost use Rattle.std.specs.Prelude.{◌≡◌, IfOk};
 use hazard_types::{EventPart, Intent, List, Oom, PutPart, Request, RoutinePart};
 use std::alloc::Global;
 
-/// A copy of a put.
 pub(crate) fn copied_put(part: &PutPart) -> Result<PutPart, Oom>
     ensures { IfOk result (λ copy. copy ≡ part.now) }
 {
     Ok(part.clone()?)
 }
 
-/// A copy of an event in zones.
 pub(crate) fn copied_event(part: &EventPart) -> Result<EventPart, Oom>
     ensures { IfOk result (λ copy. copy ≡ part.now) }
 {
     Ok(part.clone()?)
 }
 
-/// A copy of a routine line in zones.
 pub(crate) fn copied_routine(part: &RoutinePart) -> Result<RoutinePart, Oom>
     ensures { IfOk result (λ copy. copy ≡ part.now) }
 {
     Ok(part.clone()?)
 }
 
-/// A copy of an intent.
 pub(crate) fn copied_intent(intent: &Intent) -> Result<Intent, Oom>
     ensures { IfOk result (λ copy. copy ≡ intent.now) }
 {
@@ -37,7 +33,6 @@ pub(crate) fn copied_intent(intent: &Intent) -> Result<Intent, Oom>
     }
 }
 
-/// A copy of intents.
 pub(crate) fn copied_intents(alloc: Global, intents: &[Intent]) -> Result<List<Intent>, Oom>
     ensures { IfOk result (λ copy. copy ≡ intents.now) }
 {
@@ -48,7 +43,6 @@ pub(crate) fn copied_intents(alloc: Global, intents: &[Intent]) -> Result<List<I
     Ok(copy)
 }
 
-/// A copy of a request.
 pub(crate) fn copied_request(r: &Request) -> Result<Request, Oom>
     ensures { IfOk result (λ copy. copy ≡ r.now) }
 {

@@ -1,4 +1,4 @@
-//! The rules on drafts, each with what the refusal names.
+//! The rules on drafts (docs/REQUESTS.md, "Drafts and the parts of a request").
 ghost use Rattle.std.specs.Prelude.{◌≡◌, ◌≤◌, ◌+◌, ◌&&◌, if◌then◌else◌, IfSome, None, Some, find, is_some, length, nat_le, nat_lt, option_map};
 ghost use Rattle.hazard_types.specs.declared.refusal.Refusal.TheVariants as Refused;
 ghost use Rattle.office_core.specs.Requests.{draft_of, intent_of, takes};
@@ -9,10 +9,10 @@ use crate::office::{MOST_DRAFTS, Office};
 use action_planner::MOST_INTENTS;
 use hazard_types::{Desk, Draft, Minute, Refusal, Request};
 
-/// For how many minutes behind its last touch a draft is its owner's alone.
+/// The minutes after its last touch for which a draft is its owner's alone.
 const ACTIVE: u32 = 10;
 
-/// The draft that a request is on.
+/// The id of the draft that a request is on.
 pub(crate) fn draft_of(r: &Request) -> Option<u32>
     ensures { result ≡ draft_of r.now }
 {
@@ -29,7 +29,7 @@ pub(crate) fn draft_of(r: &Request) -> Option<u32>
     }
 }
 
-/// Whether the request puts something into a draft.
+/// Whether the request adds an intent.
 fn puts(r: &Request) -> bool
     ensures { result ≡ is_some (intent_of r.now) }
 {
@@ -43,7 +43,7 @@ fn puts(r: &Request) -> bool
     }
 }
 
-/// Whether the request takes a draft over.
+/// Whether the request takes over a draft.
 fn takes(r: &Request) -> bool
     ensures { result ≡ takes r.now }
 {
@@ -53,7 +53,7 @@ fn takes(r: &Request) -> bool
     }
 }
 
-/// The draft with an id.
+/// The draft `id`.
 fn draft_at(drafts: &[Draft], id: u32) -> Option<&Draft>
     ensures { option_map (λ d. d.now) result ≡ find (is_draft id) drafts.now }
 {
@@ -72,7 +72,7 @@ fn is_others(desk: &Desk, draft: &Draft) -> bool
     draft.owner.bytes() != desk.bytes()
 }
 
-/// NotOwner: another desk owns it; a take is not asked.
+/// `NotOwner`: another desk owns the draft. A take is not asked this.
 fn not_owner(desk: &Desk, r: &Request, found: Option<&Draft>) -> Option<Refusal>
     ensures { result ≡ not_owner desk.now r.now (option_map (λ d. d.now) found.entry) }
 {
@@ -95,7 +95,7 @@ fn comes_early(desk: &Desk, t: Minute, r: &Request, draft: &Draft) -> bool
     is_others(desk, draft) && takes(r) && t.get() < draft.touched.get() + ACTIVE
 }
 
-/// The minute from which any desk may take a draft.
+/// The minute from which on any desk may take a draft.
 fn free_at(draft: &Draft) -> Minute
     requires { draft.now.touched ≤ 52000000 }
     ensures { result ≡ draft.now.touched + 10 }
@@ -106,7 +106,7 @@ fn free_at(draft: &Draft) -> Minute
     }
 }
 
-/// StillActive: a take by another desk, before ten minutes behind the last touch.
+/// `StillActive`: a take of another desk's draft within ten minutes of its last touch.
 fn still_active(desk: &Desk, t: Minute, r: &Request, found: Option<&Draft>) -> Option<Refusal>
     requires { IfSome found (λ d. d.now.touched ≤ 52000000) }
     ensures { result ≡ still_active desk.now t r.now (option_map (λ d. d.now) found.entry) }
@@ -125,7 +125,7 @@ fn still_active(desk: &Desk, t: Minute, r: &Request, found: Option<&Draft>) -> O
     }
 }
 
-/// IntentsFull: an intent is put into a draft that has 64.
+/// `IntentsFull`: the draft to which an intent is added has 64.
 fn intents_full(r: &Request, found: Option<&Draft>) -> Option<Refusal>
     ensures { result ≡ intents_full (intent_of r.now) (option_map (λ d. d.now) found.entry) }
 {
@@ -141,7 +141,7 @@ fn intents_full(r: &Request, found: Option<&Draft>) -> Option<Refusal>
     }
 }
 
-/// NoIntent, where the draft has none at the place.
+/// `NoIntent`, if the draft has no intent at the place, counted from 0.
 fn none_at(draft: &Draft, place: u32) -> Option<Refusal>
     ensures { result ≡ (if nat_le (length draft.now.intents) place then Some (Refused.NoIntent place) else None) }
 {
@@ -152,7 +152,7 @@ fn none_at(draft: &Draft, place: u32) -> Option<Refusal>
     }
 }
 
-/// NoIntent: no intent stands at the place.
+/// `NoIntent`: a drop of a place at which there is no intent.
 fn no_intent(r: &Request, found: Option<&Draft>) -> Option<Refusal>
     ensures { result ≡ no_intent r.now (option_map (λ d. d.now) found.entry) }
 {
@@ -166,7 +166,7 @@ fn no_intent(r: &Request, found: Option<&Draft>) -> Option<Refusal>
 }
 
 impl Office {
-    /// The draft with an id.
+    /// The draft `id`.
     pub(crate) fn draft_at(&self, id: u32) -> Option<&Draft>
         ensures value { option_map (λ d. d.now) result ≡ draft_at self.now.state id }
         ensures touched { IfSome result (λ d. d.now.touched ≤ 52000000) }
@@ -185,7 +185,7 @@ impl Office {
         }
     }
 
-    /// NoDraft: no draft has this id.
+    /// `NoDraft`: there is no draft `id`.
     fn no_draft(&self, id: Option<u32>) -> Option<Refusal>
         ensures { result ≡ no_draft self.now.state id }
     {
@@ -201,7 +201,7 @@ impl Office {
         }
     }
 
-    /// DraftsFull: a draft is opened while there are 64.
+    /// `DraftsFull`: a draft is opened while there are 64.
     fn drafts_full(&self, r: &Request) -> Option<Refusal>
         ensures { result ≡ drafts_full self.now.state r.now }
     {
@@ -217,7 +217,7 @@ impl Office {
         }
     }
 
-    /// The first rule on the draft that the request is on that is broken.
+    /// The first broken rule on the draft that a request is on.
     #[tactic(auto, unfolding(crate::specs::Rules::broken_draft))]
     pub(crate) fn broken_draft(&self, desk: &Desk, r: &Request, t: Minute) -> Option<Refusal>
         ensures { result ≡ broken_draft self.now.state desk.now r.now t (found_draft self.now.state (draft_of r.now)) }

@@ -1,7 +1,7 @@
-//! What the office keeps of each desk.
+//! The last accepted request of each desk.
 use hazard_types::{Desk, Reply, Request};
 
-/// The last accepted request of a desk: its number, what was asked, and the reply.
+/// The last accepted request of a desk: its number, what it asks for, and its reply.
 #[derive(Debug, Drop)]
 pub struct Said {
     pub seq: u32,
@@ -9,7 +9,7 @@ pub struct Said {
     pub reply: Reply,
 }
 
-/// A desk, with its last accepted request where it has one.
+/// A desk with its last accepted request, if it has one.
 #[derive(Debug, Drop)]
 pub struct Heard {
     pub desk: Desk,

@@ -1,4 +1,4 @@
-//! Laws of legal histories.
+//! Laws of legal histories. They have no code.
 ghost use Rattle.std.specs.Prelude.{◌≡◌, ◌≢◌, ◌+◌, ℕ, ℤ, Bool, List, Option};
 ghost use Rattle.hazard_types.specs.declared.codes.Class.{Class};
 ghost use Rattle.desk_settings.specs.declared.settings.Settings.{Settings};
@@ -10,13 +10,15 @@ ghost use Rattle.office_core.specs.State.{State, last_number};
 ghost use Rattle.office_core.specs.Step.{Accepts, entry_of, state_after};
 ghost use Rattle.office_core.specs.declared.made.Made.{Made};
 
-/// In a legal history each request stands once: the numbers of each desk are 1, 2, .., in this order.
+/// In a legal history each request is there once: the numbers of each desk are 1, 2, .., in this
+/// order.
 pub fn requests_stand_once()
     ensures { (fits : List Entered → Entered → Bool) (settings : Settings) (class : Class) (history : List Entered) (s : State) →
         IsLegal fits settings class history s → StandOnce (entries_of history) }
 {}
 
-/// An accepted request has the number behind its desk's last, and is the desk's last then; that of every other desk stays.
+/// The number of an accepted request is one above its desk's last, and then is the last; those of
+/// other desks stay as they are.
 pub fn accepted_requests_are_numbered_on()
     ensures number { (s : State) (counts : List Count) (desk : List ℕ) (seq : ℕ) (r : Request) (reading : ℤ) (t : ℕ) (made : Option Made) →
         Accepts s desk seq r reading t made → seq ≡ last_number s desk + 1 }

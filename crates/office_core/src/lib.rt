@@ -1,4 +1,9 @@
-//! The office: its rules on desks, numbers and drafts, what becomes of a request, and the state after.
+//! The office in memory: its rules on desks, numbers, drafts and the parts of a request, what
+//! becomes of a request, and the state after it. For the crates that keep an office in a journal,
+//! and for training and drill. One begins with `Office::new`, `prepare` and `commit` for requests,
+//! and `look` for what is shown.
+//!
+//! docs/DEFINITIONS.md names the definition of each contract; docs/DECISIONS.md, "The office".
 #![tactic(auto)]
 
 mod agreement_laws;

@@ -1,4 +1,4 @@
-//! What is looked at: the board, a product, a draft, and the text that a draft would give.
+//! Looks: the board, a product, a draft, and the text that a draft would give.
 ghost use Rattle.std.specs.Prelude.{◌≡◌, ◌≤◌, IfOk, IfSome, Some, Err, false, option_map};
 ghost use Rattle.hazard_types.specs.declared.or.Or.TheVariants.{No};
 ghost use Rattle.hazard_types.specs.declared.refusal.Refusal.{Refusal as Refused};
@@ -17,7 +17,7 @@ use hazard_types::{Draft, List, Minute, Or, Query, Refusal, Sent, Text};
 use request_json::draft_text;
 use std::alloc::Global;
 
-/// The text of a product that was found.
+/// The text of a product, or `NoProduct`.
 fn product_text(alloc: Global, found: Option<&Sent>) -> Result<Text, Or<Refusal>>
     ensures shows { IfOk result (λ text. ShowsProduct (option_map (λ sent. sent.now) found.entry) text) }
     ensures refused { (x : Refused) → result ≡ Err (No x) → LacksProduct (option_map (λ sent. sent.now) found.entry) x }
@@ -28,7 +28,7 @@ fn product_text(alloc: Global, found: Option<&Sent>) -> Result<Text, Or<Refusal>
     }
 }
 
-/// The text of a draft that was found.
+/// The text of a draft as JSON, or `NoDraft`.
 fn found_text(alloc: Global, found: Option<&Draft>) -> Result<Text, Or<Refusal>>
     ensures shows { IfOk result (λ text. ShowsDraft (option_map (λ d. d.now) found.entry) text) }
     ensures refused { (x : Refused) → result ≡ Err (No x) → LacksDraft (option_map (λ d. d.now) found.entry) x }
@@ -40,7 +40,7 @@ fn found_text(alloc: Global, found: Option<&Draft>) -> Result<Text, Or<Refusal>>
 }
 
 impl Office {
-    /// The minute at which a product that is previewed would be sent.
+    /// The minute at which a product would be sent.
     fn minute_to_come(&self, reading: i64) -> Minute
         requires { is_out reading ≡ false }
         ensures value { result ≡ minute_of self.now.state reading }
@@ -62,7 +62,7 @@ impl Office {
         self.draft_at(id)
     }
 
-    /// The rows that are live at the reading, each as a line.
+    /// The rows that are live at the reading, one a line.
     fn board_text(&self, alloc: Global, reading: i64) -> Result<Text, Or<Refusal>>
         ensures shows { IfOk result (λ text. Shows self.now.state Looked.Board reading text) }
         ensures refused { (x : Refused) → result ≡ Err (No x) → RefusesLook self.now.state Looked.Board reading x }
@@ -76,7 +76,7 @@ impl Office {
         Ok(text)
     }
 
-    /// The text that a send of the draft with this id would give.
+    /// The text that a send of draft `id` would give.
     fn preview(&self, alloc: Global, id: u32, reading: i64) -> Result<Text, Or<Refusal>>
         ensures shows { IfOk result (λ text. Shows self.now.state (Looked.Preview id) reading text) }
         ensures refused { (x : Refused) → result ≡ Err (No x) → RefusesLook self.now.state (Looked.Preview id) reading x }
@@ -91,11 +91,16 @@ impl Office {
         }
     }
 
-    /// The text of what is looked at: the board at the reading, a product as it was sent, a draft as JSON, or what a send of a draft would give now.
+    /// Returns the text that a query asks to see: the board at `reading`, in minutes since
+    /// 2000-01-01T00:00Z UTC; a product as it was sent; a draft as JSON; or what a send of a draft
+    /// would give, at the later of `reading` and the last entry's minute.
     ///
     /// # Errors
     ///
-    /// `ClockOut` at the board and a preview, `NoProduct`, `NoDraft`, the first rule that a preview's lines or text break, or out of memory.
+    /// - `ClockOut` for the board and a preview, if `reading` is outside 0 to 52,000,000.
+    /// - `NoProduct`, `NoDraft`.
+    /// - For a preview the first rule that the lines or the text would break.
+    /// - `OutOfMemory`.
     pub fn look(&self, alloc: Global, q: &Query, reading: i64) -> Result<Text, Or<Refusal>>
         ensures shows { IfOk result (λ text. Shows self.now.state q.now reading text) }
         ensures refused { (x : Refused) → result ≡ Err (No x) → RefusesLook self.now.state q.now reading x }

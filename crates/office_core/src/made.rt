@@ -1,7 +1,7 @@
 //! What a send, an issue and a correction make.
 use hazard_types::{Event, List, Sent};
 
-/// A product, and the events that it opened, in order of places.
+/// A product, and the events that it opens, in the order of their intents.
 #[derive(Debug, Drop)]
 pub struct Made {
     pub sent: Sent,

@@ -31,10 +31,10 @@ use hazard_types::{
 use product_template::product_text;
 use std::alloc::Global;
 
-/// The most products.
+/// The most products of an office.
 const MOST_PRODUCTS: usize = 8192;
 
-/// The category that opens a put's hazard.
+/// The category whose products open events of a put's hazard.
 fn opening_of(target: &Target) -> Category
     ensures { result ≡ opening_of (facts_of (hazard_of_target target.now)) }
 {
@@ -48,7 +48,7 @@ fn opening_of(target: &Target) -> Category
     }
 }
 
-/// The draft of an issue: a put of its own, under the category that opens its hazard.
+/// The draft of an issue: its put alone, under the category that opens its hazard.
 fn issued(alloc: Global, desk: &Desk, part: &PutPart, t: Minute) -> Result<Draft, Oom>
     ensures { IfOk result (λ draft. drafted_by (Some draft) ≡ issued part.now) }
 {
@@ -63,7 +63,7 @@ fn issued(alloc: Global, desk: &Desk, part: &PutPart, t: Minute) -> Result<Draft
     })
 }
 
-/// The product with this number.
+/// The product with this number, counted from 1.
 fn product_in(products: &[Sent], number: u32) -> Option<&Sent>
     ensures { option_map (λ sent. sent.now) result ≡ product_in products.now number }
 {
@@ -74,7 +74,7 @@ fn product_in(products: &[Sent], number: u32) -> Option<&Sent>
 }
 
 impl Office {
-    /// The product of a plan, behind those there are.
+    /// The product of a plan, numbered after the others.
     #[tactic(auto, unfolding(crate::specs::Making::broken_product))]
     fn write(
         &self,
@@ -109,7 +109,7 @@ impl Office {
         })
     }
 
-    /// The product of a draft that is sent at t, or the first rule that it breaks.
+    /// The product of a draft that is sent at minute t, or the first rule that it breaks.
     pub(crate) fn make_drafted(
         &self,
         alloc: Global,
@@ -130,7 +130,7 @@ impl Office {
         self.write(alloc, plan, None, t)
     }
 
-    /// The correction of a product at t, or the first rule that it breaks.
+    /// The correction of a product at minute t, or the first rule that it breaks.
     fn make_corrected(
         &self,
         alloc: Global,
@@ -153,7 +153,9 @@ impl Office {
         self.write(alloc, plan, Some(original), t)
     }
 
-    /// What a request makes at t, or the first rule that it breaks.
+    /// What a request makes at minute t, or the first rule that it breaks.
+    ///
+    /// docs/REQUESTS.md, "What a product says".
     #[tactic(auto, using(crate::proofs::MakingLemmas::nothing_made))]
     pub(crate) fn make(
         &self,

@@ -1,4 +1,5 @@
-//! The rules on a desk, its number and the clock, each with what the refusal names.
+//! The rules on a desk, its number and the clock (docs/REQUESTS.md, "Desks, numbers and the
+//! clock").
 ghost use Rattle.std.specs.Prelude.{◌≡◌, IfNone, false, max, nat_abs, option_map};
 ghost use Rattle.office_core.specs.Rules.{unknown_desk, reused, stale, gap, is_out, clock_out, broken_number};
 ghost use Rattle.office_core.specs.State.{said_in, said_by, last_number};
@@ -10,7 +11,7 @@ use hazard_types::{Desk, Minute, Refusal};
 /// The last minute that a reading may be.
 const LAST_READING: i64 = 52_000_000;
 
-/// What was kept of a desk.
+/// The last accepted request of a desk.
 fn said_in<'a>(heard: &'a [Heard], desk: &Desk) -> Option<&'a Said>
     ensures { option_map (λ said. said.now) result ≡ said_in heard.now desk.now }
 {
@@ -22,7 +23,7 @@ fn said_in<'a>(heard: &'a [Heard], desk: &Desk) -> Option<&'a Said>
     None
 }
 
-/// Reused: the number is the last, and the request is another than the kept one.
+/// `Reused`: the number is the desk's last, and the request is another one.
 fn reused(last: u32, seq: u32) -> Option<Refusal>
     ensures { result ≡ reused last seq }
 {
@@ -33,7 +34,7 @@ fn reused(last: u32, seq: u32) -> Option<Refusal>
     }
 }
 
-/// Stale: the number is below the last.
+/// `Stale`: the number is below the desk's last.
 fn stale(last: u32, seq: u32) -> Option<Refusal>
     ensures { result ≡ stale last seq }
 {
@@ -44,7 +45,7 @@ fn stale(last: u32, seq: u32) -> Option<Refusal>
     }
 }
 
-/// Gap: the number is above the one behind the last.
+/// `Gap`: the number is more than one above the desk's last.
 fn gap(last: u32, seq: u32) -> Option<Refusal>
     ensures { result ≡ gap last seq }
 {
@@ -55,14 +56,14 @@ fn gap(last: u32, seq: u32) -> Option<Refusal>
     }
 }
 
-/// Whether a reading of the clock is below 0 or above 52,000,000.
+/// Whether a reading is below 0 or above 52,000,000.
 pub(crate) fn is_out(reading: i64) -> bool
     ensures { result ≡ is_out reading }
 {
     reading < 0 || LAST_READING < reading
 }
 
-/// ClockOut: the reading is below 0 or above 52,000,000.
+/// `ClockOut`: the reading is below 0 or above 52,000,000.
 pub(crate) fn clock_out(reading: i64) -> Option<Refusal>
     ensures { result ≡ clock_out reading }
 {
@@ -73,7 +74,7 @@ pub(crate) fn clock_out(reading: i64) -> Option<Refusal>
     }
 }
 
-/// The minute of a reading that is not out.
+/// The minute of a reading that is in range.
 pub(crate) fn minute_at(reading: i64) -> Minute
     requires { is_out reading ≡ false }
     ensures { result ≡ nat_abs reading }
@@ -84,7 +85,6 @@ pub(crate) fn minute_at(reading: i64) -> Minute
     }
 }
 
-/// The later of two minutes.
 pub(crate) fn later(first: Minute, second: Minute) -> Minute
     ensures { result ≡ max first second }
 {
@@ -96,14 +96,14 @@ pub(crate) fn later(first: Minute, second: Minute) -> Minute
 }
 
 impl Office {
-    /// A desk's last accepted request.
+    /// The last accepted request of a desk.
     pub(crate) fn said_by(&self, desk: &Desk) -> Option<&Said>
         ensures { option_map (λ said. said.now) result ≡ said_by self.now.state desk.now }
     {
         said_in(&self.heard, desk)
     }
 
-    /// A desk's last number, 0 where it has none.
+    /// The number of a desk's last accepted request, 0 if it has none.
     fn last_number(&self, desk: &Desk) -> u32
         ensures { result ≡ last_number self.now.state desk.now }
     {
@@ -113,7 +113,7 @@ impl Office {
         }
     }
 
-    /// UnknownDesk: the desk is not in the settings.
+    /// `UnknownDesk`: the desk is not in the settings.
     pub(crate) fn unknown_desk(&self, desk: &Desk) -> Option<Refusal>
         ensures { result ≡ unknown_desk self.now.state desk.now }
     {
@@ -124,7 +124,7 @@ impl Office {
         }
     }
 
-    /// The first rule on the desk, its number and the clock that is broken.
+    /// The first broken rule on the desk, its number and the clock.
     #[tactic(auto, unfolding(crate::specs::Rules::broken_number))]
     pub(crate) fn broken_number(&self, desk: &Desk, seq: u32, reading: i64) -> Option<Refusal>
         ensures value { result ≡ broken_number self.now.state desk.now seq reading }

@@ -19,7 +19,8 @@ use std::marker::Model;
 /// The most open drafts.
 pub(crate) const MOST_DRAFTS: usize = 64;
 
-/// The office: its settings, its board and numbers, what it sent, the open drafts, and what each desk was last answered.
+/// An office: its settings, its board and numbers, the products that it sent, the open drafts, and
+/// the last accepted request of each desk with its reply.
 #[derive(Drop)]
 pub struct Office {
     pub(crate) settings: Settings,
@@ -56,7 +57,7 @@ impl Model for Office {
         × (64 ≤ vec_capacity o.drafts) };
 }
 
-/// The minute that counts as the last entry's before there is one.
+/// The minute of the last entry before there is one, 0.
 fn first_minute() -> Minute
     ensures { result ≡ 0 }
 {
@@ -66,7 +67,7 @@ fn first_minute() -> Minute
     }
 }
 
-/// The desks, before any was heard.
+/// The desks, each without a request.
 fn unheard(alloc: Global, desks: &[Desk]) -> Result<List<Heard>, Oom>
     ensures { IfOk result (λ heard. heard ≡ map unheard desks.now) }
 {
@@ -81,7 +82,8 @@ fn unheard(alloc: Global, desks: &[Desk]) -> Result<List<Heard>, Oom>
 }
 
 impl Office {
-    /// An office before any request: no row, no product and no draft. It takes the memory for the most drafts.
+    /// Returns an office before any request: without rows, products and drafts. It takes the memory
+    /// for the most drafts.
     ///
     /// # Errors
     ///
@@ -114,7 +116,7 @@ impl Office {
         })
     }
 
-    /// Writes the texts from now on in this edition, which never goes from Two to One.
+    /// Sets the edition of later texts, which never goes from Two to One.
     pub fn set_edition(&mut self, edition: Edition)
         requires { MayFollow self.old.state.edition edition }
         ensures state { self.new.state ≡ in_edition edition self.old.state }
@@ -124,28 +126,28 @@ impl Office {
         self.edition = edition;
     }
 
-    /// The edition of the texts that are written from now on.
+    /// Returns the edition of later texts.
     pub fn edition(&self) -> Edition
         ensures { result ≡ self.now.state.edition }
     {
         self.edition
     }
 
-    /// How many drafts were opened.
+    /// Returns the number of drafts opened so far, which is the id of the last one.
     pub fn opened_drafts(&self) -> u32
         ensures { result ≡ self.now.state.begun }
     {
         self.begun
     }
 
-    /// How many products were sent.
+    /// Returns the number of products sent.
     pub fn products(&self) -> u32
         ensures { result ≡ length self.now.state.products }
     {
         self.products.len() as u32
     }
 
-    /// The reply to a desk's last accepted request.
+    /// Returns the reply to the desk's last accepted request, or `None` if it has none.
     pub fn kept(&self, desk: Desk) -> Option<&Reply>
         ensures { option_map (λ r. r.now) result ≡ option_map (λ said. said.reply) (said_by self.now.state desk) }
     {

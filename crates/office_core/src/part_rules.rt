@@ -1,4 +1,4 @@
-//! The rules on the parts of a request, each with what the refusal names.
+//! The rules on the parts of a request (docs/REQUESTS.md, "Drafts and the parts of a request").
 ghost use Rattle.std.specs.Prelude.{◌≡◌, ◌+◌, IfOk, find, option_map, true};
 ghost use Rattle.std.specs.List.Sorted.{IsStrictlySortedBy};
 ghost use Rattle.std.specs.Map.{keys_of};
@@ -19,7 +19,7 @@ use hazard_types::desk_hazards::facts;
 use hazard_types::{Category, Draft, Hazard, Oom, Refusal, Request, Sent, Target, Zone};
 use std::alloc::Global;
 
-/// The hazard of a target; that of its event counts.
+/// The hazard of a target; for an event, the event's.
 fn hazard_of_target(target: &Target) -> Hazard
     ensures { result ≡ hazard_of_target target.now }
 {
@@ -29,7 +29,7 @@ fn hazard_of_target(target: &Target) -> Hazard
     }
 }
 
-/// The hazard of what a request puts into a draft.
+/// The hazard of the intent that a request adds.
 fn hazard_in(r: &Request) -> Option<Hazard>
     ensures { result ≡ option_map hazard_of (intent_of r.now) }
 {
@@ -43,7 +43,7 @@ fn hazard_in(r: &Request) -> Option<Hazard>
     }
 }
 
-/// The zones of what a request puts into a draft.
+/// The zones of the intent that a request adds.
 fn zones_in(r: &Request) -> Option<&[Zone]>
     ensures { option_map (λ zones. zones.now) result ≡ option_map zones_of (intent_of r.now) }
 {
@@ -57,7 +57,7 @@ fn zones_in(r: &Request) -> Option<&[Zone]>
     }
 }
 
-/// Whether a zone may not be named: the settings lack it, and not every zone may be.
+/// Whether a zone may not be named: it is not in the settings, and these do not allow every zone.
 fn is_unknown_zone(settings: &Settings, zone: &Zone) -> bool
     requires { IsStrictlySortedBy by_place (keys_of settings.now.zones) }
     ensures { result ≡ is_unknown_zone settings.now zone.now }
@@ -78,7 +78,7 @@ fn first_unknown(settings: &Settings, zones: &[Zone]) -> Option<Zone>
     None
 }
 
-/// UnknownZone: the settings have no such zone.
+/// `UnknownZone`: a zone is not in the settings.
 fn unknown_zone(settings: &Settings, r: &Request) -> Option<Refusal>
     requires { IsStrictlySortedBy by_place (keys_of settings.now.zones) }
     ensures { result ≡ unknown_zone settings.now (intent_of r.now) }
@@ -87,7 +87,7 @@ fn unknown_zone(settings: &Settings, r: &Request) -> Option<Refusal>
     Some(Refusal::UnknownZone { zone })
 }
 
-/// UnknownHazard: the desk issues no such hazard.
+/// `UnknownHazard`: the desk issues no such hazard.
 fn unknown_hazard(r: &Request) -> Option<Refusal>
     ensures { result ≡ unknown_hazard (intent_of r.now) }
 {
@@ -99,7 +99,7 @@ fn unknown_hazard(r: &Request) -> Option<Refusal>
     }
 }
 
-/// WrongZoneKind: a zone is of another kind than the hazard's.
+/// `WrongZoneKind`: a zone is of another kind than the hazard's.
 fn wrong_kind(r: &Request) -> Option<Refusal>
     ensures { result ≡ wrong_kind (intent_of r.now) }
 {
@@ -108,7 +108,7 @@ fn wrong_kind(r: &Request) -> Option<Refusal>
     Some(Refusal::WrongZoneKind { zone })
 }
 
-/// Whether products of the category open new events of the hazard.
+/// Whether products of the category open events of the hazard.
 fn opens_with(category: Category, hazard: &Hazard) -> bool
     ensures { result ≡ opens_with category (facts_of hazard.now) }
 {
@@ -118,7 +118,7 @@ fn opens_with(category: Category, hazard: &Hazard) -> bool
     }
 }
 
-/// Whether products of the category follow events of the hazard.
+/// Whether products of the category follow up events of the hazard.
 fn follows(category: Category, hazard: &Hazard) -> bool
     ensures { result ≡ follows category (facts_of hazard.now) }
 {
@@ -138,7 +138,7 @@ fn is_of_category_by(category: Category, target: &Target) -> bool
     }
 }
 
-/// Whether the hazard of what a request puts into a draft is of the category.
+/// Whether the hazard of the intent that a request adds is of the category.
 fn is_of_category(category: Category, r: &Request) -> bool
     ensures { result ≡ unwrap_or (option_map (is_of_category category) (intent_of r.now)) true }
 {
@@ -152,7 +152,7 @@ fn is_of_category(category: Category, r: &Request) -> bool
     }
 }
 
-/// WrongCategory: the hazard is not of the draft's category.
+/// `WrongCategory`: the hazard is not of the draft's category.
 fn wrong_category(r: &Request, found: Option<&Draft>) -> Option<Refusal>
     ensures { result ≡ wrong_category (intent_of r.now) (option_map (λ d. d.now) found.entry) }
 {
@@ -168,14 +168,14 @@ fn wrong_category(r: &Request, found: Option<&Draft>) -> Option<Refusal>
     }
 }
 
-/// Whether the zones are a list: at least one, at most six hundred, each once.
+/// Whether there are 1 to 600 zones, each once.
 fn are_zones(zones: &[Zone]) -> bool
     ensures { result ≡ are_zones zones.now }
 {
     action_planner::are_zones(zones)
 }
 
-/// BadZoneList: the list is empty, repeats a zone, or has more than 600.
+/// `BadZoneList`: there is no zone, one of them twice, or more than 600.
 fn bad_zones(r: &Request) -> Option<Refusal>
     ensures { result ≡ bad_zones (intent_of r.now) }
 {
@@ -187,7 +187,7 @@ fn bad_zones(r: &Request) -> Option<Refusal>
     }
 }
 
-/// The product with a number: products count from 1.
+/// The product with a number, counted from 1.
 fn product_in(products: &[Sent], number: usize) -> Option<&Sent>
     ensures { option_map (λ sent. sent.now) result ≡ product_in products.now number }
 {
@@ -199,7 +199,7 @@ fn product_in(products: &[Sent], number: usize) -> Option<&Sent>
 }
 
 impl Office {
-    /// The product with a number.
+    /// The product with a number, counted from 1.
     pub(crate) fn product_at(&self, number: u32) -> Option<&Sent>
         ensures { option_map (λ sent. sent.now) result ≡ product_at self.now.state number }
     {
@@ -213,7 +213,7 @@ impl Office {
         product_in(&self.products, number as usize + 1)
     }
 
-    /// NoProduct: no product has this number.
+    /// `NoProduct`: no product has the number that a correction names.
     fn no_product(&self, r: &Request) -> Option<Refusal>
         ensures { result ≡ no_product self.now.state r.now }
     {
@@ -229,7 +229,7 @@ impl Office {
         }
     }
 
-    /// The first rule on the parts of a request that is broken.
+    /// The first broken rule on the parts of a request.
     #[tactic(auto, unfolding(crate::specs::Rules::broken_part))]
     pub(crate) fn broken_part(&self, alloc: Global, r: &Request) -> Result<Option<Refusal>, Oom>
         ensures { IfOk result (λ refused. refused ≡ broken_part self.now.state r.now (found_draft self.now.state (draft_of r.now))) }

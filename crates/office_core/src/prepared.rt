@@ -3,15 +3,16 @@ use crate::made::Made;
 use hazard_types::{Draft, Entry, Minute, Reply, Text};
 use std::marker::Model;
 
-/// What becomes of the open drafts.
+/// The change of the open drafts. The places are indices among them, from 0.
 #[derive(Debug, Drop)]
 pub enum DraftChange {
+    /// All stay as they are.
     Keep,
     /// One more is opened.
     Open(Draft),
-    /// The one at this place becomes another.
+    /// The draft at this place is replaced.
     Replace(usize, Draft),
-    /// The one at this place goes.
+    /// The draft at this place is removed.
     Remove(usize),
 }
 
@@ -34,21 +35,21 @@ impl Model for Prepared {
 impl Prepared {
     ghost use Rattle.std.specs.Prelude.{◌≡◌, option_map};
 
-    /// The minute of the entry.
+    /// Returns the minute of the entry.
     pub fn minute(&self) -> Minute
         ensures { result ≡ self.now.entry.minute }
     {
         self.entry.minute
     }
 
-    /// The reply that `commit` will give.
+    /// Returns the reply to the request, which `commit` stores.
     pub fn reply(&self) -> &Reply
         ensures { result.now ≡ self.now.entry.reply }
     {
         &self.entry.reply
     }
 
-    /// The text of the product, which a send, an issue and a correction have.
+    /// Returns the text of the product, which a send, an issue and a correction have.
     pub fn text(&self) -> Option<&Text>
         ensures { option_map (λ text. text.now) result ≡ option_map (λ made. made.sent.text) self.now.made }
     {
@@ -59,7 +60,7 @@ impl Prepared {
     }
 }
 
-/// What `prepare` answers: what was prepared, or that the request is a repetition.
+/// The answer of `prepare`: what was prepared, or that the request is a repetition.
 #[derive(Drop)]
 pub enum Ready {
     New(Prepared),

@@ -1,4 +1,4 @@
-//! The answer to a request, with all the memory that an accepted one needs.
+//! The answer to a request, with all memory that an accepted one needs.
 ghost use Rattle.std.specs.Prelude.{◌≡◌, ◌≤◌, ◌<◌, ◌-◌, Some, None, Ok, Err, IfOk, OnOk, length};
 ghost use Rattle.std.specs.Vec.{vec_capacity, vec_len};
 ghost use Rattle.hazard_board.specs.Board.{openings};
@@ -27,7 +27,8 @@ use hazard_board::{Board, openings};
 use hazard_types::{Desk, Entry, Minute, Oom, Or, Refusal, Request, Sent, equality_is_identity};
 use std::alloc::Global;
 
-/// Takes memory for a product: a row for each line that opens one, a count for each event that it opens, and its own place.
+/// Takes memory for a product: a row for each line that opens one, a count for each event that it
+/// opens, and its own place.
 fn make_room(
     board: &mut Board,
     numbers: &mut Numbers,
@@ -64,7 +65,7 @@ impl Office {
         }
     }
 
-    /// The entry of an accepted request, with what becomes of the drafts and what was made.
+    /// The entry of an accepted request, with the change of the drafts and what was made.
     fn prepared(
         &self,
         alloc: Global,
@@ -99,9 +100,14 @@ impl Office {
         })
     }
 
-    /// The answer to a request of a desk under its number, at a reading of the clock: what is to be committed, or that the request is a repetition. Or the first rule that it breaks, in their order.
+    /// Returns the answer to request `seq` of a desk, at a reading of the clock in minutes since
+    /// 2000-01-01T00:00Z UTC: what is to be committed, or that the request is a repetition. All
+    /// memory that `commit` needs is taken here. The state stays as it is, whatever the answer.
     ///
-    /// All memory that a commit needs is taken before anything is answered. The state stays as it was, whatever the answer.
+    /// # Errors
+    ///
+    /// - `No` with the first broken rule (docs/REQUESTS.md, "Refusals").
+    /// - `OutOfMemory`.
     pub fn prepare(
         &mut self,
         alloc: Global,
@@ -119,7 +125,7 @@ impl Office {
         ensures again { result ≡ Ok Again → (kept : Answered) × Repeats self.old.state desk seq r.now kept }
         ensures refused { (x : Refused) → result ≡ Err (No x) → Refuses self.old.state desk seq r.now reading x }
     {
-        // What holds of every office is known from here on.
+        // What holds of every office comes to the proof by this read.
         let _ = &self.settings;
         equality_is_identity();
         requests_make_sound_products();

@@ -11,7 +11,8 @@ use hazard_types::{Draft, Minute, Or, Refusal, Text};
 use std::alloc::Global;
 
 impl Office {
-    /// The text that a send of the draft at t would give, or the first rule that it would break. Nothing is changed.
+    /// The text that a send of the draft at minute t would give, or the first rule that it would
+    /// break.
     pub(crate) fn make_preview(
         &self,
         alloc: Global,

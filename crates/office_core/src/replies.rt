@@ -9,7 +9,7 @@ use crate::made::Made;
 use crate::office::Office;
 use hazard_types::{Draft, Oom, Reply, Request, SentReply, Word};
 
-/// The open draft with this id.
+/// The open draft `id`.
 pub(crate) fn find_draft(drafts: &[Draft], id: u32) -> Option<&Draft>
     ensures { option_map (λ d. d.now) result ≡ find (is_draft id) drafts.now }
 {
@@ -21,7 +21,7 @@ pub(crate) fn find_draft(drafts: &[Draft], id: u32) -> Option<&Draft>
     None
 }
 
-/// The reply to a product, with the events that it opened.
+/// The reply to a request that made a product, with the events that it opened.
 fn sent_reply(made: &Option<Made>) -> Result<Reply, Oom>
     ensures { IfOk result (λ reply. reply ≡ sent_reply made.now) }
 {
@@ -35,7 +35,7 @@ fn sent_reply(made: &Option<Made>) -> Result<Reply, Oom>
     }
 }
 
-/// How many intents the draft with this id has.
+/// The number of intents of draft `id`, 0 if there is no such draft.
 fn intents_of(drafts: &[Draft], id: u32) -> u32
     requires { All (λ (d : OpenDraft). length d.intents ≤ 64) drafts.now }
     ensures { result ≡ length (intents_of (find (is_draft id) drafts.now)) }
@@ -47,7 +47,7 @@ fn intents_of(drafts: &[Draft], id: u32) -> u32
 }
 
 impl Office {
-    /// The reply to a request, with what it made.
+    /// The reply to a request that made `made`.
     pub(crate) fn reply_of(&self, r: &Request, made: &Option<Made>) -> Result<Reply, Oom>
         requires ids { self.now.state.begun < 4294967295 }
         ensures { IfOk result (λ reply. reply ≡ reply_of self.now.state r.now made.now) }

@@ -1,4 +1,5 @@
-//! The first rule that a request breaks on its desk, its numbers, the clock, its draft and its parts.
+//! The first rule that a request breaks on its desk, its number, the clock, its draft and its
+//! parts.
 ghost use Rattle.std.specs.Prelude.{◌≡◌, IfOk, false};
 ghost use Rattle.office_core.specs.Rules.{broken_request, is_out, is_repeated, minute_of};
 
@@ -8,7 +9,7 @@ use hazard_types::{Desk, Minute, Oom, Refusal, Request};
 use std::alloc::Global;
 
 impl Office {
-    /// Whether the number is the desk's last and the request equals the kept one.
+    /// Whether the number is the desk's last and the request equals that one.
     pub(crate) fn is_repeated(&self, desk: &Desk, seq: u32, r: &Request) -> bool
         ensures { result ≡ is_repeated self.now.state desk.now seq r.now }
     {
@@ -18,7 +19,7 @@ impl Office {
         }
     }
 
-    /// The entry's minute: the later of the reading and the last entry's minute.
+    /// The minute of the entry: the later of the reading and the last entry's minute.
     pub(crate) fn minute_of(&self, reading: i64) -> Minute
         requires { is_out reading ≡ false }
         ensures { result ≡ minute_of self.now.state reading }
@@ -26,7 +27,9 @@ impl Office {
         later(minute_at(reading), self.last)
     }
 
-    /// The first rule that is broken, in their order; of a repeated request only the desk is looked at.
+    /// The first broken rule, in their order. Of a repeated request only the desk is judged.
+    ///
+    /// docs/REQUESTS.md, "Refusals".
     #[tactic(auto, unfolding(crate::specs::Rules::broken_request))]
     pub(crate) fn broken_request(
         &self,

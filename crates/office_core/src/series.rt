@@ -1,13 +1,13 @@
-//! What a correction looks back at.
+//! What a correction asks of earlier products (docs/REQUESTS.md, "What a product says").
 ghost use Rattle.std.specs.Prelude.{◌≡◌, ◌≤◌};
 ghost use Rattle.office_core.specs.Making.{corrects, counted_as, last_of_category, letters_of, original_of, same_category};
 
 use hazard_types::{Category, Sent};
 
-/// The most corrections of an original.
+/// The most corrections of a product, CCA to CCX.
 const MOST_LETTERS: usize = 24;
 
-/// The category that a product counts for: FLW and FLS are one.
+/// The category that a product counts for: FLW and FLS count as one.
 fn counted_as(category: Category) -> Category
     ensures { result ≡ counted_as category }
 {
@@ -23,7 +23,7 @@ fn same_category(a: Category, b: Category) -> bool
     counted_as(a) == counted_as(b)
 }
 
-/// The number of the last product of the category, 0 where there is none.
+/// The number of the last product of the category, 0 if there is none.
 pub(crate) fn last_of_category(products: &[Sent], category: Category) -> u32
     ensures { result ≡ last_of_category products.now category }
 {
@@ -36,7 +36,7 @@ pub(crate) fn last_of_category(products: &[Sent], category: Category) -> u32
     last
 }
 
-/// The product that a correction counts for: correcting a correction counts for its original.
+/// The number of the product that a correction counts for: that of a correction is its original.
 pub(crate) fn original_of(sent: &Sent) -> u32
     ensures { result ≡ original_of sent.now }
 {
@@ -55,7 +55,7 @@ fn corrects(original: u32, sent: &Sent) -> bool
     }
 }
 
-/// How many corrections an original has so far, of which 24 are all that count.
+/// The number of corrections of a product, at most 24.
 pub(crate) fn letters_of(products: &[Sent], original: u32) -> u8
     ensures letters { result ≡ letters_of products.now original }
     ensures few { result ≤ 24 }

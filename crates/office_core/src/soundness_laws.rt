@@ -1,4 +1,5 @@
-//! Laws: an office's state is sound at first and after each accepted request, and what a request makes may be planned and written.
+//! Laws: an office's state is sound at first and after each accepted request, and what a request
+//! makes may be planned and written. They have no code.
 ghost use Rattle.std.specs.Prelude.{◌≡◌, ◌≤◌, ℕ, ℤ, List, [], Option, None, true, false};
 ghost use Rattle.hazard_types.specs.declared.codes.Class.{Class};
 ghost use Rattle.hazard_types.specs.declared.request.Edition.{Edition};
@@ -19,25 +20,25 @@ ghost use Rattle.office_core.specs.State.{State, draft_at, first_state};
 ghost use Rattle.office_core.specs.Step.{Accepts, entry_of, state_after};
 ghost use Rattle.office_core.specs.declared.made.Made.{Made};
 
-/// Of settings of their form an office begins sound.
+/// An office of well-formed settings is sound at first.
 pub fn offices_begin_sound()
     ensures { (settings : Settings) (class : Class) (edition : Edition) → HasForms settings → (settings.any_zone ≡ true → is_training class ≡ true) →
         IsSound (first_state settings class edition) [] }
 {}
 
-/// What a request makes that breaks no rule on its desk, its draft and its parts is sound.
+/// A request that breaks no rule on its desk, its draft and its parts makes a sound product.
 pub fn requests_make_sound_products()
     ensures { (s : State) (counts : List Count) (desk : List ℕ) (seq : ℕ) (r : Request) (reading : ℤ) →
         IsSound s counts → HasRequestForm r → is_repeated s desk seq r ≡ false → broken_request s desk seq r reading ≡ None →
         IsSoundMaking s (making_of s r) }
 {}
 
-/// What an open draft makes is sound.
+/// The product of an open draft is sound.
 pub fn open_drafts_are_sound()
     ensures { (s : State) (counts : List Count) (id : ℕ) → IsSound s counts → IsSoundMaking s (drafted_by (draft_at s id)) }
 {}
 
-/// The minute of an entry is at most 52,000,000, and not before the last one.
+/// The minute of an entry is at most 52,000,000, and not before the last entry's.
 pub fn entries_come_in_order()
     ensures { (s : State) (counts : List Count) (reading : ℤ) → IsSound s counts → is_out reading ≡ false →
         (s.last ≤ minute_of s reading) × (minute_of s reading ≤ 52000000) }
@@ -56,7 +57,8 @@ pub fn sound_plans_may_be_written()
         CanBeText s.settings s.class plan t }
 {}
 
-/// After an accepted request the state is sound still, once the events that it opens drew their numbers.
+/// After an accepted request the state is still sound, once the events that it opens have drawn
+/// their numbers.
 pub fn accepted_requests_keep_soundness()
     ensures { (s : State) (counts after : List Count) (desk : List ℕ) (seq : ℕ) (r : Request) (reading : ℤ) (t : ℕ) (made : Option Made) →
         IsSound s counts → HasRequestForm r → Accepts s desk seq r reading t made → draws counts after made →

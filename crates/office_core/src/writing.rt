@@ -1,4 +1,4 @@
-//! The rules on a forecaster's texts, each with the first field that offends.
+//! The rules on a forecaster's texts (docs/REQUESTS.md, "Drafts and the parts of a request").
 ghost use Rattle.std.specs.Prelude.{◌≡◌, IfOk, map};
 ghost use Rattle.hazard_types.specs.declared.request.EventTexts.{EventTexts as TextsOn};
 ghost use Rattle.office_core.specs.Requests.{texts_in};
@@ -11,16 +11,16 @@ use std::alloc::Global;
 /// The most bytes of a text.
 const MOST_BYTES: usize = 4096;
 
-/// A rule on a text, by what it asks.
+/// A rule on a text.
 #[derive(Clone, Copy)]
 pub(crate) enum TextRule {
-    /// Each byte is printable, and neither `$$` nor `&&` stands in the text.
+    /// Each byte is one of space to tilde, and neither `$$` nor `&&` is in the text.
     Printable,
     /// At most 4,096 bytes.
     Short,
 }
 
-/// Whether the byte is `$` or `&`, and the next one is the same.
+/// Whether the byte is `$` or `&` and the next one is the same.
 fn is_doubled(byte: u8, rest: &[u8]) -> bool
     ensures { result ≡ is_doubled byte rest.now }
 {
@@ -30,7 +30,7 @@ fn is_doubled(byte: u8, rest: &[u8]) -> bool
     }
 }
 
-/// Where the first byte stands that is not printable, or from which `$$` or `&&` stands.
+/// The index of the first byte that is not printable, or begins `$$` or `&&`.
 fn bad_at(text: &[u8]) -> Option<usize>
     ensures { result ≡ bad_at text.now }
 {
@@ -42,7 +42,7 @@ fn bad_at(text: &[u8]) -> Option<usize>
     None
 }
 
-/// BadText: a byte of the field is not printable, or `$$` or `&&` stands in it.
+/// `BadText`: the text has a byte that is not printable, or `$$` or `&&`.
 fn bad_text(alloc: Global, field: &str, text: &[u8]) -> Result<Option<Refusal>, Oom>
     ensures { IfOk result (λ found. found ≡ bad_text field.now text.now) }
 {
@@ -55,7 +55,7 @@ fn bad_text(alloc: Global, field: &str, text: &[u8]) -> Result<Option<Refusal>, 
     }
 }
 
-/// TextTooLong: the field has more than 4,096 bytes.
+/// `TextTooLong`: the text has more than 4,096 bytes.
 fn long_text(alloc: Global, field: &str, text: &[u8]) -> Result<Option<Refusal>, Oom>
     ensures { IfOk result (λ found. found ≡ long_text field.now text.now) }
 {
@@ -68,7 +68,7 @@ fn long_text(alloc: Global, field: &str, text: &[u8]) -> Result<Option<Refusal>,
     }
 }
 
-/// What a field's text is refused with under a rule.
+/// The refusal of a field's text by a rule.
 fn offence(alloc: Global, rule: TextRule, field: &str, text: &Text) -> Result<Option<Refusal>, Oom>
     ensures { IfOk result (λ found. found ≡ under rule field.now text.now) }
 {
@@ -78,7 +78,7 @@ fn offence(alloc: Global, rule: TextRule, field: &str, text: &Text) -> Result<Op
     }
 }
 
-/// The first field that offends against a rule, in their order.
+/// The refusal of the first field that breaks a rule: what, area, impacts, then details.
 fn first_field(alloc: Global, rule: TextRule, texts: &Texts) -> Result<Option<Refusal>, Oom>
     ensures { IfOk result (λ found. found ≡ first_field (under rule) texts.now) }
 {
@@ -97,7 +97,7 @@ fn first_field(alloc: Global, rule: TextRule, texts: &Texts) -> Result<Option<Re
     offence(alloc, rule, "details", &texts.details)
 }
 
-/// The first of the texts of events that offends against a rule.
+/// The refusal of the first of the events' texts that breaks a rule.
 fn first_given(alloc: Global, rule: TextRule, given: &[EventTexts]) -> Result<Option<Refusal>, Oom>
     ensures { IfOk result (λ found. found ≡ first_texts (under rule) (map (λ (x : TextsOn). x.texts) given.now)) }
 {
@@ -110,7 +110,7 @@ fn first_given(alloc: Global, rule: TextRule, given: &[EventTexts]) -> Result<Op
     Ok(None)
 }
 
-/// The first text of a request that offends against a rule.
+/// The refusal of the first text of a request that breaks a rule.
 pub(crate) fn first_text(alloc: Global, rule: TextRule, r: &Request) -> Result<Option<Refusal>, Oom>
     ensures { IfOk result (λ found. found ≡ first_texts (under rule) (texts_in r.now)) }
 {

@@ -1,4 +1,5 @@
-//! The jobs of a turn at a shared office. Each asks the clock in the turn.
+//! The jobs of a turn at a shared office. Each reads the clock in its turn (docs/DECISIONS.md, "The
+//! server").
 use crate::shared::Story;
 use crate::tied::Tied;
 use desk_traits::{Clock, Disk};
@@ -8,7 +9,7 @@ use request_json::Asked;
 use std::alloc::Global;
 use turn_lock::Job;
 
-/// Submits a request at the minute of the clock.
+/// A job that submits a request at the clock's minute.
 #[derive(Drop)]
 pub struct Submit<'a, C> {
     pub alloc: Global,
@@ -33,7 +34,7 @@ impl<'a, D: Disk, C: Clock> Job<Tied<KeptOffice<D>, Story<D>>> for Submit<'a, C>
     }
 }
 
-/// Looks, at the minute of the clock.
+/// A job that looks at the office at the clock's minute.
 #[derive(Drop)]
 pub struct Look<'a, C> {
     pub alloc: Global,

@@ -1,5 +1,6 @@
-//! A kept office that passes share by turns: beside it stands what has happened to it since it was
-//! opened.
+//! An office over its journal that threads share by turns, with the history of what happened to it
+//! since it was opened. For servers. One begins with `SharedOffice::open`, `TurnLock::start` over
+//! it, and `submit_in_turn` or a turn of `Look`.
 #![tactic(auto)]
 
 mod happening;

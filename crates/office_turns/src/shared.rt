@@ -1,4 +1,4 @@
-//! A kept office beside its story.
+//! An office together with its history since it was opened.
 ghost use Rattle.std.specs.Prelude.{◌≡◌, []};
 ghost use Rattle.office_turns.specs.Since.{IsSince};
 
@@ -10,7 +10,7 @@ use std::alloc::Global;
 use std::snapshot::Snapshot;
 use turn_lock::Storied;
 
-/// A kept office as it was opened, and what has happened to it since, in order.
+/// An office as it was opened, and what happened to it since, in order.
 #[derive(Drop)]
 pub struct Story<D: Disk> {
     pub opened: Snapshot<KeptOffice<D>>,
@@ -21,11 +21,11 @@ impl<D: Disk> Told<Story<D>> for KeptOffice<D> {
     ghost ties = { λ kept story. IsSince D.Disk story.opened.value kept story.happenings.items };
 }
 
-/// A kept office, and what has happened to it since it was opened.
+/// An office together with what happened to it since it was opened.
 pub type SharedOffice<D> = Tied<KeptOffice<D>, Story<D>>;
 
 impl<D: Disk> Tied<KeptOffice<D>, Story<D>> {
-    /// A kept office that is opened now, so that nothing has happened to it yet.
+    /// Returns a shared office of `kept`, to which nothing has happened yet.
     pub fn open(alloc: Global, kept: KeptOffice<D>) -> Self
         ensures opened { result.story.opened.value ≡ kept }
         ensures kept { result.kept ≡ kept }
@@ -42,7 +42,7 @@ impl<D: Disk> Tied<KeptOffice<D>, Story<D>> {
         }
     }
 
-    /// The kept office, with what has become of it since it was opened.
+    /// Returns the office, and drops the history.
     pub fn into_kept(self) -> KeptOffice<D>
         ensures same { result ≡ self.kept }
         ensures since { IsSince D.Disk self.story.opened.value result self.story.happenings.items }

@@ -16,8 +16,8 @@ use request_json::Asked;
 use std::alloc::Global;
 use std::snapshot::Snapshot;
 
-/// Notes what an answer says to have happened, at the office as it stands now. What was prepared
-/// stands beside an answer that accepts and beside a disk fault.
+/// Appends what an answer says to have happened. `told` is what was prepared, of an accepted
+/// request and of a disk fault.
 fn note<D: Disk>(
     happenings: &mut Vec<Happening<D>>,
     answer: &Answer,
@@ -43,14 +43,13 @@ fn note<D: Disk>(
 }
 
 impl<D: Disk> Tied<KeptOffice<D>, Story<D>> {
-    /// Submits a request at a reading of the clock. All memory is taken before the first call of
-    /// the disk.
+    /// Submits a request at a reading of the clock, in minutes since 2000-01-01T00:00Z UTC, and
+    /// returns its answer. All memory is taken before the first call of the disk.
     pub fn submit(&mut self, alloc: Global, asked: &Asked, reading: i64) -> Answer
         requires form { HasForm asked.now }
         ensures opened { self.new.story.opened.value ≡ self.old.story.opened.value }
 
-        // What each answer says is true after what had happened, and one happening more stands
-        // behind that at most.
+        // Each answer is true after what had happened before, and adds at most one happening to it.
         ensures submitted { Submitted self.old.story.opened.value self.old.story.happenings.items
             self.new.story.happenings.items asked.now reading result }
         ensures grows { GrowsByOneAtMost self.old.story.happenings.items
@@ -67,11 +66,12 @@ impl<D: Disk> Tied<KeptOffice<D>, Story<D>> {
         answer
     }
 
-    /// What is looked at, at a reading of the clock.
+    /// Returns what `q` asks to see, at a reading of the clock, in minutes since 2000-01-01T00:00Z
+    /// UTC.
     ///
     /// # Errors
     ///
-    /// Those of the kept office's `look`.
+    /// Those of `KeptOffice::look`.
     pub fn look(&self, alloc: Global, q: &Query, reading: i64) -> Result<Text, Or<Refusal>>
         ensures { Shown self.now.story.opened.value self.now.story.happenings.items q.now reading
             result }

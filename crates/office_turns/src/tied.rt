@@ -1,14 +1,14 @@
-//! A value beside what is told of it.
+//! A value with its history.
 use std::marker::Model;
 
-/// A type of values of which something may be told.
+/// A value of which a history `S` may be true.
 pub trait Told<S> {
-    /// What is told is true of the value.
+    /// Whether the history is true of the value.
     ghost ties: { Self → S → Type 0 };
 }
 
-/// A value, and what is told of it. Both are type parameters, so that one that is large may cross
-/// threads.
+/// A value with its history. Both are type parameters, so that the pair may cross threads
+/// (docs/DECISIONS.md, "Turns").
 #[derive(Drop)]
 pub struct Tied<K: Told<S>, S> {
     pub(crate) kept: K,

@@ -13,7 +13,8 @@ use std::alloc::Global;
 use std::sync::Wait;
 use turn_lock::{Pass, TurnLock};
 
-/// Submits a request in a turn, which may wait until it comes. The clock is asked in the turn.
+/// Submits a request in a turn of its own, and returns its answer. It may wait for the turn, and
+/// reads the clock in it.
 pub fn submit_in_turn<R: Wait, D: Disk, C: Clock>(
     rt: &R,
     lock: &TurnLock<Tied<KeptOffice<D>, Story<D>>>,
@@ -41,8 +42,8 @@ fn may_cross<X: Send>(_value: &X) {}
 
 fn may_be_shared<X: Sync>(_value: &X) {}
 
-/// A lock over a shared office may be shared by threads. A pass may cross them, and so may the jobs
-/// with a clock that is shared.
+/// Shows that a lock over a shared office may be shared by threads, and that passes and jobs may
+/// cross them.
 fn cross<D: Disk + Send, C: Sync>(
     lock: &TurnLock<Tied<KeptOffice<D>, Story<D>>>,
     pass: &Pass<Tied<KeptOffice<D>, Story<D>>>,

@@ -1,4 +1,4 @@
-//! The end of a run: the line of its fault, and its status.
+//! The end of a run: the line of its fault, and its exit status.
 ghost use Rattle.std.specs.Prelude.{◌≡◌, ◌++◌, ℕ, List, Some, codes, false, []};
 ghost use Rattle.byte_streams.specs.Flows.{Outflow};
 ghost use Rattle.program_ends.specs.Ends.{is_write_fault, fault_line, write_fault_line, Telling, HasWritten, IsTried, TellsText, WritesText};
@@ -8,7 +8,7 @@ use byte_streams::{Sink, write_whole};
 use desk_traits::Failed;
 use itoa::Buffer;
 
-// Writes two pieces, or a front of them before a fault.
+// Writes `first` and then `second`. On `Err` a prefix of both may be written.
 pub(crate) fn write_both<K: Sink>(output: &mut K, first: &[u8], second: &[u8]) -> Result<(), Failed>
     ensures { WritesText (K.outflow output.old) (K.outflow output.new) result
         (first.now ++ second.now) }
@@ -17,7 +17,7 @@ pub(crate) fn write_both<K: Sink>(output: &mut K, first: &[u8], second: &[u8]) -
     write_whole(output, second)
 }
 
-// Writes a front, a value and LF.
+// Writes `front`, `value` and LF. On `Err` a prefix of these may be written.
 fn write_line<K: Sink>(output: &mut K, front: &[u8], value: &[u8]) -> Result<(), Failed>
     ensures { WritesText (K.outflow output.old) (K.outflow output.new) result
         (front.now ++ value.now ++ codes "\n") }
@@ -26,7 +26,8 @@ fn write_line<K: Sink>(output: &mut K, front: &[u8], value: &[u8]) -> Result<(),
     write_whole(output, b"\n")
 }
 
-// Writes the line of a fault, or a front of it. It takes no memory.
+// Writes the line of `end`, with its LF, and takes no memory. On `Err` a prefix of the line may be
+// written.
 fn write_fault<K: Sink>(output: &mut K, end: &End) -> Result<(), Failed>
     ensures { WritesText (K.outflow output.old) (K.outflow output.new) result (fault_line end.now) }
 {
@@ -41,7 +42,8 @@ fn write_fault<K: Sink>(output: &mut K, end: &End) -> Result<(), Failed>
     }
 }
 
-// Writes the line of a write fault, or a front of it.
+// Writes the line `fault WriteFault`, or a prefix of it where this fails too, and returns its
+// status.
 fn tell_write_fault<K: Sink>(output: &mut K) -> u8
     ensures status { result ≡ 8 }
     ensures tried { IsTried write_fault_line (K.outflow output.old) (K.outflow output.new) }
@@ -50,9 +52,11 @@ fn tell_write_fault<K: Sink>(output: &mut K) -> u8
     8
 }
 
-/// Ends a run that went well, or for a reason, and returns the program's status. The line of the
-/// reason is written. A write fault, of that line too, has a line of its own, of which a front may
-/// be written.
+/// Ends a run and returns the exit status: 0 for `None`, else the status of `end`, whose line is
+/// written. If that write fails, or `end` is a write fault, the status is 8, and a prefix of the
+/// line `fault WriteFault` is written.
+///
+/// docs/COMMANDS.md, "How a run ends".
 pub fn end_run<K: Sink>(output: &mut K, end: Option<End>) -> u8
     ensures { (begun : Outflow) (defined written : List ℕ)
         → HasWritten defined written begun (K.outflow output.old) end
@@ -70,7 +74,7 @@ pub fn end_run<K: Sink>(output: &mut K, end: Option<End>) -> u8
     }
 }
 
-/// Ends a run that has written nothing, for a reason that is no write fault.
+/// Ends a run that has written nothing, for a reason other than a write fault, as `end_run` does.
 pub fn end_at_once<K: Sink>(output: &mut K, end: End) -> u8
     requires { is_write_fault end ≡ false }
     ensures { Telling [] (K.outflow output.old) (K.outflow output.new) (Some end) result }
@@ -78,7 +82,8 @@ pub fn end_at_once<K: Sink>(output: &mut K, end: End) -> u8
     end_run(output, Some(end))
 }
 
-/// Writes a text that is all that a run writes, ends the run, and returns the program's status.
+/// Writes `text`, which is all that the run writes, ends the run as `end_run` does and returns the
+/// exit status.
 pub fn tell<K: Sink>(output: &mut K, text: &[u8]) -> u8
     ensures { TellsText text.now (K.outflow output.old) (K.outflow output.new) result }
 {

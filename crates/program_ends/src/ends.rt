@@ -1,36 +1,42 @@
-//! What a program may end with, its status and its line.
+//! The faults with which a program may end, each with its exit status and its line.
 ghost use Rattle.std.specs.Prelude.{◌≡◌};
 ghost use Rattle.program_ends.specs.Ends.{status_of, is_write_fault, fault_front};
 
 use hazard_types::Text;
 
-/// Why a program did not do all that its words ask for.
+/// Why a program did not do all that its arguments ask for.
 #[derive(Debug, Drop, PartialEq, Eq)]
 pub enum End {
-    /// The words are none of the program's.
+    /// The command line is not one of the program's commands.
     Usage,
-    /// The settings have this fault, and its key.
+    /// The settings are refused, with the text of their first fault, as docs/SETTINGS.md lists
+    /// them.
     SettingsRefused(Text),
-    /// The journal is not fresh.
+    /// The file is not fresh, so no journal is made in it.
     AlreadyKept,
-    /// The journal is fresh.
+    /// The file is fresh, so it holds no journal.
     NoJournal,
-    /// The journal is damaged at this byte.
+    /// The journal is damaged at this byte, counted from 0.
     Damaged(u64),
+    /// A read of the input failed.
     ReadFault,
+    /// A write of the output failed.
     WriteFault,
+    /// A call of the disk failed, or the file could not be opened.
     DiskFault,
+    /// The port can't be had, or an accept failed.
     PortFault,
-    /// The minute is not one that is served.
+    /// The minute is outside 2000-01-01T00:00Z to 2098-11-13T02:40Z.
     ClockOut,
     OutOfMemory,
-    /// The input has more bytes than are read.
+    /// The input has more bytes than the limit.
     InputTooLong,
+    /// The journal has no room for the mark of an upgrade.
     JournalFull,
 }
 
 impl End {
-    /// The exit status.
+    /// Returns the exit status, 2 to 14 (docs/COMMANDS.md, "How a run ends").
     pub fn status(&self) -> u8
         ensures { result ≡ status_of self.now }
     {
@@ -51,14 +57,14 @@ impl End {
         }
     }
 
-    /// Whether it is a write fault.
+    /// Whether this is a write fault.
     pub fn is_write_fault(&self) -> bool
         ensures { result ≡ is_write_fault self.now }
     {
         matches!(self, End::WriteFault)
     }
 
-    /// The line of the fault up to its value, if it has one.
+    /// The line of the fault without LF, up to its value if it has one.
     pub(crate) fn front(&self) -> &'static str
         ensures { result.now ≡ fault_front self.now }
     {

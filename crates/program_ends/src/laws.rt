@@ -1,9 +1,9 @@
-//! Laws of the definitions.
+//! Laws of the definitions. They have no code.
 ghost use Rattle.std.specs.Prelude.{ℕ, List, []};
 ghost use Rattle.program_ends.specs.Parting.{AreParted};
 
-/// The lines of an input have no LF, and with an LF behind each but the last, and the CRs that were
-/// dropped, they are its bytes.
+/// The lines of an input have no LF. With an LF after each but the last, and with the CRs that were
+/// dropped, they are the bytes of the input.
 pub fn lines_make_up_the_input()
     ensures { (bytes : List ℕ) → AreParted [] bytes }
 {}

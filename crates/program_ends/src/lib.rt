@@ -1,4 +1,6 @@
-//! How the programs end, read their input's lines and take their words.
+//! How the desk's programs read lines, take their arguments and end. For the programs and their
+//! libraries. One begins with `given_words` for the arguments, `run_lines` over an `Answers` for an
+//! input of lines, and `end_run` or `tell` for the last line and the exit status.
 #![tactic(auto)]
 
 mod ending;

@@ -1,4 +1,4 @@
-//! The line that is being read, of which no more is kept than a line may have.
+//! The line that is being read, of which no more is stored than a line may have.
 ghost use Rattle.std.specs.Prelude.{◌≡◌, ◌++◌, ◌∷◌, [], ℕ, List, option_map, IfOk};
 ghost use Rattle.program_ends.specs.Lines.{without_return, fit, pending_of};
 
@@ -9,8 +9,8 @@ use std::marker::Model;
 /// The most bytes of a line.
 const MOST_BYTES: usize = 65_536;
 
-/// The line that is being read: its first 65,537 bytes, the last of which may be a CR that is
-/// dropped, and whether it has more.
+/// The line so far: its first 65,537 bytes, the last of which may be a CR that is dropped, and
+/// whether it is longer.
 #[derive(Debug, Drop)]
 pub struct Line {
     kept: Vec<u8>,
@@ -29,7 +29,7 @@ impl Model for Line {
     ghost view = { λ l. record { kept = l.kept.items; is_longer = l.is_longer } };
 }
 
-/// A line without one CR at its end.
+/// The line without one CR at its end.
 fn without_return(line: &[u8]) -> &[u8]
     ensures { result.now ≡ without_return line.now }
 {
@@ -40,7 +40,7 @@ fn without_return(line: &[u8]) -> &[u8]
     }
 }
 
-/// The line, unless it is too long.
+/// The line, or `None` if it is over the limit.
 fn line_within_limit(line: &[u8]) -> Option<&[u8]>
     ensures { option_map (λ bytes. bytes.now) result ≡ fit line.now }
 {
@@ -52,7 +52,7 @@ fn line_within_limit(line: &[u8]) -> Option<&[u8]>
 }
 
 impl Line {
-    /// An empty line, with the room for its 65,537 bytes.
+    /// Returns an empty line with room for 65,537 bytes.
     ///
     /// # Errors
     ///
@@ -68,7 +68,7 @@ impl Line {
         })
     }
 
-    /// One byte more of the line.
+    /// Appends a byte to the line.
     pub fn push(&mut self, byte: u8)
         ensures { (line : List ℕ) → self.old ≡ pending_of line
             → self.new ≡ pending_of (line ++ byte ∷ []) }
@@ -80,7 +80,7 @@ impl Line {
         }
     }
 
-    /// The beginning of the next line.
+    /// Begins the next line.
     #[tactic(auto, unfolding(crate::specs::Lines::pending_of))]
     pub fn clear(&mut self)
         ensures { self.new ≡ pending_of [] }
@@ -89,7 +89,8 @@ impl Line {
         self.is_longer = false;
     }
 
-    /// The line, where an LF ended it, unless it is too long.
+    /// Returns the line as an LF ended it, without one CR before the LF, or `None` if it has more
+    /// than 65,536 bytes.
     pub fn line_at_end(&self) -> Option<&[u8]>
         ensures { (line : List ℕ) → self.now ≡ pending_of line
             → option_map (λ bytes. bytes.now) result ≡ fit (without_return line) }
@@ -101,7 +102,7 @@ impl Line {
         }
     }
 
-    /// The line, where the input's end ended it, unless it is too long.
+    /// Returns the line as the input's end ended it, or `None` if it has more than 65,536 bytes.
     pub fn unended(&self) -> Option<&[u8]>
         ensures { (line : List ℕ) → self.now ≡ pending_of line
             → option_map (λ bytes. bytes.now) result ≡ fit line }

@@ -1,4 +1,4 @@
-//! The run over the lines of a source.
+//! The run over the lines of an input.
 ghost use Rattle.std.specs.Prelude.{◌≡◌, ◌<◌, ◌+◌, ◌^◌, ℕ, List, Option, option_map, IfOk, OnOk, OnErr, IfErr};
 ghost use Rattle.byte_streams.specs.Flows.{streams};
 ghost use Rattle.program_ends.specs.Lines.{pending_of, lines_from};
@@ -17,20 +17,22 @@ use desk_traits::Failed;
 use hazard_types::Oom;
 use std::alloc::Global;
 
-/// What answers the lines of an input, one after another.
+/// Answers the lines of an input, one after another.
 pub trait Answers {
-    /// A line is answered with this text, which makes this of the state. A line that is too long is
-    /// handed on as nothing.
+    /// `answers state line text state'`: the line may be answered with these bytes, which leads to
+    /// `state'`. A line over the limit is passed as `None`.
     ghost answers: { Self → Option (List ℕ) → List ℕ → Self → Type 0 };
 
-    /// Memory lacked for the answer to a line, which made this of the state.
+    /// `lacks state line state'`: what the state may be when memory ran out while the line was
+    /// answered.
     ghost lacks: { Self → Option (List ℕ) → Self → Type 0 };
 
-    /// Answers a line.
+    /// Answers a line, which is without its LF. A line of more than 65,536 bytes is passed as
+    /// `None`.
     ///
     /// # Errors
     ///
-    /// Out of memory for the answer, which ends the run.
+    /// Out of memory, which ends the run.
     fn answer(&mut self, alloc: Global, line: Option<&[u8]>) -> Result<Reply, Oom>
         ensures answered { IfOk result (λ reply. answers self.old
             (option_map (λ bytes. bytes.now) line.entry) (bytes_of reply) self.new) }
@@ -38,7 +40,7 @@ pub trait Answers {
             (option_map (λ bytes. bytes.now) line.entry) self.new) };
 }
 
-// Answers the line that ended, and writes the text.
+// Answers a line and writes the answer.
 fn reply<K: Sink, A: Answers>(
     alloc: Global,
     answers: &mut A,
@@ -61,7 +63,7 @@ fn reply<K: Sink, A: Answers>(
     }
 }
 
-/// Answers the lines that end in a chunk, and keeps what has come of the next one.
+/// Answers the lines that end in `chunk`, and stores what there is of the next one in `line`.
 fn feed<K: Sink, A: Answers>(
     alloc: Global,
     answers: &mut A,
@@ -89,7 +91,7 @@ fn feed<K: Sink, A: Answers>(
     Ok(())
 }
 
-/// The most bytes of an input that is answered to its end.
+/// The most bytes of an input that the programs read to its end.
 pub const LIMIT: usize = 1_073_741_824;
 
 // Reads to the input's end, and answers each line.
@@ -118,10 +120,12 @@ fn answer_lines<S: Source, K: Sink, A: Answers>(
     reply(alloc, answers, line.unended(), output)
 }
 
-/// Reads an input of at most `limit` bytes to its end, answers each line, and tells the end of the
-/// run. Returns the program's status. All lines that ended in a piece are answered before the next
-/// read, and no more than one line is kept. One byte more than the limit is read, and the line that
-/// it belongs to gets no answer.
+/// Answers each line of an input of at most `limit` bytes, writes the line that ends the run, and
+/// returns the exit status. All lines that end in a piece are answered before the next read, and
+/// only one line is stored. One byte over the limit is read at most, and the line with it gets no
+/// answer.
+///
+/// docs/DECISIONS.md, "Ends of a program".
 pub fn run_lines<S: Source, K: Sink, A: Answers>(
     alloc: Global,
     limit: usize,

@@ -1,24 +1,24 @@
-//! Decimal numbers, as words and fields of a head write them.
+//! Decimal numbers in arguments and in header fields.
 ghost use Rattle.std.specs.Prelude.{◌≡◌, ◌≤◌, Some, None, IfSome, nat_le, if◌then◌else◌};
 ghost use Rattle.std.specs.List.{list_all};
 ghost use Rattle.hazard_types.specs.Calendar.{is_digit};
 ghost use Rattle.program_ends.specs.Numbers.{are_digits, count_in, number_in, with_digit};
 
-/// Whether all are decimal digits.
+/// Whether all bytes are decimal digits.
 fn have_digits_alone(word: &[u8]) -> bool
     ensures { result ≡ list_all is_digit word.now }
 {
     word.iter().all(|c| c.is_ascii_digit())
 }
 
-/// Whether these are one or more decimal digits.
+/// Whether the bytes are one or more decimal digits.
 fn are_digits(word: &[u8]) -> bool
     ensures { result ≡ are_digits word.now }
 {
     !word.is_empty() && have_digits_alone(word)
 }
 
-/// The number with one digit more, unless it is above `most` then.
+/// `number` with one more digit, or `None` if it is above `most` then.
 fn with_digit(number: u64, digit: u8, most: u64) -> Option<u64>
     requires { number ≤ most }
     ensures { result ≡ (if nat_le (with_digit number digit) most
@@ -32,8 +32,8 @@ fn with_digit(number: u64, digit: u8, most: u64) -> Option<u64>
     }
 }
 
-/// The number that one or more decimal digits spell, with or without zeros before it. None exactly
-/// where these are no digits, or the number is above `most`.
+/// Parses one or more decimal digits, leading zeros allowed. `None` exactly if `word` is something
+/// else or the number is above `most`.
 pub fn number_in(word: &[u8], most: u64) -> Option<u64>
     ensures value { result ≡ number_in most word.now }
     ensures within { IfSome result (λ n. n ≤ most) }
@@ -51,8 +51,8 @@ pub fn number_in(word: &[u8], most: u64) -> Option<u64>
     Some(number)
 }
 
-/// The number from 1 to `most` that decimal digits spell, with or without zeros before it. None
-/// exactly where they spell none of these.
+/// Parses one or more decimal digits, leading zeros allowed, as a number from 1 to `most`. `None`
+/// exactly if `word` is something else.
 pub fn count_in(word: &[u8], most: u64) -> Option<u64>
     ensures value { result ≡ count_in most word.now }
     ensures within { IfSome result (λ n. (1 ≤ n) × (n ≤ most)) }

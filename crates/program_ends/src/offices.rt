@@ -1,11 +1,11 @@
-//! Offices, as words name them.
+//! Offices in arguments.
 ghost use Rattle.std.specs.Prelude.{◌≡◌, ◌||◌, IfSome, IsTrue, Some, None, if◌then◌else◌};
 ghost use Rattle.std.specs.List.{list_all};
 ghost use Rattle.hazard_types.specs.Calendar.{is_digit};
 ghost use Rattle.hazard_types.specs.Characters.{is_office};
 ghost use Rattle.hazard_types.specs.Places.{is_capital};
 
-/// Whether all are capital letters or digits.
+/// Whether all bytes are capital letters or digits.
 fn are_office_letters(word: &[u8]) -> bool
     ensures { result ≡ list_all (λ c. is_capital c || is_digit c) word.now }
 {
@@ -13,8 +13,7 @@ fn are_office_letters(word: &[u8]) -> bool
         .all(|c| c.is_ascii_uppercase() || c.is_ascii_digit())
 }
 
-/// The office that a word names: four capital letters or digits. None exactly where the word names
-/// none.
+/// Parses an office, four characters of A-Z and 0-9. `None` exactly if `word` is none.
 #[tactic(auto, using(crate::proofs::Shapes::four_is))]
 pub fn office_of(word: &[u8]) -> Option<[u8; 4]>
     ensures value { result ≡ (if is_office word.now then Some word.now else None) }

@@ -1,4 +1,4 @@
-//! An input is read piece by piece, up to a limit.
+//! Reading of an input piece by piece, up to a limit.
 ghost use Rattle.std.specs.Prelude.{◌≡◌, ◌<◌, ◌+◌, ◌^◌, length};
 ghost use Rattle.program_ends.specs.Pieces.{ReadsNext, extent};
 
@@ -7,7 +7,7 @@ use byte_streams::Source;
 use desk_traits::Failed;
 use std::marker::Model;
 
-/// How much was read of an input, and how many bytes it may have.
+/// The number of bytes read from an input, and the most that it may have.
 #[derive(Debug, Drop)]
 pub struct Pieces {
     limit: usize,
@@ -26,7 +26,7 @@ impl Model for Pieces {
 }
 
 impl Pieces {
-    /// Nothing was read of an input that may have so many bytes.
+    /// Returns the start of an input of at most `limit` bytes.
     pub fn up_to(limit: usize) -> Self
         requires { limit + 1 < 2 ^ 64 }
         ensures { result ≡ extent limit 0 }
@@ -34,13 +34,14 @@ impl Pieces {
         Pieces { limit, total: 0 }
     }
 
-    /// Reads the next piece of the input into the front of the buffer. Returns how many bytes of it
-    /// lie within the limit, and nothing at the input's end. One byte more than the limit is read,
-    /// to see that there is one.
+    /// Reads the next piece of `input` into the start of `buffer`, which must not be empty. Returns
+    /// how many of its bytes are within the limit, or `None` at the input's end. One byte over the
+    /// limit is read, to see that it is there.
     ///
     /// # Errors
     ///
-    /// The read failed; or the piece before this one went beyond the limit.
+    /// - `Read` if the read failed.
+    /// - `TooLong` if the piece before this one went over the limit.
     pub fn next<S: Source>(
         &mut self,
         input: &mut S,

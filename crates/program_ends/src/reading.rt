@@ -1,4 +1,4 @@
-//! Reading of an input, up to a limit.
+//! One read of an input, and why a run stops early.
 ghost use Rattle.std.specs.Prelude.{◌≡◌, ◌≤◌, length};
 ghost use Rattle.program_ends.specs.Steps.{ReadsFront};
 
@@ -7,7 +7,8 @@ use byte_streams::Source;
 use desk_traits::Failed;
 use hazard_types::Oom;
 
-/// Why a run stops before the end of its input.
+/// Why a run stops before the end of its input. `Read` and `Write` are failed calls, `TooLong` an
+/// input over the limit.
 #[derive(Clone, Copy, Debug, PartialEq, Eq)]
 pub enum Stop {
     Read,
@@ -41,12 +42,12 @@ impl From<Stop> for End {
     }
 }
 
-/// Reads at most `room` bytes into the front of the buffer. Returns how many there are: none only at
-/// the input's end, or where there is no room.
+/// Reads at most `room` bytes into the start of `buffer` and returns how many: 0 only at the
+/// input's end, or if `room` is 0.
 ///
 /// # Errors
 ///
-/// The read failed.
+/// `Failed` if the read failed; nothing was read.
 pub fn read_front<S: Source>(input: &mut S, buffer: &mut [u8], room: usize) -> Result<usize, Failed>
     requires { room ≤ length buffer.old }
     ensures { ReadsFront (S.inflow input.old) (S.inflow input.new) room result buffer.new }

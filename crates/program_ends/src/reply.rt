@@ -1,4 +1,4 @@
-//! What a line is answered.
+//! The answer to a line.
 ghost use Rattle.program_ends.specs.Ends.{WritesText};
 ghost use Rattle.program_ends.specs.Replies.{bytes_of};
 
@@ -7,21 +7,21 @@ use byte_streams::{Sink, write_whole};
 use desk_traits::Failed;
 use hazard_types::Text;
 
-/// What a line is answered.
+/// The answer to a line.
 #[derive(Debug, Drop)]
 pub enum Reply {
     /// Nothing is written.
     Nothing,
-    /// A text is written as a line: the run adds the line feed.
+    /// A text without LF; the run writes an LF after it.
     Line(Text),
-    /// A fixed text is written as a line. It takes no memory.
+    /// A fixed text without LF, which takes no memory; the run writes an LF after it.
     Fixed(&'static [u8]),
-    /// A text is written as it is.
+    /// A text that is written as it is.
     Whole(Text),
 }
 
 impl Reply {
-    /// Writes the reply, or a front of it before a fault.
+    /// Writes the reply. On `Err` a prefix of it may be written.
     pub(crate) fn write<K: Sink>(&self, output: &mut K) -> Result<(), Failed>
         ensures { WritesText (K.outflow output.old) (K.outflow output.new) result
             (bytes_of self.now) }

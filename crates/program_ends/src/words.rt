@@ -1,11 +1,11 @@
-//! The words of a command line.
+//! The arguments of a command line.
 ghost use Rattle.std.specs.Prelude.{◌≡◌, IfOk};
 ghost use Rattle.program_ends.specs.Words.{words_behind};
 
 use hazard_types::{List, Oom, Text};
 use std::alloc::Global;
 
-/// The words behind the first ones, byte for byte.
+/// Returns the arguments after the first `skipped`, as bytes.
 ///
 /// # Errors
 ///

@@ -1,4 +1,4 @@
-//! The outside that the system gives a program. It is trusted.
+//! The system's arguments, streams and files. They are trusted.
 use crate::files::{Access, Files};
 use crate::outside::Outside;
 use crate::words::words_of;
@@ -8,14 +8,14 @@ use std::env;
 use std::fs::File;
 use std::io::{self, Printer, Stderr, StdinLock};
 
-/// The outside of a program of the system.
+/// The outside of a program that the system started.
 pub type HostOutside<'a> = Outside<
     StdSource<StdinLock<'a>>,
     StdSink<Printer<'a, HostRuntime>>,
     StdSink<Stderr>,
 >;
 
-/// The command line, standard input, standard output, and standard error for messages.
+/// Returns the command line, standard input, standard output, and standard error for messages.
 pub fn outside_of(rt: &HostRuntime) -> HostOutside<'_> {
     Outside {
         alloc: rt.alloc(),
@@ -33,15 +33,17 @@ pub struct HostFiles<'a> {
 }
 
 impl<'a> HostFiles<'a> {
+    /// Returns the files of the runtime's system.
     pub fn new(rt: &'a HostRuntime) -> Self {
         HostFiles { rt }
     }
 
-    /// The file of that path. One that is to be written is locked until it is closed.
+    /// Opens the file for reading and writing, and creates it if it is not there. One that is to be
+    /// written is locked until it is closed.
     ///
     /// # Errors
     ///
-    /// The system's, also where another program holds the lock.
+    /// The system's error, also if another program holds the lock.
     fn file(&self, path: &str, access: Access) -> io::Result<File> {
         let file = File::options()
             .read(true)

@@ -1,5 +1,7 @@
-//! The outside of a program, as one value: what its command line, its input and its output are, and
-//! where it opens files.
+//! What a program has from the system as one value: arguments, input, output, messages, and the
+//! files that it opens. For `main` functions and for programs of rows. One begins with `outside_of`
+//! and `HostFiles::new` in `main`, or makes an `Outside` of streams in memory, and then calls
+//! `Outside::given`.
 #![tactic(auto)]
 
 mod files;

@@ -7,8 +7,8 @@ use hazard_types::{List, Oom, Text};
 use program_ends::{End, given_words};
 use std::alloc::Global;
 
-/// What a program is started with: the words of its command line, of which its name comes first, or
-/// that memory ran out for them; its input; its output; and where messages to people go.
+/// What a program is started with. `words` are the arguments, the program's name first, or `Oom` if
+/// memory ran out for them; `messages` is the sink for messages to people.
 #[derive(Drop)]
 pub struct Outside<S, K, M> {
     pub alloc: Global,
@@ -19,7 +19,7 @@ pub struct Outside<S, K, M> {
 }
 
 impl<S, K, M> Outside<S, K, M> {
-    /// The words after the first `skipped`, as bytes.
+    /// Returns the arguments after the first `skipped`, as bytes.
     ///
     /// # Errors
     ///
@@ -35,8 +35,8 @@ impl<S, K, M> Outside<S, K, M> {
 }
 
 impl<S, K, M: Sink> Outside<S, K, M> {
-    /// Shows the usage where the status is that of words that are none of the program's. What can't
-    /// be written there is left out.
+    /// Writes `usage` to `messages` if `status` is that of a usage error. A failed write is
+    /// ignored.
     pub fn show_usage(&mut self, status: u8, usage: &str)
         ensures shown { IsUsageShown usage.now status (M.outflow self.old.messages)
             (M.outflow self.new.messages) }

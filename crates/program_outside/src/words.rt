@@ -1,4 +1,4 @@
-//! The words of a command line.
+//! The arguments of a command line.
 ghost use Rattle.std.specs.Prelude.{◌≡◌, ◌≢◌, [], IfErr, IfOk, IsErr, IsOkAnd};
 ghost use Rattle.std.specs.IoError.{error_kind};
 ghost use Rattle.std.specs.Vec.Iter.{into_iter_items};
@@ -8,7 +8,7 @@ use std::alloc::Global;
 use std::env::Args;
 use std::io::{self, ErrorKind};
 
-/// The words that were read: none where they can't be read.
+/// Returns the arguments that were read, or none if they can't be read.
 ///
 /// # Errors
 ///

@@ -1,4 +1,4 @@
-//! What an office keeps by what happens to it.
+//! The history of an office as requests are added.
 ghost use Rattle.std.specs.Prelude.{List};
 ghost use Rattle.office_journal.specs.declared.kept.KeptOffice.{KeptOffice as Kept};
 ghost use Rattle.office_turns.specs.Since.{IsSince};
@@ -10,7 +10,8 @@ use desk_traits::Disk;
 use office_core::requests_stand_once;
 use office_journal::KeptOffice;
 
-/// An office that was opened keeps the history of its disk, with all that has happened since.
+/// A law: an office that was opened has the history of its disk, and after it all that was accepted
+/// since.
 pub fn an_opened_office_keeps_its_history<D: Disk>(kept: &KeptOffice<D>)
     ensures { (disk : D) (opened : Kept D D.Disk) (happenings : List (Happening D D.Disk))
         → IsOpened D.Disk disk opened → IsSince D.Disk opened kept.now happenings

@@ -1,4 +1,6 @@
-//! The command `serve`: its words, and the office of a journal served over the links of a port.
+//! The command `serve`: its arguments, and the office of a journal served over the links of a port.
+//! For the program `warn_main` and for tests. One begins with `serving_of` for the arguments and
+//! `run_serve`.
 #![tactic(auto)]
 
 mod growing;

@@ -19,19 +19,19 @@ use std::sync::Wait;
 use std::thread::Threads;
 use warn_serve::{ServeEnd, serve};
 
-/// What a service stands on: the runtime, the allocator, and the clock and the gate that its
-/// workers share.
+/// What a service uses: the runtime, the allocator, and the clock and the hook that its workers
+/// share.
 #[derive(Drop)]
 pub struct Means<'a, R, C, G> {
     pub rt: &'a R,
     pub alloc: Global,
-    /// Asked for the minute once a call.
+    /// The clock, read in the turn of each call.
     pub clock: &'a C,
-    /// Called before each call is judged and after its answer was written.
+    /// The hook called before each call is judged and after it was handled.
     pub gate: &'a G,
 }
 
-/// The line of an office with so many requests and products.
+/// The line `requests R products P`.
 #[tactic(auto, unfolding(crate::specs::Serving::summary))]
 fn summary(alloc: Global, requests: u64, products: u32) -> Result<Text, Oom>
     ensures { IfOk result (λ text. text ≡ summary requests products) }
@@ -45,7 +45,7 @@ fn summary(alloc: Global, requests: u64, products: u32) -> Result<Text, Oom>
     Ok(text)
 }
 
-/// Tells how the service of an office ended, and returns the status of the program.
+/// Writes the last line of a service, ends the run and returns the exit status.
 fn tell_served<K: Sink, D: Disk>(
     alloc: Global,
     output: &mut K,
@@ -106,8 +106,10 @@ fn serve_office<
     }
 }
 
-/// Serves the office whose journal the disk holds over the links of a port, and then writes how
-/// many requests and products it has.
+/// Serves the office of the journal on `disk` over the links of `port`, writes `requests R products
+/// P` and ends the run. If no office is opened the port is left as it is.
+///
+/// docs/SERVING.md.
 pub fn run_serve<
     R: Threads + Wait + Sync,
     K: Sink,

@@ -1,4 +1,4 @@
-//! The words of the command.
+//! The arguments of the command.
 ghost use Rattle.std.specs.Prelude.{◌≡◌, ◌≤◌, IfSome, length};
 ghost use Rattle.serve_command.specs.declared.words.Given.TheVariants.{Port, Workers, Connections};
 ghost use Rattle.serve_command.specs.Words.{IsGiven, IsServing, first_given, joined_by, named_by};
@@ -9,8 +9,8 @@ ghost use Rattle.serve_command.specs.Words.{port_of, workers_in, workers_of};
 use hazard_types::{List, Text};
 use program_ends::count_in;
 
-/// A port of this machine, from 1, how many workers serve it, 1 to 16, and how many connections
-/// they serve together, 1 to 1,000,000.
+/// What to serve: the port, 1 to 65,535; the number of workers, 1 to 16; and the number of
+/// connections that they serve together, 1 to 1,000,000.
 #[derive(Clone, Copy, Debug)]
 pub struct Serving {
     pub port: u16,
@@ -18,7 +18,7 @@ pub struct Serving {
     pub connections: u32,
 }
 
-/// What one option gives.
+/// The value of one option.
 #[derive(Clone, Copy, Debug)]
 pub enum Given {
     Port(u16),
@@ -85,7 +85,7 @@ fn connections_in(value: &[u8]) -> Option<Given>
     Some(Given::Connections(connections as u32))
 }
 
-/// What an option of two words gives, as `--port N`.
+/// The value of an option in two words, as `--port N`.
 fn named_by(name: &[u8], value: &[u8]) -> Option<Given>
     ensures value { result ≡ named_by name.now value.now }
     ensures form { IfSome result IsGiven }
@@ -101,7 +101,7 @@ fn named_by(name: &[u8], value: &[u8]) -> Option<Given>
     }
 }
 
-/// What an option of one word gives, as `--port=N`.
+/// The value of an option in one word, as `--port=N`.
 fn joined_by(word: &[u8]) -> Option<Given>
     ensures value { result ≡ joined_by word.now }
     ensures form { IfSome result IsGiven }
@@ -117,7 +117,7 @@ fn joined_by(word: &[u8]) -> Option<Given>
     }
 }
 
-/// What the option gives that stands first, and how many words it is.
+/// The value of the first option, and its number of words.
 fn first_given(words: &[Text]) -> Option<(Given, usize)>
     ensures value { result ≡ first_given words.now }
     ensures form { IfSome result (λ first. IsGiven first.0) }
@@ -136,7 +136,7 @@ fn first_given(words: &[Text]) -> Option<(Given, usize)>
     Some((given, 2))
 }
 
-/// The port that is given first.
+/// The first port given.
 fn port_of(first: &Given, second: &Given, third: &Given) -> Option<u16>
     requires { IsGiven first.now × IsGiven second.now × IsGiven third.now }
     ensures value { result ≡ one_of port_of first.now second.now third.now }
@@ -145,7 +145,7 @@ fn port_of(first: &Given, second: &Given, third: &Given) -> Option<u16>
     first.port().or(second.port()).or(third.port())
 }
 
-/// The number of workers that is given first.
+/// The first number of workers given.
 fn workers_of(first: &Given, second: &Given, third: &Given) -> Option<u8>
     requires { IsGiven first.now × IsGiven second.now × IsGiven third.now }
     ensures value { result ≡ one_of workers_of first.now second.now third.now }
@@ -154,7 +154,7 @@ fn workers_of(first: &Given, second: &Given, third: &Given) -> Option<u8>
     first.workers().or(second.workers()).or(third.workers())
 }
 
-/// The number of connections that is given first.
+/// The first number of connections given.
 fn connections_of(first: &Given, second: &Given, third: &Given) -> Option<u32>
     requires { IsGiven first.now × IsGiven second.now × IsGiven third.now }
     ensures value { result ≡ one_of connections_of first.now second.now third.now }
@@ -166,8 +166,7 @@ fn connections_of(first: &Given, second: &Given, third: &Given) -> Option<u32>
         .or(third.connections())
 }
 
-/// What three options give together. None where one is not among them, so that another stands
-/// twice.
+/// The values of three options together, or `None` if one of the three names is missing.
 fn serving_given(first: &Given, second: &Given, third: &Given) -> Option<Serving>
     requires { IsGiven first.now × IsGiven second.now × IsGiven third.now }
     ensures value { result ≡ serving_given first.now second.now third.now }
@@ -183,7 +182,7 @@ fn serving_given(first: &Given, second: &Given, third: &Given) -> Option<Serving
     })
 }
 
-/// What exactly three options ask to be served.
+/// The values of exactly three options.
 fn options_given(words: &[Text]) -> Option<Serving>
     ensures value { result ≡ options_given words.now }
     ensures form { IfSome result IsServing }
@@ -199,7 +198,10 @@ fn options_given(words: &[Text]) -> Option<Serving>
     serving_given(&first, &second, &third)
 }
 
-/// What the words ask to be served. None exactly where they are no `serve`.
+/// Parses the arguments `serve --port N --workers W --connections M`, options in any order. `None`
+/// exactly if they are something else.
+///
+/// docs/SERVING.md, "Start it".
 #[tactic(auto, unfolding(crate::specs::Words::serving_of))]
 pub fn serving_of(words: &List<Text>) -> Option<Serving>
     ensures value { result ≡ serving_of words.now }

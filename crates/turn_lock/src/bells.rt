@@ -1,4 +1,4 @@
-//! Where those sleep who wait for their turn: a word for each place in line.
+//! Where callers sleep until their turn: an atomic word for each place in line.
 ghost use Rattle.std.specs.Prelude.{◌≡◌, vec_len};
 
 use hazard_types::Oom;
@@ -6,22 +6,22 @@ use std::alloc::Global;
 use std::sync::Wait;
 use std::sync::atomic::{AtomicU64, Ordering};
 
-/// How many words there are. More workers than that share words, and wake one another.
+/// The number of words. Callers beyond it share words, and are woken together.
 const BELLS: usize = 64;
 
 /// The word of a bell at which nobody sleeps.
 const SILENT: u64 = 0;
 
-/// Who waits for a ticket marks the ticket's bell, looks once more, and sleeps while the mark stands.
-/// Who passes the turn on takes the mark away and wakes the sleepers of that bell alone; where there is
-/// no mark nobody sleeps, and nobody is woken. Nothing that is proved rests on a bell.
+/// The words at which callers sleep. A caller marks its ticket's word, looks at the served ticket
+/// once more and sleeps while the mark is there; the one who passes the turn on removes the mark
+/// and wakes that word alone. No proof rests on these words (docs/DECISIONS.md, "Turns").
 #[derive(Drop)]
 pub(crate) struct Bells {
     row: Vec<AtomicU64>,
     ghost many: { vec_len row ≡ 64 },
 }
 
-/// The mark of a ticket, which is odd, and so never that of a silent bell.
+/// The mark of a ticket, an odd number, so never `SILENT`.
 fn mark_of(ticket: u64) -> u32 {
     (ticket % (1 << 31)) as u32 * 2 + 1
 }
@@ -45,12 +45,12 @@ impl Bells {
             .store(u64::from(mark_of(ticket)), Ordering::SeqCst);
     }
 
-    /// Sleeps while the ticket's mark stands, until a wake. It may also return before.
+    /// Sleeps while the ticket's mark is there, until a wake. It may return earlier.
     pub(crate) fn sleep<R: Wait>(&self, rt: &R, ticket: u64) {
         self.bell(ticket).park(rt, mark_of(ticket));
     }
 
-    /// Wakes who sleeps at the ticket's bell, where there is a mark.
+    /// Wakes those who sleep at the ticket's word, if it has a mark.
     pub(crate) fn ring(&self, ticket: u64) {
         let bell = self.bell(ticket);
         if bell.load(Ordering::SeqCst) != SILENT {

@@ -1,4 +1,6 @@
-//! A lock over one value that serves its callers in the order of their tickets, and tells each what the value's list was.
+//! A ticket lock over one value, whose callers learn which entries came before their own. For
+//! programs that share a value among threads. One begins with `TurnLock::start`, gives each thread
+//! a `Pass` by `split`, calls `turn` with a `Job`, and ends with `join` and `close`.
 #![tactic(auto)]
 
 mod bells;

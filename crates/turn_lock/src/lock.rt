@@ -16,7 +16,10 @@ use std::marker::Model;
 use std::snapshot::Snapshot;
 use std::sync::Wait;
 
-/// A value that one pass at a time works on, in the order of the tickets that passes draw. A contract sees a lock as its name.
+/// A value that one caller at a time works on, in the order of the tickets that callers draw. A
+/// contract sees the lock as its name.
+///
+/// docs/DECISIONS.md, "Turns".
 #[derive(Drop)]
 pub struct TurnLock<T: Storied> {
     pub(crate) table: Table<Option<T>, View<T::Base, T::Entry>, Snapshot<T>, Turns, Global>,
@@ -38,7 +41,11 @@ impl<T: Storied> Model for TurnLock<T> {
 }
 
 impl<T: Storied> TurnLock<T> {
-    /// A lock over the value, and a pass with all of its 1,024 shares. For want of memory it hands the value back.
+    /// Returns a lock over `value`, and a pass with all of its 1,024 shares.
+    ///
+    /// # Errors
+    ///
+    /// `value` itself, if memory ran out.
     pub fn start(alloc: Global, value: T) -> Result<(TurnLock<T>, Pass<T>), T>
         ensures ok { IfOk result (λ made. made.1 ≡ first_pass made.0 (T.base value) (T.story value)) }
         ensures err { IfErr result (λ back. back ≡ value) }
@@ -63,7 +70,8 @@ impl<T: Storied> TurnLock<T> {
         }
     }
 
-    /// The answer of one run of the job on the value, which may wait until the turn comes.
+    /// Runs `job` once on the value, after it has waited for its turn, and returns the job's
+    /// result. The pass then has seen all entries up to the end of that turn.
     pub fn turn<R: Wait, J: Job<T>>(&self, rt: &R, pass: &mut Pass<T>, job: J) -> J::Out
         requires pass { pass.old.lock ≡ self.now }
         requires job { J.may_run job }
@@ -78,8 +86,12 @@ impl<T: Storied> TurnLock<T> {
         answer
     }
 
-    /// A pass that has seen what this one has, has no entries of its own, and gets one of its shares.
-    /// On `Oom` the pass is as it was; no clause says when that comes.
+    /// Returns a pass with one of this pass's shares, which has seen the same entries and has none
+    /// of its own. `pass` must have two shares at least.
+    ///
+    /// # Errors
+    ///
+    /// Out of memory; the pass is as before. No clause says when this comes.
     pub fn split(&self, pass: &mut Pass<T>) -> Result<Pass<T>, Oom>
         requires pass { pass.old.lock ≡ self.now }
         requires shares { 2 ≤ pass.old.shares }
@@ -91,13 +103,13 @@ impl<T: Storied> TurnLock<T> {
         Ok(Pass { seat })
     }
 
-    /// Takes in what another pass has seen and added, and its shares.
+    /// Adds to `pass` what `other` has seen and added, and its shares.
     pub fn join(&self, pass: &mut Pass<T>, other: Pass<T>)
         requires pass { pass.old.lock ≡ self.now }
         requires other { other.lock ≡ self.now }
         ensures both { pass.new ≡ joined pass.old other }
 
-        // Each list begins the longer one.
+        // Each of the two lists seen is a prefix of the longer one.
         ensures begins { IsPrefix pass.old.seen pass.new.seen × IsPrefix other.seen pass.new.seen }
         ensures apart { (place : ℕ) → Contains pass.old.mine place → ¬ Contains other.mine place }
     {
@@ -106,7 +118,8 @@ impl<T: Storied> TurnLock<T> {
         self.table.shared.load::<Settle>(&mut pass.seat, COUNT);
     }
 
-    /// The value, whose list holds the pass's entries and, from the first length on, no others.
+    /// Returns the value and ends the lock. `pass` must have all shares; from the length at `start`
+    /// on, the value's list has exactly the entries of the pass.
     pub fn close(self, pass: Pass<T>) -> T
         requires pass { pass.lock ≡ self }
         requires shares { pass.shares ≡ 1024 }

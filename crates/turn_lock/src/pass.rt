@@ -6,7 +6,8 @@ use crate::view::View;
 use atomic_table::Seat;
 use std::marker::Model;
 
-/// The right to take turns at one lock, with what its holder has seen of the lock's value. It has no bytes.
+/// The right to take turns at one lock, together with the entries that its holder has seen. It
+/// exists for proofs and takes no bytes.
 #[derive(Drop)]
 pub struct Pass<T: Storied> {
     pub(crate) seat: Seat<Option<T>, View<T::Base, T::Entry>>,

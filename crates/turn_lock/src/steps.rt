@@ -1,4 +1,4 @@
-//! The steps of one turn, on the seat of a pass.
+//! The steps of one turn.
 ghost use Rattle.std.specs.Prelude.{◌≡◌, ℕ, ◌⊎◌, ◌++◌, ◌∷◌, [], length, Some, None};
 ghost use mathlib.Core.List.{IsPrefix};
 ghost use Rattle.turn_lock.specs.Story.{GrowsByOneAtMost};
@@ -12,17 +12,17 @@ use crate::view::View;
 use atomic_table::Seat;
 use std::sync::Wait;
 
-/// The word with the next ticket.
+/// The index of the word with the next ticket.
 pub(crate) const TICKET: usize = 0;
 
-/// The word with the ticket that is served.
+/// The index of the word with the ticket that is served.
 pub(crate) const SERVING: usize = 1;
 
-/// The word with the number of entries.
+/// The index of the word with the number of entries.
 pub(crate) const COUNT: usize = 2;
 
 impl<T: Storied> TurnLock<T> {
-    /// Draws the next ticket.
+    /// Draws the next ticket and returns it.
     pub(crate) fn draw<R: Wait>(
         &self,
         rt: &R,
@@ -43,7 +43,8 @@ impl<T: Storied> TurnLock<T> {
         unreachable!()
     }
 
-    /// Waits until the ticket is served, takes the value out, and learns its list, whose length it answers too.
+    /// Waits until the ticket is served, takes the value out, and returns it with the number of its
+    /// entries.
     pub(crate) fn take<R: Wait>(
         &self,
         rt: &R,
@@ -68,16 +69,16 @@ impl<T: Storied> TurnLock<T> {
         unreachable!()
     }
 
-    /// Sleeps until the turn is passed on to the ticket. It may also return before.
+    /// Sleeps until the ticket is served. It may return earlier.
     fn wait_for<R: Wait>(&self, rt: &R, ticket: u64) {
         self.bells.mark(ticket);
-        // Whoever passes the turn on from now on finds the mark.
+        // Whoever passes the turn on from here on finds the mark.
         if self.table.shared.peek(SERVING) != ticket {
             self.bells.sleep(rt, ticket);
         }
     }
 
-    /// Puts the value back into the slot, and counts its last entry where it has one more.
+    /// Puts the value back, and counts its last entry if it has more than `before`.
     pub(crate) fn put_back(
         &self,
         seat: &mut Seat<Option<T>, View<T::Base, T::Entry>>,
@@ -99,7 +100,7 @@ impl<T: Storied> TurnLock<T> {
         }
     }
 
-    /// Passes the turn on, and wakes who is next in line, where it sleeps.
+    /// Serves the next ticket, and wakes its holder if it sleeps.
     pub(crate) fn pass_on(&self, seat: &mut Seat<Option<T>, View<T::Base, T::Entry>>)
         requires seat { (seat.old.table_id ≡ self.now) × ((ticket : ℕ) × (seat.old.me.0.stage ≡ Learnt ticket)) }
         requires value { (x : T) × (seat.old.me.1 ≡ (0, Some x) ∷ []) × (seat.old.me.0.base ≡ Some (T.base x)) × (T.story x ≡ seat.old.me.0.seen) }

@@ -1,9 +1,9 @@
-//! Values with a list, and jobs on them.
+//! Values with a list of entries, and jobs on them.
 ghost use Rattle.std.specs.Prelude.{◌≡◌, List, length};
 ghost use Rattle.turn_lock.specs.Story.{GrowsByOneAtMost};
 
-/// A value that stands for a base, which no run of a job changes, and for a list of entries, which only grows.
-/// No value of the two types need be made.
+/// A value with a base, which no job changes, and a list of entries, to which jobs add. Both are
+/// for contracts alone, so no value of the two types need exist.
 pub trait Storied {
     type Base;
 
@@ -13,13 +13,13 @@ pub trait Storied {
 
     ghost story: { Self → List Self.Entry };
 
-    /// The length of the list.
+    /// Returns the number of entries.
     fn count(&self) -> u64
         ensures { result ≡ length (story self.now) };
 }
 
-/// What is done to a value in one turn.
-/// `may_run` is the condition on the job; `meets` is the test that each run meets, on the job, the base, the list before, the list after and the answer.
+/// What is done to a value in one turn. `may_run` is the condition of the run; `meets` is what the
+/// run ensures, of the job, the base, the entries before, the entries after and the result.
 pub trait Job<T: Storied> {
     type Out;
 
@@ -27,6 +27,7 @@ pub trait Job<T: Storied> {
 
     ghost meets: { Self → T.Base → List T.Entry → List T.Entry → Self.Out → Type 0 };
 
+    /// Works on the value, adds one entry at most, and returns a result.
     fn run(self, value: &mut T) -> Self::Out
         requires { may_run self }
         ensures base { T.base value.new ≡ T.base value.old }

@@ -1,4 +1,5 @@
-//! The archive's report: `warn_archive OFFICE CLASS STAMP`.
+//! The program of the archive's report: `warn_archive OFFICE CLASS STAMP`.
+//! `archive_report::run_program` does all of it (docs/ARCHIVE.md).
 #![tactic(auto)]
 
 use archive_report::run_program;

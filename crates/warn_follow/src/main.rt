@@ -1,4 +1,5 @@
-//! A follower of an office's products: `warn_follow OFFICE CLASS STAMP PORT ROUNDS`.
+//! The program of a follower of an office's products: `warn_follow OFFICE CLASS STAMP PORT ROUNDS`.
+//! `follow_links::run_program` does all of it (docs/FOLLOWING.md).
 #![tactic(auto)]
 
 use follow_links::{HostNetwork, run_program};

@@ -1,4 +1,4 @@
-//! Answers, as bytes.
+//! Answers as bytes.
 ghost use Rattle.std.specs.Prelude.{◌≡◌, ◌++◌, IsTrue, IfOk, OnOk};
 ghost use Rattle.warn_http.specs.Answers.{is_status, status_of, phrase_of, closing, status_line, type_line, length_line, answer_text};
 
@@ -6,14 +6,14 @@ use hazard_types::{List, Oom, Refusal, Text, put_number};
 use http::StatusCode;
 use std::alloc::Global;
 
-/// What a body is: JSON (`application/json`), or plain text (`text/plain`).
+/// The kind of a body: JSON (`application/json`) or plain text (`text/plain`).
 #[derive(Clone, Copy, Debug, PartialEq, Eq)]
 pub enum BodyKind {
     Json,
     Plain,
 }
 
-/// Whether a status is one of the desk's.
+/// Whether the desk answers with this HTTP status.
 #[tactic(auto, unfolding(crate::specs::Answers::is_status))]
 pub fn is_status(status: u16) -> bool
     ensures { result ≡ is_status status }
@@ -24,7 +24,7 @@ pub fn is_status(status: u16) -> bool
     )
 }
 
-/// The status of a refusal.
+/// Returns the HTTP status of a refusal (docs/HTTP.md, "Statuses").
 pub fn refusal_status(refusal: &Refusal) -> u16
     ensures value { result ≡ status_of refusal.now }
     ensures known { IsTrue (is_status result) }
@@ -33,7 +33,7 @@ pub fn refusal_status(refusal: &Refusal) -> u16
     status
 }
 
-/// The phrase that http gives to a status of the desk.
+/// The reason phrase that the crate `http` has for a status of the desk.
 #[tactic(auto, unfolding(crate::specs::Answers::is_status, crate::specs::Answers::phrase_of))]
 fn phrase_of(status: u16) -> &'static str
     requires { IsTrue (is_status status) }
@@ -85,8 +85,12 @@ fn put_closing(out: &mut Text, last: bool) -> Result<(), Oom>
     Ok(())
 }
 
-/// The bytes of an answer, with `Connection: close` where the link closes after it. The status is one
-/// of the desk's, as those of outcomes are.
+/// Returns the bytes of an answer, with `Connection: close` if `last`. `status` must be one of the
+/// desk's. Head lines end in CR LF (docs/HTTP.md, "Answers").
+///
+/// # Errors
+///
+/// Out of memory.
 #[tactic(auto, unfolding(crate::specs::Answers::answer_text))]
 pub fn write_answer(
     alloc: Global,

@@ -1,4 +1,4 @@
-//! What the fields of a head say of the call's length and end.
+//! What the fields of a head say of the body's length and of the end of the link.
 ghost use Rattle.std.specs.Prelude.{◌≡◌, length, map, All};
 ghost use Rattle.httparse.specs.Spans.{IsHeaderWithin, header_bytes};
 ghost use Rattle.warn_http.specs.Heads.{is_named, same_letters, has_field, length_by, stated, asks_to_close, closes};
@@ -9,14 +9,14 @@ use httparse::spans::HeaderSpan;
 /// The most bytes of a body.
 pub const MOST_BODY: u32 = 65_536;
 
-/// What the fields state of the body's length.
+/// What the fields state of the body's length, in bytes.
 #[derive(Clone, Copy, Debug, PartialEq, Eq)]
 pub enum Stated {
     Absent,
     Bytes(u32),
-    /// More bytes than a body may have.
+    /// A number of bytes over `MOST_BODY`.
     TooLong,
-    /// A Content-Length is repeated, or no decimal number.
+    /// `Content-Length` is there twice, or is no decimal number.
     Wrong,
 }
 
@@ -56,7 +56,7 @@ fn length_by(number: Number) -> Stated
     }
 }
 
-/// The body's length, as the fields state it.
+/// Returns the body's length as the fields state it.
 #[tactic(auto, using(crate::proofs::Folding::stated_is))]
 pub fn stated_length(buf: &[u8], fields: &[HeaderSpan]) -> Stated
     requires { All (IsHeaderWithin (length buf.now)) fields.now }
@@ -81,7 +81,8 @@ fn asks_to_close(buf: &[u8], field: &HeaderSpan) -> bool
     is_named(buf, field, b"connection") && same_letters(field.value.of(buf), b"close")
 }
 
-/// Whether the link closes after a call of HTTP/1.`minor` with these fields.
+/// Whether the link closes after a call of HTTP/1.`minor` with these fields (docs/HTTP.md, "When
+/// the link closes").
 #[tactic(auto, unfolding(crate::specs::Heads::closes))]
 pub fn closes(minor: u8, buf: &[u8], fields: &[HeaderSpan]) -> bool
     requires { All (IsHeaderWithin (length buf.now)) fields.now }

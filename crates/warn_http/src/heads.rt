@@ -1,4 +1,4 @@
-//! Heads, by httparse.
+//! Heads of calls, as the crate `httparse` reads them.
 ghost use Rattle.std.specs.Prelude.{◌≤◌, List, length, IfSome, IfNone};
 ghost use Rattle.httparse.specs.Spans.{RequestOverflows};
 ghost use Rattle.httparse.specs.declared.spans.HeaderSpan.{HeaderSpan};
@@ -8,7 +8,7 @@ use httparse::spans::{EMPTY_HEADER_SPAN, HeaderSpan, RequestSpans, parse_request
 use httparse::{Error, Status};
 use std::alloc::Global;
 
-/// The head at the front of a link's bytes.
+/// The head at the start of a link's bytes: whole, incomplete, no head, or over the limits.
 #[derive(Clone, Copy, Debug)]
 pub enum Head {
     Whole(RequestSpans),
@@ -18,16 +18,17 @@ pub enum Head {
     OutOfMemory,
 }
 
-/// The most bytes of a head.
+/// The most bytes of a head, with the empty lines before it.
 pub const MOST_BYTES: usize = 8192;
 
 /// The most fields of a head.
 pub const MOST_FIELDS: usize = 32;
 
-/// More fields than `MOST_BYTES` can hold.
+/// More fields than `MOST_BYTES` bytes can hold.
 const ROOM: usize = 2731;
 
-/// Parses once more the head that has more than 32 fields: it may be whole, cut, or none.
+/// Parses a head of more than 32 fields again, with room for all of them, to tell if it is whole,
+/// incomplete or none.
 fn with_room(alloc: Global, bytes: &[u8]) -> Head
     requires small { length bytes.now ≤ 8192 }
     requires many { RequestOverflows 32 bytes.now }
@@ -50,7 +51,8 @@ fn with_room(alloc: Global, bytes: &[u8]) -> Head
     }
 }
 
-/// Reads the head at the front of at most 8,192 bytes, and writes where its fields are.
+/// Reads the head at the start of `bytes`, at most 8,192 of them, and writes the spans of its
+/// fields to `headers`.
 pub fn read_head(alloc: Global, bytes: &[u8], headers: &mut [HeaderSpan; MOST_FIELDS]) -> Head
     requires { length bytes.now ≤ 8192 }
     ensures { Says bytes.now headers.new result }
@@ -64,8 +66,8 @@ pub fn read_head(alloc: Global, bytes: &[u8], headers: &mut [HeaderSpan; MOST_FI
     }
 }
 
-/// Where the parts of a whole head within the limits are, at the front of at most 8,192 bytes. It takes
-/// no memory.
+/// Returns the spans of a whole head within the limits, or `None`, and writes those of its fields
+/// to `headers`. Takes no memory; `bytes` are at most 8,192.
 pub fn whole_head(bytes: &[u8], headers: &mut [HeaderSpan; MOST_FIELDS]) -> Option<RequestSpans>
     requires { length bytes.now ≤ 8192 }
     ensures some { IfSome result (λ spans. Says bytes.now headers.new (Head.Whole spans)) }

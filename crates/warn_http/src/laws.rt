@@ -7,8 +7,9 @@ ghost use Rattle.httparse.specs.Grammar.{HasNoRequest};
 ghost use Rattle.warn_http.specs.Heads.{has_line_feed};
 ghost use Rattle.warn_http.specs.Calls.{Called, HasNoWholeCall, IsCall, IsRefused, IsUnfinished, IsCut, Stop, AreCalls, IsFinal, AreAlike};
 
-/// What is a call on a front is the same call on every longer front, and what is refused stays refused.
-/// So the calls of a stream that end at more than a rest are those of every longer stream.
+/// A call at the start of some bytes is the same call when more bytes follow, and a refused call
+/// stays refused. So where a stream's calls end for another reason than that its bytes end, they
+/// are the calls of every longer stream.
 pub fn calls_stay()
     ensures call { (bytes more : List ℕ) (c : Called) → IsCall bytes c → IsCall (bytes ++ more) c }
     ensures refused { (bytes more : List ℕ) (f : Refusal) → IsRefused bytes f → IsRefused (bytes ++ more) f }
@@ -16,37 +17,38 @@ pub fn calls_stay()
     ensures calls { (bytes more : List ℕ) (calls : List Called) (stop : Stop) → IsFinal stop → AreCalls bytes calls stop → AreCalls (bytes ++ more) calls stop }
 {}
 
-/// The bytes of a stream have one list of calls, and one end, but where a head is both bad and too
-/// long, or where they end within a target that can't become a head's.
+/// The bytes of a stream have one list of calls and one end, except where a head is both bad and
+/// too long, or where they end within a target that no bytes can complete.
 pub fn calls_are_one()
     ensures call { (bytes : List ℕ) (c d : Called) → IsCall bytes c → IsCall bytes d → c ≡ d }
     ensures calls { (bytes : List ℕ) (calls others : List Called) (stop other : Stop) → AreCalls bytes calls stop → AreCalls bytes others other → (calls ≡ others) × AreAlike stop other }
 {}
 
-/// One call more is cut from the front of the rest.
+/// One more call is taken from the start of the rest.
 pub fn calls_go_on()
     ensures { (bytes : List ℕ) (calls : List Called) (rest : List ℕ) (c : Called) → IsCut bytes calls rest → IsCall rest c → c.last ≡ false → IsCut bytes (calls ++ c ∷ []) (drop c.used rest) }
 {}
 
-/// What the router finds for a path, and the number that it writes, are the paths of the desk.
+/// The routes that `Routes::aim_of` finds, with their numbers, are exactly the paths of the desk.
 pub fn routes_are_paths()
     ensures path { (path : List ℕ) (aim : Aim) → aim_of path ≡ Some aim → IsPath path aim }
     ensures route { (path : List ℕ) (aim : Aim) → IsPath path aim → aim_of path ≡ Some aim }
 {}
 
-/// A head of at most 8,192 bytes and a body of at most 65,536 are whole in 73,728 bytes.
+/// An unfinished call has fewer than 73,728 bytes: a head has at most 8,192 and a body at most
+/// 65,536.
 pub fn unfinished_calls_are_short()
     ensures { (bytes : List ℕ) → IsUnfinished bytes → length bytes < 73728 }
 {}
 
-/// A head ends with a line feed. So bytes that begin with no head begin with none until the next line
-/// feed comes.
+/// A head ends with a line feed. So bytes that start with no head start with none until the next
+/// line feed comes.
 pub fn heads_end_with_a_line_feed()
     ensures empty { HasNoRequest [] }
     ensures more { (bytes more : List ℕ) → HasNoRequest bytes → has_line_feed more ≡ false → HasNoRequest (bytes ++ more) }
 {}
 
-/// What is unfinished, or begins with no head, is no whole call.
+/// Bytes that are unfinished, or start with no head, hold no whole call.
 pub fn unfinished_calls_are_not_whole()
     ensures unfinished { (bytes : List ℕ) → IsUnfinished bytes → HasNoWholeCall bytes }
     ensures headless { (bytes : List ℕ) → HasNoRequest bytes → HasNoWholeCall bytes }

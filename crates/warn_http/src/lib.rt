@@ -1,4 +1,8 @@
-//! HTTP calls as bytes: what a call at the front of a link's bytes asks for, and the bytes of answers.
+//! HTTP/1.0 and HTTP/1.1 calls and answers as bytes, without a network. For servers of the desk and
+//! their tests. One begins with `Routes::new`, `read_call` for the bytes of a link, and
+//! `write_call_answer` for the outcome of a call.
+//!
+//! docs/HTTP.md has the rules byte for byte.
 #![tactic(auto)]
 
 mod answers;

@@ -1,20 +1,20 @@
-//! Decimal numbers are read.
+//! Decimal numbers in paths and fields.
 ghost use Rattle.std.specs.Prelude.{◌≡◌, ◌≤◌, ◌<◌, ◌^◌, IsTrue, min};
 ghost use Rattle.std.specs.List.{list_all};
 ghost use Rattle.hazard_types.specs.Calendar.{is_digit};
 ghost use Rattle.warn_http.specs.Numbers.{number_from, are_digits, number_of};
 
-/// What bytes write as a decimal number that has a limit.
+/// A decimal number within a limit, or why there is none.
 #[derive(Clone, Copy, Debug, PartialEq, Eq)]
 pub enum Number {
-    /// They are no decimal number.
+    /// The bytes are not one or more decimal digits.
     NoNumber,
-    /// Their number is above the limit.
+    /// The number is above the limit.
     TooLarge,
     Is(u32),
 }
 
-/// No number above this one is asked for.
+/// Greater numbers are read as this one.
 const CAP: u64 = 4_294_967_296;
 
 fn all_digits(bytes: &[u8]) -> bool
@@ -29,7 +29,7 @@ fn are_digits(bytes: &[u8]) -> bool
     !bytes.is_empty() && all_digits(bytes)
 }
 
-/// The number that digits write, or the cap where it is above that.
+/// The number of the digits, or `CAP` if it is greater.
 fn capped(digits: &[u8]) -> u64
     requires { IsTrue (are_digits digits.now) }
     ensures { result ≡ min CAP (number_from 0 digits.now) }
@@ -41,7 +41,7 @@ fn capped(digits: &[u8]) -> u64
     number
 }
 
-/// The number that the bytes write in decimal digits, of any count.
+/// Parses decimal digits, any number of them, as a number of at most `limit`.
 #[tactic(auto, unfolding(crate::specs::Numbers::number_of))]
 pub fn number_of(limit: u32, bytes: &[u8]) -> Number
     ensures { result ≡ number_of limit bytes.now }

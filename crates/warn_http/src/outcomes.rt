@@ -1,4 +1,4 @@
-//! What becomes of a call, and the answer to it.
+//! What becomes of a call, and the bytes of its answer.
 ghost use Rattle.std.specs.Prelude.{◌≡◌, IsTrue, IfOk};
 ghost use Rattle.warn_http.specs.Answers.{is_status};
 ghost use Rattle.warn_http.specs.Outcomes.{kind_of, outcome_status, outcome_kind, call_answer, disk_fault_json, no_memory_json};
@@ -10,17 +10,20 @@ use std::alloc::Global;
 /// What becomes of a call.
 #[derive(Clone, Debug, Drop, PartialEq, Eq)]
 pub enum Outcome {
-    /// A request is accepted or repeated: its reply.
+    /// A request is accepted or repeated, and its reply is the body.
     Replied,
-    /// What a query looks at.
+    /// What a query asks to see is the body.
     Shown(Query),
+    /// The call or its request breaks a rule, and the refusal is the body.
     Refused(Refusal),
+    /// The disk failed under a request that would have been accepted.
     DiskFault,
+    /// Memory ran out, and nothing was done.
     OutOfMemory,
 }
 
-/// What the body is that shows what a query looks at: products, previews and the board are plain text,
-/// drafts are JSON.
+/// Returns the kind of body for a query: plain text for products, previews and the board, JSON for
+/// drafts.
 pub fn kind_of(query: Query) -> BodyKind
     ensures { result ≡ kind_of query }
 {
@@ -31,7 +34,7 @@ pub fn kind_of(query: Query) -> BodyKind
 }
 
 impl Outcome {
-    /// The status of the answer.
+    /// Returns the HTTP status of the answer (docs/HTTP.md, "Statuses").
     #[tactic(auto, unfolding(crate::specs::Answers::is_status))]
     pub fn status(&self) -> u16
         ensures value { result ≡ outcome_status self.now }
@@ -45,7 +48,7 @@ impl Outcome {
         }
     }
 
-    /// What the body of the answer is.
+    /// Returns the kind of the answer's body.
     pub fn kind(&self) -> BodyKind
         ensures { result ≡ outcome_kind self.now }
     {
@@ -57,8 +60,12 @@ impl Outcome {
     }
 }
 
-/// The bytes of the answer to a call, with this body, and with `Connection: close` where the link
-/// closes after it.
+/// Returns the bytes of the answer to a call with this body, and with `Connection: close` if
+/// `last`.
+///
+/// # Errors
+///
+/// Out of memory.
 pub fn write_call_answer(
     alloc: Global,
     outcome: &Outcome,
@@ -70,7 +77,8 @@ pub fn write_call_answer(
     write_answer(alloc, outcome.status(), outcome.kind(), body, last)
 }
 
-/// The bytes of the answer to a call at which the disk failed. They take no memory.
+/// Returns the fixed 500 answer for a disk fault, with `Connection: close` if `last`. Allocates
+/// nothing.
 pub fn disk_fault_answer(last: bool) -> &'static [u8]
     ensures { result.now ≡ call_answer Outcome.DiskFault disk_fault_json last }
 {
@@ -81,7 +89,8 @@ pub fn disk_fault_answer(last: bool) -> &'static [u8]
     }
 }
 
-/// The bytes of the answer to a call for which memory lacked. They take none.
+/// Returns the fixed 503 answer for out of memory, with `Connection: close` if `last`. Allocates
+/// nothing.
 pub fn no_memory_answer(last: bool) -> &'static [u8]
     ensures { result.now ≡ call_answer Outcome.OutOfMemory no_memory_json last }
 {

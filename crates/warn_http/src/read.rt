@@ -1,4 +1,4 @@
-//! The call at the front of a link's bytes.
+//! The call at the start of a link's bytes.
 ghost use Rattle.std.specs.Prelude.{◌≡◌, ◌≤◌, ◌<◌, ◌+◌, ◌^◌, ◌++◌, ℕ, List, length, take, IsUtf8, IfSome, Some, None};
 ghost use Rattle.httparse.specs.Spans.{IsRequestWithin, span_bytes};
 ghost use Rattle.httparse.specs.Grammar.{print_request};
@@ -15,7 +15,7 @@ use hazard_types::{Query, Refusal, Span};
 use httparse::spans::{EMPTY_HEADER_SPAN, HeaderSpan, RequestSpans};
 use std::alloc::Global;
 
-/// What a call asks for: to post the request that its body holds, or to look at something.
+/// What a call asks for: to post the request in its body, or to look at something.
 #[derive(Clone, Copy, Debug, PartialEq, Eq)]
 pub enum Call {
     /// The bytes of the body, counted from the call's first byte.
@@ -23,15 +23,15 @@ pub enum Call {
     Look(Query),
 }
 
-/// What stands at the front of a link's bytes.
+/// What a link's bytes start with.
 #[derive(Clone, Debug, Drop, PartialEq, Eq)]
 pub enum HttpRead {
-    /// A whole call: what it asks for, how many bytes its head and body take, and whether the link
+    /// A whole call: what it asks for, the bytes of its head and body in all, and whether the link
     /// closes after it.
     Call { call: Call, used: usize, last: bool },
     /// The head, or the body of the stated length, is not yet whole.
     More,
-    /// An F rule refuses the call.
+    /// The call is refused by one of F1 to F6.
     Refused(Refusal),
     OutOfMemory,
 }
@@ -49,7 +49,7 @@ fn call_at(aim: Aim, size: usize, body: usize) -> Call
     }
 }
 
-/// The answer where a head of `size` bytes wants this, among `total` bytes.
+/// The result for a whole head of `size` bytes, of `total` bytes in all, that asks for `wanted`.
 fn answer_to(size: usize, total: usize, wanted: &Wanted) -> HttpRead
     requires { size ≤ total }
     ensures { result ≡ answer_to size total (Ok wanted.now) }
@@ -64,7 +64,7 @@ fn answer_to(size: usize, total: usize, wanted: &Wanted) -> HttpRead
     }
 }
 
-/// The answer to a whole head within the limits, among `total` bytes.
+/// The result for a whole head within the limits, of `total` bytes in all.
 fn answer(
     routes: &Routes,
     front: &[u8],
@@ -83,7 +83,7 @@ fn answer(
     }
 }
 
-/// The bytes among which a head must lie.
+/// The first 8,192 bytes, in which a head must lie.
 fn front_of(bytes: &[u8]) -> &[u8]
     ensures front { result.now ≡ take 8192 bytes.now }
     ensures size { length result.now ≤ 8192 }
@@ -96,9 +96,12 @@ fn front_of(bytes: &[u8]) -> &[u8]
     }
 }
 
-/// Reads the call at the front of a link's bytes: a head of at most 8,192 bytes and 32 fields, and a
-/// body of at most 65,536 bytes. The body of a `POST` lies in `bytes`; one sent with a `GET` is passed
-/// over. Refused are F1 to F6, in that order; where F1 and F2 both hold, either comes.
+/// Reads the call at the start of a link's bytes: a head of at most 8,192 bytes and 32 fields, and
+/// a body of at most 65,536 bytes; a body sent with a GET is passed over. The first broken rule of
+/// F1 to F6 is returned in this order; if F1 and F2 both hold, either is. Memory is taken only for
+/// a head of more than 32 fields.
+///
+/// docs/HTTP.md, "Refused calls".
 pub fn read_call(alloc: Global, routes: &Routes, bytes: &[u8]) -> HttpRead
     ensures { IsAnswer bytes.now result }
 {
@@ -113,8 +116,8 @@ pub fn read_call(alloc: Global, routes: &Routes, bytes: &[u8]) -> HttpRead
     }
 }
 
-/// How many bytes are missing behind a head of `size` bytes, among `total` bytes, by the length that
-/// its fields state; 1 where none is known to be.
+/// The number of bytes that are missing after a head of `size` bytes, of `total` bytes in all, by
+/// the length that its fields state; 1 if none is known to be missing.
 fn missing(size: usize, total: usize, stated: Stated) -> usize
     requires { size ≤ total }
     ensures { result ≡ missing size total stated }
@@ -129,7 +132,7 @@ fn missing(size: usize, total: usize, stated: Stated) -> usize
     }
 }
 
-/// What the fields of a head state of its body's length.
+/// What the fields of a head state of the body's length.
 fn stated_by(front: &[u8], spans: &RequestSpans, headers: &[HeaderSpan]) -> Stated
     requires { IsRequestWithin front.now headers.now spans.now }
     ensures { result ≡ stated (pairs_at front.now headers.now spans.now) }
@@ -137,8 +140,8 @@ fn stated_by(front: &[u8], spans: &RequestSpans, headers: &[HeaderSpan]) -> Stat
     stated_length(front, &headers[..spans.headers])
 }
 
-/// How many more bytes there must be at least before an unfinished call with a whole head can be
-/// whole: those that are missing of its body. None where its head is not whole. It takes no memory.
+/// Returns the least number of bytes that must follow before an unfinished call with a whole head
+/// can be whole, or `None` if its head is not whole or is over the limits. Takes no memory.
 pub fn still_wants(bytes: &[u8]) -> Option<usize>
     ensures some { IfSome result (λ n. 0 < n) }
     ensures head { IsCutHead bytes.now → result ≡ None }

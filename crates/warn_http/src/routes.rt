@@ -1,4 +1,4 @@
-//! The routes, over matchit's router.
+//! The routes, over the router of the crate `matchit`.
 ghost use Rattle.std.specs.Prelude.{◌≡◌, IfOk};
 ghost use Rattle.warn_http.specs.Routes.{desk_routes, number_behind, aim_at, method_of};
 
@@ -7,7 +7,7 @@ use hazard_types::Query;
 use matchit::{InsertError, Router};
 use std::alloc::Global;
 
-/// A place of the table of routes.
+/// A route of the table.
 #[derive(Clone, Copy, Debug, PartialEq, Eq)]
 pub enum Place {
     Requests,
@@ -25,7 +25,11 @@ pub enum Aim {
     Look(Query),
 }
 
-/// The table of the desk's routes.
+/// Returns the table of the desk's routes (docs/HTTP.md, "Routes").
+///
+/// # Errors
+///
+/// The router's error, which `Routes::new` returns as out of memory.
 pub fn routes(alloc: Global) -> Result<Router<Place>, InsertError>
     ensures table { IfOk result (λ router. router ≡ desk_routes) }
 {
@@ -39,7 +43,7 @@ pub fn routes(alloc: Global) -> Result<Router<Place>, InsertError>
     Ok(router)
 }
 
-/// The number that a path writes behind a prefix.
+/// The number in `path` after `prefix`.
 #[tactic(auto, unfolding(crate::specs::Routes::number_behind))]
 fn number_behind(path: &[u8], prefix: &[u8]) -> Number
     ensures { result ≡ number_behind prefix.now path.now }
@@ -86,7 +90,7 @@ fn preview_at(path: &[u8]) -> Option<Aim>
     }
 }
 
-/// What a path asks for that has this place of the table.
+/// Returns what a path of this route asks for, or `None` if its number is none below 2^32.
 pub fn aim_at(place: Place, path: &[u8]) -> Option<Aim>
     ensures { result ≡ aim_at place path.now }
 {
@@ -100,7 +104,7 @@ pub fn aim_at(place: Place, path: &[u8]) -> Option<Aim>
     }
 }
 
-/// The method of a call that asks for this.
+/// Returns the method of a call that asks for this.
 pub fn method_of(aim: Aim) -> &'static [u8]
     ensures { result.now ≡ method_of aim }
 {

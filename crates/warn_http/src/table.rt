@@ -7,7 +7,7 @@ use hazard_types::Oom;
 use matchit::Router;
 use std::alloc::Global;
 
-/// The routes by which calls are read. They are made once, for all the calls of a worker.
+/// The routes by which calls are read. They are made once for all calls of a service.
 #[derive(Drop)]
 pub struct Routes {
     router: Router<Place>,
@@ -15,7 +15,11 @@ pub struct Routes {
 }
 
 impl Routes {
-    /// The desk's routes.
+    /// Returns the desk's routes.
+    ///
+    /// # Errors
+    ///
+    /// Out of memory.
     pub fn new(alloc: Global) -> Result<Self, Oom> {
         match routes(alloc) {
             Ok(router) => Ok(Routes { router }),
@@ -23,7 +27,8 @@ impl Routes {
         }
     }
 
-    /// What a request target asks for; None where it has no route, or no number below 2^32.
+    /// Returns what a request target asks for, or `None` if it has no route or its number is none
+    /// below 2^32. The whole target is the path.
     #[tactic(auto, unfolding(crate::specs::Routes::aim_of))]
     pub fn aim_of(&self, path: &str) -> Option<Aim>
         ensures { result ≡ aim_of path.now }

@@ -1,4 +1,4 @@
-//! What the head of a call wants.
+//! What the head of a call asks for, and the rules by which it is refused.
 ghost use Rattle.std.specs.Prelude.{◌≡◌, IsUtf8};
 ghost use Rattle.httparse.specs.Spans.{IsRequestWithin, span_bytes};
 ghost use Rattle.warn_http.specs.Wants.{sized, framed, with_method, judged, wanted};
@@ -11,7 +11,7 @@ use hazard_types::Refusal;
 use httparse::spans::{HeaderSpan, RequestSpans};
 use std::str;
 
-/// What a head asks for, how many bytes of body follow, and whether the link closes after it.
+/// What a head asks for, the bytes of its body, and whether the link closes after the call.
 #[derive(Clone, Copy, Debug, PartialEq, Eq)]
 pub struct Wanted {
     pub aim: Aim,
@@ -78,7 +78,8 @@ fn want_by_rules(
     }
 }
 
-/// What the parts of a head want that the spans cover.
+/// Returns what a whole head within the limits asks for, or the first rule that it breaks: F1 for
+/// its `Content-Length`, then F3, F4, F5 and F6.
 #[tactic(auto, unfolding(crate::specs::Wants::wanted))]
 pub fn want_of(
     routes: &Routes,

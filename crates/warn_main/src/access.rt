@@ -7,7 +7,8 @@ use hazard_types::{List, Text};
 use program_outside::Access;
 use serve_command::serving_of;
 
-/// What a run with these words does with the journal's file.
+/// Returns whether a run with these arguments writes to the journal's file: `init`, `script`,
+/// `upgrade` and `serve` do.
 pub fn access_of(words: &List<Text>) -> Access
     ensures { result ≡ access_of words.now }
 {

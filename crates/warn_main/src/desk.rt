@@ -1,4 +1,4 @@
-//! The top call.
+//! The run of the arguments, with the promise of the program.
 ghost use Rattle.std.specs.Prelude.{◌≡◌, None};
 ghost use Rattle.program_ends.specs.Lines.{most_bytes};
 ghost use Rattle.desk_program.specs.Runs.{DoesAsAsked as DoesAlone};
@@ -20,8 +20,8 @@ use std::alloc::Global;
 use std::sync::Wait;
 use std::thread::Threads;
 
-/// Does what the words say that are no `serve`, with an input of at most 1,073,741,824 bytes.
-/// Returns the status of the program, and the disk.
+/// Runs the command of the arguments, which is not `serve`, with an input of at most 1,073,741,824
+/// bytes, and returns the exit status and the disk.
 pub fn desk_alone<S: Source, K: Sink, D: Disk, C: Clock>(
     alloc: Global,
     words: &List<Text>,
@@ -39,8 +39,10 @@ pub fn desk_alone<S: Source, K: Sink, D: Disk, C: Clock>(
     desk_within(alloc, words, input, output, disk, clock, LIMIT)
 }
 
-/// Does what the words say, with an input of at most 1,073,741,824 bytes, and keeps the promise.
-/// Returns the status of the program, and the disk.
+/// Runs the command of the arguments, with an input of at most 1,073,741,824 bytes, and returns the
+/// exit status and the disk. The clause `promise` is the promise of the program.
+///
+/// docs/DEFINITIONS.md, "The headline".
 pub fn desk_run<
     R: Threads + Wait + Sync,
     S: Source,

@@ -1,4 +1,4 @@
-//! Laws: what was done keeps the promise; ends that cannot fail are told no fault.
+//! Laws of the program's promise, and of ends that can't fail.
 ghost use Rattle.std.specs.Prelude.{ℕ, List};
 ghost use Rattle.warn_main.specs.Promise.{Promise};
 ghost use Rattle.warn_main.specs.Runs.{DoesAsAsked};
@@ -9,7 +9,7 @@ use byte_streams::{Sink, Source, SureSink, SureSource};
 use desk_traits::{Clock, Disk, SureDisk};
 use office_core::requests_stand_once;
 
-/// A run that has done what its words ask for keeps the promise, over each disk and clock.
+/// A run that has done what its arguments ask for keeps the promise, over any disk and clock.
 pub fn what_was_done_keeps_the_promise<D: Disk, C: Clock>()
     ensures { (words : List (List ℕ)) (limit : ℕ) (before after : World D C) (status : ℕ)
         → DoesAsAsked D.Disk C.Clock
@@ -20,8 +20,8 @@ pub fn what_was_done_keeps_the_promise<D: Disk, C: Clock>()
     requests_stand_once();
 }
 
-/// Over a disk that cannot fail no run ends with 9, and no line of a script and no call of a link is
-/// answered that the disk failed. Over an input that cannot fail none ends with 7, and over such an
+/// Over a disk that can't fail no run ends with status 9, and no line or call gets the answer that
+/// the disk failed. Over an input that can't fail no run ends with status 7, and over such an
 /// output none with 8.
 pub fn sure_ends_tell_no_fault<D: Disk, C: Clock>()
     ensures disk { EndsWithoutDiskFault ⟦<SureDisk as Disk>⟧ C.Clock }

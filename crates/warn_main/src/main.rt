@@ -1,4 +1,7 @@
-//! The program of a warning desk: `warn_main PATH WORDS..`.
+//! The program of a warning desk: `warn_main PATH WORDS..`. `desk_run` carries the promise of the
+//! program, and `run_program` is the whole program over anything that it may open.
+//!
+//! docs/COMMANDS.md.
 #![tactic(auto)]
 
 mod access;

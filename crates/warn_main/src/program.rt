@@ -1,4 +1,4 @@
-//! The whole program, over all that it may open.
+//! The whole program, over anything that it may open.
 ghost use Rattle.std.specs.Prelude.{◌≡◌};
 ghost use Rattle.std.specs.Process.{exit_status};
 ghost use Rattle.program_outside.specs.Starts.{IsUsageShown};
@@ -18,10 +18,11 @@ use std::process::ExitCode;
 use std::sync::Wait;
 use std::thread::Threads;
 
-/// The bytes of the disk in memory, in which the longest journal without a request has room.
+/// The size in bytes of the disk in memory, in which the longest journal without a request fits
+/// (docs/DECISIONS.md, "Journal and disk").
 const ROOM: usize = 1_048_700;
 
-/// The words of the program, a line each.
+/// The commands of the program, one a line.
 const USAGE: &str = "\
 warn_main PATH init
 warn_main PATH script
@@ -34,7 +35,7 @@ warn_main PATH drill NUMBER COUNT
 warn_main PATH serve --port N --workers W --connections M
 ";
 
-/// What a desk's program uses beside its words, its input and its output.
+/// What a desk's program uses besides its arguments, its input and its output.
 #[derive(Drop)]
 pub struct Desk<P, C, G> {
     pub port: P,
@@ -42,7 +43,7 @@ pub struct Desk<P, C, G> {
     pub gate: G,
 }
 
-/// Does what the words say over a disk, and closes it. Returns the status of the program.
+/// Runs the command of the arguments over a disk, closes the disk and returns the exit status.
 fn run_over<
     R: Threads + Wait + Sync,
     S: Source,
@@ -81,8 +82,9 @@ fn run_over<
     ended.status
 }
 
-/// Does what the command line says over the journal that its first word names. Where memory ran out
-/// for the words, or for a disk in memory, the status is 12, and nothing is read or written.
+/// Runs the command line over the journal that its first argument names, and returns the exit
+/// status. If memory runs out for the arguments or for a disk in memory, the status is 12, and
+/// nothing is read or written.
 fn run_words<
     R: Threads + Wait + Sync,
     S: Source,
@@ -122,8 +124,9 @@ fn run_words<
     }
 }
 
-/// The whole program: opens the journal that its command line names, does what the words behind it
-/// say with its input and its output, and ends with the status of that run.
+/// Runs the whole program: opens the journal that the first argument names, runs the command of the
+/// others, and returns the exit status. The commands are printed as messages if the arguments are
+/// none of them.
 pub fn run_program<
     R: Threads + Wait + Sync,
     S: Source,

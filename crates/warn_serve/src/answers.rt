@@ -1,4 +1,4 @@
-//! The answers to calls, as bytes.
+//! The bytes of answers to calls.
 ghost use Rattle.std.specs.Prelude.{◌≡◌, IfOk, OnErr};
 ghost use Rattle.warn_http.specs.Outcomes.{call_answer};
 ghost use Rattle.desk_links.specs.Links.{WritesLink};
@@ -14,8 +14,8 @@ use request_json::refusal_text;
 use std::alloc::Global;
 use warn_http::{Outcome, disk_fault_answer, no_memory_answer, write_call_answer};
 
-/// The bytes of an answer: written, or fixed ones that take no memory, or a reply that is written
-/// in pieces, which take none.
+/// The bytes of an answer: allocated, or fixed, or a reply to be written in pieces; the last two
+/// take no memory.
 #[derive(Debug, Drop)]
 pub(crate) enum AnswerBytes {
     Written(Text),
@@ -24,7 +24,7 @@ pub(crate) enum AnswerBytes {
 }
 
 impl AnswerBytes {
-    /// Writes them, or their beginning before a fault. It takes no memory.
+    /// Writes the bytes, and takes no memory. On `Err` a prefix of them may be written.
     pub(crate) fn write<L: Link>(&self, link: &mut L) -> Result<(), Failed>
         ensures { WritesLink (L.state link.old) (L.state link.new) result (bytes_of self.now) }
     {
@@ -49,7 +49,7 @@ fn answer_with(
     Ok(AnswerBytes::Written(text))
 }
 
-/// The answer to a call that is refused.
+/// The answer to a refused call.
 pub(crate) fn refused_answer(
     alloc: Global,
     refusal: Refusal,
@@ -61,7 +61,7 @@ pub(crate) fn refused_answer(
     answer_with(alloc, &Outcome::Refused(refusal), &body, last)
 }
 
-/// The answer that gives a reply. Where memory lacks for it, it is written in pieces.
+/// The answer with a reply. If memory runs out for its bytes it is written in pieces.
 fn reply_answer(alloc: Global, reply: Text, last: bool) -> AnswerBytes
     ensures { bytes_of result ≡ call_answer Outcome.Replied reply last }
 {
@@ -71,7 +71,7 @@ fn reply_answer(alloc: Global, reply: Text, last: bool) -> AnswerBytes
     }
 }
 
-/// The answer to a request that was submitted. Memory may lack for a refusal alone.
+/// The answer to a submitted request. Memory can run out for a refusal only.
 pub(crate) fn submit_answer(alloc: Global, answer: Answer, last: bool) -> Result<AnswerBytes, Oom>
     ensures bytes { IfOk result (λ bytes. bytes_of bytes ≡ submit_answer answer last) }
     ensures lost { OnErr result (MayBeLost answer) }

@@ -17,7 +17,7 @@ use turn_lock::Pass;
 use warn_http::{Call, no_memory_answer};
 
 impl<R: Wait, D: Disk, C: Clock, G> Service<'_, R, D, C, G> {
-    /// Looks in a turn, which may wait until it comes. The clock is asked in the turn.
+    /// Takes a look in a turn, and reads the clock in it. It may wait for the turn.
     fn look_in_turn(
         &self,
         pass: &mut Pass<SharedOffice<D>>,
@@ -38,7 +38,7 @@ impl<R: Wait, D: Disk, C: Clock, G> Service<'_, R, D, C, G> {
         )
     }
 
-    /// Submits a request in a turn, in which the clock is asked, and answers it.
+    /// Submits a request in a turn, and returns its answer.
     fn answer_request(
         &self,
         pass: &mut Pass<SharedOffice<D>>,
@@ -57,7 +57,7 @@ impl<R: Wait, D: Disk, C: Clock, G> Service<'_, R, D, C, G> {
         submit_answer(self.alloc, outcome, last)
     }
 
-    /// Looks in a turn, in which the clock is asked, and answers with what is shown.
+    /// Takes a look in a turn, and returns the answer that shows it.
     fn answer_look(
         &self,
         pass: &mut Pass<SharedOffice<D>>,
@@ -75,7 +75,7 @@ impl<R: Wait, D: Disk, C: Clock, G> Service<'_, R, D, C, G> {
         look_answer(self.alloc, query, shown, last)
     }
 
-    /// Answers a call that posts these bytes.
+    /// The answer to a call that posts these bytes.
     fn answer_post(
         &self,
         pass: &mut Pass<SharedOffice<D>>,
@@ -96,12 +96,11 @@ impl<R: Wait, D: Disk, C: Clock, G> Service<'_, R, D, C, G> {
         }
     }
 
-    /// Answers a call by the shared office. Its body lies in `bytes`, which are those of the call.
+    /// The answer to a call. `bytes` are those of the call, its body among them.
     ///
     /// # Errors
     ///
-    /// Out of memory for the answer's bytes, where the call was judged and nothing happened that
-    /// the pass could call its own.
+    /// Out of memory for the answer's bytes; the call was judged, and nothing happened in its turn.
     pub(crate) fn answer_call(
         &self,
         pass: &mut Pass<SharedOffice<D>>,

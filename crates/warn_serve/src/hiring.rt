@@ -1,4 +1,4 @@
-//! Workers, each with a share of one pass and of the links.
+//! Workers, each with a share of the pass and of the links.
 ghost use Rattle.std.specs.Prelude.{◌≡◌, ◌≤◌, ◌<◌, ◌+◌, ◌-◌, [], ℕ, All, IfOk, OnErr, OnOk};
 ghost use Rattle.std.specs.Prelude.{length, map, slice_index_or, vec_capacity, vec_len};
 ghost use Rattle.turn_lock.specs.Passes.{one_share_fewer, one_share_of};
@@ -19,7 +19,8 @@ use std::thread;
 use std::thread::Threads;
 use turn_lock::{Pass, Storied};
 
-/// A worker: its pass, its door, its inbox, how many links it has to serve, and how it ended.
+/// A worker: its pass, its door, its inbox, the number of links that it is to serve, and how it
+/// ended.
 #[derive(Drop)]
 pub(crate) struct Worker<T: Storied, Dr> {
     pub(crate) pass: Pass<T>,
@@ -29,8 +30,8 @@ pub(crate) struct Worker<T: Storied, Dr> {
     pub(crate) end: WorkerEnd,
 }
 
-/// The share of the next worker, the whole part of the quotient and one link more while some are
-/// left over; and how many are left over for those after it.
+/// The next worker's number of links, `whole` and one more while `more` is not 0, and what is left
+/// of `more`.
 fn share_of(whole: u64, more: u64) -> (u64, u64)
     requires { whole ≤ 1000000 }
     ensures share { result.0 ≡ share_at whole more }
@@ -44,7 +45,8 @@ fn share_of(whole: u64, more: u64) -> (u64, u64)
 }
 
 impl<R, D: Disk, C, G> Service<'_, R, D, C, G> {
-    /// What one more worker needs: room among the workers, an inbox, and a share of the pass.
+    /// A share of the pass and an inbox for one more worker, for whom there is room in `workers`
+    /// then.
     fn equip<Dr>(
         &self,
         pass: &mut Pass<SharedOffice<D>>,
@@ -64,10 +66,10 @@ impl<R, D: Disk, C, G> Service<'_, R, D, C, G> {
         Ok((part, inbox))
     }
 
-    /// A worker for each door, with its share of the pass and of the links: worker k of W has the
-    /// whole part of `connections` / W, and one link more where k is at most the remainder. Where
-    /// memory runs out for one its door goes back to the port. Returns how many links are lost with
-    /// those.
+    /// Makes a worker for each door, with a share of the pass and of the links: worker k of W gets
+    /// the whole part of `connections` / W, and one more if k, counted from 1, is at most the
+    /// remainder. If memory runs out for a worker its door goes back to the port. Returns the
+    /// workers, and the number of links that have none.
     pub(crate) fn hire<P: Port>(
         &self,
         pass: &mut Pass<SharedOffice<D>>,
@@ -118,7 +120,7 @@ impl<R, D: Disk, C, G> Service<'_, R, D, C, G> {
 }
 
 impl<R: Wait, D: Disk, C: Clock, G: Gate> Service<'_, R, D, C, G> {
-    /// A worker serves its share of the links.
+    /// Lets a worker serve its share of the links.
     fn work<Dr: Door>(&self, one: &mut Worker<SharedOffice<D>, Dr>)
         requires lock { one.old.pass.lock ≡ self.now.lock.now }
         requires few { one.old.share ≤ 1000000 }
@@ -135,7 +137,7 @@ impl<R: Wait, D: Disk, C: Clock, G: Gate> Service<'_, R, D, C, G> {
     }
 }
 
-/// Each worker serves its share of the links, in a thread of its own where one can be made.
+/// Lets each worker serve its share of the links, in a thread of its own if one can be made.
 pub(crate) fn work_all<
     R: Threads + Wait + Sync,
     D: Disk + Send,

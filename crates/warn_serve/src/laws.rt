@@ -1,4 +1,4 @@
-//! Laws: a link ends as the bytes that were read of it have it. They have no code.
+//! Laws of the ends of links. They have no code.
 ghost use Rattle.std.specs.Prelude.{◌≡◌, ℕ, List};
 ghost use Rattle.desk_links.specs.Links.{LinkState};
 ghost use Rattle.office_journal.specs.declared.kept.KeptOffice.{KeptOffice};
@@ -12,11 +12,10 @@ ghost use Rattle.warn_serve.specs.declared.links.LinkEnd.{LinkEnd};
 
 use desk_traits::{Clock, Disk};
 
-/// A link ends only by the cause of its end, and of the same bytes the causes of `Closed`, `Cut`
-/// and `Spent` exclude one another: a link that did not fail, and for which memory did not run out,
-/// ends so exactly where the cause holds. So two such links of which the same bytes were read end
-/// alike. There is one exception: bytes that end within the target of a head that is bad already
-/// may be refused, by which the link closes, or cut by the end of the input.
+/// A link ends only by the cause of its end. For the same bytes the causes of `Closed`, `Cut` and
+/// `Spent` exclude one another, so two links with the same bytes read, which neither failed nor ran
+/// out of memory, end in the same way. The one exception is bytes that end within the target of a
+/// bad head: they may be refused (`Closed`), or cut by the end of the input.
 pub fn links_end_by_their_causes<D: Disk, C: Clock>()
     ensures cause { (clock : C) (old new : LinkState)
         (pass pass' : PassRecord (KeptOffice D D.Disk) (Happening D D.Disk)) (end : LinkEnd)

@@ -1,5 +1,6 @@
-//! The office served over links: the answer to a call, the calls of one link, a worker over the
-//! links of a door, and workers over the doors of a port who share one kept office.
+//! The office served over HTTP: the answer to a call, the calls of a link, a worker over the links
+//! of a door, and workers over the doors of a port who share one office. For the command `serve`
+//! and for tests. One begins with `serve` for a port, or with `serve_link` for one link.
 #![tactic(auto)]
 
 mod answers;

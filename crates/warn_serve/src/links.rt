@@ -20,24 +20,26 @@ use std::sync::Wait;
 use turn_lock::{Pass, TurnLock};
 use warn_http::{Call, Routes};
 
-/// The most calls that a link serves.
+/// The most calls that are served over one link.
 pub const MOST_CALLS: u64 = 10_000;
 
 /// How a link ended.
 #[derive(Clone, Copy, Debug, PartialEq, Eq)]
 pub enum LinkEnd {
-    /// The input ended between calls, a call asked to close, or one was refused.
+    /// The input ended between calls, a call closed the link, or one was refused by F1 to F6.
     Closed,
     /// The input ended within a call.
     Cut,
-    /// The most calls were served, of which none closed the link.
+    /// `MOST_CALLS` calls were served, and none of them closed the link.
     Spent,
     /// A read or a write failed.
     LinkFault,
+    /// Memory ran out for the inbox, for reading a call, or for the bytes of an answer.
     OutOfMemory,
 }
 
-/// Writes an answer, after which the link closes or stays open. It is never lost for want of memory.
+/// Writes an answer, and returns how the link ended if it did: it closes if `last`. Takes no
+/// memory.
 fn finish<L: Link>(link: &mut L, answer: &AnswerBytes, last: bool) -> Option<LinkEnd>
     ensures { Sends ⊥ (L.state link.old) (L.state link.new) (bytes_of answer.now) last result }
 {
@@ -48,7 +50,7 @@ fn finish<L: Link>(link: &mut L, answer: &AnswerBytes, last: bool) -> Option<Lin
     }
 }
 
-/// Writes that the first call is refused, after which the link closes.
+/// Writes the refusal of a call, after which the link closes.
 fn refuse<L: Link>(alloc: Global, link: &mut L, refusal: Refusal) -> Option<LinkEnd>
     ensures { Sends (Unit {0}) (L.state link.old) (L.state link.new) (refused_answer refusal true)
         true result }
@@ -60,9 +62,8 @@ fn refuse<L: Link>(alloc: Global, link: &mut L, refusal: Refusal) -> Option<Link
 }
 
 impl<R: Wait, D: Disk, C: Clock, G: Gate> Service<'_, R, D, C, G> {
-    /// Answers a call, whose body lies in `bytes`: the end of the link, or nothing where it stays
-    /// open. Memory may lack for the answer only where nothing happened that the pass could call
-    /// its own.
+    /// Answers a call, whose body is in `bytes`, and returns how the link ended if it did. Memory
+    /// can run out for the answer only if nothing happened in the call's turn.
     fn serve_call<L: Link>(
         &self,
         pass: &mut Pass<SharedOffice<D>>,
@@ -86,8 +87,7 @@ impl<R: Wait, D: Disk, C: Clock, G: Gate> Service<'_, R, D, C, G> {
         }
     }
 
-    /// Reads and answers the next call of a link, number `number`: the end of the link, or nothing
-    /// where it stays open.
+    /// Reads and answers call `number` of a link, and returns how the link ended if it did.
     fn serve_next<L: Link>(
         &self,
         pass: &mut Pass<SharedOffice<D>>,
@@ -142,10 +142,11 @@ impl<R: Wait, D: Disk, C: Clock, G: Gate> Service<'_, R, D, C, G> {
         LinkEnd::Spent
     }
 
-    /// Serves a link: reads its calls, at most 10,000, answers each in a turn at the office, at a
-    /// reading of the clock that is taken in that turn, and returns how the link ended. The gate
-    /// hears of each call, by its number from 1 on. The answers to a disk fault, and to a call for
-    /// which memory ran out, take no memory. Whatever the inbox held before is dropped.
+    /// Serves a link: reads its calls, at most 10,000, answers each in a turn of its own, at a
+    /// reading of the clock taken in that turn, and returns how the link ended. `gate` is called
+    /// with each call's number, counted from 1. Whatever `inbox` had is dropped.
+    ///
+    /// docs/HTTP.md, "When the link closes".
     pub fn serve_link<L: Link>(
         &self,
         pass: &mut Pass<SharedOffice<D>>,

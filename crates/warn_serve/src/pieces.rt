@@ -1,5 +1,5 @@
-//! The answer that gives a reply, in pieces. They take no memory, so that want of it leaves no
-//! request unanswered that was accepted.
+//! The answer with a reply, written in pieces that take no memory, so that no accepted request is
+//! left without an answer because memory ran out.
 ghost use Rattle.std.specs.Prelude.{◌≡◌, ◌++◌};
 ghost use Rattle.desk_links.specs.Links.{WritesLink};
 ghost use Rattle.warn_http.specs.Outcomes.{call_answer};
@@ -11,7 +11,7 @@ use desk_traits::Failed;
 use hazard_types::Text;
 use itoa::Buffer;
 
-/// What stands between the number of a reply's bytes and the reply.
+/// The bytes between the number of a reply's bytes and the reply.
 fn behind_length(last: bool) -> &'static [u8]
     ensures { result.now ≡ behind_length last }
 {
@@ -22,7 +22,7 @@ fn behind_length(last: bool) -> &'static [u8]
     }
 }
 
-/// Writes two pieces, or the beginning of both before a fault.
+/// Writes `first` and then `second`. On `Err` a prefix of both may be written.
 fn write_both<L: Link>(link: &mut L, first: &[u8], second: &[u8]) -> Result<(), Failed>
     ensures { WritesLink (L.state link.old) (L.state link.new) result (first.now ++ second.now) }
 {
@@ -30,7 +30,7 @@ fn write_both<L: Link>(link: &mut L, first: &[u8], second: &[u8]) -> Result<(), 
     write_link(link, second)
 }
 
-/// Writes what stands before a reply of so many bytes.
+/// Writes the head before a reply of `count` bytes.
 fn write_head<L: Link>(link: &mut L, count: usize, last: bool) -> Result<(), Failed>
     ensures { WritesLink (L.state link.old) (L.state link.new) result (reply_head count last) }
 {
@@ -43,7 +43,7 @@ fn write_head<L: Link>(link: &mut L, count: usize, last: bool) -> Result<(), Fai
     write_link(link, behind_length(last))
 }
 
-/// Writes the answer that gives a reply, or its beginning before a fault.
+/// Writes the answer with a reply. On `Err` a prefix of it may be written.
 pub(crate) fn write_reply<L: Link>(link: &mut L, reply: &Text, last: bool) -> Result<(), Failed>
     ensures { WritesLink (L.state link.old) (L.state link.new) result
         (call_answer Replied reply.now last) }

@@ -1,4 +1,4 @@
-//! The whole service: workers over the doors of a port share one kept office.
+//! The whole service: workers over the doors of a port, who share one office.
 ghost use Rattle.std.specs.Prelude.{◌≡◌, ◌≤◌, ◌<◌, ◌+◌, ℕ, List, All, map, vec_len};
 ghost use Rattle.warn_serve.specs.Calls.{AnswersCall, LosesCall};
 ghost use Rattle.warn_serve.specs.Gathered.{HasDone, IsFresh, IsGathered, end_after, short_of};
@@ -19,17 +19,18 @@ use std::thread::Threads;
 use turn_lock::{Pass, TurnLock};
 use warn_http::Routes;
 
-/// How serving ended.
+/// How a service ended.
 #[derive(Clone, Copy, Debug, PartialEq, Eq)]
 pub enum ServeEnd {
-    /// All links were served, and none of them ended out of memory.
+    /// All links were served, and memory ran out for none of them.
     Done,
-    /// The port or one of its doors failed.
+    /// The port can't be had, or an accept failed.
     PortFault,
+    /// Memory ran out at the start, for a worker, or for a link.
     OutOfMemory,
 }
 
-/// An end, where memory ran out for so many links.
+/// The end, given how many links ran out of memory.
 fn short_of(end: ServeEnd, lacks: u64) -> ServeEnd
     ensures { result ≡ short_of end lacks }
 {
@@ -46,7 +47,7 @@ fn short_of(end: ServeEnd, lacks: u64) -> ServeEnd
     }
 }
 
-/// An end, after one worker more that ended so.
+/// The end, given how one more worker ended.
 fn end_after(end: ServeEnd, worked: WorkerEnd) -> ServeEnd
     ensures { result ≡ end_after end worked }
 {
@@ -57,7 +58,8 @@ fn end_after(end: ServeEnd, worked: WorkerEnd) -> ServeEnd
 }
 
 impl<R, D: Disk, C: Clock, G> Service<'_, R, D, C, G> {
-    /// Takes in the passes of all workers, gives their doors back, and returns how serving ended.
+    /// Joins the passes of all workers, returns their doors to the port, and returns how the
+    /// service ended.
     fn gather<P: Port>(
         &self,
         pass: &mut Pass<SharedOffice<D>>,
@@ -101,7 +103,7 @@ impl<R: Threads + Wait + Sync, D: Disk + Send, C: Clock + Sync, G: Gate + Sync> 
     C,
     G,
 > {
-    /// The workers serve their shares, and their passes and doors are taken in.
+    /// Lets the workers serve their shares, then gathers their passes and doors.
     fn serve_shares<P: Port>(
         &self,
         pass: &mut Pass<SharedOffice<D>>,
@@ -125,8 +127,7 @@ impl<R: Threads + Wait + Sync, D: Disk + Send, C: Clock + Sync, G: Gate + Sync> 
         self.gather(pass, port, workers)
     }
 
-    /// Serves so many links of the doors that the port gives at the number, by a worker for each
-    /// door.
+    /// Serves `connections` links with a worker for each of `workers` doors at the port `number`.
     fn serve_port<P: Port>(
         &self,
         pass: &mut Pass<SharedOffice<D>>,
@@ -158,11 +159,12 @@ impl<R: Threads + Wait + Sync, D: Disk + Send, C: Clock + Sync, G: Gate + Sync> 
     }
 }
 
-/// Serves so many links of the doors of a port, 1 to 1,000,000, which listens at the number, over
-/// one kept office, by 1 to 16 workers, each with its share, and returns how that ended. The office
-/// comes back, after all that happened to it. Where memory runs out for a worker its links are
-/// served by nobody, and the end is `OutOfMemory`. The end is `PortFault` where the port can't be
-/// had or an accept failed, and only there the port's count of faults has risen.
+/// Serves `connections` links (1 to 1,000,000) at port `number` with `workers` workers (1 to 16)
+/// over one office, and returns the office and how the service ended. If memory runs out for a
+/// worker, its links are served by nobody and the end is `OutOfMemory`. The port's count of faults
+/// has risen only if the end is `PortFault`.
+///
+/// docs/SERVING.md, and docs/DECISIONS.md, "The server".
 pub fn serve<R: Threads + Wait + Sync, D: Disk + Send, P: Port, C: Clock + Sync, G: Gate + Sync>(
     rt: &R,
     alloc: Global,

@@ -16,13 +16,13 @@ use turn_lock::Pass;
 /// How a worker ended.
 #[derive(Clone, Copy, Debug, PartialEq, Eq)]
 pub enum WorkerEnd {
-    /// It served its share of links, so many of which ended out of memory.
+    /// It served its share of links, of which this many ended because memory ran out.
     Done(u64),
-    /// No link came: an accept failed.
+    /// An accept failed.
     PortFault,
 }
 
-/// 1 for a link that memory ended.
+/// 1 for a link that ended because memory ran out, else 0.
 fn lack_of(end: LinkEnd) -> u64
     ensures value { result ≡ lack_of end }
     ensures most { result ≤ 1 }
@@ -34,7 +34,7 @@ fn lack_of(end: LinkEnd) -> u64
 }
 
 impl<R: Wait, D: Disk, C: Clock, G: Gate> Service<'_, R, D, C, G> {
-    /// Serves the next link of a door, and gives it back.
+    /// Accepts the next link of a door, serves it and returns it to the door.
     fn serve_one<Dr: Door>(
         &self,
         pass: &mut Pass<SharedOffice<D>>,
@@ -58,8 +58,8 @@ impl<R: Wait, D: Disk, C: Clock, G: Gate> Service<'_, R, D, C, G> {
         Ok(end)
     }
 
-    /// Serves so many links of a door, at most 1,000,000, one after another, with one inbox. Each
-    /// goes back to the door.
+    /// Serves `share` links of a door, at most 1,000,000, one after another, and returns each to
+    /// the door. It stops at the first failed accept. `door` must be unused.
     pub fn worker<Dr: Door>(
         &self,
         pass: &mut Pass<SharedOffice<D>>,

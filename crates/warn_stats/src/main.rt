@@ -1,4 +1,5 @@
-//! The statistics of an archive: `warn_stats OFFICE CLASS STAMP`.
+//! The program of the statistics of an archive: `warn_stats OFFICE CLASS STAMP`.
+//! `stats_report::run_program` does all of it (docs/STATISTICS.md).
 #![tactic(auto)]
 
 use program_outside::outside_of;

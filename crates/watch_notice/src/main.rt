@@ -1,4 +1,5 @@
-//! County notices: `watch_notice OFFICE ZONE`.
+//! The program of county notices: `watch_notice OFFICE ZONE`. `county_notices::run_program` does
+//! all of it (docs/NOTICES.md).
 #![tactic(auto)]
 
 use county_notices::run_program;
