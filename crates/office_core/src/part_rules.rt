@@ -16,7 +16,7 @@ use crate::office::Office;
 use crate::writing::{TextRule, first_text};
 use desk_settings::Settings;
 use hazard_types::desk_hazards::facts;
-use hazard_types::{Category, Draft, Hazard, Oom, Refusal, Request, Sent, Target, Zone};
+use hazard_types::{Category, Draft, Hazard, List, Oom, Refusal, Request, Sent, Target, Zone};
 use std::alloc::Global;
 
 /// The hazard of a target; for an event, the event's.
@@ -44,15 +44,15 @@ fn hazard_in(r: &Request) -> Option<Hazard>
 }
 
 /// The zones of the intent that a request adds.
-fn zones_in(r: &Request) -> Option<&[Zone]>
+fn zones_in(r: &Request) -> Option<&List<Zone>>
     ensures { option_map (λ zones. zones.now) result ≡ option_map zones_of (intent_of r.now) }
 {
     match r {
-        Request::Issue(part) => Some(part.zones.as_slice()),
-        Request::Put(_, part) => Some(part.zones.as_slice()),
-        Request::Finish(_, part) => Some(part.zones.as_slice()),
-        Request::Restate(_, part) => Some(part.zones.as_slice()),
-        Request::Routine(_, part) => Some(part.zones.as_slice()),
+        Request::Issue(part) => Some(&part.zones),
+        Request::Put(_, part) => Some(&part.zones),
+        Request::Finish(_, part) => Some(&part.zones),
+        Request::Restate(_, part) => Some(&part.zones),
+        Request::Routine(_, part) => Some(&part.zones),
         _ => None,
     }
 }
@@ -83,7 +83,7 @@ fn unknown_zone(settings: &Settings, r: &Request) -> Option<Refusal>
     requires { IsStrictlySortedBy by_place (keys_of settings.now.zones) }
     ensures { result ≡ unknown_zone settings.now (intent_of r.now) }
 {
-    let zone = first_unknown(settings, zones_in(r)?)?;
+    let zone = first_unknown(settings, zones_in(r)?.as_slice())?;
     Some(Refusal::UnknownZone { zone })
 }
 
@@ -104,7 +104,7 @@ fn wrong_kind(r: &Request) -> Option<Refusal>
     ensures { result ≡ wrong_kind (intent_of r.now) }
 {
     let hazard = hazard_in(r)?;
-    let zone = action_planner::wrong_kind(&hazard, zones_in(r)?)?;
+    let zone = action_planner::wrong_kind(&hazard, zones_in(r)?.as_slice())?;
     Some(Refusal::WrongZoneKind { zone })
 }
 
@@ -180,7 +180,7 @@ fn bad_zones(r: &Request) -> Option<Refusal>
     ensures { result ≡ bad_zones (intent_of r.now) }
 {
     let zones = zones_in(r)?;
-    if are_zones(zones) {
+    if are_zones(zones.as_slice()) {
         None
     } else {
         Some(Refusal::BadZoneList)
