@@ -30,18 +30,42 @@ is_common key = bytes_eq key (codes "desk") || bytes_eq key (codes "seq") || byt
 abbrev pub is_of_put : List ℕ → Bool
 is_of_put key = bytes_eq key (codes "zones") || bytes_eq key (codes "begin") || bytes_eq key (codes "end") || bytes_eq key (codes "flood") || bytes_eq key (codes "texts")
 
+-- the keys of an issue, beside the common ones
+abbrev pub is_of_issue : List ℕ → Bool
+is_of_issue key = bytes_eq key (codes "hazard") || is_of_put key
+
+-- those of a put into a draft
+abbrev pub is_of_draft_put : List ℕ → Bool
+is_of_draft_put key = bytes_eq key (codes "draft") || (bytes_eq key (codes "hazard") || (bytes_eq key (codes "event") || is_of_put key))
+
+-- those of an event's end or restatement in a draft
+abbrev pub is_of_event : List ℕ → Bool
+is_of_event key = bytes_eq key (codes "draft") || (bytes_eq key (codes "event") || (bytes_eq key (codes "zones") || bytes_eq key (codes "texts")))
+
+-- those of a routine product in a draft
+abbrev pub is_of_routine : List ℕ → Bool
+is_of_routine key = bytes_eq key (codes "draft") || (bytes_eq key (codes "hazard") || (bytes_eq key (codes "zones") || bytes_eq key (codes "texts")))
+
+-- those of flood values
+abbrev pub is_of_flood : List ℕ → Bool
+is_of_flood key = bytes_eq key (codes "site") || bytes_eq key (codes "severity") || bytes_eq key (codes "cause") || bytes_eq key (codes "begin") || bytes_eq key (codes "crest") || bytes_eq key (codes "end") || bytes_eq key (codes "status")
+
+-- those of texts
+abbrev pub is_of_texts : List ℕ → Bool
+is_of_texts key = bytes_eq key (codes "what") || bytes_eq key (codes "area") || bytes_eq key (codes "impacts") || bytes_eq key (codes "details")
+
 unfoldable pub has_key : Keys → List ℕ → Bool
 has_key keys.Open key = is_common key || bytes_eq key (codes "category")
-has_key keys.Issue key = is_common key || (bytes_eq key (codes "hazard") || is_of_put key)
-has_key keys.Training key = bytes_eq key (codes "do") || (bytes_eq key (codes "hazard") || is_of_put key)
-has_key keys.Put key = is_common key || (bytes_eq key (codes "draft") || (bytes_eq key (codes "hazard") || (bytes_eq key (codes "event") || is_of_put key)))
-has_key keys.Event key = is_common key || (bytes_eq key (codes "draft") || (bytes_eq key (codes "event") || (bytes_eq key (codes "zones") || bytes_eq key (codes "texts"))))
-has_key keys.Routine key = is_common key || (bytes_eq key (codes "draft") || (bytes_eq key (codes "hazard") || (bytes_eq key (codes "zones") || bytes_eq key (codes "texts"))))
+has_key keys.Issue key = is_common key || is_of_issue key
+has_key keys.Training key = bytes_eq key (codes "do") || is_of_issue key
+has_key keys.Put key = is_common key || is_of_draft_put key
+has_key keys.Event key = is_common key || is_of_event key
+has_key keys.Routine key = is_common key || is_of_routine key
 has_key keys.Drop key = is_common key || (bytes_eq key (codes "draft") || bytes_eq key (codes "place"))
 has_key keys.Draft key = is_common key || bytes_eq key (codes "draft")
 has_key keys.Correct key = is_common key || (bytes_eq key (codes "product") || bytes_eq key (codes "texts"))
-has_key keys.Flood key = bytes_eq key (codes "site") || bytes_eq key (codes "severity") || bytes_eq key (codes "cause") || bytes_eq key (codes "begin") || bytes_eq key (codes "crest") || bytes_eq key (codes "end") || bytes_eq key (codes "status")
-has_key keys.Texts key = bytes_eq key (codes "what") || bytes_eq key (codes "area") || bytes_eq key (codes "impacts") || bytes_eq key (codes "details")
+has_key keys.Flood key = is_of_flood key
+has_key keys.Texts key = is_of_texts key
 has_key keys.EventTexts key = bytes_eq key (codes "event") || bytes_eq key (codes "texts")
 
 -- the keys of a request

@@ -1,16 +1,17 @@
 //! The values of fields.
 ghost use Rattle.std.specs.Prelude.{◌≡◌, option_map, option_and_then, codes, IfOk};
-ghost use Rattle.serde_json.specs.Find.{get, as_array};
+ghost use Rattle.serde_json.specs.Find.{get, as_array, as_str};
 ghost use Rattle.serde_json.specs.View.{view, items_view};
 ghost use Rattle.hazard_types.specs.Characters.{location_at};
+ghost use Rattle.hazard_types.specs.Names.{zone_at, event_at};
 ghost use Rattle.hazard_types.specs.Times.{time_at};
 ghost use Rattle.request_json.specs.Json.{text_at};
 ghost use Rattle.request_json.specs.Fields.{begin_at, end_at, desk_named, if_counted, number_at, zones_of, site_in, severity_in, cause_in, time_in, status_in, values_in, flood_of, free_text, four_texts, texts_of, event_texts_of, each_event_texts};
 
 use crate::keys::Keys;
 use hazard_types::{
-    Begin, Cause, Desk, End, EventTexts, Flood, List, Minute, Oom, Severity, Status, Text, Texts,
-    Zone, event_in, find, location_in, read_stamp, written_causes, zone_in,
+    Begin, Cause, Desk, End, Event, EventTexts, Flood, List, Minute, Oom, Severity, Status, Text,
+    Texts, Zone, event_in, find, location_in, read_stamp, written_causes, zone_in,
 };
 use serde_json::Value;
 use std::alloc::Global;
@@ -59,13 +60,21 @@ pub fn number_at(value: &Value, key: &str) -> Option<u32>
     }
 }
 
+/// The zone that a text is.
+fn zone_of(value: &Value) -> Option<Zone>
+    ensures { result ≡ option_and_then zone_at (as_str (view value.now)) }
+{
+    let text = value.as_str()?;
+    zone_in(text.as_bytes())
+}
+
 /// The zones of the texts, or nothing where one is no zone.
 pub fn zones_of(alloc: Global, values: &[Value]) -> Result<Option<List<Zone>>, Oom>
     ensures { IfOk result (λ zones. zones ≡ zones_of (items_view values.now)) }
 {
     let mut zones = List::new(alloc);
     for value in values {
-        match value.as_str().and_then(|text| zone_in(text.as_bytes())) {
+        match zone_of(value) {
             Some(zone) => zones.push(zone)?,
             None => return Ok(None),
         }
@@ -221,6 +230,14 @@ fn texts_within(alloc: Global, value: &Value) -> Result<Option<Texts>, Oom>
     }
 }
 
+/// The event that a value names.
+pub fn event_of(value: &Value) -> Option<Event>
+    ensures { result ≡ option_and_then event_at (text_at (codes "event") (view value.now)) }
+{
+    let text = text_at(value, "event")?;
+    event_in(text.as_bytes())
+}
+
 /// An event with its texts, or nothing where one is missing or wrong, or a key is unknown.
 #[tactic(auto, unfolding(crate::specs::Fields::event_texts_of))]
 fn event_texts_of(alloc: Global, value: &Value) -> Result<Option<EventTexts>, Oom>
@@ -232,7 +249,7 @@ fn event_texts_of(alloc: Global, value: &Value) -> Result<Option<EventTexts>, Oo
     if !Keys::EventTexts.know_all(members) {
         return Ok(None);
     }
-    let Some(event) = text_at(value, "event").and_then(|text| event_in(text.as_bytes())) else {
+    let Some(event) = event_of(value) else {
         return Ok(None);
     };
     let Some(texts) = texts_within(alloc, value)? else {

@@ -33,11 +33,12 @@ pub(crate) fn opened_bare(part: &PutPart) -> Option<Hazard>
 /// The room that the text of an issue mostly takes.
 fn room_of(part: &PutPart) -> usize {
     let texts = &part.texts;
-    let mut room = FRAME_ROOM;
-    for text in [&texts.what, &texts.area, &texts.impacts, &texts.details] {
-        room = room.saturating_add(text.len());
-    }
-    room.saturating_add(part.zones.len().saturating_mul(ZONE_ROOM))
+    FRAME_ROOM
+        .saturating_add(texts.what.len())
+        .saturating_add(texts.area.len())
+        .saturating_add(texts.impacts.len())
+        .saturating_add(texts.details.len())
+        .saturating_add(part.zones.len().saturating_mul(ZONE_ROOM))
 }
 
 fn put_begin(alloc: Global, out: &mut Text, begin: &Begin) -> Result<(), Oom>

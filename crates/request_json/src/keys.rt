@@ -1,12 +1,12 @@
 //! What requests do, and the keys that they have.
 ghost use Rattle.std.specs.Prelude.{◌≡◌};
 ghost use Rattle.serde_json.specs.View.{members_view};
-ghost use Rattle.request_json.specs.Keys.{verb_at, has_key, is_common, is_of_put, keys_of, all_known};
+ghost use Rattle.request_json.specs.Keys.{verb_at, has_key, is_common, is_of_put, is_of_issue, is_of_draft_put, is_of_event, is_of_routine, is_of_flood, is_of_texts, keys_of, all_known};
 
 use serde_json::{Map, Value};
 
 /// What a request does.
-#[derive(Clone, Copy, Debug, PartialEq, Eq)]
+#[derive(Clone, Copy)]
 pub enum Verb {
     Open,
     Issue,
@@ -22,7 +22,7 @@ pub enum Verb {
 }
 
 /// The keys of an object: of requests, of a training line, of flood values, of texts, and of an event with its texts.
-#[derive(Clone, Copy, Debug, PartialEq, Eq)]
+#[derive(Clone, Copy)]
 pub enum Keys {
     Open,
     Issue,
@@ -90,6 +90,51 @@ fn is_of_put(key: &str) -> bool
     matches!(key, "zones" | "begin" | "end" | "flood" | "texts")
 }
 
+/// Whether the key is an issue's, beside the common ones.
+fn is_of_issue(key: &str) -> bool
+    ensures { result ≡ is_of_issue key.now }
+{
+    key == "hazard" || is_of_put(key)
+}
+
+/// Whether the key is that of a put into a draft.
+fn is_of_draft_put(key: &str) -> bool
+    ensures { result ≡ is_of_draft_put key.now }
+{
+    matches!(key, "draft" | "hazard" | "event") || is_of_put(key)
+}
+
+/// Whether the key is that of an event's end or restatement in a draft.
+fn is_of_event(key: &str) -> bool
+    ensures { result ≡ is_of_event key.now }
+{
+    matches!(key, "draft" | "event" | "zones" | "texts")
+}
+
+/// Whether the key is that of a routine product in a draft.
+fn is_of_routine(key: &str) -> bool
+    ensures { result ≡ is_of_routine key.now }
+{
+    matches!(key, "draft" | "hazard" | "zones" | "texts")
+}
+
+/// Whether the key is one of flood values.
+fn is_of_flood(key: &str) -> bool
+    ensures { result ≡ is_of_flood key.now }
+{
+    matches!(
+        key,
+        "site" | "severity" | "cause" | "begin" | "crest" | "end" | "status"
+    )
+}
+
+/// Whether the key is one of texts.
+fn is_of_texts(key: &str) -> bool
+    ensures { result ≡ is_of_texts key.now }
+{
+    matches!(key, "what" | "area" | "impacts" | "details")
+}
+
 impl Keys {
     /// Whether the key is one of these.
     #[tactic(auto, unfolding(crate::specs::Keys::has_key))]
@@ -98,22 +143,16 @@ impl Keys {
     {
         match self {
             Keys::Open => is_common(key) || key == "category",
-            Keys::Issue => is_common(key) || key == "hazard" || is_of_put(key),
-            Keys::Training => key == "do" || key == "hazard" || is_of_put(key),
-            Keys::Put => is_common(key)
-                || matches!(key, "draft" | "hazard" | "event")
-                || is_of_put(key),
-            Keys::Event => is_common(key) || matches!(key, "draft" | "event" | "zones" | "texts"),
-            Keys::Routine => is_common(key)
-                || matches!(key, "draft" | "hazard" | "zones" | "texts"),
+            Keys::Issue => is_common(key) || is_of_issue(key),
+            Keys::Training => key == "do" || is_of_issue(key),
+            Keys::Put => is_common(key) || is_of_draft_put(key),
+            Keys::Event => is_common(key) || is_of_event(key),
+            Keys::Routine => is_common(key) || is_of_routine(key),
             Keys::Drop => is_common(key) || matches!(key, "draft" | "place"),
             Keys::Draft => is_common(key) || key == "draft",
             Keys::Correct => is_common(key) || matches!(key, "product" | "texts"),
-            Keys::Flood => matches!(
-                key,
-                "site" | "severity" | "cause" | "begin" | "crest" | "end" | "status"
-            ),
-            Keys::Texts => matches!(key, "what" | "area" | "impacts" | "details"),
+            Keys::Flood => is_of_flood(key),
+            Keys::Texts => is_of_texts(key),
             Keys::EventTexts => matches!(key, "event" | "texts"),
         }
     }

@@ -1,24 +1,28 @@
 //! Requests are read.
-ghost use Rattle.std.specs.Prelude.{◌≡◌, IfOk, codes, Some, None};
+ghost use Rattle.std.specs.Prelude.{◌≡◌, if◌then◌else◌, IfOk, codes, Some, None, option_and_then};
+ghost use Rattle.hazard_types.specs.Codes.{value_beside};
 ghost use Rattle.hazard_types.specs.Given.{Gives};
+ghost use Rattle.hazard_types.specs.Names.{hazard_at};
+ghost use Rattle.hazard_types.specs.Tables.{category_rows};
 ghost use Rattle.hazard_types.specs.declared.refusal.Refusal.{Refusal as Refused};
 ghost use Rattle.serde_json.specs.Find.{get};
-ghost use Rattle.serde_json.specs.View.{view};
+ghost use Rattle.serde_json.specs.View.{view, members_view};
 ghost use Rattle.request_json.specs.Json.{json_of, text_at};
 ghost use Rattle.request_json.specs.Form.{given, desk_field, seq_field, verb_field, category_field, number_field, hazard_field, event_field, zones_field, begin_field, end_field, flood_or_none, flood_field, texts_or_empty, texts_field, event_texts_or_none, event_texts_field, target_field, put_on, issue_part, put_part, event_part, routine_part, draft_in, draft_request, request_in, asked_in, asked_of, is_issue, training_issue_in, training_issue_of};
+ghost use Rattle.request_json.specs.Keys.{verb_at, all_known};
 ghost use Rattle.request_json.specs.Formed.{IsIssuePart, HasForm};
 
 use crate::asked::Asked;
 use crate::fields::{
-    begin_of, desk_of, each_event_texts, end_of, flood_of, number_at, seq_of, text_at, texts_of,
-    zones_at,
+    begin_of, desk_of, each_event_texts, end_of, event_of, flood_of, number_at, seq_of, text_at,
+    texts_of, zones_at,
 };
 use crate::keys::{Keys, Verb};
 use hazard_types::{
     Begin, Category, Desk, End, Event, EventPart, EventTexts, Flood, Hazard, List, Oom, Or,
-    PutPart, Refusal, Request, RoutinePart, Target, Texts, Zone, event_in, hazard_in,
+    PutPart, Refusal, Request, RoutinePart, Target, Texts, Zone, hazard_in,
 };
-use serde_json::Value;
+use serde_json::{Map, Value};
 use std::alloc::Global;
 
 /// What a field has, or the fault of the field.
@@ -52,21 +56,30 @@ fn seq_field(alloc: Global, value: &Value) -> Result<u32, Or<Refusal>>
     given(alloc, number_at(value, "seq").and_then(seq_of), "seq")
 }
 
+fn verb_of(value: &Value) -> Option<Verb>
+    ensures { result ≡ option_and_then verb_at (text_at (codes "do") (view value.now)) }
+{
+    let word = text_at(value, "do")?;
+    Verb::at(word)
+}
+
 fn verb_field(alloc: Global, value: &Value) -> Result<Verb, Or<Refusal>>
     ensures { Gives result (verb_field (view value.now)) }
 {
-    given(
-        alloc,
-        text_at(value, "do").and_then(|word| Verb::at(word)),
-        "do",
-    )
+    given(alloc, verb_of(value), "do")
+}
+
+fn category_of(value: &Value) -> Option<Category>
+    ensures { result ≡ option_and_then (value_beside category_rows) (text_at (codes "category") (view value.now)) }
+{
+    let text = text_at(value, "category")?;
+    Category::at(text.as_bytes())
 }
 
 fn category_field(alloc: Global, value: &Value) -> Result<Category, Or<Refusal>>
     ensures { Gives result (category_field (view value.now)) }
 {
-    let category = text_at(value, "category").and_then(|text| Category::at(text.as_bytes()));
-    given(alloc, category, "category")
+    given(alloc, category_of(value), "category")
 }
 
 /// A whole number below 2^32: a draft's, a place, or a product's.
@@ -76,18 +89,23 @@ fn number_field(alloc: Global, value: &Value, key: &str) -> Result<u32, Or<Refus
     given(alloc, number_at(value, key), key)
 }
 
+fn hazard_of(value: &Value) -> Option<Hazard>
+    ensures { result ≡ option_and_then hazard_at (text_at (codes "hazard") (view value.now)) }
+{
+    let text = text_at(value, "hazard")?;
+    hazard_in(text.as_bytes())
+}
+
 fn hazard_field(alloc: Global, value: &Value) -> Result<Hazard, Or<Refusal>>
     ensures { Gives result (hazard_field (view value.now)) }
 {
-    let hazard = text_at(value, "hazard").and_then(|text| hazard_in(text.as_bytes()));
-    given(alloc, hazard, "hazard")
+    given(alloc, hazard_of(value), "hazard")
 }
 
 fn event_field(alloc: Global, value: &Value) -> Result<Event, Or<Refusal>>
     ensures { Gives result (event_field (view value.now)) }
 {
-    let event = text_at(value, "event").and_then(|text| event_in(text.as_bytes()));
-    given(alloc, event, "event")
+    given(alloc, event_of(value), "event")
 }
 
 fn zones_field(alloc: Global, value: &Value) -> Result<List<Zone>, Or<Refusal>>
@@ -106,11 +124,7 @@ fn begin_field(alloc: Global, value: &Value) -> Result<Begin, Or<Refusal>>
 fn end_field(alloc: Global, value: &Value) -> Result<End, Or<Refusal>>
     ensures { Gives result (end_field (view value.now)) }
 {
-    given(
-        alloc,
-        text_at(value, "end").and_then(|text| end_of(text)),
-        "end",
-    )
+    given(alloc, text_at(value, "end").and_then(end_of), "end")
 }
 
 /// Flood values, which may be absent; nothing where they are wrong.
@@ -290,6 +304,22 @@ fn request_in(alloc: Global, verb: Verb, value: &Value) -> Result<Request, Or<Re
     }
 }
 
+/// What was read, where each key is one of these.
+fn known<T: Drop>(
+    alloc: Global,
+    keys: Keys,
+    members: &Map<String, Value>,
+    read: T,
+) -> Result<T, Or<Refusal>>
+    ensures { Gives result (if all_known keys (members_view members.now.entries) then Ok read else Err (Refusal.WrongShape (codes "?"))) }
+{
+    if keys.know_all(members) {
+        Ok(read)
+    } else {
+        wrong(alloc, "?")
+    }
+}
+
 /// What a JSON value asks.
 #[tactic(auto, unfolding(crate::specs::Form::asked_in))]
 fn asked_in(alloc: Global, value: &Value) -> Result<Asked, Or<Refusal>>
@@ -302,11 +332,7 @@ fn asked_in(alloc: Global, value: &Value) -> Result<Asked, Or<Refusal>>
     let seq = seq_field(alloc, value)?;
     let verb = verb_field(alloc, value)?;
     let request = request_in(alloc, verb, value)?;
-    if verb.keys().know_all(members) {
-        Ok(Asked { desk, seq, request })
-    } else {
-        wrong(alloc, "?")
-    }
+    known(alloc, verb.keys(), members, Asked { desk, seq, request })
 }
 
 /// The JSON value that the bytes are.
@@ -344,7 +370,10 @@ pub fn read_request(alloc: Global, bytes: &[u8]) -> Result<Asked, Or<Refusal>>
 fn is_issue(value: &Value) -> bool
     ensures { result ≡ is_issue (text_at (codes "do") (view value.now)) }
 {
-    text_at(value, "do") == Some("issue")
+    match text_at(value, "do") {
+        Some(word) => word == "issue",
+        None => false,
+    }
 }
 
 #[tactic(auto, unfolding(crate::specs::Form::training_issue_in))]
@@ -358,11 +387,7 @@ fn training_issue_in(alloc: Global, value: &Value) -> Result<PutPart, Or<Refusal
         return wrong(alloc, "do");
     }
     let part = issue_part(alloc, value)?;
-    if Keys::Training.know_all(members) {
-        Ok(part)
-    } else {
-        wrong(alloc, "?")
-    }
+    known(alloc, Keys::Training, members, part)
 }
 
 /// Reads an `issue` line without desk and number, which are unknown keys here.
