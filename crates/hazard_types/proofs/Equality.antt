@@ -16,33 +16,24 @@ use Rattle.hazard_types.specs.declared.codes.Severity.{Severity}
 use Rattle.hazard_types.specs.declared.codes.Status.{Status}
 use Rattle.hazard_types.specs.declared.codes.Category.{Category}
 use Rattle.hazard_types.specs.declared.codes.Family.{Family}
-use Rattle.hazard_types.specs.declared.codes.LocalZone.{LocalZone}
 use Rattle.hazard_types.specs.declared.hazard.Sig.{Sig}
 use Rattle.hazard_types.specs.declared.zone.Kind.{Kind}
-use Rattle.hazard_types.specs.declared.request.Word.{Word}
 use Rattle.hazard_types.specs.declared.hazard.Hazard.{Hazard}
 use Rattle.hazard_types.specs.declared.hazard.Event.{Event}
 use Rattle.hazard_types.specs.declared.period.End.{End}
 use Rattle.hazard_types.specs.declared.period.Begin.{Begin}
 use Rattle.hazard_types.specs.declared.period.Period.{Period}
 use Rattle.hazard_types.specs.declared.line.Flood.{Flood}
-use Rattle.hazard_types.specs.declared.line.Vtec.{Vtec}
 use Rattle.hazard_types.specs.declared.line.Line.{Line}
 use Rattle.hazard_types.specs.declared.line.SegLine.{SegLine}
-use Rattle.hazard_types.specs.declared.line.Segment.{Segment}
 use Rattle.hazard_types.specs.declared.line.Row.{Row}
-use Rattle.hazard_types.specs.declared.line.Clash.{Clash}
-use Rattle.hazard_types.specs.declared.calendar.DayStamp.{DayStamp}
 use Rattle.hazard_types.specs.declared.request.Texts.{Texts}
 use Rattle.hazard_types.specs.declared.request.EventTexts.{EventTexts}
 use Rattle.hazard_types.specs.declared.request.Target.{Target}
 use Rattle.hazard_types.specs.declared.request.PutPart.{PutPart}
 use Rattle.hazard_types.specs.declared.request.EventPart.{EventPart}
 use Rattle.hazard_types.specs.declared.request.RoutinePart.{RoutinePart}
-use Rattle.hazard_types.specs.declared.request.Intent.{Intent}
 use Rattle.hazard_types.specs.declared.request.Request.{Request}
-use Rattle.hazard_types.specs.declared.request.SentReply.{SentReply}
-use Rattle.hazard_types.specs.declared.request.Reply.{Reply}
 use Rattle.hazard_types.specs.Places.{Place}
 use Rattle.hazard_types.specs.contracts.codes.ClassPartialEq.TheImpl as class
 use Rattle.hazard_types.specs.contracts.codes.ActionPartialEq.TheImpl as action
@@ -50,10 +41,8 @@ use Rattle.hazard_types.specs.contracts.codes.SeverityPartialEq.TheImpl as sever
 use Rattle.hazard_types.specs.contracts.codes.StatusPartialEq.TheImpl as status
 use Rattle.hazard_types.specs.contracts.codes.CategoryPartialEq.TheImpl as category
 use Rattle.hazard_types.specs.contracts.codes.FamilyPartialEq.TheImpl as family
-use Rattle.hazard_types.specs.contracts.codes.LocalZonePartialEq.TheImpl as local_zone
 use Rattle.hazard_types.specs.contracts.hazard.SigPartialEq.TheImpl as sig
 use Rattle.hazard_types.specs.contracts.zone.KindPartialEq.TheImpl as kind
-use Rattle.hazard_types.specs.contracts.request.WordPartialEq.TheImpl as word
 use Rattle.hazard_types.specs.contracts.codes.CausePartialEq.TheImpl as cause
 use Rattle.hazard_types.specs.contracts.hazard.PhenPartialEq.TheImpl as phen
 use Rattle.hazard_types.specs.contracts.minute.MinutePartialEq.TheImpl as minute
@@ -65,77 +54,48 @@ use Rattle.hazard_types.specs.contracts.period.EndPartialEq.TheImpl as end
 use Rattle.hazard_types.specs.contracts.period.BeginPartialEq.TheImpl as begin
 use Rattle.hazard_types.specs.contracts.period.PeriodPartialEq.TheImpl as period
 use Rattle.hazard_types.specs.contracts.line.FloodPartialEq.TheImpl as flood
-use Rattle.hazard_types.specs.contracts.line.VtecPartialEq.TheImpl as vtec
 use Rattle.hazard_types.specs.contracts.line.LinePartialEq.TheImpl as line
 use Rattle.hazard_types.specs.contracts.line.SegLinePartialEq.TheImpl as seg_line
-use Rattle.hazard_types.specs.contracts.line.SegmentPartialEq.TheImpl as segment
 use Rattle.hazard_types.specs.contracts.line.RowPartialEq.TheImpl as row
-use Rattle.hazard_types.specs.contracts.line.ClashPartialEq.TheImpl as clash
-use Rattle.hazard_types.specs.contracts.calendar.DayStampPartialEq.TheImpl as day_stamp
 use Rattle.hazard_types.specs.contracts.request.TextsPartialEq.TheImpl as texts
 use Rattle.hazard_types.specs.contracts.request.EventTextsPartialEq.TheImpl as event_texts
 use Rattle.hazard_types.specs.contracts.request.TargetPartialEq.TheImpl as target
 use Rattle.hazard_types.specs.contracts.request.PutPartPartialEq.TheImpl as put_part
 use Rattle.hazard_types.specs.contracts.request.EventPartPartialEq.TheImpl as event_part
 use Rattle.hazard_types.specs.contracts.request.RoutinePartPartialEq.TheImpl as routine_part
-use Rattle.hazard_types.specs.contracts.request.IntentPartialEq.TheImpl as intent
 use Rattle.hazard_types.specs.contracts.request.RequestPartialEq.TheImpl as request
-use Rattle.hazard_types.specs.contracts.request.SentReplyPartialEq.TheImpl as sent_reply
-use Rattle.hazard_types.specs.contracts.request.ReplyPartialEq.TheImpl as reply
 use Rattle.hazard_types.specs.contracts.codes.ClassEq.TheImpl.Laws as class_laws
 use Rattle.hazard_types.specs.contracts.codes.ActionEq.TheImpl.Laws as action_laws
 use Rattle.hazard_types.specs.contracts.codes.SeverityEq.TheImpl.Laws as severity_laws
 use Rattle.hazard_types.specs.contracts.codes.StatusEq.TheImpl.Laws as status_laws
 use Rattle.hazard_types.specs.contracts.codes.CategoryEq.TheImpl.Laws as category_laws
 use Rattle.hazard_types.specs.contracts.codes.FamilyEq.TheImpl.Laws as family_laws
-use Rattle.hazard_types.specs.contracts.codes.LocalZoneEq.TheImpl.Laws as local_zone_laws
 use Rattle.hazard_types.specs.contracts.hazard.SigEq.TheImpl.Laws as sig_laws
 use Rattle.hazard_types.specs.contracts.zone.KindEq.TheImpl.Laws as kind_laws
-use Rattle.hazard_types.specs.contracts.request.WordEq.TheImpl.Laws as word_laws
 use Rattle.hazard_types.specs.contracts.codes.CauseEq.TheImpl.Laws as cause_laws
-use Rattle.hazard_types.specs.contracts.hazard.PhenEq.TheImpl.Laws as phen_laws
-use Rattle.hazard_types.specs.contracts.minute.MinuteEq.TheImpl.Laws as minute_laws
 use Rattle.hazard_types.specs.contracts.desk.DeskEq.TheImpl.Laws as desk_laws
 use Rattle.hazard_types.specs.contracts.zone.ZoneEq.TheImpl.Laws as zone_laws
 use Rattle.hazard_types.specs.contracts.hazard.HazardEq.TheImpl.Laws as hazard_laws
 use Rattle.hazard_types.specs.contracts.hazard.EventEq.TheImpl.Laws as event_laws
 use Rattle.hazard_types.specs.contracts.period.EndEq.TheImpl.Laws as end_laws
-use Rattle.hazard_types.specs.contracts.period.BeginEq.TheImpl.Laws as begin_laws
-use Rattle.hazard_types.specs.contracts.period.PeriodEq.TheImpl.Laws as period_laws
 use Rattle.hazard_types.specs.contracts.line.FloodEq.TheImpl.Laws as flood_laws
-use Rattle.hazard_types.specs.contracts.line.VtecEq.TheImpl.Laws as vtec_laws
 use Rattle.hazard_types.specs.contracts.line.LineEq.TheImpl.Laws as line_laws
 use Rattle.hazard_types.specs.contracts.line.SegLineEq.TheImpl.Laws as seg_line_laws
-use Rattle.hazard_types.specs.contracts.line.SegmentEq.TheImpl.Laws as segment_laws
 use Rattle.hazard_types.specs.contracts.line.RowEq.TheImpl.Laws as row_laws
-use Rattle.hazard_types.specs.contracts.line.ClashEq.TheImpl.Laws as clash_laws
-use Rattle.hazard_types.specs.contracts.calendar.DayStampEq.TheImpl.Laws as day_stamp_laws
-use Rattle.hazard_types.specs.contracts.request.TextsEq.TheImpl.Laws as texts_laws
 use Rattle.hazard_types.specs.contracts.request.EventTextsEq.TheImpl.Laws as event_texts_laws
-use Rattle.hazard_types.specs.contracts.request.TargetEq.TheImpl.Laws as target_laws
-use Rattle.hazard_types.specs.contracts.request.PutPartEq.TheImpl.Laws as put_part_laws
-use Rattle.hazard_types.specs.contracts.request.EventPartEq.TheImpl.Laws as event_part_laws
-use Rattle.hazard_types.specs.contracts.request.RoutinePartEq.TheImpl.Laws as routine_part_laws
-use Rattle.hazard_types.specs.contracts.request.IntentEq.TheImpl.Laws as intent_laws
 use Rattle.hazard_types.specs.contracts.request.RequestEq.TheImpl.Laws as request_laws
-use Rattle.hazard_types.specs.contracts.request.SentReplyEq.TheImpl.Laws as sent_reply_laws
-use Rattle.hazard_types.specs.contracts.request.ReplyEq.TheImpl.Laws as reply_laws
 use Rattle.hazard_types.specs.contracts.codes.Class as class_type
 use Rattle.hazard_types.specs.contracts.codes.Action as action_type
 use Rattle.hazard_types.specs.contracts.codes.Severity as severity_type
 use Rattle.hazard_types.specs.contracts.codes.Status as status_type
 use Rattle.hazard_types.specs.contracts.codes.Category as category_type
 use Rattle.hazard_types.specs.contracts.codes.Family as family_type
-use Rattle.hazard_types.specs.contracts.codes.LocalZone as local_zone_type
 use Rattle.hazard_types.specs.contracts.hazard.Sig as sig_type
 use Rattle.hazard_types.specs.contracts.zone.Kind as kind_type
-use Rattle.hazard_types.specs.contracts.request.Word as word_type
 use Rattle.hazard_types.specs.declared.period.End.TheVariants as end_is
 use Rattle.hazard_types.specs.declared.period.Begin.TheVariants as begin_is
 use Rattle.hazard_types.specs.declared.request.Target.TheVariants as target_is
-use Rattle.hazard_types.specs.declared.request.Intent.TheVariants as intent_is
 use Rattle.hazard_types.specs.declared.request.Request.TheVariants as request_is
-use Rattle.hazard_types.specs.declared.request.Reply.TheVariants as reply_is
 
 -- what is equal to itself and equal to nothing else
 decided : {X : Type 0} (same : X → X → Bool) → ((x : X) → same x x ≡ true) → ((x y : X) → same x y ≡ true → x ≡ y) → (x y : X) → Decides (same x y) (x ≡ y)
@@ -169,17 +129,11 @@ class_one a b h = same_true class_type.the_type (search rules) a b h
 pub class_itself : (a : Class) → class.eq-value.it a a ≡ true
 class_itself = class_laws.laws-law.refl
 
-pub class_decides : (a b : Class) → Decides (class.eq-value.it a b) (a ≡ b)
-class_decides = decided class.eq-value.it class_itself class_one
-
 pub action_one : (a b : Action) → action.eq-value.it a b ≡ true → a ≡ b
 action_one a b h = same_true action_type.the_type (search rules) a b h
 
 pub action_itself : (a : Action) → action.eq-value.it a a ≡ true
 action_itself = action_laws.laws-law.refl
-
-pub action_decides : (a b : Action) → Decides (action.eq-value.it a b) (a ≡ b)
-action_decides = decided action.eq-value.it action_itself action_one
 
 pub severity_one : (a b : Severity) → severity.eq-value.it a b ≡ true → a ≡ b
 severity_one a b h = same_true severity_type.the_type (search rules) a b h
@@ -187,17 +141,11 @@ severity_one a b h = same_true severity_type.the_type (search rules) a b h
 pub severity_itself : (a : Severity) → severity.eq-value.it a a ≡ true
 severity_itself = severity_laws.laws-law.refl
 
-pub severity_decides : (a b : Severity) → Decides (severity.eq-value.it a b) (a ≡ b)
-severity_decides = decided severity.eq-value.it severity_itself severity_one
-
 pub status_one : (a b : Status) → status.eq-value.it a b ≡ true → a ≡ b
 status_one a b h = same_true status_type.the_type (search rules) a b h
 
 pub status_itself : (a : Status) → status.eq-value.it a a ≡ true
 status_itself = status_laws.laws-law.refl
-
-pub status_decides : (a b : Status) → Decides (status.eq-value.it a b) (a ≡ b)
-status_decides = decided status.eq-value.it status_itself status_one
 
 pub category_one : (a b : Category) → category.eq-value.it a b ≡ true → a ≡ b
 category_one a b h = same_true category_type.the_type (search rules) a b h
@@ -214,26 +162,11 @@ family_one a b h = same_true family_type.the_type (search rules) a b h
 pub family_itself : (a : Family) → family.eq-value.it a a ≡ true
 family_itself = family_laws.laws-law.refl
 
-pub family_decides : (a b : Family) → Decides (family.eq-value.it a b) (a ≡ b)
-family_decides = decided family.eq-value.it family_itself family_one
-
-pub local_zone_one : (a b : LocalZone) → local_zone.eq-value.it a b ≡ true → a ≡ b
-local_zone_one a b h = same_true local_zone_type.the_type (search rules) a b h
-
-pub local_zone_itself : (a : LocalZone) → local_zone.eq-value.it a a ≡ true
-local_zone_itself = local_zone_laws.laws-law.refl
-
-pub local_zone_decides : (a b : LocalZone) → Decides (local_zone.eq-value.it a b) (a ≡ b)
-local_zone_decides = decided local_zone.eq-value.it local_zone_itself local_zone_one
-
 pub sig_one : (a b : Sig) → sig.eq-value.it a b ≡ true → a ≡ b
 sig_one a b h = same_true sig_type.the_type (search rules) a b h
 
 pub sig_itself : (a : Sig) → sig.eq-value.it a a ≡ true
 sig_itself = sig_laws.laws-law.refl
-
-pub sig_decides : (a b : Sig) → Decides (sig.eq-value.it a b) (a ≡ b)
-sig_decides = decided sig.eq-value.it sig_itself sig_one
 
 pub kind_one : (a b : Kind) → kind.eq-value.it a b ≡ true → a ≡ b
 kind_one a b h = same_true kind_type.the_type (search rules) a b h
@@ -244,41 +177,17 @@ kind_itself = kind_laws.laws-law.refl
 pub kind_decides : (a b : Kind) → Decides (kind.eq-value.it a b) (a ≡ b)
 kind_decides = decided kind.eq-value.it kind_itself kind_one
 
-pub word_one : (a b : Word) → word.eq-value.it a b ≡ true → a ≡ b
-word_one a b h = same_true word_type.the_type (search rules) a b h
-
-pub word_itself : (a : Word) → word.eq-value.it a a ≡ true
-word_itself = word_laws.laws-law.refl
-
-pub word_decides : (a b : Word) → Decides (word.eq-value.it a b) (a ≡ b)
-word_decides = decided word.eq-value.it word_itself word_one
-
 pub cause_one : (a b : List ℕ) → cause.eq-value.it a b ≡ true → a ≡ b
 cause_one a b h = bytes_one a b h
 
 pub cause_itself : (a : List ℕ) → cause.eq-value.it a a ≡ true
 cause_itself = cause_laws.laws-law.refl
 
-pub cause_decides : (a b : List ℕ) → Decides (cause.eq-value.it a b) (a ≡ b)
-cause_decides = decided cause.eq-value.it cause_itself cause_one
-
 pub phen_one : (a b : List ℕ) → phen.eq-value.it a b ≡ true → a ≡ b
 phen_one a b h = bytes_one a b h
 
-pub phen_itself : (a : List ℕ) → phen.eq-value.it a a ≡ true
-phen_itself = phen_laws.laws-law.refl
-
-pub phen_decides : (a b : List ℕ) → Decides (phen.eq-value.it a b) (a ≡ b)
-phen_decides = decided phen.eq-value.it phen_itself phen_one
-
 pub minute_one : (a b : ℕ) → minute.eq-value.it a b ≡ true → a ≡ b
 minute_one a b h = number_one a b h
-
-pub minute_itself : (a : ℕ) → minute.eq-value.it a a ≡ true
-minute_itself = minute_laws.laws-law.refl
-
-pub minute_decides : (a b : ℕ) → Decides (minute.eq-value.it a b) (a ≡ b)
-minute_decides = decided minute.eq-value.it minute_itself minute_one
 
 pub desk_one : (a b : List ℕ) → desk.eq-value.it a b ≡ true → a ≡ b
 desk_one a b h =
@@ -309,9 +218,6 @@ zone_itself = zone_laws.laws-law.refl
 pub zone_decides : (a b : Place) → Decides (zone.eq-value.it a b) (a ≡ b)
 zone_decides = decided zone.eq-value.it zone_itself zone_one
 
-pub zones_decide : (xs ys : List Place) → Decides (pointwise zone.eq-value.it xs ys) (xs ≡ ys)
-zones_decide xs ys = slice_eq-Decides zone_decides xs ys _ refl
-
 pub hazard_one : (a b : Hazard) → hazard.eq-value.it a b ≡ true → a ≡ b
 hazard_one a b h =
     let p0 = and_parts (phen.eq-value.it a.phen b.phen) _ h in
@@ -324,9 +230,6 @@ hazard_itself = hazard_laws.laws-law.refl
 
 pub hazard_decides : (a b : Hazard) → Decides (hazard.eq-value.it a b) (a ≡ b)
 hazard_decides = decided hazard.eq-value.it hazard_itself hazard_one
-
-pub hazards_decide : (xs ys : List Hazard) → Decides (pointwise hazard.eq-value.it xs ys) (xs ≡ ys)
-hazards_decide xs ys = slice_eq-Decides hazard_decides xs ys _ refl
 
 pub event_one : (a b : Event) → event.eq-value.it a b ≡ true → a ≡ b
 event_one a b h =
@@ -343,9 +246,6 @@ event_itself = event_laws.laws-law.refl
 pub event_decides : (a b : Event) → Decides (event.eq-value.it a b) (a ≡ b)
 event_decides = decided event.eq-value.it event_itself event_one
 
-pub events_decide : (xs ys : List Event) → Decides (pointwise event.eq-value.it xs ys) (xs ≡ ys)
-events_decide xs ys = slice_eq-Decides event_decides xs ys _ refl
-
 pub end_one : (a b : End) → end.eq-value.it a b ≡ true → a ≡ b
 end_one (end_is.At x) (end_is.At y) h = ap (λ z. end_is.At z) (minute_one x y h)
 end_one end_is.Ufn end_is.Ufn h = refl
@@ -354,19 +254,10 @@ end_one _ _ h = cc
 pub end_itself : (a : End) → end.eq-value.it a a ≡ true
 end_itself = end_laws.laws-law.refl
 
-pub end_decides : (a b : End) → Decides (end.eq-value.it a b) (a ≡ b)
-end_decides = decided end.eq-value.it end_itself end_one
-
 pub begin_one : (a b : Begin) → begin.eq-value.it a b ≡ true → a ≡ b
 begin_one begin_is.Now begin_is.Now h = refl
 begin_one (begin_is.At x) (begin_is.At y) h = ap (λ z. begin_is.At z) (minute_one x y h)
 begin_one _ _ h = cc
-
-pub begin_itself : (a : Begin) → begin.eq-value.it a a ≡ true
-begin_itself = begin_laws.laws-law.refl
-
-pub begin_decides : (a b : Begin) → Decides (begin.eq-value.it a b) (a ≡ b)
-begin_decides = decided begin.eq-value.it begin_itself begin_one
 
 pub period_one : (a b : Period) → period.eq-value.it a b ≡ true → a ≡ b
 period_one a b h =
@@ -374,12 +265,6 @@ period_one a b h =
     let begin_is = minute_one a.begin b.begin p0.0 in
     let end_is = end_one a.end b.end p0.1 in
     λ i. record { begin = begin_is i; end = end_is i }
-
-pub period_itself : (a : Period) → period.eq-value.it a a ≡ true
-period_itself = period_laws.laws-law.refl
-
-pub period_decides : (a b : Period) → Decides (period.eq-value.it a b) (a ≡ b)
-period_decides = decided period.eq-value.it period_itself period_one
 
 pub flood_one : (a b : Flood) → flood.eq-value.it a b ≡ true → a ≡ b
 flood_one a b h =
@@ -404,29 +289,6 @@ flood_itself = flood_laws.laws-law.refl
 pub flood_decides : (a b : Flood) → Decides (flood.eq-value.it a b) (a ≡ b)
 flood_decides = decided flood.eq-value.it flood_itself flood_one
 
-pub vtec_one : (a b : Vtec) → vtec.eq-value.it a b ≡ true → a ≡ b
-vtec_one a b h =
-    let p0 = and_parts (class.eq-value.it a.class b.class) _ h in
-    let p1 = and_parts (action.eq-value.it a.action b.action) _ p0.1 in
-    let p2 = and_parts (bytes_eq a.office b.office) _ p1.1 in
-    let p3 = and_parts (hazard.eq-value.it a.hazard b.hazard) _ p2.1 in
-    let p4 = and_parts (nat_eq a.etn b.etn) _ p3.1 in
-    let p5 = and_parts ((option_eq minute.eq-value.it) a.begin b.begin) _ p4.1 in
-    let class_is = class_one a.class b.class p0.0 in
-    let action_is = action_one a.action b.action p1.0 in
-    let office_is = bytes_one a.office b.office p2.0 in
-    let hazard_is = hazard_one a.hazard b.hazard p3.0 in
-    let etn_is = number_one a.etn b.etn p4.0 in
-    let begin_is = (option_one minute.eq-value.it minute_one) a.begin b.begin p5.0 in
-    let end_is = (option_one minute.eq-value.it minute_one) a.end b.end p5.1 in
-    λ i. record { class = class_is i; action = action_is i; office = office_is i; hazard = hazard_is i; etn = etn_is i; begin = begin_is i; end = end_is i }
-
-pub vtec_itself : (a : Vtec) → vtec.eq-value.it a a ≡ true
-vtec_itself = vtec_laws.laws-law.refl
-
-pub vtec_decides : (a b : Vtec) → Decides (vtec.eq-value.it a b) (a ≡ b)
-vtec_decides = decided vtec.eq-value.it vtec_itself vtec_one
-
 pub line_one : (a b : Line) → line.eq-value.it a b ≡ true → a ≡ b
 line_one a b h =
     let p0 = and_parts (action.eq-value.it a.action b.action) _ h in
@@ -447,9 +309,6 @@ line_itself = line_laws.laws-law.refl
 
 pub line_decides : (a b : Line) → Decides (line.eq-value.it a b) (a ≡ b)
 line_decides = decided line.eq-value.it line_itself line_one
-
-pub lines_decide : (xs ys : List Line) → Decides (pointwise line.eq-value.it xs ys) (xs ≡ ys)
-lines_decide xs ys = slice_eq-Decides line_decides xs ys _ refl
 
 pub seg_line_one : (a b : SegLine) → seg_line.eq-value.it a b ≡ true → a ≡ b
 seg_line_one a b h =
@@ -473,22 +332,6 @@ seg_line_decides = decided seg_line.eq-value.it seg_line_itself seg_line_one
 pub seg_lines_decide : (xs ys : List SegLine) → Decides (pointwise seg_line.eq-value.it xs ys) (xs ≡ ys)
 seg_lines_decide xs ys = slice_eq-Decides seg_line_decides xs ys _ refl
 
-pub segment_one : (a b : Segment) → segment.eq-value.it a b ≡ true → a ≡ b
-segment_one a b h =
-    let p0 = and_parts ((pointwise zone.eq-value.it) a.zones b.zones) _ h in
-    let zones_is = (list_one zone.eq-value.it zone_decides) a.zones b.zones p0.0 in
-    let lines_is = (list_one seg_line.eq-value.it seg_line_decides) a.lines b.lines p0.1 in
-    λ i. record { zones = zones_is i; lines = lines_is i }
-
-pub segment_itself : (a : Segment) → segment.eq-value.it a a ≡ true
-segment_itself = segment_laws.laws-law.refl
-
-pub segment_decides : (a b : Segment) → Decides (segment.eq-value.it a b) (a ≡ b)
-segment_decides = decided segment.eq-value.it segment_itself segment_one
-
-pub segments_decide : (xs ys : List Segment) → Decides (pointwise segment.eq-value.it xs ys) (xs ≡ ys)
-segments_decide xs ys = slice_eq-Decides segment_decides xs ys _ refl
-
 pub row_one : (a b : Row) → row.eq-value.it a b ≡ true → a ≡ b
 row_one a b h =
     let p0 = and_parts (event.eq-value.it a.event b.event) _ h in
@@ -508,39 +351,6 @@ row_itself = row_laws.laws-law.refl
 pub row_decides : (a b : Row) → Decides (row.eq-value.it a b) (a ≡ b)
 row_decides = decided row.eq-value.it row_itself row_one
 
-pub rows_decide : (xs ys : List Row) → Decides (pointwise row.eq-value.it xs ys) (xs ≡ ys)
-rows_decide xs ys = slice_eq-Decides row_decides xs ys _ refl
-
-pub clash_one : (a b : Clash) → clash.eq-value.it a b ≡ true → a ≡ b
-clash_one a b h =
-    let p0 = and_parts (zone.eq-value.it a.zone b.zone) _ h in
-    let p1 = and_parts (event.eq-value.it a.first b.first) _ p0.1 in
-    let zone_is = zone_one a.zone b.zone p0.0 in
-    let first_is = event_one a.first b.first p1.0 in
-    let second_is = event_one a.second b.second p1.1 in
-    λ i. record { zone = zone_is i; first = first_is i; second = second_is i }
-
-pub clash_itself : (a : Clash) → clash.eq-value.it a a ≡ true
-clash_itself = clash_laws.laws-law.refl
-
-pub clash_decides : (a b : Clash) → Decides (clash.eq-value.it a b) (a ≡ b)
-clash_decides = decided clash.eq-value.it clash_itself clash_one
-
-pub day_stamp_one : (a b : DayStamp) → day_stamp.eq-value.it a b ≡ true → a ≡ b
-day_stamp_one a b h =
-    let p0 = and_parts (nat_eq a.day b.day) _ h in
-    let p1 = and_parts (nat_eq a.hour b.hour) _ p0.1 in
-    let day_is = number_one a.day b.day p0.0 in
-    let hour_is = number_one a.hour b.hour p1.0 in
-    let minute_is = number_one a.minute b.minute p1.1 in
-    λ i. record { day = day_is i; hour = hour_is i; minute = minute_is i }
-
-pub day_stamp_itself : (a : DayStamp) → day_stamp.eq-value.it a a ≡ true
-day_stamp_itself = day_stamp_laws.laws-law.refl
-
-pub day_stamp_decides : (a b : DayStamp) → Decides (day_stamp.eq-value.it a b) (a ≡ b)
-day_stamp_decides = decided day_stamp.eq-value.it day_stamp_itself day_stamp_one
-
 pub texts_one : (a b : Texts) → texts.eq-value.it a b ≡ true → a ≡ b
 texts_one a b h =
     let p0 = and_parts ((pointwise nat_eq) a.what b.what) _ h in
@@ -551,12 +361,6 @@ texts_one a b h =
     let impacts_is = (list_one nat_eq nat_decides) a.impacts b.impacts p2.0 in
     let details_is = (list_one nat_eq nat_decides) a.details b.details p2.1 in
     λ i. record { what = what_is i; area = area_is i; impacts = impacts_is i; details = details_is i }
-
-pub texts_itself : (a : Texts) → texts.eq-value.it a a ≡ true
-texts_itself = texts_laws.laws-law.refl
-
-pub texts_decides : (a b : Texts) → Decides (texts.eq-value.it a b) (a ≡ b)
-texts_decides = decided texts.eq-value.it texts_itself texts_one
 
 pub event_texts_one : (a b : EventTexts) → event_texts.eq-value.it a b ≡ true → a ≡ b
 event_texts_one a b h =
@@ -571,19 +375,10 @@ event_texts_itself = event_texts_laws.laws-law.refl
 pub event_texts_decides : (a b : EventTexts) → Decides (event_texts.eq-value.it a b) (a ≡ b)
 event_texts_decides = decided event_texts.eq-value.it event_texts_itself event_texts_one
 
-pub texts_decide : (xs ys : List EventTexts) → Decides (pointwise event_texts.eq-value.it xs ys) (xs ≡ ys)
-texts_decide xs ys = slice_eq-Decides event_texts_decides xs ys _ refl
-
 pub target_one : (a b : Target) → target.eq-value.it a b ≡ true → a ≡ b
 target_one (target_is.Fresh x) (target_is.Fresh y) h = ap (λ z. target_is.Fresh z) (hazard_one x y h)
 target_one (target_is.Join x) (target_is.Join y) h = ap (λ z. target_is.Join z) (event_one x y h)
 target_one _ _ h = cc
-
-pub target_itself : (a : Target) → target.eq-value.it a a ≡ true
-target_itself = target_laws.laws-law.refl
-
-pub target_decides : (a b : Target) → Decides (target.eq-value.it a b) (a ≡ b)
-target_decides = decided target.eq-value.it target_itself target_one
 
 pub put_part_one : (a b : PutPart) → put_part.eq-value.it a b ≡ true → a ≡ b
 put_part_one a b h =
@@ -600,12 +395,6 @@ put_part_one a b h =
     let texts_is = texts_one a.texts b.texts p4.1 in
     λ i. record { target = target_is i; zones = zones_is i; begin = begin_is i; end = end_is i; flood = flood_is i; texts = texts_is i }
 
-pub put_part_itself : (a : PutPart) → put_part.eq-value.it a a ≡ true
-put_part_itself = put_part_laws.laws-law.refl
-
-pub put_part_decides : (a b : PutPart) → Decides (put_part.eq-value.it a b) (a ≡ b)
-put_part_decides = decided put_part.eq-value.it put_part_itself put_part_one
-
 pub event_part_one : (a b : EventPart) → event_part.eq-value.it a b ≡ true → a ≡ b
 event_part_one a b h =
     let p0 = and_parts (event.eq-value.it a.event b.event) _ h in
@@ -615,12 +404,6 @@ event_part_one a b h =
     let texts_is = texts_one a.texts b.texts p1.1 in
     λ i. record { event = event_is i; zones = zones_is i; texts = texts_is i }
 
-pub event_part_itself : (a : EventPart) → event_part.eq-value.it a a ≡ true
-event_part_itself = event_part_laws.laws-law.refl
-
-pub event_part_decides : (a b : EventPart) → Decides (event_part.eq-value.it a b) (a ≡ b)
-event_part_decides = decided event_part.eq-value.it event_part_itself event_part_one
-
 pub routine_part_one : (a b : RoutinePart) → routine_part.eq-value.it a b ≡ true → a ≡ b
 routine_part_one a b h =
     let p0 = and_parts (hazard.eq-value.it a.hazard b.hazard) _ h in
@@ -629,28 +412,6 @@ routine_part_one a b h =
     let zones_is = (list_one zone.eq-value.it zone_decides) a.zones b.zones p1.0 in
     let texts_is = texts_one a.texts b.texts p1.1 in
     λ i. record { hazard = hazard_is i; zones = zones_is i; texts = texts_is i }
-
-pub routine_part_itself : (a : RoutinePart) → routine_part.eq-value.it a a ≡ true
-routine_part_itself = routine_part_laws.laws-law.refl
-
-pub routine_part_decides : (a b : RoutinePart) → Decides (routine_part.eq-value.it a b) (a ≡ b)
-routine_part_decides = decided routine_part.eq-value.it routine_part_itself routine_part_one
-
-pub intent_one : (a b : Intent) → intent.eq-value.it a b ≡ true → a ≡ b
-intent_one (intent_is.Put x) (intent_is.Put y) h = ap (λ z. intent_is.Put z) (put_part_one x y h)
-intent_one (intent_is.Finish x) (intent_is.Finish y) h = ap (λ z. intent_is.Finish z) (event_part_one x y h)
-intent_one (intent_is.Restate x) (intent_is.Restate y) h = ap (λ z. intent_is.Restate z) (event_part_one x y h)
-intent_one (intent_is.Routine x) (intent_is.Routine y) h = ap (λ z. intent_is.Routine z) (routine_part_one x y h)
-intent_one _ _ h = cc
-
-pub intent_itself : (a : Intent) → intent.eq-value.it a a ≡ true
-intent_itself = intent_laws.laws-law.refl
-
-pub intent_decides : (a b : Intent) → Decides (intent.eq-value.it a b) (a ≡ b)
-intent_decides = decided intent.eq-value.it intent_itself intent_one
-
-pub intents_decide : (xs ys : List Intent) → Decides (pointwise intent.eq-value.it xs ys) (xs ≡ ys)
-intents_decide xs ys = slice_eq-Decides intent_decides xs ys _ refl
 
 pub request_one : (a b : Request) → request.eq-value.it a b ≡ true → a ≡ b
 request_one (request_is.Issue x) (request_is.Issue y) h = ap (λ z. request_is.Issue z) (put_part_one x y h)
@@ -695,41 +456,3 @@ request_itself = request_laws.laws-law.refl
 
 pub request_decides : (a b : Request) → Decides (request.eq-value.it a b) (a ≡ b)
 request_decides = decided request.eq-value.it request_itself request_one
-
-pub requests_decide : (xs ys : List Request) → Decides (pointwise request.eq-value.it xs ys) (xs ≡ ys)
-requests_decide xs ys = slice_eq-Decides request_decides xs ys _ refl
-
-pub sent_reply_one : (a b : SentReply) → sent_reply.eq-value.it a b ≡ true → a ≡ b
-sent_reply_one a b h =
-    let p0 = and_parts (nat_eq a.product b.product) _ h in
-    let p1 = and_parts (minute.eq-value.it a.time b.time) _ p0.1 in
-    let product_is = number_one a.product b.product p0.0 in
-    let time_is = minute_one a.time b.time p1.0 in
-    let events_is = (list_one event.eq-value.it event_decides) a.events b.events p1.1 in
-    λ i. record { product = product_is i; time = time_is i; events = events_is i }
-
-pub sent_reply_itself : (a : SentReply) → sent_reply.eq-value.it a a ≡ true
-sent_reply_itself = sent_reply_laws.laws-law.refl
-
-pub sent_reply_decides : (a b : SentReply) → Decides (sent_reply.eq-value.it a b) (a ≡ b)
-sent_reply_decides = decided sent_reply.eq-value.it sent_reply_itself sent_reply_one
-
-pub reply_one : (a b : Reply) → reply.eq-value.it a b ≡ true → a ≡ b
-reply_one (reply_is.Draft x p) (reply_is.Draft y q) h =
-    let both = and_parts (word.eq-value.it x y) _ h in
-    let first = word_one x y both.0 in
-    let second = number_one p q both.1 in
-    λ i. reply_is.Draft (first i) (second i)
-reply_one (reply_is.Placed x p) (reply_is.Placed y q) h =
-    let both = and_parts (nat_eq x y) _ h in
-    let first = number_one x y both.0 in
-    let second = number_one p q both.1 in
-    λ i. reply_is.Placed (first i) (second i)
-reply_one (reply_is.Sent x) (reply_is.Sent y) h = ap (λ z. reply_is.Sent z) (sent_reply_one x y h)
-reply_one _ _ h = cc
-
-pub reply_itself : (a : Reply) → reply.eq-value.it a a ≡ true
-reply_itself = reply_laws.laws-law.refl
-
-pub reply_decides : (a b : Reply) → Decides (reply.eq-value.it a b) (a ≡ b)
-reply_decides = decided reply.eq-value.it reply_itself reply_one

@@ -2,7 +2,7 @@
 use crate::minute::Minute;
 
 /// When a forecaster wants an event to begin.
-#[derive(Clone, Copy, Debug, PartialEq, Eq, Hash)]
+#[derive(Clone, Copy, Debug, PartialEq, Eq)]
 pub enum Begin {
     /// At the minute at which the product is sent.
     Now,
@@ -18,7 +18,7 @@ pub enum End {
 }
 
 /// From a minute up to an end.
-#[derive(Clone, Copy, Debug, PartialEq, Eq, Hash)]
+#[derive(Clone, Copy, Debug, PartialEq, Eq)]
 pub struct Period {
     pub begin: Minute,
     pub end: End,

@@ -88,7 +88,7 @@ pub enum Request {
 }
 
 /// What became of a draft.
-#[derive(Clone, Copy, Debug, PartialEq, Eq, Hash)]
+#[derive(Clone, Copy, Debug, PartialEq, Eq)]
 pub enum Word {
     Begun,
     Dropped,
