@@ -5,8 +5,9 @@ usage: python3 bench/functions.py CRATE [FLAG..]    as in `python3 bench/functio
 
 The libraries below the crate are taken as `rt check` left them. A row is the seconds of a processor
 since the row before, all of them so far, and the function that was ended then: the first one bears
-what it takes to read the sources, and each the parts of `std` that no one before it needed. Rows
-above a second alone. Linux, and beside other work up to twice what it takes alone.
+what it takes to read the sources, and each the parts of `std` that no one before it needed, and
+what is begun of the functions that call it. So try a dear row again by `--only`. Rows above a
+second alone. Linux, and beside other work up to twice what it takes alone.
 """
 import os
 import shutil
@@ -26,12 +27,30 @@ def crate_named(name):
     raise SystemExit("no crate " + name)
 
 
-def seconds_of(pid):
-    """What a process and those that it has waited for have used."""
-    with open("/proc/%d/stat" % pid) as file:
-        text = file.read()
-    fields = text[text.rindex(")") + 2:].split()
-    return sum(map(int, fields[11:15])) / TICKS
+def processes():
+    """Each process: its parent, and what it and those that it has waited for have used."""
+    found = {}
+    for entry in filter(str.isdigit, os.listdir("/proc")):
+        try:
+            with open("/proc/%s/stat" % entry) as file:
+                text = file.read()
+        except OSError:
+            continue
+        fields = text[text.rindex(")") + 2:].split()
+        found[int(entry)] = int(fields[1]), sum(map(int, fields[11:15])) / TICKS
+    return found
+
+
+def seconds_of(root):
+    """What a process and all below it have used. The checker works in copies of itself, and one
+    that is still at work counts too."""
+    found = processes()
+    family, grows = {root}, True
+    while grows:
+        below = {pid for pid, (parent, _) in found.items() if parent in family} - family
+        family |= below
+        grows = bool(below)
+    return sum(found[pid][1] for pid in family if pid in found)
 
 
 def main():
