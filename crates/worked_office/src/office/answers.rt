@@ -1,9 +1,11 @@
 //! What an office answers, as text.
+ghost use Rattle.std.specs.Prelude.{IfOk};
 ghost use Rattle.request_json.specs.Formed.{HasForm};
+ghost use Rattle.office_core.specs.Prepared.{MayCommit};
 
 use hazard_types::{Edition, List, Oom, Or, Query, Refusal, Text};
-use office_core::{Office, Ready};
-use request_json::{Asked, draft_text, read_request, refusal_text, reply_text};
+use office_core::{Office, Prepared, Ready};
+use request_json::{Asked, read_request, refusal_text, reply_text};
 use std::alloc::Global;
 
 /// A text with LF behind it.
@@ -28,6 +30,15 @@ fn kept_answer(alloc: Global, office: &Office, asked: &Asked) -> Result<Text, Oo
     }
 }
 
+/// Commits what was accepted, and gives its reply.
+fn committed(alloc: Global, office: &mut Office, prepared: Prepared) -> Result<Text, Oom>
+    requires { MayCommit office.old prepared }
+{
+    let text = line_of(reply_text(alloc, prepared.reply())?)?;
+    office.commit(prepared);
+    Ok(text)
+}
+
 /// Hands a request to the office, and commits it where it is accepted.
 fn submit(alloc: Global, office: &mut Office, asked: &Asked, reading: i64) -> Result<Text, Oom>
     requires { HasForm asked.now }
@@ -40,13 +51,16 @@ fn submit(alloc: Global, office: &mut Office, asked: &Asked, reading: i64) -> Re
         Err(stop) => return refused(alloc, stop),
     };
     match ready {
-        Ready::New(prepared) => {
-            let text = line_of(reply_text(alloc, prepared.reply())?)?;
-            office.commit(prepared);
-            Ok(text)
-        }
+        Ready::New(prepared) => committed(alloc, office, prepared),
         Ready::Again => kept_answer(alloc, office, asked),
     }
+}
+
+/// The request of a text.
+fn request_in(alloc: Global, text: &str) -> Result<Asked, Or<Refusal>>
+    ensures { IfOk result HasForm }
+{
+    read_request(alloc, text.as_bytes())
 }
 
 /// The reply to a request as JSON, or the refusal.
@@ -56,7 +70,7 @@ pub fn request_answer(
     text: &str,
     reading: i64,
 ) -> Result<Text, Oom> {
-    match read_request(alloc, text.as_bytes()) {
+    match request_in(alloc, text) {
         Ok(asked) => submit(alloc, office, &asked, reading),
         Err(stop) => refused(alloc, stop),
     }
@@ -73,13 +87,19 @@ pub fn turn_answer(alloc: Global, office: &mut Office, edition: Edition) -> Resu
     }
 }
 
+/// What the office shows.
+fn shown(alloc: Global, office: &Office, q: &Query, reading: i64) -> Result<Text, Or<Refusal>> {
+    office.look(alloc, q, reading)
+}
+
 /// What is looked at. A draft is a line, and all else as it is.
 pub fn look_answer(alloc: Global, office: &Office, q: &Query, reading: i64) -> Result<Text, Oom> {
-    match office.look(alloc, q, reading) {
-        Ok(text) => match q {
-            Query::Draft(_id) => line_of(text),
-            Query::Board | Query::Product(_) | Query::After(_) | Query::Preview(_) => Ok(text),
-        },
-        Err(stop) => refused(alloc, stop),
+    let text = match shown(alloc, office, q, reading) {
+        Ok(text) => text,
+        Err(stop) => return refused(alloc, stop),
+    };
+    match q {
+        Query::Draft(_id) => line_of(text),
+        _ => Ok(text),
     }
 }

@@ -1,11 +1,14 @@
 //! The script of an office's days: each line's step is worked, and answered by text.
+ghost use Rattle.std.specs.Prelude.{IfOk, IfSome};
+ghost use Rattle.desk_settings.specs.AreSettings.{AreSettings};
+
 use crate::office::answers::{look_answer, request_answer, turn_answer};
 use crate::office::steps::{Step, step_of};
-use desk_settings::read_settings;
+use desk_settings::{Settings, read_settings};
 use hazard_types::{Class, Edition, List, Minute, Oom, Or, Query, Text, stamp};
 use office_core::Office;
 use std::alloc::Global;
-use worked_lines::{Work, text_of};
+use worked_lines::{Work, shown, text_of};
 
 /// The minutes from one issue of a fill to the next.
 const APART: i64 = 11;
@@ -44,6 +47,26 @@ fn issue_until(alloc: Global, seq: u32, end: Minute) -> Result<String, Oom> {
     )?)
 }
 
+/// The settings of a text, if it has some.
+fn settings_of(alloc: Global, text: &[u8]) -> Result<Option<Settings>, Oom>
+    ensures { IfOk result (λ found. IfSome found AreSettings) }
+{
+    match read_settings(alloc, text) {
+        Ok(settings) => Ok(Some(settings)),
+        Err(Or::No(_fault)) => Ok(None),
+        Err(Or::OutOfMemory) => Err(Oom),
+    }
+}
+
+/// A new office with the settings of a text, if it has some.
+fn office_of(alloc: Global, text: &[u8], edition: Edition) -> Result<Option<Office>, Oom> {
+    let Some(settings) = settings_of(alloc, text)? else {
+        return Ok(None);
+    };
+    let office = Office::new(alloc, settings, Class::O, edition)?;
+    Ok(Some(office))
+}
+
 impl Script {
     pub fn new(alloc: Global) -> Self {
         Script {
@@ -67,15 +90,11 @@ impl Script {
 
     fn open(&mut self, alloc: Global, edition: Edition) -> Result<Text, Oom> {
         self.used = true;
-        match read_settings(alloc, self.settings.as_bytes()) {
-            Ok(settings) => {
-                let office = Office::new(alloc, settings, Class::O, edition)?;
-                self.office = Some(office);
-                note(alloc, b"open\n")
-            }
-            Err(Or::No(_fault)) => note(alloc, b"no settings\n"),
-            Err(Or::OutOfMemory) => Err(Oom),
-        }
+        let Some(office) = office_of(alloc, self.settings.as_bytes(), edition)? else {
+            return note(alloc, b"no settings\n");
+        };
+        self.office = Some(office);
+        note(alloc, b"open\n")
     }
 
     fn turn(&mut self, alloc: Global, edition: Edition) -> Result<Text, Oom> {
@@ -145,6 +164,6 @@ impl Work for Script {
     /// What a line is answered.
     fn work(&mut self, alloc: Global, line: &str) -> Result<String, Oom> {
         let text = self.step(alloc, &step_of(line), line)?;
-        Ok(String::from_utf8_lossy(alloc, text.as_slice())?)
+        shown(alloc, text.as_slice())
     }
 }

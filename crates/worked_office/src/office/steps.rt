@@ -2,7 +2,7 @@
 use hazard_types::{Edition, Query, read_stamp};
 
 /// A step of a script.
-#[derive(Clone, Copy, Debug)]
+#[derive(Clone, Copy)]
 pub enum Step<'a> {
     /// A line that is answered by itself.
     Remark,

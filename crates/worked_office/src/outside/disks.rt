@@ -1,10 +1,11 @@
 //! Disks.
-ghost use Rattle.std.specs.Prelude.{◌≡◌};
+ghost use Rattle.std.specs.Prelude.{◌+◌};
+ghost use Rattle.desk_traits.specs.File.{IsWithin};
 
 use crate::outside::told::Told;
 use crate::outside::words::{add, add_bytes, add_part, bytes_of};
 use desk_traits::{Disk, DiskCall, Failed, MemDisk, SureDisk, write_synced};
-use hazard_types::{Oom, Text};
+use hazard_types::{List, Oom, Text};
 use std::alloc::Global;
 
 /// A call of a disk.
@@ -59,48 +60,71 @@ fn add_done(answer: &mut String, done: Result<(), Failed>) -> Result<(), Oom> {
     }
 }
 
-fn add_len(alloc: Global, answer: &mut String, len: Result<u64, Failed>) -> Result<(), Oom> {
-    match len {
+fn tell_len<D: Disk>(alloc: Global, disk: &mut D, answer: &mut String) -> Result<(), Oom> {
+    match disk.len() {
         Ok(len) => add(answer, format!(in alloc; "{len}")?.as_str()),
         Err(_) => add(answer, "failed"),
     }
 }
 
-fn add_read(answer: &mut String, done: Result<(), Failed>, buffer: &[u8]) -> Result<(), Oom> {
-    match done {
+fn tell_sync<D: Disk>(disk: &mut D, answer: &mut String) -> Result<(), Oom> {
+    add_done(answer, disk.sync())
+}
+
+fn tell_read<D: Disk>(
+    alloc: Global,
+    disk: &mut D,
+    at: u64,
+    count: u16,
+    answer: &mut String,
+) -> Result<(), Oom>
+    requires { IsWithin (at + count) (D.seen disk.old) }
+{
+    let mut buffer = vec![in alloc; b'-'; count as usize]?;
+    match disk.read_at(at, &mut buffer) {
         Ok(()) => {
             add(answer, "read ")?;
-            add_bytes(answer, buffer)
+            add_bytes(answer, &buffer)
         }
         Err(_) => add(answer, "failed"),
     }
+}
+
+fn tell_write<D: Disk>(disk: &mut D, at: u64, bytes: &Text, answer: &mut String) -> Result<(), Oom>
+    requires { IsWithin at (D.seen disk.old) }
+{
+    add_done(answer, disk.write_at(at, bytes.as_slice()))
+}
+
+fn tell_put<D: Disk>(disk: &mut D, at: u64, bytes: &Text, answer: &mut String) -> Result<(), Oom>
+    requires { IsWithin at (D.seen disk.old) }
+{
+    add_done(answer, write_synced(disk, at, bytes.as_slice()))
 }
 
 /// Makes a call of a disk in memory. One that its file has no room for is not made.
 fn make(alloc: Global, disk: &mut MemDisk, call: &Call, answer: &mut String) -> Result<(), Oom> {
     let len = disk.file().len() as u64;
     match call {
-        Call::Len => add_len(alloc, answer, disk.len()),
-        Call::Sync => add_done(answer, disk.sync()),
+        Call::Len => tell_len(alloc, disk, answer),
+        Call::Sync => tell_sync(disk, answer),
         Call::Read { at, count } => {
             if len < u64::from(*count) || len - u64::from(*count) < *at {
                 return add(answer, "outside");
             }
-            let mut buffer = vec![in alloc; 0; *count as usize]?;
-            let done = disk.read_at(*at, &mut buffer);
-            add_read(answer, done, &buffer)
+            tell_read(alloc, disk, *at, *count, answer)
         }
         Call::Write { at, bytes } => {
             if len < *at {
                 return add(answer, "outside");
             }
-            add_done(answer, disk.write_at(*at, bytes.as_slice()))
+            tell_write(disk, *at, bytes, answer)
         }
         Call::Put { at, bytes } => {
             if len < *at {
                 return add(answer, "outside");
             }
-            add_done(answer, write_synced(disk, *at, bytes.as_slice()))
+            tell_put(disk, *at, bytes, answer)
         }
     }
 }
@@ -113,15 +137,11 @@ fn make_sure(
     answer: &mut String,
 ) -> Result<(), Oom> {
     match call {
-        Call::Len => add_len(alloc, answer, disk.len()),
-        Call::Sync => add_done(answer, disk.sync()),
-        Call::Read { at, count } => {
-            let mut buffer = vec![in alloc; b'-'; *count as usize]?;
-            let done = disk.read_at(*at, &mut buffer);
-            add_read(answer, done, &buffer)
-        }
-        Call::Write { at, bytes } => add_done(answer, disk.write_at(*at, bytes.as_slice())),
-        Call::Put { at, bytes } => add_done(answer, write_synced(disk, *at, bytes.as_slice())),
+        Call::Len => tell_len(alloc, disk, answer),
+        Call::Sync => tell_sync(disk, answer),
+        Call::Read { at, count } => tell_read(alloc, disk, *at, *count, answer),
+        Call::Write { at, bytes } => tell_write(disk, *at, bytes, answer),
+        Call::Put { at, bytes } => tell_put(disk, *at, bytes, answer),
     }
 }
 
@@ -145,6 +165,31 @@ pub fn disk_of(alloc: Global, told: &Told) -> Result<MemDisk, Oom> {
     MemDisk::new(alloc, bytes, &told.failing, told.stop, told.pick)
 }
 
+/// A disk in memory with this file, which does not fail.
+pub fn disk_with(alloc: Global, file: &[u8]) -> Result<MemDisk, Oom> {
+    let none = List::new(alloc);
+    MemDisk::new(alloc, file, &none, None, 0)
+}
+
+/// What a crash leaves of a disk.
+pub fn left_by(disk: MemDisk) -> Result<Text, Oom> {
+    disk.crashed()
+}
+
+/// Adds the calls that a disk noted, the failed ones small.
+fn add_noted(answer: &mut String, disk: &MemDisk) -> Result<(), Oom> {
+    answer.push_str("; calls ")?;
+    for call in disk.calls() {
+        answer.push_str(noted(call))?;
+    }
+    Ok(())
+}
+
+/// Adds a disk's file.
+pub fn add_file(answer: &mut String, disk: &MemDisk) -> Result<(), Oom> {
+    add_part(answer, "file", disk.file().as_slice())
+}
+
 /// Calls of a disk; then the calls that it noted, the failed ones small, its file, and what a crash
 /// leaves.
 pub fn disk_row(alloc: Global, told: &Told, calls: &str) -> Result<String, Oom> {
@@ -156,12 +201,9 @@ pub fn disk_row(alloc: Global, told: &Told, calls: &str) -> Result<String, Oom> 
             None => add(&mut answer, "unread")?,
         }
     }
-    answer.push_str("; calls ")?;
-    for call in disk.calls() {
-        answer.push_str(noted(call))?;
-    }
-    add_part(&mut answer, "file", disk.file().as_slice())?;
-    let left = disk.crashed()?;
+    add_noted(&mut answer, &disk)?;
+    add_file(&mut answer, &disk)?;
+    let left = left_by(disk)?;
     add_part(&mut answer, "left", left.as_slice())?;
     Ok(answer)
 }

@@ -1,8 +1,8 @@
 //! Journals.
-use crate::outside::disks::disk_of;
+use crate::outside::disks::{add_file, disk_of, disk_with, left_by};
 use crate::outside::told::Told;
-use crate::outside::words::{add, add_part, bytes_of};
-use desk_traits::MemDisk;
+use crate::outside::words::{add, bytes_of, unread};
+use desk_traits::{Disk, MemDisk};
 use hazard_types::{List, Oom};
 use journal_core::{AdoptFault, AppendFault, CreateFault, Journal, Packet};
 use std::alloc::Global;
@@ -15,7 +15,7 @@ fn packet_of(alloc: Global, word: &str) -> Result<Option<Packet>, Oom> {
     }
 }
 
-fn added(journal: &mut Journal<MemDisk>, body: &Packet) -> &'static str {
+fn added<D: Disk>(journal: &mut Journal<D>, body: &Packet) -> &'static str {
     match journal.append(body) {
         Ok(()) => "ok",
         Err(AppendFault::Full) => "full",
@@ -23,17 +23,28 @@ fn added(journal: &mut Journal<MemDisk>, body: &Packet) -> &'static str {
     }
 }
 
+/// How many bodies a disk's journal has, or why it has none.
+fn adopted<D: Disk + Drop>(alloc: Global, disk: D) -> Result<usize, AdoptFault> {
+    match Journal::adopt(alloc, disk) {
+        Ok((_journal, bodies)) => Ok(bodies.len()),
+        Err((_disk, fault)) => Err(fault),
+    }
+}
+
+/// A journal that is made with this body; where it is not, the disk and why.
+fn created<D: Disk>(disk: D, body: &Packet) -> Result<Journal<D>, (D, CreateFault)> {
+    Journal::create(disk, body)
+}
+
+/// The disk of a journal.
+fn disk_under<D: Disk>(journal: Journal<D>) -> D {
+    journal.into_disk()
+}
+
 /// How many bodies a file has, or why it is no journal.
 fn bodies_in(alloc: Global, file: &[u8]) -> Result<Result<usize, AdoptFault>, Oom> {
-    let none = List::new(alloc);
-    let disk = MemDisk::new(alloc, file, &none, None, 0)?;
-    match Journal::adopt(alloc, disk) {
-        Ok((journal, bodies)) => {
-            let _ = journal.into_disk();
-            Ok(Ok(bodies.len()))
-        }
-        Err((_, fault)) => Ok(Err(fault)),
-    }
+    let disk = disk_with(alloc, file)?;
+    Ok(adopted(alloc, disk))
 }
 
 /// The same in words.
@@ -63,7 +74,29 @@ fn appended(
             None => add(answer, "unread")?,
         }
     }
-    Ok(journal.into_disk())
+    Ok(disk_under(journal))
+}
+
+/// Makes a journal of a body on a disk, and adds others; gives the disk.
+fn journal_over(
+    alloc: Global,
+    disk: MemDisk,
+    body: &Packet,
+    words: &str,
+    answer: &mut String,
+) -> Result<MemDisk, Oom> {
+    let (disk, fault) = match created(disk, body) {
+        Ok(journal) => {
+            add(answer, "made")?;
+            return appended(alloc, journal, words, answer);
+        }
+        Err(refused) => refused,
+    };
+    match fault {
+        CreateFault::NotFresh => add(answer, "not fresh")?,
+        CreateFault::DiskFault => add(answer, "not made")?,
+    }
+    Ok(disk)
 }
 
 /// Makes a journal of the first word on a disk, and adds the others; then the file, and what a crash
@@ -73,25 +106,12 @@ pub fn journal_row(alloc: Global, told: &Told, words: &str) -> Result<String, Oo
     let words = words.trim();
     let (first, rest) = words.split_once(' ').unwrap_or((words, ""));
     let Some(settings) = packet_of(alloc, first)? else {
-        return Ok(String::from_str(alloc, "unread")?);
+        return unread(alloc);
     };
-    let disk = match Journal::create(disk_of(alloc, told)?, &settings) {
-        Ok(journal) => {
-            add(&mut answer, "made")?;
-            appended(alloc, journal, rest, &mut answer)?
-        }
-        Err((disk, CreateFault::NotFresh)) => {
-            add(&mut answer, "not fresh")?;
-            disk
-        }
-        Err((disk, CreateFault::DiskFault)) => {
-            add(&mut answer, "not made")?;
-            disk
-        }
-    };
-    add_part(&mut answer, "file", disk.file().as_slice())?;
+    let disk = journal_over(alloc, disk_of(alloc, told)?, &settings, rest, &mut answer)?;
+    add_file(&mut answer, &disk)?;
     answer.push_str("; left ")?;
-    let left = disk.crashed()?;
+    let left = left_by(disk)?;
     add_opened(alloc, left.as_slice(), &mut answer)?;
     Ok(answer)
 }
@@ -103,17 +123,23 @@ pub fn opened_row(alloc: Global, told: &Told) -> Result<String, Oom> {
     Ok(answer)
 }
 
-/// The same of a file of one body of so many bytes `x`.
-pub fn long_row(alloc: Global, told: &Told) -> Result<String, Oom> {
-    let mut answer = String::new(alloc);
-    let Ok(count) = u32::try_from(told.pick) else {
-        return Ok(answer);
-    };
+/// A file of one body of so many bytes `x`.
+fn long_file(alloc: Global, count: u32) -> Result<Vec<u8>, Oom> {
     let mut file = Vec::new(alloc);
     file.push(b'G')?;
     file.extend_from_slice(&count.to_be_bytes())?;
     file.resize(count as usize + 5, b'x')?;
     file.push(b'.')?;
+    Ok(file)
+}
+
+/// The same of such a file.
+pub fn long_row(alloc: Global, told: &Told) -> Result<String, Oom> {
+    let mut answer = String::new(alloc);
+    let Ok(count) = u32::try_from(told.pick) else {
+        return Ok(answer);
+    };
+    let file = long_file(alloc, count)?;
     add_opened(alloc, &file, &mut answer)?;
     Ok(answer)
 }

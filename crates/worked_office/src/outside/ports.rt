@@ -2,7 +2,7 @@
 ghost use Rattle.std.specs.Prelude.{◌≡◌, ◌≤◌, ◌<◌, ◌+◌, ◌^◌, [], All, length, IfOk, IfSome, OnOk};
 ghost use Rattle.desk_links.specs.LinkMemory.{IsUntouched, IsIdle, all_links};
 
-use crate::outside::words::{add, add_bytes, bytes_of, numbers_of};
+use crate::outside::words::{add, add_bytes, bytes_of, numbers_of, unread};
 use byte_streams::write_whole;
 use desk_links::{Dialer, Door, Link, MemDialer, MemDoor, MemLink, MemPort, Port};
 use hazard_types::{List, Oom};
@@ -120,18 +120,46 @@ fn add_back(answer: &mut String, port: &MemPort) -> Result<(), Oom> {
     Ok(())
 }
 
+/// A port of these lists of links, whose doors fail so.
+fn port_of(alloc: Global, lists: &str, failing: &str) -> Result<MemPort, Oom>
+    ensures { IfOk result (λ port. port.back ≡ []) }
+{
+    let failing = failing_of(alloc, failing)?;
+    MemPort::new(alloc, lists_of(alloc, lists)?, &failing)
+}
+
+/// So many doors of a port, if it gives them.
+fn doors_of(port: &mut MemPort, count: u8) -> Option<List<MemDoor>>
+    ensures idle { IfSome result (All IsIdle) }
+    ensures few { IfSome result (λ doors. length doors ≤ 255) }
+    ensures back { port.new.back ≡ port.old.back }
+{
+    port.listen(8080, count as usize).ok()
+}
+
+/// So many visits of so many doors of a port.
+fn visit_port(port: &mut MemPort, doors: u8, visits: u8, answer: &mut String) -> Result<(), Oom>
+    requires new { port.old.back ≡ [] }
+{
+    match doors_of(port, doors) {
+        Some(doors) => visit_doors(port, doors, visits, answer),
+        None => Ok(()),
+    }
+}
+
 /// Visits of a port's doors: `port LINKS FAILING DOORS : VISITS`.
 pub fn port_row(alloc: Global, words: &str, visits: &str) -> Result<String, Oom> {
     let mut answer = String::new(alloc);
     let (lists, rest) = words.split_once(' ').unwrap_or((words, ""));
     let (failing, doors) = rest.split_once(' ').unwrap_or((rest, ""));
-    let (Ok(doors), Ok(visits)) = (doors.parse::<u8>(), visits.trim().parse::<u8>()) else {
-        return Ok(String::from_str(alloc, "unread")?);
+    let Ok(doors) = doors.parse::<u8>() else {
+        return unread(alloc);
     };
-    let mut port = MemPort::new(alloc, lists_of(alloc, lists)?, &failing_of(alloc, failing)?)?;
-    if let Ok(doors) = port.listen(8080, doors as usize) {
-        visit_doors(&mut port, doors, visits, &mut answer)?;
-    }
+    let Ok(visits) = visits.trim().parse::<u8>() else {
+        return unread(alloc);
+    };
+    let mut port = port_of(alloc, lists, failing)?;
+    visit_port(&mut port, doors, visits, &mut answer)?;
     add_back(&mut answer, &port)?;
     Ok(answer)
 }
@@ -162,20 +190,35 @@ fn dial_all(dialer: &mut MemDialer, dials: u8, answer: &mut String) -> Result<()
     Ok(())
 }
 
+/// A dialer of these links, which fails so.
+fn dialer_of(alloc: Global, links: &str, failing: &List<u64>) -> Result<MemDialer, Oom>
+    ensures { IfOk result IsIdle }
+{
+    MemDialer::new(alloc, links_of(alloc, links)?, failing)
+}
+
+/// What was written on the links that a dialer took back.
+fn add_dialed(answer: &mut String, dialer: &MemDialer) -> Result<(), Oom> {
+    answer.push_str("; back")?;
+    for link in dialer.links() {
+        answer.push(' ')?;
+        add_bytes(answer, link.written().as_slice())?;
+    }
+    Ok(())
+}
+
 /// Dials, and what was written on the links taken back: `dialer LINKS FAILING : DIALS`.
 pub fn dialer_row(alloc: Global, words: &str, dials: &str) -> Result<String, Oom> {
     let mut answer = String::new(alloc);
     let (links, failing) = words.split_once(' ').unwrap_or((words, "-"));
-    let (Some(failing), Ok(dials)) = (numbers_of(alloc, failing)?, dials.trim().parse::<u8>())
-    else {
-        return Ok(String::from_str(alloc, "unread")?);
+    let Some(failing) = numbers_of(alloc, failing)? else {
+        return unread(alloc);
     };
-    let mut dialer = MemDialer::new(alloc, links_of(alloc, links)?, &failing)?;
+    let Ok(dials) = dials.trim().parse::<u8>() else {
+        return unread(alloc);
+    };
+    let mut dialer = dialer_of(alloc, links, &failing)?;
     dial_all(&mut dialer, dials, &mut answer)?;
-    answer.push_str("; back")?;
-    for link in dialer.links() {
-        answer.push(' ')?;
-        add_bytes(&mut answer, link.written().as_slice())?;
-    }
+    add_dialed(&mut answer, &dialer)?;
     Ok(answer)
 }

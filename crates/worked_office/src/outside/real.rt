@@ -129,25 +129,13 @@ fn hear_all(
     Ok(heard)
 }
 
-/// A link from one side to the other: the dialer asks, the door answers and closes, and the dialer
-/// hears the answer and then the end.
-fn try_link(
-    alloc: Global,
-    door: &mut TcpDoor<&HostRuntime>,
-    dialer: &mut TcpDialer<&HostRuntime>,
-    answer: &mut String,
-) -> Result<(), Oom>
+/// The door's side of a link: it reads what was asked, answers, and closes. Whether a link came.
+fn try_door(door: &mut TcpDoor<&HostRuntime>, answer: &mut String) -> Result<bool, Oom>
     requires door { door.old.given ≡ door.old.returned }
     requires first { door.old.returned ≡ 0 }
-    requires dialer { dialer.old.given ≡ dialer.old.returned }
-    requires none { dialer.old.returned ≡ 0 }
 {
-    let Ok(mut peer) = dialer.dial() else {
-        return add(answer, "not dialled");
-    };
-    add(answer, said(write_whole(&mut peer, b"ask").is_ok()))?;
     let Ok(mut link) = door.accept() else {
-        return add(answer, "not accepted");
+        return Ok(false);
     };
     let mut buffer = [0; 3];
     if let Ok(count) = link.read(&mut buffer) {
@@ -156,11 +144,72 @@ fn try_link(
     }
     add(answer, said(write_whole(&mut link, b"answer").is_ok()))?;
     door.return_link(link);
+    Ok(true)
+}
+
+/// What a peer hears: the answer, and then the end.
+fn try_hearing(
+    alloc: Global,
+    peer: &mut TcpPeer<&HostRuntime>,
+    answer: &mut String,
+) -> Result<(), Oom> {
+    let mut buffer = [0; 3];
     add(answer, "")?;
-    add_bytes(answer, hear_all(alloc, &mut peer, 6)?.as_slice())?;
-    add(answer, said(peer.read_some(&mut buffer).is_ok()))?;
+    add_bytes(answer, hear_all(alloc, peer, 6)?.as_slice())?;
+    add(answer, said(peer.read_some(&mut buffer).is_ok()))
+}
+
+/// A link from one side to the other: the dialer asks, the door answers and closes, and the dialer
+/// hears the answer and then the end.
+fn try_peer(
+    alloc: Global,
+    door: &mut TcpDoor<&HostRuntime>,
+    peer: &mut TcpPeer<&HostRuntime>,
+    answer: &mut String,
+) -> Result<(), Oom>
+    requires door { door.old.given ≡ door.old.returned }
+    requires first { door.old.returned ≡ 0 }
+{
+    add(answer, said(write_whole(peer, b"ask").is_ok()))?;
+    if !try_door(door, answer)? {
+        return add(answer, "not accepted");
+    }
+    try_hearing(alloc, peer, answer)
+}
+
+/// A link between a dialer of this number and the door.
+fn try_link(
+    rt: &HostRuntime,
+    number: u16,
+    door: &mut TcpDoor<&HostRuntime>,
+    answer: &mut String,
+) -> Result<(), Oom>
+    requires door { door.old.given ≡ door.old.returned }
+    requires first { door.old.returned ≡ 0 }
+{
+    let mut dialer = TcpDialer::new(rt, number);
+    let Ok(mut peer) = dialer.dial() else {
+        return add(answer, "not dialled");
+    };
+    try_peer(rt.alloc(), door, &mut peer, answer)?;
     dialer.return_link(peer);
     Ok(())
+}
+
+/// A link over the one door of a port at this number, if that is free. Whether it was.
+fn try_number(
+    rt: &HostRuntime,
+    port: &mut TcpPort<&HostRuntime>,
+    number: u16,
+    answer: &mut String,
+) -> Result<bool, Oom> {
+    let Ok(doors) = port.listen(number, 1) else {
+        return Ok(false);
+    };
+    for mut door in doors.into_vec() {
+        try_link(rt, number, &mut door, answer)?;
+    }
+    Ok(true)
 }
 
 /// A port of this machine with one door, and a dialer of it. The first of some ports that is free
@@ -170,12 +219,7 @@ pub fn network_row(rt: &HostRuntime) -> Result<String, Oom> {
     let mut answer = String::new(alloc);
     let mut port = TcpPort::new(alloc, rt);
     for place in 0..100 {
-        let number = FIRST + place;
-        if let Ok(doors) = port.listen(number, 1) {
-            for mut door in doors.into_vec() {
-                let mut dialer = TcpDialer::new(rt, number);
-                try_link(alloc, &mut door, &mut dialer, &mut answer)?;
-            }
+        if try_number(rt, &mut port, FIRST + place, &mut answer)? {
             return Ok(answer);
         }
     }

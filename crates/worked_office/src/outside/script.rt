@@ -6,6 +6,7 @@ use crate::outside::ports::{dialer_row, port_row};
 use crate::outside::real::{broken_row, file_row, network_row, std_row, system_clock_row};
 use crate::outside::streams::{clock_row, sink_row, source_row, sure_sink_row, sure_source_row};
 use crate::outside::told::told_by;
+use crate::outside::words::unread;
 use hazard_types::Oom;
 use std::alloc::Global;
 use worked_lines::Work;
@@ -19,7 +20,7 @@ pub struct Script<'a> {
 /// The answer of a form, told by these words.
 fn told_row(alloc: Global, form: &str, words: &str, calls: &str) -> Result<String, Oom> {
     let Some(told) = told_by(alloc, words)? else {
-        return Ok(String::from_str(alloc, "unread")?);
+        return unread(alloc);
     };
     match form {
         "source" => source_row(alloc, &told, calls),
@@ -34,7 +35,7 @@ fn told_row(alloc: Global, form: &str, words: &str, calls: &str) -> Result<Strin
         "opened" => opened_row(alloc, &told),
         "long" => long_row(alloc, &told),
         "std" => std_row(alloc, &told, calls),
-        _ => Ok(String::from_str(alloc, "unread")?),
+        _ => unread(alloc),
     }
 }
 

@@ -1,6 +1,8 @@
 //! Sources, sinks and clocks.
+ghost use Rattle.std.specs.Prelude.{◌<◌, length};
+
 use crate::outside::told::Told;
-use crate::outside::words::{add, add_bytes, add_part, bytes_of};
+use crate::outside::words::{add, add_bytes, add_part, bytes_of, unread};
 use byte_streams::{MemSink, MemSource, Sink, Source, SureSink, SureSource, write_whole};
 use desk_traits::{Clock, SetClock};
 use hazard_types::{List, Oom};
@@ -66,25 +68,31 @@ pub fn sure_source_row(alloc: Global, told: &Told, calls: &str) -> Result<String
     read_all(alloc, source, calls)
 }
 
+/// Writes to a sink, each of a whole word.
+fn write_words<K: Sink>(alloc: Global, sink: &mut K, calls: &str) -> Result<String, Oom> {
+    let mut answer = String::new(alloc);
+    for word in calls.split_whitespace() {
+        write_word(alloc, sink, word, &mut answer)?;
+    }
+    Ok(answer)
+}
+
+/// A sink as it was told.
+fn sink_of(alloc: Global, told: &Told) -> Result<MemSink, Oom> {
+    MemSink::new(alloc, &told.failing)
+}
+
 /// Writes to a sink, each of a whole word, and the bytes taken.
 pub fn sink_row(alloc: Global, told: &Told, calls: &str) -> Result<String, Oom> {
-    let mut answer = String::new(alloc);
-    let mut sink = MemSink::new(alloc, &told.failing)?;
-    for word in calls.split_whitespace() {
-        write_word(alloc, &mut sink, word, &mut answer)?;
-    }
+    let mut sink = sink_of(alloc, told)?;
+    let mut answer = write_words(alloc, &mut sink, calls)?;
     add_part(&mut answer, "taken", sink.taken().as_slice())?;
     Ok(answer)
 }
 
 /// The same to a sink that can't fail.
 pub fn sure_sink_row(alloc: Global, calls: &str) -> Result<String, Oom> {
-    let mut answer = String::new(alloc);
-    let mut sink = SureSink;
-    for word in calls.split_whitespace() {
-        write_word(alloc, &mut sink, word, &mut answer)?;
-    }
-    Ok(answer)
+    write_words(alloc, &mut SureSink, calls)
 }
 
 /// Readings, with commas between them.
@@ -102,22 +110,34 @@ fn clock_call<C: Clock>(alloc: Global, clock: &mut C, call: &str) -> Result<Stri
     let reading = match call {
         "tick" => clock.tick(),
         "minute" => clock.minute(),
-        _ => return Ok(String::from_str(alloc, "unread")?),
+        _ => return unread(alloc),
     };
     Ok(format!(in alloc; "{reading}")?)
 }
 
-/// The calls of a clock with these readings.
-pub fn clock_row(alloc: Global, words: &str, calls: &str) -> Result<String, Oom> {
+/// The calls of a clock.
+fn clock_calls<C: Clock>(alloc: Global, clock: &mut C, calls: &str) -> Result<String, Oom> {
     let mut answer = String::new(alloc);
-    let readings = readings_of(alloc, words)?;
-    if readings.is_empty() {
-        return Ok(answer);
-    }
-    let mut clock = SetClock::new(&readings)?;
     for call in calls.split_whitespace() {
-        let reading = clock_call(alloc, &mut clock, call)?;
+        let reading = clock_call(alloc, clock, call)?;
         add(&mut answer, reading.as_str())?;
     }
     Ok(answer)
+}
+
+/// A clock with these readings, of which there is one at least.
+fn clock_of(readings: &List<i64>) -> Result<SetClock, Oom>
+    requires { 0 < length readings.now }
+{
+    SetClock::new(readings)
+}
+
+/// The calls of a clock with these readings.
+pub fn clock_row(alloc: Global, words: &str, calls: &str) -> Result<String, Oom> {
+    let readings = readings_of(alloc, words)?;
+    if readings.is_empty() {
+        return Ok(String::new(alloc));
+    }
+    let mut clock = clock_of(&readings)?;
+    clock_calls(alloc, &mut clock, calls)
 }

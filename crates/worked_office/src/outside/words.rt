@@ -8,10 +8,12 @@ use std::alloc::Global;
 fn digit_of(byte: u8) -> Option<u8>
     ensures { IfSome result (λ digit. digit < 16) }
 {
-    match byte {
-        b'0'..=b'9' => Some(byte - b'0'),
-        b'a'..=b'f' => Some(byte - b'a' + 10),
-        _ => None,
+    if b'0' <= byte && byte <= b'9' {
+        Some(byte - b'0')
+    } else if b'a' <= byte && byte <= b'f' {
+        Some(byte - b'a' + 10)
+    } else {
+        None
     }
 }
 
@@ -89,6 +91,11 @@ pub fn add_part(answer: &mut String, name: &str, bytes: &[u8]) -> Result<(), Oom
     answer.push_str(name)?;
     answer.push(' ')?;
     add_bytes(answer, bytes)
+}
+
+/// What is answered where a line's words are not read.
+pub fn unread(alloc: Global) -> Result<String, Oom> {
+    Ok(String::from_str(alloc, "unread")?)
 }
 
 /// Numbers with commas between them; `-` is none.
