@@ -3,7 +3,7 @@ use crate::outside::disks::{add_file, disk_of, disk_with, left_by};
 use crate::outside::told::Told;
 use crate::outside::words::{add, bytes_of, unread};
 use desk_traits::{Disk, MemDisk};
-use hazard_types::{List, Oom};
+use hazard_types::Oom;
 use journal_core::{AdoptFault, AppendFault, CreateFault, Journal, Packet};
 use std::alloc::Global;
 
