@@ -4,6 +4,7 @@
 #![tactic(auto)]
 
 mod follow;
+mod memory;
 mod offices;
 mod serve;
 mod turns;

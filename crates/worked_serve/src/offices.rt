@@ -16,7 +16,7 @@ use std::alloc::Global;
 use std::sync::Wait;
 use std::thread::Threads;
 use turn_lock::{Pass, TurnLock};
-use warn_serve::{LinkEnd, serve_link};
+use warn_serve::{self, LinkEnd};
 
 /// The disk of a new office. None where it is not fresh, or the settings are not those of an
 /// office.
@@ -66,7 +66,7 @@ fn served<R: Wait, D: Disk, L: Link, C: Clock>(
     requires { pass.old.lock ≡ lock.now }
     ensures { KeepsRights pass.old pass.new }
 {
-    serve_link(rt, alloc, lock, pass, link, clock, &OpenGate)
+    warn_serve::serve_link(rt, alloc, lock, pass, link, clock, &OpenGate)
 }
 
 /// The office of a lock, by its whole pass.
@@ -99,7 +99,7 @@ pub struct Left<D> {
 }
 
 /// Serves a link over the office that a disk holds. None where it holds none.
-pub fn serve_over<R: Wait, D: Disk + Drop, L: Link, C: Clock>(
+pub fn serve_link<R: Wait, D: Disk + Drop, L: Link, C: Clock>(
     rt: &R,
     alloc: Global,
     disk: D,

@@ -1,9 +1,7 @@
 //! Answers as the bytes that a link gives.
 use hazard_types::{Oom, Text};
 use std::alloc::Global;
-
-/// The most times that a line is repeated.
-const MOST_TIMES: u32 = 100_000;
+use worked_lines::times_of;
 
 /// The body of the answer that there is no further product.
 const NO_PRODUCT: &str = "{\"no\":\"E14\",\"rule\":\"NoProduct\"}";
@@ -56,17 +54,9 @@ fn add_once(alloc: Global, bytes: &mut Text, kept: &[Text], line: &str) -> Resul
     Ok(true)
 }
 
-/// How often a line is repeated, and the line.
-fn times_of(line: &str) -> Option<(u32, &str)> {
-    let rest = line.strip_prefix("times ")?;
-    let (times, line) = rest.split_once(' ')?;
-    let times = times.parse::<u32>().ok()?;
-    Some((times.min(MOST_TIMES), line))
-}
-
 /// Adds what a line says, as often as it says. Answers whether it says something to add.
 pub fn add_bytes(alloc: Global, bytes: &mut Text, kept: &[Text], line: &str) -> Result<bool, Oom> {
-    let (times, line) = times_of(line).unwrap_or((1, line));
+    let (times, line) = times_of(line);
     for _ in 0..times {
         if !add_once(alloc, bytes, kept, line)? {
             return Ok(false);

@@ -42,24 +42,3 @@ impl Given {
         self.links.push(mem::replace(link, LinkGiven::new(alloc)))
     }
 }
-
-/// The numbers of a line, if each of its words is one.
-pub fn numbers_of(alloc: Global, words: &str) -> Result<Option<List<u64>>, Oom> {
-    let mut numbers = List::new(alloc);
-    for word in words.split_whitespace() {
-        match word.parse::<u64>() {
-            Ok(number) => numbers.push(number)?,
-            Err(_) => return Ok(None),
-        }
-    }
-    Ok(Some(numbers))
-}
-
-/// The words of a line.
-pub fn words_of(alloc: Global, line: &str) -> Result<List<Text>, Oom> {
-    let mut words = List::new(alloc);
-    for word in line.split_whitespace() {
-        words.push(List::from_slice(alloc, word.as_bytes())?)?;
-    }
-    Ok(words)
-}

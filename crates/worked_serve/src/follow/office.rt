@@ -1,24 +1,16 @@
 //! The other end: an office on a disk in memory, served over one link.
-use crate::offices::{created, serve_over};
-use desk_links::MemLink;
-use desk_traits::{MemDisk, SetClock};
+use crate::memory::{disk_of, journal_of};
+use crate::serve::given::Given;
+use crate::serve::links::{LinkRun, run_link};
 use hazard_types::{List, Oom, Text};
 use std::alloc::Global;
 use std::sync::Wait;
 
-/// The settings, the journal, and the reading of the clock.
+/// The settings, and the journal and the clock that the office is served with.
 #[derive(Drop)]
 pub struct Office {
     pub settings: Text,
-    pub journal: Text,
-    pub reading: i64,
-}
-
-/// What was written on a link, and the journal that it left.
-#[derive(Drop)]
-pub struct Served {
-    pub written: Text,
-    pub journal: Text,
+    pub given: Given,
 }
 
 impl Office {
@@ -26,18 +18,16 @@ impl Office {
     pub fn new(alloc: Global) -> Self {
         Office {
             settings: List::new(alloc),
-            journal: List::new(alloc),
-            reading: 0,
+            given: Given::new(alloc),
         }
     }
 
     /// Makes the journal of a new office. Answers whether the settings are those of one.
     pub fn make_journal(&mut self, alloc: Global) -> Result<bool, Oom> {
-        let none = List::new(alloc);
-        let disk = MemDisk::new(alloc, b"", &none, None, 0)?;
-        match created(alloc, disk, self.settings.as_slice()) {
-            Some(disk) => {
-                self.journal = disk.file().clone()?;
+        let disk = disk_of(alloc, b"")?;
+        match journal_of(alloc, disk, self.settings.as_slice())? {
+            Some(journal) => {
+                self.given.file = journal;
                 Ok(true)
             }
             None => Ok(false),
@@ -50,18 +40,8 @@ impl Office {
         rt: &R,
         alloc: Global,
         bytes: &[u8],
-    ) -> Result<Option<Served>, Oom> {
-        let none = List::new(alloc);
-        let disk = MemDisk::new(alloc, self.journal.as_slice(), &none, None, 0)?;
-        let clock = SetClock::new(&List::from_slice(alloc, &[self.reading])?)?;
-        let mut link = MemLink::new(alloc, bytes, usize::MAX, &none)?;
-        let Some(left) = serve_over(rt, alloc, disk, &mut link, &clock)? else {
-            return Ok(None);
-        };
-        Ok(Some(Served {
-            written: link.written().clone()?,
-            journal: left.disk.file().clone()?,
-        }))
+    ) -> Result<Option<LinkRun>, Oom> {
+        run_link(rt, alloc, &self.given, bytes, usize::MAX)
     }
 }
 

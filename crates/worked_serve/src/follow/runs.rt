@@ -1,8 +1,9 @@
 //! A run of a follower over links in memory.
-ghost use Rattle.std.specs.Prelude.{◌≤◌, All, IfOk};
+ghost use Rattle.std.specs.Prelude.{◌≡◌, [], All, IfOk};
 ghost use Rattle.desk_links.specs.LinkMemory.{IsUntouched};
 
 use crate::follow::given::Given;
+use crate::memory::{link_of, output_of};
 use byte_streams::MemSink;
 use desk_links::{MemDialer, MemLink};
 use follow_links::follow_run;
@@ -30,15 +31,6 @@ pub struct Run {
     pub asked: List<Text>,
 }
 
-/// A link that gives these bytes in pieces, and on which these calls fail.
-fn link_of(alloc: Global, bytes: &[u8], piece: usize, failing: &List<u64>) -> Result<MemLink, Oom>
-    requires { 1 ≤ piece }
-    ensures { IfOk result IsUntouched }
-{
-    let link = MemLink::new(alloc, bytes, piece, failing)?;
-    Ok(link)
-}
-
 /// The links of a dialer.
 fn links_of(alloc: Global, given: &Given, cut: Cut) -> Result<List<MemLink>, Oom>
     ensures { IfOk result (All IsUntouched) }
@@ -55,19 +47,40 @@ fn links_of(alloc: Global, given: &Given, cut: Cut) -> Result<List<MemLink>, Oom
     Ok(links)
 }
 
-/// Follows as the words say, over the links.
-pub fn run_follow(alloc: Global, given: &Given, words: &List<Text>, cut: Cut) -> Result<Run, Oom> {
-    let mut output = MemSink::new(alloc, &given.writes)?;
+/// A dialer of the links.
+fn dialer_of(alloc: Global, given: &Given, cut: Cut) -> Result<MemDialer, Oom>
+    ensures { IfOk result (λ dialer. (dialer.given ≡ 0) × (dialer.back ≡ [])) }
+{
     let links = links_of(alloc, given, cut)?;
-    let mut dialer = MemDialer::new(alloc, links, &given.dials)?;
-    let status = follow_run(alloc, words, &mut dialer, &mut output);
+    MemDialer::new(alloc, links, &given.dials)
+}
+
+/// Follows as the words say, and answers the status.
+fn follow(alloc: Global, words: &List<Text>, dialer: &mut MemDialer, output: &mut MemSink) -> u8
+    requires { (dialer.old.given ≡ 0) × (dialer.old.back ≡ []) }
+{
+    follow_run(alloc, words, dialer, output)
+}
+
+/// What was written on each link that the dialer got back.
+fn asked_on(alloc: Global, dialer: &MemDialer) -> Result<List<Text>, Oom> {
     let mut asked = List::new(alloc);
     for link in dialer.links() {
         asked.push(link.written().clone()?)?;
     }
+    Ok(asked)
+}
+
+/// Follows as the words say, over the links.
+pub fn run_follow(alloc: Global, given: &Given, words: &List<Text>, cut: Cut) -> Result<Run, Oom> {
+    let mut output = output_of(alloc, &given.writes)?;
+    let mut dialer = dialer_of(alloc, given, cut)?;
+    let status = follow(alloc, words, &mut dialer, &mut output);
+    let asked = asked_on(alloc, &dialer)?;
+    let told = output.taken().clone()?;
     Ok(Run {
         status,
-        told: output.taken().clone()?,
+        told,
         asked,
     })
 }

@@ -2,7 +2,7 @@
 //! come, come again, come late or are lost.
 use crate::follow::answers::kept_text;
 use follow_core::{Follower, Heard};
-use hazard_types::{Class, List, Oom, Text, read_stamp};
+use hazard_types::{Class, List, Minute, Oom, Text, read_stamp};
 use std::alloc::Global;
 
 /// The most texts that a follower takes.
@@ -74,6 +74,31 @@ impl World {
             Err(_) => Ok(None),
         }
     }
+
+    /// What comes of each event. None where one is none.
+    fn happen_all(
+        &mut self,
+        alloc: Global,
+        kept: &[Text],
+        events: &str,
+    ) -> Result<Option<String>, Oom> {
+        let mut answer = String::new(alloc);
+        for event in events.split_whitespace() {
+            let Some(said) = self.happen(alloc, kept, event)? else {
+                return Ok(None);
+            };
+            answer.push_str(said.as_str())?;
+            answer.push_str(", ")?;
+        }
+        Ok(Some(answer))
+    }
+
+    /// The place, and how many rows are shown at the minute.
+    fn end_line(&self, alloc: Global, minute: Minute) -> Result<String, Oom> {
+        let place = self.follower.place();
+        let shown = self.follower.shown(alloc, minute)?.len();
+        Ok(format!(in alloc; "place {place}, shown {shown}\n")?)
+    }
 }
 
 /// What comes of each event of a schedule, the place behind it, and how many rows are shown at
@@ -84,16 +109,9 @@ pub fn schedule_answer(alloc: Global, kept: &[Text], line: &str) -> Result<Optio
         return Ok(None);
     };
     let mut world = World::new(alloc);
-    let mut answer = String::new(alloc);
-    for event in events.split_whitespace() {
-        let Some(said) = world.happen(alloc, kept, event)? else {
-            return Ok(None);
-        };
-        answer.push_str(said.as_str())?;
-        answer.push_str(", ")?;
-    }
-    let place = world.follower.place();
-    let shown = world.follower.shown(alloc, minute)?.len();
-    answer.push_str(format!(in alloc; "place {place}, shown {shown}\n")?.as_str())?;
-    Ok(Some(answer))
+    let Some(said) = world.happen_all(alloc, kept, events)? else {
+        return Ok(None);
+    };
+    let end = world.end_line(alloc, minute)?;
+    Ok(Some(format!(in alloc; "{said}{end}")?))
 }

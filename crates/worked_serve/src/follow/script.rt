@@ -1,16 +1,39 @@
 //! The script: each line adds to what is given for the next run, or is a run, which uses that up.
 use crate::follow::answers::add_bytes;
-use crate::follow::given::{Given, LinkGiven, numbers_of, words_of};
+use crate::follow::given::{Given, LinkGiven};
 use crate::follow::office::{Office, post_text, questions};
-use crate::follow::runs::{WHOLE, run_follow};
+use crate::follow::runs::{Run, WHOLE, run_follow};
 use crate::follow::schedule::schedule_answer;
-use crate::follow::shown::{run_answer, tally_answer, unread};
+use crate::follow::shown::{run_answer, tally_answer};
 use crate::follow::sweeps::{sweep_cuts, sweep_pieces};
+use crate::serve::given::one_reading;
 use hazard_types::{List, Oom, Text, read_stamp};
 use std::alloc::Global;
 use std::mem;
 use std::sync::Wait;
-use worked_lines::Work;
+use worked_lines::{Work, numbers_of, shown, unread, words_of};
+
+/// The status of an answer.
+fn posted(alloc: Global, written: &Text) -> Result<String, Oom> {
+    let line = shown(alloc, written.as_slice())?;
+    let status = line.as_str().get(9..12).unwrap_or("");
+    Ok(format!(in alloc; "answered {status}\n")?)
+}
+
+/// What came of following a served office: also whether what was asked is what it had answered.
+fn met(alloc: Global, run: &Run, asked: &Text) -> Result<String, Oom> {
+    let mut answer = tally_answer(alloc, run)?;
+    let same = match run.asked.as_slice() {
+        [written, ..] => asked.as_slice().starts_with(written.as_slice()),
+        [] => true,
+    };
+    answer.push_str(if same {
+        "asked as answered\n"
+    } else {
+        "asked otherwise\n"
+    })?;
+    Ok(answer)
+}
 
 /// The text that is written and those that are kept, the link that is written and what else the
 /// next run stands on, and the office that is served.
@@ -51,14 +74,13 @@ impl<'a, R: Wait> Script<'a, R> {
     }
 
     /// Sets the reading of the clock. Answers whether the word is a stamp.
-    fn set_clock(&mut self, stamp: &str) -> bool {
-        match read_stamp(stamp.as_bytes()) {
-            Some(minute) => {
-                self.office.reading = i64::from(minute.get());
-                true
-            }
-            None => false,
-        }
+    fn set_clock(&mut self, alloc: Global, stamp: &str) -> Result<bool, Oom> {
+        let Some(minute) = read_stamp(stamp.as_bytes()) else {
+            return Ok(false);
+        };
+        let reading = i64::from(minute.get());
+        self.office.given.readings = one_reading(alloc, reading)?;
+        Ok(true)
     }
 
     /// Adds what a line says to what is given. Answers whether it says something to add.
@@ -78,7 +100,7 @@ impl<'a, R: Wait> Script<'a, R> {
                 self.office.settings.extend(rest.as_bytes())?;
                 self.office.settings.push(b'\n')?;
             }
-            "at" => return Ok(self.set_clock(rest)),
+            "at" => return self.set_clock(alloc, rest),
             "broken" | "dials" | "writes" => return self.set_failing(alloc, word, rest),
             _ => {
                 let kept = self.kept.as_slice();
@@ -102,10 +124,8 @@ impl<'a, R: Wait> Script<'a, R> {
         let call = post_text(alloc, body)?;
         match self.office.serve(self.rt, alloc, call.as_bytes())? {
             Some(served) => {
-                self.office.journal = served.journal;
-                let line = String::from_utf8_lossy(alloc, served.written.as_slice())?;
-                let status = line.as_str().get(9..12).unwrap_or("");
-                Ok(format!(in alloc; "answered {status}\n")?)
+                self.office.given.file = served.file;
+                posted(alloc, &served.written)
             }
             None => unread(alloc, body),
         }
@@ -121,24 +141,28 @@ impl<'a, R: Wait> Script<'a, R> {
             return Ok(None);
         };
         let asked = questions(alloc, count.min(100_000))?;
-        let Some(served) = self.office.serve(self.rt, alloc, asked.as_slice())? else {
+        if !self.hear_office(alloc, &asked)? {
             return Ok(None);
+        }
+        let run = self.run_whole(alloc, words)?;
+        Ok(Some(met(alloc, &run, &asked)?))
+    }
+
+    /// A link that gives what the served office answers to these questions. Answers whether there
+    /// is an office.
+    fn hear_office(&mut self, alloc: Global, asked: &Text) -> Result<bool, Oom> {
+        let Some(served) = self.office.serve(self.rt, alloc, asked.as_slice())? else {
+            return Ok(false);
         };
         self.link.bytes = served.written;
         self.given.take_link(alloc, &mut self.link)?;
+        Ok(true)
+    }
+
+    /// Follows as the words say, over the links, whose bytes all come.
+    fn run_whole(&self, alloc: Global, words: &str) -> Result<Run, Oom> {
         let words = words_of(alloc, words)?;
-        let run = run_follow(alloc, &self.given, &words, WHOLE)?;
-        let mut answer = tally_answer(alloc, &run)?;
-        let same = match run.asked.as_slice().first() {
-            Some(written) => asked.as_slice().starts_with(written.as_slice()),
-            None => true,
-        };
-        answer.push_str(if same {
-            "asked as answered\n"
-        } else {
-            "asked otherwise\n"
-        })?;
-        Ok(Some(answer))
+        run_follow(alloc, &self.given, &words, WHOLE)
     }
 
     /// Follows over the links that are written.
@@ -146,12 +170,11 @@ impl<'a, R: Wait> Script<'a, R> {
         if !self.link.bytes.is_empty() || !self.link.failing.is_empty() {
             self.given.take_link(alloc, &mut self.link)?;
         }
-        let words = words_of(alloc, rest)?;
         match word {
-            "cuts" => sweep_cuts(alloc, &self.given, &words),
-            "pieces" => sweep_pieces(alloc, &self.given, &words),
-            "tally" => tally_answer(alloc, &run_follow(alloc, &self.given, &words, WHOLE)?),
-            _ => run_answer(alloc, &run_follow(alloc, &self.given, &words, WHOLE)?),
+            "cuts" => sweep_cuts(alloc, &self.given, &words_of(alloc, rest)?),
+            "pieces" => sweep_pieces(alloc, &self.given, &words_of(alloc, rest)?),
+            "tally" => tally_answer(alloc, &self.run_whole(alloc, rest)?),
+            _ => run_answer(alloc, &self.run_whole(alloc, rest)?),
         }
     }
 

@@ -54,8 +54,3 @@ pub fn tally_answer(alloc: Global, run: &Run) -> Result<String, Oom> {
     answer.push_str(line.as_str())?;
     Ok(answer)
 }
-
-/// A line that can't be worked.
-pub fn unread(alloc: Global, line: &str) -> Result<String, Oom> {
-    Ok(format!(in alloc; "unread: {line}\n")?)
-}

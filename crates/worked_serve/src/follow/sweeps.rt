@@ -6,9 +6,9 @@ use std::alloc::Global;
 
 /// How many bytes the first link gives.
 fn first_length(given: &Given) -> usize {
-    match given.links.as_slice().first() {
-        Some(link) => link.bytes.len(),
-        None => 0,
+    match given.links.as_slice() {
+        [link, ..] => link.bytes.len(),
+        [] => 0,
     }
 }
 
@@ -28,31 +28,71 @@ fn first_line(alloc: Global, told: &Text) -> Result<String, Oom> {
     Ok(line)
 }
 
+/// A run in which the first link gives its first bytes alone, so many.
+fn run_cut(alloc: Global, given: &Given, words: &List<Text>, count: usize) -> Result<Run, Oom> {
+    let cut = Cut {
+        first: count,
+        piece: usize::MAX,
+    };
+    run_follow(alloc, given, words, cut)
+}
+
+/// The line of a run in which the first link gave so many bytes.
+fn cut_line(alloc: Global, count: usize, run: &Run) -> Result<String, Oom> {
+    let status = run.status;
+    let links = run.asked.len();
+    let line = first_line(alloc, &run.told)?;
+    Ok(format!(in alloc; "from {count}: {line}, status {status}, links {links}\n")?)
+}
+
+/// The lines so far, and the last run.
+#[derive(Drop)]
+struct Sweep {
+    answer: String,
+    last: Option<Run>,
+}
+
+impl Sweep {
+    /// Whether the last run was the same.
+    fn had(&self, run: &Run) -> bool {
+        match &self.last {
+            Some(last) => are_alike(last, run),
+            None => false,
+        }
+    }
+
+    /// Takes a run in which the first link gave so many bytes: a line, where it is another one.
+    fn take(&mut self, alloc: Global, count: usize, run: Run) -> Result<(), Oom> {
+        if !self.had(&run) {
+            let line = cut_line(alloc, count, &run)?;
+            self.answer.push_str(line.as_str())?;
+        }
+        self.last = Some(run);
+        Ok(())
+    }
+}
+
 /// How a run ends where the first link gives its first bytes alone, from none on: a line at each
 /// number of bytes from which on it changes.
 pub fn sweep_cuts(alloc: Global, given: &Given, words: &List<Text>) -> Result<String, Oom> {
-    let mut answer = String::new(alloc);
-    let mut last: Option<Run> = None;
+    let mut sweep = Sweep {
+        answer: String::new(alloc),
+        last: None,
+    };
     for count in 0..=first_length(given) {
-        let cut = Cut {
-            first: count,
-            piece: usize::MAX,
-        };
-        let run = run_follow(alloc, given, words, cut)?;
-        let same = match &last {
-            Some(before) => are_alike(before, &run),
-            None => false,
-        };
-        if !same {
-            let status = run.status;
-            let links = run.asked.len();
-            let line = first_line(alloc, &run.told)?;
-            let line = format!(in alloc; "from {count}: {line}, status {status}, links {links}\n")?;
-            answer.push_str(line.as_str())?;
-        }
-        last = Some(run);
+        let run = run_cut(alloc, given, words, count)?;
+        sweep.take(alloc, count, run)?;
     }
-    Ok(answer)
+    Ok(sweep.answer)
+}
+
+/// A run in which each link gives pieces of this size.
+fn run_pieces(alloc: Global, given: &Given, words: &List<Text>, piece: usize) -> Result<Run, Oom> {
+    let cut = Cut {
+        first: usize::MAX,
+        piece,
+    };
+    run_follow(alloc, given, words, cut)
 }
 
 /// How many sizes of pieces, from one byte to all of the first link, give another run than all
@@ -62,11 +102,8 @@ pub fn sweep_pieces(alloc: Global, given: &Given, words: &List<Text>) -> Result<
     let sizes = first_length(given);
     let mut differ = 0u64;
     for smaller in 0..sizes {
-        let cut = Cut {
-            first: usize::MAX,
-            piece: smaller.saturating_add(1),
-        };
-        if !are_alike(&run_follow(alloc, given, words, cut)?, &whole) {
+        let run = run_pieces(alloc, given, words, smaller.saturating_add(1))?;
+        if !are_alike(&run, &whole) {
             differ = differ.saturating_add(1);
         }
     }

@@ -1,6 +1,7 @@
 //! What was written, as text.
+ghost use Rattle.std.specs.Prelude.{◌<◌, length};
+
 use hazard_types::{Oom, Text};
-use std::alloc::Global;
 use warn_serve::LinkEnd;
 
 /// What each answer on a link begins with.
@@ -20,15 +21,22 @@ pub fn add_bytes(answer: &mut String, bytes: &[u8]) -> Result<(), Oom> {
     Ok(())
 }
 
-/// How many answers were written on a link.
-pub fn count_answers(written: &Text) -> usize {
-    let mut count = 0usize;
-    for window in written.as_slice().windows(ANSWER.len()) {
-        if window == ANSWER {
+/// How often the bytes have this part.
+pub fn count_of(bytes: &[u8], part: &[u8]) -> u64
+    requires { 0 < length part.now }
+{
+    let mut count = 0u64;
+    for window in bytes.windows(part.len()) {
+        if window == part {
             count = count.saturating_add(1);
         }
     }
     count
+}
+
+/// How many answers were written on a link.
+pub fn count_answers(written: &Text) -> u64 {
+    count_of(written.as_slice(), ANSWER)
 }
 
 pub fn end_name(end: LinkEnd) -> &'static str {
@@ -39,9 +47,4 @@ pub fn end_name(end: LinkEnd) -> &'static str {
         LinkEnd::LinkFault => "LinkFault",
         LinkEnd::OutOfMemory => "OutOfMemory",
     }
-}
-
-/// A line that can't be worked.
-pub fn unread(alloc: Global, line: &str) -> Result<String, Oom> {
-    Ok(format!(in alloc; "unread: {line}\n")?)
 }

@@ -1,9 +1,7 @@
 //! Calls as the bytes that a link gives.
 use hazard_types::{Oom, Text};
 use std::alloc::Global;
-
-/// The most times that a line is repeated.
-const MOST_TIMES: u32 = 100_000;
+use worked_lines::times_of;
 
 /// Adds what a line says: a call for a path, one that posts a body, a line of a head, or other bytes. Answers whether it
 /// says one.
@@ -29,17 +27,9 @@ fn add_once(alloc: Global, bytes: &mut Text, line: &str) -> Result<bool, Oom> {
     Ok(true)
 }
 
-/// How often a line is repeated, and the line.
-fn times_of(line: &str) -> Option<(u32, &str)> {
-    let rest = line.strip_prefix("times ")?;
-    let (times, line) = rest.split_once(' ')?;
-    let times = times.parse::<u32>().ok()?;
-    Some((times.min(MOST_TIMES), line))
-}
-
 /// Adds what a line says, as often as it says. Answers whether it says something to add.
 pub fn add_calls(alloc: Global, bytes: &mut Text, line: &str) -> Result<bool, Oom> {
-    let (times, line) = times_of(line).unwrap_or((1, line));
+    let (times, line) = times_of(line);
     for _ in 0..times {
         if !add_once(alloc, bytes, line)? {
             return Ok(false);

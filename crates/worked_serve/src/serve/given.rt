@@ -1,8 +1,19 @@
 //! What a run stands on.
-use crate::offices::created;
+ghost use Rattle.std.specs.Prelude.{◌<◌, length, IfOk};
+
+use crate::memory::{clock_of, journal_of};
 use desk_traits::{MemDisk, SetClock};
 use hazard_types::{List, Oom, Text, read_stamp};
 use std::alloc::Global;
+
+/// One reading.
+pub fn one_reading(alloc: Global, reading: i64) -> Result<List<i64>, Oom>
+    ensures { IfOk result (λ readings. 0 < length readings) }
+{
+    let mut readings = List::new(alloc);
+    readings.push(reading)?;
+    Ok(readings)
+}
 
 /// The file of a run's disk, the readings of its clock, and the calls of its disk and of each of
 /// its links that fail. And the call behind which the disk stops, with what a crash then leaves.
@@ -53,34 +64,22 @@ impl Given {
 
     pub fn clock(&self, alloc: Global) -> Result<SetClock, Oom> {
         if self.readings.is_empty() {
-            let zero = List::from_slice(alloc, &[0])?;
-            return SetClock::new(&zero);
+            return clock_of(&one_reading(alloc, 0)?);
         }
-        SetClock::new(&self.readings)
+        clock_of(&self.readings)
     }
 
     /// Makes the file the journal of a new office. Answers whether the settings are those of one.
     pub fn make_journal(&mut self, alloc: Global, settings: &[u8]) -> Result<bool, Oom> {
-        match created(alloc, self.disk(alloc)?, settings) {
-            Some(disk) => {
-                self.file = disk.file().clone()?;
+        let disk = self.disk(alloc)?;
+        match journal_of(alloc, disk, settings)? {
+            Some(journal) => {
+                self.file = journal;
                 Ok(true)
             }
             None => Ok(false),
         }
     }
-}
-
-/// The numbers of a line, if each of its words is one.
-pub fn numbers_of(alloc: Global, words: &str) -> Result<Option<List<u64>>, Oom> {
-    let mut numbers = List::new(alloc);
-    for word in words.split_whitespace() {
-        match word.parse::<u64>() {
-            Ok(number) => numbers.push(number)?,
-            Err(_) => return Ok(None),
-        }
-    }
-    Ok(Some(numbers))
 }
 
 /// The minutes of a line's stamps, if each of its words is one.

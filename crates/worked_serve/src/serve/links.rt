@@ -1,10 +1,12 @@
 //! One link, served over the office of a journal.
 ghost use Rattle.std.specs.Prelude.{◌≤◌};
 
-use crate::offices::serve_over;
+use crate::memory::{link_of, serve_link};
+use crate::offices::Left;
 use crate::serve::answers::{add_bytes, count_answers, end_name};
 use crate::serve::given::Given;
 use desk_links::MemLink;
+use desk_traits::MemDisk;
 use hazard_types::{Oom, Text};
 use std::alloc::Global;
 use std::sync::Wait;
@@ -20,6 +22,18 @@ pub struct LinkRun {
     pub requests: u64,
 }
 
+/// What came of a link.
+fn link_run(link: &MemLink, left: &Left<MemDisk>) -> Result<LinkRun, Oom> {
+    let written = link.written().clone()?;
+    let file = left.disk.file().clone()?;
+    Ok(LinkRun {
+        end: left.end,
+        written,
+        file,
+        requests: left.requests,
+    })
+}
+
 /// Serves a link that gives the bytes, so many at once. None where the file is no journal.
 pub fn run_link<R: Wait>(
     rt: &R,
@@ -31,16 +45,12 @@ pub fn run_link<R: Wait>(
     requires { 1 ≤ piece }
 {
     let clock = given.clock(alloc)?;
-    let mut link = MemLink::new(alloc, bytes, piece, &given.broken)?;
-    let Some(left) = serve_over(rt, alloc, given.disk(alloc)?, &mut link, &clock)? else {
-        return Ok(None);
-    };
-    Ok(Some(LinkRun {
-        end: left.end,
-        written: link.written().clone()?,
-        file: left.disk.file().clone()?,
-        requests: left.requests,
-    }))
+    let disk = given.disk(alloc)?;
+    let mut link = link_of(alloc, bytes, piece, &given.broken)?;
+    match serve_link(rt, alloc, disk, &mut link, &clock)? {
+        Some(left) => Ok(Some(link_run(&link, &left)?)),
+        None => Ok(None),
+    }
 }
 
 /// What was written on a link, and how it ended.

@@ -3,13 +3,14 @@ ghost use Rattle.std.specs.Prelude.{◌≡◌, [], All, IfOk};
 ghost use Rattle.desk_links.specs.LinkMemory.{IsUntouched};
 ghost use Rattle.serve_command.specs.Words.{IsServing};
 
-use crate::offices::serve_port;
+use crate::memory::{link_of, output_of, serve_port};
 use crate::serve::answers::{add_bytes, count_answers};
 use crate::serve::gate::HoldingGate;
 use crate::serve::given::Given;
 use byte_streams::MemSink;
 use desk_commands::Ended;
-use desk_links::{MemLink, MemPort};
+use desk_links::{MemLink, MemPort, Port};
+use desk_traits::{MemDisk, SetClock};
 use hazard_types::{List, Oom, Text};
 use serve_command::{Means, Serving};
 use std::alloc::Global;
@@ -41,7 +42,7 @@ fn links_of(alloc: Global, given: &Given, door: &DoorGiven) -> Result<List<MemLi
 {
     let mut links = List::new(alloc);
     for bytes in door.links.as_slice() {
-        links.push(MemLink::new(alloc, bytes.as_slice(), PIECE, &given.broken)?)?;
+        links.push(link_of(alloc, bytes.as_slice(), PIECE, &given.broken)?)?;
     }
     Ok(links)
 }
@@ -93,27 +94,60 @@ fn add_numbers(alloc: Global, answer: &mut String, port: &MemPort) -> Result<(),
     Ok(())
 }
 
-/// Adds what the program wrote, and its status.
-pub fn add_output(
-    alloc: Global,
-    answer: &mut String,
-    output: &Text,
-    status: u8,
-) -> Result<(), Oom> {
-    add_bytes(answer, output.as_slice())?;
-    answer.push_str(format!(in alloc; "status {status}\n")?.as_str())?;
-    Ok(())
-}
-
-/// The port after a run, what the program wrote, its status, the file that the disk then has, and
-/// the one that a crash leaves.
+/// What the program wrote, its status, the file that the disk then has, and the one that a crash
+/// leaves.
 #[derive(Drop)]
-pub struct PortRun {
-    pub port: MemPort,
+pub struct Ran {
     pub output: Text,
     pub status: u8,
     pub file: Text,
     pub left: Text,
+}
+
+impl Ran {
+    fn of(output: &MemSink, ended: Ended<MemDisk>) -> Result<Self, Oom> {
+        let Ended { status, disk } = ended;
+        let output = output.taken().clone()?;
+        let file = disk.file().clone()?;
+        let left = disk.crashed()?;
+        Ok(Ran {
+            output,
+            status,
+            file,
+            left,
+        })
+    }
+}
+
+/// Adds what the program wrote, and its status.
+pub fn add_output(alloc: Global, answer: &mut String, ran: &Ran) -> Result<(), Oom> {
+    add_bytes(answer, ran.output.as_slice())?;
+    let status = ran.status;
+    answer.push_str(format!(in alloc; "status {status}\n")?.as_str())?;
+    Ok(())
+}
+
+/// Serves a port over the disk that is given.
+pub fn serve_given<R: Threads + Wait + Sync, P: Port>(
+    means: &Means<'_, R, SetClock, HoldingGate>,
+    given: &Given,
+    serving: &Serving,
+    port: &mut P,
+) -> Result<Ran, Oom>
+    requires form { IsServing serving.now }
+    requires unused { (P.state port.old).returned ≡ 0 }
+{
+    let mut output = output_of(means.alloc, &List::new(means.alloc))?;
+    let disk = given.disk(means.alloc)?;
+    let ended = serve_port(means, serving, &mut output, disk, port);
+    Ran::of(&output, ended)
+}
+
+/// The port after a run, and what came of it.
+#[derive(Drop)]
+pub struct PortRun {
+    pub port: MemPort,
+    pub ran: Ran,
 }
 
 /// Serves a port with these doors, at a gate that may hold the first call.
@@ -127,25 +161,16 @@ pub fn serve_doors<R: Threads + Wait + Sync>(
 ) -> Result<PortRun, Oom>
     requires { IsServing serving.now }
 {
-    let none = List::new(alloc);
-    let mut output = MemSink::new(alloc, &none)?;
-    let mut port = port_of(alloc, given, doors)?;
     let clock = given.clock(alloc)?;
-    let disk = given.disk(alloc)?;
+    let mut port = port_of(alloc, given, doors)?;
     let means = Means {
         rt,
         alloc,
         clock: &clock,
         gate,
     };
-    let Ended { status, disk } = serve_port(&means, serving, &mut output, disk, &mut port);
-    Ok(PortRun {
-        output: output.taken().clone()?,
-        port,
-        status,
-        file: disk.file().clone()?,
-        left: disk.crashed()?,
-    })
+    let ran = serve_given(&means, given, serving, &mut port)?;
+    Ok(PortRun { port, ran })
 }
 
 /// The numbers at which a port listened, what was written on its links, what the program wrote, and
@@ -154,6 +179,6 @@ pub fn port_answer(alloc: Global, run: &PortRun, shown: Shown) -> Result<String,
     let mut answer = String::new(alloc);
     add_numbers(alloc, &mut answer, &run.port)?;
     add_links(alloc, &mut answer, &run.port, shown)?;
-    add_output(alloc, &mut answer, &run.output, run.status)?;
+    add_output(alloc, &mut answer, &run.ran)?;
     Ok(answer)
 }

@@ -3,14 +3,12 @@ ghost use Rattle.std.specs.Prelude.{IfOk, IfSome};
 ghost use Rattle.std.specs.Thread.{IsSync};
 ghost use Rattle.serve_command.specs.Words.{IsServing};
 
-use crate::offices::serve_port;
 use crate::serve::answers::add_bytes;
 use crate::serve::gate::HoldingGate;
 use crate::serve::given::Given;
-use crate::serve::ports::add_output;
+use crate::serve::ports::{add_output, serve_given};
 use crate::serve::words::serving_in;
-use byte_streams::{MemSink, write_whole};
-use desk_commands::Ended;
+use byte_streams::write_whole;
 use desk_links::{Dialer, Peer, Port, TcpDialer, TcpDoor, TcpPeer, TcpPort};
 use hazard_types::{List, Oom, Text};
 use serve_command::{Means, Serving};
@@ -69,22 +67,18 @@ fn serve_host<R: Clock + Threads + Wait + Sync + Net<Listener = TcpListener, Str
 ) -> Result<String, Oom>
     requires { IsServing serving.now }
 {
-    let none = List::new(alloc);
-    let mut output = MemSink::new(alloc, &none)?;
-    let mut port = TcpPort::new(alloc, rt);
     let clock = given.clock(alloc)?;
-    let disk = given.disk(alloc)?;
     let gate = HoldingGate::new(false);
+    let mut port = TcpPort::new(alloc, rt);
     let means = Means {
         rt,
         alloc,
         clock: &clock,
         gate: &gate,
     };
-    let Ended { status, disk } = serve_port(&means, serving, &mut output, disk, &mut port);
-    drop(disk);
+    let ran = serve_given(&means, given, serving, &mut port)?;
     let mut answer = String::new(alloc);
-    add_output(alloc, &mut answer, output.taken(), status)?;
+    add_output(alloc, &mut answer, &ran)?;
     Ok(answer)
 }
 
@@ -137,7 +131,10 @@ fn ask_both<R: Clock + Sync + Net<Listener = TcpListener, Stream = TcpStream>>(
     bytes: &[u8],
 ) -> Result<String, Oom> {
     let mut answer = String::new(alloc);
-    let (Some(mut first), Some(mut last)) = (dial(rt, number), dial(rt, number)) else {
+    let Some(mut first) = dial(rt, number) else {
+        return Ok(answer);
+    };
+    let Some(mut last) = dial(rt, number) else {
         return Ok(answer);
     };
     add_bytes(&mut answer, ask(alloc, &mut last, bytes)?.as_slice())?;

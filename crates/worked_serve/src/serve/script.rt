@@ -1,10 +1,9 @@
 //! The script: each line adds to what is given for the next run, or is a run, which uses that up.
 ghost use Rattle.std.specs.Prelude.{◌≤◌};
 
-use crate::serve::answers::unread;
 use crate::serve::calls::add_calls;
 use crate::serve::gate::HoldingGate;
-use crate::serve::given::{Given, minutes_of, numbers_of};
+use crate::serve::given::{Given, minutes_of};
 use crate::serve::links::{LinkRun, link_answer, run_link, tally_answer};
 use crate::serve::ports::{DoorGiven, Shown, port_answer, serve_doors};
 use crate::serve::real::{clients_answer, taken_answer};
@@ -17,6 +16,7 @@ use std::net::{Net, TcpListener, TcpStream};
 use std::sync::Wait;
 use std::thread::Threads;
 use std::time::Clock;
+use worked_lines::{numbers_of, unread};
 
 /// How many bytes a link gives at once: as a word says, or all.
 fn piece_of(word: &str) -> usize
@@ -154,7 +154,7 @@ impl<'a, R: Clock + Threads + Wait + Sync + Net<Listener = TcpListener, Stream =
         let doors = self.doors.as_slice();
         let run = serve_doors(self.rt, alloc, &self.given, doors, &serving, &gate)?;
         let mut answer = port_answer(alloc, &run, shown)?;
-        self.given.file = run.file.clone()?;
+        self.given.file = run.ran.file.clone()?;
         if gate.is_spent() {
             answer.push_str("held in vain\n")?;
         }
@@ -165,7 +165,10 @@ impl<'a, R: Clock + Threads + Wait + Sync + Net<Listener = TcpListener, Stream =
     fn sweep_crashes(&mut self, alloc: Global, line: &str) -> Result<String, Oom> {
         self.end_door(alloc)?;
         let (calls, words) = line.split_once(' ').unwrap_or((line, ""));
-        let (Ok(calls), Some(serving)) = (calls.parse::<u64>(), serving_in(alloc, words)?) else {
+        let Ok(calls) = calls.parse::<u64>() else {
+            return unread(alloc, line);
+        };
+        let Some(serving) = serving_in(alloc, words)? else {
             return unread(alloc, line);
         };
         let doors = self.doors.as_slice();

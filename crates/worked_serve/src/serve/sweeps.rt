@@ -1,15 +1,16 @@
 //! The same bytes on many links: in pieces of each size, cut at each byte, and over a disk that
 //! stops behind each call.
+ghost use Rattle.std.specs.Prelude.{◌≤◌};
 ghost use Rattle.serve_command.specs.Words.{IsServing};
 
-use crate::offices::requests_in;
-use crate::serve::answers::end_name;
+use crate::memory::requests_of;
+use crate::serve::answers::{count_of, end_name};
 use crate::serve::gate::HoldingGate;
 use crate::serve::given::Given;
 use crate::serve::links::{LinkRun, run_link};
 use crate::serve::ports::{DoorGiven, PortRun, serve_doors};
-use desk_traits::MemDisk;
-use hazard_types::{List, Oom, Text};
+use desk_links::MemPort;
+use hazard_types::Oom;
 use serve_command::Serving;
 use std::alloc::Global;
 use std::sync::Wait;
@@ -29,6 +30,40 @@ fn are_alike(one: &LinkRun, other: &LinkRun) -> bool {
         && one.file.as_slice() == other.file.as_slice()
 }
 
+/// Whether the bytes in pieces of this size are served as they were when all came at once.
+fn is_served_as<R: Wait>(
+    rt: &R,
+    alloc: Global,
+    given: &Given,
+    bytes: &[u8],
+    piece: usize,
+    whole: &LinkRun,
+) -> Result<bool, Oom>
+    requires { 1 ≤ piece }
+{
+    Ok(match run_link(rt, alloc, given, bytes, piece)? {
+        Some(run) => are_alike(&run, whole),
+        None => false,
+    })
+}
+
+/// How many sizes of pieces there are at which another thing is done than when all came at once.
+fn count_others<R: Wait>(
+    rt: &R,
+    alloc: Global,
+    given: &Given,
+    bytes: &[u8],
+    whole: &LinkRun,
+) -> Result<u64, Oom> {
+    let mut differ = 0u64;
+    for smaller in 0..bytes.len() {
+        if !is_served_as(rt, alloc, given, bytes, smaller + 1, whole)? {
+            differ = differ.saturating_add(1);
+        }
+    }
+    Ok(differ)
+}
+
 /// Serves the bytes in pieces of each size from 1 on, and counts the sizes at which another thing is done than where all
 /// come at once.
 pub fn sweep_pieces<R: Wait>(
@@ -38,16 +73,24 @@ pub fn sweep_pieces<R: Wait>(
     bytes: &[u8],
 ) -> Result<String, Oom> {
     let sizes = bytes.len();
-    let mut differ = 0u64;
-    if let Some(whole) = run_link(rt, alloc, given, bytes, usize::MAX)? {
-        for smaller in 0..sizes {
-            match run_link(rt, alloc, given, bytes, smaller + 1)? {
-                Some(run) if are_alike(&run, &whole) => {}
-                _ => differ = differ.saturating_add(1),
-            }
-        }
-    }
+    let differ = match run_link(rt, alloc, given, bytes, usize::MAX)? {
+        Some(whole) => count_others(rt, alloc, given, bytes, &whole)?,
+        None => 0,
+    };
     Ok(format!(in alloc; "sizes {sizes}, differ {differ}\n")?)
+}
+
+/// How a link ends that gives these bytes. None where the file is no journal.
+fn end_of<R: Wait>(
+    rt: &R,
+    alloc: Global,
+    given: &Given,
+    bytes: &[u8],
+) -> Result<Option<LinkEnd>, Oom> {
+    match run_link(rt, alloc, given, bytes, usize::MAX)? {
+        Some(run) => Ok(Some(run.end)),
+        None => Ok(None),
+    }
 }
 
 /// How links end that give the first bytes alone, from none on: a line at each number of bytes from which on it changes.
@@ -60,28 +103,25 @@ pub fn sweep_ends<R: Wait>(
     let mut answer = String::new(alloc);
     let mut last: Option<LinkEnd> = None;
     for count in 0..=bytes.len() {
-        let Some(run) = run_link(rt, alloc, given, &bytes[..count], usize::MAX)? else {
+        let Some(end) = end_of(rt, alloc, given, &bytes[..count])? else {
             return Ok(answer);
         };
-        if last != Some(run.end) {
-            let end = end_name(run.end);
-            answer.push_str(format!(in alloc; "from {count} {end}\n")?.as_str())?;
+        if last != Some(end) {
+            let name = end_name(end);
+            answer.push_str(format!(in alloc; "from {count} {name}\n")?.as_str())?;
         }
-        last = Some(run.end);
+        last = Some(end);
     }
     Ok(answer)
 }
 
 /// How many requests were answered on a port's links as accepted, where none was sent twice.
-fn accepted_on(run: &PortRun) -> u64 {
+fn accepted_on(port: &MemPort) -> u64 {
     let mut count = 0u64;
-    for links in run.port.links() {
+    for links in port.links() {
         for link in links {
-            for window in link.written().as_slice().windows(ACCEPTED.len()) {
-                if window == ACCEPTED {
-                    count = count.saturating_add(1);
-                }
-            }
+            let accepted = count_of(link.written().as_slice(), ACCEPTED);
+            count = count.saturating_add(accepted);
         }
     }
     count
@@ -89,13 +129,26 @@ fn accepted_on(run: &PortRun) -> u64 {
 
 /// Whether a crash left each request that was answered as accepted, and one more at most.
 fn is_left(alloc: Global, run: &PortRun) -> Result<bool, Oom> {
-    let none = List::new(alloc);
-    let disk = MemDisk::new(alloc, run.left.as_slice(), &none, None, 0)?;
-    let accepted = accepted_on(run);
-    Ok(match requests_in(alloc, disk) {
-        Some(left) => accepted <= left && left <= accepted.saturating_add(1),
-        None => false,
-    })
+    let Some(left) = requests_of(alloc, run.ran.left.as_slice())? else {
+        return Ok(false);
+    };
+    let accepted = accepted_on(&run.port);
+    Ok(accepted <= left && left <= accepted.saturating_add(1))
+}
+
+/// Serves the doors, and answers whether a crash then leaves just what was answered.
+fn is_kept<R: Threads + Wait + Sync>(
+    rt: &R,
+    alloc: Global,
+    given: &Given,
+    doors: &[DoorGiven],
+    serving: &Serving,
+) -> Result<bool, Oom>
+    requires { IsServing serving.now }
+{
+    let gate = HoldingGate::new(false);
+    let run = serve_doors(rt, alloc, given, doors, serving, &gate)?;
+    is_left(alloc, &run)
 }
 
 /// Serves the doors over a disk that stops behind each of its first calls, whatever a crash leaves of
@@ -115,16 +168,8 @@ pub fn sweep_crashes<R: Threads + Wait + Sync>(
     for call in 1..=calls {
         for pick in PICKS {
             let stopping = given.stopping(call, pick)?;
-            let run = serve_doors(
-                rt,
-                alloc,
-                &stopping,
-                doors,
-                serving,
-                &HoldingGate::new(false),
-            )?;
             runs = runs.saturating_add(1);
-            if !is_left(alloc, &run)? {
+            if !is_kept(rt, alloc, &stopping, doors, serving)? {
                 differ = differ.saturating_add(1);
             }
         }

@@ -2,18 +2,16 @@
 ghost use Rattle.std.specs.Prelude.{IfOk, IfSome};
 ghost use Rattle.serve_command.specs.Words.{IsServing};
 
-use hazard_types::{List, Oom, Text};
+use hazard_types::Oom;
 use serve_command::{Serving, serving_of};
 use std::alloc::Global;
+use worked_lines::words_of;
 
 /// What a line asks to be served, if it does.
 pub fn serving_in(alloc: Global, line: &str) -> Result<Option<Serving>, Oom>
     ensures { IfOk result (λ serving. IfSome serving IsServing) }
 {
-    let mut words: List<Text> = List::new(alloc);
-    for word in line.split_whitespace() {
-        words.push(List::from_slice(alloc, word.as_bytes())?)?;
-    }
+    let words = words_of(alloc, line)?;
     Ok(serving_of(&words))
 }
 
