@@ -51,9 +51,12 @@ impl Model for Office {
       room = record { rows = o.board.spare; numbers = o.numbers.spare; products = vec_capacity o.products - vec_len o.products };
     } };
 
-    ghost invariant = { λ o.
-        IsSound (record { settings = o.settings; class = o.class; edition = o.edition; rows = o.board.rows; products = o.products.items; drafts = o.drafts.items; begun = o.begun; heard = o.heard.items; last = o.last }) o.numbers.counts
-        × Agrees (record { settings = o.settings; class = o.class; edition = o.edition; rows = o.board.rows; products = o.products.items; drafts = o.drafts.items; begun = o.begun; heard = o.heard.items; last = o.last }) o.numbers.counts
+    ghost invariant = { λ o. IsSound
+        (record { settings = o.settings; class = o.class; edition = o.edition; rows = o.board.rows; products = o.products.items; drafts = o.drafts.items; begun = o.begun; heard = o.heard.items; last = o.last })
+        o.numbers.counts
+        × Agrees
+        (record { settings = o.settings; class = o.class; edition = o.edition; rows = o.board.rows; products = o.products.items; drafts = o.drafts.items; begun = o.begun; heard = o.heard.items; last = o.last })
+        o.numbers.counts
         × (64 ≤ vec_capacity o.drafts) };
 }
 
@@ -149,7 +152,8 @@ impl Office {
 
     /// Returns the reply to the desk's last accepted request, or `None` if it has none.
     pub fn kept(&self, desk: Desk) -> Option<&Reply>
-        ensures { option_map (λ r. r.now) result ≡ option_map (λ said. said.reply) (said_by self.now.state desk) }
+        ensures { option_map (λ r. r.now) result
+            ≡ option_map (λ said. said.reply) (said_by self.now.state desk) }
     {
         match self.said_by(&desk) {
             Some(said) => Some(&said.reply),
