@@ -51,8 +51,7 @@ pub fn planned_lines_open_where_no_row_stands()
         (intents : List Intent) (t : ℕ) →
         CanPlan rows counts c intents t → IsStrictlySortedBy by_key rows →
         broken c rows t (placed counts t intents) ≡ None →
-        All
-        (λ (line : Line). is_routine line.action ≡ false →
+        All (λ (line : Line). is_routine line.action ≡ false →
         opens line.action ≡ is_none (unless_ended (row_at rows line.event line.zone)))
         (planned_lines c rows t (placed counts t intents)) }
     ensures routine { (c : Category) (rows : List Row) (counts : List Count)
@@ -85,8 +84,7 @@ pub fn new_lines_are_of_opened_events()
     ensures events { (c : Category) (rows : List Row) (counts : List Count)
         (intents : List Intent) (t : ℕ) →
         CanPlan rows counts c intents t →
-        All
-        (λ (e : Event). Any (λ (line : Line). (is_new line.action ≡ true) × (line.event ≡ e))
+        All (λ (e : Event). Any (λ (line : Line). (is_new line.action ≡ true) × (line.event ≡ e))
         (planned_lines c rows t (placed counts t intents)))
         (opened (placed counts t intents)) }
 {}

@@ -41,8 +41,7 @@ impl MemSource {
     /// Out of memory.
     pub fn new(alloc: Global, bytes: &[u8], piece: usize, failing: &List<u64>) -> Result<Self, Oom>
         requires { 1 ≤ piece }
-        ensures { IfOk result
-            (λ s. s
+        ensures { IfOk result (λ s. s
             ≡ record { left = bytes.now; piece = piece; failing = failing.now; calls = 0; faults = 0 }) }
     {
         Ok(MemSource {

@@ -102,8 +102,7 @@ pub fn lawful_lines_read_back()
 /// other than UPG, where each that has a UPG line is ended.
 pub fn higher_rows_are_lawful_rows()
     ensures { (rows : List Row) (t : ℕ) (lines : List Line) →
-        rows_for_higher rows t lines ≡ end_upgraded lines
-        (put_all rows t
+        rows_for_higher rows t lines ≡ end_upgraded lines (put_all rows t
         (filter (λ line. not (is_upgrade line.action)) (lawful_of (judged rows t lines))) rows) }
 {}
 

@@ -147,8 +147,7 @@ impl Follower {
             (run events (begun self.old.office self.old.class)).follower ≡ self.old
             → answer_at (run events (begun self.old.office self.old.class)) after ≡ Some text.now
             → ((run (events ++ Delivered after ∷ [])
-            (begun self.old.office self.old.class)).follower
-            ≡ self.new)
+            (begun self.old.office self.old.class)).follower ≡ self.new)
             × HasLostNothing self.old.office self.old.class
             (run (events ++ Delivered after ∷ []) (begun self.old.office self.old.class))) }
     {

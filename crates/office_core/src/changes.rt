@@ -21,8 +21,7 @@ pub(crate) fn place_of(drafts: &[Draft], id: u32) -> Option<usize>
 
 /// The draft with other intents, touched at minute t.
 fn touched(draft: &Draft, t: Minute, intents: List<Intent>) -> Draft
-    ensures { result
-        ≡ record { id = draft.now.id; owner = draft.now.owner; category = draft.now.category; touched = t; intents = intents } }
+    ensures { result ≡ record { id = draft.now.id; owner = draft.now.owner; category = draft.now.category; touched = t; intents = intents } }
 {
     Draft {
         id: draft.id,

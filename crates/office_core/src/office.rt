@@ -51,12 +51,9 @@ impl Model for Office {
       room = record { rows = o.board.spare; numbers = o.numbers.spare; products = vec_capacity o.products - vec_len o.products };
     } };
 
-    ghost invariant = { λ o. IsSound
-        (record { settings = o.settings; class = o.class; edition = o.edition; rows = o.board.rows; products = o.products.items; drafts = o.drafts.items; begun = o.begun; heard = o.heard.items; last = o.last })
-        o.numbers.counts
-        × Agrees
-        (record { settings = o.settings; class = o.class; edition = o.edition; rows = o.board.rows; products = o.products.items; drafts = o.drafts.items; begun = o.begun; heard = o.heard.items; last = o.last })
-        o.numbers.counts
+    ghost invariant = { λ o.
+        IsSound (record { settings = o.settings; class = o.class; edition = o.edition; rows = o.board.rows; products = o.products.items; drafts = o.drafts.items; begun = o.begun; heard = o.heard.items; last = o.last }) o.numbers.counts
+        × Agrees (record { settings = o.settings; class = o.class; edition = o.edition; rows = o.board.rows; products = o.products.items; drafts = o.drafts.items; begun = o.begun; heard = o.heard.items; last = o.last }) o.numbers.counts
         × (64 ≤ vec_capacity o.drafts) };
 }
 

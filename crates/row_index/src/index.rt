@@ -405,8 +405,7 @@ impl RowIndex {
         ensures { result ≡ (not (is_routine line.now.action)
             && not (is_upgrade line.now.action)
             && not second
-            && is_none
-            (breach_of_line (life_at self.now line.now) line.now t
+            && is_none (breach_of_line (life_at self.now line.now) line.now t
             (around_but_higher self.now t line.now true))) }
     {
         let breach = self.breach_but_higher(

@@ -107,8 +107,7 @@ impl<T: Storied> TurnLock<T> {
             × (seat.new.me.1 ≡ (0, Some value) ∷ [])
             × (seat.new.me.0.seen ≡ T.story value) }
         ensures view { ((T.story value ≡ seat.old.me.0.seen) × (seat.new.me.0 ≡ seat.old.me.0))
-            ⊎ ((e : T.Entry)
-            × (T.story value ≡ seat.old.me.0.seen ++ e ∷ [])
+            ⊎ ((e : T.Entry) × (T.story value ≡ seat.old.me.0.seen ++ e ∷ [])
             × (seat.new.me.0 ≡ grown (T.story value) seat.old.me.0)) }
     {
         let shared = &self.table.shared;
@@ -124,8 +123,7 @@ impl<T: Storied> TurnLock<T> {
     pub(crate) fn pass_on(&self, seat: &mut Seat<Option<T>, View<T::Base, T::Entry>>)
         requires seat { (seat.old.table_id ≡ self.now)
             × ((ticket : ℕ) × (seat.old.me.0.stage ≡ Learnt ticket)) }
-        requires value { (x : T)
-            × (seat.old.me.1 ≡ (0, Some x) ∷ [])
+        requires value { (x : T) × (seat.old.me.1 ≡ (0, Some x) ∷ [])
             × (seat.old.me.0.base ≡ Some (T.base x))
             × (T.story x ≡ seat.old.me.0.seen) }
         ensures { (seat.new.table_id ≡ seat.old.table_id)
