@@ -103,10 +103,8 @@ pub fn breach_in(
     line: &Line,
     higher: bool,
 ) -> Option<Breach>
-    ensures { result ≡ (if is_routine line.now.action
-        then None
-        else (if is_second earlier.now line.now
-        then Some Twice
+    ensures { result ≡ (if is_routine line.now.action then None
+        else (if is_second earlier.now line.now then Some Twice
         else breach_of_line (life_at rows.now line.now) line.now t
         (around_but_higher rows.now t line.now higher))) }
 {

@@ -316,10 +316,8 @@ impl RowIndex {
     ) -> Option<Breach>
         requires rows { AreRowsOf self.now line.now.event rows.now }
         requires around { around ≡ asked_around line.now.action self.now t line.now around.higher }
-        ensures { result ≡ (if is_routine line.now.action
-            then None
-            else (if second
-            then Some Twice
+        ensures { result ≡ (if is_routine line.now.action then None
+            else (if second then Some Twice
             else breach_of_line (life_at self.now line.now) line.now t
             (around_but_higher self.now t line.now around.higher))) }
     {
@@ -359,10 +357,8 @@ impl RowIndex {
     ) -> Option<Breach>
         requires rows { AreRowsOf self.now line.now.event rows.now }
         requires around { around ≡ asked_around line.now.action self.now t line.now true }
-        ensures { result ≡ (if is_routine line.now.action
-            then None
-            else (if second
-            then Some Twice
+        ensures { result ≡ (if is_routine line.now.action then None
+            else (if second then Some Twice
             else breach_of_line (life_at self.now line.now) line.now t
             (around_but_higher self.now t line.now true))) }
     {
@@ -381,10 +377,8 @@ impl RowIndex {
     ) -> Option<Breach>
         requires rows { AreRowsOf self.now line.now.event rows.now }
         requires upgrade { is_upgrade line.now.action ≡ true }
-        ensures { result ≡ (if is_routine line.now.action
-            then None
-            else (if second
-            then Some Twice
+        ensures { result ≡ (if is_routine line.now.action then None
+            else (if second then Some Twice
             else breach_of_line (life_at self.now line.now) line.now t
             (around_but_higher self.now t line.now higher))) }
     {
