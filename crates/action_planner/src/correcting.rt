@@ -59,7 +59,8 @@ fn corrected_lines(
 
 /// Returns the texts that are given for an event; the first if there are several.
 fn given_for<'a>(texts: &'a [EventTexts], event: &Event) -> Option<&'a Texts>
-    ensures { MatchOption result (given_for texts.now event.now ≡ None) (λ found. given_for texts.now event.now ≡ Some found.now) }
+    ensures { MatchOption result (given_for texts.now event.now ≡ None)
+        (λ found. given_for texts.now event.now ≡ Some found.now) }
 {
     for told in texts {
         if told.event == *event {
@@ -77,7 +78,8 @@ fn texts_for(
     before: &[EventTexts],
     event: &Event,
 ) -> Result<Texts, Oom>
-    ensures { IfOk result (λ texts. texts ≡ texts_or (option_or (given_for given.now event.now) (given_for before.now event.now))) }
+    ensures { IfOk result (λ texts. texts
+        ≡ texts_or (option_or (given_for given.now event.now) (given_for before.now event.now))) }
 {
     if let Some(texts) = given_for(given, event) {
         return copied(texts);
@@ -95,7 +97,8 @@ fn corrected_texts(
     before: &[EventTexts],
     lines: &[Line],
 ) -> Result<List<EventTexts>, Oom>
-    ensures { IfOk result (λ texts. texts ≡ corrected_texts given.now before.now (events_of lines.now)) }
+    ensures { IfOk result
+        (λ texts. texts ≡ corrected_texts given.now before.now (events_of lines.now)) }
 {
     let mut told = List::new(alloc);
     for event in events_of(alloc, lines)? {
@@ -167,7 +170,8 @@ fn broken_on(
     lines: &List<Line>,
 ) -> Result<Option<Refusal>, Oom>
     requires consistent { IsConsistent board.now.rows t }
-    ensures { IfOk result (λ found. found ≡ broken_on board.now.rows t number last letters lines.now) }
+    ensures { IfOk result
+        (λ found. found ≡ broken_on board.now.rows t number last letters lines.now) }
 {
     let overlap = conflict(alloc, board, t, lines)?;
     if overlap.is_some() {
@@ -232,10 +236,14 @@ pub fn plan_correction(
     t: Minute,
 ) -> Result<Plan, Or<Refusal>>
     requires { CanCorrect board.now.rows sent.now letters t }
-    ensures plan { IfOk result (λ plan. IsCorrection board.now.rows t sent.now letters texts.now plan) }
+    ensures plan { IfOk result
+        (λ plan. IsCorrection board.now.rows t sent.now letters texts.now plan) }
     ensures lawful { IfOk result (λ plan. IsTrue (are_lawful board.now.rows t plan.lines)) }
-    ensures kept { OnOk result (broken_correction board.now.rows t sent.now last letters texts.now ≡ None) }
-    ensures refused { (r : Refused) → result ≡ Err (No r) → broken_correction board.now.rows t sent.now last letters texts.now ≡ Some r }
+    ensures kept { OnOk result
+        (broken_correction board.now.rows t sent.now last letters texts.now ≡ None) }
+    ensures refused { (r : Refused) →
+        result ≡ Err (No r) →
+        broken_correction board.now.rows t sent.now last letters texts.now ≡ Some r }
 {
     if let Some(refusal) = lineless(sent.lines.as_slice(), texts.as_slice()) {
         return Err(Or::No(refusal));

@@ -207,7 +207,8 @@ pub fn may_hold(category: Category, intent: &Intent) -> bool
 /// Whether a draft meets what `plan` requires of it: at most 64 intents, each of which passes
 /// `may_hold`. For callers that make drafts themselves; an office tests each intent as it comes.
 pub fn may_be_planned(draft: &Draft) -> bool
-    ensures { IsTrue result ↔ ((length draft.now.intents ≤ 64) × All (MayHold draft.now.category) draft.now.intents) }
+    ensures { IsTrue result
+        ↔ ((length draft.now.intents ≤ 64) × All (MayHold draft.now.category) draft.now.intents) }
 {
     draft.intents.len() <= MOST_INTENTS && may_hold_all(draft.category, draft.intents.as_slice())
 }

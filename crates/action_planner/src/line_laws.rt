@@ -20,51 +20,74 @@ ghost use Rattle.action_planner.specs.Told.{flood_of, passes};
 
 /// The desk issues the hazard of each line, if it issues those of the rows.
 pub fn lines_are_of_the_desks_hazards()
-    ensures planned { (c : Category) (rows : List Row) (counts : List Count) (intents : List Intent) (t : ℕ) →
-        CanPlan rows counts c intents t → AreKnown rows → All (λ (line : Line). IsKnown line.event.hazard) (planned_lines c rows t (placed counts t intents)) }
+    ensures planned { (c : Category) (rows : List Row) (counts : List Count)
+        (intents : List Intent) (t : ℕ) →
+        CanPlan rows counts c intents t → AreKnown rows →
+        All (λ (line : Line). IsKnown line.event.hazard)
+        (planned_lines c rows t (placed counts t intents)) }
     ensures corrected { (rows : List Row) (t : ℕ) (lines : List Line) →
-        AreKnown rows → All (λ (line : Line). IsKnown line.event.hazard) (corrected_lines rows t lines) }
+        AreKnown rows →
+        All (λ (line : Line). IsKnown line.event.hazard) (corrected_lines rows t lines) }
 {}
 
 /// The number of each line is at most 9,999, if no count of a hazard and year is above it. For the
 /// lines of a draft this holds where it breaks no rule.
 pub fn lines_have_four_digits()
-    ensures planned { (c : Category) (rows : List Row) (counts : List Count) (intents : List Intent) (t : ℕ) →
-        CanPlan rows counts c intents t → HaveFourDigits counts → broken c rows t (placed counts t intents) ≡ None →
-        All (λ (line : Line). line.event.etn ≤ 9999) (planned_lines c rows t (placed counts t intents)) }
+    ensures planned { (c : Category) (rows : List Row) (counts : List Count)
+        (intents : List Intent) (t : ℕ) →
+        CanPlan rows counts c intents t → HaveFourDigits counts →
+        broken c rows t (placed counts t intents) ≡ None →
+        All (λ (line : Line). line.event.etn ≤ 9999)
+        (planned_lines c rows t (placed counts t intents)) }
     ensures corrected { (rows : List Row) (counts : List Count) (t : ℕ) (lines : List Line) →
-        AreNumbered rows counts → HaveFourDigits counts → All (λ (line : Line). line.event.etn ≤ 9999) (corrected_lines rows t lines) }
+        AreNumbered rows counts → HaveFourDigits counts →
+        All (λ (line : Line). line.event.etn ≤ 9999) (corrected_lines rows t lines) }
 {}
 
 /// Each EXP line of a draft ends at a minute. A correction has COR lines only.
 pub fn expiring_lines_end_at_a_minute()
-    ensures planned { (c : Category) (rows : List Row) (counts : List Count) (intents : List Intent) (t : ℕ) →
-        All (λ (line : Line). line.action ≡ Exp → (m : ℕ) × (line.end ≡ At m)) (planned_lines c rows t (placed counts t intents)) }
-    ensures corrected { (rows : List Row) (t : ℕ) (lines : List Line) → All (λ (line : Line). line.action ≡ Cor) (corrected_lines rows t lines) }
+    ensures planned { (c : Category) (rows : List Row) (counts : List Count)
+        (intents : List Intent) (t : ℕ) →
+        All (λ (line : Line). line.action ≡ Exp → (m : ℕ) × (line.end ≡ At m))
+        (planned_lines c rows t (placed counts t intents)) }
+    ensures corrected { (rows : List Row) (t : ℕ) (lines : List Line) →
+        All (λ (line : Line). line.action ≡ Cor) (corrected_lines rows t lines) }
 {}
 
 /// Each line of a draft is in a zone of one of its intents.
 pub fn lines_stand_in_the_drafts_zones()
-    ensures { (c : Category) (rows : List Row) (counts : List Count) (intents : List Intent) (t : ℕ) →
-        All (λ (line : Line). Any (λ (i : Intent). Contains (zones_of i) line.zone) intents) (planned_lines c rows t (placed counts t intents)) }
+    ensures { (c : Category) (rows : List Row) (counts : List Count) (intents : List Intent)
+        (t : ℕ) →
+        All (λ (line : Line). Any (λ (i : Intent). Contains (zones_of i) line.zone) intents)
+        (planned_lines c rows t (placed counts t intents)) }
 {}
 
 /// Each line of a hazard that needs H-VTEC has it. For the lines of a draft this holds where it
 /// breaks no rule.
 pub fn flood_lines_have_values()
-    ensures planned { (c : Category) (rows : List Row) (counts : List Count) (intents : List Intent) (t : ℕ) →
+    ensures planned { (c : Category) (rows : List Row) (counts : List Count)
+        (intents : List Intent) (t : ℕ) →
         CanPlan rows counts c intents t → broken c rows t (placed counts t intents) ≡ None →
-        All (λ (line : Line). needs_values (facts_of line.event.hazard) ≡ true → is_some line.flood ≡ true) (planned_lines c rows t (placed counts t intents)) }
+        All (λ (line : Line).
+        needs_values (facts_of line.event.hazard) ≡ true → is_some line.flood ≡ true)
+        (planned_lines c rows t (placed counts t intents)) }
     ensures corrected { (rows : List Row) (t : ℕ) (lines : List Line) →
-        AreSited rows → All (λ (line : Line). needs_values (facts_of line.event.hazard) ≡ true → is_some line.flood ≡ true) (corrected_lines rows t lines) }
+        AreSited rows →
+        All (λ (line : Line).
+        needs_values (facts_of line.event.hazard) ≡ true → is_some line.flood ≡ true)
+        (corrected_lines rows t lines) }
 {}
 
 /// A test that all H-VTEC values of rows and puts pass, such as one of the form of a location, is
 /// passed by those of the lines.
 pub fn flood_values_are_those_given()
-    ensures planned { (test : Flood → Bool) (c : Category) (rows : List Row) (counts : List Count) (intents : List Intent) (t : ℕ) →
-        All (λ (row : Row). passes test row.flood ≡ true) rows → All (λ (i : Intent). passes test (flood_of i) ≡ true) intents →
-        All (λ (line : Line). passes test line.flood ≡ true) (planned_lines c rows t (placed counts t intents)) }
+    ensures planned { (test : Flood → Bool) (c : Category) (rows : List Row) (counts : List Count)
+        (intents : List Intent) (t : ℕ) →
+        All (λ (row : Row). passes test row.flood ≡ true) rows →
+        All (λ (i : Intent). passes test (flood_of i) ≡ true) intents →
+        All (λ (line : Line). passes test line.flood ≡ true)
+        (planned_lines c rows t (placed counts t intents)) }
     ensures corrected { (test : Flood → Bool) (rows : List Row) (t : ℕ) (lines : List Line) →
-        All (λ (row : Row). passes test row.flood ≡ true) rows → All (λ (line : Line). passes test line.flood ≡ true) (corrected_lines rows t lines) }
+        All (λ (row : Row). passes test row.flood ≡ true) rows →
+        All (λ (line : Line). passes test line.flood ≡ true) (corrected_lines rows t lines) }
 {}

@@ -53,7 +53,8 @@ fn is_near_end(end: &End, t: Minute) -> bool
 /// gets".
 fn finishing_action(sending: &Sending, row: &Row) -> Action
     requires { have_finish sending.now.intents ≡ true }
-    ensures { result ≡ finishing_action sending.now.rows sending.now.minute sending.now.intents row.now }
+    ensures { result
+        ≡ finishing_action sending.now.rows sending.now.minute sending.now.intents row.now }
 {
     let t = sending.minute();
     if ends_after(&row.period.end, t) && sending.is_overlaid(row) {
@@ -79,7 +80,8 @@ pub fn add_line(lines: &mut List<Line>, line: &Line) -> Result<(), Oom>
 /// Adds the line of a finish; none if there is no row.
 fn add_finish(lines: &mut List<Line>, sending: &Sending, row: &Option<Row>) -> Result<(), Oom>
     requires { have_finish sending.now.intents ≡ true }
-    ensures { OnOk result (lines.new ≡ lines.old ++ finish_lines sending.now.rows sending.now.minute sending.now.intents row.now) }
+    ensures { OnOk result (lines.new ≡ lines.old
+        ++ finish_lines sending.now.rows sending.now.minute sending.now.intents row.now) }
 {
     match row {
         None => Ok(()),
@@ -132,9 +134,12 @@ fn add_lines_in(
     zone: &Zone,
     opening: Action,
 ) -> Result<(), Oom>
-    requires opening { opening ≡ opening_of sending.now.rows sending.now.minute p.now.event p.now.intent }
+    requires opening { opening
+        ≡ opening_of sending.now.rows sending.now.minute p.now.event p.now.intent }
     requires finish { is_finish p.now.intent ≡ true → have_finish sending.now.intents ≡ true }
-    ensures { OnOk result (lines.new ≡ lines.old ++ lines_in sending.now.rows sending.now.minute sending.now.intents p.now.event p.now.intent zone.now) }
+    ensures { OnOk result (lines.new ≡ lines.old
+        ++ lines_in sending.now.rows sending.now.minute sending.now.intents p.now.event p.now.intent
+        zone.now) }
 {
     let board = sending.board();
     let t = sending.minute();
@@ -150,7 +155,9 @@ fn add_lines_in(
 /// up once.
 fn add_lines_of(lines: &mut List<Line>, sending: &Sending, p: &Placed) -> Result<(), Oom>
     requires finish { is_finish p.now.intent ≡ true → have_finish sending.now.intents ≡ true }
-    ensures { OnOk result (lines.new ≡ lines.old ++ lines_in_zones sending.now.rows sending.now.minute sending.now.intents p.now.event p.now.intent (zones_of p.now.intent)) }
+    ensures { OnOk result (lines.new ≡ lines.old
+        ++ lines_in_zones sending.now.rows sending.now.minute sending.now.intents p.now.event
+        p.now.intent (zones_of p.now.intent)) }
 {
     let opening = opening_of(sending, p);
     for zone in zones_of(p.intent) {
@@ -161,7 +168,8 @@ fn add_lines_of(lines: &mut List<Line>, sending: &Sending, p: &Placed) -> Result
 
 /// Adds the lines of all intents, in the order of places.
 fn add_spoken(lines: &mut List<Line>, sending: &Sending) -> Result<(), Oom>
-    ensures { OnOk result (lines.new ≡ lines.old ++ lines_from sending.now.rows sending.now.minute sending.now.intents sending.now.intents) }
+    ensures { OnOk result (lines.new ≡ lines.old
+        ++ lines_from sending.now.rows sending.now.minute sending.now.intents sending.now.intents) }
 {
     for p in sending.spoken().intents() {
         add_lines_of(lines, sending, p)?;
@@ -205,7 +213,8 @@ fn add_going_on(
     spoken: &Spoken,
     rows: &[Row],
 ) -> Result<(), Oom>
-    ensures { OnOk result (lines.new ≡ lines.old ++ map (line_on Con t) (filter (goes_on_beside category t spoken.now) rows.now)) }
+    ensures { OnOk result (lines.new ≡ lines.old
+        ++ map (line_on Con t) (filter (goes_on_beside category t spoken.now) rows.now)) }
 {
     for row in rows {
         if goes_on_beside(category, t, spoken, row) {
@@ -223,7 +232,10 @@ fn add_in_zone(
     category: Category,
     zone: &Zone,
 ) -> Result<(), Oom>
-    ensures lines { OnOk result (lines.new ≡ lines.old ++ map (line_on Con sending.now.minute) (filter (goes_on_beside category sending.now.minute sending.now.intents) (slice_of zone.now sending.now.rows))) }
+    ensures lines { OnOk result (lines.new ≡ lines.old
+        ++ map (line_on Con sending.now.minute)
+        (filter (goes_on_beside category sending.now.minute sending.now.intents)
+        (slice_of zone.now sending.now.rows))) }
     ensures order { IsStrictlySortedBy by_key sending.now.rows }
 {
     let t = sending.minute();
@@ -238,8 +250,10 @@ fn add_in_zones(
     category: Category,
     zones: &[Zone],
 ) -> Result<(), Oom>
-    ensures lines { OnOk result (lines.new ≡ lines.old ++ added_in category sending.now.rows sending.now.minute sending.now.intents zones.now) }
-    ensures order { OnOk result (0 < length zones.now → IsStrictlySortedBy by_key sending.now.rows) }
+    ensures lines { OnOk result (lines.new ≡ lines.old
+        ++ added_in category sending.now.rows sending.now.minute sending.now.intents zones.now) }
+    ensures order { OnOk result
+        (0 < length zones.now → IsStrictlySortedBy by_key sending.now.rows) }
 {
     for zone in zones {
         add_in_zone(lines, sending, category, zone)?;
@@ -254,7 +268,8 @@ fn add_beside(
     sending: &Sending,
     category: Category,
 ) -> Result<(), Oom>
-    ensures { OnOk result (lines.new ≡ lines.old ++ added_lines category sending.now.rows sending.now.minute sending.now.intents) }
+    ensures { OnOk result (lines.new ≡ lines.old
+        ++ added_lines category sending.now.rows sending.now.minute sending.now.intents) }
 {
     let zones = sending.spoken().zones(alloc)?;
     add_in_zones(lines, sending, category, zones.as_slice())
@@ -273,7 +288,8 @@ pub fn planned_lines(
     sending: &Sending,
     category: Category,
 ) -> Result<List<Line>, Oom>
-    ensures { IfOk result (λ lines. lines ≡ planned_lines category sending.now.rows sending.now.minute sending.now.intents) }
+    ensures { IfOk result (λ lines.
+        lines ≡ planned_lines category sending.now.rows sending.now.minute sending.now.intents) }
 {
     let mut lines = List::new(alloc);
     add_spoken(&mut lines, sending)?;

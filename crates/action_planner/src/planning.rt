@@ -59,11 +59,20 @@ pub fn plan(
     t: Minute,
 ) -> Result<Plan, Or<Refusal>>
     requires { CanPlan board.now.rows numbers.now.counts draft.now.category draft.now.intents t }
-    ensures plan { IfOk result (λ plan. IsPlan draft.now.category board.now.rows t (placed numbers.now.counts t draft.now.intents) plan) }
-    ensures cases { IfOk result (λ plan. (line : SaidLine) → Contains plan.lines line ↔ IsPlanned draft.now.category board.now.rows t (placed numbers.now.counts t draft.now.intents) line) }
+    ensures plan { IfOk result (λ plan. IsPlan draft.now.category board.now.rows t
+        (placed numbers.now.counts t draft.now.intents) plan) }
+    ensures cases { IfOk result (λ plan. (line : SaidLine) →
+        Contains plan.lines line
+        ↔ IsPlanned draft.now.category board.now.rows t
+        (placed numbers.now.counts t draft.now.intents) line) }
     ensures lawful { IfOk result (λ plan. IsTrue (are_lawful board.now.rows t plan.lines)) }
-    ensures kept { OnOk result (broken draft.now.category board.now.rows t (placed numbers.now.counts t draft.now.intents) ≡ None) }
-    ensures refused { (r : Refused) → result ≡ Err (No r) → broken draft.now.category board.now.rows t (placed numbers.now.counts t draft.now.intents) ≡ Some r }
+    ensures kept { OnOk result
+        (broken draft.now.category board.now.rows t (placed numbers.now.counts t draft.now.intents)
+        ≡ None) }
+    ensures refused { (r : Refused) →
+        result ≡ Err (No r) →
+        broken draft.now.category board.now.rows t (placed numbers.now.counts t draft.now.intents)
+        ≡ Some r }
 {
     let ps = place_all(alloc, numbers, draft.intents.as_slice(), t)?;
     let spoken = Spoken::new(alloc, &ps)?;

@@ -119,7 +119,8 @@ pub fn conflict(
     lines: &List<Line>,
 ) -> Result<Option<Refusal>, Oom>
     requires consistent { IsConsistent board.now.rows t }
-    ensures clash { IfOk result (λ found. found ≡ option_map refused_clash (least_clash t (rows_taken board.now.rows t lines.now))) }
+    ensures clash { IfOk result (λ found.
+        found ≡ option_map refused_clash (least_clash t (rows_taken board.now.rows t lines.now))) }
     ensures order { IsStrictlySortedBy by_key board.now.rows }
 {
     let clash = board.conflict_in_zones(alloc, lines, t)?;
@@ -173,7 +174,8 @@ pub fn broken_late(
 ) -> Result<Option<Refusal>, Oom>
     requires consistent { IsConsistent board.now.rows t }
     requires places { All (λ (p : PlacedIntent). p.place < 64) spoken.now }
-    ensures broken { IfOk result (λ found. found ≡ broken_late board.now.rows t spoken.now lines.now) }
+    ensures broken { IfOk result
+        (λ found. found ≡ broken_late board.now.rows t spoken.now lines.now) }
     ensures order { IsStrictlySortedBy by_key board.now.rows }
 {
     let overlap = conflict(alloc, board, t, lines)?;

@@ -37,9 +37,12 @@ impl<'a> Model for Sending<'a> {
 
     ghost Value = { Sent };
 
-    ghost view = { λ s. record { rows = s.board.now.rows; minute = s.minute; intents = s.spoken.now } };
+    ghost view = { λ s.
+        record { rows = s.board.now.rows; minute = s.minute; intents = s.spoken.now } };
 
-    ghost invariant = { λ s. have_finish s.spoken.now ≡ true → s.put.entries ≡ add_rows [] (rows_by_puts s.board.now.rows s.minute s.spoken.now) };
+    ghost invariant = { λ s.
+        have_finish s.spoken.now ≡ true
+        → s.put.entries ≡ add_rows [] (rows_by_puts s.board.now.rows s.minute s.spoken.now) };
 }
 
 /// Whether the first hazard is of the second's family and of a higher rank.
@@ -76,7 +79,9 @@ fn any_overlays(t: Minute, row: &Row, others: &[Row]) -> bool
 
 /// Whether one of the rows `stand` that the draft leaves, or one of the rows `put`, overlays `row`.
 fn is_overlaid_by(t: Minute, row: &Row, stand: &[Row], put: &[Row], spoken: &Spoken) -> bool
-    ensures { result ≡ (list_any (λ other. overlays t row.now other && is_left spoken.now other) stand.now || list_any (overlays t row.now) put.now) }
+    ensures { result
+        ≡ (list_any (λ other. overlays t row.now other && is_left spoken.now other) stand.now
+        || list_any (overlays t row.now) put.now) }
 {
     any_left_overlays(t, row, stand, spoken) || any_overlays(t, row, put)
 }
@@ -108,7 +113,8 @@ fn is_left(spoken: &Spoken, row: &Row) -> bool
 
 /// Whether one of `others` that no put and no finish is on overlays `row`.
 fn any_left_overlays(t: Minute, row: &Row, others: &[Row], spoken: &Spoken) -> bool
-    ensures { result ≡ list_any (λ other. overlays t row.now other && is_left spoken.now other) others.now }
+    ensures { result
+        ≡ list_any (λ other. overlays t row.now other && is_left spoken.now other) others.now }
 {
     others
         .iter()
@@ -124,7 +130,8 @@ fn add_put(
     event: &Event,
     part: &PutPart,
 ) -> Result<(), Oom>
-    ensures { OnOk result (zones.new.entries ≡ add_rows zones.old.entries (map (row_by_put board.now.rows t event.now part.now) part.now.zones)) }
+    ensures { OnOk result (zones.new.entries ≡ add_rows zones.old.entries
+        (map (row_by_put board.now.rows t event.now part.now) part.now.zones)) }
 {
     for zone in part.zones.as_slice() {
         add_row(alloc, zones, &row_by_put(board, t, event, part, zone))?;
@@ -140,7 +147,8 @@ fn add_rows_by(
     t: Minute,
     p: &Placed,
 ) -> Result<(), Oom>
-    ensures { OnOk result (zones.new.entries ≡ add_rows zones.old.entries (rows_by_intent board.now.rows t p.now p.now.intent)) }
+    ensures { OnOk result (zones.new.entries
+        ≡ add_rows zones.old.entries (rows_by_intent board.now.rows t p.now p.now.intent)) }
 {
     match p.intent {
         Intent::Put(part) => add_put(alloc, zones, board, t, &p.event, part),
@@ -156,7 +164,8 @@ fn add_by_puts(
     t: Minute,
     ps: &[Placed],
 ) -> Result<(), Oom>
-    ensures { OnOk result (zones.new.entries ≡ add_by_puts zones.old.entries board.now.rows t ps.now) }
+    ensures { OnOk result
+        (zones.new.entries ≡ add_by_puts zones.old.entries board.now.rows t ps.now) }
 {
     for p in ps {
         add_rows_by(alloc, zones, board, t, p)?;
@@ -167,7 +176,8 @@ fn add_by_puts(
 /// Returns the rows that the puts leave, by zone.
 #[tactic(auto, using(crate::proofs::SendingLemmas::all_put))]
 fn put_rows(alloc: Global, board: &Board, t: Minute, spoken: &Spoken) -> Result<Zones, Oom>
-    ensures { IfOk result (λ zones. zones.entries ≡ add_rows [] (rows_by_puts board.now.rows t spoken.now)) }
+    ensures { IfOk result
+        (λ zones. zones.entries ≡ add_rows [] (rows_by_puts board.now.rows t spoken.now)) }
 {
     let mut zones = BTreeMap::new(alloc);
     add_by_puts(alloc, &mut zones, board, t, spoken.intents())?;
@@ -197,7 +207,8 @@ fn put_rows_for_finish(
     t: Minute,
     spoken: &Spoken,
 ) -> Result<Zones, Oom>
-    ensures { IfOk result (λ zones. have_finish spoken.now ≡ true → zones.entries ≡ add_rows [] (rows_by_puts board.now.rows t spoken.now)) }
+    ensures { IfOk result (λ zones. have_finish spoken.now ≡ true
+        → zones.entries ≡ add_rows [] (rows_by_puts board.now.rows t spoken.now)) }
 {
     if have_finish(spoken.intents()) {
         put_rows(alloc, board, t, spoken)
@@ -218,7 +229,8 @@ impl<'a> Sending<'a> {
         minute: Minute,
         spoken: &'a Spoken<'a>,
     ) -> Result<Self, Oom>
-        ensures { IfOk result (λ sending. sending ≡ record { rows = board.now.rows; minute = minute; intents = spoken.now }) }
+        ensures { IfOk result (λ sending.
+            sending ≡ record { rows = board.now.rows; minute = minute; intents = spoken.now }) }
     {
         let put = put_rows_for_finish(alloc, board, minute, spoken)?;
         Ok(Sending {

@@ -107,7 +107,8 @@ fn add_spot(spots: &mut BTreeMap<Spot, Speakers>, p: &Placed, zone: &Zone) -> Re
 
 /// Adds an intent to those on its event in each of its zones.
 fn add_spots(spots: &mut BTreeMap<Spot, Speakers>, p: &Placed) -> Result<(), Oom>
-    ensures { OnOk result (spots.new.entries ≡ add_spots spots.old.entries p.now (zones_of p.now.intent)) }
+    ensures { OnOk result
+        (spots.new.entries ≡ add_spots spots.old.entries p.now (zones_of p.now.intent)) }
 {
     for zone in zones_of(p.intent) {
         add_spot(spots, p, zone)?;
@@ -182,8 +183,11 @@ impl<'a> Spoken<'a> {
     /// Returns the intents that are on the event in the zone.
     fn speakers(&self, event: &Event, zone: &Zone) -> Option<Speakers>
         ensures spoken { is_some result ≡ list_any (speaks event.now zone.now) self.now }
-        ensures taken { is_taken result ≡ list_any (λ p. puts_or_finishes p.intent && speaks event.now zone.now p) self.now }
-        ensures others { (n : ℕ) → has_other n result ≡ list_any (λ p. not (p.place == n) && speaks event.now zone.now p) self.now }
+        ensures taken { is_taken result
+            ≡ list_any (λ p. puts_or_finishes p.intent && speaks event.now zone.now p) self.now }
+        ensures others { (n : ℕ) →
+            has_other n result
+            ≡ list_any (λ p. not (p.place == n) && speaks event.now zone.now p) self.now }
     {
         let spot = Spot {
             event: *event,
@@ -201,7 +205,8 @@ impl<'a> Spoken<'a> {
 
     /// Whether a put or a finish is on the event in the zone.
     pub fn is_taken(&self, event: &Event, zone: &Zone) -> bool
-        ensures { result ≡ list_any (λ p. puts_or_finishes p.intent && speaks event.now zone.now p) self.now }
+        ensures { result
+            ≡ list_any (λ p. puts_or_finishes p.intent && speaks event.now zone.now p) self.now }
     {
         match self.speakers(event, zone) {
             Some(speakers) => speakers.taken,
@@ -229,7 +234,8 @@ impl<'a> Spoken<'a> {
     ///
     /// Out of memory.
     pub fn zones(&self, alloc: Global) -> Result<List<Zone>, Oom>
-        ensures touched { IfOk result (λ zones. (z : Place) → list_any (λ (y : Place). same_zone y z) zones ≡ list_any (touches z) self.now) }
+        ensures touched { IfOk result (λ zones. (z : Place) →
+            list_any (λ (y : Place). same_zone y z) zones ≡ list_any (touches z) self.now) }
         ensures order { IfOk result (λ zones. IsStrictlySortedBy by_place zones) }
     {
         listed(alloc, &self.zones)

@@ -23,8 +23,12 @@ ghost use Rattle.action_planner.specs.Told.{counts_in};
 /// Of each hazard and year, the NEW lines of a draft, in the order of events, have the same numbers
 /// as the events that it opens, in the order of places.
 pub fn new_lines_draw_the_numbers()
-    ensures { (c : Category) (rows : List Row) (counts : List Count) (intents : List Intent) (t : ℕ) → CanPlan rows counts c intents t →
-        (h : Hazard) (year : ℕ) → numbers_of h year (opened_by (planned_lines c rows t (placed counts t intents))) ≡ numbers_of h year (opened (placed counts t intents)) }
+    ensures { (c : Category) (rows : List Row) (counts : List Count) (intents : List Intent)
+        (t : ℕ) →
+        CanPlan rows counts c intents t →
+        (h : Hazard) (year : ℕ) →
+        numbers_of h year (opened_by (planned_lines c rows t (placed counts t intents)))
+        ≡ numbers_of h year (opened (placed counts t intents)) }
 {}
 
 /// The rows alone determine how many numbers of each hazard and year were drawn, and so the events
@@ -32,8 +36,8 @@ pub fn new_lines_draw_the_numbers()
 pub fn rows_tell_the_numbers()
     ensures counts { (rows : List Row) (counts : List Count) → AreNumbered rows counts →
         (h : Hazard) (year : ℕ) → count_of (counts_in rows) h year ≡ count_of counts h year }
-    ensures placed { (rows : List Row) (counts : List Count) (intents : List Intent) (t : ℕ) → AreNumbered rows counts →
-        placed (counts_in rows) t intents ≡ placed counts t intents }
+    ensures placed { (rows : List Row) (counts : List Count) (intents : List Intent) (t : ℕ) →
+        AreNumbered rows counts → placed (counts_in rows) t intents ≡ placed counts t intents }
 {}
 
 /// The lines of a text, in the order of its segments, are lawful if and only if those of the plan
@@ -41,8 +45,11 @@ pub fn rows_tell_the_numbers()
 /// one zone.
 pub fn texts_say_what_their_lines_say()
     ensures lawful { (rows : List Row) (t : ℕ) (lines : List Line) (segments : List Segment) →
-        IsStrictlySortedBy by_key rows → AreSegments lines segments → AllPairs IsApart lines → are_lawful rows t (lines_in_text segments) ≡ are_lawful rows t lines }
+        IsStrictlySortedBy by_key rows → AreSegments lines segments → AllPairs IsApart lines →
+        are_lawful rows t (lines_in_text segments) ≡ are_lawful rows t lines }
     ensures rows { (rows : List Row) (t : ℕ) (lines : List Line) (segments : List Segment) →
-        IsStrictlySortedBy by_key rows → AreSegments lines segments → AllPairs IsApart lines → rows_after rows t (lines_in_text segments) ≡ rows_after rows t lines }
-    ensures opened { (lines : List Line) (segments : List Segment) → AreSegments lines segments → opened_by (lines_in_text segments) ≡ opened_by lines }
+        IsStrictlySortedBy by_key rows → AreSegments lines segments → AllPairs IsApart lines →
+        rows_after rows t (lines_in_text segments) ≡ rows_after rows t lines }
+    ensures opened { (lines : List Line) (segments : List Segment) →
+        AreSegments lines segments → opened_by (lines_in_text segments) ≡ opened_by lines }
 {}

@@ -35,7 +35,8 @@ fn has_live_row(board: &Board, t: Minute, event: &Event, zone: &Zone) -> bool
 
 /// Whether the event has a row in the zone whose end has come and that no line has ended.
 fn has_lapsed_row(board: &Board, t: Minute, event: &Event, zone: &Zone) -> bool
-    ensures { result ≡ has_row_by (λ row. not row.ended && not (is_live t row)) (row_at board.now.rows event.now zone.now) }
+    ensures { result ≡ has_row_by (λ row. not row.ended && not (is_live t row))
+        (row_at board.now.rows event.now zone.now) }
 {
     match board.row(*event, *zone) {
         Some(row) => !row.ended && !is_live(&row, t),
@@ -45,7 +46,8 @@ fn has_lapsed_row(board: &Board, t: Minute, event: &Event, zone: &Zone) -> bool
 
 /// Whether the event has a live row in the zone whose begin is at most `t`.
 fn has_begun_row(board: &Board, t: Minute, event: &Event, zone: &Zone) -> bool
-    ensures { result ≡ has_row_by (λ row. is_live t row && nat_le row.period.begin t) (row_at board.now.rows event.now zone.now) }
+    ensures { result ≡ has_row_by (λ row. is_live t row && nat_le row.period.begin t)
+        (row_at board.now.rows event.now zone.now) }
 {
     match board.row(*event, *zone) {
         Some(row) => is_live(&row, t) && row.period.begin.get() <= t.get(),

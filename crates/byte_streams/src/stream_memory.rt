@@ -41,7 +41,8 @@ impl MemSource {
     /// Out of memory.
     pub fn new(alloc: Global, bytes: &[u8], piece: usize, failing: &List<u64>) -> Result<Self, Oom>
         requires { 1 ≤ piece }
-        ensures { IfOk result (λ s. s ≡ record { left = bytes.now; piece = piece; failing = failing.now; calls = 0; faults = 0 }) }
+        ensures { IfOk result (λ s. s
+            ≡ record { left = bytes.now; piece = piece; failing = failing.now; calls = 0; faults = 0 }) }
     {
         Ok(MemSource {
             bytes: List::from_slice(alloc, bytes)?,
@@ -67,7 +68,8 @@ impl Source for MemSource {
         // It fails exactly at the listed calls; otherwise it returns as many bytes as remain and
         // fit both the piece and the buffer.
         ensures failing { IsErr result ↔ Contains self.old.failing (next_count self.old.calls) }
-        ensures amount { IfOk result (λ n. n ≡ min (min (length self.old.left) self.old.piece) (length into.old)) }
+        ensures amount { IfOk result
+            (λ n. n ≡ min (min (length self.old.left) self.old.piece) (length into.old)) }
         ensures called { self.new.calls ≡ next_count self.old.calls }
         ensures kept { (self.new.failing ≡ self.old.failing) × (self.new.piece ≡ self.old.piece) }
     {
@@ -110,7 +112,8 @@ impl MemSink {
     ///
     /// Out of memory.
     pub fn new(alloc: Global, failing: &List<u64>) -> Result<Self, Oom>
-        ensures { IfOk result (λ s. s ≡ record { taken = []; failing = failing.now; calls = 0; faults = 0; lacked = false }) }
+        ensures { IfOk result (λ s. s
+            ≡ record { taken = []; failing = failing.now; calls = 0; faults = 0; lacked = false }) }
     {
         Ok(MemSink {
             taken: List::new(alloc),
@@ -146,7 +149,8 @@ impl Sink for MemSink {
 
         // It fails exactly at the listed calls and where memory runs out; otherwise it takes all
         // bytes.
-        ensures failing { FailsAsTold (Contains self.old.failing (next_count self.old.calls)) self.old.lacked self.new.lacked result }
+        ensures failing { FailsAsTold (Contains self.old.failing (next_count self.old.calls))
+            self.old.lacked self.new.lacked result }
         ensures amount { IfOk result (λ n. n ≡ length bytes.now) }
         ensures called { self.new.calls ≡ next_count self.old.calls }
         ensures kept { self.new.failing ≡ self.old.failing }

@@ -22,7 +22,8 @@ impl SureSource {
     ///
     /// Out of memory.
     pub fn new(alloc: Global, bytes: &[u8]) -> Result<Self, Oom>
-        ensures { IfOk result (λ source. ⟦<SureSource as Source>⟧.inflow source ≡ inflow (Some bytes.now) 0) }
+        ensures { IfOk result
+            (λ source. ⟦<SureSource as Source>⟧.inflow source ≡ inflow (Some bytes.now) 0) }
     {
         Ok(SureSource {
             bytes: List::from_slice(alloc, bytes)?,

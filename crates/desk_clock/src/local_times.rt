@@ -28,7 +28,9 @@ const FIRST: u32 = 4_382_543;
 /// The day numbers of `jiff` are those of the calendar of `hazard_types`: 2000-01-01, its day 0, is
 /// day 10957 of `jiff`.
 pub fn calendars_agree()
-    ensures { (c : Civil) → IsCivil c → days_from_civil (pos (2000 + c.year)) c.month c.day ≡ pos (10957 + minute_of c / 1440) }
+    ensures { (c : Civil) →
+        IsCivil c →
+        days_from_civil (pos (2000 + c.year)) c.month c.day ≡ pos (10957 + minute_of c / 1440) }
 {}
 
 /// Returns the date and time of day `shown` minutes after 1999-12-31T00:00, both local.
@@ -59,7 +61,8 @@ pub fn weekday(shown: u32) -> Weekday
 #[tactic(auto, unfolding(crate::specs::LocalTimes::has_date))]
 fn date_of(t: LocalTime) -> Option<Date>
     ensures test { is_some result ≡ has_date t }
-    ensures date { IfSome result (λ d. (d.year ≡ pos t.year) × (d.month ≡ t.month) × (d.day ≡ t.day)) }
+    ensures date { IfSome result
+        (λ d. (d.year ≡ pos t.year) × (d.month ≡ t.month) × (d.day ≡ t.day)) }
     ensures years { IfSome result (λ _. (1999 ≤ t.year) × (t.year ≤ 2099)) }
 {
     if t.year < 1999 || t.year > 2099 || t.month > 12 || t.day > 31 {
@@ -73,7 +76,8 @@ fn date_of(t: LocalTime) -> Option<Date>
 
 /// Returns the days from 1999-12-31 to a date; `None` before that day.
 fn days_to(date: Date) -> Option<u32>
-    ensures { MatchOption result (epoch_day date <ℤ pos 10956) (λ days. epoch_day date ≡ pos (10956 + days)) }
+    ensures { MatchOption result (epoch_day date <ℤ pos 10956)
+        (λ days. epoch_day date ≡ pos (10956 + days)) }
 {
     date.days_since_min().checked_sub(FIRST)
 }

@@ -136,7 +136,8 @@ fn words_say(
     day: &[u8],
     year: &[u8],
 ) -> Option<Written>
-    ensures { result ≡ words_say clock.now half.now letters.now weekday.now month.now day.now year.now }
+    ensures { result
+        ≡ words_say clock.now half.now letters.now weekday.now month.now day.now year.now }
 {
     if are_letters(letters) && is_weekday(weekday) {
         let time = time_said(clock, half)?;

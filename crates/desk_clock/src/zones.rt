@@ -104,5 +104,7 @@ pub fn rules_are_read()
 
 /// The offset of a zone at an instant is the one that `jiff` returns for the zone's rule.
 pub fn offsets_are_jiffs()
-    ensures { (z : Zone) (read : JiffZone) (instant : ℤ) → IsPosixZone (rule_text z) read → jiff_offset read instant ≡ text_offset (rule_text z) instant }
+    ensures { (z : Zone) (read : JiffZone) (instant : ℤ) →
+        IsPosixZone (rule_text z) read →
+        jiff_offset read instant ≡ text_offset (rule_text z) instant }
 {}

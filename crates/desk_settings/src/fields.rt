@@ -170,7 +170,8 @@ pub fn desks_field(alloc: Global, table: &Table) -> Result<List<Desk>, Or<Settin
 
 /// Returns the name of a zone, or `None` if the value is not one.
 fn zone_name_in(value: &Value) -> Option<&str>
-    ensures { option_map (λ s. s.now) result ≡ option_and_then zone_name_in (as_str (view value.now)) }
+    ensures { option_map (λ s. s.now) result
+        ≡ option_and_then zone_name_in (as_str (view value.now)) }
 {
     match value.as_str() {
         Some(text) => {
@@ -187,7 +188,8 @@ fn zone_name_in(value: &Value) -> Option<&str>
 /// Returns the zones of a table with their names, in order, or `None` if a key is not a zone or a
 /// value not the name of one.
 fn zones_of(alloc: Global, table: &Table) -> Result<Option<List<(Zone, Text)>>, Oom>
-    ensures { IfOk result (λ zones. zones ≡ option_map in_order (zone_pairs (table_view table.now))) }
+    ensures { IfOk result
+        (λ zones. zones ≡ option_map in_order (zone_pairs (table_view table.now))) }
 {
     let mut zones = List::new(alloc);
     for (key, value) in table.iter() {

@@ -96,7 +96,8 @@ fn look_up<'a>(table: &'a Table, key: &str) -> Option<&'a Value>
 
 /// Returns the value that the table `headings` has for a category.
 fn heading_at(table: &Table, category: Category) -> Option<&Value>
-    ensures { option_map (λ v. view v.now) result ≡ value_at (Key.Heading category) (table_view table.now) }
+    ensures { option_map (λ v. view v.now) result
+        ≡ value_at (Key.Heading category) (table_view table.now) }
 {
     match look_up(table, "headings") {
         Some(value) => match value.as_table() {

@@ -35,8 +35,10 @@ fn has_twice(desks: &[Desk]) -> bool
 /// Parses a TOML document, which must be UTF-8.
 fn read_table(alloc: Global, bytes: &[u8]) -> Result<Table, Or<SettingsFault>>
     ensures ok { IfOk result (λ table. table_of bytes.now ≡ Some (table_view table)) }
-    ensures refused { (fault : SettingsFault) → result ≡ Err (Or.No fault) → table_of bytes.now ≡ None }
-    ensures named { (fault : SettingsFault) → result ≡ Err (Or.No fault) → fault ≡ SettingsFault.NotToml }
+    ensures refused { (fault : SettingsFault) →
+        result ≡ Err (Or.No fault) → table_of bytes.now ≡ None }
+    ensures named { (fault : SettingsFault) →
+        result ≡ Err (Or.No fault) → fault ≡ SettingsFault.NotToml }
 {
     match toml::table_from_slice(alloc, bytes) {
         Ok(table) => Ok(table),

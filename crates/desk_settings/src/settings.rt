@@ -71,7 +71,8 @@ impl Settings {
     pub fn zone_name(&self, zone: &Zone) -> Option<&Text>
         requires { IsStrictlySortedBy by_place (keys_of self.now.zones) }
         ensures value { option_map (λ name. name.now) result ≡ name_beside self.now.zones zone.now }
-        ensures stands { MatchOption result (¬ Contains (keys_of self.now.zones) zone.now) (λ name. Contains self.now.zones (zone.now, name.now)) }
+        ensures stands { MatchOption result (¬ Contains (keys_of self.now.zones) zone.now)
+            (λ name. Contains self.now.zones (zone.now, name.now)) }
     {
         match self
             .zones

@@ -26,7 +26,8 @@ fn end_of(end: &Option<Minute>) -> End
 /// Returns the line of a product, given what its text says of one zone. `rows` are the rows just
 /// before the product, and `t` is its issue minute.
 pub fn line_of(rows: &[Row], t: Minute, zone: &Zone, vtec: &Vtec, flood: &Option<Flood>) -> Line
-    ensures { result ≡ line_of rows.now t (record { zone = zone.now; vtec = vtec.now; flood = flood.now }) }
+    ensures { result
+        ≡ line_of rows.now t (record { zone = zone.now; vtec = vtec.now; flood = flood.now }) }
 {
     Line {
         action: vtec.action,
@@ -80,7 +81,8 @@ fn is_overlapped(rows: &[Row], t: Minute, own: &Row) -> bool
 /// family, and overlaps the line's row in its zone. True for a hazard without a family or one that
 /// the desk does not issue; `rows` are the rows just before the product.
 pub fn has_higher(rows: &[Row], t: Minute, after: &[Row], line: &Line) -> bool
-    ensures { result ≡ (not (may_yield line.now.event.hazard) || is_overlapped after.now t (row_at rows.now line.now.event line.now.zone)) }
+    ensures { result ≡ (not (may_yield line.now.event.hazard)
+        || is_overlapped after.now t (row_at rows.now line.now.event line.now.zone)) }
 {
     if !may_yield(&line.event.hazard) {
         return true;
@@ -101,7 +103,10 @@ pub fn breach_in(
     line: &Line,
     higher: bool,
 ) -> Option<Breach>
-    ensures { result ≡ (if is_routine line.now.action then None else (if is_second earlier.now line.now then Some Twice else breach_of_line (life_at rows.now line.now) line.now t (around_but_higher rows.now t line.now higher))) }
+    ensures { result ≡ (if is_routine line.now.action then None
+        else (if is_second earlier.now line.now then Some Twice
+        else breach_of_line (life_at rows.now line.now) line.now t
+        (around_but_higher rows.now t line.now higher))) }
 {
     if is_routine(&line.action) {
         None

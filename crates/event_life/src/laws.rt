@@ -29,9 +29,11 @@ pub fn first_line_decides()
 /// rows.
 pub fn order_of_lines_is_free()
     ensures lawful { (rows : List Row) (t : ℕ) (xs ys : List Line) →
-        IsStrictlySortedBy by_key rows → AreApart xs → AreApart ys → TouchAlike xs ys → are_lawful rows t xs ≡ are_lawful rows t ys }
+        IsStrictlySortedBy by_key rows → AreApart xs → AreApart ys → TouchAlike xs ys →
+        are_lawful rows t xs ≡ are_lawful rows t ys }
     ensures rows { (rows : List Row) (t : ℕ) (xs ys : List Line) →
-        IsStrictlySortedBy by_key rows → AreApart xs → TouchAlike xs ys → rows_after rows t xs ≡ rows_after rows t ys }
+        IsStrictlySortedBy by_key rows → AreApart xs → TouchAlike xs ys →
+        rows_after rows t xs ≡ rows_after rows t ys }
 {}
 
 /// Rows by zone, then event, each pair once, are so after a product too.
@@ -44,12 +46,14 @@ pub fn rows_stay_in_order()
 /// first opens with NEW, EXA or EXB, each later one with EXA or EXB, and a spell goes on with CON,
 /// COR or EXT. Each but the last ends with CAN, EXP or UPG, and the last may.
 pub fn lives_are_spells()
-    ensures { (products : List Product) (e : Event) (z : Place) → IsLife (actions_of (track_of products e z)) }
+    ensures { (products : List Product) (e : Event) (z : Place) →
+        IsLife (actions_of (track_of products e z)) }
 {}
 
 /// The life of an event in a zone is lawful exactly if its track has all its lines.
 pub fn lawful_lives_are_whole()
-    ensures { (products : List Product) (e : Event) (z : Place) → IsLawfulLife products e z ↔ (track_of products e z ≡ said_of products e z) }
+    ensures { (products : List Product) (e : Event) (z : Place) →
+        IsLawfulLife products e z ↔ (track_of products e z ≡ said_of products e z) }
 {}
 
 /// No event is opened twice, by one product or by two.
@@ -62,12 +66,15 @@ pub fn events_open_once()
 /// lines open what its lines open.
 pub fn opened_events_are_of_the_lines()
     ensures alike { (xs ys : List Line) →
-        ((line : Line) → is_new line.action ≡ true → Contains xs line ↔ Contains ys line) → opened_by xs ≡ opened_by ys }
+        ((line : Line) → is_new line.action ≡ true → Contains xs line ↔ Contains ys line) →
+        opened_by xs ≡ opened_by ys }
     ensures order { (lines : List Line) → IsStrictlySortedBy by_event (opened_by lines) }
     ensures members { (lines : List Line) (e : Event) →
-        Contains (opened_by lines) e ↔ ((line : Line) × Contains lines line × (is_new line.action ≡ true) × (line.event ≡ e)) }
+        Contains (opened_by lines) e
+        ↔ ((line : Line) × Contains lines line × (is_new line.action ≡ true) × (line.event ≡ e)) }
     ensures lawful { (rows : List Row) (t : ℕ) (lines : List Line) →
-        are_lawful rows t lines ≡ true → opened_by (lawful_of (judged rows t lines)) ≡ opened_by lines }
+        are_lawful rows t lines ≡ true →
+        opened_by (lawful_of (judged rows t lines)) ≡ opened_by lines }
 {}
 
 /// The rows of a list of products are by zone, then event, each pair once.
@@ -84,7 +91,8 @@ pub fn gapless_without_gaps()
 /// A lawful line other than ROU reads back from its text, if just before its product no two open
 /// events have the same hazard and number, and the event of a NEW line is of the year of issue.
 pub fn lawful_lines_read_back()
-    ensures { (rows : List Row) (t : ℕ) (lines : List Line) (class : Class) (office : List ℕ) (line : Line) →
+    ensures { (rows : List Row) (t : ℕ) (lines : List Line) (class : Class) (office : List ℕ)
+        (line : Line) →
         is_routine line.action ≡ false → is_lawful rows t lines line ≡ true → HasOneOpen rows t →
         (is_new line.action ≡ true → line.event.year ≡ year_of t) →
         line_of rows t (zone_line_of class office line) ≡ line }
@@ -94,11 +102,13 @@ pub fn lawful_lines_read_back()
 /// other than UPG, where each that has a UPG line is ended.
 pub fn higher_rows_are_lawful_rows()
     ensures { (rows : List Row) (t : ℕ) (lines : List Line) →
-        rows_for_higher rows t lines ≡ end_upgraded lines (put_all rows t (filter (λ line. not (is_upgrade line.action)) (lawful_of (judged rows t lines))) rows) }
+        rows_for_higher rows t lines ≡ end_upgraded lines (put_all rows t
+        (filter (λ line. not (is_upgrade line.action)) (lawful_of (judged rows t lines))) rows) }
 {}
 
 /// The rows that the judged lines of a product leave are the rows after the product.
 #[tactic(auto, unfolding(crate::specs::Products::rows_after))]
 pub fn judged_lines_leave_the_rows_after()
-    ensures { (rows : List Row) (t : ℕ) (lines : List Line) → put_all rows t (lawful_of (judged rows t lines)) rows ≡ rows_after rows t lines }
+    ensures { (rows : List Row) (t : ℕ) (lines : List Line) →
+        put_all rows t (lawful_of (judged rows t lines)) rows ≡ rows_after rows t lines }
 {}

@@ -253,7 +253,8 @@ fn can_breach(life: &Life, t: Minute) -> Option<Breach>
 /// Returns `TooEarly` for an EXP line more than half an hour before the end, and `TooLate` for one
 /// more than half an hour after it.
 fn exp_breach(life: &Life, t: Minute) -> Option<Breach>
-    ensures { result ≡ first_of ((expires_early life.now.period.end t named TooEarly) ∷ (expires_late life.now.period.end t named TooLate) ∷ []) }
+    ensures { result ≡ first_of ((expires_early life.now.period.end t named TooEarly)
+        ∷ (expires_late life.now.period.end t named TooLate) ∷ []) }
 {
     let End::At(end) = &life.period.end else {
         return Some(Breach::TooEarly);
@@ -270,7 +271,8 @@ fn exp_breach(life: &Life, t: Minute) -> Option<Breach>
 /// Returns `TooLate` for a UPG line at the end or later, and else `NoHigher` for one without a
 /// higher row.
 fn upg_breach(life: &Life, t: Minute, around: Around) -> Option<Breach>
-    ensures { result ≡ first_of ((not (ends_after life.now.period.end t) named TooLate) ∷ (not around.higher named NoHigher) ∷ []) }
+    ensures { result ≡ first_of ((not (ends_after life.now.period.end t) named TooLate)
+        ∷ (not around.higher named NoHigher) ∷ []) }
 {
     if !ends_after(&life.period.end, t) {
         Some(Breach::TooLate)
@@ -342,7 +344,8 @@ fn flood_after(life: &Life, line: &Line) -> Option<Flood>
 
 /// Returns the life that a NEW, EXA or EXB line opens.
 fn opened_life(line: &Line, t: Minute) -> Life
-    ensures { result ≡ record { period = opened_period line.now t; flood = line.now.flood; ended = false } }
+    ensures { result
+        ≡ record { period = opened_period line.now t; flood = line.now.flood; ended = false } }
 {
     Life {
         period: Period {

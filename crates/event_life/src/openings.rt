@@ -87,7 +87,8 @@ fn wanted_in(lasts: &Lasts, event: &Event) -> u32
 
 /// Sets the last number of the event's hazard and year.
 fn note_last(lasts: &mut Lasts, event: &Event) -> Result<(), Oom>
-    ensures { OnOk result (lasts.new.entries ≡ insert_entry by_series lasts.old.entries (series_of event.now) event.now.etn) }
+    ensures { OnOk result (lasts.new.entries
+        ≡ insert_entry by_series lasts.old.entries (series_of event.now) event.now.etn) }
 {
     lasts.insert(series_of(event), event.etn)?;
     Ok(())
@@ -95,7 +96,8 @@ fn note_last(lasts: &mut Lasts, event: &Event) -> Result<(), Oom>
 
 /// Appends the gap at an event, if there is one.
 fn add_gap(found: &mut Vec<Gap>, lasts: &Lasts, event: &Event) -> Result<(), Oom>
-    ensures { OnOk result (found.new.items ≡ found.old.items ++ gap_in lasts.now.entries event.now) }
+    ensures { OnOk result
+        (found.new.items ≡ found.old.items ++ gap_in lasts.now.entries event.now) }
 {
     let wanted = wanted_in(lasts, event);
     if u32::from(event.etn) != wanted {

@@ -129,7 +129,8 @@ pub fn may_count(rows: &[Row], t: Minute, earlier: &[Line], line: &Line) -> bool
 
 /// Returns the rows after the lawful lines other than UPG.
 fn put_but_upgrades(alloc: Global, rows: &[Row], t: Minute, lines: &[Line]) -> Result<Vec<Row>, Oom>
-    ensures { IfOk result (λ after. after.items ≡ put_but_upgrades rows.now t [] lines.now rows.now) }
+    ensures { IfOk result
+        (λ after. after.items ≡ put_but_upgrades rows.now t [] lines.now rows.now) }
 {
     let mut after = Vec::from_slice(alloc, rows)?;
     for (place, line) in lines.iter().enumerate() {

@@ -65,7 +65,9 @@ pub fn opened_period(line: &Line, t: Minute) -> Period
 
 /// Whether a live row of the event has this period at `t`.
 pub fn has_period(rows: &[Row], t: Minute, event: &Event, period: &Period) -> bool
-    ensures { result ≡ list_any (λ row. same_event row.event event.now && is_live t row && same_at t row.period period.now) rows.now }
+    ensures { result ≡ list_any (λ row.
+        same_event row.event event.now && is_live t row && same_at t row.period period.now)
+        rows.now }
 {
     rows.iter().any(|row| row.event == *event && is_live(row, t) && same_at(t, &row.period, period))
 }

@@ -22,53 +22,70 @@ pub fn new_opens_an_event()
 /// begins at the issue minute or later and ends after its begin, and a live row of the event has
 /// that period.
 pub fn exa_joins_a_period_of_the_event()
-    ensures { (before : Option Life) (line : Line) (t : ℕ) (around : Around) → line.action ≡ Exa →
-        IsOk (step before line t around) ↔ (HasEnded before × JoinsEvent line t around × (around.same ≡ true)) }
+    ensures { (before : Option Life) (line : Line) (t : ℕ) (around : Around) →
+        line.action ≡ Exa →
+        IsOk (step before line t around)
+        ↔ (HasEnded before × JoinsEvent line t around × (around.same ≡ true)) }
 {}
 
 /// EXB is lawful exactly if the event has no unended life in the zone and is open, the period
 /// begins at the issue minute or later and ends after its begin, and no live row of the event has
 /// that period.
 pub fn exb_joins_at_another_period()
-    ensures { (before : Option Life) (line : Line) (t : ℕ) (around : Around) → line.action ≡ Exb →
-        IsOk (step before line t around) ↔ (HasEnded before × JoinsEvent line t around × (around.same ≡ false)) }
+    ensures { (before : Option Life) (line : Line) (t : ℕ) (around : Around) →
+        line.action ≡ Exb →
+        IsOk (step before line t around)
+        ↔ (HasEnded before × JoinsEvent line t around × (around.same ≡ false)) }
 {}
 
 /// CON and COR are lawful exactly on a live row whose period stays the same. They print a begin
 /// only if it and the row's begin are after the issue minute.
 pub fn con_and_cor_keep_the_period()
-    ensures con { (before : Option Life) (line : Line) (t : ℕ) (around : Around) → line.action ≡ Con →
-        IsOk (step before line t around) ↔ IsSomeAnd before (λ life. GoesOnFrom life line t × Stays life line t) }
-    ensures cor { (before : Option Life) (line : Line) (t : ℕ) (around : Around) → line.action ≡ Cor →
-        IsOk (step before line t around) ↔ IsSomeAnd before (λ life. GoesOnFrom life line t × Stays life line t) }
+    ensures con { (before : Option Life) (line : Line) (t : ℕ) (around : Around) →
+        line.action ≡ Con →
+        IsOk (step before line t around)
+        ↔ IsSomeAnd before (λ life. GoesOnFrom life line t × Stays life line t) }
+    ensures cor { (before : Option Life) (line : Line) (t : ℕ) (around : Around) →
+        line.action ≡ Cor →
+        IsOk (step before line t around)
+        ↔ IsSomeAnd before (λ life. GoesOnFrom life line t × Stays life line t) }
 {}
 
 /// EXT is lawful exactly on a live row whose period changes, with an end after the begin and after
 /// the issue minute.
 pub fn ext_changes_the_period()
-    ensures { (before : Option Life) (line : Line) (t : ℕ) (around : Around) → line.action ≡ Ext →
-        IsOk (step before line t around) ↔ IsSomeAnd before (λ life. GoesOnFrom life line t × (¬ Stays life line t)) }
+    ensures { (before : Option Life) (line : Line) (t : ℕ) (around : Around) →
+        line.action ≡ Ext →
+        IsOk (step before line t around)
+        ↔ IsSomeAnd before (λ life. GoesOnFrom life line t × (¬ Stays life line t)) }
 {}
 
 /// CAN is lawful exactly on a row that no line has ended and whose period it prints, more than half
 /// an hour before the end; always, if that is until further notice.
 pub fn can_comes_before_the_last_half_hour()
-    ensures { (before : Option Life) (line : Line) (t : ℕ) (around : Around) → line.action ≡ Can →
-        IsOk (step before line t around) ↔ IsSomeAnd before (λ life. EndsAsPrinted life line t × IsLongBefore t life.period.end) }
+    ensures { (before : Option Life) (line : Line) (t : ℕ) (around : Around) →
+        line.action ≡ Can →
+        IsOk (step before line t around)
+        ↔ IsSomeAnd before (λ life. EndsAsPrinted life line t × IsLongBefore t life.period.end) }
 {}
 
 /// EXP is lawful exactly on a row that no line has ended and whose period it prints, at most half
 /// an hour before or after the end; never, if that is until further notice.
 pub fn exp_comes_within_half_an_hour_of_the_end()
-    ensures { (before : Option Life) (line : Line) (t : ℕ) (around : Around) → line.action ≡ Exp →
-        IsOk (step before line t around) ↔ IsSomeAnd before (λ life. EndsAsPrinted life line t × IsNear t life.period.end) }
+    ensures { (before : Option Life) (line : Line) (t : ℕ) (around : Around) →
+        line.action ≡ Exp →
+        IsOk (step before line t around)
+        ↔ IsSomeAnd before (λ life. EndsAsPrinted life line t × IsNear t life.period.end) }
 {}
 
 /// UPG is lawful exactly on a row that no line has ended and whose period it prints, before the
 /// end, if a higher row overlaps, the hazard has no family, or the desk does not issue it.
 pub fn upg_comes_before_the_end()
-    ensures { (before : Option Life) (line : Line) (t : ℕ) (around : Around) → line.action ≡ Upg →
-        IsOk (step before line t around) ↔ IsSomeAnd before (λ life. EndsAsPrinted life line t × IsBefore t life.period.end × (around.higher ≡ true)) }
+    ensures { (before : Option Life) (line : Line) (t : ℕ) (around : Around) →
+        line.action ≡ Upg →
+        IsOk (step before line t around)
+        ↔ IsSomeAnd before
+        (λ life. EndsAsPrinted life line t × IsBefore t life.period.end × (around.higher ≡ true)) }
 {}
 
 /// What lawful lines leave. A line that opens leaves its period, with the issue minute for a begin
@@ -76,24 +93,28 @@ pub fn upg_comes_before_the_end()
 /// row's begin for zeros; one that ends leaves the row's period. H-VTEC values replace those of the
 /// life, and a line without leaves these.
 pub fn lawful_lines_leave()
-    ensures opened { (before : Option Life) (line : Line) (t : ℕ) (around : Around) → opens line.action ≡ true →
-        IfOk (step before line t around) (IsOpened line t) }
-    ensures carried_on { (life : Life) (line : Line) (t : ℕ) (around : Around) → goes_on line.action ≡ true →
+    ensures opened { (before : Option Life) (line : Line) (t : ℕ) (around : Around) →
+        opens line.action ≡ true → IfOk (step before line t around) (IsOpened line t) }
+    ensures carried_on { (life : Life) (line : Line) (t : ℕ) (around : Around) →
+        goes_on line.action ≡ true →
         IfOk (step (Some life) line t around) (IsCarriedOn life line t) }
-    ensures ended { (life : Life) (line : Line) (t : ℕ) (around : Around) → ends line.action ≡ true →
-        IfOk (step (Some life) line t around) (IsEnded life line) }
+    ensures ended { (life : Life) (line : Line) (t : ℕ) (around : Around) →
+        ends line.action ≡ true → IfOk (step (Some life) line t around) (IsEnded life line) }
 {}
 
 /// On a life that a line has ended only NEW, EXA and EXB may be lawful, and these are judged, and
 /// leave a life, as where there is none. ROU touches no life.
 pub fn ended_lives_are_opened_anew()
-    ensures opening { (life : Life) (line : Line) (t : ℕ) (around : Around) → is_routine line.action ≡ false → life.ended ≡ true →
-        IsOk (step (Some life) line t around) → opens line.action ≡ true }
-    ensures anew { (life : Life) (line : Line) (t : ℕ) (around : Around) → opens line.action ≡ true → life.ended ≡ true →
+    ensures opening { (life : Life) (line : Line) (t : ℕ) (around : Around) →
+        is_routine line.action ≡ false → life.ended ≡ true → IsOk (step (Some life) line t around) →
+        opens line.action ≡ true }
+    ensures anew { (life : Life) (line : Line) (t : ℕ) (around : Around) →
+        opens line.action ≡ true → life.ended ≡ true →
         step (Some life) line t around ≡ step None line t around }
 {}
 
 /// A single step never returns `Twice`; that is judged over the whole product.
 pub fn steps_are_never_twice()
-    ensures { (before : Option Life) (line : Line) (t : ℕ) (around : Around) → step before line t around ≢ Err Twice }
+    ensures { (before : Option Life) (line : Line) (t : ℕ) (around : Around) →
+        step before line t around ≢ Err Twice }
 {}

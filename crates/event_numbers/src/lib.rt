@@ -39,9 +39,11 @@ impl Model for Numbers {
 
     ghost Value = { Drawn };
 
-    ghost view = { λ n. record { counts = n.counted.items; spare = vec_capacity n.counted - vec_len n.counted } };
+    ghost view = { λ n.
+        record { counts = n.counted.items; spare = vec_capacity n.counted - vec_len n.counted } };
 
-    ghost invariant = { λ n. IsStrictlySortedBy by_count n.counted.items × AreNumbers n.counted.items };
+    ghost invariant = { λ n.
+        IsStrictlySortedBy by_count n.counted.items × AreNumbers n.counted.items };
 }
 
 /// Compares the key of a count with a hazard and year.
@@ -55,7 +57,8 @@ fn against(count: &Count, h: &Hazard, year: u16) -> Ordering
 fn counts_before(counted: &[Count], h: &Hazard, year: u16) -> usize
     requires { IsStrictlySortedBy by_count counted.now }
     ensures bound { result ≤ length counted.now }
-    ensures point { IsPartitionPoint (λ c. is_lt (against h.now year c) ≡ true) (λ c. is_lt (against h.now year c) ≡ false) counted.now result }
+    ensures point { IsPartitionPoint (λ c. is_lt (against h.now year c) ≡ true)
+        (λ c. is_lt (against h.now year c) ≡ false) counted.now result }
 {
     counted.partition_point(
         |count: &Count| -> bool

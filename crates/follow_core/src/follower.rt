@@ -143,10 +143,13 @@ impl Follower {
         ensures onward { place_of self.old ≤ place_of self.new }
         // If a schedule led to this follower and the text was the answer, its delivery leads on,
         // and nothing is lost.
-        ensures scheduled { OnOk result ((events : Seq Event) → (run events (begun self.old.office self.old.class)).follower ≡ self.old
+        ensures scheduled { OnOk result ((events : Seq Event) →
+            (run events (begun self.old.office self.old.class)).follower ≡ self.old
             → answer_at (run events (begun self.old.office self.old.class)) after ≡ Some text.now
-            → ((run (events ++ Delivered after ∷ []) (begun self.old.office self.old.class)).follower ≡ self.new)
-            × HasLostNothing self.old.office self.old.class (run (events ++ Delivered after ∷ []) (begun self.old.office self.old.class))) }
+            → ((run (events ++ Delivered after ∷ [])
+            (begun self.old.office self.old.class)).follower ≡ self.new)
+            × HasLostNothing self.old.office self.old.class
+            (run (events ++ Delivered after ∷ []) (begun self.old.office self.old.class))) }
     {
         if after != self.place {
             return Ok(Heard::Old);

@@ -8,11 +8,13 @@ ghost use Rattle.follow_core.specs.Schedule.{World, Event, run, begun, HasLostNo
 /// follower's place, and the follower shows what a reader of these shows.
 #[tactic(auto, using(crate::proofs::Scheduled::nothing_lost))]
 pub fn followers_lose_nothing()
-    ensures { (office : List ℕ) (class : Class) (events : List Event) → HasLostNothing office class (run events (begun office class)) }
+    ensures { (office : List ℕ) (class : Class) (events : List Event) →
+        HasLostNothing office class (run events (begun office class)) }
 {}
 
 /// From any state on, whatever happens, the place never falls.
 #[tactic(auto, using(crate::proofs::Scheduled::never_back))]
 pub fn places_never_go_back()
-    ensures { (w : World) (events : List Event) → place_of w.follower ≤ place_of (run events w).follower }
+    ensures { (w : World) (events : List Event) →
+        place_of w.follower ≤ place_of (run events w).follower }
 {}

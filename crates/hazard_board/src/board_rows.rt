@@ -45,7 +45,10 @@ impl Model for BoardRows {
 
     ghost view = { λ b. record { rows = b.all.rows; spare = b.all.spare } };
 
-    ghost invariant = { λ b. IsStrictlySortedBy by_key b.all.rows × IsStrictlySortedBy by_key b.live.rows × AreLive b.since b.all.rows b.live.rows };
+    ghost invariant = { λ b.
+        IsStrictlySortedBy by_key b.all.rows
+        × IsStrictlySortedBy by_key b.live.rows
+        × AreLive b.since b.all.rows b.live.rows };
 }
 
 impl BoardRows {
@@ -160,7 +163,8 @@ impl BoardRows {
     pub fn put(&mut self, row: &Row)
         requires { length (put row.now self.old.rows) ≤ self.old.spare + length self.old.rows }
         ensures rows { self.new.rows ≡ put row.now self.old.rows }
-        ensures spare { self.old.spare + length self.old.rows ≤ self.new.spare + length self.new.rows }
+        ensures spare { self.old.spare + length self.old.rows
+            ≤ self.new.spare + length self.new.rows }
     {
         self.all.put(row);
         if !self.live.put_if_room(row) {

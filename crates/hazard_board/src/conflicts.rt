@@ -177,7 +177,8 @@ fn clash_in(
     requires order { IsStrictlySortedBy by_key rows.now.rows }
     requires apart { EachToLater (λ a b. collide a b ≡ true → ⊥) rows.now.rows }
     requires own { own.now ≡ lines_of z.now lines.now }
-    ensures { IfOk result (λ found. found ≡ first_clash t (slice_of z.now (rows_taken rows.now.rows t lines.now))) }
+    ensures { IfOk result
+        (λ found. found ≡ first_clash t (slice_of z.now (rows_taken rows.now.rows t lines.now))) }
 {
     let left = lefts(alloc, rows, own, t)?;
     let after = zone_taken(alloc, rows, &left, t, z)?;
@@ -204,7 +205,8 @@ fn are_of_zone(lines: &[Line], zone: &Zone) -> bool
 
 /// Returns the zone of the lines, if all are of one.
 fn only_zone(lines: &[Line]) -> Option<Zone>
-    ensures { IfSome result (λ z. list_all (λ (line : AnyLine). same_zone line.zone z) lines.now ≡ true) }
+    ensures { IfSome result
+        (λ z. list_all (λ (line : AnyLine). same_zone line.zone z) lines.now ≡ true) }
 {
     match lines {
         [] => None,

@@ -14,7 +14,8 @@ ghost use Rattle.hazard_board.specs.Taken.{rows_taken};
 /// If no line has a breach, the rows after the lines taken as lawful are the rows after their
 /// product.
 pub fn lawful_lines_are_taken()
-    ensures { (rows : List Row) (t : ℕ) (lines : List Line) → IsTrue (are_lawful rows t lines) → rows_taken rows t lines ≡ rows_after rows t lines }
+    ensures { (rows : List Row) (t : ℕ) (lines : List Line) →
+        IsTrue (are_lawful rows t lines) → rows_taken rows t lines ≡ rows_after rows t lines }
 {}
 
 /// If the lines of a product have no breach except NumberHeld, and NoHigher of UPG, the rows after
@@ -22,8 +23,10 @@ pub fn lawful_lines_are_taken()
 /// line may be one that a line on a held number opens.) Lines without a breach are such lines, and
 /// these are the rows after their product.
 pub fn lines_on_held_numbers_are_taken()
-    ensures taken { (rows : List Row) (t : ℕ) (lines : List Line) → HaveNoneButHeld rows t [] lines → rows_taken rows t lines ≡ rows_left rows t lines }
-    ensures lawful { (rows : List Row) (t : ℕ) (lines : List Line) → IsTrue (are_lawful rows t lines) →
+    ensures taken { (rows : List Row) (t : ℕ) (lines : List Line) →
+        HaveNoneButHeld rows t [] lines → rows_taken rows t lines ≡ rows_left rows t lines }
+    ensures lawful { (rows : List Row) (t : ℕ) (lines : List Line) →
+        IsTrue (are_lawful rows t lines) →
         HaveNoneButHeld rows t [] lines × (rows_left rows t lines ≡ rows_after rows t lines) }
 {}
 
@@ -36,15 +39,17 @@ pub fn consistent_rows_stay_consistent()
 /// events of its year, and it leaves no clash. Lines in breach leave no row.
 pub fn products_keep_rows_consistent()
     ensures { (rows : List Row) (t : ℕ) (lines : List Line) →
-        IsStrictlySortedBy by_key rows → IsConsistent rows t → NoneIsAhead rows t → AreOfTheYear lines t →
-        least_clash t (rows_after rows t lines) ≡ None → IsConsistent (rows_after rows t lines) t }
+        IsStrictlySortedBy by_key rows → IsConsistent rows t → NoneIsAhead rows t →
+        AreOfTheYear lines t → least_clash t (rows_after rows t lines) ≡ None →
+        IsConsistent (rows_after rows t lines) t }
 {}
 
 /// If no row's event is of a later year, none is after a product whose NEW lines are of events of
 /// its year, nor at later minutes.
 pub fn no_event_comes_ahead_of_its_year()
     ensures after { (rows : List Row) (t : ℕ) (lines : List Line) →
-        IsStrictlySortedBy by_key rows → NoneIsAhead rows t → AreOfTheYear lines t → NoneIsAhead (rows_after rows t lines) t }
+        IsStrictlySortedBy by_key rows → NoneIsAhead rows t → AreOfTheYear lines t →
+        NoneIsAhead (rows_after rows t lines) t }
     ensures later { (rows : List Row) (t u : ℕ) → t ≤ u → NoneIsAhead rows t → NoneIsAhead rows u }
 {}
 
@@ -57,11 +62,13 @@ pub fn no_rows_are_consistent()
 /// The rows that a reader has of products are consistent if no product is issued before the one
 /// before it and none leaves a clash.
 pub fn read_rows_are_consistent()
-    ensures { (products : List Product) (t u : ℕ) → LeaveNoClash [] t u products → IsConsistent (rows_of products) u }
+    ensures { (products : List Product) (t u : ℕ) →
+        LeaveNoClash [] t u products → IsConsistent (rows_of products) u }
 {}
 
 /// Of consistent rows in order no two open events have one hazard and number, so that lawful lines
 /// are read off their texts again.
 pub fn consistent_rows_have_one_open_event()
-    ensures { (rows : List Row) (t : ℕ) → IsStrictlySortedBy by_key rows → IsConsistent rows t → HasOneOpen rows t }
+    ensures { (rows : List Row) (t : ℕ) →
+        IsStrictlySortedBy by_key rows → IsConsistent rows t → HasOneOpen rows t }
 {}

@@ -73,7 +73,12 @@ impl Model for Board {
 
     ghost view = { λ b. record { rows = b.rows.rows; spare = min b.rows.spare (min (vec_capacity b.standing - vec_len b.standing) (min (vec_capacity b.spots - vec_len b.spots) (vec_capacity b.periods - vec_len b.spots))) } };
 
-    ghost invariant = { λ b. IsStrictlySortedBy by_key b.rows.rows × AreStanding b.rows.rows b.standing.items × AreSpots b.rows.rows b.spots.items × AreCounted b.rows.rows b.periods.items × (vec_len b.spots ≤ vec_capacity b.periods) };
+    ghost invariant = { λ b.
+        IsStrictlySortedBy by_key b.rows.rows
+        × AreStanding b.rows.rows b.standing.items
+        × AreSpots b.rows.rows b.spots.items
+        × AreCounted b.rows.rows b.periods.items
+        × (vec_len b.spots ≤ vec_capacity b.periods) };
 }
 
 impl Board {
@@ -227,8 +232,10 @@ impl Board {
         lines: &List<Line>,
         t: Minute,
     ) -> Result<Option<Clash>, Oom>
-        ensures value { IfOk result (λ found. found ≡ least_clash t (rows_taken self.now.rows t lines.now)) }
-        ensures order { IsStrictlySortedBy by_clash (clashes t (rows_taken self.now.rows t lines.now)) }
+        ensures value { IfOk result
+            (λ found. found ≡ least_clash t (rows_taken self.now.rows t lines.now)) }
+        ensures order { IsStrictlySortedBy by_clash
+            (clashes t (rows_taken self.now.rows t lines.now)) }
         ensures all_in_order { IsStrictlySortedBy by_key self.now.rows }
     {
         clash_anywhere(alloc, &self.rows, lines.as_slice(), t)
@@ -247,8 +254,10 @@ impl Board {
         t: Minute,
     ) -> Result<Option<Clash>, Oom>
         requires apart { EachToLater (λ a b. collide a b ≡ true → ⊥) self.now.rows }
-        ensures value { IfOk result (λ found. found ≡ least_clash t (rows_taken self.now.rows t lines.now)) }
-        ensures order { IsStrictlySortedBy by_clash (clashes t (rows_taken self.now.rows t lines.now)) }
+        ensures value { IfOk result
+            (λ found. found ≡ least_clash t (rows_taken self.now.rows t lines.now)) }
+        ensures order { IsStrictlySortedBy by_clash
+            (clashes t (rows_taken self.now.rows t lines.now)) }
         ensures all_in_order { IsStrictlySortedBy by_key self.now.rows }
     {
         clash_in_zones(alloc, &self.rows, lines.as_slice(), t)

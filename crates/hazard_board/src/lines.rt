@@ -179,9 +179,12 @@ fn bring_line(
     requires order { IsStrictlySortedBy by_key rows.old.rows }
     requires spots { AreSpots rows.old.rows spots.old.items }
     requires periods { AreCounted rows.old.rows periods.old.items }
-    requires room { length (put_if (row_left rows.old.rows t line.now) rows.old.rows) ≤ rows.old.spare + length rows.old.rows }
-    requires places { length (put_if (row_left rows.old.rows t line.now) rows.old.rows) ≤ vec_capacity spots.old }
-    requires counts { length (put_if (row_left rows.old.rows t line.now) rows.old.rows) ≤ vec_capacity periods.old }
+    requires room { length (put_if (row_left rows.old.rows t line.now) rows.old.rows)
+        ≤ rows.old.spare + length rows.old.rows }
+    requires places { length (put_if (row_left rows.old.rows t line.now) rows.old.rows)
+        ≤ vec_capacity spots.old }
+    requires counts { length (put_if (row_left rows.old.rows t line.now) rows.old.rows)
+        ≤ vec_capacity periods.old }
     ensures rows { rows.new.rows ≡ put_if (row_left rows.old.rows t line.now) rows.old.rows }
     ensures spots { AreSpots rows.new.rows spots.new.items }
     ensures periods { AreCounted rows.new.rows periods.new.items }
@@ -217,7 +220,8 @@ pub fn bring_lines(
     requires order { IsStrictlySortedBy by_key rows.old.rows }
     requires spots { AreSpots rows.old.rows spots.old.items }
     requires periods { AreCounted rows.old.rows periods.old.items }
-    requires room { length (taken_in_turn t rows.old.rows lines.now) ≤ rows.old.spare + length rows.old.rows }
+    requires room { length (taken_in_turn t rows.old.rows lines.now)
+        ≤ rows.old.spare + length rows.old.rows }
     requires places { length (taken_in_turn t rows.old.rows lines.now) ≤ vec_capacity spots.old }
     requires counts { length (taken_in_turn t rows.old.rows lines.now) ≤ vec_capacity periods.old }
     ensures rows { rows.new.rows ≡ taken_in_turn t rows.old.rows lines.now }
@@ -241,7 +245,8 @@ pub fn rows_taken(
     t: Minute,
 ) -> Result<Vec<Row>, Oom>
     requires { IsStrictlySortedBy by_key rows.now.rows }
-    ensures live { IfOk result (λ after. shown_at t after.items ≡ shown_at t (rows_taken rows.now.rows t lines.now)) }
+    ensures live { IfOk result
+        (λ after. shown_at t after.items ≡ shown_at t (rows_taken rows.now.rows t lines.now)) }
     ensures order { IfOk result (λ after. IsStrictlySortedBy by_key after.items) }
 {
     let mut after = rows.shown(alloc, t)?;
@@ -271,7 +276,8 @@ pub fn zone_taken(
     z: &Zone,
 ) -> Result<Vec<Row>, Oom>
     requires { IsStrictlySortedBy by_key rows.now.rows }
-    ensures live { IfOk result (λ after. shown_at t after.items ≡ shown_at t (put_lefts (slice_of z.now rows.now.rows) left.now)) }
+    ensures live { IfOk result (λ after.
+        shown_at t after.items ≡ shown_at t (put_lefts (slice_of z.now rows.now.rows) left.now)) }
     ensures order { IfOk result (λ after. IsStrictlySortedBy by_key after.items) }
 {
     let mut after = with_room(alloc, rows.live_slice(z, t), left.len())?;

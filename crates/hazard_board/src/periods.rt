@@ -51,7 +51,8 @@ fn order_of_ends(a: &PeriodCount, b: &PeriodCount) -> Ordering
 
 /// Compares two periods of one event by end, a later one first, then by begin.
 fn order_in_event(a: &Period, b: &Period) -> Ordering
-    ensures { result ≡ ordering_then (later_first a.now.end b.now.end) (nat_cmp a.now.begin b.now.begin) }
+    ensures { result
+        ≡ ordering_then (later_first a.now.end b.now.end) (nat_cmp a.now.begin b.now.begin) }
 {
     match later_first(&a.end, &b.end) {
         Ordering::Less => Ordering::Less,
@@ -108,7 +109,9 @@ fn add(periods: &mut Vec<PeriodCount>, event: &Event, period: &Period)
     requires stand { AreInOrder periods.old.items }
     requires room { counted any_period periods.old.items < vec_capacity periods.old }
     ensures stand { AreInOrder periods.new.items }
-    ensures told { (q : AnyEvent → AnyPeriod → Bool) → counted q periods.new.items ≡ counted q periods.old.items + only_if (q event.now period.now) 1 }
+    ensures told { (q : AnyEvent → AnyPeriod → Bool) →
+        counted q periods.new.items
+        ≡ counted q periods.old.items + only_if (q event.now period.now) 1 }
     ensures capacity { vec_capacity periods.old ≤ vec_capacity periods.new }
 {
     let key = PeriodCount {
@@ -136,9 +139,12 @@ fn add(periods: &mut Vec<PeriodCount>, event: &Event, period: &Period)
 /// Counts one row less of a period of an event.
 fn take_off(periods: &mut Vec<PeriodCount>, event: &Event, period: &Period)
     requires stand { AreInOrder periods.old.items }
-    requires some { (q : AnyEvent → AnyPeriod → Bool) → only_if (q event.now period.now) 1 ≤ counted q periods.old.items }
+    requires some { (q : AnyEvent → AnyPeriod → Bool) →
+        only_if (q event.now period.now) 1 ≤ counted q periods.old.items }
     ensures stand { AreInOrder periods.new.items }
-    ensures told { (q : AnyEvent → AnyPeriod → Bool) → counted q periods.new.items + only_if (q event.now period.now) 1 ≡ counted q periods.old.items }
+    ensures told { (q : AnyEvent → AnyPeriod → Bool) →
+        counted q periods.new.items + only_if (q event.now period.now) 1
+        ≡ counted q periods.old.items }
     ensures capacity { vec_capacity periods.old ≤ vec_capacity periods.new }
 {
     let key = PeriodCount {
@@ -166,9 +172,11 @@ fn take_off(periods: &mut Vec<PeriodCount>, event: &Event, period: &Period)
 /// Counts one row less, if there is a row and it is unended.
 fn take_off_if(periods: &mut Vec<PeriodCount>, row: &Option<Row>)
     requires stand { AreInOrder periods.old.items }
-    requires some { (q : AnyEvent → AnyPeriod → Bool) → one_if q row.now ≤ counted q periods.old.items }
+    requires some { (q : AnyEvent → AnyPeriod → Bool) →
+        one_if q row.now ≤ counted q periods.old.items }
     ensures stand { AreInOrder periods.new.items }
-    ensures told { (q : AnyEvent → AnyPeriod → Bool) → counted q periods.new.items + one_if q row.now ≡ counted q periods.old.items }
+    ensures told { (q : AnyEvent → AnyPeriod → Bool) →
+        counted q periods.new.items + one_if q row.now ≡ counted q periods.old.items }
     ensures capacity { vec_capacity periods.old ≤ vec_capacity periods.new }
 {
     match row {
@@ -184,9 +192,11 @@ fn take_off_if(periods: &mut Vec<PeriodCount>, row: &Option<Row>)
 /// Counts a row, if it is unended.
 fn add_if(periods: &mut Vec<PeriodCount>, row: &Row)
     requires stand { AreInOrder periods.old.items }
-    requires room { counted any_period periods.old.items + one_of any_period row.now ≤ vec_capacity periods.old }
+    requires room { counted any_period periods.old.items + one_of any_period row.now
+        ≤ vec_capacity periods.old }
     ensures stand { AreInOrder periods.new.items }
-    ensures told { (q : AnyEvent → AnyPeriod → Bool) → counted q periods.new.items ≡ counted q periods.old.items + one_of q row.now }
+    ensures told { (q : AnyEvent → AnyPeriod → Bool) →
+        counted q periods.new.items ≡ counted q periods.old.items + one_of q row.now }
     ensures capacity { vec_capacity periods.old ≤ vec_capacity periods.new }
 {
     if !row.ended {
@@ -209,10 +219,14 @@ fn count_alike(old: &Option<Row>, row: &Row) -> bool
 /// Corrects the counts for a row that is put in place of `old`.
 fn count_put(periods: &mut Vec<PeriodCount>, old: &Option<Row>, row: &Row)
     requires stand { AreInOrder periods.old.items }
-    requires some { (q : AnyEvent → AnyPeriod → Bool) → one_if q old.now ≤ counted q periods.old.items }
-    requires room { counted any_period periods.old.items + one_of any_period row.now ≤ vec_capacity periods.old + one_if any_period old.now }
+    requires some { (q : AnyEvent → AnyPeriod → Bool) →
+        one_if q old.now ≤ counted q periods.old.items }
+    requires room { counted any_period periods.old.items + one_of any_period row.now
+        ≤ vec_capacity periods.old + one_if any_period old.now }
     ensures stand { AreInOrder periods.new.items }
-    ensures told { (q : AnyEvent → AnyPeriod → Bool) → counted q periods.new.items + one_if q old.now ≡ counted q periods.old.items + one_of q row.now }
+    ensures told { (q : AnyEvent → AnyPeriod → Bool) →
+        counted q periods.new.items + one_if q old.now
+        ≡ counted q periods.old.items + one_of q row.now }
     ensures capacity { vec_capacity periods.old ≤ vec_capacity periods.new }
 {
     if count_alike(old, row) {
@@ -225,8 +239,10 @@ fn count_put(periods: &mut Vec<PeriodCount>, old: &Option<Row>, row: &Row)
 /// Corrects the counts for a row that is put in place of `old`, if a row is put.
 pub fn count_if(periods: &mut Vec<PeriodCount>, old: &Option<Row>, row: &Option<Row>)
     requires stand { AreInOrder periods.old.items }
-    requires some { (q : AnyEvent → AnyPeriod → Bool) → one_if q old.now ≤ counted q periods.old.items }
-    requires room { counted any_period periods.old.items + one_if any_period row.now ≤ vec_capacity periods.old + one_if any_period old.now }
+    requires some { (q : AnyEvent → AnyPeriod → Bool) →
+        one_if q old.now ≤ counted q periods.old.items }
+    requires room { counted any_period periods.old.items + one_if any_period row.now
+        ≤ vec_capacity periods.old + one_if any_period old.now }
     ensures stand { AreInOrder periods.new.items }
     ensures told { AreCountedWith old.now row.now periods.old.items periods.new.items }
     ensures capacity { vec_capacity periods.old ≤ vec_capacity periods.new }

@@ -81,7 +81,8 @@ fn put_within(rows: &mut Vec<Row>, row: &Row)
 /// changes.
 fn put_if_fits(rows: &mut Vec<Row>, row: &Row) -> bool
     requires { IsStrictlySortedBy by_key rows.old.items }
-    ensures rows { rows.new.items ≡ (if result then put row.now rows.old.items else rows.old.items) }
+    ensures rows { rows.new.items
+        ≡ (if result then put row.now rows.old.items else rows.old.items) }
     ensures capacity { vec_capacity rows.old ≤ vec_capacity rows.new }
 {
     if rows.len() < rows.capacity() || row_at(rows, &row.event, &row.zone).is_some() {
@@ -130,10 +131,12 @@ fn shelf_from(alloc: Global, rows: &[Row], at: usize, n: usize) -> Result<Shelf,
 fn part_at(later: &mut Vec<Shelf>, place: usize, at: usize, n: usize) -> Result<(), Oom>
     requires place { place < vec_len later.old }
     requires order { IsStrictlySortedBy by_key (on_shelves later.old.items) }
-    requires cut { (shelf : AnyShelf) → shelf ≡ get_or later.old.items place shelf → IsCut shelf.rows.items at }
+    requires cut { (shelf : AnyShelf) →
+        shelf ≡ get_or later.old.items place shelf → IsCut shelf.rows.items at }
     ensures kept { AreKept n later.old.items later.new.items }
     ensures length { vec_len later.old ≤ vec_len later.new }
-    ensures behind { HaveRoom n (drop (place + 1) later.old.items) → HaveRoom n (drop (place + 1) later.new.items) }
+    ensures behind { HaveRoom n (drop (place + 1) later.old.items)
+        → HaveRoom n (drop (place + 1) later.new.items) }
 {
     let shelf = &later[place];
     let back = shelf_from(*shelf.rows.allocator(), &shelf.rows, at, n)?;
@@ -149,7 +152,8 @@ fn part(later: &mut Vec<Shelf>, place: usize, n: usize) -> Result<(), Oom>
     requires order { IsStrictlySortedBy by_key (on_shelves later.old.items) }
     ensures kept { AreKept n later.old.items later.new.items }
     ensures length { vec_len later.old ≤ vec_len later.new }
-    ensures behind { HaveRoom n (drop (place + 1) later.old.items) → HaveRoom n (drop (place + 1) later.new.items) }
+    ensures behind { HaveRoom n (drop (place + 1) later.old.items)
+        → HaveRoom n (drop (place + 1) later.new.items) }
 {
     let shelf = &later[place];
     match cut_of(&shelf.rows) {
@@ -176,9 +180,11 @@ fn reserve_later(later: &mut Vec<Shelf>, n: usize) -> Result<(), Oom>
 /// capacity for `n` more rows.
 fn part_first(first: &mut Vec<Row>, later: &mut Vec<Shelf>, n: usize) -> Result<(), Oom>
     requires { AreShelved first.old.items later.old.items }
-    ensures rows { first.new.items ++ on_shelves later.new.items ≡ first.old.items ++ on_shelves later.old.items }
+    ensures rows { first.new.items ++ on_shelves later.new.items
+        ≡ first.old.items ++ on_shelves later.old.items }
     ensures shelved { AreShelved first.new.items later.new.items }
-    ensures spare { vec_capacity first.old - vec_len first.old ≤ vec_capacity first.new - vec_len first.new }
+    ensures spare { vec_capacity first.old - vec_len first.old
+        ≤ vec_capacity first.new - vec_len first.new }
     ensures room { (m : ℕ) → m ≤ n → HaveRoom m later.old.items → HaveRoom m later.new.items }
 {
     let Some(at) = cut_of(first) else {
@@ -193,10 +199,14 @@ fn part_first(first: &mut Vec<Row>, later: &mut Vec<Shelf>, n: usize) -> Result<
 /// Takes memory for `n` more rows on each shelf, the first rows among them, and splits long ones.
 fn reserve_each(first: &mut Vec<Row>, later: &mut Vec<Shelf>, n: usize) -> Result<(), Oom>
     requires { AreShelved first.old.items later.old.items }
-    ensures rows { first.new.items ++ on_shelves later.new.items ≡ first.old.items ++ on_shelves later.old.items }
+    ensures rows { first.new.items ++ on_shelves later.new.items
+        ≡ first.old.items ++ on_shelves later.old.items }
     ensures shelved { AreShelved first.new.items later.new.items }
-    ensures spare { least_room (vec_capacity first.old - vec_len first.old) later.old.items ≤ n → least_room (vec_capacity first.old - vec_len first.old) later.old.items ≤ least_room (vec_capacity first.new - vec_len first.new) later.new.items }
-    ensures ok { OnOk result (n ≤ least_room (vec_capacity first.new - vec_len first.new) later.new.items) }
+    ensures spare { least_room (vec_capacity first.old - vec_len first.old) later.old.items ≤ n
+        → least_room (vec_capacity first.old - vec_len first.old) later.old.items
+        ≤ least_room (vec_capacity first.new - vec_len first.new) later.new.items }
+    ensures ok { OnOk result
+        (n ≤ least_room (vec_capacity first.new - vec_len first.new) later.new.items) }
 {
     reserve_later(later, n)?;
     part_first(first, later, n)?;
@@ -300,7 +310,8 @@ impl Shelves {
     pub fn put(&mut self, row: &Row)
         requires { length (put row.now self.old.rows) ≤ self.old.spare + length self.old.rows }
         ensures rows { self.new.rows ≡ put row.now self.old.rows }
-        ensures spare { self.old.spare + length self.old.rows ≤ self.new.spare + length self.new.rows }
+        ensures spare { self.old.spare + length self.old.rows
+            ≤ self.new.spare + length self.new.rows }
     {
         let place = shelves_through(&self.later, &row.zone);
         if place == 0 {

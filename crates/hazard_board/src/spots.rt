@@ -71,7 +71,8 @@ fn put(spots: &mut Vec<Spot>, spot: &Spot) -> Result<(), Oom>
     requires { IsStrictlySortedBy by_spot spots.old.items }
     ensures ok { OnOk result (spots.new.items ≡ put_spot spot.now spots.old.items) }
     ensures capacity { vec_capacity spots.old ≤ vec_capacity spots.new }
-    ensures err { OnErr result (vec_capacity spots.old < length (put_spot spot.now spots.old.items)) }
+    ensures err { OnErr result
+        (vec_capacity spots.old < length (put_spot spot.now spots.old.items)) }
 {
     match seat_of(spots, spot) {
         Ok(place) => spots[place] = *spot,
@@ -85,7 +86,8 @@ pub fn put_spot_if(spots: &mut Vec<Spot>, row: &Option<Row>) -> Result<(), Oom>
     requires { IsStrictlySortedBy by_spot spots.old.items }
     ensures ok { OnOk result (spots.new.items ≡ put_spot_if row.now spots.old.items) }
     ensures capacity { vec_capacity spots.old ≤ vec_capacity spots.new }
-    ensures err { OnErr result (vec_capacity spots.old < length (put_spot_if row.now spots.old.items)) }
+    ensures err { OnErr result
+        (vec_capacity spots.old < length (put_spot_if row.now spots.old.items)) }
 {
     match row {
         Some(row) => put(

@@ -56,10 +56,12 @@ fn place_of(standing: &[Standing], e: &Event) -> Result<usize, usize>
 /// Puts an event with its end, in place of the one that is there if it is.
 fn put_standing(standing: &mut Vec<Standing>, s: &Standing)
     requires order { IsStrictlySortedBy by_standing standing.old.items }
-    requires room { end_in standing.old.items s.now.event ≡ None → vec_len standing.old < vec_capacity standing.old }
+    requires room { end_in standing.old.items s.now.event ≡ None
+        → vec_len standing.old < vec_capacity standing.old }
     ensures items { standing.new.items ≡ put_standing s.now standing.old.items }
     ensures capacity { vec_capacity standing.old ≤ vec_capacity standing.new }
-    ensures length { vec_len standing.new ≤ vec_len standing.old + (if is_none (end_in standing.old.items s.now.event) then 1 else 0) }
+    ensures length { vec_len standing.new ≤ vec_len standing.old
+        + (if is_none (end_in standing.old.items s.now.event) then 1 else 0) }
 {
     match place_of(standing, &s.event) {
         Ok(place) => standing[place] = *s,
@@ -85,11 +87,16 @@ fn take_out(standing: &mut Vec<Standing>, e: &Event)
 /// Sets the end of an event, or removes the event if there is no end.
 fn set_end(standing: &mut Vec<Standing>, e: &Event, latest: &Option<End>)
     requires order { IsStrictlySortedBy by_standing standing.old.items }
-    requires room { IsSome latest.now → end_in standing.old.items e.now ≡ None → vec_len standing.old < vec_capacity standing.old }
+    requires room { IsSome latest.now
+        → end_in standing.old.items e.now ≡ None
+        → vec_len standing.old < vec_capacity standing.old }
     ensures order { IsStrictlySortedBy by_standing standing.new.items }
-    ensures ends { (d : AnyEvent) → end_in standing.new.items d ≡ (if same_event e.now d then latest.now else end_in standing.old.items d) }
+    ensures ends { (d : AnyEvent) →
+        end_in standing.new.items d
+        ≡ (if same_event e.now d then latest.now else end_in standing.old.items d) }
     ensures capacity { vec_capacity standing.old ≤ vec_capacity standing.new }
-    ensures length { vec_len standing.new ≤ vec_len standing.old + (if is_none (end_in standing.old.items e.now) then 1 else 0) }
+    ensures length { vec_len standing.new
+        ≤ vec_len standing.old + (if is_none (end_in standing.old.items e.now) then 1 else 0) }
 {
     match latest {
         Some(latest) => put_standing(
@@ -172,8 +179,11 @@ fn is_to_settle(
 ) -> bool
     requires order { IsStrictlySortedBy by_standing standing.now }
     requires periods { IsStrictlySortedBy by_period periods.now }
-    ensures moves { result ≡ true → moves_end standing.now line.now (latest_in periods.now line.now.event) ≡ true }
-    ensures stays { result ≡ false → touched earlier.now line.now.event ≡ false → moves_end standing.now line.now (latest_in periods.now line.now.event) ≡ false }
+    ensures moves { result ≡ true
+        → moves_end standing.now line.now (latest_in periods.now line.now.event) ≡ true }
+    ensures stays { result ≡ false
+        → touched earlier.now line.now.event ≡ false
+        → moves_end standing.now line.now (latest_in periods.now line.now.event) ≡ false }
 {
     if touches_last(earlier, &line.event) {
         return false;
@@ -186,11 +196,15 @@ fn is_to_settle(
 pub fn settle(standing: &mut Vec<Standing>, periods: &[PeriodCount], lines: &[Line])
     requires periods { IsStrictlySortedBy by_period periods.now }
     requires order { IsStrictlySortedBy by_standing standing.old.items }
-    requires room { vec_len standing.old + newly standing.old.items lines.now ≤ vec_capacity standing.old }
+    requires room { vec_len standing.old + newly standing.old.items lines.now
+        ≤ vec_capacity standing.old }
     ensures order { IsStrictlySortedBy by_standing standing.new.items }
-    ensures ends { (e : AnyEvent) → end_in standing.new.items e ≡ (if touched lines.now e then latest_in periods.now e else end_in standing.old.items e) }
+    ensures ends { (e : AnyEvent) →
+        end_in standing.new.items e
+        ≡ (if touched lines.now e then latest_in periods.now e else end_in standing.old.items e) }
     ensures capacity { vec_capacity standing.old ≤ vec_capacity standing.new }
-    ensures length { vec_len standing.new ≤ vec_len standing.old + newly standing.old.items lines.now }
+    ensures length { vec_len standing.new
+        ≤ vec_len standing.old + newly standing.old.items lines.now }
 {
     for (place, line) in lines.iter().enumerate() {
         if is_to_settle(standing, periods, &lines[..place], line) {

@@ -12,14 +12,25 @@ ghost use Rattle.headline_text.specs.Lines.{lines, has_word, is_one_line, withou
 /// first starts with two blanks, and each has a word if the text has one. If no word has more than
 /// 64 characters either, no word is cut, and a line ends only where the next word does not fit.
 pub fn wrapping_keeps_words()
-    ensures bytes { (p : ℕ → Bool) (text : List ℕ) → p 32 ≡ true → p 10 ≡ true → IsTrue (list_all p text) → IsTrue (list_all p (wrapped text)) }
+    ensures bytes { (p : ℕ → Bool) (text : List ℕ) →
+        p 32 ≡ true → p 10 ≡ true → IsTrue (list_all p text) → IsTrue (list_all p (wrapped text)) }
     ensures begins { (c : ℕ) (cs : List ℕ) → c ≢ 32 → slice_index (wrapped (c ∷ cs)) 0 ≡ c }
-    ensures short { (text : List ℕ) → IsTrue (is_one_line text) → All (λ line. length line ≤ 66) (lines (wrapped text)) }
-    ensures indented { (text : List ℕ) → IsTrue (is_one_line text) → All (λ line. take 2 line ≡ 32 ∷ 32 ∷ []) (drop 1 (lines (wrapped text))) }
-    ensures filled { (text : List ℕ) → IsTrue (is_one_line text) → IsTrue (has_word text) → All (λ line. IsTrue (has_word line)) (lines (wrapped text)) }
-    ensures whole { (text : List ℕ) → IsTrue (is_one_line text) → without_blanks (wrapped text) ≡ without_blanks text }
-    ensures uncut { (text : List ℕ) → IsTrue (is_one_line text) → All (λ word. length word ≤ 64) (words text) → flat_map words (lines (wrapped text)) ≡ words text }
-    ensures full { (text : List ℕ) → IsTrue (is_one_line text) → All (λ word. length word ≤ 64) (words text) → EndWhereFull (lines (wrapped text)) }
+    ensures short { (text : List ℕ) →
+        IsTrue (is_one_line text) → All (λ line. length line ≤ 66) (lines (wrapped text)) }
+    ensures indented { (text : List ℕ) →
+        IsTrue (is_one_line text) →
+        All (λ line. take 2 line ≡ 32 ∷ 32 ∷ []) (drop 1 (lines (wrapped text))) }
+    ensures filled { (text : List ℕ) →
+        IsTrue (is_one_line text) → IsTrue (has_word text) →
+        All (λ line. IsTrue (has_word line)) (lines (wrapped text)) }
+    ensures whole { (text : List ℕ) →
+        IsTrue (is_one_line text) → without_blanks (wrapped text) ≡ without_blanks text }
+    ensures uncut { (text : List ℕ) →
+        IsTrue (is_one_line text) → All (λ word. length word ≤ 64) (words text) →
+        flat_map words (lines (wrapped text)) ≡ words text }
+    ensures full { (text : List ℕ) →
+        IsTrue (is_one_line text) → All (λ word. length word ≤ 64) (words text) →
+        EndWhereFull (lines (wrapped text)) }
 {}
 
 /// A test that the hyphen, LF and all bytes of the names pass holds for all bytes of the lines, and
@@ -27,10 +38,21 @@ pub fn wrapping_keeps_words()
 /// one line with its hyphen, in order, and each line ends with a hyphen if there is a name. If no
 /// name has more than 65 characters either, no line has more than 66.
 pub fn names_stay_whole()
-    ensures bytes { (p : ℕ → Bool) (names : List (List ℕ)) → p 45 ≡ true → p 10 ≡ true → All (λ name. IsTrue (list_all p name)) names → IsTrue (list_all p (name_lines names)) }
-    ensures begins { (c : ℕ) (cs : List ℕ) (names : List (List ℕ)) → slice_index (name_lines ((c ∷ cs) ∷ names)) 0 ≡ c }
-    ensures short { (names : List (List ℕ)) → All (λ name. IsTrue (is_one_line name)) names → All (λ name. length name ≤ 65) names → All (λ line. length line ≤ 66) (lines (name_lines names)) }
-    ensures whole { (names : List (List ℕ)) → All (λ name. IsTrue (is_one_line name)) names → without_breaks (name_lines names) ≡ concat (map (λ name. name ++ 45 ∷ []) names) }
-    ensures unbroken { (names : List (List ℕ)) → All (λ name. IsTrue (is_one_line name)) names → AreOfNames names (lines (name_lines names)) }
-    ensures ends { (names : List (List ℕ)) → names ≢ [] → All (λ name. IsTrue (is_one_line name)) names → All EndsInHyphen (lines (name_lines names)) }
+    ensures bytes { (p : ℕ → Bool) (names : List (List ℕ)) →
+        p 45 ≡ true → p 10 ≡ true → All (λ name. IsTrue (list_all p name)) names →
+        IsTrue (list_all p (name_lines names)) }
+    ensures begins { (c : ℕ) (cs : List ℕ) (names : List (List ℕ)) →
+        slice_index (name_lines ((c ∷ cs) ∷ names)) 0 ≡ c }
+    ensures short { (names : List (List ℕ)) →
+        All (λ name. IsTrue (is_one_line name)) names → All (λ name. length name ≤ 65) names →
+        All (λ line. length line ≤ 66) (lines (name_lines names)) }
+    ensures whole { (names : List (List ℕ)) →
+        All (λ name. IsTrue (is_one_line name)) names →
+        without_breaks (name_lines names) ≡ concat (map (λ name. name ++ 45 ∷ []) names) }
+    ensures unbroken { (names : List (List ℕ)) →
+        All (λ name. IsTrue (is_one_line name)) names →
+        AreOfNames names (lines (name_lines names)) }
+    ensures ends { (names : List (List ℕ)) →
+        names ≢ [] → All (λ name. IsTrue (is_one_line name)) names →
+        All EndsInHyphen (lines (name_lines names)) }
 {}

@@ -15,5 +15,6 @@ pub struct Journal<D: Disk> {
     pub(crate) disk: D,
     pub(crate) gate: u64,
     pub(crate) unsure: bool,
-    ghost within: { IfSome (D.seen disk) (λ file. gate + 1 ≤ length file) } by { Prim.hlevel props },
+    ghost within: { IfSome (D.seen disk)
+        (λ file. gate + 1 ≤ length file) } by { Prim.hlevel props },
 }

@@ -17,14 +17,17 @@ ghost use Rattle.office_core.specs.declared.made.Made.{Made};
 
 /// Before any request there are no texts, and they agree with the empty board.
 pub fn offices_begin_in_agreement()
-    ensures { (settings : Settings) (class : Class) (edition : Edition) → Agrees (first_state settings class edition) [] }
+    ensures { (settings : Settings) (class : Class) (edition : Edition) →
+        Agrees (first_state settings class edition) [] }
 {}
 
 /// After an entry the texts still agree with the board, if its product was planned without a broken
 /// rule and reads as its plan, and the events that it opens have drawn their numbers.
 pub fn products_keep_the_agreement()
-    ensures { (s : State) (counts after : List Count) (making : Making) (made : Option Made) (e : Entry) →
-        IsSound s counts → Agrees s counts → s.last ≤ e.minute → MayBePlanned s counts e.minute making →
-        broken_lines s e.minute making ≡ None → ReadsWell s e.minute making made → draws counts after made →
+    ensures { (s : State) (counts after : List Count) (making : Making) (made : Option Made)
+        (e : Entry) →
+        IsSound s counts → Agrees s counts → s.last ≤ e.minute →
+        MayBePlanned s counts e.minute making → broken_lines s e.minute making ≡ None →
+        ReadsWell s e.minute making made → draws counts after made →
         Agrees (state_after s e made) after }
 {}

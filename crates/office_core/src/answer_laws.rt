@@ -15,36 +15,50 @@ ghost use Rattle.office_core.specs.declared.made.Made.{Made};
 /// No request is answered in two of the three ways accepted, refused and repeated. An accepted one
 /// makes one thing at one minute, and a refused one has one first broken rule.
 pub fn a_request_has_one_answer()
-    ensures accepted { (s : State) (desk : List ℕ) (seq : ℕ) (r : Request) (reading : ℤ) (t u : ℕ) (made other : Option Made) →
-        Accepts s desk seq r reading t made → Accepts s desk seq r reading u other → (t ≡ u) × (made ≡ other) }
-    ensures refused { (s : State) (desk : List ℕ) (seq : ℕ) (r : Request) (reading : ℤ) (x y : Refusal) →
+    ensures accepted { (s : State) (desk : List ℕ) (seq : ℕ) (r : Request) (reading : ℤ) (t u : ℕ)
+        (made other : Option Made) →
+        Accepts s desk seq r reading t made → Accepts s desk seq r reading u other →
+        (t ≡ u) × (made ≡ other) }
+    ensures refused { (s : State) (desk : List ℕ) (seq : ℕ) (r : Request) (reading : ℤ)
+        (x y : Refusal) →
         Refuses s desk seq r reading x → Refuses s desk seq r reading y → x ≡ y }
-    ensures apart { (s : State) (desk : List ℕ) (seq : ℕ) (r : Request) (reading : ℤ) (t : ℕ) (made : Option Made) (x : Refusal) →
+    ensures apart { (s : State) (desk : List ℕ) (seq : ℕ) (r : Request) (reading : ℤ) (t : ℕ)
+        (made : Option Made) (x : Refusal) →
         Accepts s desk seq r reading t made → Refuses s desk seq r reading x → ⊥ }
-    ensures repeated { (s : State) (desk : List ℕ) (seq : ℕ) (r : Request) (reading : ℤ) (t : ℕ) (made : Option Made) (kept : Reply) →
+    ensures repeated { (s : State) (desk : List ℕ) (seq : ℕ) (r : Request) (reading : ℤ) (t : ℕ)
+        (made : Option Made) (kept : Reply) →
         Repeats s desk seq r kept → Accepts s desk seq r reading t made → ⊥ }
-    ensures unrefused { (s : State) (desk : List ℕ) (seq : ℕ) (r : Request) (reading : ℤ) (x : Refusal) (kept : Reply) →
+    ensures unrefused { (s : State) (desk : List ℕ) (seq : ℕ) (r : Request) (reading : ℤ)
+        (x : Refusal) (kept : Reply) →
         Repeats s desk seq r kept → Refuses s desk seq r reading x → ⊥ }
 {}
 
 /// A look has one answer in each state of the office: one text or one refusal, never both.
 pub fn a_look_has_one_answer()
-    ensures either { (s : State) (q : Query) (reading : ℤ) → ((text : List ℕ) × Shows s q reading text) ⊎ ((x : Refusal) × RefusesLook s q reading x) }
-    ensures not_both { (s : State) (q : Query) (reading : ℤ) (text : List ℕ) (x : Refusal) → Shows s q reading text → RefusesLook s q reading x → ⊥ }
-    ensures one_text { (s : State) (q : Query) (reading : ℤ) (text other : List ℕ) → Shows s q reading text → Shows s q reading other → text ≡ other }
-    ensures one_refusal { (s : State) (q : Query) (reading : ℤ) (x y : Refusal) → RefusesLook s q reading x → RefusesLook s q reading y → x ≡ y }
+    ensures either { (s : State) (q : Query) (reading : ℤ) →
+        ((text : List ℕ) × Shows s q reading text) ⊎ ((x : Refusal) × RefusesLook s q reading x) }
+    ensures not_both { (s : State) (q : Query) (reading : ℤ) (text : List ℕ) (x : Refusal) →
+        Shows s q reading text → RefusesLook s q reading x → ⊥ }
+    ensures one_text { (s : State) (q : Query) (reading : ℤ) (text other : List ℕ) →
+        Shows s q reading text → Shows s q reading other → text ≡ other }
+    ensures one_refusal { (s : State) (q : Query) (reading : ℤ) (x y : Refusal) →
+        RefusesLook s q reading x → RefusesLook s q reading y → x ≡ y }
 {}
 
 /// A request that is accepted at a reading is accepted at its own minute as the reading too, and
 /// makes the same.
 #[tactic(auto, using(crate::proofs::ReadingLemmas::at_own_minute))]
 pub fn accepted_requests_are_accepted_at_their_minute()
-    ensures { (s : State) (desk : List ℕ) (seq : ℕ) (r : Request) (reading : ℤ) (t : ℕ) (made : Option Made) →
-        s.last ≤ 52000000 → Accepts s desk seq r reading t made → Accepts s desk seq r (pos t) t made }
+    ensures { (s : State) (desk : List ℕ) (seq : ℕ) (r : Request) (reading : ℤ) (t : ℕ)
+        (made : Option Made) →
+        s.last ≤ 52000000 → Accepts s desk seq r reading t made →
+        Accepts s desk seq r (pos t) t made }
 {}
 
 /// What was prepared may be committed by an office that has since prepared other requests, if none
 /// was committed.
 pub fn what_is_prepared_may_wait()
-    ensures { (o now : OfficeView) (p : Readied) → now.state ≡ o.state → now.counts ≡ o.counts → IsRoomier o.room now.room → MayCommit o p → MayCommit now p }
+    ensures { (o now : OfficeView) (p : Readied) →
+        now.state ≡ o.state → now.counts ≡ o.counts → IsRoomier o.room now.room → MayCommit o p →
+        MayCommit now p }
 {}

@@ -74,7 +74,8 @@ pub(crate) fn put_in(
     t: Minute,
     intent: Intent,
 ) -> Result<DraftChange, Oom>
-    ensures drafts { IfOk result (λ change. changed change drafts.now ≡ with_draft (with_intent t intent) id drafts.now) }
+    ensures drafts { IfOk result
+        (λ change. changed change drafts.now ≡ with_draft (with_intent t intent) id drafts.now) }
     ensures place { IfOk result (λ change. HasPlace change drafts.now) }
 {
     match place_of(drafts, id) {
@@ -94,7 +95,8 @@ pub(crate) fn drop_from(
     t: Minute,
     place: usize,
 ) -> Result<DraftChange, Oom>
-    ensures drafts { IfOk result (λ change. changed change drafts.now ≡ with_draft (without_intent t place) id drafts.now) }
+    ensures drafts { IfOk result
+        (λ change. changed change drafts.now ≡ with_draft (without_intent t place) id drafts.now) }
     ensures place { IfOk result (λ change. HasPlace change drafts.now) }
 {
     match place_of(drafts, id) {
@@ -114,7 +116,8 @@ pub(crate) fn take_over(
     t: Minute,
     desk: &Desk,
 ) -> Result<DraftChange, Oom>
-    ensures drafts { IfOk result (λ change. changed change drafts.now ≡ with_draft (taken_by t desk.now) id drafts.now) }
+    ensures drafts { IfOk result
+        (λ change. changed change drafts.now ≡ with_draft (taken_by t desk.now) id drafts.now) }
     ensures place { IfOk result (λ change. HasPlace change drafts.now) }
 {
     match place_of(drafts, id) {
@@ -139,7 +142,8 @@ pub(crate) fn take_away(drafts: &[Draft], id: u32) -> DraftChange
 
 /// Opens a draft without intents.
 fn opened_draft(alloc: Global, id: u32, owner: &Desk, category: Category, t: Minute) -> DraftChange
-    ensures { result ≡ Open (record { id = id; owner = owner.now; category = category; touched = t; intents = [] }) }
+    ensures { result ≡ Open
+        (record { id = id; owner = owner.now; category = category; touched = t; intents = [] }) }
 {
     DraftChange::Open(Draft {
         id,
@@ -162,7 +166,8 @@ impl Office {
     ) -> Result<DraftChange, Oom>
         requires room { drafts_full self.now.state r.now ≡ None }
         requires ids { self.now.state.begun < 4294967295 }
-        ensures drafts { IfOk result (λ change. changed change self.now.state.drafts ≡ drafts_after self.now.state desk.now r.now t) }
+        ensures drafts { IfOk result (λ change.
+            changed change self.now.state.drafts ≡ drafts_after self.now.state desk.now r.now t) }
         ensures place { IfOk result (λ change. HasPlace change self.now.state.drafts) }
     {
         let drafts = self.drafts.as_slice();

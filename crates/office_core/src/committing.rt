@@ -74,7 +74,8 @@ fn take_made(
     requires numbers { IfSome made (λ made. AreDrawnInOrder numbers.old.counts made.opened) }
     requires rows_room { IfSome made (λ made. openings made.sent.lines ≤ board.old.spare) }
     requires numbers_room { IfSome made (λ made. length made.opened ≤ numbers.old.spare) }
-    requires products_room { IfSome made (λ made. vec_len products.old < vec_capacity products.old) }
+    requires products_room { IfSome made
+        (λ made. vec_len products.old < vec_capacity products.old) }
     ensures rows { board.new.rows ≡ rows_with_made board.old.rows t made }
     ensures numbers { draws numbers.old.counts numbers.new.counts made }
     ensures products { products.new.items ≡ products_with products.old.items made }
@@ -92,7 +93,8 @@ impl Office {
     pub fn commit(&mut self, p: Prepared)
         requires { MayCommit self.old p }
         ensures state { self.new.state ≡ state_after self.old.state p.entry p.made }
-        ensures kept { said_by self.new.state p.entry.desk ≡ Some (record { seq = p.entry.seq; request = p.entry.request; reply = p.entry.reply }) }
+        ensures kept { said_by self.new.state p.entry.desk ≡ Some
+            (record { seq = p.entry.seq; request = p.entry.request; reply = p.entry.reply }) }
         ensures reads { ReadsAsTheBoard self.new.state }
         ensures consistent { IsConsistent self.new.state.rows self.new.state.last }
     {

@@ -90,7 +90,8 @@ fn not_owner(desk: &Desk, r: &Request, found: Option<&Draft>) -> Option<Refusal>
 
 /// Whether the request takes a draft that another desk touched less than ten minutes ago.
 fn comes_early(desk: &Desk, t: Minute, r: &Request, draft: &Draft) -> bool
-    ensures { result ≡ (is_others desk.now draft.now && takes r.now && nat_lt t (draft.now.touched + 10)) }
+    ensures { result
+        ≡ (is_others desk.now draft.now && takes r.now && nat_lt t (draft.now.touched + 10)) }
 {
     is_others(desk, draft) && takes(r) && t.get() < draft.touched.get() + ACTIVE
 }
@@ -143,7 +144,9 @@ fn intents_full(r: &Request, found: Option<&Draft>) -> Option<Refusal>
 
 /// `NoIntent`, if the draft has no intent at the place, counted from 0.
 fn none_at(draft: &Draft, place: u32) -> Option<Refusal>
-    ensures { result ≡ (if nat_le (length draft.now.intents) place then Some (Refused.NoIntent place) else None) }
+    ensures { result ≡ (if nat_le (length draft.now.intents) place
+        then Some (Refused.NoIntent place)
+        else None) }
 {
     if draft.intents.len() <= place as usize {
         Some(Refusal::NoIntent { place })
@@ -176,7 +179,8 @@ impl Office {
 
     /// The draft that a request is on.
     pub(crate) fn found_draft(&self, r: &Request) -> Option<&Draft>
-        ensures value { option_map (λ d. d.now) result ≡ found_draft self.now.state (draft_of r.now) }
+        ensures value { option_map (λ d. d.now) result
+            ≡ found_draft self.now.state (draft_of r.now) }
         ensures touched { IfSome result (λ d. d.now.touched ≤ 52000000) }
     {
         match draft_of(r) {
@@ -220,7 +224,8 @@ impl Office {
     /// The first broken rule on the draft that a request is on.
     #[tactic(auto, unfolding(crate::specs::Rules::broken_draft))]
     pub(crate) fn broken_draft(&self, desk: &Desk, r: &Request, t: Minute) -> Option<Refusal>
-        ensures { result ≡ broken_draft self.now.state desk.now r.now t (found_draft self.now.state (draft_of r.now)) }
+        ensures { result ≡ broken_draft self.now.state desk.now r.now t
+            (found_draft self.now.state (draft_of r.now)) }
     {
         let lacking = self.no_draft(draft_of(r));
         if lacking.is_some() {

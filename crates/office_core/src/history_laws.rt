@@ -13,17 +13,24 @@ ghost use Rattle.office_core.specs.declared.made.Made.{Made};
 /// In a legal history each request is there once: the numbers of each desk are 1, 2, .., in this
 /// order.
 pub fn requests_stand_once()
-    ensures { (fits : List Entered → Entered → Bool) (settings : Settings) (class : Class) (history : List Entered) (s : State) →
+    ensures { (fits : List Entered → Entered → Bool) (settings : Settings) (class : Class)
+        (history : List Entered) (s : State) →
         IsLegal fits settings class history s → StandOnce (entries_of history) }
 {}
 
 /// The number of an accepted request is one above its desk's last, and then is the last; those of
 /// other desks stay as they are.
 pub fn accepted_requests_are_numbered_on()
-    ensures number { (s : State) (counts : List Count) (desk : List ℕ) (seq : ℕ) (r : Request) (reading : ℤ) (t : ℕ) (made : Option Made) →
+    ensures number { (s : State) (counts : List Count) (desk : List ℕ) (seq : ℕ) (r : Request)
+        (reading : ℤ) (t : ℕ) (made : Option Made) →
         Accepts s desk seq r reading t made → seq ≡ last_number s desk + 1 }
-    ensures last { (s : State) (counts : List Count) (desk : List ℕ) (seq : ℕ) (r : Request) (reading : ℤ) (t : ℕ) (made : Option Made) →
-        IsSound s counts → Accepts s desk seq r reading t made → last_number (state_after s (entry_of s desk seq r t made) made) desk ≡ seq }
-    ensures others { (s : State) (counts : List Count) (desk : List ℕ) (seq : ℕ) (r : Request) (reading : ℤ) (t : ℕ) (made : Option Made) (other : List ℕ) →
-        IsSound s counts → Accepts s desk seq r reading t made → other ≢ desk → last_number (state_after s (entry_of s desk seq r t made) made) other ≡ last_number s other }
+    ensures last { (s : State) (counts : List Count) (desk : List ℕ) (seq : ℕ) (r : Request)
+        (reading : ℤ) (t : ℕ) (made : Option Made) →
+        IsSound s counts → Accepts s desk seq r reading t made →
+        last_number (state_after s (entry_of s desk seq r t made) made) desk ≡ seq }
+    ensures others { (s : State) (counts : List Count) (desk : List ℕ) (seq : ℕ) (r : Request)
+        (reading : ℤ) (t : ℕ) (made : Option Made) (other : List ℕ) →
+        IsSound s counts → Accepts s desk seq r reading t made → other ≢ desk →
+        last_number (state_after s (entry_of s desk seq r t made) made) other
+        ≡ last_number s other }
 {}

@@ -19,8 +19,10 @@ use std::alloc::Global;
 
 /// The text of a product, or `NoProduct`.
 fn product_text(alloc: Global, found: Option<&Sent>) -> Result<Text, Or<Refusal>>
-    ensures shows { IfOk result (λ text. ShowsProduct (option_map (λ sent. sent.now) found.entry) text) }
-    ensures refused { (x : Refused) → result ≡ Err (No x) → LacksProduct (option_map (λ sent. sent.now) found.entry) x }
+    ensures shows { IfOk result
+        (λ text. ShowsProduct (option_map (λ sent. sent.now) found.entry) text) }
+    ensures refused { (x : Refused) →
+        result ≡ Err (No x) → LacksProduct (option_map (λ sent. sent.now) found.entry) x }
 {
     match found {
         Some(sent) => Ok(List::from_slice(alloc, sent.text.as_slice())?),
@@ -31,7 +33,8 @@ fn product_text(alloc: Global, found: Option<&Sent>) -> Result<Text, Or<Refusal>
 /// The text of a draft as JSON, or `NoDraft`.
 fn found_text(alloc: Global, found: Option<&Draft>) -> Result<Text, Or<Refusal>>
     ensures shows { IfOk result (λ text. ShowsDraft (option_map (λ d. d.now) found.entry) text) }
-    ensures refused { (x : Refused) → result ≡ Err (No x) → LacksDraft (option_map (λ d. d.now) found.entry) x }
+    ensures refused { (x : Refused) →
+        result ≡ Err (No x) → LacksDraft (option_map (λ d. d.now) found.entry) x }
 {
     match found {
         Some(draft) => Ok(draft_text(alloc, draft)?),
@@ -55,7 +58,8 @@ impl Office {
     /// An open draft, of which a product may be made.
     fn sound_draft_at(&self, id: u32) -> Option<&Draft>
         ensures value { option_map (λ d. d.now) result ≡ draft_at self.now.state id }
-        ensures sound { IfSome result (λ d. IsSoundMaking self.now.state (drafted_by (Some d.now))) }
+        ensures sound { IfSome result
+            (λ d. IsSoundMaking self.now.state (drafted_by (Some d.now))) }
     {
         open_drafts_are_sound();
         let _ = &self.settings;
@@ -65,7 +69,8 @@ impl Office {
     /// The rows that are live at the reading, one a line.
     fn board_text(&self, alloc: Global, reading: i64) -> Result<Text, Or<Refusal>>
         ensures shows { IfOk result (λ text. Shows self.now.state Looked.Board reading text) }
-        ensures refused { (x : Refused) → result ≡ Err (No x) → RefusesLook self.now.state Looked.Board reading x }
+        ensures refused { (x : Refused) →
+            result ≡ Err (No x) → RefusesLook self.now.state Looked.Board reading x }
     {
         if is_out(reading) {
             return Err(Or::No(Refusal::ClockOut { minute: reading }));
@@ -78,8 +83,10 @@ impl Office {
 
     /// The text that a send of draft `id` would give.
     fn preview(&self, alloc: Global, id: u32, reading: i64) -> Result<Text, Or<Refusal>>
-        ensures shows { IfOk result (λ text. Shows self.now.state (Looked.Preview id) reading text) }
-        ensures refused { (x : Refused) → result ≡ Err (No x) → RefusesLook self.now.state (Looked.Preview id) reading x }
+        ensures shows { IfOk result
+            (λ text. Shows self.now.state (Looked.Preview id) reading text) }
+        ensures refused { (x : Refused) →
+            result ≡ Err (No x) → RefusesLook self.now.state (Looked.Preview id) reading x }
     {
         if is_out(reading) {
             return Err(Or::No(Refusal::ClockOut { minute: reading }));
@@ -103,7 +110,8 @@ impl Office {
     /// - `OutOfMemory`.
     pub fn look(&self, alloc: Global, q: &Query, reading: i64) -> Result<Text, Or<Refusal>>
         ensures shows { IfOk result (λ text. Shows self.now.state q.now reading text) }
-        ensures refused { (x : Refused) → result ≡ Err (No x) → RefusesLook self.now.state q.now reading x }
+        ensures refused { (x : Refused) →
+            result ≡ Err (No x) → RefusesLook self.now.state q.now reading x }
     {
         match q {
             Query::Board => self.board_text(alloc, reading),

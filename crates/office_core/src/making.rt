@@ -86,9 +86,11 @@ impl Office {
         requires { CanBeText self.now.state.settings self.now.state.class plan t }
         ensures made { IfOk result (λ made. made ≡ made_with self.now.state t original plan) }
         ensures kept { OnOk result (broken_product self.now.state t plan ≡ None) }
-        ensures frame { IfOk result (λ made. FrameOf made.sent.text (frame_of self.now.state.settings self.now.state.class plan t)) }
+        ensures frame { IfOk result (λ made.
+            FrameOf made.sent.text (frame_of self.now.state.settings self.now.state.class plan t)) }
         ensures one { IfOk result (λ made. IsOneProduct made.sent.text) }
-        ensures refused { (x : Refused) → result ≡ Err (No x) → broken_product self.now.state t plan ≡ Some x }
+        ensures refused { (x : Refused) →
+            result ≡ Err (No x) → broken_product self.now.state t plan ≡ Some x }
     {
         let text = product_text(alloc, &self.settings, self.class, &plan, t, self.edition)?;
         let before = self.products.len();
@@ -119,8 +121,10 @@ impl Office {
         requires last { self.now.state.last ≤ t }
         requires minute { t ≤ 52000000 }
         requires sound { IsSoundMaking self.now.state (drafted_by (Some draft.now)) }
-        ensures made { IfOk result (λ made. IsWellMade self.now.state self.now.counts t (drafted_by (Some draft.now)) made) }
-        ensures refused { (x : Refused) → result ≡ Err (No x) → BreaksOnLines self.now.state t (drafted_by (Some draft.now)) x }
+        ensures made { IfOk result (λ made.
+            IsWellMade self.now.state self.now.counts t (drafted_by (Some draft.now)) made) }
+        ensures refused { (x : Refused) →
+            result ≡ Err (No x) → BreaksOnLines self.now.state t (drafted_by (Some draft.now)) x }
     {
         sound_products_may_be_planned();
         sound_plans_may_be_written();
@@ -141,8 +145,11 @@ impl Office {
         requires last { self.now.state.last ≤ t }
         requires minute { t ≤ 52000000 }
         requires sound { IsSoundMaking self.now.state (corrected_by given.now (Some sent.now)) }
-        ensures made { IfOk result (λ made. IsWellMade self.now.state self.now.counts t (corrected_by given.now (Some sent.now)) made) }
-        ensures refused { (x : Refused) → result ≡ Err (No x) → BreaksOnLines self.now.state t (corrected_by given.now (Some sent.now)) x }
+        ensures made { IfOk result (λ made. IsWellMade self.now.state self.now.counts t
+            (corrected_by given.now (Some sent.now)) made) }
+        ensures refused { (x : Refused) →
+            result ≡ Err (No x) →
+            BreaksOnLines self.now.state t (corrected_by given.now (Some sent.now)) x }
     {
         sound_products_may_be_planned();
         sound_plans_may_be_written();
@@ -167,8 +174,11 @@ impl Office {
         requires last { self.now.state.last ≤ t }
         requires minute { t ≤ 52000000 }
         requires sound { IsSoundMaking self.now.state (making_of self.now.state r.now) }
-        ensures made { IfOk result (λ made. IsWellMadeIf self.now.state self.now.counts t (making_of self.now.state r.now) made) }
-        ensures refused { (x : Refused) → result ≡ Err (No x) → BreaksOnLines self.now.state t (making_of self.now.state r.now) x }
+        ensures made { IfOk result (λ made.
+            IsWellMadeIf self.now.state self.now.counts t (making_of self.now.state r.now) made) }
+        ensures refused { (x : Refused) →
+            result ≡ Err (No x) →
+            BreaksOnLines self.now.state t (making_of self.now.state r.now) x }
     {
         match r {
             Request::Issue(part) => {

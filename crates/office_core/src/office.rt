@@ -149,7 +149,8 @@ impl Office {
 
     /// Returns the reply to the desk's last accepted request, or `None` if it has none.
     pub fn kept(&self, desk: Desk) -> Option<&Reply>
-        ensures { option_map (λ r. r.now) result ≡ option_map (λ said. said.reply) (said_by self.now.state desk) }
+        ensures { option_map (λ r. r.now) result
+            ≡ option_map (λ said. said.reply) (said_by self.now.state desk) }
     {
         match self.said_by(&desk) {
             Some(said) => Some(&said.reply),

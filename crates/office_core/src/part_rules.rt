@@ -232,7 +232,8 @@ impl Office {
     /// The first broken rule on the parts of a request.
     #[tactic(auto, unfolding(crate::specs::Rules::broken_part))]
     pub(crate) fn broken_part(&self, alloc: Global, r: &Request) -> Result<Option<Refusal>, Oom>
-        ensures { IfOk result (λ refused. refused ≡ broken_part self.now.state r.now (found_draft self.now.state (draft_of r.now))) }
+        ensures { IfOk result (λ refused. refused
+            ≡ broken_part self.now.state r.now (found_draft self.now.state (draft_of r.now))) }
     {
         let zone = unknown_zone(&self.settings, r);
         if zone.is_some() {

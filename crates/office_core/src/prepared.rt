@@ -51,7 +51,8 @@ impl Prepared {
 
     /// Returns the text of the product, which a send, an issue and a correction have.
     pub fn text(&self) -> Option<&Text>
-        ensures { option_map (λ text. text.now) result ≡ option_map (λ made. made.sent.text) self.now.made }
+        ensures { option_map (λ text. text.now) result
+            ≡ option_map (λ made. made.sent.text) self.now.made }
     {
         match &self.made {
             Some(made) => Some(&made.sent.text),

@@ -40,7 +40,8 @@ fn make_room(
     ensures products { products.new.items ≡ products.old.items }
     ensures more_rows { board.old.spare ≤ board.new.spare }
     ensures more_counts { numbers.old.spare ≤ numbers.new.spare }
-    ensures more_products { vec_capacity products.old - vec_len products.old ≤ vec_capacity products.new - vec_len products.new }
+    ensures more_products { vec_capacity products.old - vec_len products.old
+        ≤ vec_capacity products.new - vec_len products.new }
     ensures rows_room { OnOk result (openings made.now.sent.lines ≤ board.new.spare) }
     ensures counts_room { OnOk result (length made.now.opened ≤ numbers.new.spare) }
     ensures products_room { OnOk result (1 ≤ vec_capacity products.new - vec_len products.new) }
@@ -79,7 +80,8 @@ impl Office {
         requires ids { self.now.state.begun < 4294967295 }
         ensures entry { IfOk result (λ p. p.entry ≡ entry_of self.now.state desk seq r.now t made) }
         ensures made { IfOk result (λ p. p.made ≡ made) }
-        ensures drafts { IfOk result (λ p. changed p.change self.now.state.drafts ≡ drafts_after self.now.state desk r.now t) }
+        ensures drafts { IfOk result (λ p.
+            changed p.change self.now.state.drafts ≡ drafts_after self.now.state desk r.now t) }
         ensures place { IfOk result (λ p. HasPlace p.change self.now.state.drafts) }
     {
         let change = self.change_of(alloc, &desk, r, t)?;
@@ -121,9 +123,12 @@ impl Office {
         ensures state { self.new.state ≡ self.old.state }
         ensures counts { self.new.counts ≡ self.old.counts }
         ensures room { IsRoomier self.old.room self.new.room }
-        ensures ready { (p : Readied) → result ≡ Ok (New p) → IsReady self.new desk seq r.now reading p }
-        ensures again { result ≡ Ok Again → (kept : Answered) × Repeats self.old.state desk seq r.now kept }
-        ensures refused { (x : Refused) → result ≡ Err (No x) → Refuses self.old.state desk seq r.now reading x }
+        ensures ready { (p : Readied) →
+            result ≡ Ok (New p) → IsReady self.new desk seq r.now reading p }
+        ensures again { result ≡ Ok Again
+            → (kept : Answered) × Repeats self.old.state desk seq r.now kept }
+        ensures refused { (x : Refused) →
+            result ≡ Err (No x) → Refuses self.old.state desk seq r.now reading x }
     {
         // What holds of every office comes to the proof by this read.
         let _ = &self.settings;

@@ -23,7 +23,8 @@ impl Office {
         requires minute { t ≤ 52000000 }
         requires sound { IsSoundMaking self.now.state (drafted_by (Some draft.now)) }
         ensures shows { IfOk result (λ text. ShowsPreview self.now.state t (Some draft.now) text) }
-        ensures refused { (x : Refused) → result ≡ Err (No x) → BreaksAsPreview self.now.state t (Some draft.now) x }
+        ensures refused { (x : Refused) →
+            result ≡ Err (No x) → BreaksAsPreview self.now.state t (Some draft.now) x }
     {
         let made = self.make_drafted(alloc, draft, t)?;
         Ok(made.sent.text)

@@ -39,7 +39,8 @@ impl Office {
         r: &Request,
         reading: i64,
     ) -> Result<Option<Refusal>, Oom>
-        ensures { IfOk result (λ found. found ≡ broken_request self.now.state desk.now seq r.now reading) }
+        ensures { IfOk result
+            (λ found. found ≡ broken_request self.now.state desk.now seq r.now reading) }
     {
         if self.is_repeated(desk, seq, r) {
             return Ok(self.unknown_desk(desk));

@@ -22,45 +22,54 @@ ghost use Rattle.office_core.specs.declared.made.Made.{Made};
 
 /// An office of well-formed settings is sound at first.
 pub fn offices_begin_sound()
-    ensures { (settings : Settings) (class : Class) (edition : Edition) → HasForms settings → (settings.any_zone ≡ true → is_training class ≡ true) →
+    ensures { (settings : Settings) (class : Class) (edition : Edition) →
+        HasForms settings → (settings.any_zone ≡ true → is_training class ≡ true) →
         IsSound (first_state settings class edition) [] }
 {}
 
 /// A request that breaks no rule on its desk, its draft and its parts makes a sound product.
 pub fn requests_make_sound_products()
-    ensures { (s : State) (counts : List Count) (desk : List ℕ) (seq : ℕ) (r : Request) (reading : ℤ) →
-        IsSound s counts → HasRequestForm r → is_repeated s desk seq r ≡ false → broken_request s desk seq r reading ≡ None →
+    ensures { (s : State) (counts : List Count) (desk : List ℕ) (seq : ℕ) (r : Request)
+        (reading : ℤ) →
+        IsSound s counts → HasRequestForm r → is_repeated s desk seq r ≡ false →
+        broken_request s desk seq r reading ≡ None →
         IsSoundMaking s (making_of s r) }
 {}
 
 /// The product of an open draft is sound.
 pub fn open_drafts_are_sound()
-    ensures { (s : State) (counts : List Count) (id : ℕ) → IsSound s counts → IsSoundMaking s (drafted_by (draft_at s id)) }
+    ensures { (s : State) (counts : List Count) (id : ℕ) →
+        IsSound s counts → IsSoundMaking s (drafted_by (draft_at s id)) }
 {}
 
 /// The minute of an entry is at most 52,000,000, and not before the last entry's.
 pub fn entries_come_in_order()
-    ensures { (s : State) (counts : List Count) (reading : ℤ) → IsSound s counts → is_out reading ≡ false →
+    ensures { (s : State) (counts : List Count) (reading : ℤ) →
+        IsSound s counts → is_out reading ≡ false →
         (s.last ≤ minute_of s reading) × (minute_of s reading ≤ 52000000) }
 {}
 
 /// A sound product may be planned.
 pub fn sound_products_may_be_planned()
     ensures { (s : State) (counts : List Count) (t : ℕ) (making : Making) →
-        IsSound s counts → s.last ≤ t → t ≤ 52000000 → IsSoundMaking s making → MayBePlanned s counts t making }
+        IsSound s counts → s.last ≤ t → t ≤ 52000000 → IsSoundMaking s making →
+        MayBePlanned s counts t making }
 {}
 
 /// The plan of a sound product whose lines break no rule may be written.
 pub fn sound_plans_may_be_written()
     ensures { (s : State) (counts : List Count) (t : ℕ) (making : Making) (plan : Plan) →
-        IsSound s counts → s.last ≤ t → t ≤ 52000000 → IsSoundMaking s making → broken_lines s t making ≡ None → IsPlanOf s t making plan →
+        IsSound s counts → s.last ≤ t → t ≤ 52000000 → IsSoundMaking s making →
+        broken_lines s t making ≡ None → IsPlanOf s t making plan →
         CanBeText s.settings s.class plan t }
 {}
 
 /// After an accepted request the state is still sound, once the events that it opens have drawn
 /// their numbers.
 pub fn accepted_requests_keep_soundness()
-    ensures { (s : State) (counts after : List Count) (desk : List ℕ) (seq : ℕ) (r : Request) (reading : ℤ) (t : ℕ) (made : Option Made) →
-        IsSound s counts → HasRequestForm r → Accepts s desk seq r reading t made → draws counts after made →
+    ensures { (s : State) (counts after : List Count) (desk : List ℕ) (seq : ℕ) (r : Request)
+        (reading : ℤ) (t : ℕ) (made : Option Made) →
+        IsSound s counts → HasRequestForm r → Accepts s desk seq r reading t made →
+        draws counts after made →
         IsSound (state_after s (entry_of s desk seq r t made) made) after }
 {}

@@ -99,7 +99,8 @@ fn first_field(alloc: Global, rule: TextRule, texts: &Texts) -> Result<Option<Re
 
 /// The refusal of the first of the events' texts that breaks a rule.
 fn first_given(alloc: Global, rule: TextRule, given: &[EventTexts]) -> Result<Option<Refusal>, Oom>
-    ensures { IfOk result (λ found. found ≡ first_texts (under rule) (map (λ (x : TextsOn). x.texts) given.now)) }
+    ensures { IfOk result
+        (λ found. found ≡ first_texts (under rule) (map (λ (x : TextsOn). x.texts) given.now)) }
 {
     for told in given {
         let found = first_field(alloc, rule, &told.texts)?;

@@ -24,7 +24,8 @@ impl Model for Feed {
 
     ghost view = { λ f. record { rest = drop f.held.from f.held.bytes.items; ended = f.ended } };
 
-    ghost invariant = { λ f. IsHeld f.held.bytes.items f.held.from f.held.seen f.held.looked f.held.headed };
+    ghost invariant = { λ f.
+        IsHeld f.held.bytes.items f.held.from f.held.seen f.held.looked f.held.headed };
 }
 
 impl Feed {
@@ -93,8 +94,11 @@ impl Feed {
 /// Adds the next product to `out`, if there is one, and returns whether there is.
 fn take_one(alloc: Global, feed: &mut Feed, out: &mut List<Text>) -> Result<bool, Oom>
     ensures ended { feed.new.ended ≡ feed.old.ended }
-    ensures going { OnOk result (feed.old.ended ≡ false → (more : Seq ℕ) → out.old ++ products_in (feed.old.rest ++ more) ≡ out.new ++ products_in (feed.new.rest ++ more)) }
-    ensures last { OnOk result (feed.old.ended ≡ true → out.old ++ products_in feed.old.rest ≡ out.new ++ products_in feed.new.rest) }
+    ensures going { OnOk result (feed.old.ended ≡ false
+        → (more : Seq ℕ) → out.old ++ products_in (feed.old.rest ++ more)
+        ≡ out.new ++ products_in (feed.new.rest ++ more)) }
+    ensures last { OnOk result (feed.old.ended ≡ true
+        → out.old ++ products_in feed.old.rest ≡ out.new ++ products_in feed.new.rest) }
     ensures less { result ≡ Ok true → length feed.new.rest < length feed.old.rest }
     ensures none { result ≡ Ok false → feed.old.ended ≡ true → products_in feed.new.rest ≡ [] }
 {
@@ -110,8 +114,11 @@ fn take_one(alloc: Global, feed: &mut Feed, out: &mut List<Text>) -> Result<bool
 /// Adds the products that are finished to `out`, or all that are left if the end is marked.
 fn take_each(alloc: Global, feed: &mut Feed, out: &mut List<Text>) -> Result<(), Oom>
     ensures ended { feed.new.ended ≡ feed.old.ended }
-    ensures going { OnOk result (feed.old.ended ≡ false → (more : Seq ℕ) → out.old ++ products_in (feed.old.rest ++ more) ≡ out.new ++ products_in (feed.new.rest ++ more)) }
-    ensures last { OnOk result (feed.old.ended ≡ true → out.old ++ products_in feed.old.rest ≡ out.new) }
+    ensures going { OnOk result (feed.old.ended ≡ false
+        → (more : Seq ℕ) → out.old ++ products_in (feed.old.rest ++ more)
+        ≡ out.new ++ products_in (feed.new.rest ++ more)) }
+    ensures last { OnOk result
+        (feed.old.ended ≡ true → out.old ++ products_in feed.old.rest ≡ out.new) }
 {
     let mut more = true;
     while more {

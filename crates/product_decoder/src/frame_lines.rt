@@ -92,7 +92,8 @@ fn put_part<'a>(
     zones: &'a [Zone],
     said: &[EventPair],
 ) -> Result<(), Oom>
-    ensures { OnOk result (lines_in parts.new.items ≡ lines_in parts.old.items ++ lines_along zones.now said.now) }
+    ensures { OnOk result
+        (lines_in parts.new.items ≡ lines_in parts.old.items ++ lines_along zones.now said.now) }
 {
     match zones.first() {
         Some(first) => {
@@ -113,7 +114,8 @@ fn parts_of<'a>(
     t: Minute,
     segments: &'a [FrameSegment],
 ) -> Result<List<Part<'a>>, Oom>
-    ensures { IfOk result (λ parts. lines_in parts ≡ lines_in_segments office.now class.now rows.now t segments.now) }
+    ensures { IfOk result
+        (λ parts. lines_in parts ≡ lines_in_segments office.now class.now rows.now t segments.now) }
 {
     let mut parts = Vec::with_capacity(alloc, segments.len())?;
     for segment in segments {
@@ -133,7 +135,8 @@ fn parts_by_frame<'a>(
     rows: &RowIndex,
     frame: &'a Frame,
 ) -> Result<List<Part<'a>>, Oom>
-    ensures { IfOk result (λ parts. lines_in parts ≡ lines_of rows.now frame.now.issue (said_by office.now class.now (decoded_of frame.now).pairs)) }
+    ensures { IfOk result (λ parts. lines_in parts ≡ lines_of rows.now frame.now.issue
+        (said_by office.now class.now (decoded_of frame.now).pairs)) }
 {
     parts_of(
         alloc,
@@ -158,7 +161,8 @@ pub fn judged_by_frame(
     rows: &RowIndex,
     frame: &Frame,
 ) -> Result<List<Run>, Oom>
-    ensures told { IfOk result (λ runs. spelled runs ≡ judged_product rows.now (product_of office.now class.now (decoded_of frame.now))) }
+    ensures told { IfOk result (λ runs. spelled runs
+        ≡ judged_product rows.now (product_of office.now class.now (decoded_of frame.now))) }
     ensures found { IfOk result (λ runs. AreFound rows.now runs) }
     ensures apart { IfOk result (λ runs. AreApart runs) }
 {

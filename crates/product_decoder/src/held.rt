@@ -186,7 +186,8 @@ impl Held {
     pub fn take_whole(&mut self, alloc: Global) -> Result<Option<Text>, Oom>
         requires { HeldIs self.old }
         ensures holds { HeldIs self.new }
-        ensures taken { IfOk result (λ text. TakesWhole (rest_of self.old) text (rest_of self.new)) }
+        ensures taken { IfOk result
+            (λ text. TakesWhole (rest_of self.old) text (rest_of self.new)) }
         ensures err { OnErr result (Keeps (rest_of self.old) (rest_of self.new)) }
     {
         self.settle();
@@ -225,7 +226,8 @@ impl Held {
     fn give_front(&mut self, alloc: Global) -> Result<Option<Text>, Oom>
         requires holds { HeldIs self.old }
         ensures holds { HeldIs self.new }
-        ensures text { IfOk result (λ text. text ≡ Some (slice_range self.old.bytes.items self.old.from self.old.seen)) }
+        ensures text { IfOk result
+            (λ text. text ≡ Some (slice_range self.old.bytes.items self.old.from self.old.seen)) }
         ensures rest { OnOk result (rest_of self.new ≡ drop self.old.seen self.old.bytes.items) }
         ensures err { OnErr result (rest_of self.new ≡ rest_of self.old) }
     {

@@ -85,12 +85,14 @@ impl Reader {
     ) -> Result<(), Oom>
         requires rows { rows ≡ rows_of self.old.products }
         requires few { length self.old.products < 4294967295 }
-        requires judged { spelled runs ≡ judged_product rows (product_judged self.old.office self.old.class issue (spelled runs)) }
+        requires judged { spelled runs ≡ judged_product rows
+            (product_judged self.old.office self.old.class issue (spelled runs)) }
         requires found { AreFound rows runs }
         requires apart { AreApart runs }
         ensures office { self.new.office ≡ self.old.office }
         ensures class { self.new.class ≡ self.old.class }
-        ensures ok { OnOk result (self.new.products ≡ self.old.products ++ product_judged self.old.office self.old.class issue (spelled runs) ∷ []) }
+        ensures ok { OnOk result (self.new.products ≡ self.old.products
+            ++ product_judged self.old.office self.old.class issue (spelled runs) ∷ []) }
         ensures err { OnErr result (self.new.products ≡ self.old.products) }
     {
         let after = rows.leave_runs(alloc, issue, runs.as_slice())?;
@@ -109,7 +111,8 @@ impl Reader {
         requires { length self.old.products < 4294967295 }
         ensures office { self.new.office ≡ self.old.office }
         ensures class { self.new.class ≡ self.old.class }
-        ensures ok { OnOk result (self.new.products ≡ self.old.products ++ product_of self.old.office self.old.class d.now ∷ []) }
+        ensures ok { OnOk result (self.new.products
+            ≡ self.old.products ++ product_of self.old.office self.old.class d.now ∷ []) }
         ensures err { OnErr result (self.new.products ≡ self.old.products) }
     {
         let rows = self.rows_before(alloc)?;
@@ -127,7 +130,8 @@ impl Reader {
         requires { length self.old.products < 4294967295 }
         ensures office { self.new.office ≡ self.old.office }
         ensures class { self.new.class ≡ self.old.class }
-        ensures ok { OnOk result (self.new.products ≡ self.old.products ++ product_of self.old.office self.old.class (decoded_of frame.now) ∷ []) }
+        ensures ok { OnOk result (self.new.products ≡ self.old.products
+            ++ product_of self.old.office self.old.class (decoded_of frame.now) ∷ []) }
         ensures err { OnErr result (self.new.products ≡ self.old.products) }
     {
         let rows = self.rows_before(alloc)?;
@@ -170,7 +174,8 @@ impl Reader {
     ///
     /// Out of memory.
     pub fn lives_by_event(&self, alloc: Global) -> Result<List<EventLives>, Oom>
-        ensures value { IfOk result (λ events. flat_map (λ e. e) events ≡ lives_of self.now.products) }
+        ensures value { IfOk result
+            (λ events. flat_map (λ e. e) events ≡ lives_of self.now.products) }
     {
         events_in(alloc, self.taken.as_slice())
     }
@@ -185,7 +190,8 @@ impl Reader {
     pub fn breaches(&self, alloc: Global) -> Result<List<Found>, Oom>
         ensures value { IfOk result (λ found. found ≡ found_of self.now.products) }
         // There is none exactly if each life is lawful.
-        ensures lawful { (found_of self.now.products ≡ []) ↔ ((e : EventValue) (z : Place) → IsLawfulLife self.now.products e z) }
+        ensures lawful { (found_of self.now.products ≡ [])
+            ↔ ((e : EventValue) (z : Place) → IsLawfulLife self.now.products e z) }
     {
         breaches_in(alloc, self.taken.as_slice())
     }
@@ -202,7 +208,8 @@ impl Reader {
         ensures value { IfOk result (λ gaps. gaps ≡ gaps_found self.now.products) }
         // There is none exactly if the numbers of each hazard and year are 1, 2, .., k in the order
         // of opening.
-        ensures gapless { (gaps_found self.now.products ≡ []) ↔ IsGapless (opened_of self.now.products) }
+        ensures gapless { (gaps_found self.now.products ≡ [])
+            ↔ IsGapless (opened_of self.now.products) }
     {
         gaps_in(alloc, self.taken.as_slice())
     }

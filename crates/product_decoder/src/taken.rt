@@ -182,7 +182,8 @@ fn lines_by(
     t: Minute,
     pairs: &[ZonePair],
 ) -> Result<List<Line>, Oom>
-    ensures { IfOk result (λ lines. lines ≡ lines_of rows.now t (said_by office.now class.now pairs.now)) }
+    ensures { IfOk result
+        (λ lines. lines ≡ lines_of rows.now t (said_by office.now class.now pairs.now)) }
 {
     let mut lines = List::new(alloc);
     let mut known = None;
@@ -207,7 +208,8 @@ pub fn judged_lines(
     rows: &RowIndex,
     d: &Decoded,
 ) -> Result<List<Run>, Oom>
-    ensures told { IfOk result (λ runs. spelled runs ≡ judged_product rows.now (product_of office.now class.now d.now)) }
+    ensures told { IfOk result
+        (λ runs. spelled runs ≡ judged_product rows.now (product_of office.now class.now d.now)) }
     ensures found { IfOk result (λ runs. AreFound rows.now runs) }
     ensures apart { IfOk result (λ runs. AreApart runs) }
 {

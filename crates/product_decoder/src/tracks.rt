@@ -30,7 +30,10 @@ fn put_line(
     line: &Line,
     zones: &[Zone],
 ) -> Result<(), Oom>
-    ensures { OnOk result (steps.new.entries ≡ insert_entry by_event steps.old.entries line.now.event (with_zones (line.now.action, issue.now) (zones_at steps.old.entries line.now.event) zones.now)) }
+    ensures { OnOk result (steps.new.entries
+        ≡ insert_entry by_event steps.old.entries line.now.event
+        (with_zones (line.now.action, issue.now)
+        (zones_at steps.old.entries line.now.event) zones.now)) }
 {
     let event = line.event;
     let known = steps
@@ -48,7 +51,8 @@ fn put_verdict(
     zones: &[Zone],
 ) -> Result<(), Oom>
     requires ascending { AreAscending steps.old.entries }
-    ensures put { OnOk result (flat steps.new.entries ≡ with_verdict issue.now zones.now (flat steps.old.entries) verdict.now) }
+    ensures put { OnOk result (flat steps.new.entries
+        ≡ with_verdict issue.now zones.now (flat steps.old.entries) verdict.now) }
     ensures ascending { OnOk result (AreAscending steps.new.entries) }
 {
     if !verdict.is_lawful() {
@@ -61,7 +65,8 @@ fn put_verdict(
 fn add_run(alloc: Global, steps: &mut Steps, issue: &Minute, run: &Run) -> Result<(), Oom>
     requires apart { HaveOwnEvents (map (λ v. v.line) run.now.verdicts) }
     requires ascending { AreAscending steps.old.entries }
-    ensures put { OnOk result (flat steps.new.entries ≡ with_lines issue.now (flat steps.old.entries) (spelled_run run.now)) }
+    ensures put { OnOk result (flat steps.new.entries
+        ≡ with_lines issue.now (flat steps.old.entries) (spelled_run run.now)) }
     ensures ascending { OnOk result (AreAscending steps.new.entries) }
 {
     let zones = run.zones.as_slice();
@@ -74,7 +79,8 @@ fn add_run(alloc: Global, steps: &mut Steps, issue: &Minute, run: &Run) -> Resul
 /// Adds the steps of the lawful lines of a product.
 fn add_product(alloc: Global, steps: &mut Steps, product: &Taken) -> Result<(), Oom>
     requires ascending { AreAscending steps.old.entries }
-    ensures put { OnOk result (flat steps.new.entries ≡ with_product (flat steps.old.entries) product.now) }
+    ensures put { OnOk result
+        (flat steps.new.entries ≡ with_product (flat steps.old.entries) product.now) }
     ensures ascending { OnOk result (AreAscending steps.new.entries) }
 {
     let issue = product.issue();
@@ -149,7 +155,8 @@ fn lives_of(alloc: Global, steps: Steps) -> Result<List<EventLives>, Oom>
 
 /// Returns the life of each row that the products left, event by event.
 pub fn events_in(alloc: Global, taken: &[Taken]) -> Result<List<EventLives>, Oom>
-    ensures value { IfOk result (λ events. flat_map (λ e. e) events ≡ map (track_in taken.now) (living_in (rows_taken taken.now))) }
+    ensures value { IfOk result (λ events.
+        flat_map (λ e. e) events ≡ map (track_in taken.now) (living_in (rows_taken taken.now))) }
     ensures sorted { IfOk result (λ events. IsStrictlySortedBy by_life (flat_map (λ e. e) events)) }
 {
     let steps = steps_of_all(alloc, taken)?;
@@ -169,7 +176,8 @@ fn tracks_of(alloc: Global, events: &[EventLives]) -> Result<List<Track>, Oom>
 
 /// Returns the life of each row that the products left, by event, then zone.
 pub fn tracks_in(alloc: Global, taken: &[Taken]) -> Result<List<Track>, Oom>
-    ensures value { IfOk result (λ tracks. tracks ≡ map (track_in taken.now) (living_in (rows_taken taken.now))) }
+    ensures value { IfOk result
+        (λ tracks. tracks ≡ map (track_in taken.now) (living_in (rows_taken taken.now))) }
     ensures sorted { IfOk result (λ tracks. IsStrictlySortedBy by_life tracks) }
 {
     let events = events_in(alloc, taken)?;

@@ -68,7 +68,8 @@ fn place_of(
     issue: &Minute,
     before: Option<u32>,
 ) -> Result<u32, Oom>
-    ensures { IfOk result (IsPlaced shared.old.items shared.new.items before (action.now, issue.now)) }
+    ensures { IfOk result
+        (IsPlaced shared.old.items shared.new.items before (action.now, issue.now)) }
 {
     let Ok(place) = u32::try_from(shared.len()) else {
         return Err(Oom);
@@ -97,7 +98,8 @@ fn add_step(
     zone: &Zone,
 ) -> Result<(), Oom>
     requires within { AreWithin (length shared.old.items) lasts.old }
-    ensures put { OnOk result (zones_told shared.new.items lasts.new ≡ with_zone (zones_told shared.old.items lasts.old) zone.now (action.now, issue.now)) }
+    ensures put { OnOk result (zones_told shared.new.items lasts.new
+        ≡ with_zone (zones_told shared.old.items lasts.old) zone.now (action.now, issue.now)) }
     ensures within { OnOk result (AreWithin (length shared.new.items) lasts.new) }
 {
     let before = lasts.get(near, zone);
@@ -115,7 +117,8 @@ fn add_steps(
     zones: &[Zone],
 ) -> Result<(), Oom>
     requires within { AreWithin (length shared.old.items) lasts.old }
-    ensures put { OnOk result (zones_told shared.new.items lasts.new ≡ with_zones (action.now, issue.now) (zones_told shared.old.items lasts.old) zones.now) }
+    ensures put { OnOk result (zones_told shared.new.items lasts.new
+        ≡ with_zones (action.now, issue.now) (zones_told shared.old.items lasts.old) zones.now) }
     ensures within { OnOk result (AreWithin (length shared.new.items) lasts.new) }
 {
     let mut near = 0;
@@ -131,7 +134,9 @@ fn put_step(
     place: u32,
     steps: &mut Vec<(Action, Minute)>,
 ) -> Result<Option<u32>, Oom>
-    ensures told { IfOk result (λ before. told (chains_of shared.now) before ++ reverse steps.new.items ≡ told (chains_of shared.now) (Some place) ++ reverse steps.old.items) }
+    ensures told { IfOk result (λ before.
+        told (chains_of shared.now) before ++ reverse steps.new.items
+        ≡ told (chains_of shared.now) (Some place) ++ reverse steps.old.items) }
     ensures lower { IfOk result (λ before. height before < suc place) }
 {
     match shared.get(place as usize) {
@@ -164,7 +169,8 @@ fn put_each(
     lasts: &[(Zone, u32)],
     tracks: &mut List<Track>,
 ) -> Result<(), Oom>
-    ensures { OnOk result (tracks.new ≡ tracks.old ++ tracks_told (under event.now (zones_told shared.now lasts.now))) }
+    ensures { OnOk result (tracks.new
+        ≡ tracks.old ++ tracks_told (under event.now (zones_told shared.now lasts.now))) }
 {
     for (zone, last) in lasts {
         let steps = steps_to(alloc, shared, *last)?;

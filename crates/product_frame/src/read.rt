@@ -359,8 +359,12 @@ pub fn read_frame(alloc: Global, bytes: &[u8]) -> Result<Frame, Or<FrameFault>>
 
 /// A text has a frame or a fault, never both, and one of each at most.
 pub fn frame_or_fault()
-    ensures either { (bytes : Seq ℕ) → ((f : FrameValue) × FrameOf bytes f) ⊎ ((x : FaultValue) × FrameFaultOf bytes x) }
-    ensures not_both { (bytes : Seq ℕ) (f : FrameValue) (x : FaultValue) → FrameOf bytes f → FrameFaultOf bytes x → ⊥ }
-    ensures one_frame { (bytes : Seq ℕ) (f g : FrameValue) → FrameOf bytes f → FrameOf bytes g → f ≡ g }
-    ensures one_fault { (bytes : Seq ℕ) (x y : FaultValue) → FrameFaultOf bytes x → FrameFaultOf bytes y → x ≡ y }
+    ensures either { (bytes : Seq ℕ) →
+        ((f : FrameValue) × FrameOf bytes f) ⊎ ((x : FaultValue) × FrameFaultOf bytes x) }
+    ensures not_both { (bytes : Seq ℕ) (f : FrameValue) (x : FaultValue) →
+        FrameOf bytes f → FrameFaultOf bytes x → ⊥ }
+    ensures one_frame { (bytes : Seq ℕ) (f g : FrameValue) →
+        FrameOf bytes f → FrameOf bytes g → f ≡ g }
+    ensures one_fault { (bytes : Seq ℕ) (x y : FaultValue) →
+        FrameFaultOf bytes x → FrameFaultOf bytes y → x ≡ y }
 {}

@@ -57,7 +57,8 @@ fn spans_to(alloc: Global, end: usize, places: &[usize]) -> Result<List<Span>, O
 pub fn split_products(alloc: Global, bytes: &[u8]) -> Result<List<Span>, Oom>
     ensures value { IfOk result (λ spans. spans ≡ spans_of bytes.now) }
     // Laid end to end they are the text from the first heading line on.
-    ensures whole { IfOk result (λ spans. laid bytes.now spans ≡ from_first bytes.now (headings_in bytes.now (starts bytes.now))) }
+    ensures whole { IfOk result (λ spans.
+        laid bytes.now spans ≡ from_first bytes.now (headings_in bytes.now (starts bytes.now))) }
 {
     let places = starts(alloc, bytes)?;
     let headings = headings_in(alloc, bytes, places.as_slice())?;
@@ -68,5 +69,6 @@ pub fn split_products(alloc: Global, bytes: &[u8]) -> Result<List<Span>, Oom>
 /// of each is its one heading line, and each line has its LF.
 #[tactic(auto, using(crate::proofs::EndToEnd::split_apart))]
 pub fn texts_are_split_apart()
-    ensures { (texts : Seq (Seq ℕ)) → All IsOneProduct texts → spans_of (concat texts) ≡ spans_from 0 texts }
+    ensures { (texts : Seq (Seq ℕ)) →
+        All IsOneProduct texts → spans_of (concat texts) ≡ spans_from 0 texts }
 {}

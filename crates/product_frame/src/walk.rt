@@ -263,7 +263,8 @@ fn step(
 ) -> Result<(), Or<FrameFault>>
     requires start { start ≤ length bytes.now }
     requires within { All (λ start. start ≤ length bytes.now) later.now }
-    ensures { Moves result walk.new (step walk.old number (drop start bytes.now) (next_at bytes.now later.now)) }
+    ensures { Moves result walk.new
+        (step walk.old number (drop start bytes.now) (next_at bytes.now later.now)) }
 {
     if walk.left > 0 {
         walk.left -= 1;
@@ -342,7 +343,8 @@ pub fn walk_lines(
     // The segments that are returned are in the grammar.
     ensures found { IfOk result (λ segments. AreSegments bytes.now starts.now segments) }
     // Segments in the grammar are returned, unless memory runs out.
-    ensures only { (segments : Seq FrameSegmentValue) → AreSegments bytes.now starts.now segments → Gives result (Ok segments) }
+    ensures only { (segments : Seq FrameSegmentValue) →
+        AreSegments bytes.now starts.now segments → Gives result (Ok segments) }
     // The same as one function of the bytes.
     ensures exact { Gives result (segments_of bytes.now number starts.now) }
 {

@@ -84,7 +84,8 @@ fn put_flood(out: &mut Text, flood: &Option<Flood>) -> Result<(), Oom>
 /// Appends the P-VTEC line of a pair, and its H-VTEC line.
 fn put_pair(out: &mut Text, pair: &Pair) -> Result<(), Oom>
     requires { IsPairWritten pair.now }
-    ensures value { OnOk result (out.new ≡ out.old ++ (ended (vtec_text pair.now.vtec) ++ flood_text pair.now.flood)) }
+    ensures value { OnOk result
+        (out.new ≡ out.old ++ (ended (vtec_text pair.now.vtec) ++ flood_text pair.now.flood)) }
     ensures columns { OnOk result (HasColumns pair.now) }
 {
     put_line(out, &vtec_text(&pair.vtec))?;
@@ -147,7 +148,8 @@ fn put_segments(
 ) -> Result<(), Oom>
     requires forms { All IsSegmentWritten segments.now }
     requires as_many { length bodies.now ≡ length segments.now }
-    ensures value { OnOk result (out.new ≡ out.old ++ segments_text local.now segments.now bodies.now) }
+    ensures value { OnOk result
+        (out.new ≡ out.old ++ segments_text local.now segments.now bodies.now) }
     ensures back { OnOk result (All ReadsBack segments.now) }
 {
     let bodies = bodies.as_slice();

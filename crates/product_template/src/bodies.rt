@@ -97,8 +97,10 @@ fn body_of(
 ) -> Result<Body, Oom>
     requires order { IsStrictlySortedBy by_place (keys_of settings.now.zones) }
     requires segment { CanBeSegment segment.now }
-    requires named { is_training class ≡ false → All (λ z. IsSome (name_beside settings.now.zones z)) segment.now.zones }
-    ensures { IfOk result (λ body. body ≡ body_of settings.now class texts.now t edition segment.now) }
+    requires named { is_training class ≡ false
+        → All (λ z. IsSome (name_beside settings.now.zones z)) segment.now.zones }
+    ensures { IfOk result
+        (λ body. body ≡ body_of settings.now class texts.now t edition segment.now) }
 {
     let names = names_of(alloc, settings, class, segment.zones.as_slice())?;
     let text = lines_text(
@@ -131,7 +133,8 @@ pub fn bodies_of(
     requires order { IsStrictlySortedBy by_place (keys_of settings.now.zones) }
     requires segments { All CanBeSegment segments.now }
     requires named { is_training class ≡ false → AreNamed settings.now.zones segments.now }
-    ensures { IfOk result (λ bodies. bodies ≡ map (body_of settings.now class texts.now t edition) segments.now) }
+    ensures { IfOk result
+        (λ bodies. bodies ≡ map (body_of settings.now class texts.now t edition) segments.now) }
 {
     let mut bodies = List::new(alloc);
     for segment in segments {

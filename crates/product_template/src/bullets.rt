@@ -103,7 +103,8 @@ pub fn put_bullets(
     when: &Text,
     texts: Option<&Texts>,
 ) -> Result<(), Oom>
-    ensures { OnOk result (out.new ≡ out.old ++ bullets_around (paragraph when.now) (option_map (λ found. found.now) texts.entry)) }
+    ensures { OnOk result (out.new ≡ out.old
+        ++ bullets_around (paragraph when.now) (option_map (λ found. found.now) texts.entry)) }
 {
     match texts {
         Some(texts) => {

@@ -19,12 +19,20 @@ ghost use Rattle.product_template.specs.Text.{segment_of, frame_of, text_of};
 #[tactic(auto, using(crate::proofs::Lines::lines_said))]
 pub fn texts_say_the_lines()
     ensures { (settings : Settings) (class : Class) (plan : Plan) (t : ℕ) →
-        zone_lines_of (frame_of settings class plan t) ≡ map (zone_line_of class settings.office) (lines_in_text plan.segments) }
+        zone_lines_of (frame_of settings class plan t)
+        ≡ map (zone_line_of class settings.office) (lines_in_text plan.segments) }
 {}
 
 /// The text of a plan, however long, has the plan's frame and is one product, provided that the
 /// codes of its segments read back, as those of zones, minutes and letters of their types do.
 pub fn texts_read_as_their_plans()
-    ensures frame { (settings : Settings) (class : Class) (plan : Plan) (t : ℕ) (edition : Edition) → CanBeText settings class plan t → All ReadsBack (map (segment_of class settings.office t) plan.segments) → FrameOf (text_of settings class plan t edition) (frame_of settings class plan t) }
-    ensures one { (settings : Settings) (class : Class) (plan : Plan) (t : ℕ) (edition : Edition) → CanBeText settings class plan t → All ReadsBack (map (segment_of class settings.office t) plan.segments) → IsOneProduct (text_of settings class plan t edition) }
+    ensures frame { (settings : Settings) (class : Class) (plan : Plan) (t : ℕ)
+        (edition : Edition) →
+        CanBeText settings class plan t →
+        All ReadsBack (map (segment_of class settings.office t) plan.segments) →
+        FrameOf (text_of settings class plan t edition) (frame_of settings class plan t) }
+    ensures one { (settings : Settings) (class : Class) (plan : Plan) (t : ℕ) (edition : Edition) →
+        CanBeText settings class plan t →
+        All ReadsBack (map (segment_of class settings.office t) plan.segments) →
+        IsOneProduct (text_of settings class plan t edition) }
 {}

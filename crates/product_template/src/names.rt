@@ -53,7 +53,8 @@ pub fn names_of(
     zones: &[Zone],
 ) -> Result<Text, Oom>
     requires order { IsStrictlySortedBy by_place (keys_of settings.now.zones) }
-    requires named { is_training class ≡ false → All (λ z. IsSome (name_beside settings.now.zones z)) zones.now }
+    requires named { is_training class ≡ false
+        → All (λ z. IsSome (name_beside settings.now.zones z)) zones.now }
     ensures { IfOk result (λ text. text ≡ names_text settings.now class zones.now) }
 {
     match class {

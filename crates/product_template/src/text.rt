@@ -32,7 +32,8 @@ fn whole_text(
 ) -> Result<Text, Oom>
     requires can { CanBeText settings.now class plan.now t }
     requires printable { All ArePrintable texts.now }
-    ensures value { IfOk result (λ text. text ≡ text_with settings.now class plan.now texts.now t edition) }
+    ensures value { IfOk result
+        (λ text. text ≡ text_with settings.now class plan.now texts.now t edition) }
     ensures frame { IfOk result (λ text. FrameOf text (frame_of settings.now class plan.now t)) }
     ensures one { IfOk result IsOneProduct }
 {
@@ -94,7 +95,10 @@ pub fn product_text(
     ensures value { IfOk result (λ text. text ≡ text_of settings.now class plan.now t edition) }
     ensures short { IfOk result (λ text. length text ≤ 65536) }
     // The refusal names the length of the text, which is above the limit.
-    ensures refused { (r : Reason) → result ≡ Err (No r) → (r ≡ TooLong (length (text_of settings.now class plan.now t edition))) × (65536 < length (text_of settings.now class plan.now t edition)) }
+    ensures refused { (r : Reason) →
+        result ≡ Err (No r) →
+        (r ≡ TooLong (length (text_of settings.now class plan.now t edition)))
+        × (65536 < length (text_of settings.now class plan.now t edition)) }
     // A reader finds the plan's segments and the minute in it.
     ensures frame { IfOk result (λ text. FrameOf text (frame_of settings.now class plan.now t)) }
     // Its one heading line is its first line, and each line has its end.

@@ -58,7 +58,8 @@ fn all_rise(parts: &[Part<'_>]) -> bool
 
 /// Adds an event and returns whether it was not there before.
 fn note_event(events: &mut BTreeSet<EventKey>, event: &Event) -> Result<bool, Oom>
-    ensures new { IfOk result (λ new. new ≡ not (list_any (is_at (by_event event.now)) events.old.keys)) }
+    ensures new { IfOk result
+        (λ new. new ≡ not (list_any (is_at (by_event event.now)) events.old.keys)) }
     ensures keys { OnOk result (events.new.keys ≡ insert_key by_event events.old.keys event.now) }
 {
     let new = events.insert(EventKey { event: *event })?;
@@ -84,7 +85,8 @@ fn has_own_events(alloc: Global, lines: &[Line]) -> Result<bool, Oom>
 
 /// Whether in each part no two lines have the same event.
 fn have_own_events(alloc: Global, parts: &[Part<'_>]) -> Result<bool, Oom>
-    ensures { IfOk result (λ own. own ≡ true → AllByRecursion (λ (p : PartValue). HaveOwnEvents p.lines) parts.now) }
+    ensures { IfOk result
+        (λ own. own ≡ true → AllByRecursion (λ (p : PartValue). HaveOwnEvents p.lines) parts.now) }
 {
     for part in parts {
         let own = has_own_events(alloc, part.lines.as_slice())?;
@@ -99,7 +101,9 @@ fn have_own_events(alloc: Global, parts: &[Part<'_>]) -> Result<bool, Oom>
 /// up to the first that is one.
 fn speak_zone(spoken: &mut Spoken, zone: &Zone, lines: &[Line]) -> Result<bool, Oom>
     requires { IsFree spoken.old.last spoken.old.rising.items }
-    ensures first { IfOk result (λ first. first ≡ true → Spoke (seats_of spoken.old.rising.items spoken.old.others.keys) (seats_of spoken.new.rising.items spoken.new.others.keys) (said_at lines.now zone.now)) }
+    ensures first { IfOk result (λ first. first ≡ true
+        → Spoke (seats_of spoken.old.rising.items spoken.old.others.keys)
+        (seats_of spoken.new.rising.items spoken.new.others.keys) (said_at lines.now zone.now)) }
     ensures free { OnOk result (IsFree spoken.new.last spoken.new.rising.items) }
 {
     for line in lines {
@@ -115,7 +119,9 @@ fn speak_zone(spoken: &mut Spoken, zone: &Zone, lines: &[Line]) -> Result<bool, 
 /// `spoken`, up to the first that is one.
 fn speak_part(spoken: &mut Spoken, part: &Part<'_>) -> Result<bool, Oom>
     requires { IsFree spoken.old.last spoken.old.rising.items }
-    ensures first { IfOk result (λ first. first ≡ true → Spoke (seats_of spoken.old.rising.items spoken.old.others.keys) (seats_of spoken.new.rising.items spoken.new.others.keys) (said_in part.now)) }
+    ensures first { IfOk result (λ first. first ≡ true
+        → Spoke (seats_of spoken.old.rising.items spoken.old.others.keys)
+        (seats_of spoken.new.rising.items spoken.new.others.keys) (said_in part.now)) }
     ensures free { OnOk result (IsFree spoken.new.last spoken.new.rising.items) }
 {
     for zone in part.zones {
@@ -145,7 +151,8 @@ fn none_second(alloc: Global, parts: &[Part<'_>]) -> Result<bool, Oom>
 /// have the same event.
 pub fn are_apart(alloc: Global, parts: &[Part<'_>]) -> Result<bool, Oom>
     ensures first { IfOk result (λ apart. apart ≡ true → AreFirst [] (lines_in parts.now)) }
-    ensures events { IfOk result (λ apart. apart ≡ true → AllByRecursion (λ (p : PartValue). HaveOwnEvents p.lines) parts.now) }
+    ensures events { IfOk result (λ apart.
+        apart ≡ true → AllByRecursion (λ (p : PartValue). HaveOwnEvents p.lines) parts.now) }
 {
     let own = have_own_events(alloc, parts)?;
     if !own {

@@ -40,7 +40,8 @@ fn put_standing(
 ) -> Result<(), Oom>
     requires own { AreOf event.now (values_of rows.old) }
     requires rows { AreEventRows rows.old standing.old.entries }
-    ensures { OnOk result (IsRunPut event.now life.now zones.now rows.old rows.new standing.new.entries) }
+    ensures { OnOk result
+        (IsRunPut event.now life.now zones.now rows.old rows.new standing.new.entries) }
 {
     let befores = rows.set(alloc, event, life, zones)?;
     restand(standing, &befores, zones.len(), life)
@@ -88,7 +89,8 @@ impl EventRows {
     /// Returns the life of the row of an event in a zone. `near` is a guess of its index, and
     /// becomes the index after it.
     fn life_at(&self, near: &mut usize, event: &Event, zone: &Zone) -> Option<&Life>
-        ensures { option_map (λ life. life.now) result ≡ option_map life_of (row_at self.now event.now zone.now) }
+        ensures { option_map (λ life. life.now) result
+            ≡ option_map life_of (row_at self.now event.now zone.now) }
     {
         self.rows.life_at(near, event, zone)
     }
@@ -117,7 +119,8 @@ impl EventRows {
     /// Puts rows of the event with `life` in `zones`. On `Oom` the event has no rows.
     fn put(&mut self, alloc: Global, event: &Event, life: &Life, zones: &[Zone]) -> Result<(), Oom>
         requires { AreOf event.now self.old }
-        ensures { OnOk result (self.new ≡ put_each (rows_along event.now life.now zones.now) self.old) }
+        ensures { OnOk result
+            (self.new ≡ put_each (rows_along event.now life.now zones.now) self.old) }
     {
         match put_standing(
             alloc,
@@ -151,7 +154,8 @@ impl EventRows {
 
     /// Whether a row that is live at `t` has this period. Begins at `t` or before count as equal.
     fn has_period(&self, t: Minute, period: &Period) -> bool
-        ensures same { result ≡ list_any (λ r. is_live t r && same_at t r.period period.now) self.now }
+        ensures same { result
+            ≡ list_any (λ r. is_live t r && same_at t r.period period.now) self.now }
         ensures order { IsStrictlySortedBy by_key self.now }
     {
         has_same_among(&self.standing, t, period)
@@ -184,7 +188,8 @@ impl<'a> RowsOf<'a> {
     /// Returns the life of the row of an event in a zone. `near` is a guess of its index, and
     /// becomes the index after it.
     pub fn life_at(&self, near: &mut usize, event: &Event, zone: &Zone) -> Option<&Life>
-        ensures { option_map (λ life. life.now) result ≡ option_map life_of (row_at self.now event.now zone.now) }
+        ensures { option_map (λ life. life.now) result
+            ≡ option_map life_of (row_at self.now event.now zone.now) }
     {
         match self.rows {
             Some(rows) => rows.life_at(near, event, zone),
@@ -260,7 +265,8 @@ pub fn is_open(held: &Held, t: Minute, event: &Event) -> bool
 
 /// Whether a row of an event that is live at `t` has this period.
 pub fn has_period(held: &Held, t: Minute, event: &Event, period: &Period) -> bool
-    ensures same { result ≡ list_any (λ r. is_live t r && same_at t r.period period.now) (list_at by_event held.now.entries event.now) }
+    ensures same { result ≡ list_any (λ r. is_live t r && same_at t r.period period.now)
+        (list_at by_event held.now.entries event.now) }
     ensures order { IsStrictlySortedBy by_key (list_at by_event held.now.entries event.now) }
 {
     match held.get(&EventKey { event: *event }) {
@@ -281,9 +287,13 @@ pub fn put_held(
     zones: &[Zone],
 ) -> Result<(), Oom>
     requires { AreOf event.now (list_at by_event held.old.entries event.now) }
-    ensures held { OnOk result (held.new.entries ≡ held_put event.now (rows_along event.now life.now zones.now) held.old.entries) }
-    ensures events { OnOk result (lists_of events.new.entries ≡ events_with (has_rows (list_at by_event held.old.entries event.now) event.now) event.now (lists_of events.old.entries)) }
-    ensures reached { OnOk result (AreReached reaches.new.keys (rows_along event.now life.now zones.now)) }
+    ensures held { OnOk result (held.new.entries
+        ≡ held_put event.now (rows_along event.now life.now zones.now) held.old.entries) }
+    ensures events { OnOk result (lists_of events.new.entries
+        ≡ events_with (has_rows (list_at by_event held.old.entries event.now) event.now) event.now
+        (lists_of events.old.entries)) }
+    ensures reached { OnOk result
+        (AreReached reaches.new.keys (rows_along event.now life.now zones.now)) }
     ensures grows { OnOk result (Grows reaches.old.keys reaches.new.keys) }
 {
     let known = held
@@ -296,7 +306,8 @@ pub fn put_held(
 
 /// Returns the rows of all events that are live at `t`, event by event.
 pub fn all_shown(alloc: Global, held: &Held, t: Minute) -> Result<Vec<Row>, Oom>
-    ensures { IfOk result (λ rows. rows.items ≡ flat_map (shown_at t) (values_of held.now.entries)) }
+    ensures { IfOk result
+        (λ rows. rows.items ≡ flat_map (shown_at t) (values_of held.now.entries)) }
 {
     let mut all = Vec::new(alloc);
     for rows in held.values() {

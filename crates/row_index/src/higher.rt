@@ -92,7 +92,8 @@ fn stays_over(upgraded: &Seats, t: Minute, low: &Rank, own: &Row, row: &Row) -> 
 /// overlaps `own`, and no UPG line has its event and zone.
 pub fn any_counted_over(changed: &Changed, t: Minute, low: &Rank, own: &Row) -> bool
     requires { AreSeated changed.now.counted.entries }
-    ensures { result ≡ list_any (stays_over t low.now changed.now.upgraded.keys own.now) (filter (is_in_zone own.now.zone) (values_of changed.now.counted.entries)) }
+    ensures { result ≡ list_any (stays_over t low.now changed.now.upgraded.keys own.now)
+        (filter (is_in_zone own.now.zone) (values_of changed.now.counted.entries)) }
 {
     for (_, row) in seated_in(&changed.counted, &own.zone) {
         if stays_over(&changed.upgraded, t, low, own, row) {
@@ -105,7 +106,8 @@ pub fn any_counted_over(changed: &Changed, t: Minute, low: &Rank, own: &Row) -> 
 /// Whether no UPG line has an event in a zone, and no other lawful line leaves a row of it there.
 pub fn is_free(changed: &Changed, zone: &Zone, event: &Event) -> bool
     requires { AreSeated changed.now.counted.entries }
-    ensures { result ≡ is_free (values_of changed.now.counted.entries) changed.now.upgraded.keys zone.now event.now }
+    ensures { result ≡ is_free (values_of changed.now.counted.entries) changed.now.upgraded.keys
+        zone.now event.now }
 {
     !has_seat(&changed.upgraded, event, zone) && row_in(&changed.counted, event, zone).is_none()
 }
@@ -114,7 +116,8 @@ pub fn is_free(changed: &Changed, zone: &Zone, event: &Event) -> bool
 /// its event in the zone of `own`.
 fn is_still_over(changed: &Changed, t: Minute, low: &Rank, own: &Row, row: &Row) -> bool
     requires { AreSeated changed.now.counted.entries }
-    ensures { result ≡ still_over t low.now (values_of changed.now.counted.entries) changed.now.upgraded.keys own.now row.now }
+    ensures { result ≡ still_over t low.now
+        (values_of changed.now.counted.entries) changed.now.upgraded.keys own.now row.now }
 {
     rises_over(t, low, own, row) && is_free(changed, &own.zone, &row.event)
 }
@@ -124,7 +127,10 @@ fn is_still_over(changed: &Changed, t: Minute, low: &Rank, own: &Row, row: &Row)
 fn any_still_over(changed: &Changed, t: Minute, low: &Rank, own: &Row) -> bool
     requires counted { AreSeated changed.now.counted.entries }
     requires higher { AreSeated changed.now.higher.entries }
-    ensures { result ≡ list_any (still_over t low.now (values_of changed.now.counted.entries) changed.now.upgraded.keys own.now) (filter (is_in_zone own.now.zone) (values_of changed.now.higher.entries)) }
+    ensures { result ≡ list_any
+        (still_over t low.now (values_of changed.now.counted.entries) changed.now.upgraded.keys
+        own.now)
+        (filter (is_in_zone own.now.zone) (values_of changed.now.higher.entries)) }
 {
     for (_, row) in seated_in(&changed.higher, &own.zone) {
         if is_still_over(changed, t, low, own, row) {
@@ -140,7 +146,9 @@ fn any_still_over(changed: &Changed, t: Minute, low: &Rank, own: &Row) -> bool
 pub fn is_overlapped(changed: &Changed, t: Minute, own: &Row) -> bool
     requires counted { AreSeated changed.now.counted.entries }
     requires higher { AreSeated changed.now.higher.entries }
-    ensures { result ≡ is_overlapped (values_of changed.now.higher.entries) t (values_of changed.now.counted.entries) changed.now.upgraded.keys (family_of (facts_of own.now.event.hazard)) own.now }
+    ensures { result ≡ is_overlapped (values_of changed.now.higher.entries) t
+        (values_of changed.now.counted.entries) changed.now.upgraded.keys
+        (family_of (facts_of own.now.event.hazard)) own.now }
 {
     let low = rank_of(&own.event.hazard);
     low.is_none()

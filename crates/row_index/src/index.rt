@@ -134,7 +134,8 @@ impl RowIndex {
 
     /// Whether one of `events` is open and of an earlier year than `event`.
     fn any_held(&self, t: Minute, events: &[Event], event: &Event) -> bool
-        ensures { result ≡ list_any (λ d. nat_lt d.year event.now.year && is_open self.now t d) events.now }
+        ensures { result
+            ≡ list_any (λ d. nat_lt d.year event.now.year && is_open self.now t d) events.now }
     {
         for other in events {
             if other.year < event.year && self.is_open(t, other) {
@@ -292,7 +293,8 @@ impl RowIndex {
         requires touches { is_routine line.now.action ≡ false }
         requires rows { AreRowsOf self.now line.now.event rows.now }
         requires around { around ≡ asked_around line.now.action self.now t line.now around.higher }
-        ensures { result ≡ breach_of_line (life_at self.now line.now) line.now t (around_but_higher self.now t line.now around.higher) }
+        ensures { result ≡ breach_of_line (life_at self.now line.now) line.now t
+            (around_but_higher self.now t line.now around.higher) }
     {
         let life = life_of(rows.life_at(near, &line.event, &line.zone));
         match life_step(life, line, t, around) {
@@ -314,7 +316,10 @@ impl RowIndex {
     ) -> Option<Breach>
         requires rows { AreRowsOf self.now line.now.event rows.now }
         requires around { around ≡ asked_around line.now.action self.now t line.now around.higher }
-        ensures { result ≡ (if is_routine line.now.action then None else (if second then Some Twice else breach_of_line (life_at self.now line.now) line.now t (around_but_higher self.now t line.now around.higher))) }
+        ensures { result ≡ (if is_routine line.now.action then None
+            else (if second then Some Twice
+            else breach_of_line (life_at self.now line.now) line.now t
+            (around_but_higher self.now t line.now around.higher))) }
     {
         if is_routine(&line.action) {
             return None;
@@ -352,7 +357,10 @@ impl RowIndex {
     ) -> Option<Breach>
         requires rows { AreRowsOf self.now line.now.event rows.now }
         requires around { around ≡ asked_around line.now.action self.now t line.now true }
-        ensures { result ≡ (if is_routine line.now.action then None else (if second then Some Twice else breach_of_line (life_at self.now line.now) line.now t (around_but_higher self.now t line.now true))) }
+        ensures { result ≡ (if is_routine line.now.action then None
+            else (if second then Some Twice
+            else breach_of_line (life_at self.now line.now) line.now t
+            (around_but_higher self.now t line.now true))) }
     {
         self.first_breach(rows, near, t, line, second, around)
     }
@@ -369,7 +377,10 @@ impl RowIndex {
     ) -> Option<Breach>
         requires rows { AreRowsOf self.now line.now.event rows.now }
         requires upgrade { is_upgrade line.now.action ≡ true }
-        ensures { result ≡ (if is_routine line.now.action then None else (if second then Some Twice else breach_of_line (life_at self.now line.now) line.now t (around_but_higher self.now t line.now higher))) }
+        ensures { result ≡ (if is_routine line.now.action then None
+            else (if second then Some Twice
+            else breach_of_line (life_at self.now line.now) line.now t
+            (around_but_higher self.now t line.now higher))) }
     {
         self.first_breach(rows, near, t, line, second, nothing_around(higher))
     }
@@ -385,7 +396,11 @@ impl RowIndex {
         second: bool,
     ) -> bool
         requires { AreRowsOf self.now line.now.event rows.now }
-        ensures { result ≡ (not (is_routine line.now.action) && not (is_upgrade line.now.action) && not second && is_none (breach_of_line (life_at self.now line.now) line.now t (around_but_higher self.now t line.now true))) }
+        ensures { result ≡ (not (is_routine line.now.action)
+            && not (is_upgrade line.now.action)
+            && not second
+            && is_none (breach_of_line (life_at self.now line.now) line.now t
+            (around_but_higher self.now t line.now true))) }
     {
         let breach = self.breach_but_higher(
             rows,
@@ -400,7 +415,8 @@ impl RowIndex {
 
     /// Returns the rows that the lawful lines other than UPG leave.
     fn counted(&self, alloc: Global, t: Minute, lines: &[Line]) -> Result<Seated, Oom>
-        ensures rows { IfOk result (λ counted. values_of counted.entries ≡ put_but_upgrades self.now t [] lines.now []) }
+        ensures rows { IfOk result
+            (λ counted. values_of counted.entries ≡ put_but_upgrades self.now t [] lines.now []) }
         ensures seated { IfOk result (λ counted. AreSeated counted.entries) }
     {
         let mut counted = BTreeMap::new(alloc);
@@ -432,7 +448,9 @@ impl RowIndex {
         requires rows { AreRowsOf self.now line.now.event rows.now }
         requires seated { AreSeated counted.old.entries }
         ensures rows { OnOk result (values_of counted.new.entries
-            ≡ (if counts self.now t false line.now then put (row_after self.now t line.now) (values_of counted.old.entries) else values_of counted.old.entries)) }
+            ≡ (if counts self.now t false line.now
+            then put (row_after self.now t line.now) (values_of counted.old.entries)
+            else values_of counted.old.entries)) }
         ensures seated { OnOk result (AreSeated counted.new.entries) }
     {
         if !self.may_count(rows, near, t, line, false) {
@@ -445,7 +463,8 @@ impl RowIndex {
     /// `counted` for lines of which none is a second one of its event and zone.
     fn counted_first(&self, alloc: Global, t: Minute, lines: &[Line]) -> Result<Seated, Oom>
         requires first { AreFirst [] lines.now }
-        ensures rows { IfOk result (λ counted. values_of counted.entries ≡ put_but_upgrades self.now t [] lines.now []) }
+        ensures rows { IfOk result
+            (λ counted. values_of counted.entries ≡ put_but_upgrades self.now t [] lines.now []) }
         ensures seated { IfOk result (λ counted. AreSeated counted.entries) }
     {
         let mut counted = BTreeMap::new(alloc);
@@ -470,7 +489,8 @@ impl RowIndex {
         zones: &Zones,
         events: &BTreeSet<Event>,
     ) -> Result<Seated, Oom>
-        ensures rows { IfOk result (λ higher. AreGathered self.now t zones.now.keys events.now.keys (values_of higher.entries)) }
+        ensures rows { IfOk result (λ higher.
+            AreGathered self.now t zones.now.keys events.now.keys (values_of higher.entries)) }
         ensures seated { IfOk result (λ higher. AreSeated higher.entries) }
     {
         let mut higher = BTreeMap::new(alloc);
@@ -512,7 +532,8 @@ impl RowIndex {
     /// Returns rows of events that rank above those of the UPG lines, in the zones of these lines.
     /// All that are live and overlap the row of one of them are there.
     fn higher(&self, alloc: Global, t: Minute, lines: &[Line]) -> Result<Seated, Oom>
-        ensures rows { IfOk result (λ higher. AreOver self.now t lines.now (values_of higher.entries)) }
+        ensures rows { IfOk result
+            (λ higher. AreOver self.now t lines.now (values_of higher.entries)) }
         ensures seated { IfOk result (λ higher. AreSeated higher.entries) }
     {
         let from = self.needed_from(t, lines);
@@ -531,8 +552,10 @@ impl RowIndex {
         lines: &[Line],
     ) -> Result<Changed, Oom>
         requires first { AreFirst [] lines.now }
-        ensures changed { IfOk result (λ c. IsChanged self.now t lines.now (values_of c.counted.entries) c.upgraded.keys) }
-        ensures over { IfOk result (λ c. AreOver self.now t lines.now (values_of c.higher.entries)) }
+        ensures changed { IfOk result
+            (λ c. IsChanged self.now t lines.now (values_of c.counted.entries) c.upgraded.keys) }
+        ensures over { IfOk result
+            (λ c. AreOver self.now t lines.now (values_of c.higher.entries)) }
         ensures counted { IfOk result (λ c. AreSeated c.counted.entries) }
         ensures higher { IfOk result (λ c. AreSeated c.higher.entries) }
     {
@@ -549,8 +572,11 @@ impl RowIndex {
     /// Returns what a product changes for the search for higher rows. Without a UPG line it is
     /// empty, since none is looked for.
     pub(crate) fn change_of(&self, alloc: Global, t: Minute, lines: &[Line]) -> Result<Changed, Oom>
-        ensures changed { list_any upgrades lines.now ≡ true → IfOk result (λ c. IsChanged self.now t lines.now (values_of c.counted.entries) c.upgraded.keys) }
-        ensures over { list_any upgrades lines.now ≡ true → IfOk result (λ c. AreOver self.now t lines.now (values_of c.higher.entries)) }
+        ensures changed { list_any upgrades lines.now ≡ true
+            → IfOk result
+            (λ c. IsChanged self.now t lines.now (values_of c.counted.entries) c.upgraded.keys) }
+        ensures over { list_any upgrades lines.now ≡ true
+            → IfOk result (λ c. AreOver self.now t lines.now (values_of c.higher.entries)) }
         ensures counted { IfOk result (λ c. AreSeated c.counted.entries) }
         ensures higher { IfOk result (λ c. AreSeated c.higher.entries) }
     {
@@ -577,8 +603,13 @@ impl RowIndex {
         requires counted { AreSeated changed.now.counted.entries }
         requires higher { AreSeated changed.now.higher.entries }
         requires own { own.now ≡ row_at self.now line.now.event line.now.zone }
-        ensures { (lines : Seq LineValue) → IsChanged self.now t lines (values_of changed.now.counted.entries) changed.now.upgraded.keys
-            → ((row : RowValue) → own.now ≡ Some row → AreHigher self.now t row (family_of (facts_of line.now.event.hazard)) (values_of changed.now.higher.entries)) → result ≡ has_higher self.now t lines line.now }
+        ensures { (lines : Seq LineValue) →
+            IsChanged self.now t lines
+            (values_of changed.now.counted.entries) changed.now.upgraded.keys
+            → ((row : RowValue) → own.now ≡ Some row
+            → AreHigher self.now t row (family_of (facts_of line.now.event.hazard))
+            (values_of changed.now.higher.entries))
+            → result ≡ has_higher self.now t lines line.now }
     {
         let _ = &self.reach;
         match own {
@@ -603,8 +634,16 @@ impl RowIndex {
         requires higher { AreSeated changed.now.higher.entries }
         requires rows { AreRowsOf self.now line.now.event rows.now }
         requires around { around ≡ asked_around line.now.action self.now t line.now true }
-        ensures { (lines earlier : Seq LineValue) → (is_upgrade line.now.action ≡ true → IsChanged self.now t lines (values_of changed.now.counted.entries) changed.now.upgraded.keys)
-            → (is_upgrade line.now.action ≡ true → (row : RowValue) → row_at self.now line.now.event line.now.zone ≡ Some row → AreHigher self.now t row (family_of (facts_of line.now.event.hazard)) (values_of changed.now.higher.entries)) → second ≡ is_second earlier line.now → result ≡ breach_in self.now t lines earlier line.now }
+        ensures { (lines earlier : Seq LineValue) →
+            (is_upgrade line.now.action ≡ true
+            → IsChanged self.now t lines
+            (values_of changed.now.counted.entries) changed.now.upgraded.keys)
+            → (is_upgrade line.now.action ≡ true
+            → (row : RowValue) → row_at self.now line.now.event line.now.zone ≡ Some row
+            → AreHigher self.now t row (family_of (facts_of line.now.event.hazard))
+            (values_of changed.now.higher.entries))
+            → second ≡ is_second earlier line.now
+            → result ≡ breach_in self.now t lines earlier line.now }
     {
         if !is_upgrade(&line.action) {
             return self.breach_but_higher(rows, near, t, line, second, around);

@@ -89,7 +89,8 @@ impl RowIndex {
         ensures line { result.line ≡ asking.now.line }
         ensures found { IsLifeIn self.now asking.now.line.event result.found zone.now }
         ensures breach { (all : Seq LineValue) → IsServed self.now all asking.now zone.now
-            → result.breach ≡ breach_in self.now asking.now.t all [] (in_zone asking.now.line zone.now) }
+            → result.breach
+            ≡ breach_in self.now asking.now.t all [] (in_zone asking.now.line zone.now) }
     {
         let line = in_zone(&asking.line, zone);
         let found = life_of(asking.rows.life_at(near, &line.event, zone));
@@ -120,7 +121,8 @@ impl RowIndex {
         requires asking { IsAsking self.now asking.now }
         requires line { verdict.now.line ≡ asking.now.line }
         ensures within { result ≤ length zones.now }
-        ensures judged { (all : Seq LineValue) → AllByRecursion (IsServed self.now all asking.now) zones.now
+        ensures judged { (all : Seq LineValue) →
+            AllByRecursion (IsServed self.now all asking.now) zones.now
             → AllByRecursion (IsAlike self.now all asking.now verdict.now) (take result zones.now) }
     {
         let mut count = 0;
@@ -146,7 +148,8 @@ impl RowIndex {
         requires asking { IsAsking self.now asking.now }
         requires line { verdict.now.line ≡ asking.now.line }
         ensures within { result ≤ length zones.now }
-        ensures judged { (all : Seq LineValue) (first : Place) → IsAlike self.now all asking.now verdict.now first
+        ensures judged { (all : Seq LineValue) (first : Place) →
+            IsAlike self.now all asking.now verdict.now first
             → AllByRecursion (IsServed self.now all asking.now) zones.now
             → AllByRecursion (IsAlike self.now all asking.now verdict.now) (take result zones.now) }
     {
@@ -174,8 +177,10 @@ impl RowIndex {
         requires { IsAsking self.now asking.now }
         ensures line { result.0.line ≡ asking.now.line }
         ensures within { result.1 ≤ length rest.now }
-        ensures judged { (all : Seq LineValue) → AllByRecursion (IsServed self.now all asking.now) (first.now ∷ rest.now)
-            → AllByRecursion (IsAlike self.now all asking.now result.0) (first.now ∷ take result.1 rest.now) }
+        ensures judged { (all : Seq LineValue) →
+            AllByRecursion (IsServed self.now all asking.now) (first.now ∷ rest.now)
+            → AllByRecursion (IsAlike self.now all asking.now result.0)
+            (first.now ∷ take result.1 rest.now) }
     {
         let verdict = self.verdict_at(asking, near, first);
         let more = self.count_of(asking, near, &verdict, rest);
@@ -194,7 +199,8 @@ impl RowIndex {
     ) -> Result<(), Oom>
         requires { IsAsking self.now asking.now }
         ensures zones { OnOk result (zones_of out.new.items ≡ zones_of out.old.items ++ zones.now) }
-        ensures judged { (all : Seq LineValue) → AllByRecursion (IsNext self.now all asking.now verdicts.now) zones.now
+        ensures judged { (all : Seq LineValue) →
+            AllByRecursion (IsNext self.now all asking.now verdicts.now) zones.now
             → AreLonger self.now all asking.now verdicts.now out.old.items
             → OnOk result (AreLonger self.now all asking.now verdicts.now out.new.items) }
     {
@@ -218,7 +224,8 @@ impl RowIndex {
     ) -> Result<(), Oom>
         requires { IsAsking self.now asking.now }
         ensures zones { OnOk result (zones_of out.new.items ≡ zones_of out.old.items ++ run.zones) }
-        ensures judged { (all : Seq LineValue) → AllByRecursion (IsNext self.now all asking.now run.verdicts) run.zones
+        ensures judged { (all : Seq LineValue) →
+            AllByRecursion (IsNext self.now all asking.now run.verdicts) run.zones
             → AreLonger self.now all asking.now run.verdicts out.old.items
             → OnOk result (AreLonger self.now all asking.now run.verdicts out.new.items) }
     {
@@ -295,7 +302,8 @@ impl RowIndex {
     fn judge_apart(&self, alloc: Global, t: Minute, parts: &[Part<'_>]) -> Result<List<Run>, Oom>
         requires first { AreFirst [] (lines_in parts.now) }
         requires events { AllByRecursion (λ (p : PartValue). HaveOwnEvents p.lines) parts.now }
-        ensures told { IfOk result (λ runs. spelled runs ≡ map (first_judged self.now t (lines_in parts.now)) (lines_in parts.now)) }
+        ensures told { IfOk result (λ runs. spelled runs
+            ≡ map (first_judged self.now t (lines_in parts.now)) (lines_in parts.now)) }
         ensures found { IfOk result (λ runs. AreFound self.now runs) }
         ensures apart { IfOk result (λ runs. AreApart runs) }
     {
@@ -313,9 +321,11 @@ impl RowIndex {
     fn change_in(&self, alloc: Global, t: Minute, parts: &[Part<'_>]) -> Result<Changed, Oom>
         requires first { AreFirst [] (lines_in parts.now) }
         ensures changed { list_any upgrades (lines_in parts.now) ≡ true
-            → IfOk result (λ c. IsChanged self.now t (lines_in parts.now) (values_of c.counted.entries) c.upgraded.keys) }
+            → IfOk result (λ c. IsChanged self.now t (lines_in parts.now)
+            (values_of c.counted.entries) c.upgraded.keys) }
         ensures over { list_any upgrades (lines_in parts.now) ≡ true
-            → IfOk result (λ c. AreOver self.now t (lines_in parts.now) (values_of c.higher.entries)) }
+            → IfOk result
+            (λ c. AreOver self.now t (lines_in parts.now) (values_of c.higher.entries)) }
         ensures counted { IfOk result (λ c. AreSeated c.counted.entries) }
         ensures higher { IfOk result (λ c. AreSeated c.higher.entries) }
     {

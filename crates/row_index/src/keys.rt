@@ -19,7 +19,8 @@ pub fn add_key<K: Ord + Drop>(keys: &mut BTreeSet<K>, key: K) -> Result<(), Oom>
 
 /// Adds a key if `counts`.
 pub fn add_counted<K: Ord + Drop>(keys: &mut BTreeSet<K>, counts: bool, key: K) -> Result<(), Oom>
-    ensures { OnOk result (keys.new.keys ≡ (if counts then insert_key K.cmp keys.old.keys key else keys.old.keys)) }
+    ensures { OnOk result
+        (keys.new.keys ≡ (if counts then insert_key K.cmp keys.old.keys key else keys.old.keys)) }
 {
     if counts {
         add_key(keys, key)?;
@@ -30,7 +31,8 @@ pub fn add_counted<K: Ord + Drop>(keys: &mut BTreeSet<K>, counts: bool, key: K) 
 /// Whether the map has a key from `from` to `to`, both included.
 pub fn any_between<K: Ord + Drop>(counts: &BTreeMap<K, usize>, from: K, to: K) -> bool
     requires { IsLeBy K.cmp from to }
-    ensures { result ≡ list_any (range_contains K.cmp (Included from) (Included to)) (keys_of counts.now.entries) }
+    ensures { result ≡ list_any (range_contains K.cmp (Included from) (Included to))
+        (keys_of counts.now.entries) }
 {
     counts.range(from..=to).next().is_some()
 }

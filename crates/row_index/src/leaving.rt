@@ -22,7 +22,8 @@ impl RowIndex {
         verdict: &Verdict,
         zones: &[Zone],
     ) -> Result<Self, Oom>
-        ensures { IfOk result (λ index. index ≡ put_each (rows_along verdict.now.line.event (left_by t verdict.now) zones.now) self) }
+        ensures { IfOk result (λ index. index
+            ≡ put_each (rows_along verdict.now.line.event (left_by t verdict.now) zones.now) self) }
     {
         if zones.is_empty() {
             return Ok(self);
@@ -57,7 +58,8 @@ impl RowIndex {
         verdict: &Verdict,
         zones: &[Zone],
     ) -> Result<Self, Oom>
-        ensures { IfOk result (λ index. index ≡ put_each (rows_of_line t zones.now verdict.now) self) }
+        ensures { IfOk result
+            (λ index. index ≡ put_each (rows_of_line t zones.now verdict.now) self) }
     {
         if verdict.is_lawful() {
             self.put_left(alloc, t, verdict, zones)
@@ -97,7 +99,8 @@ impl RowIndex {
     pub fn leave_runs(self, alloc: Global, t: Minute, runs: &[Run]) -> Result<Self, Oom>
         requires found { AreFound self runs.now }
         requires apart { AreApart runs.now }
-        ensures { IfOk result (λ index. index ≡ put_all self t (lawful_of (spelled runs.now)) self) }
+        ensures { IfOk result
+            (λ index. index ≡ put_all self t (lawful_of (spelled runs.now)) self) }
     {
         let _ = &self.reach;
         self.put_runs(alloc, t, runs)

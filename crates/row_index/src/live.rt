@@ -50,7 +50,8 @@ fn has_rank(ranks: &[Rank], rank: &Rank) -> bool
 
 /// Adds a rank if `counts`, unless it is in the list.
 fn add_rank(ranks: &mut Vec<Rank>, counts: bool, rank: Rank) -> Result<(), Oom>
-    ensures { OnOk result (ranks.new.items ≡ (if counts then with_rank rank ranks.old.items else ranks.old.items)) }
+    ensures { OnOk result
+        (ranks.new.items ≡ (if counts then with_rank rank ranks.old.items else ranks.old.items)) }
 {
     if counts {
         if !has_rank(ranks, &rank) {
@@ -78,7 +79,8 @@ pub fn upgraded_ranks(alloc: Global, lines: &[Line]) -> Result<Vec<Rank>, Oom>
 /// Adds a row if there is one and it is live at `t`.
 fn add_row(higher: &mut Seated, t: Minute, row: &Option<Row>) -> Result<(), Oom>
     requires { AreSeated higher.old.entries }
-    ensures rows { OnOk result (values_of higher.new.entries ≡ with_row t row.now (values_of higher.old.entries)) }
+    ensures rows { OnOk result
+        (values_of higher.new.entries ≡ with_row t row.now (values_of higher.old.entries)) }
     ensures seated { OnOk result (AreSeated higher.new.entries) }
 {
     match row {
@@ -96,7 +98,8 @@ fn add_in_zones(
     event: &Event,
 ) -> Result<(), Oom>
     requires { AreSeated higher.old.entries }
-    ensures rows { OnOk result (IsLive t event.now (has_zone zones.now.keys) rows.now (values_of higher.old.entries) (values_of higher.new.entries)) }
+    ensures rows { OnOk result (IsLive t event.now (has_zone zones.now.keys) rows.now
+        (values_of higher.old.entries) (values_of higher.new.entries)) }
     ensures seated { OnOk result (AreSeated higher.new.entries) }
 {
     let mut near = 0;
@@ -116,7 +119,8 @@ fn row_among(
     event: &Event,
     zone: &Zone,
 ) -> Option<Row>
-    ensures { result ≡ (if has_zone zones.now.keys zone.now then row_at rows.now event.now zone.now else None) }
+    ensures { result
+        ≡ (if has_zone zones.now.keys zone.now then row_at rows.now event.now zone.now else None) }
 {
     if !zones.contains(zone) {
         return None;
@@ -135,7 +139,8 @@ fn add_among(
 ) -> Result<(), Oom>
     requires seated { AreSeated higher.old.entries }
     requires all { all.now ≡ rows.now }
-    ensures rows { OnOk result (IsLive t event.now (has_zone zones.now.keys) rows.now (values_of higher.old.entries) (values_of higher.new.entries)) }
+    ensures rows { OnOk result (IsLive t event.now (has_zone zones.now.keys) rows.now
+        (values_of higher.old.entries) (values_of higher.new.entries)) }
     ensures seated { OnOk result (AreSeated higher.new.entries) }
 {
     let mut near = 0;
@@ -157,7 +162,8 @@ pub fn add_rows(
     event: &Event,
 ) -> Result<(), Oom>
     requires { AreSeated higher.old.entries }
-    ensures rows { OnOk result (IsLive t event.now (has_zone zones.now.keys) rows.now (values_of higher.old.entries) (values_of higher.new.entries)) }
+    ensures rows { OnOk result (IsLive t event.now (has_zone zones.now.keys) rows.now
+        (values_of higher.old.entries) (values_of higher.new.entries)) }
     ensures seated { OnOk result (AreSeated higher.new.entries) }
 {
     if zones.len() <= rows.count() {
@@ -178,7 +184,9 @@ fn or_later(t: Minute, begin: Minute) -> Minute
 /// Returns the minute after which a row must end to be live at `t` and overlap `own`, the row of a
 /// UPG line. `None` for another line, or if there is no such row.
 pub fn needed(t: Minute, line: &Line, own: &Option<Row>) -> Option<Minute>
-    ensures { result ≡ (if upgrades line.now then option_map (λ r. or_later t r.period.begin) own.now else None) }
+    ensures { result ≡ (if upgrades line.now
+        then option_map (λ r. or_later t r.period.begin) own.now
+        else None) }
 {
     if !is_upgrade(&line.action) {
         return None;

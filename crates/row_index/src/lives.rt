@@ -75,7 +75,8 @@ fn rows_at(
     seats: &[(Zone, u32)],
 ) -> Result<Vec<Row>, Oom>
     requires { AreShared lives.now seats.now }
-    ensures { IfOk result (λ rows. rows.items ≡ values_of (rows_with event.now (lives_told lives.now seats.now))) }
+    ensures { IfOk result
+        (λ rows. rows.items ≡ values_of (rows_with event.now (lives_told lives.now seats.now))) }
 {
     let mut rows = Vec::with_capacity(alloc, seats.len())?;
     for seat in seats {
@@ -126,7 +127,9 @@ fn put_before(
     zones: usize,
 ) -> Result<(), Oom>
     requires { IsThere lives.now place.now }
-    ensures { OnOk result ((p : LifeValue → Bool) → owed p befores.new.items ≡ owed p befores.old.items + times zones (one_of p (option_map (life_at lives.now) place.now))) }
+    ensures { OnOk result ((p : LifeValue → Bool) →
+        owed p befores.new.items ≡ owed p befores.old.items
+        + times zones (one_of p (option_map (life_at lives.now) place.now))) }
 {
     if zones == 0 {
         return Ok(());
@@ -159,7 +162,12 @@ fn count_zone(
     requires last { IsThere lives.now last.old }
     requires place { IsThere lives.now place.now }
     ensures last { OnOk result (IsThere lives.now last.new) }
-    ensures counted { OnOk result ((p : LifeValue → Bool) → owed p befores.new.items + times count.new (one_of p (option_map (life_at lives.now) last.new)) ≡ owed p befores.old.items + times count.old (one_of p (option_map (life_at lives.now) last.old)) + one_of p (option_map (life_at lives.now) place.now)) }
+    ensures counted { OnOk result ((p : LifeValue → Bool) →
+        owed p befores.new.items
+        + times count.new (one_of p (option_map (life_at lives.now) last.new))
+        ≡ owed p befores.old.items
+        + times count.old (one_of p (option_map (life_at lives.now) last.old))
+        + one_of p (option_map (life_at lives.now) place.now)) }
 {
     if same_place(last, place) {
         let Some(more) = count.checked_add(1) else {
@@ -184,9 +192,13 @@ fn seat_each(
 ) -> Result<Vec<Before>, Oom>
     requires shared { AreShared lives.now seats.old }
     requires place { place < length lives.now }
-    ensures set { OnOk result (lives_told lives.now seats.new ≡ lives_put (life_at lives.now place) zones.now (lives_told lives.now seats.old)) }
+    ensures set { OnOk result (lives_told lives.now seats.new
+        ≡ lives_put (life_at lives.now place) zones.now (lives_told lives.now seats.old)) }
     ensures shared { OnOk result (AreShared lives.now seats.new) }
-    ensures before { IfOk result (λ befores. (p : LifeValue → Bool) → IsTallied p (values_of (lives_told lives.now seats.old)) (values_of (lives_told lives.now seats.new)) befores.items (length zones.now) (life_at lives.now place)) }
+    ensures before { IfOk result (λ befores. (p : LifeValue → Bool) →
+        IsTallied p (values_of (lives_told lives.now seats.old))
+        (values_of (lives_told lives.now seats.new)) befores.items (length zones.now)
+        (life_at lives.now place)) }
 {
     let mut befores = Vec::new(alloc);
     let mut last = None;
@@ -210,9 +222,13 @@ fn put_lives(
     zones: &[Zone],
 ) -> Result<Vec<Before>, Oom>
     requires { AreShared lives.old.items seats.old }
-    ensures set { OnOk result (lives_told lives.new.items seats.new ≡ lives_put life.now zones.now (lives_told lives.old.items seats.old)) }
+    ensures set { OnOk result (lives_told lives.new.items seats.new
+        ≡ lives_put life.now zones.now (lives_told lives.old.items seats.old)) }
     ensures shared { OnOk result (AreShared lives.new.items seats.new) }
-    ensures before { IfOk result (λ befores. (p : LifeValue → Bool) → IsTallied p (values_of (lives_told lives.old.items seats.old)) (values_of (lives_told lives.new.items seats.new)) befores.items (length zones.now) life.now) }
+    ensures before { IfOk result (λ befores. (p : LifeValue → Bool) →
+        IsTallied p (values_of (lives_told lives.old.items seats.old))
+        (values_of (lives_told lives.new.items seats.new)) befores.items (length zones.now)
+        life.now) }
 {
     let Some(first) = zones.first() else {
         return Ok(Vec::new(alloc));
@@ -225,7 +241,8 @@ fn put_lives(
 /// Sets the life of a row, and returns its index.
 fn put_life(lives: &mut Vec<Life>, seats: &mut Seats, near: u32, row: &Row) -> Result<u32, Oom>
     requires { AreShared lives.old.items seats.old }
-    ensures set { OnOk result (lives_told lives.new.items seats.new ≡ insert_entry by_place (lives_told lives.old.items seats.old) row.now.zone (life_of row.now)) }
+    ensures set { OnOk result (lives_told lives.new.items seats.new ≡ insert_entry by_place
+        (lives_told lives.old.items seats.old) row.now.zone (life_of row.now)) }
     ensures shared { OnOk result (AreShared lives.new.items seats.new) }
 {
     let place = place_for(lives, seats, near, &row.zone, &life_of(row))?;
@@ -286,7 +303,8 @@ impl LifeMap {
 
     /// Returns the life of a zone. `near` is a guess of its index, and becomes the index after it.
     pub fn get(&self, near: &mut usize, zone: &Zone) -> Option<&Life>
-        ensures { option_map (λ life. life.now) result ≡ lookup (is_at (by_place zone.now)) self.now }
+        ensures { option_map (λ life. life.now) result
+            ≡ lookup (is_at (by_place zone.now)) self.now }
     {
         match self.seats.get(near, zone) {
             Some(place) => Some(&self.lives[place as usize]),
@@ -332,7 +350,9 @@ impl LifeMap {
     /// is empty.
     fn put_each(&mut self, alloc: Global, life: &Life, zones: &[Zone]) -> Result<Vec<Before>, Oom>
         ensures set { OnOk result (self.new ≡ lives_put life.now zones.now self.old) }
-        ensures before { IfOk result (λ befores. (p : LifeValue → Bool) → IsTallied p (values_of self.old) (values_of self.new) befores.items (length zones.now) life.now) }
+        ensures before { IfOk result (λ befores. (p : LifeValue → Bool) →
+            IsTallied p (values_of self.old) (values_of self.new) befores.items
+            (length zones.now) life.now) }
     {
         match put_lives(
             alloc,
@@ -356,7 +376,8 @@ impl LifeMap {
 
     /// Sets the life of a row. On `Oom` the map is empty.
     fn put(&mut self, row: &Row) -> Result<(), Oom>
-        ensures { OnOk result (self.new ≡ insert_entry by_place self.old row.now.zone (life_of row.now)) }
+        ensures { OnOk result
+            (self.new ≡ insert_entry by_place self.old row.now.zone (life_of row.now)) }
     {
         match put_life(&mut self.lives, &mut self.seats, self.near, row) {
             Ok(place) => {
@@ -419,7 +440,9 @@ impl LifeMap {
         zones: &[Zone],
     ) -> Result<Vec<Before>, Oom>
         ensures set { OnOk result (self.new ≡ lives_put life.now zones.now self.old) }
-        ensures before { IfOk result (λ befores. (p : LifeValue → Bool) → IsTallied p (values_of self.old) (values_of self.new) befores.items (length zones.now) life.now) }
+        ensures before { IfOk result (λ befores. (p : LifeValue → Bool) →
+            IsTallied p (values_of self.old) (values_of self.new) befores.items
+            (length zones.now) life.now) }
     {
         self.settle(alloc, event)?;
         self.put_each(alloc, life, zones)

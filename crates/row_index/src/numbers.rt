@@ -52,7 +52,10 @@ fn add_event(events: &mut Vec<Event>, event: &Event) -> Result<(), Oom>
 
 /// Adds an event to those of its hazard and number, unless it is among them.
 pub fn put_event(alloc: Global, events: &mut Events, event: &Event) -> Result<(), Oom>
-    ensures { OnOk result (lists_of events.new.entries ≡ insert_entry by_number (lists_of events.old.entries) (number_of event.now) (with_event event.now (list_at by_number (lists_of events.old.entries) (number_of event.now)))) }
+    ensures { OnOk result (lists_of events.new.entries
+        ≡ insert_entry by_number (lists_of events.old.entries) (number_of event.now)
+        (with_event event.now
+        (list_at by_number (lists_of events.old.entries) (number_of event.now)))) }
 {
     let known = events.entry(number_of(event))?.or_insert(Vec::new(alloc));
     add_event(known, event)
@@ -65,7 +68,8 @@ pub fn put_event_of(
     had_rows: bool,
     event: &Event,
 ) -> Result<(), Oom>
-    ensures { OnOk result (lists_of events.new.entries ≡ events_with had_rows event.now (lists_of events.old.entries)) }
+    ensures { OnOk result (lists_of events.new.entries
+        ≡ events_with had_rows event.now (lists_of events.old.entries)) }
 {
     if had_rows {
         return Ok(());

@@ -98,7 +98,8 @@ impl Ord for ZoneKey {
 impl PartialOrd for ZoneKey {
     ghost partial_cmp = { as_partial_cmp by_place };
 
-    ghost laws = { partial_order_from_own_ties (Prim.search (comparing, rules)) (Prim.search (comparing, rules)) };
+    ghost laws = { partial_order_from_own_ties (Prim.search (comparing, rules))
+        (Prim.search (comparing, rules)) };
 
     fn partial_cmp(&self, other: &ZoneKey) -> Option<Ordering> {
         Some(self.cmp(other))
@@ -178,7 +179,8 @@ impl Ord for HazardKey {
 impl PartialOrd for HazardKey {
     ghost partial_cmp = { as_partial_cmp by_hazard };
 
-    ghost laws = { partial_order_from_own_ties (Prim.search (comparing, rules)) (Prim.search (comparing, rules)) };
+    ghost laws = { partial_order_from_own_ties (Prim.search (comparing, rules))
+        (Prim.search (comparing, rules)) };
 
     fn partial_cmp(&self, other: &HazardKey) -> Option<Ordering> {
         Some(self.cmp(other))

@@ -61,7 +61,8 @@ fn reach_zone(
     requires { IsLast event.now life.now last.old reaches.old.keys }
     ensures last { OnOk result (IsLast event.now life.now last.new reaches.new.keys) }
     ensures grows { OnOk result (Grows reaches.old.keys reaches.new.keys) }
-    ensures reached { OnOk result (is_reached reaches.new.keys (row_with event.now zone.now life.now) ≡ true) }
+    ensures reached { OnOk result
+        (is_reached reaches.new.keys (row_with event.now zone.now life.now) ≡ true) }
 {
     let area = area_of(zone);
     if is_area(last, area) {
@@ -90,7 +91,8 @@ pub fn reach_each(
     zones: &[Zone],
 ) -> Result<(), Oom>
     ensures grows { OnOk result (Grows reaches.old.keys reaches.new.keys) }
-    ensures reached { OnOk result (AreReached reaches.new.keys (rows_along event.now life.now zones.now)) }
+    ensures reached { OnOk result
+        (AreReached reaches.new.keys (rows_along event.now life.now zones.now)) }
 {
     if is_idle(event, life) {
         return Ok(());
@@ -148,7 +150,8 @@ fn add_events(
     t: Minute,
     ranks: &[Rank],
 ) -> Result<(), Oom>
-    ensures { OnOk result (events.new.keys ≡ with_spots ranks.now events.old.keys (filter (lasts area t) reaches.now.keys)) }
+    ensures { OnOk result (events.new.keys
+        ≡ with_spots ranks.now events.old.keys (filter (lasts area t) reaches.now.keys)) }
 {
     for reach in lasting(reaches, area, t) {
         add_event(events, ranks, &reach.spot)?;
@@ -184,7 +187,8 @@ pub fn events_above(
     t: Minute,
     ranks: &[Rank],
 ) -> Result<BTreeSet<Event>, Oom>
-    ensures { IfOk result (λ events. AreTold reaches.now.keys zones.now.keys t ranks.now events.keys) }
+    ensures { IfOk result
+        (λ events. AreTold reaches.now.keys zones.now.keys t ranks.now events.keys) }
 {
     let mut events = BTreeSet::new(alloc);
     let mut last = None;

@@ -94,8 +94,10 @@ pub fn set<K: Ord + Drop, V: Copy>(
 /// one.
 pub fn put_seated(seated: &mut Seated, row: &Row, before: &mut Option<Row>) -> Result<(), Oom>
     requires { AreSeated seated.old.entries }
-    ensures before { OnOk result (before.new ≡ row_at (values_of seated.old.entries) row.now.event row.now.zone) }
-    ensures rows { OnOk result (values_of seated.new.entries ≡ put row.now (values_of seated.old.entries)) }
+    ensures before { OnOk result
+        (before.new ≡ row_at (values_of seated.old.entries) row.now.event row.now.zone) }
+    ensures rows { OnOk result
+        (values_of seated.new.entries ≡ put row.now (values_of seated.old.entries)) }
     ensures seated { OnOk result (AreSeated seated.new.entries) }
 {
     let spot = Spot::At(EventKey { event: row.event });
@@ -109,7 +111,9 @@ pub fn put_seated(seated: &mut Seated, row: &Row, before: &mut Option<Row>) -> R
 /// Puts a row if `counts`.
 pub fn count_row(seated: &mut Seated, counts: bool, row: &Row) -> Result<(), Oom>
     requires { AreSeated seated.old.entries }
-    ensures rows { OnOk result (values_of seated.new.entries ≡ (if counts then put row.now (values_of seated.old.entries) else values_of seated.old.entries)) }
+    ensures rows { OnOk result (values_of seated.new.entries ≡ (if counts
+        then put row.now (values_of seated.old.entries)
+        else values_of seated.old.entries)) }
     ensures seated { OnOk result (AreSeated seated.new.entries) }
 {
     if counts {

@@ -48,7 +48,8 @@ impl SharedRows {
     /// Returns the life of the row of an event in a zone. `near` is a guess of its index, and
     /// becomes the index after it.
     pub fn life_at(&self, near: &mut usize, event: &Event, zone: &Zone) -> Option<&Life>
-        ensures { option_map (λ life. life.now) result ≡ option_map life_of (row_at (values_of self.now) event.now zone.now) }
+        ensures { option_map (λ life. life.now) result
+            ≡ option_map life_of (row_at (values_of self.now) event.now zone.now) }
     {
         match &self.event {
             Some(own) => {
@@ -98,7 +99,9 @@ impl SharedRows {
     ) -> Result<Vec<Before>, Oom>
         requires { AreOf event.now (values_of self.old) }
         ensures set { OnOk result (self.new ≡ rows_put event.now life.now zones.now self.old) }
-        ensures before { IfOk result (λ befores. (p : LifeValue → Bool) → AreTallied p (values_of self.old) (values_of self.new) befores.items (length zones.now) life.now) }
+        ensures before { IfOk result (λ befores. (p : LifeValue → Bool) →
+            AreTallied p (values_of self.old) (values_of self.new) befores.items
+            (length zones.now) life.now) }
     {
         self.event = Some(*event);
         self.lives.set(alloc, event, life, zones)

@@ -92,8 +92,10 @@ impl Spoken {
     fn speak_behind(&mut self, counts: bool, line: &Line) -> Result<bool, Oom>
         requires free { IsFree self.old.last self.old.rising.items }
         requires behind { is_behind self.old.last (seat_said line.now) ≡ true }
-        ensures second { IfOk result (λ second. second ≡ has_seat (seats_of self.old.rising.items self.old.others.keys) (seat_said line.now)) }
-        ensures said { OnOk result (Says (seats_of self.old.rising.items self.old.others.keys) (seats_of self.new.rising.items self.new.others.keys) counts line.now) }
+        ensures second { IfOk result (λ second. second
+            ≡ has_seat (seats_of self.old.rising.items self.old.others.keys) (seat_said line.now)) }
+        ensures said { OnOk result (Says (seats_of self.old.rising.items self.old.others.keys)
+            (seats_of self.new.rising.items self.new.others.keys) counts line.now) }
         ensures free { OnOk result (IsFree self.new.last self.new.rising.items) }
     {
         let second = has_seat(&self.others, &line.event, &line.zone);
@@ -103,8 +105,10 @@ impl Spoken {
 
     /// `speak` for any other key: the ascending ones are moved to the set first.
     fn speak_among(&mut self, counts: bool, line: &Line) -> Result<bool, Oom>
-        ensures second { IfOk result (λ second. second ≡ has_seat (seats_of self.old.rising.items self.old.others.keys) (seat_said line.now)) }
-        ensures said { OnOk result (Says (seats_of self.old.rising.items self.old.others.keys) (seats_of self.new.rising.items self.new.others.keys) counts line.now) }
+        ensures second { IfOk result (λ second. second
+            ≡ has_seat (seats_of self.old.rising.items self.old.others.keys) (seat_said line.now)) }
+        ensures said { OnOk result (Says (seats_of self.old.rising.items self.old.others.keys)
+            (seats_of self.new.rising.items self.new.others.keys) counts line.now) }
         ensures free { OnOk result (IsFree self.new.last self.new.rising.items) }
     {
         settle(&mut self.rising, &mut self.others)?;
@@ -116,8 +120,10 @@ impl Spoken {
     /// Returns whether the key of a line is there, and adds it if `counts`.
     pub fn speak(&mut self, counts: bool, line: &Line) -> Result<bool, Oom>
         requires { IsFree self.old.last self.old.rising.items }
-        ensures second { IfOk result (λ second. second ≡ has_seat (seats_of self.old.rising.items self.old.others.keys) (seat_said line.now)) }
-        ensures said { OnOk result (Says (seats_of self.old.rising.items self.old.others.keys) (seats_of self.new.rising.items self.new.others.keys) counts line.now) }
+        ensures second { IfOk result (λ second. second
+            ≡ has_seat (seats_of self.old.rising.items self.old.others.keys) (seat_said line.now)) }
+        ensures said { OnOk result (Says (seats_of self.old.rising.items self.old.others.keys)
+            (seats_of self.new.rising.items self.new.others.keys) counts line.now) }
         ensures free { OnOk result (IsFree self.new.last self.new.rising.items) }
     {
         if is_behind(&self.last, &seat_said(line)) {

@@ -69,7 +69,9 @@ pub fn is_open_among(standings: &Standings, t: Minute) -> bool
 /// Whether an unended row has the end of `period`, and a begin from `first` to `last`.
 fn any_with(standings: &Standings, period: &Period, first: Minute, last: Minute) -> bool
     requires { first ≤ last }
-    ensures { result ≡ list_any (lies (period_at period.now.end first) (period_at period.now.end last)) (keys_of standings.now.entries) }
+    ensures { result
+        ≡ list_any (lies (period_at period.now.end first) (period_at period.now.end last))
+        (keys_of standings.now.entries) }
 {
     let from = Standing {
         end: period.end,
@@ -84,7 +86,9 @@ fn any_with(standings: &Standings, period: &Period, first: Minute, last: Minute)
 
 /// Whether a row that is live at `t` has this period. Begins at `t` or before count as equal.
 pub fn has_same_among(standings: &Standings, t: Minute, period: &Period) -> bool
-    ensures { result ≡ (ends_after period.now.end t && list_any (lies (same_from t period.now) (same_to t period.now)) (keys_of standings.now.entries)) }
+    ensures { result ≡ (ends_after period.now.end t
+        && list_any (lies (same_from t period.now) (same_to t period.now))
+        (keys_of standings.now.entries)) }
 {
     if !ends_after(&period.end, t) {
         return false;
@@ -187,7 +191,8 @@ pub fn restand(
     zones: usize,
     life: &Life,
 ) -> Result<(), Oom>
-    ensures { OnOk result (standings.new.entries ≡ restood befores.now zones life.now standings.old.entries) }
+    ensures { OnOk result
+        (standings.new.entries ≡ restood befores.now zones life.now standings.old.entries) }
 {
     if all_stay(befores, zones, life) {
         return Ok(());

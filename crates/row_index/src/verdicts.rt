@@ -105,7 +105,8 @@ impl Run {
 
     /// Adds the lines of the run in one zone to `out`.
     fn put_zone(&self, zone: &Zone, out: &mut Vec<(Line, Option<Breach>)>) -> Result<(), Oom>
-        ensures { OnOk result (out.new.items ≡ out.old.items ++ spelled_at self.now.verdicts zone.now) }
+        ensures { OnOk result
+            (out.new.items ≡ out.old.items ++ spelled_at self.now.verdicts zone.now) }
     {
         for verdict in self.verdicts.as_slice() {
             out.push((in_zone(&verdict.line, zone), verdict.breach))?;

@@ -178,7 +178,8 @@ impl Ordered {
 
 /// Adds a line to its group.
 fn add_line(alloc: Global, groups: &mut Groups, line: &Line) -> Result<(), Oom>
-    ensures { OnOk result (groups_view groups.new.entries ≡ put same_group placed (groups_view groups.old.entries) (group_of line.now) (without_zone line.now)) }
+    ensures { OnOk result (groups_view groups.new.entries ≡ put same_group placed
+        (groups_view groups.old.entries) (group_of line.now) (without_zone line.now)) }
 {
     let lines = groups.entry(group_of(line))?.or_insert(Ordered::new(alloc));
     lines.place(&without_zone(line))?;

@@ -14,7 +14,9 @@ ghost use Rattle.segmenter.specs.declared.groups.Group.{Group};
 
 /// A segment of a zone has exactly the lines that the product has for that zone.
 pub fn segments_say_the_lines()
-    ensures { (lines : List Line) (segments : List Segment) → AreSegments lines segments → (z : Place) (l : SegLine) → IsSaid segments z l ↔ IsOfLines lines z l }
+    ensures { (lines : List Line) (segments : List Segment) →
+        AreSegments lines segments →
+        (z : Place) (l : SegLine) → IsSaid segments z l ↔ IsOfLines lines z l }
 {}
 
 /// The lines of a group are by action, then by event.
@@ -25,14 +27,19 @@ pub fn lines_are_in_order()
 
 /// A product's lines have one list of segments.
 pub fn segments_are_determined()
-    ensures { (lines : List Line) (segments others : List Segment) → AreSegments lines segments → AreSegments lines others → segments ≡ others }
+    ensures { (lines : List Line) (segments others : List Segment) →
+        AreSegments lines segments → AreSegments lines others → segments ≡ others }
 {}
 
 /// The lines of the segments, zone by zone, are the lines that the segments were made of. If no two
 /// of these are of one event and zone, the segments have each once.
 pub fn segments_say_each_line_once()
-    ensures lines { (lines : List Line) (segments : List Segment) → AreSegments lines segments → (line : Line) → Contains (lines_in_text segments) line ↔ Contains lines line }
-    ensures once { (lines : List Line) (segments : List Segment) → AreSegments lines segments → AllPairs IsApart lines → AllPairs IsApart (lines_in_text segments) }
+    ensures lines { (lines : List Line) (segments : List Segment) →
+        AreSegments lines segments →
+        (line : Line) → Contains (lines_in_text segments) line ↔ Contains lines line }
+    ensures once { (lines : List Line) (segments : List Segment) →
+        AreSegments lines segments → AllPairs IsApart lines →
+        AllPairs IsApart (lines_in_text segments) }
 {}
 
 /// A segment expires after its issue minute, if each row that it leaves live ends after that

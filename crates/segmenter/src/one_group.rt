@@ -19,7 +19,8 @@ fn is_of_group(line: &Line, group: &Group) -> bool
 
 /// Whether all lines are of the group.
 fn are_of_group(lines: &[Line], group: &Group) -> bool
-    ensures { result ≡ list_all (λ (line : AnyLine). same_group (group_of line) group.now) lines.now }
+    ensures { result
+        ≡ list_all (λ (line : AnyLine). same_group (group_of line) group.now) lines.now }
 {
     lines.iter().all(|line| is_of_group(line, group))
 }
@@ -75,7 +76,8 @@ fn list_of(alloc: Global, segment: Segment) -> Result<List<Segment>, Oom>
 /// Out of memory.
 pub fn segments_of_one(alloc: Global, lines: &[Line]) -> Result<List<Segment>, Oom>
     requires { are_of_one_group lines.now ≡ true }
-    ensures { IfOk result (λ segments. segments ≡ segments_of (classes_of (heads_of (groups_of lines.now)))) }
+    ensures { IfOk result
+        (λ segments. segments ≡ segments_of (classes_of (heads_of (groups_of lines.now)))) }
 {
     match lines {
         [] => Ok(List::new(alloc)),

@@ -16,7 +16,8 @@ pub type Classes<'a> = IndexMap<&'a [SegLine], Vec<Zone>>;
 
 /// Adds the lines of a group, if it has any.
 fn add_head(heads: &mut Heads, group: &Group, lines: Vec<SegLine>) -> Result<(), Oom>
-    ensures { OnOk result (heads_view heads.new.entries ≡ add_head (heads_view heads.old.entries) group.now lines.items) }
+    ensures { OnOk result (heads_view heads.new.entries
+        ≡ add_head (heads_view heads.old.entries) group.now lines.items) }
 {
     if let Some(line) = lines.first() {
         let head = Head {
@@ -34,7 +35,8 @@ fn add_head(heads: &mut Heads, group: &Group, lines: Vec<SegLine>) -> Result<(),
 ///
 /// Out of memory.
 pub fn heads_of(alloc: Global, groups: Groups) -> Result<Heads, Oom>
-    ensures { IfOk result (λ heads. heads_view heads.entries ≡ heads_of (groups_view groups.entries)) }
+    ensures { IfOk result
+        (λ heads. heads_view heads.entries ≡ heads_of (groups_view groups.entries)) }
 {
     let mut heads = BTreeMap::new(alloc);
     for (group, lines) in groups {
@@ -50,7 +52,8 @@ fn add_zone<'a>(
     lines: &'a [SegLine],
     zone: &Zone,
 ) -> Result<(), Oom>
-    ensures { OnOk result (classes_view classes.new.entries ≡ put same_lines pushed (classes_view classes.old.entries) lines.now zone.now) }
+    ensures { OnOk result (classes_view classes.new.entries
+        ≡ put same_lines pushed (classes_view classes.old.entries) lines.now zone.now) }
 {
     classes
         .entry(lines)?
@@ -65,7 +68,8 @@ fn add_zone<'a>(
 ///
 /// Out of memory.
 pub fn classes_of<'a>(alloc: Global, heads: &'a Heads) -> Result<Classes<'a>, Oom>
-    ensures { IfOk result (λ classes. classes_view classes.entries ≡ classes_of (heads_view heads.now.entries)) }
+    ensures { IfOk result
+        (λ classes. classes_view classes.entries ≡ classes_of (heads_view heads.now.entries)) }
 {
     let mut classes = IndexMap::new(alloc);
     for (head, lines) in heads {

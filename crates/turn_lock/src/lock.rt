@@ -37,7 +37,8 @@ impl<T: Storied> Model for TurnLock<T> {
 
     ghost view = { λ l. l.table.shared.table_id };
 
-    ghost invariant = { λ l. (l.table.shared.table_id.words ≡ 3) × (l.table.shared.table_id.slots ≡ 1) };
+    ghost invariant = { λ l.
+        (l.table.shared.table_id.words ≡ 3) × (l.table.shared.table_id.slots ≡ 1) };
 }
 
 impl<T: Storied> TurnLock<T> {
@@ -47,7 +48,8 @@ impl<T: Storied> TurnLock<T> {
     ///
     /// `value` itself, if memory ran out.
     pub fn start(alloc: Global, value: T) -> Result<(TurnLock<T>, Pass<T>), T>
-        ensures ok { IfOk result (λ made. made.1 ≡ first_pass made.0 (T.base value) (T.story value)) }
+        ensures ok { IfOk result
+            (λ made. made.1 ≡ first_pass made.0 (T.base value) (T.story value)) }
         ensures err { IfErr result (λ back. back ≡ value) }
     {
         let about = Snapshot::of(&value);

@@ -28,8 +28,13 @@ impl<T: Storied> TurnLock<T> {
         rt: &R,
         seat: &mut Seat<Option<T>, View<T::Base, T::Entry>>,
     ) -> u64
-        requires { (seat.old.table_id ≡ self.now) × (seat.old.me.0.stage ≡ Idle) × (seat.old.me.1 ≡ []) × ((b : T.Base) × (seat.old.me.0.base ≡ Some b)) }
-        ensures { (seat.new.table_id ≡ seat.old.table_id) × (seat.new.id ≡ seat.old.id) × (seat.new.me ≡ (staged (Waits result) seat.old.me.0, [])) }
+        requires { (seat.old.table_id ≡ self.now)
+            × (seat.old.me.0.stage ≡ Idle)
+            × (seat.old.me.1 ≡ [])
+            × ((b : T.Base) × (seat.old.me.0.base ≡ Some b)) }
+        ensures { (seat.new.table_id ≡ seat.old.table_id)
+            × (seat.new.id ≡ seat.old.id)
+            × (seat.new.me ≡ (staged (Waits result) seat.old.me.0, [])) }
     {
         let shared = &self.table.shared;
         for _ in rt.forever() {
@@ -51,9 +56,15 @@ impl<T: Storied> TurnLock<T> {
         seat: &mut Seat<Option<T>, View<T::Base, T::Entry>>,
         ticket: u64,
     ) -> (T, u64)
-        requires { (seat.old.table_id ≡ self.now) × (seat.old.me.0.stage ≡ Waits ticket) × (seat.old.me.1 ≡ []) × ((b : T.Base) × (seat.old.me.0.base ≡ Some b)) }
-        ensures seat { (seat.new.table_id ≡ seat.old.table_id) × (seat.new.id ≡ seat.old.id) × (seat.new.me ≡ (taught ticket (T.story result.0) seat.old.me.0, (0, None) ∷ [])) }
-        ensures value { (seat.old.me.0.base ≡ Some (T.base result.0)) × IsPrefix seat.old.me.0.seen (T.story result.0) }
+        requires { (seat.old.table_id ≡ self.now)
+            × (seat.old.me.0.stage ≡ Waits ticket)
+            × (seat.old.me.1 ≡ [])
+            × ((b : T.Base) × (seat.old.me.0.base ≡ Some b)) }
+        ensures seat { (seat.new.table_id ≡ seat.old.table_id)
+            × (seat.new.id ≡ seat.old.id)
+            × (seat.new.me ≡ (taught ticket (T.story result.0) seat.old.me.0, (0, None) ∷ [])) }
+        ensures value { (seat.old.me.0.base ≡ Some (T.base result.0))
+            × IsPrefix seat.old.me.0.seen (T.story result.0) }
         ensures alone { seat.old.me.0.shares ≡ 1024 → T.story result.0 ≡ seat.old.me.0.seen }
         ensures count { result.1 ≡ length (T.story result.0) }
     {
@@ -85,11 +96,19 @@ impl<T: Storied> TurnLock<T> {
         value: T,
         before: u64,
     )
-        requires seat { (seat.old.table_id ≡ self.now) × ((ticket : ℕ) × (seat.old.me.0.stage ≡ Learnt ticket)) × (seat.old.me.1 ≡ (0, None) ∷ []) }
-        requires value { (seat.old.me.0.base ≡ Some (T.base value)) × (before ≡ length seat.old.me.0.seen) }
+        requires seat { (seat.old.table_id ≡ self.now)
+            × ((ticket : ℕ) × (seat.old.me.0.stage ≡ Learnt ticket))
+            × (seat.old.me.1 ≡ (0, None) ∷ []) }
+        requires value { (seat.old.me.0.base ≡ Some (T.base value))
+            × (before ≡ length seat.old.me.0.seen) }
         requires story { GrowsByOneAtMost seat.old.me.0.seen (T.story value) }
-        ensures seat { (seat.new.table_id ≡ seat.old.table_id) × (seat.new.id ≡ seat.old.id) × (seat.new.me.1 ≡ (0, Some value) ∷ []) × (seat.new.me.0.seen ≡ T.story value) }
-        ensures view { ((T.story value ≡ seat.old.me.0.seen) × (seat.new.me.0 ≡ seat.old.me.0)) ⊎ ((e : T.Entry) × (T.story value ≡ seat.old.me.0.seen ++ e ∷ []) × (seat.new.me.0 ≡ grown (T.story value) seat.old.me.0)) }
+        ensures seat { (seat.new.table_id ≡ seat.old.table_id)
+            × (seat.new.id ≡ seat.old.id)
+            × (seat.new.me.1 ≡ (0, Some value) ∷ [])
+            × (seat.new.me.0.seen ≡ T.story value) }
+        ensures view { ((T.story value ≡ seat.old.me.0.seen) × (seat.new.me.0 ≡ seat.old.me.0))
+            ⊎ ((e : T.Entry) × (T.story value ≡ seat.old.me.0.seen ++ e ∷ [])
+            × (seat.new.me.0 ≡ grown (T.story value) seat.old.me.0)) }
     {
         let shared = &self.table.shared;
         let grew = value.count() != before;
@@ -102,9 +121,14 @@ impl<T: Storied> TurnLock<T> {
 
     /// Serves the next ticket, and wakes its holder if it sleeps.
     pub(crate) fn pass_on(&self, seat: &mut Seat<Option<T>, View<T::Base, T::Entry>>)
-        requires seat { (seat.old.table_id ≡ self.now) × ((ticket : ℕ) × (seat.old.me.0.stage ≡ Learnt ticket)) }
-        requires value { (x : T) × (seat.old.me.1 ≡ (0, Some x) ∷ []) × (seat.old.me.0.base ≡ Some (T.base x)) × (T.story x ≡ seat.old.me.0.seen) }
-        ensures { (seat.new.table_id ≡ seat.old.table_id) × (seat.new.id ≡ seat.old.id) × (seat.new.me ≡ (staged Idle seat.old.me.0, [])) }
+        requires seat { (seat.old.table_id ≡ self.now)
+            × ((ticket : ℕ) × (seat.old.me.0.stage ≡ Learnt ticket)) }
+        requires value { (x : T) × (seat.old.me.1 ≡ (0, Some x) ∷ [])
+            × (seat.old.me.0.base ≡ Some (T.base x))
+            × (T.story x ≡ seat.old.me.0.seen) }
+        ensures { (seat.new.table_id ≡ seat.old.table_id)
+            × (seat.new.id ≡ seat.old.id)
+            × (seat.new.me ≡ (staged Idle seat.old.me.0, [])) }
     {
         let served = self.table.shared.fetch_add::<PassOn>(seat, SERVING, 1);
         self.bells.ring(served.wrapping_add(1));

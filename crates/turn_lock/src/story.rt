@@ -32,5 +32,6 @@ pub trait Job<T: Storied> {
         requires { may_run self }
         ensures base { T.base value.new ≡ T.base value.old }
         ensures story { GrowsByOneAtMost (T.story value.old) (T.story value.new) }
-        ensures test { meets self (T.base value.old) (T.story value.old) (T.story value.new) result };
+        ensures test { meets self (T.base value.old) (T.story value.old)
+            (T.story value.new) result };
 }

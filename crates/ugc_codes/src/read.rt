@@ -202,7 +202,8 @@ fn fault_at(at: usize, refused: Refused) -> UgcFault
 
 /// Takes the group `text`, which starts at byte `start`: adds its zones, or returns the expiry.
 fn close(named: &mut Named, text: &[u8], start: usize) -> Result<Option<DayStamp>, Or<UgcFault>>
-    ensures { Closes result start named.old.before named.old.zones named.new.before named.new.zones (group_of named.old.before text.now) }
+    ensures { Closes result start named.old.before named.old.zones named.new.before named.new.zones
+        (group_of named.old.before text.now) }
 {
     let group = match group_of(&named.before, text) {
         Ok(group) => group,
@@ -261,7 +262,9 @@ pub fn read_ugc(alloc: Global, bytes: &[u8]) -> Result<UgcRead, Or<UgcFault>>
     // Every text that is read is in the grammar, and every text of the grammar is read, unless
     // memory runs out.
     ensures found { IfOk result (λ u. IsUgc bytes.now u.zones u.expiry u.used) }
-    ensures only { (zones : Seq Place) (d : Expiry) (n : ℕ) → IsUgc bytes.now zones d n → Gives result (Ok (record { zones = zones; expiry = d; used = n })) }
+    ensures only { (zones : Seq Place) (d : Expiry) (n : ℕ) →
+        IsUgc bytes.now zones d n →
+        Gives result (Ok (record { zones = zones; expiry = d; used = n })) }
 
     // A fault that is returned is the first of the bytes, and the first fault is returned, unless
     // memory runs out.
@@ -284,13 +287,21 @@ pub fn read_ugc(alloc: Global, bytes: &[u8]) -> Result<UgcRead, Or<UgcFault>>
 /// Bytes start with at most one UGC text, whatever follows it, and no UGC text is a proper prefix
 /// of another.
 pub fn one_text()
-    ensures same { (bytes more : Seq ℕ) (zones zones' : Seq Place) (d d' : Expiry) (n n' : ℕ) → IsUgc bytes zones d n → IsUgc (bytes ++ more) zones' d' n' → (zones ≡ zones') × (d ≡ d') × (n ≡ n') }
-    ensures no_prefix { (text more : Seq ℕ) (zones zones' : Seq Place) (d d' : Expiry) → IsUgc text zones d (length text) → IsUgc (text ++ more) zones' d' (length (text ++ more)) → more ≡ [] }
+    ensures same { (bytes more : Seq ℕ) (zones zones' : Seq Place) (d d' : Expiry) (n n' : ℕ) →
+        IsUgc bytes zones d n → IsUgc (bytes ++ more) zones' d' n' →
+        (zones ≡ zones') × (d ≡ d') × (n ≡ n') }
+    ensures no_prefix { (text more : Seq ℕ) (zones zones' : Seq Place) (d d' : Expiry) →
+        IsUgc text zones d (length text) → IsUgc (text ++ more) zones' d' (length (text ++ more)) →
+        more ≡ [] }
 {}
 
 /// Bytes start with a UGC text or have a first fault, never both, and they have at most one.
 pub fn text_or_fault()
-    ensures either { (bytes : Seq ℕ) → ((zones : Seq Place) × (d : Expiry) × (n : ℕ) × IsUgc bytes zones d n) ⊎ ((f : UgcFault) × FirstFault bytes f) }
-    ensures not_both { (bytes : Seq ℕ) (zones : Seq Place) (d : Expiry) (n : ℕ) (f : UgcFault) → IsUgc bytes zones d n → FirstFault bytes f → ⊥ }
-    ensures one_fault { (bytes : Seq ℕ) (f g : UgcFault) → FirstFault bytes f → FirstFault bytes g → f ≡ g }
+    ensures either { (bytes : Seq ℕ) →
+        ((zones : Seq Place) × (d : Expiry) × (n : ℕ) × IsUgc bytes zones d n)
+        ⊎ ((f : UgcFault) × FirstFault bytes f) }
+    ensures not_both { (bytes : Seq ℕ) (zones : Seq Place) (d : Expiry) (n : ℕ) (f : UgcFault) →
+        IsUgc bytes zones d n → FirstFault bytes f → ⊥ }
+    ensures one_fault { (bytes : Seq ℕ) (f g : UgcFault) →
+        FirstFault bytes f → FirstFault bytes g → f ≡ g }
 {}

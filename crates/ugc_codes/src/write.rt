@@ -199,9 +199,11 @@ pub fn write_ugc(alloc: Global, zones: &List<Zone>, expiry: DayStamp) -> Result<
     requires expiry { IsTrue (is_day_stamp expiry) }
     ensures value { IfOk result (λ text. text ≡ ugc_text zones.now expiry) }
     // It reads back, whatever bytes follow.
-    ensures back { IfOk result (λ text. (rest : Seq ℕ) → IsUgc (text ++ rest) zones.now expiry (length text)) }
+    ensures back { IfOk result
+        (λ text. (rest : Seq ℕ) → IsUgc (text ++ rest) zones.now expiry (length text)) }
     // No longer UGC text starts with it.
-    ensures alone { IfOk result (λ text. (more : Seq ℕ) (named : Seq Place) (d : Expiry) (n : ℕ) → IsUgc (text ++ more) named d n → (named ≡ zones.now) × (d ≡ expiry) × (n ≡ length text)) }
+    ensures alone { IfOk result (λ text. (more : Seq ℕ) (named : Seq Place) (d : Expiry) (n : ℕ) →
+        IsUgc (text ++ more) named d n → (named ≡ zones.now) × (d ≡ expiry) × (n ≡ length text)) }
 {
     write(alloc, zones.as_slice(), expiry)
 }

@@ -57,7 +57,8 @@ fn push_run(rising: &mut List<Zone>, first: Zone, last: u16) -> Result<(), Oom>
 /// Inserts the zones from `first` to the number `last`.
 fn insert_run(mixed: &mut BTreeSet<Zone>, first: Zone, last: u16) -> Result<(), Oom>
     requires { last ≤ 999 }
-    ensures { OnOk result (mixed.new.keys ≡ add_run mixed.old.keys first (last + 1 - first.number)) }
+    ensures { OnOk result
+        (mixed.new.keys ≡ add_run mixed.old.keys first (last + 1 - first.number)) }
 {
     for number in first.number()..last + 1 {
         mixed.insert(first.with_number(number))?;

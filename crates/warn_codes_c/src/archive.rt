@@ -128,7 +128,8 @@ impl Archive {
     /// Returns the products of a whole stream.
     #[tactic(auto, using(crate::proofs::Taking::whole_products, crate::proofs::Taking::whole_numbers))]
     pub fn of(alloc: Global, office: [u8; 4], class: Class, stream: &[u8]) -> Result<Self, Oom>
-        ensures products { IfOk result (λ a. a.reader.products ≡ products_of office class (readings_of stream.now)) }
+        ensures products { IfOk result
+            (λ a. a.reader.products ≡ products_of office class (readings_of stream.now)) }
         ensures numbers { IfOk result (λ a. a.numbers ≡ numbers_from 1 (readings_of stream.now)) }
     {
         let mut archive = Archive::new(alloc, office, class);

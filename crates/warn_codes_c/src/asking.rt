@@ -60,7 +60,8 @@ fn put_lives_of(alloc: Global, rows: &mut List<RowFields>, archive: &Archive) ->
 }
 
 fn put_breaches_of(alloc: Global, rows: &mut List<RowFields>, archive: &Archive) -> Result<(), Oom>
-    ensures { OnOk result (rows.new ≡ rows.old ++ breach_rows archive.now.numbers archive.now.reader.products) }
+    ensures { OnOk result
+        (rows.new ≡ rows.old ++ breach_rows archive.now.numbers archive.now.reader.products) }
 {
     let breaches = archive.reader.breaches(alloc)?;
     put_breaches(rows, archive.numbers.as_slice(), breaches.as_slice())
@@ -79,7 +80,8 @@ fn put_shown_at(
     archive: &Archive,
     minute: &Minute,
 ) -> Result<(), Oom>
-    ensures { OnOk result (rows.new ≡ rows.old ++ shown_rows minute.now archive.now.reader.products) }
+    ensures { OnOk result
+        (rows.new ≡ rows.old ++ shown_rows minute.now archive.now.reader.products) }
 {
     let shown = archive.reader.shown(alloc, *minute)?;
     put_shown(rows, shown.as_slice())
@@ -92,7 +94,8 @@ fn put_all(
     archive: &Archive,
     minute: &Minute,
 ) -> Result<(), Oom>
-    ensures { OnOk result (rows.new ≡ rows.old ++ all_rows minute.now archive.now.numbers archive.now.reader.products) }
+    ensures { OnOk result (rows.new
+        ≡ rows.old ++ all_rows minute.now archive.now.numbers archive.now.reader.products) }
 {
     put_lives_of(alloc, rows, archive)?;
     put_breaches_of(alloc, rows, archive)?;
@@ -107,7 +110,8 @@ fn put_rows(
     archive: &Archive,
     question: &Question,
 ) -> Result<(), Oom>
-    ensures { OnOk result (rows.new ≡ rows.old ++ rows_for question.now archive.now.numbers archive.now.reader.products) }
+    ensures { OnOk result (rows.new
+        ≡ rows.old ++ rows_for question.now archive.now.numbers archive.now.reader.products) }
 {
     match question {
         Question::Lives => put_lives_of(alloc, rows, archive),
@@ -124,7 +128,8 @@ pub fn rows_for(
     archive: &Archive,
     question: &Question,
 ) -> Result<List<RowFields>, Oom>
-    ensures { IfOk result (λ rows. rows ≡ rows_for question.now archive.now.numbers archive.now.reader.products) }
+    ensures { IfOk result
+        (λ rows. rows ≡ rows_for question.now archive.now.numbers archive.now.reader.products) }
 {
     let mut rows = List::new(alloc);
     put_rows(alloc, &mut rows, archive, question)?;
@@ -152,7 +157,8 @@ pub extern "C" fn warn_codes_c_ask(
     rows: &mut [RowFields],
     needed: &mut usize,
 ) -> u32
-    ensures exact { Answers (answer asked.now stream.now) result rows.old rows.new needed.old needed.new }
+    ensures exact { Answers (answer asked.now stream.now) result rows.old rows.new needed.old
+        needed.new }
 {
     let Some(class) = Class::at(&[asked.class]) else {
         return BAD_ARGUMENT;

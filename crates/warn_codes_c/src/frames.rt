@@ -279,7 +279,8 @@ fn tell_frame(
     lines: &mut [LineFields],
     out: &mut FrameFields,
 ) -> u32
-    ensures { IsToldFrame answer result segments.old segments.new zones.old zones.new lines.old lines.new out.old out.new }
+    ensures { IsToldFrame answer result segments.old segments.new zones.old zones.new lines.old
+        lines.new out.old out.new }
 {
     let frame = match answer {
         Ok(frame) => frame,
@@ -319,10 +320,17 @@ pub extern "C" fn warn_codes_c_read_frame(
 ) -> u32
     // If the text has a frame it is read, and the first fault of one that has none is reported,
     // unless memory runs out.
-    ensures only { (f : FrameValue) → FrameOf text.now f → ReadsFrame (Ok f) result segments.old segments.new zones.old zones.new lines.old lines.new out.old out.new }
-    ensures fault_only { (x : FaultValue) → FrameFaultOf text.now x → ReadsFrame (Err x) result segments.old segments.new zones.old zones.new lines.old lines.new out.old out.new }
+    ensures only { (f : FrameValue) →
+        FrameOf text.now f →
+        ReadsFrame (Ok f) result segments.old segments.new zones.old zones.new lines.old lines.new
+        out.old out.new }
+    ensures fault_only { (x : FaultValue) →
+        FrameFaultOf text.now x →
+        ReadsFrame (Err x) result segments.old segments.new zones.old zones.new lines.old lines.new
+        out.old out.new }
     // The same as one function of the bytes.
-    ensures exact { ReadsFrame (frame_of text.now) result segments.old segments.new zones.old zones.new lines.old lines.new out.old out.new }
+    ensures exact { ReadsFrame (frame_of text.now) result segments.old segments.new zones.old
+        zones.new lines.old lines.new out.old out.new }
 {
     let answer = read_frame(alloc, text);
     tell_frame(alloc, answer, segments, zones, lines, out)

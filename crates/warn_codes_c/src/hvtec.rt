@@ -15,7 +15,8 @@ use hvtec_string::read_hvtec;
 #[unsafe(no_mangle)]
 pub extern "C" fn warn_codes_c_read_hvtec(text: &[u8], out: &mut FloodFields) -> u32
     // The values of each text are written, and bytes that are none change nothing.
-    ensures exact { MatchOption (hvtec_of text.now) ((result ≡ 5) × (out.new ≡ out.old)) (λ h. (result ≡ 0) × (out.new ≡ flood_fields h)) }
+    ensures exact { MatchOption (hvtec_of text.now) ((result ≡ 5) × (out.new ≡ out.old))
+        (λ h. (result ≡ 0) × (out.new ≡ flood_fields h)) }
     ensures only { (h : Values) → IsHvtec text.now h → (result ≡ 0) × (out.new ≡ flood_fields h) }
 {
     match read_hvtec(text) {

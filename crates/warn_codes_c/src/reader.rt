@@ -38,7 +38,8 @@ fn opened(archive: Box<Archive, Global>) -> ReaderFields
 /// Returns what an open reader has taken, and closes the reader. `None` if it is closed.
 #[tactic(auto, using(crate::proofs::OpenLemmas::is_some, crate::proofs::OpenLemmas::is_going_on))]
 fn taken_out(alloc: Global, reader: &mut ReaderFields) -> Option<Box<Archive, Global>>
-    ensures value { MatchOption result (taken_in reader.old ≡ None) (λ b. taken_in reader.old ≡ Some b.value) }
+    ensures value { MatchOption result (taken_in reader.old ≡ None)
+        (λ b. taken_in reader.old ≡ Some b.value) }
     ensures going { IfSome result (λ b. b.value.feed.ended ≡ false) }
     ensures closed { taken_in reader.new ≡ None }
 {
@@ -71,7 +72,8 @@ pub extern "C" fn warn_codes_c_open(
     office: &[u8; 4],
     class: u8,
 ) -> u32
-    ensures { Opens (taken_in reader.old) (value_beside class_rows (class ∷ [])) (office_at office.now) result (taken_in reader.new) }
+    ensures { Opens (taken_in reader.old) (value_beside class_rows (class ∷ []))
+        (office_at office.now) result (taken_in reader.new) }
 {
     if reader.is_open == 1 {
         return BAD_ARGUMENT;
@@ -97,7 +99,8 @@ pub extern "C" fn warn_codes_c_open(
 /// Source: docs/DECISIONS.md, "The library for C".
 #[unsafe(no_mangle)]
 pub extern "C" fn warn_codes_c_take(alloc: Global, reader: &mut ReaderFields, piece: &[u8]) -> u32
-    ensures { GoesOn (λ a b. Pushed a piece.now b) (taken_in reader.old) result (taken_in reader.new) }
+    ensures { GoesOn (λ a b. Pushed a piece.now b) (taken_in reader.old) result
+        (taken_in reader.new) }
 {
     let Some(mut archive) = taken_out(alloc, reader) else {
         return BAD_ARGUMENT;
@@ -139,7 +142,8 @@ pub extern "C" fn warn_codes_c_tell(
     rows: &mut [RowFields],
     needed: &mut usize,
 ) -> u32
-    ensures told { Answers (told_by (taken_in reader.old) (question_of question minute)) result rows.old rows.new needed.old needed.new }
+    ensures told { Answers (told_by (taken_in reader.old) (question_of question minute)) result
+        rows.old rows.new needed.old needed.new }
     ensures kept { taken_in reader.new ≡ taken_in reader.old }
 {
     let Some(question) = question_of(question, minute) else {

@@ -57,7 +57,8 @@ pub extern "C" fn warn_codes_c_split(
     spans: &mut [SpanFields],
     needed: &mut usize,
 ) -> u32
-    ensures { Splits (map span_fields (spans_of text.now)) result spans.old spans.new needed.old needed.new }
+    ensures { Splits (map span_fields (spans_of text.now)) result spans.old spans.new needed.old
+        needed.new }
 {
     let Ok(rows) = spans_in(alloc, text) else {
         return NO_MEMORY;

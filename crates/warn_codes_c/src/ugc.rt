@@ -135,8 +135,12 @@ pub extern "C" fn warn_codes_c_read_ugc(
 ) -> u32
     // What is in the grammar is read, and the first fault of what is not is reported, unless memory
     // runs out.
-    ensures only { (zs : Seq Place) (d : Expiry) (n : ℕ) → IsUgc text.now zs d n → ReadsUgc (Ok (record { zones = zs; expiry = d; used = n })) result zones.old zones.new out.old out.new }
-    ensures fault_only { (f : UgcFault) → FirstFault text.now f → ReadsUgc (Err f) result zones.old zones.new out.old out.new }
+    ensures only { (zs : Seq Place) (d : Expiry) (n : ℕ) →
+        IsUgc text.now zs d n →
+        ReadsUgc (Ok (record { zones = zs; expiry = d; used = n })) result zones.old zones.new
+        out.old out.new }
+    ensures fault_only { (f : UgcFault) →
+        FirstFault text.now f → ReadsUgc (Err f) result zones.old zones.new out.old out.new }
     // The same as one function of the bytes.
     ensures exact { ReadsUgc (ugc_of text.now) result zones.old zones.new out.old out.new }
 {

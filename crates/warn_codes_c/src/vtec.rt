@@ -15,7 +15,8 @@ use vtec_string::read_vtec;
 #[unsafe(no_mangle)]
 pub extern "C" fn warn_codes_c_read_vtec(text: &[u8], out: &mut VtecFields) -> u32
     // The values of each text are written, and bytes that are none change nothing.
-    ensures exact { MatchOption (vtec_of text.now) ((result ≡ 4) × (out.new ≡ out.old)) (λ v. (result ≡ 0) × (out.new ≡ vtec_fields v)) }
+    ensures exact { MatchOption (vtec_of text.now) ((result ≡ 4) × (out.new ≡ out.old))
+        (λ v. (result ≡ 0) × (out.new ≡ vtec_fields v)) }
     ensures only { (v : Values) → IsVtec text.now v → (result ≡ 0) × (out.new ≡ vtec_fields v) }
 {
     match read_vtec(text) {

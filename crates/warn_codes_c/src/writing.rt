@@ -143,8 +143,10 @@ fn flood_of(fields: &FloodFields) -> Option<Flood>
 /// Returns the text whose values have these fields, if there is one.
 #[tactic(auto, using(crate::proofs::Fitting::vtec_back, crate::proofs::Fitting::vtec_hit, crate::proofs::Fitting::vtec_may))]
 fn vtec_text_of(fields: &VtecFields) -> Option<[u8; 48]>
-    ensures found { IfSome result (λ bytes. (v : Values) × (vtec_fields v ≡ fields.now) × IsVtec bytes v) }
-    ensures only { (bytes : Seq ℕ) (v : Values) → IsVtec bytes v → vtec_fields v ≡ fields.now → result ≡ Some bytes }
+    ensures found { IfSome result
+        (λ bytes. (v : Values) × (vtec_fields v ≡ fields.now) × IsVtec bytes v) }
+    ensures only { (bytes : Seq ℕ) (v : Values) →
+        IsVtec bytes v → vtec_fields v ≡ fields.now → result ≡ Some bytes }
 {
     match vtec_of(fields) {
         Some(v) => Some(vtec_text(&v)),
@@ -155,8 +157,10 @@ fn vtec_text_of(fields: &VtecFields) -> Option<[u8; 48]>
 /// Returns the text whose values have these fields, if there is one.
 #[tactic(auto, using(crate::proofs::Fitting::flood_back, crate::proofs::Fitting::flood_hit, crate::proofs::Fitting::flood_may))]
 fn hvtec_text_of(fields: &FloodFields) -> Option<[u8; 54]>
-    ensures found { IfSome result (λ bytes. (h : FloodValues) × (flood_fields h ≡ fields.now) × IsHvtec bytes h) }
-    ensures only { (bytes : Seq ℕ) (h : FloodValues) → IsHvtec bytes h → flood_fields h ≡ fields.now → result ≡ Some bytes }
+    ensures found { IfSome result
+        (λ bytes. (h : FloodValues) × (flood_fields h ≡ fields.now) × IsHvtec bytes h) }
+    ensures only { (bytes : Seq ℕ) (h : FloodValues) →
+        IsHvtec bytes h → flood_fields h ≡ fields.now → result ≡ Some bytes }
 {
     match flood_of(fields) {
         Some(h) => Some(hvtec_text(&h)),
@@ -173,7 +177,8 @@ pub extern "C" fn warn_codes_c_write_vtec(fields: &VtecFields, out: &mut [u8; 48
     // What is written is a text whose values have these fields.
     ensures found { result ≡ 0 → (v : Values) × (vtec_fields v ≡ fields.now) × IsVtec out.new v }
     // If there is such a text, it is written.
-    ensures only { (bytes : Seq ℕ) (v : Values) → IsVtec bytes v → vtec_fields v ≡ fields.now → (result ≡ 0) × (out.new ≡ bytes) }
+    ensures only { (bytes : Seq ℕ) (v : Values) →
+        IsVtec bytes v → vtec_fields v ≡ fields.now → (result ≡ 0) × (out.new ≡ bytes) }
     ensures refused { (result ≡ 0) ⊎ ((result ≡ 6) × (out.new ≡ out.old)) }
 {
     match vtec_text_of(fields) {
@@ -192,9 +197,11 @@ pub extern "C" fn warn_codes_c_write_vtec(fields: &VtecFields, out: &mut [u8; 48
 #[unsafe(no_mangle)]
 pub extern "C" fn warn_codes_c_write_hvtec(fields: &FloodFields, out: &mut [u8; 54]) -> u32
     // What is written is a text whose values have these fields.
-    ensures found { result ≡ 0 → (h : FloodValues) × (flood_fields h ≡ fields.now) × IsHvtec out.new h }
+    ensures found { result ≡ 0
+        → (h : FloodValues) × (flood_fields h ≡ fields.now) × IsHvtec out.new h }
     // If there is such a text, it is written.
-    ensures only { (bytes : Seq ℕ) (h : FloodValues) → IsHvtec bytes h → flood_fields h ≡ fields.now → (result ≡ 0) × (out.new ≡ bytes) }
+    ensures only { (bytes : Seq ℕ) (h : FloodValues) →
+        IsHvtec bytes h → flood_fields h ≡ fields.now → (result ≡ 0) × (out.new ≡ bytes) }
     ensures refused { (result ≡ 0) ⊎ ((result ≡ 6) × (out.new ≡ out.old)) }
 {
     match hvtec_text_of(fields) {

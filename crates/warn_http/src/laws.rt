@@ -12,21 +12,28 @@ ghost use Rattle.warn_http.specs.Calls.{Called, HasNoWholeCall, IsCall, IsRefuse
 /// are the calls of every longer stream.
 pub fn calls_stay()
     ensures call { (bytes more : List ℕ) (c : Called) → IsCall bytes c → IsCall (bytes ++ more) c }
-    ensures refused { (bytes more : List ℕ) (f : Refusal) → IsRefused bytes f → IsRefused (bytes ++ more) f }
-    ensures cut { (bytes more : List ℕ) (calls : List Called) (rest : List ℕ) → IsCut bytes calls rest → IsCut (bytes ++ more) calls (rest ++ more) }
-    ensures calls { (bytes more : List ℕ) (calls : List Called) (stop : Stop) → IsFinal stop → AreCalls bytes calls stop → AreCalls (bytes ++ more) calls stop }
+    ensures refused { (bytes more : List ℕ) (f : Refusal) →
+        IsRefused bytes f → IsRefused (bytes ++ more) f }
+    ensures cut { (bytes more : List ℕ) (calls : List Called) (rest : List ℕ) →
+        IsCut bytes calls rest → IsCut (bytes ++ more) calls (rest ++ more) }
+    ensures calls { (bytes more : List ℕ) (calls : List Called) (stop : Stop) →
+        IsFinal stop → AreCalls bytes calls stop → AreCalls (bytes ++ more) calls stop }
 {}
 
 /// The bytes of a stream have one list of calls and one end, except where a head is both bad and
 /// too long, or where they end within a target that no bytes can complete.
 pub fn calls_are_one()
     ensures call { (bytes : List ℕ) (c d : Called) → IsCall bytes c → IsCall bytes d → c ≡ d }
-    ensures calls { (bytes : List ℕ) (calls others : List Called) (stop other : Stop) → AreCalls bytes calls stop → AreCalls bytes others other → (calls ≡ others) × AreAlike stop other }
+    ensures calls { (bytes : List ℕ) (calls others : List Called) (stop other : Stop) →
+        AreCalls bytes calls stop → AreCalls bytes others other →
+        (calls ≡ others) × AreAlike stop other }
 {}
 
 /// One more call is taken from the start of the rest.
 pub fn calls_go_on()
-    ensures { (bytes : List ℕ) (calls : List Called) (rest : List ℕ) (c : Called) → IsCut bytes calls rest → IsCall rest c → c.last ≡ false → IsCut bytes (calls ++ c ∷ []) (drop c.used rest) }
+    ensures { (bytes : List ℕ) (calls : List Called) (rest : List ℕ) (c : Called) →
+        IsCut bytes calls rest → IsCall rest c → c.last ≡ false →
+        IsCut bytes (calls ++ c ∷ []) (drop c.used rest) }
 {}
 
 /// The routes that `Routes::aim_of` finds, with their numbers, are exactly the paths of the desk.
@@ -45,7 +52,8 @@ pub fn unfinished_calls_are_short()
 /// line feed comes.
 pub fn heads_end_with_a_line_feed()
     ensures empty { HasNoRequest [] }
-    ensures more { (bytes more : List ℕ) → HasNoRequest bytes → has_line_feed more ≡ false → HasNoRequest (bytes ++ more) }
+    ensures more { (bytes more : List ℕ) →
+        HasNoRequest bytes → has_line_feed more ≡ false → HasNoRequest (bytes ++ more) }
 {}
 
 /// Bytes that are unfinished, or start with no head, hold no whole call.

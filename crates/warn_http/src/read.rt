@@ -145,8 +145,13 @@ fn stated_by(front: &[u8], spans: &RequestSpans, headers: &[HeaderSpan]) -> Stat
 pub fn still_wants(bytes: &[u8]) -> Option<usize>
     ensures some { IfSome result (λ n. 0 < n) }
     ensures head { IsCutHead bytes.now → result ≡ None }
-    ensures body { (cut : IsCutBody bytes.now) → (n : ℕ) × (result ≡ Some n) × (length bytes.now + n ≡ length (print_request cut.head) + cut.wants.body) }
-    ensures fewer { IsUnfinished bytes.now → (n : ℕ) (more : List ℕ) → result ≡ Some n → length more < n → IsUnfinished (bytes.now ++ more) }
+    ensures body { (cut : IsCutBody bytes.now) →
+        (n : ℕ) × (result ≡ Some n)
+        × (length bytes.now + n ≡ length (print_request cut.head) + cut.wants.body) }
+    ensures fewer { IsUnfinished bytes.now
+        → (n : ℕ) (more : List ℕ) → result ≡ Some n
+        → length more < n
+        → IsUnfinished (bytes.now ++ more) }
 {
     let front = front_of(bytes);
     let mut headers = [EMPTY_HEADER_SPAN; MOST_FIELDS];

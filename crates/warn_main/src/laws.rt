@@ -27,8 +27,9 @@ pub fn sure_ends_tell_no_fault<D: Disk, C: Clock>()
     ensures disk { EndsWithoutDiskFault ⟦<SureDisk as Disk>⟧ C.Clock }
     ensures lines { SaysNoDiskFault ⟦<SureDisk as Disk>⟧ C.Clock }
     ensures calls { (clock : C) → ServesNoDiskFault ⟦<SureDisk as Disk>⟧ (C.gives clock) }
-    ensures input { (source next : SureSource) → EndsWithoutReadFault D.Disk C.Clock
-        (⟦<SureSource as Source>⟧.inflow source).faults (⟦<SureSource as Source>⟧.inflow next).faults }
+    ensures input { (source next : SureSource) →
+        EndsWithoutReadFault D.Disk C.Clock (⟦<SureSource as Source>⟧.inflow source).faults
+        (⟦<SureSource as Source>⟧.inflow next).faults }
     ensures output { (sink next : SureSink) → EndsWithoutWriteFault D.Disk C.Clock
         (⟦<SureSink as Sink>⟧.outflow sink).faults (⟦<SureSink as Sink>⟧.outflow next).faults }
 {}

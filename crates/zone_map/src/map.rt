@@ -43,7 +43,8 @@ fn set_among<V: Copy>(
     value: V,
     before: &mut Option<V>,
 ) -> Result<(), Oom>
-    ensures set { OnOk result (others.new.entries ≡ insert_entry by_place others.old.entries zone value) }
+    ensures set { OnOk result
+        (others.new.entries ≡ insert_entry by_place others.old.entries zone value) }
     ensures before { OnOk result (before.new ≡ lookup (is_at (by_place zone)) others.old.entries) }
     ensures sorted { IsStrictlySortedBy by_place (keys_of others.new.entries) }
 {

@@ -25,7 +25,8 @@ fn stands_at<V: Copy>(list: &[(ZoneCode, V)], place: usize, zone: &ZoneCode) -> 
 /// Returns the index of a zone's entry. `near` is a guess.
 fn place_of<V: Copy>(list: &[(ZoneCode, V)], near: usize, zone: &ZoneCode) -> Option<usize>
     requires { IsStrictlySortedBy by_place (keys_of list.now) }
-    ensures { MatchOption result (lookup (is_at (by_place zone.now)) list.now ≡ None) (λ place. stands_at list.now place zone.now ≡ true) }
+    ensures { MatchOption result (lookup (is_at (by_place zone.now)) list.now ≡ None)
+        (λ place. stands_at list.now place zone.now ≡ true) }
 {
     if stands_at(list, near, zone) {
         return Some(near);
@@ -103,7 +104,8 @@ pub fn set_at<V: Copy>(
     requires sorted { IsStrictlySortedBy by_place (keys_of list.old.items) }
     requires seat { is_seat list.old.items seat zone.now ≡ true }
     requires within { seat ≤ length list.old.items }
-    ensures set { OnOk result (list.new.items ≡ insert_entry by_place list.old.items zone.now value) }
+    ensures set { OnOk result
+        (list.new.items ≡ insert_entry by_place list.old.items zone.now value) }
     ensures before { OnOk result (before.new ≡ lookup (is_at (by_place zone.now)) list.old.items) }
     ensures sorted { IsStrictlySortedBy by_place (keys_of list.new.items) }
 {
