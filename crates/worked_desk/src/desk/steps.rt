@@ -68,7 +68,7 @@ pub enum Step<'a> {
     Pick(u64),
     /// Runs a command.
     Run(Command),
-    /// Runs a sweep over each of this many first calls of a disk.
+    /// Runs a sweep over the first calls of a disk, this many.
     Sweep(Tried, u8),
     /// Runs over each beginning of what is cut.
     Cuts(Cutting),

@@ -18,7 +18,7 @@ const MINUTE: i64 = 9_471_810;
 pub struct Given {
     /// The largest number of bytes that a read returns.
     pub piece: usize,
-    /// The most bytes of the input.
+    /// The largest number of bytes of the input.
     pub limit: usize,
     /// The numbers of the reads that fail.
     pub bad_reads: List<u64>,

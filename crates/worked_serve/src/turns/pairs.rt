@@ -1,4 +1,4 @@
-//! Two threads over one list of numbers.
+//! Two threads that add to one list of numbers.
 ghost use Rattle.std.specs.Prelude.{◌≡◌, ◌+◌, [], length, IfSome};
 ghost use Rattle.turn_lock.specs.Passes.{KeepsRights};
 ghost use Rattle.turn_lock.specs.Story.{StandAt, IsOfTwo};
@@ -30,7 +30,8 @@ impl Storied for Numbers {
     }
 }
 
-/// Adds a number at the end, and answers the list's label; `None`, with the list as it was, for want of memory.
+/// A job that adds a number at the end and returns the list's label. `None`, with the list
+/// unchanged, if memory runs out.
 #[derive(Drop)]
 struct Push {
     number: u64,
@@ -53,7 +54,7 @@ impl Job<Numbers> for Push {
     }
 }
 
-/// Adds the numbers, each in a turn of its own, and gives the pass back; `None` where memory ran out.
+/// Adds the numbers, each in a turn of its own, and returns the pass, or `None` if memory runs out.
 fn add_each<R: Wait>(
     rt: &R,
     lock: &TurnLock<Numbers>,
@@ -75,7 +76,7 @@ fn add_each<R: Wait>(
     Some(pass)
 }
 
-/// What two threads add to one empty list, each its own numbers; `None` where memory ran out.
+/// Returns the list to which two threads add, each its own numbers, or `None` if memory runs out.
 fn add_side_by_side<R: Threads + Wait + Sync>(
     rt: &R,
     alloc: Global,
@@ -113,7 +114,7 @@ fn add_side_by_side<R: Threads + Wait + Sync>(
     Some(whole.close(ours_pass))
 }
 
-/// The place behind the number, where the number stands at this place; 1000 where it does not.
+/// Returns the place after this one if the number is at it, else 1000.
 fn behind(numbers: &[u64], place: usize, number: u64) -> usize {
     match numbers.get(place) {
         Some(next) => {
@@ -127,7 +128,8 @@ fn behind(numbers: &[u64], place: usize, number: u64) -> usize {
     }
 }
 
-/// Whether the numbers are those of both threads, those of each in their order. Ours are at most 100.
+/// Whether the numbers are those of both threads, each thread's in its order. Ours are at most 100,
+/// theirs are greater.
 fn are_in_order(numbers: &[u64], ours: &[u64], theirs: &[u64]) -> bool {
     let mut our_place = 0;
     let mut their_place = 0;
@@ -141,8 +143,12 @@ fn are_in_order(numbers: &[u64], ours: &[u64], theirs: &[u64]) -> bool {
     our_place == ours.len() && their_place == theirs.len()
 }
 
-/// How many numbers two threads add to one list, a hundred each, and whether those of each stand in
-/// their order.
+/// Returns how many numbers two threads add to one list, a hundred each, and whether each thread's
+/// are in its order.
+///
+/// # Errors
+///
+/// Out of memory.
 pub fn work_side_by_side<R: Threads + Wait + Sync>(
     rt: &R,
     alloc: Global,
