@@ -78,7 +78,8 @@ fn have_names(settings: &Settings, zones: &[Zone]) -> bool
 #[tactic(auto, using(crate::proofs::Fitting::all_some))]
 fn are_named(settings: &Settings, class: Class, zones: &[Zone]) -> bool
     requires { IsStrictlySortedBy by_place (keys_of settings.now.zones) }
-    ensures { IsTrue result → is_training class ≡ false → All (λ z. IsSome (name_beside settings.now.zones z)) zones.now }
+    ensures { IsTrue result → is_training class ≡ false →
+        All (λ z. IsSome (name_beside settings.now.zones z)) zones.now }
 {
     match class {
         Class::T => true,

@@ -52,9 +52,15 @@ impl Model for Day {
 
     ghost Value = { Standing };
 
-    ghost view = { λ d. record { rows = d.board.rows; counts = d.numbers.counts; products = d.products; last = d.last } };
+    ghost view = { λ d. record {
+      rows = d.board.rows;
+      counts = d.numbers.counts;
+      products = d.products;
+      last = d.last;
+    } };
 
-    ghost invariant = { λ d. Stands d.board.rows d.numbers.counts d.last × IsStrictlySortedBy by_key d.board.rows × AllByRecursion HasApart d.products };
+    ghost invariant = { λ d. Stands d.board.rows d.numbers.counts d.last
+        × IsStrictlySortedBy by_key d.board.rows × AllByRecursion HasApart d.products };
 }
 
 /// Returns the number of the product after `before` others, at most 4,294,967,295.
@@ -130,10 +136,14 @@ impl Day {
     /// - `OutOfMemory`.
     pub fn plan(&self, alloc: Global, draft: &Draft, t: Minute) -> Result<Plan, Or<Refusal>>
         requires { MaySend draft.now.category draft.now.intents self.now.last t }
-        ensures plan { IfOk result (λ plan. IsPlan draft.now.category self.now.rows t (placed self.now.counts t draft.now.intents) plan) }
+        ensures plan { IfOk result (λ plan. IsPlan draft.now.category self.now.rows t
+            (placed self.now.counts t draft.now.intents) plan) }
         ensures written { IfOk result (λ plan. AllByRecursion CanBeWritten plan.segments) }
-        ensures kept { OnOk result (broken draft.now.category self.now.rows t (placed self.now.counts t draft.now.intents) ≡ None) }
-        ensures refused { (r : Refused) → result ≡ Err (No r) → broken draft.now.category self.now.rows t (placed self.now.counts t draft.now.intents) ≡ Some r }
+        ensures kept { OnOk result (broken draft.now.category self.now.rows t
+            (placed self.now.counts t draft.now.intents) ≡ None) }
+        ensures refused { (r : Refused) → result ≡ Err (No r) →
+            broken draft.now.category self.now.rows t
+            (placed self.now.counts t draft.now.intents) ≡ Some r }
     {
         what_stands_stands_later();
         lines_have_four_digits();
@@ -153,14 +163,20 @@ impl Day {
     /// - `OutOfMemory`.
     pub fn send(&mut self, alloc: Global, draft: &Draft, t: Minute) -> Result<Plan, Or<Refusal>>
         requires { MaySend draft.now.category draft.now.intents self.old.last t }
-        ensures plan { IfOk result (λ plan. IsPlan draft.now.category self.old.rows t (placed self.old.counts t draft.now.intents) plan) }
+        ensures plan { IfOk result (λ plan. IsPlan draft.now.category self.old.rows t
+            (placed self.old.counts t draft.now.intents) plan) }
         ensures written { IfOk result (λ plan. AllByRecursion CanBeWritten plan.segments) }
         ensures rows { IfOk result (λ plan. self.new.rows ≡ rows_after self.old.rows t plan.lines) }
-        ensures counts { OnOk result (DrawsAll self.old.counts self.new.counts (opened (placed self.old.counts t draft.now.intents))) }
-        ensures products { IfOk result (λ plan. self.new.products ≡ self.old.products ++ sent_of (length self.old.products) plan t None ∷ []) }
+        ensures counts { OnOk result (DrawsAll self.old.counts self.new.counts
+            (opened (placed self.old.counts t draft.now.intents))) }
+        ensures products { IfOk result (λ plan. self.new.products ≡
+            self.old.products ++ sent_of (length self.old.products) plan t None ∷ []) }
         ensures last { OnOk result (self.new.last ≡ t) }
-        ensures kept { OnOk result (broken draft.now.category self.old.rows t (placed self.old.counts t draft.now.intents) ≡ None) }
-        ensures refused { (r : Refused) → result ≡ Err (No r) → broken draft.now.category self.old.rows t (placed self.old.counts t draft.now.intents) ≡ Some r }
+        ensures kept { OnOk result (broken draft.now.category self.old.rows t
+            (placed self.old.counts t draft.now.intents) ≡ None) }
+        ensures refused { (r : Refused) → result ≡ Err (No r) →
+            broken draft.now.category self.old.rows t
+            (placed self.old.counts t draft.now.intents) ≡ Some r }
         ensures unchanged { OnErr result (self.new ≡ self.old) }
     {
         what_stands_stands_later();
@@ -200,14 +216,23 @@ impl Day {
         requires place { place < length self.old.products }
         requires later { self.old.last ≤ t }
         requires soon { t ≤ 52000000 }
-        ensures plan { IfOk result (λ plan. (s : AnySent) → IsAt self.old.products place s → IsCorrection self.old.rows t s (letters_of self.old.products (original_of s)) texts.now plan) }
+        ensures plan { IfOk result (λ plan. (s : AnySent) → IsAt self.old.products place s →
+            IsCorrection self.old.rows t s (letters_of self.old.products (original_of s))
+            texts.now plan) }
         ensures written { IfOk result (λ plan. AllByRecursion CanBeWritten plan.segments) }
         ensures rows { IfOk result (λ plan. self.new.rows ≡ rows_after self.old.rows t plan.lines) }
         ensures counts { OnOk result (self.new.counts ≡ self.old.counts) }
-        ensures products { IfOk result (λ plan. (s : AnySent) → IsAt self.old.products place s → self.new.products ≡ self.old.products ++ sent_of (length self.old.products) plan t (Some (original_of s)) ∷ []) }
+        ensures products { IfOk result (λ plan. (s : AnySent) → IsAt self.old.products place s →
+            self.new.products ≡ self.old.products
+            ++ sent_of (length self.old.products) plan t (Some (original_of s)) ∷ []) }
         ensures last { OnOk result (self.new.last ≡ t) }
-        ensures kept { OnOk result ((s : AnySent) → IsAt self.old.products place s → broken_correction self.old.rows t s (last_of self.old.products s.category) (letters_of self.old.products (original_of s)) texts.now ≡ None) }
-        ensures refused { (r : Refused) → result ≡ Err (No r) → (s : AnySent) → IsAt self.old.products place s → broken_correction self.old.rows t s (last_of self.old.products s.category) (letters_of self.old.products (original_of s)) texts.now ≡ Some r }
+        ensures kept { OnOk result ((s : AnySent) → IsAt self.old.products place s →
+            broken_correction self.old.rows t s (last_of self.old.products s.category)
+            (letters_of self.old.products (original_of s)) texts.now ≡ None) }
+        ensures refused { (r : Refused) → result ≡ Err (No r) →
+            (s : AnySent) → IsAt self.old.products place s →
+            broken_correction self.old.rows t s (last_of self.old.products s.category)
+            (letters_of self.old.products (original_of s)) texts.now ≡ Some r }
         ensures unchanged { OnErr result (self.new ≡ self.old) }
     {
         what_stands_stands_later();

@@ -21,7 +21,10 @@ pub struct Script {
 /// Returns the life or the breach of a line that is alone in its product at minute `t`, or `None`
 /// for a routine line.
 fn stepped(rows: &[Row], t: Minute, line: &Line) -> Option<Result<Life, Breach>>
-    ensures { result ≡ (if is_routine line.now.action then None else Some (step (life_at rows.now line.now) line.now t (around_but_higher rows.now t line.now (not (may_yield line.now.event.hazard) || is_overlapped rows.now t (row_at rows.now line.now.event line.now.zone))))) }
+    ensures { result ≡ (if is_routine line.now.action then None
+        else Some (step (life_at rows.now line.now) line.now t
+        (around_but_higher rows.now t line.now (not (may_yield line.now.event.hazard)
+        || is_overlapped rows.now t (row_at rows.now line.now.event line.now.zone))))) }
 {
     if is_routine(&line.action) {
         return None;

@@ -21,7 +21,8 @@ impl<R: Clock> Job<Entries> for Hold<'_, R> {
 
     ghost may_run = { λ _. Unit {0} };
 
-    ghost meets = { λ job base before after answer. OnOk answer (after ≡ before ++ Entry.Held ∷ []) };
+    ghost meets = { λ job base before after answer.
+        OnOk answer (after ≡ before ++ Entry.Held ∷ []) };
 
     fn run(self, value: &mut Entries) -> Result<(), Oom> {
         let Hold { rt, begun, time } = self;
@@ -43,7 +44,8 @@ impl Job<Entries> for Add {
 
     ghost may_run = { λ _. Unit {0} };
 
-    ghost meets = { λ job base before after answer. OnOk answer (after ≡ before ++ Entry.Waited ∷ []) };
+    ghost meets = { λ job base before after answer.
+        OnOk answer (after ≡ before ++ Entry.Waited ∷ []) };
 
     fn run(self, value: &mut Entries) -> Result<(), Oom> {
         value.add(Entry::Waited)

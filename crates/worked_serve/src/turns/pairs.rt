@@ -44,7 +44,8 @@ impl Job<Numbers> for Push {
 
     ghost may_run = { λ _. Unit {0} };
 
-    ghost meets = { λ job base before after answer. MatchOption answer (after ≡ before) (λ label. (label ≡ base) × (after ≡ before ++ job.number ∷ [])) };
+    ghost meets = { λ job base before after answer. MatchOption answer (after ≡ before)
+        (λ label. (label ≡ base) × (after ≡ before ++ job.number ∷ [])) };
 
     fn run(self, value: &mut Numbers) -> Option<u64> {
         match value.items.push(self.number) {
@@ -65,7 +66,8 @@ fn add_each<R: Wait>(
     requires fresh { pass.mine ≡ [] }
     ensures kept { IfSome result (λ after. KeepsRights pass after) }
     ensures added { IfSome result (λ after. StandAt after.seen after.mine numbers.now) }
-    ensures alone { IfSome result (λ after. pass.shares ≡ 1024 → length after.seen ≡ length pass.seen + length numbers.now) }
+    ensures alone { IfSome result (λ after. pass.shares ≡ 1024 →
+        length after.seen ≡ length pass.seen + length numbers.now) }
 {
     for number in numbers {
         match lock.turn(rt, &mut pass, Push { number: *number }) {
@@ -101,11 +103,13 @@ fn add_side_by_side<R: Threads + Wait + Sync>(
         rt,
         || -> Option<Pass<Numbers>>
             requires { (pass.lock ≡ lock.now) × (pass.mine ≡ []) }
-            ensures { IfSome result (λ after. KeepsRights pass after × StandAt after.seen after.mine ours.entry.now) }
+            ensures { IfSome result
+                (λ after. KeepsRights pass after × StandAt after.seen after.mine ours.entry.now) }
         { add_each(rt, lock, pass, ours) },
         || -> Option<Pass<Numbers>>
             requires { (other.lock ≡ lock.now) × (other.mine ≡ []) }
-            ensures { IfSome result (λ after. KeepsRights other after × StandAt after.seen after.mine theirs.entry.now) }
+            ensures { IfSome result (λ after. KeepsRights other after
+                × StandAt after.seen after.mine theirs.entry.now) }
         { add_each(rt, lock, other, theirs) },
     );
     let mut ours_pass = ours_done?;
