@@ -34,7 +34,8 @@ impl Named {
     }
 }
 
-/// Returns the refusals of an HTTP call, of a request's text and of a request's number.
+/// Returns the refusals of an HTTP call, and those of a request that concern its text, its desk,
+/// its number or the clock.
 fn of_calls(alloc: Global, field: Text) -> Result<Vec<Refusal>, Oom> {
     let last = 4_294_967_295;
     let refusals = vec![in alloc;

@@ -61,8 +61,8 @@ impl Rows {
 }
 
 /// Runs each line of standard input and prints what its script returns, until the first error; a
-/// line that sets the kind is printed unchanged. The serving over threads needs more than the
-/// method of a trait has, so `work_lines` is of no use here.
+/// line that sets the kind is printed unchanged. Serving over threads is no method of `Work`, so
+/// `work_lines` is of no use here.
 fn run<
     R: AllocGlobal
         + Input
@@ -95,7 +95,7 @@ fn run<
     Ok(())
 }
 
-/// Runs standard input. Returns `FAILURE` at the first error.
+/// Runs the script on standard input. Returns `FAILURE` at the first error.
 fn main(rt: HostRuntime) -> ExitCode {
     match run(&rt) {
         Ok(()) => ExitCode::SUCCESS,

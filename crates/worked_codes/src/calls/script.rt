@@ -8,7 +8,7 @@ use warn_http::{
 };
 use worked_lines::{Work, refusal_named};
 
-/// Returns what a call asks for, in words; of a body its range of bytes.
+/// Returns in words what a call asks for; a post has the range of bytes of its body.
 fn call_text(alloc: Global, call: Call) -> Result<String, AllocError> {
     match call {
         Call::Post(span) => {

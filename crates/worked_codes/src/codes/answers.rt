@@ -64,7 +64,7 @@ pub fn bytes_of(alloc: Global, text: &str) -> Result<Text, Oom> {
     Ok(out)
 }
 
-/// Returns the number of bytes that a UGC string has, its zones, and the string written from them
+/// Returns the number of bytes that a UGC string takes, its zones, and the string written from them
 /// and the expiry, or its fault with the place of the byte.
 fn ugc_answer(alloc: Global, text: &str) -> Result<String, Oom> {
     let bytes = bytes_of(alloc, text)?;

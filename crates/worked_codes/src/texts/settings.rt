@@ -126,10 +126,12 @@ pub fn heading_answer(out: &mut String, alloc: Global, code: &str, text: &[u8]) 
     Ok(())
 }
 
+/// Appends an office's code.
 fn push_office(out: &mut String, office: [u8; 4]) -> Result<(), AllocError> {
     out.push_str(text_of(&office))
 }
 
+/// Appends a blank and a site's code.
 fn push_site(out: &mut String, site: [u8; 3]) -> Result<(), AllocError> {
     out.push(' ')?;
     out.push_str(text_of(&site))

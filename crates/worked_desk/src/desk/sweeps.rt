@@ -252,7 +252,7 @@ fn second_answers_are_good(answers: &str, wanted: &str) -> bool {
 }
 
 /// Whether an input with each line twice has the answers and products of a run without faults, or a
-/// fault ended the opening of the office.
+/// fault of the disk ended the run.
 fn lines_survive(
     alloc: Global,
     wanted: &Wanted<'_>,

@@ -62,7 +62,7 @@ fn is_beginning(text: &[u8], line: &[u8], whole: &[u8]) -> bool {
 }
 
 /// Counts the runs with these words over copies of a disk, with each of the first `calls` calls
-/// failing in turn. Call 0 never comes, so the run to compare with has no fault.
+/// failing in turn. Each is compared with a run without a fault.
 ///
 /// # Errors
 ///

@@ -7,7 +7,8 @@ use hazard_types::Oom;
 use journal_core::{AdoptFault, AppendFault, CreateFault, Journal, Packet};
 use std::alloc::Global;
 
-/// Returns the body of a record, or `None` if the word is no bytes or more than 65,536.
+/// Returns the body of a record, or `None` if the word cannot be read as bytes or has more than
+/// 65,536.
 fn packet_of(alloc: Global, word: &str) -> Result<Option<Packet>, Oom> {
     match bytes_of(alloc, word)? {
         Some(bytes) if bytes.len() <= 65_536 => Ok(Some(Packet::new(alloc, bytes.as_slice())?)),

@@ -52,12 +52,7 @@ impl Model for Day {
 
     ghost Value = { Standing };
 
-    ghost view = { λ d. record {
-      rows = d.board.rows;
-      counts = d.numbers.counts;
-      products = d.products;
-      last = d.last;
-    } };
+    ghost view = { λ d. record { rows = d.board.rows; counts = d.numbers.counts; products = d.products; last = d.last } };
 
     ghost invariant = { λ d. Stands d.board.rows d.numbers.counts d.last
         × IsStrictlySortedBy by_key d.board.rows × AllByRecursion HasApart d.products };
@@ -128,7 +123,7 @@ impl Day {
         self.products.len()
     }
 
-    /// Returns the plan of a draft that is sent at minute `t`.
+    /// Returns the plan of a draft, as sent at minute `t`.
     ///
     /// # Errors
     ///

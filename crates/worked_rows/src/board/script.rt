@@ -147,7 +147,7 @@ fn brief_draft(
 }
 
 /// Opens `count` events of a hazard, in drafts an hour apart from minute `from` on, and returns how
-/// many were opened before the first refusal.
+/// many were opened before the first draft that is not sent.
 fn fill(
     alloc: Global,
     day: &mut Day,

@@ -48,7 +48,7 @@ fn corrects(number: u32, sent: &Sent) -> bool
     is_number(number, &sent.original)
 }
 
-/// Returns the number of corrections that the product with this number has, at most 24.
+/// Returns the number of corrections that the product with this number has, or 24 if it has more.
 pub fn letters_of(products: &[Sent], number: u32) -> u8
     ensures value { result ≡ letters_of products.now number }
     ensures range { result ≤ 24 }

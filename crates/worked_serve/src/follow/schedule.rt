@@ -40,7 +40,8 @@ impl World {
     }
 
     /// Delivers the answer to the question after a place, and returns what the follower did with
-    /// it; `nothing` if the question was not asked, or the office has no such text.
+    /// it; `nothing` if the question was not asked, the office has no such text, or the follower
+    /// has `MOST` texts.
     fn deliver(&mut self, alloc: Global, after: u32) -> Result<&'static str, Oom> {
         let place = self.follower.place();
         if !self.asked.as_slice().contains(&after) || place < after || MOST <= place {

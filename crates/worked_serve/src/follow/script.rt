@@ -136,7 +136,8 @@ impl<'a, R: Wait> Script<'a, R> {
     }
 
     /// Follows the served office: the link has its answers to the questions after the first `COUNT`
-    /// places. Returns `None` if the words are not `COUNT WORDS`, or there is no office.
+    /// places, at most 100,000. Returns `None` if the words are not `COUNT WORDS`, or there is no
+    /// office.
     fn meet(&mut self, alloc: Global, line: &str) -> Result<Option<String>, Oom> {
         let Some((count, words)) = line.split_once(' ') else {
             return Ok(None);

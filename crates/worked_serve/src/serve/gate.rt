@@ -5,7 +5,8 @@ use std::sync::atomic::{AtomicU64, Ordering};
 /// How often a gate looks for the end of another call before it gives up.
 const MOST_LOOKS: u64 = 1_000_000_000;
 
-/// A gate that, if it holds, lets the first call enter only after another one has left.
+/// A gate that, if it holds, lets the first call enter only after another one has left, or after
+/// `MOST_LOOKS` looks.
 #[derive(Drop)]
 pub struct HoldingGate {
     holds: bool,
@@ -35,7 +36,7 @@ impl HoldingGate {
         let _ = self.spent.fetch_add(1, Ordering::SeqCst);
     }
 
-    /// Whether a call was held and no other one left.
+    /// Whether a call was held for `MOST_LOOKS` looks.
     pub fn is_spent(&self) -> bool {
         0 < self.spent.load(Ordering::SeqCst)
     }
