@@ -1,7 +1,8 @@
 //! The common parts of the row programs, which run a script of lines from standard input against
 //! the libraries: the main function, the words of a line, and an example of each refusal.
 //!
-//! A row program implements `Work` for its script and calls `work_lines`.
+//! A row program implements `Work` for its script and calls `work_lines`; `worked_serve` has a loop
+//! of its own.
 #![tactic(auto)]
 
 mod refusals;

@@ -37,7 +37,7 @@ fn headline_answer(alloc: Global, said: &Said) -> Result<Option<Text>, Oom> {
     Ok(Some(text))
 }
 
-/// Returns the lines of a list of names with commas between them.
+/// Returns the lines that `name_lines` makes of names with commas between them.
 fn names_answer(alloc: Global, rest: &str) -> Result<Text, Oom> {
     let mut names = Vec::new(alloc);
     for name in rest.split(',') {

@@ -78,7 +78,7 @@ pub enum Step<'a> {
     Unread,
 }
 
-/// Returns the number of decimal digits, or `None`.
+/// Returns the word as a decimal number, or `None`.
 fn number_of(word: &str) -> Option<u64> {
     word.parse::<u64>().ok()
 }

@@ -39,7 +39,7 @@ fn reading_of(word: &str) -> Option<i64> {
     }
 }
 
-/// Returns the number of decimal digits, or `None`.
+/// Returns the word as a decimal number, or `None`.
 fn number_of(word: &str) -> Option<u32> {
     word.parse::<u32>().ok()
 }

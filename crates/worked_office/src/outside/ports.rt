@@ -8,8 +8,8 @@ use desk_links::{Dialer, Door, Link, MemDialer, MemDoor, MemLink, MemPort, Port}
 use hazard_types::{List, Oom};
 use std::alloc::Global;
 
-/// Returns links of the bytes of words with commas between them, none of `-`. A word that is no
-/// bytes is left out.
+/// Returns a link for each word between commas, with the word's bytes, or an empty list for `-`. A
+/// word that cannot be read as bytes is left out.
 fn links_of(alloc: Global, words: &str) -> Result<List<MemLink>, Oom>
     ensures { IfOk result (All IsUntouched) }
 {
@@ -26,7 +26,7 @@ fn links_of(alloc: Global, words: &str) -> Result<List<MemLink>, Oom>
     Ok(links)
 }
 
-/// Returns lists of links, of words with `/` between them.
+/// Returns a list of links for each part between `/`.
 fn lists_of(alloc: Global, words: &str) -> Result<List<List<MemLink>>, Oom>
     ensures { IfOk result (All (λ list. All IsUntouched list)) }
 {
@@ -37,7 +37,7 @@ fn lists_of(alloc: Global, words: &str) -> Result<List<List<MemLink>>, Oom>
     Ok(lists)
 }
 
-/// Returns lists of numbers, of words with `/` between them. A word that is no list is left out.
+/// Returns a list of numbers for each part between `/`. A part that cannot be read is left out.
 fn failing_of(alloc: Global, words: &str) -> Result<List<List<u64>>, Oom> {
     let mut lists = List::new(alloc);
     for list in words.split('/') {

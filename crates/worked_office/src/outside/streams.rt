@@ -121,7 +121,7 @@ pub fn sure_sink_row(alloc: Global, calls: &str) -> Result<String, Oom> {
     write_words(alloc, &mut SureSink, calls)
 }
 
-/// Returns the readings with commas between them. A word that is not a number is left out.
+/// Returns the readings of words with commas between them. A word that is not a number is left out.
 fn readings_of(alloc: Global, words: &str) -> Result<List<i64>, Oom> {
     let mut readings = List::new(alloc);
     for word in words.split(',') {

@@ -120,7 +120,8 @@ pub fn unread(alloc: Global) -> Result<String, Oom> {
     Ok(String::from_str(alloc, "unread")?)
 }
 
-/// Returns the numbers with commas between them, none of `-`, or `None` if a word is not a number.
+/// Returns the numbers of words with commas between them, or an empty list for `-`. `None` if a
+/// word is not a number.
 ///
 /// # Errors
 ///

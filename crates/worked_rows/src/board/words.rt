@@ -50,7 +50,7 @@ pub fn hazard_of(word: &str) -> Option<Hazard> {
     hazard_in(word.as_bytes())
 }
 
-/// Returns the number of decimal digits, at most 65,535, or `None`.
+/// Returns the word as a decimal number of at most 65,535, or `None`.
 pub fn number_of(word: &str) -> Option<u16> {
     word.parse::<u16>().ok()
 }
