@@ -30,7 +30,7 @@ const MOST_PORTS: u16 = 100;
 /// The largest number of dials that are tried, and of reads.
 const MOST_TRIES: u32 = 200_000;
 
-/// Returns the port number to begin with, by the clock's nanoseconds, so that two programs hardly
+/// Returns the port number to begin with, by the clock's nanoseconds, so that two programs rarely
 /// meet.
 fn first_number<R: Clock>(rt: &R) -> u16 {
     let Ok(now) = SystemTime::now(rt) else {
