@@ -55,7 +55,6 @@ impl Work for Script<'_> {
     }
 }
 
-/// Runs the script on standard input. Returns `FAILURE` at the first error.
 fn main(rt: HostRuntime) -> ExitCode {
     let script = Script {
         rows: Rows::Office,

@@ -60,7 +60,6 @@ impl Work for Script {
     }
 }
 
-/// Runs the script on standard input. Returns `FAILURE` at the first error.
 fn main(rt: HostRuntime) -> ExitCode {
     let alloc = rt.alloc();
     let script = Script {

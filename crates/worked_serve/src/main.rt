@@ -95,7 +95,6 @@ fn run<
     Ok(())
 }
 
-/// Runs the script on standard input. Returns `FAILURE` at the first error.
 fn main(rt: HostRuntime) -> ExitCode {
     match run(&rt) {
         Ok(()) => ExitCode::SUCCESS,
