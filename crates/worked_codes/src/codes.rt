@@ -1,5 +1,5 @@
-//! Worked codes and frames: each line of the input names a reader and gives it a text, and is answered
-//! by what is read.
+//! Rows of codes and product frames: the first word of a line names a reader, the rest is a text
+//! for it, and what it reads is printed.
 
 pub mod answers;
 pub mod clocks;

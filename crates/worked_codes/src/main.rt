@@ -1,5 +1,6 @@
-//! Worked codes, texts, requests and calls, and a tour of the libraries: a script whose lines `rows of NAME` say what the
-//! lines behind them are, each answered with what it gives.
+//! A program that runs a script of codes, texts, requests and calls, and a tour of the libraries,
+//! and prints what the libraries return for each line. A line `rows of NAME` sets what kind the
+//! lines after it are; until the first such line they are codes.
 #![tactic(auto)]
 
 mod calls;
@@ -18,7 +19,7 @@ use std::alloc::Global;
 use std::process::ExitCode;
 use worked_lines::{Work, rows_named, work_lines};
 
-/// What the lines of the script are.
+/// What kind the lines are.
 #[derive(Clone, Copy)]
 enum Rows {
     Codes,
@@ -29,6 +30,7 @@ enum Rows {
 }
 
 impl Rows {
+    /// Returns the kind with this name, or `None`.
     fn of(name: &str) -> Option<Self> {
         match name {
             "codes" => Some(Rows::Codes),
@@ -41,7 +43,7 @@ impl Rows {
     }
 }
 
-/// The script, at the rows that were named last.
+/// The scripts, and the kind of the present lines.
 #[derive(Drop)]
 struct Script {
     rows: Rows,
@@ -50,7 +52,8 @@ struct Script {
 }
 
 impl Work for Script {
-    /// What comes of a line; a line that names rows is said again.
+    /// Returns what the present kind of script prints for a line. A line that sets the kind is
+    /// returned unchanged.
     fn work(&mut self, alloc: Global, line: &str) -> Result<String, Oom> {
         if let Some(rows) = rows_named(line).and_then(Rows::of) {
             self.rows = rows;

@@ -1,5 +1,5 @@
-//! Worked requests: each line of the input is a request, the name of a refusal or the name of a reply, and is answered by
-//! its text.
+//! Rows of requests: a line has the JSON of a request, or the name of a refusal, a reply or a
+//! fault, and the JSON that the libraries write is printed.
 
 pub mod bytes;
 pub mod replies;

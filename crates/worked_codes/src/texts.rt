@@ -1,4 +1,5 @@
-//! A script of settings, headlines and texts, each line answered with what it gives.
+//! Rows of settings, headlines and product texts: what the libraries return for each line is
+//! printed.
 
 pub mod answers;
 pub mod lines;

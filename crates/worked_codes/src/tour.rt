@@ -1,4 +1,5 @@
-//! A tour of the libraries, from a program that calls them: docs/LIBRARY.md shows these lines.
+//! A tour of the libraries: a program's calls of them, with what they return. docs/LIBRARY.md shows
+//! these lines.
 
 pub mod codes;
 pub mod errors;

@@ -1,5 +1,5 @@
-//! Days of a kept office: a script of settings, files, inputs, readings of the clock and faults of a disk, over which
-//! the commands of the desk run.
+//! Rows of an office: a script sets the settings, the file, an input, the readings of the clock and
+//! the faults of a disk, and then runs commands of the desk over them.
 
 pub mod answers;
 pub mod cuts;

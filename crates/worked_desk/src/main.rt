@@ -1,5 +1,6 @@
-//! Worked commands: a script whose lines `rows of NAME` say what the lines behind them are: days of a kept office, runs of the
-//! desk's program, or runs of county notices. Each line is answered with what comes of it.
+//! A program that runs a script of the commands of an office, of the desk's program, or of county
+//! notices, and prints what each wrote. A line `rows of NAME` sets what kind the lines after it
+//! are; until the first such line they are commands of an office.
 #![tactic(auto)]
 
 mod desk;
@@ -14,7 +15,7 @@ use std::alloc::Global;
 use std::process::ExitCode;
 use worked_lines::{Work, rows_named, work_lines};
 
-/// What the lines of the script are.
+/// What kind the lines are.
 #[derive(Clone, Copy)]
 enum Rows {
     Desk,
@@ -23,6 +24,7 @@ enum Rows {
 }
 
 impl Rows {
+    /// Returns the kind with this name, or `None`.
     fn of(name: &str) -> Option<Self> {
         match name {
             "desk" => Some(Rows::Desk),
@@ -33,7 +35,7 @@ impl Rows {
     }
 }
 
-/// The scripts, at the rows that were named last.
+/// The scripts, and the kind of the present lines.
 #[derive(Drop)]
 struct Script {
     rows: Rows,
@@ -43,7 +45,8 @@ struct Script {
 }
 
 impl Work for Script {
-    /// What comes of a line; a line that names rows is said again.
+    /// Returns what the present kind of script prints for a line. A line that sets the kind is
+    /// returned unchanged.
     fn work(&mut self, alloc: Global, line: &str) -> Result<String, Oom> {
         if let Some(rows) = rows_named(line).and_then(Rows::of) {
             self.rows = rows;

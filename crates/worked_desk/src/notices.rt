@@ -1,4 +1,5 @@
-//! Runs of county notices: a script of lines, limits and failing reads and writes, over which the notices are written.
+//! Rows of county notices: a script sets the lines of an input, limits, and the reads and writes
+//! that fail, and then writes the notices.
 
 pub mod lines;
 pub mod runs;

@@ -1,5 +1,5 @@
-//! Runs of the desk's program: a script of settings, inputs, limits and failing reads and writes, over which what its
-//! words ask for is done.
+//! Rows of the desk's program: a script sets an input, limits, and the reads and writes that fail,
+//! and then runs the program with some words as arguments.
 
 pub mod runs;
 pub mod script;

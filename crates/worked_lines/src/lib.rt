@@ -1,5 +1,8 @@
-//! What the programs of rows share: one main, which works the lines of standard input, the
-//! words of a line, and the refusals that rows name.
+//! The common parts of the row programs, which run a script of lines from standard input against
+//! the libraries: the main function, the words of a line, and an example of each refusal.
+//!
+//! A row program implements `Work` for its script and calls `work_lines`; `worked_serve` has a loop
+//! of its own.
 #![tactic(auto)]
 
 mod refusals;
@@ -12,18 +15,23 @@ use std::io;
 use std::process::ExitCode;
 pub use words::{numbers_of, shown, text_of, times_of, unread, words_of};
 
-/// The rows that a line begins: `rows of NAME`.
+/// Returns NAME of a line `rows of NAME`, which says what kind the lines after it are, or `None`
+/// for another line.
 pub fn rows_named(line: &str) -> Option<&str> {
     line.strip_prefix("rows of ")
 }
 
-/// What works the lines of a script, one after another.
+/// A script: it runs its lines one after another.
 pub trait Work {
-    /// Works a line, and gives what it is answered.
+    /// Runs a line and returns what to print for it.
+    ///
+    /// # Errors
+    ///
+    /// Out of memory.
     fn work(&mut self, alloc: Global, line: &str) -> Result<String, Oom>;
 }
 
-/// Why a script is not worked to its end.
+/// Why a run ends before the last line.
 #[derive(Debug, Drop)]
 enum Stop {
     Stream(io::Error),
@@ -42,6 +50,7 @@ impl From<Oom> for Stop {
     }
 }
 
+/// Runs each line of standard input and prints what `work` returns for it, until the first error.
 fn run<R: AllocGlobal + Input + Print, S: Work>(rt: &R, script: &mut S) -> Result<(), Stop> {
     let alloc = rt.alloc();
     let text = io::read_to_string(alloc, rt.reader())?;
@@ -52,7 +61,8 @@ fn run<R: AllocGlobal + Input + Print, S: Work>(rt: &R, script: &mut S) -> Resul
     Ok(())
 }
 
-/// Works each line of standard input, and prints what it is answered. The first failure ends it.
+/// Runs each line of standard input and prints what `work` returns for it. Returns `FAILURE` at the
+/// first error, in reading, printing or memory, and the lines after it do not run.
 pub fn work_lines<R: AllocGlobal + Input + Print, S: Work + Drop>(
     rt: &R,
     mut script: S,

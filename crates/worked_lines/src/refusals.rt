@@ -1,8 +1,8 @@
-//! Refusals by their names, with values.
+//! An example of each refusal, by name.
 use hazard_types::{Desk, Event, Hazard, Kind, List, Minute, Oom, Phen, Refusal, Sig, Text, Zone};
 use std::alloc::Global;
 
-/// What the refusals name.
+/// The values that the examples share.
 #[derive(Clone, Copy)]
 struct Named {
     zone: Zone,
@@ -12,6 +12,8 @@ struct Named {
 }
 
 impl Named {
+    /// Returns the shared values: zone MDZ003, hazard WS.W, desk DESK9, and minute 10 since
+    /// 2000-01-01 00:00 UTC.
     fn new() -> Option<Self> {
         let phen = Phen::new(*b"WS")?;
         Some(Named {
@@ -22,6 +24,7 @@ impl Named {
         })
     }
 
+    /// Returns the event of hazard WS.W with this event tracking number in 2018.
     fn event(&self, etn: u16) -> Event {
         Event {
             hazard: self.hazard,
@@ -31,7 +34,8 @@ impl Named {
     }
 }
 
-/// What refuses a call, a text or a number.
+/// Returns the refusals of an HTTP call, and those of a request that concern its text, its desk,
+/// its number or the clock.
 fn of_calls(alloc: Global, field: Text) -> Result<Vec<Refusal>, Oom> {
     let last = 4_294_967_295;
     let refusals = vec![in alloc;
@@ -53,7 +57,7 @@ fn of_calls(alloc: Global, field: Text) -> Result<Vec<Refusal>, Oom> {
     Ok(refusals)
 }
 
-/// What refuses a request for its draft.
+/// Returns the refusals that concern a draft or its intents.
 fn of_drafts(alloc: Global, named: &Named) -> Result<Vec<Refusal>, Oom> {
     let owner = named.owner;
     let free_at = named.free_at;
@@ -69,7 +73,8 @@ fn of_drafts(alloc: Global, named: &Named) -> Result<Vec<Refusal>, Oom> {
     Ok(refusals)
 }
 
-/// What refuses a request for what it names.
+/// Returns the refusals that concern a zone, a hazard, a category, a text or a product that a
+/// request names.
 fn of_names(alloc: Global, named: &Named, field: Text) -> Result<Vec<Refusal>, Oom> {
     let zone = named.zone;
     let long = field.clone()?;
@@ -86,7 +91,7 @@ fn of_names(alloc: Global, named: &Named, field: Text) -> Result<Vec<Refusal>, O
     Ok(refusals)
 }
 
-/// What refuses a product for its events.
+/// Returns the refusals that concern an event of a product.
 fn of_events(alloc: Global, named: &Named) -> Result<Vec<Refusal>, Oom> {
     let zone = named.zone;
     let none = named.event(1);
@@ -111,7 +116,7 @@ fn of_events(alloc: Global, named: &Named) -> Result<Vec<Refusal>, Oom> {
     Ok(refusals)
 }
 
-/// What refuses a product for all else.
+/// Returns all other refusals of a product.
 fn of_products(alloc: Global, named: &Named) -> Result<Vec<Refusal>, Oom> {
     let zone = named.zone;
     let hazard = named.hazard;
@@ -139,7 +144,7 @@ fn of_products(alloc: Global, named: &Named) -> Result<Vec<Refusal>, Oom> {
     Ok(refusals)
 }
 
-/// The one of these refusals that has this name.
+/// Returns the first refusal with this name, or `None`.
 fn named_among(refusals: Vec<Refusal>, name: &str) -> Option<Refusal> {
     for refusal in refusals {
         if refusal.label().1 == name {
@@ -149,7 +154,12 @@ fn named_among(refusals: Vec<Refusal>, name: &str) -> Option<Refusal> {
     None
 }
 
-/// The refusal of this name, if there is one. A field of a request that it names is `?`, one of a text is `what`.
+/// Returns the example of the refusal with this name, or `None` if there is no such name. The field
+/// in a `WrongShape` is `?`, the one in a `BadText` or `TextTooLong` is `what`.
+///
+/// # Errors
+///
+/// Out of memory.
 pub fn refusal_named(alloc: Global, name: &str) -> Result<Option<Refusal>, Oom> {
     let Some(named) = Named::new() else {
         return Ok(None);

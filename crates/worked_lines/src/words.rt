@@ -3,15 +3,23 @@ use hazard_types::{List, Oom, Text};
 use std::alloc::Global;
 use std::str;
 
-/// The most times that a line is repeated.
+/// The largest number of repetitions that `times_of` returns.
 const MOST_TIMES: u32 = 100_000;
 
-/// What a line is answered that can't be worked.
+/// Returns what is printed for a line that a script cannot read: `unread: LINE`, with a line end.
+///
+/// # Errors
+///
+/// Out of memory.
 pub fn unread(alloc: Global, line: &str) -> Result<String, Oom> {
     Ok(format!(in alloc; "unread: {line}\n")?)
 }
 
-/// The words of a line.
+/// Returns the words of a line, as white space separates them.
+///
+/// # Errors
+///
+/// Out of memory.
 pub fn words_of(alloc: Global, line: &str) -> Result<List<Text>, Oom> {
     let mut words = List::new(alloc);
     for word in line.split_whitespace() {
@@ -20,7 +28,11 @@ pub fn words_of(alloc: Global, line: &str) -> Result<List<Text>, Oom> {
     Ok(words)
 }
 
-/// The numbers of a line, if each of its words is one.
+/// Returns the numbers of a line, or `None` if a word is not a number of 64 bits.
+///
+/// # Errors
+///
+/// Out of memory.
 pub fn numbers_of(alloc: Global, line: &str) -> Result<Option<List<u64>>, Oom> {
     let mut numbers = List::new(alloc);
     for word in line.split_whitespace() {
@@ -32,7 +44,7 @@ pub fn numbers_of(alloc: Global, line: &str) -> Result<Option<List<u64>>, Oom> {
     Ok(Some(numbers))
 }
 
-/// How often a line is repeated, and the line: `times N LINE`, or once.
+/// Returns N, at most `MOST_TIMES`, and LINE for a line `times N LINE`, or 1 and the whole line.
 pub fn times_of(line: &str) -> (u32, &str) {
     let Some((times, repeated)) = line
         .strip_prefix("times ")
@@ -46,12 +58,16 @@ pub fn times_of(line: &str) -> (u32, &str) {
     }
 }
 
-/// Bytes as text, where they are; else `?`.
+/// Returns the bytes as text, or `?` if they are not UTF-8.
 pub fn text_of(bytes: &[u8]) -> &str {
     str::from_utf8(bytes).unwrap_or("?")
 }
 
-/// Bytes as text, with a sign in place of those that are none.
+/// Returns the bytes as text, with U+FFFD in place of what is not UTF-8.
+///
+/// # Errors
+///
+/// Out of memory.
 pub fn shown(alloc: Global, bytes: &[u8]) -> Result<String, Oom> {
     Ok(String::from_utf8_lossy(alloc, bytes)?)
 }

@@ -1,5 +1,7 @@
-//! Worked offices, and what is outside them: a script whose lines `rows of NAME` say what the lines behind them are: days of an
-//! office, or streams, disks, links and journals with their faults. Each line is answered with what comes of it.
+//! A program that runs a script of the days of an office, or of streams, clocks, disks, links and
+//! journals with their faults, and prints what the libraries return for each line. A line `rows of
+//! NAME` sets what kind the lines after it are; until the first such line they are days of an
+//! office.
 #![tactic(auto)]
 
 mod office;
@@ -12,7 +14,7 @@ use std::alloc::Global;
 use std::process::ExitCode;
 use worked_lines::{Work, rows_named, work_lines};
 
-/// What the lines of the script are.
+/// What kind the lines are.
 #[derive(Clone, Copy)]
 enum Rows {
     Office,
@@ -20,6 +22,7 @@ enum Rows {
 }
 
 impl Rows {
+    /// Returns the kind with this name, or `None`.
     fn of(name: &str) -> Option<Self> {
         match name {
             "office" => Some(Rows::Office),
@@ -29,7 +32,7 @@ impl Rows {
     }
 }
 
-/// The scripts, at the rows that were named last.
+/// The scripts, and the kind of the present lines.
 #[derive(Drop)]
 struct Script<'a> {
     rows: Rows,
@@ -38,7 +41,8 @@ struct Script<'a> {
 }
 
 impl Work for Script<'_> {
-    /// What comes of a line; a line that names rows is said again.
+    /// Returns what the present kind of script prints for a line. A line that sets the kind is
+    /// returned unchanged.
     fn work(&mut self, alloc: Global, line: &str) -> Result<String, Oom> {
         if let Some(rows) = rows_named(line).and_then(Rows::of) {
             self.rows = rows;

@@ -1,4 +1,5 @@
-//! Days of an office: a script of settings, readings of the clock, requests and looks, each line answered as the office answers it.
+//! Rows of an office: a script sets the settings and the readings of the clock, and sends requests
+//! and queries, whose replies are printed.
 
 pub mod answers;
 pub mod script;

@@ -1,5 +1,6 @@
-//! Worked outside: sources, sinks, disks, links, ports, dialers and clocks in memory, and journals
-//! over such disks, each with its faults and its calls in one line.
+//! Rows of what is outside an office: sources, sinks, disks, links, ports, dialers and clocks in
+//! memory, and journals on such disks. Each line has one of them with its faults and the calls that
+//! are made of it.
 
 pub mod disks;
 pub mod journals;

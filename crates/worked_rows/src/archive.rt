@@ -1,5 +1,5 @@
-//! Reports of archives, and statistics: a script of texts, of the pieces that they come in, of limits and of failing
-//! reads and writes, over which the archive's report or the statistics are made.
+//! Rows of archives: a script sets the bytes of an archive, the size of its pieces, a limit, and
+//! the reads and writes that fail, and then prints the archive's report or its statistics.
 
 pub mod reader;
 pub mod runs;

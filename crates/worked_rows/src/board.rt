@@ -1,4 +1,5 @@
-//! Worked days: drafts of a script, sent one after another over a board, and what becomes of each.
+//! Rows of days: a script writes drafts and sends them one after another, and the plan or refusal
+//! of each is printed.
 
 pub mod answers;
 pub mod days;

@@ -1,5 +1,6 @@
-//! Worked rows: a script whose lines `rows of NAME` say what the lines behind them are: steps of a life, days at a board,
-//! or archives and what is reported of them. Each line is answered with what comes of it.
+//! A program that runs a script of the lives of events, of drafts at a desk, or of archives, and
+//! prints what the libraries return for each line. A line `rows of NAME` sets what kind the lines
+//! after it are; until the first such line they are steps of lives.
 #![tactic(auto)]
 
 mod archive;
@@ -14,7 +15,7 @@ use std::alloc::Global;
 use std::process::ExitCode;
 use worked_lines::{Work, rows_named, work_lines};
 
-/// What the lines of the script are.
+/// What kind the lines are.
 #[derive(Clone, Copy)]
 enum Rows {
     Steps,
@@ -23,6 +24,7 @@ enum Rows {
 }
 
 impl Rows {
+    /// Returns the kind with this name, or `None`.
     fn of(name: &str) -> Option<Self> {
         match name {
             "steps" => Some(Rows::Steps),
@@ -33,7 +35,7 @@ impl Rows {
     }
 }
 
-/// The scripts, at the rows that were named last.
+/// The scripts, and the kind of the present lines.
 #[derive(Drop)]
 struct Script {
     rows: Rows,
@@ -43,7 +45,8 @@ struct Script {
 }
 
 impl Work for Script {
-    /// What comes of a line; a line that names rows is said again.
+    /// Returns what the present kind of script prints for a line. A line that sets the kind is
+    /// returned unchanged.
     fn work(&mut self, alloc: Global, line: &str) -> Result<String, Oom> {
         if let Some(rows) = rows_named(line).and_then(Rows::of) {
             self.rows = rows;

@@ -1,5 +1,5 @@
-//! Worked following: a script of answers on links and of a follower's schedules, and what a
-//! follower does with them. A served office may be the other end of a link.
+//! Rows of following: a script sets the answers that come on links, or the schedule of a follower,
+//! and what the follower does is printed. The other end of a link may be a served office.
 
 pub mod answers;
 pub mod given;

@@ -1,6 +1,6 @@
-//! Worked serving, following and turns: a script whose lines `rows of NAME` say what the lines
-//! behind them are: calls on links and what a server does with them, answers on links and what a
-//! follower does with them, or threads that take turns.
+//! A program that runs a script of calls on links and a server of them, of answers on links and a
+//! follower of them, or of threads that take turns, and prints what each did. A line `rows of NAME`
+//! sets what kind the lines after it are; until the first such line they are calls.
 #![tactic(auto)]
 
 mod follow;
@@ -21,7 +21,7 @@ use std::thread::Threads;
 use std::time::Clock;
 use worked_lines::{Work, rows_named};
 
-/// Why a script is not worked to its end.
+/// Why a run ends before the last line.
 #[derive(Debug, Drop)]
 enum Stop {
     Stream(io::Error),
@@ -40,7 +40,7 @@ impl From<Oom> for Stop {
     }
 }
 
-/// What the lines of the script are.
+/// What kind the lines are.
 #[derive(Clone, Copy)]
 enum Rows {
     Serve,
@@ -49,6 +49,7 @@ enum Rows {
 }
 
 impl Rows {
+    /// Returns the kind with this name, or `None`.
     fn of(name: &str) -> Option<Self> {
         match name {
             "serve" => Some(Rows::Serve),
@@ -59,9 +60,9 @@ impl Rows {
     }
 }
 
-/// Works each line of the input, and prints what it is answered; a line that names rows is said
-/// again. What serves over threads is no trait's method, so the main that other programs of rows
-/// share is of no use here.
+/// Runs each line of standard input and prints what its script returns, until the first error; a
+/// line that sets the kind is printed unchanged. Serving over threads is no method of `Work`, so
+/// `work_lines` is of no use here.
 fn run<
     R: AllocGlobal
         + Input

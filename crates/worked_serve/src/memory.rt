@@ -1,5 +1,5 @@
-//! Disks, links and outputs in memory, and an office over them: each call by itself, with no more
-//! clauses than those need who work a row.
+//! Disks, clocks, links and outputs in memory, and the serving of an office over them: functions of
+//! one call each, with no more clauses than a row needs.
 ghost use Rattle.std.specs.Prelude.{◌≡◌, ◌<◌, ◌≤◌, length, IfOk};
 ghost use Rattle.desk_links.specs.LinkMemory.{IsUntouched};
 ghost use Rattle.serve_command.specs.Words.{IsServing};
@@ -15,19 +15,32 @@ use std::alloc::Global;
 use std::sync::Wait;
 use std::thread::Threads;
 
-/// A disk with this file that does not fail.
+/// Returns a disk with this file and no fault.
+///
+/// # Errors
+///
+/// Out of memory.
 pub fn disk_of(alloc: Global, file: &[u8]) -> Result<MemDisk, Oom> {
     MemDisk::new(alloc, file, &List::new(alloc), None, 0)
 }
 
-/// A clock with these readings.
+/// Returns a clock with these readings, in minutes since 2000-01-01 00:00 UTC.
+///
+/// # Errors
+///
+/// Out of memory.
 pub fn clock_of(readings: &List<i64>) -> Result<SetClock, Oom>
     requires { 0 < length readings.now }
 {
     SetClock::new(readings)
 }
 
-/// A link that gives these bytes in pieces, and on which these calls fail.
+/// Returns a link that has these bytes, in pieces of at most `piece`, and on which these calls
+/// fail.
+///
+/// # Errors
+///
+/// Out of memory.
 pub fn link_of(
     alloc: Global,
     bytes: &[u8],
@@ -41,13 +54,21 @@ pub fn link_of(
     Ok(link)
 }
 
-/// An output on which these writes fail.
+/// Returns an output on which these writes fail.
+///
+/// # Errors
+///
+/// Out of memory.
 pub fn output_of(alloc: Global, failing: &List<u64>) -> Result<MemSink, Oom> {
     MemSink::new(alloc, failing)
 }
 
-/// The journal of a new office, which was made on this disk. None where that is not fresh, or the
-/// settings are not those of an office.
+/// Returns the journal of a new office that was created on this disk, or `None` if the office was
+/// not created, as on a disk that is not fresh or with settings that have a fault.
+///
+/// # Errors
+///
+/// Out of memory.
 pub fn journal_of(alloc: Global, disk: MemDisk, settings: &[u8]) -> Result<Option<Text>, Oom> {
     match created(alloc, disk, settings) {
         Some(disk) => Ok(Some(disk.file().clone()?)),
@@ -55,12 +76,20 @@ pub fn journal_of(alloc: Global, disk: MemDisk, settings: &[u8]) -> Result<Optio
     }
 }
 
-/// How many requests the office has whose journal this is. None where it is none.
+/// Returns the number of requests of the office with this journal, or `None` if it is no journal.
+///
+/// # Errors
+///
+/// Out of memory.
 pub fn requests_of(alloc: Global, journal: &[u8]) -> Result<Option<u64>, Oom> {
     Ok(requests_in(alloc, disk_of(alloc, journal)?))
 }
 
-/// Serves a link over the office that a disk holds. None where it holds none.
+/// Serves a link over the office on a disk. Returns `None` if the disk has no office.
+///
+/// # Errors
+///
+/// Out of memory.
 pub fn serve_link<R: Wait>(
     rt: &R,
     alloc: Global,
@@ -71,7 +100,7 @@ pub fn serve_link<R: Wait>(
     offices::serve_link(rt, alloc, disk, link, clock)
 }
 
-/// Serves a port over the office that a disk holds.
+/// Serves a port over the office on a disk.
 pub fn serve_port<R: Threads + Wait + Sync, P: Port, G: Gate + Sync>(
     means: &Means<'_, R, SetClock, G>,
     serving: &Serving,

@@ -1,5 +1,5 @@
-//! The calls of an office that say much of it, each by itself: of what they say no caller here
-//! needs more than these functions hand on.
+//! The calls of an office whose contracts are long: functions of one call each, with no more
+//! clauses than a caller here needs.
 ghost use Rattle.std.specs.Prelude.{◌≡◌, IfSome};
 ghost use Rattle.serve_command.specs.Words.{IsServing};
 ghost use Rattle.turn_lock.specs.Passes.{KeepsRights};
@@ -18,8 +18,8 @@ use std::thread::Threads;
 use turn_lock::{Pass, TurnLock};
 use warn_serve::{self, LinkEnd};
 
-/// The disk of a new office. None where it is not fresh, or the settings are not those of an
-/// office.
+/// Returns the disk of a new office, or `None` if the office was not created, as on a disk that is
+/// not fresh or with settings that have a fault.
 pub fn created<D: Disk + Drop>(alloc: Global, disk: D, settings: &[u8]) -> Option<D> {
     match KeptOffice::create(alloc, disk, settings) {
         Ok(kept) => Some(kept.into_disk()),
@@ -27,7 +27,7 @@ pub fn created<D: Disk + Drop>(alloc: Global, disk: D, settings: &[u8]) -> Optio
     }
 }
 
-/// The office that a disk holds. None where it holds none.
+/// Returns the office on a disk, or `None` if it has none.
 fn opened<D: Disk + Drop>(alloc: Global, disk: D) -> Option<KeptOffice<D>> {
     match KeptOffice::adopt(alloc, disk) {
         Ok(kept) => Some(kept),
@@ -35,12 +35,12 @@ fn opened<D: Disk + Drop>(alloc: Global, disk: D) -> Option<KeptOffice<D>> {
     }
 }
 
-/// How many requests the office has that a disk holds. None where it holds none.
+/// Returns the number of requests of the office on a disk, or `None` if it has none.
 pub fn requests_in<D: Disk + Drop>(alloc: Global, disk: D) -> Option<u64> {
     Some(opened(alloc, disk)?.entries())
 }
 
-/// A lock over an office, with its whole pass.
+/// Returns a lock over an office, and its whole pass, or `None` if memory runs out.
 fn started<D: Disk + Drop>(
     alloc: Global,
     kept: KeptOffice<D>,
@@ -69,7 +69,7 @@ fn served<R: Wait, D: Disk, L: Link, C: Clock>(
     warn_serve::serve_link(rt, alloc, lock, pass, link, clock, &OpenGate)
 }
 
-/// The office of a lock, by its whole pass.
+/// Returns the office of a lock.
 fn closed<D: Disk>(lock: TurnLock<SharedOffice<D>>, pass: Pass<SharedOffice<D>>) -> KeptOffice<D>
     requires lock { pass.lock ≡ lock }
     requires shares { pass.shares ≡ 1024 }
@@ -77,7 +77,8 @@ fn closed<D: Disk>(lock: TurnLock<SharedOffice<D>>, pass: Pass<SharedOffice<D>>)
     lock.close(pass).into_kept()
 }
 
-/// Serves a link over an office, and gives the office back. None where memory ran out before.
+/// Serves a link over an office, and returns the office and how the link ended. `None` if memory
+/// runs out before that.
 fn serve_one<R: Wait, D: Disk + Drop, L: Link, C: Clock>(
     rt: &R,
     alloc: Global,
@@ -90,7 +91,8 @@ fn serve_one<R: Wait, D: Disk + Drop, L: Link, C: Clock>(
     Some((closed(lock, pass), end))
 }
 
-/// How a link ended, how many requests the office then has, and its disk.
+/// What the serving of a link left: how the link ended, the number of requests of the office, and
+/// its disk.
 #[derive(Drop)]
 pub struct Left<D> {
     pub end: LinkEnd,
@@ -98,7 +100,11 @@ pub struct Left<D> {
     pub disk: D,
 }
 
-/// Serves a link over the office that a disk holds. None where it holds none.
+/// Serves a link over the office on a disk. Returns `None` if the disk has no office.
+///
+/// # Errors
+///
+/// Out of memory.
 pub fn serve_link<R: Wait, D: Disk + Drop, L: Link, C: Clock>(
     rt: &R,
     alloc: Global,
@@ -119,7 +125,7 @@ pub fn serve_link<R: Wait, D: Disk + Drop, L: Link, C: Clock>(
     }))
 }
 
-/// Serves a port over the office that a disk holds.
+/// Serves a port over the office on a disk.
 pub fn serve_port<
     R: Threads + Wait + Sync,
     K: Sink,

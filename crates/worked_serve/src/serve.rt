@@ -1,5 +1,6 @@
-//! Worked serving: a script of calls on links, and what a server over a disk in memory does with them: on one link, over
-//! the doors of a port in memory, and over a port of this machine.
+//! Rows of serving: a script sets the calls that come on links, and what a server over a disk in
+//! memory does with them is printed. It serves one link, the doors of a port in memory, or a port
+//! of this machine.
 
 pub mod answers;
 pub mod calls;

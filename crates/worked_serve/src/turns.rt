@@ -1,5 +1,6 @@
-//! Worked turns: a line of the input is how many threads wait, and for how many milliseconds another one holds the turn. It is
-//! answered by how many waited, and by how many entries there are in the end. Then two threads add a hundred numbers each to one list.
+//! Rows of turns: a line has the number of threads that wait, and the milliseconds for which
+//! another one has the turn. It prints how many waited and how many entries there are at the end.
+//! Then two threads add a hundred numbers each to one list.
 
 pub mod entries;
 pub mod jobs;

@@ -1,21 +1,26 @@
-//! Bytes as a script writes them: pieces between `|`, each repeated where it begins with a number and
-//! a `*`, with the escapes `\r`, `\n`, `\t`, `\\` and `\x` before two hex digits.
+//! Bytes as a script writes them: pieces with `|` between them. A piece that begins with a number
+//! and `*` is repeated that often. The escapes are `\r`, `\n`, `\t`, `\\`, and `\x` with two hex
+//! digits.
 use hazard_types::{List, Oom, Text};
 use std::alloc::{AllocError, Global};
 
-/// The most times that a piece is repeated.
+/// The largest number of repetitions of a piece.
 const MOST_TIMES: u32 = 100_000;
 
-/// How far an escape was read.
+/// How much of an escape has been read.
 #[derive(Clone, Copy, Debug, PartialEq, Eq)]
 enum Escape {
+    /// No escape has begun.
     Outside,
+    /// The backslash.
     Begun,
+    /// The backslash and `x`.
     Hex,
+    /// The backslash, `x`, and this digit.
     HexBehind(u8),
 }
 
-/// The value of a hex digit; 0 where it is none.
+/// Returns the value of a hex digit, `0` to `9` or `a` to `f`, and 0 for any other byte.
 fn hex_value(digit: u8) -> u8 {
     match digit {
         b'0'..=b'9' => digit - b'0',
@@ -24,12 +29,12 @@ fn hex_value(digit: u8) -> u8 {
     }
 }
 
-/// The byte of two hex digits.
+/// Returns the byte of two hex digits. A byte that is no hex digit counts as 0.
 pub fn hex_byte(high: u8, low: u8) -> u8 {
     (hex_value(high) << 4) | hex_value(low)
 }
 
-/// The byte that an escape's letter stands for.
+/// Returns the byte that a backslash and this letter write.
 fn escaped(letter: u8) -> u8 {
     match letter {
         b'r' => b'\r',
@@ -39,7 +44,7 @@ fn escaped(letter: u8) -> u8 {
     }
 }
 
-/// Adds the bytes of a piece.
+/// Appends the bytes that a piece writes.
 fn push_piece(out: &mut Text, piece: &[u8]) -> Result<(), Oom> {
     let mut escape = Escape::Outside;
     for byte in piece {
@@ -70,7 +75,7 @@ fn push_piece(out: &mut Text, piece: &[u8]) -> Result<(), Oom> {
     Ok(())
 }
 
-/// How often a piece stands, and the piece.
+/// Returns N, at most `MOST_TIMES`, and REST for a piece `N*REST`, or 1 and the whole piece.
 fn times_of(piece: &str) -> (u32, &str) {
     match piece.split_once('*') {
         Some((times, rest)) => match times.parse::<u32>() {
@@ -81,7 +86,11 @@ fn times_of(piece: &str) -> (u32, &str) {
     }
 }
 
-/// The bytes that a script's text stands for.
+/// Returns the bytes that a script's text writes.
+///
+/// # Errors
+///
+/// Out of memory.
 pub fn bytes_of(alloc: Global, text: &str) -> Result<Text, Oom> {
     let mut out = List::new(alloc);
     for piece in text.split('|') {
@@ -93,7 +102,8 @@ pub fn bytes_of(alloc: Global, text: &str) -> Result<Text, Oom> {
     Ok(out)
 }
 
-/// Adds a byte as a script writes it.
+/// Appends a byte as printed: CR, LF and backslash as their escapes, other bytes outside ASCII's
+/// printable range as `\?`.
 fn push_shown(out: &mut String, byte: u8) -> Result<(), AllocError> {
     match byte {
         b'\r' => out.push_str("\\r"),
@@ -104,7 +114,11 @@ fn push_shown(out: &mut String, byte: u8) -> Result<(), AllocError> {
     }
 }
 
-/// Bytes as a script writes them.
+/// Returns the bytes as printed, with escapes.
+///
+/// # Errors
+///
+/// Out of memory.
 pub fn shown(alloc: Global, bytes: &[u8]) -> Result<String, AllocError> {
     let mut out = String::new(alloc);
     for byte in bytes {

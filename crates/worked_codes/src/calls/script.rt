@@ -1,4 +1,5 @@
-//! The lines of a script.
+//! The lines of calls: `read BYTES` and `stream BYTES` read calls, `answer STATUS KIND LAST BODY`
+//! writes an answer, `status NAME` gives the HTTP status of a refusal.
 use crate::calls::bytes::{bytes_of, shown};
 use hazard_types::{Oom, Query, Text};
 use std::alloc::{AllocError, Global};
@@ -7,7 +8,7 @@ use warn_http::{
 };
 use worked_lines::{Work, refusal_named};
 
-/// What a call asks for.
+/// Returns in words what a call asks for; a post has the range of bytes of its body.
 fn call_text(alloc: Global, call: Call) -> Result<String, AllocError> {
     match call {
         Call::Post(span) => {
@@ -25,7 +26,7 @@ fn call_text(alloc: Global, call: Call) -> Result<String, AllocError> {
     }
 }
 
-/// What stands at the front of bytes.
+/// Returns in words what was read at the start of the bytes.
 fn read_text(alloc: Global, read: &HttpRead) -> Result<String, AllocError> {
     match read {
         HttpRead::Call { call, used, last } => {
@@ -42,7 +43,7 @@ fn read_text(alloc: Global, read: &HttpRead) -> Result<String, AllocError> {
     }
 }
 
-/// How many bytes of a call are used where others may follow it; None where the calls end.
+/// Returns how many bytes a call uses, or `None` if it is the last or no call was read.
 fn goes_on(read: &HttpRead) -> Option<usize> {
     match read {
         HttpRead::Call { used, last, .. } => { if *last { None } else { Some(*used) } }
@@ -50,7 +51,8 @@ fn goes_on(read: &HttpRead) -> Option<usize> {
     }
 }
 
-/// The calls of a stream of these bytes, and what ends them.
+/// Returns in words the calls at the start of the bytes, one after another, to the first that ends
+/// the stream. After 10,000 calls it stops, with `spent`.
 fn stream_text(alloc: Global, routes: &Routes, bytes: &[u8]) -> Result<String, AllocError> {
     let mut text = String::new(alloc);
     let mut left = bytes;
@@ -68,7 +70,8 @@ fn stream_text(alloc: Global, routes: &Routes, bytes: &[u8]) -> Result<String, A
     Ok(text)
 }
 
-/// An answer's bytes, of the words STATUS KIND LAST BODY.
+/// Returns the bytes of the answer that the words STATUS KIND LAST BODY describe, or `None` if they
+/// describe none.
 fn answer_text(alloc: Global, words: &str) -> Result<Option<Text>, Oom> {
     let Some((status, words)) = words.split_once(' ') else {
         return Ok(None);
@@ -93,13 +96,18 @@ fn answer_text(alloc: Global, words: &str) -> Result<Option<Text>, Oom> {
     Ok(Some(text))
 }
 
-/// The script, of which nothing but the routes is kept from one line to the next.
+/// The script, which keeps only the routes from line to line.
 #[derive(Drop)]
 pub struct Script {
     routes: Routes,
 }
 
 impl Script {
+    /// Returns a script with the routes of the server.
+    ///
+    /// # Errors
+    ///
+    /// Out of memory.
     pub fn new(alloc: Global) -> Result<Self, Oom> {
         let routes = Routes::new(alloc)?;
         Ok(Script { routes })
@@ -107,7 +115,7 @@ impl Script {
 }
 
 impl Work for Script {
-    /// What comes of a line.
+    /// Returns what is printed for a line; any other line is returned unchanged.
     fn work(&mut self, alloc: Global, line: &str) -> Result<String, Oom> {
         match line.split_once(' ') {
             Some(("read", text)) => {

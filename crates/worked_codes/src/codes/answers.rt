@@ -1,4 +1,4 @@
-//! Lines and their answers.
+//! The lines of codes: the readers, by name, and what is printed of their values.
 use crate::codes::clocks::{day_answer, line_answer, read_answer, short_answer};
 use crate::codes::values::{push_flood, push_flood_text, push_vtec, push_vtec_text};
 use hazard_types::{List, Oom, Or, Text, zone_text};
@@ -9,7 +9,8 @@ use ugc_codes::{UgcFault, read_ugc, write_ugc};
 use vtec_string::read_vtec;
 use worked_lines::{Work, text_of};
 
-/// What a P-VTEC text says, and the same written again.
+/// Returns the values of a P-VTEC string and the string written from them, or that the text is
+/// none.
 fn vtec_answer(alloc: Global, text: &str) -> Result<String, AllocError> {
     let mut out = String::new(alloc);
     match read_vtec(text.as_bytes()) {
@@ -22,7 +23,8 @@ fn vtec_answer(alloc: Global, text: &str) -> Result<String, AllocError> {
     Ok(out)
 }
 
-/// What an H-VTEC text says, and the same written again.
+/// Returns the values of an H-VTEC string and the string written from them, or that the text is
+/// none.
 fn hvtec_answer(alloc: Global, text: &str) -> Result<String, AllocError> {
     let mut out = String::new(alloc);
     match read_hvtec(text.as_bytes()) {
@@ -35,7 +37,12 @@ fn hvtec_answer(alloc: Global, text: &str) -> Result<String, AllocError> {
     Ok(out)
 }
 
-/// The bytes of a text in which `\n` stands for LF and `\r` for CR.
+/// Returns the bytes of a text in which `\n` is LF, `\r` is CR, and a backslash before any other
+/// byte is that byte.
+///
+/// # Errors
+///
+/// Out of memory.
 pub fn bytes_of(alloc: Global, text: &str) -> Result<Text, Oom> {
     let mut out = List::new(alloc);
     let mut marked = false;
@@ -57,7 +64,8 @@ pub fn bytes_of(alloc: Global, text: &str) -> Result<Text, Oom> {
     Ok(out)
 }
 
-/// What a UGC text says, with the bytes that it takes, and the zones and expiry written again.
+/// Returns the number of bytes that a UGC string takes, its zones, and the string written from them
+/// and the expiry, or its fault with the place of the byte.
 fn ugc_answer(alloc: Global, text: &str) -> Result<String, Oom> {
     let bytes = bytes_of(alloc, text)?;
     let mut out = String::new(alloc);
@@ -82,7 +90,7 @@ fn ugc_answer(alloc: Global, text: &str) -> Result<String, Oom> {
     Ok(out)
 }
 
-/// The texts of a pair, a line each.
+/// Appends the P-VTEC string of a pair and its H-VTEC string, if any, each on a line.
 fn push_pair(out: &mut String, pair: &Pair) -> Result<(), AllocError> {
     push_vtec_text(out, &pair.vtec)?;
     match &pair.flood {
@@ -91,7 +99,7 @@ fn push_pair(out: &mut String, pair: &Pair) -> Result<(), AllocError> {
     }
 }
 
-/// A segment's expiry and zones, on a line, and its pairs.
+/// Appends a line with a segment's expiry (day, hour, minute) and zones, and then its pairs.
 fn push_segment(out: &mut String, segment: &FrameSegment) -> Result<(), AllocError> {
     let day = segment.expiry.day;
     let hour = segment.expiry.hour;
@@ -109,7 +117,8 @@ fn push_segment(out: &mut String, segment: &FrameSegment) -> Result<(), AllocErr
     Ok(())
 }
 
-/// A frame's heading, identifier and issue minute, on a line, and its segments.
+/// Appends a line with a frame's heading, product identifier and issue time (minutes since
+/// 2000-01-01 00:00 UTC), and then its segments.
 fn push_frame(out: &mut String, frame: &Frame) -> Result<(), AllocError> {
     let ttaaii = text_of(&frame.heading.ttaaii);
     let office = text_of(&frame.heading.office);
@@ -130,6 +139,7 @@ fn push_frame(out: &mut String, frame: &Frame) -> Result<(), AllocError> {
     Ok(())
 }
 
+/// Appends the name of a fault, with the number of its line where it has one.
 fn push_fault(out: &mut String, fault: FrameFault) -> Result<(), AllocError> {
     match fault {
         FrameFault::NoHeading => out.push_str("fault NoHeading\n"),
@@ -142,7 +152,7 @@ fn push_fault(out: &mut String, fault: FrameFault) -> Result<(), AllocError> {
     }
 }
 
-/// The frame of a text, or its first fault.
+/// Returns the frame of a product's text, or its first fault.
 fn frame_answer(alloc: Global, text: &str) -> Result<String, Oom> {
     let bytes = bytes_of(alloc, text)?;
     let mut out = String::new(alloc);
@@ -154,7 +164,7 @@ fn frame_answer(alloc: Global, text: &str) -> Result<String, Oom> {
     Ok(out)
 }
 
-/// Where the products of a text stand.
+/// Returns the range of bytes of each product in a text.
 fn split_answer(alloc: Global, text: &str) -> Result<String, Oom> {
     let bytes = bytes_of(alloc, text)?;
     let spans = split_products(alloc, bytes.as_slice())?;
@@ -168,12 +178,12 @@ fn split_answer(alloc: Global, text: &str) -> Result<String, Oom> {
     Ok(out)
 }
 
-/// The readers of codes and frames, which keep nothing from one line to the next.
+/// The script of codes, which keeps nothing from line to line.
 #[derive(Drop)]
 pub struct Codes;
 
 impl Work for Codes {
-    /// What the reader that a line names takes from the line's text.
+    /// Returns what the reader that the first word names reads in the rest of the line.
     fn work(&mut self, alloc: Global, line: &str) -> Result<String, Oom> {
         let (reader, text) = line.split_once(' ').unwrap_or((line, ""));
         match reader {

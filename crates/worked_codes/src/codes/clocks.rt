@@ -1,10 +1,10 @@
-//! Local lines and day stamps.
+//! The readers of local times and day stamps.
 use desk_clock::{LocalFault, local_line, local_short, near, read_local_line, resolve_day_stamp};
 use hazard_types::{DayStamp, LocalZone, Minute, Oom, read_stamp, stamp};
 use std::alloc::{AllocError, Global};
 use worked_lines::text_of;
 
-/// The zone of a name.
+/// Returns the local zone with this name, or `None`.
 pub fn zone_of(name: &str) -> Option<LocalZone> {
     match name {
         "Atlantic" => Some(LocalZone::Atlantic),
@@ -20,7 +20,8 @@ pub fn zone_of(name: &str) -> Option<LocalZone> {
     }
 }
 
-/// A zone's name and a stamp, parted by a blank.
+/// Returns the local zone and minute of the words `ZONE STAMP`, or `None` if they are not such
+/// words.
 fn place_of(text: &str) -> Option<(LocalZone, Minute)> {
     let (name, stamp) = text.split_once(' ')?;
     let zone = zone_of(name)?;
@@ -28,7 +29,11 @@ fn place_of(text: &str) -> Option<(LocalZone, Minute)> {
     Some((zone, minute))
 }
 
-/// The local line of a zone at a stamp, and the stamp that it reads as.
+/// Returns the local time line of a zone at a stamp, as a product has it.
+///
+/// # Errors
+///
+/// Out of memory.
 pub fn line_answer(alloc: Global, text: &str) -> Result<String, Oom> {
     let mut out = String::new(alloc);
     match place_of(text) {
@@ -42,7 +47,11 @@ pub fn line_answer(alloc: Global, text: &str) -> Result<String, Oom> {
     Ok(out)
 }
 
-/// The same without the year.
+/// Returns the local time of a zone at a stamp, without the year.
+///
+/// # Errors
+///
+/// Out of memory.
 pub fn short_answer(alloc: Global, text: &str) -> Result<String, Oom> {
     let mut out = String::new(alloc);
     match place_of(text) {
@@ -56,7 +65,11 @@ pub fn short_answer(alloc: Global, text: &str) -> Result<String, Oom> {
     Ok(out)
 }
 
-/// The stamp of the minute that a local line reads as, or its fault.
+/// Returns the stamp of the minute that a local time line has, or the line's fault.
+///
+/// # Errors
+///
+/// Out of memory.
 pub fn read_answer(alloc: Global, text: &str) -> Result<String, AllocError> {
     let mut out = String::new(alloc);
     match read_local_line(text.as_bytes()) {
@@ -71,7 +84,8 @@ pub fn read_answer(alloc: Global, text: &str) -> Result<String, AllocError> {
     Ok(out)
 }
 
-/// A stamp, and a day, an hour and a minute, parted by blanks.
+/// Returns the minute and day stamp of the words `STAMP DAY HOUR MINUTE`, or `None` if they are not
+/// such words.
 fn asked_of(text: &str) -> Option<(Minute, DayStamp)> {
     let mut words = text.split(' ');
     let issue = read_stamp(words.next()?.as_bytes())?;
@@ -81,7 +95,12 @@ fn asked_of(text: &str) -> Option<(Minute, DayStamp)> {
     Some((issue, DayStamp { day, hour, minute }))
 }
 
-/// The first minute at or after another with a day stamp, and whether the two are near.
+/// Returns the first minute at or after an issue time that has a day stamp, as a stamp, or `none`.
+/// Then comes whether the day stamp is near the issue time.
+///
+/// # Errors
+///
+/// Out of memory.
 pub fn day_answer(alloc: Global, text: &str) -> Result<String, AllocError> {
     let mut out = String::new(alloc);
     let Some((issue, day)) = asked_of(text) else {

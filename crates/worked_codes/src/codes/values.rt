@@ -1,10 +1,12 @@
-//! Values as they were read, and the codes written again. Times stand as minutes, the zero time as a hyphen.
+//! The values of P-VTEC and H-VTEC strings, as printed. A time is minutes since 2000-01-01 00:00
+//! UTC; a time of zeros is a hyphen.
 use hazard_types::{Flood, Minute, Vtec, is_location, is_office};
 use hvtec_string::hvtec_text;
 use std::alloc::AllocError;
 use vtec_string::vtec_text;
 use worked_lines::text_of;
 
+/// Appends a blank and a time.
 fn push_time(out: &mut String, time: Option<Minute>) -> Result<(), AllocError> {
     match time {
         Some(minute) => {
@@ -15,7 +17,11 @@ fn push_time(out: &mut String, time: Option<Minute>) -> Result<(), AllocError> {
     }
 }
 
-/// The values of a P-VTEC text, on a line.
+/// Appends the values of a P-VTEC string, on a line.
+///
+/// # Errors
+///
+/// Out of memory.
 pub fn push_vtec(out: &mut String, v: &Vtec) -> Result<(), AllocError> {
     let class = v.class;
     let action = v.action;
@@ -30,7 +36,11 @@ pub fn push_vtec(out: &mut String, v: &Vtec) -> Result<(), AllocError> {
     out.push('\n')
 }
 
-/// The values of an H-VTEC text, on a line.
+/// Appends the values of an H-VTEC string, on a line.
+///
+/// # Errors
+///
+/// Out of memory.
 pub fn push_flood(out: &mut String, h: &Flood) -> Result<(), AllocError> {
     let site = text_of(&h.site);
     let severity = h.severity;
@@ -44,7 +54,12 @@ pub fn push_flood(out: &mut String, h: &Flood) -> Result<(), AllocError> {
     writeln!(out, " {status:?}")
 }
 
-/// The P-VTEC text of values, on a line.
+/// Appends the P-VTEC string of these values, on a line, or that they have none: their office is
+/// not an office's code, or their event tracking number has more than four digits.
+///
+/// # Errors
+///
+/// Out of memory.
 pub fn push_vtec_text(out: &mut String, v: &Vtec) -> Result<(), AllocError> {
     if !is_office(&v.office) || v.etn > 9999 {
         return out.push_str("no values of a P-VTEC text\n");
@@ -54,7 +69,12 @@ pub fn push_vtec_text(out: &mut String, v: &Vtec) -> Result<(), AllocError> {
     out.push('\n')
 }
 
-/// The H-VTEC text of values, on a line.
+/// Appends the H-VTEC string of these values, on a line, or that they have none: their site is not
+/// a location's code.
+///
+/// # Errors
+///
+/// Out of memory.
 pub fn push_flood_text(out: &mut String, h: &Flood) -> Result<(), AllocError> {
     if !is_location(&h.site) {
         return out.push_str("no values of an H-VTEC text\n");

@@ -3,15 +3,22 @@ use crate::calls::bytes::hex_byte;
 use hazard_types::{List, Oom, Text};
 use std::alloc::Global;
 
-/// How far an escape was read.
+/// How much of an escape has been read.
 #[derive(Clone, Copy, Debug, PartialEq, Eq)]
 enum Escape {
+    /// No escape has begun.
     Outside,
+    /// The `~`.
     Begun,
+    /// The `~`, and this digit.
     Behind(u8),
 }
 
-/// The bytes that a script's text stands for.
+/// Returns the bytes that a script's text writes.
+///
+/// # Errors
+///
+/// Out of memory.
 pub fn bytes_of(alloc: Global, text: &str) -> Result<Text, Oom> {
     let mut out = List::new(alloc);
     let mut escape = Escape::Outside;
@@ -35,7 +42,11 @@ pub fn bytes_of(alloc: Global, text: &str) -> Result<Text, Oom> {
     Ok(out)
 }
 
-/// An array in an array, as deep as this.
+/// Returns the JSON of empty arrays, one in another, `depth` deep.
+///
+/// # Errors
+///
+/// Out of memory.
 pub fn nested(alloc: Global, depth: u8) -> Result<Text, Oom> {
     let mut out = List::new(alloc);
     for _ in 0..depth {

@@ -1,10 +1,11 @@
-//! Replies and drafts by their names, with values.
+//! Examples of replies, by name, and of drafts.
 use hazard_types::{
     Category, Desk, Draft, Event, Hazard, Intent, List, Minute, Oom, Phen, Reply, Request,
     SentReply, Sig, Word, read_stamp,
 };
 use std::alloc::Global;
 
+/// Returns the event of hazard WS.W with this event tracking number in 2018.
 fn event(etn: u16) -> Option<Event> {
     let phen = Phen::new(*b"WS")?;
     let hazard = Hazard { phen, sig: Sig::W };
@@ -15,6 +16,7 @@ fn event(etn: u16) -> Option<Event> {
     })
 }
 
+/// Returns the reply to a send whose product opens events 1 to `count`.
 fn sent(alloc: Global, count: u16) -> Result<Option<Reply>, Oom> {
     let Some(time) = read_stamp(b"180103T1530Z") else {
         return Ok(None);
@@ -33,7 +35,11 @@ fn sent(alloc: Global, count: u16) -> Result<Option<Reply>, Oom> {
     })))
 }
 
-/// The reply of this name.
+/// Returns the example of the reply with this name, or `None` if there is no such name.
+///
+/// # Errors
+///
+/// Out of memory.
 pub fn reply_named(alloc: Global, name: &str) -> Result<Option<Reply>, Oom> {
     let reply = match name {
         "open" => Reply::Draft(Word::Begun, 1),
@@ -49,7 +55,7 @@ pub fn reply_named(alloc: Global, name: &str) -> Result<Option<Reply>, Oom> {
     Ok(Some(reply))
 }
 
-/// What a request puts into a draft.
+/// Returns the intent that a request puts into a draft, or `None` if it puts none.
 fn intent_of(request: Request) -> Option<Intent> {
     match request {
         Request::Issue(part) => Some(Intent::Put(part)),
@@ -61,7 +67,11 @@ fn intent_of(request: Request) -> Option<Intent> {
     }
 }
 
-/// A draft of a desk with what a request puts into it.
+/// Returns a WSW draft of a desk, with the intent of a request, if it has one.
+///
+/// # Errors
+///
+/// Out of memory.
 pub fn draft_with(
     alloc: Global,
     owner: Desk,

@@ -1,4 +1,4 @@
-//! The lines of a script.
+//! The lines of requests. Each returns a JSON text, but `words`, whose text is for people.
 use crate::requests::bytes::{bytes_of, nested};
 use crate::requests::replies::{draft_with, reply_named};
 use hazard_types::{Desk, List, Minute, Oom, Or, Request, Text};
@@ -9,7 +9,7 @@ use request_json::{
 use std::alloc::Global;
 use worked_lines::{Work, refusal_named, shown};
 
-/// The canonical text of a request, or the text of its refusal.
+/// Returns the canonical text of a request, or the text of its refusal.
 fn read(alloc: Global, bytes: &[u8]) -> Result<Text, Oom> {
     match read_request(alloc, bytes) {
         Ok(asked) => request_text(alloc, &asked),
@@ -18,7 +18,8 @@ fn read(alloc: Global, bytes: &[u8]) -> Result<Text, Oom> {
     }
 }
 
-/// A training line's canonical text as an issue of a desk, or the text of its refusal.
+/// Returns the canonical text of the issue that a training line describes, as desk A's first
+/// request, or the text of the line's refusal.
 fn train(alloc: Global, bytes: &[u8]) -> Result<Text, Oom> {
     match read_training_issue(alloc, bytes) {
         Ok(part) => match Desk::new(b"A") {
@@ -37,7 +38,7 @@ fn train(alloc: Global, bytes: &[u8]) -> Result<Text, Oom> {
     }
 }
 
-/// The text of a draft into which a request was put.
+/// Returns the text of a draft with the intent of a request, or the text of the request's refusal.
 fn draft(alloc: Global, bytes: &[u8]) -> Result<Text, Oom> {
     match read_request(alloc, bytes) {
         Ok(asked) => {
@@ -52,6 +53,7 @@ fn draft(alloc: Global, bytes: &[u8]) -> Result<Text, Oom> {
     }
 }
 
+/// Returns the text of the refusal with this name; empty if there is none.
 fn refused(alloc: Global, name: &str) -> Result<Text, Oom> {
     match refusal_named(alloc, name)? {
         Some(refusal) => refusal_text(alloc, &refusal),
@@ -59,7 +61,7 @@ fn refused(alloc: Global, name: &str) -> Result<Text, Oom> {
     }
 }
 
-/// The words for people of the refusal of a name.
+/// Returns the words for people of the refusal with this name; empty if there is none.
 fn worded(alloc: Global, name: &str) -> Result<Text, Oom> {
     match refusal_named(alloc, name)? {
         Some(refusal) => {
@@ -70,6 +72,7 @@ fn worded(alloc: Global, name: &str) -> Result<Text, Oom> {
     }
 }
 
+/// Returns the text of the reply with this name; empty if there is none.
 fn replied(alloc: Global, name: &str) -> Result<Text, Oom> {
     match reply_named(alloc, name)? {
         Some(reply) => reply_text(alloc, &reply),
@@ -77,7 +80,7 @@ fn replied(alloc: Global, name: &str) -> Result<Text, Oom> {
     }
 }
 
-/// What comes of a line; a line that is none of these is given back.
+/// Returns what is printed for a line, without a line end; any other line is returned unchanged.
 fn answer(alloc: Global, line: &str) -> Result<Text, Oom> {
     match line.split_once(' ') {
         Some(("read", text)) => {
@@ -105,12 +108,12 @@ fn answer(alloc: Global, line: &str) -> Result<Text, Oom> {
     }
 }
 
-/// The script, of which nothing is kept from one line to the next.
+/// The script, which keeps nothing from line to line.
 #[derive(Drop)]
 pub struct Script;
 
 impl Work for Script {
-    /// What comes of a line, as a line.
+    /// Returns what is printed for a line.
     fn work(&mut self, alloc: Global, line: &str) -> Result<String, Oom> {
         let text = answer(alloc, line)?;
         let mut told = shown(alloc, text.as_slice())?;

@@ -1,4 +1,4 @@
-//! What a line of the script is answered.
+//! The lines of texts and settings, by their first words.
 use crate::codes::answers::bytes_of;
 use crate::texts::lines::{Said, read_line};
 use crate::texts::products::product_answer;
@@ -11,10 +11,11 @@ use headline_text::{headline, name_lines, when_bullet, wrapped};
 use std::alloc::Global;
 use worked_lines::{Work, text_of};
 
-/// The answer to a line that is none of the script's.
+/// What is printed for a line that the script cannot read.
 const UNREAD: &str = "unread";
 
-/// What stands before the first blank, and what stands after it.
+/// Returns what comes before the first blank, and what comes after it, which is empty if there is
+/// no blank.
 pub fn parted(line: &str) -> (&str, &str) {
     match line.split_once(' ') {
         Some((front, rest)) => (front, rest),
@@ -22,7 +23,8 @@ pub fn parted(line: &str) -> (&str, &str) {
     }
 }
 
-/// The headline of a line, where it has a name, and an end if it expires.
+/// Returns the headline of a segment's line, or `None` if its hazard has no name, or it is an EXP
+/// line until further notice.
 fn headline_answer(alloc: Global, said: &Said) -> Result<Option<Text>, Oom> {
     let hazard = said.line.event.hazard;
     if name_of(hazard).is_none() {
@@ -35,6 +37,7 @@ fn headline_answer(alloc: Global, said: &Said) -> Result<Option<Text>, Oom> {
     Ok(Some(text))
 }
 
+/// Returns the lines that `name_lines` makes of names with commas between them.
 fn names_answer(alloc: Global, rest: &str) -> Result<Text, Oom> {
     let mut names = Vec::new(alloc);
     for name in rest.split(',') {
@@ -43,7 +46,7 @@ fn names_answer(alloc: Global, rest: &str) -> Result<Text, Oom> {
     name_lines(alloc, names.as_slice())
 }
 
-/// Adds the answer to a line of texts.
+/// Appends what is printed for a line of texts.
 fn push_text(out: &mut String, alloc: Global, command: &str, rest: &str) -> Result<(), Oom> {
     let text = match command {
         "wrap" => Some(wrapped(alloc, rest.as_bytes())?),
@@ -65,7 +68,8 @@ fn push_text(out: &mut String, alloc: Global, command: &str, rest: &str) -> Resu
     Ok(())
 }
 
-/// Adds the answer to a line of settings.
+/// Appends what is printed for a line of settings or of a product, and returns whether the line is
+/// one.
 fn push_settings(out: &mut String, alloc: Global, command: &str, rest: &str) -> Result<bool, Oom> {
     let (word, more) = parted(rest);
     match command {
@@ -82,12 +86,12 @@ fn push_settings(out: &mut String, alloc: Global, command: &str, rest: &str) -> 
     Ok(true)
 }
 
-/// The writers of texts, which keep nothing from one line to the next.
+/// The script of texts, which keeps nothing from line to line.
 #[derive(Drop)]
 pub struct Texts;
 
 impl Work for Texts {
-    /// The answer to a line, with LF behind it.
+    /// Returns what is printed for a line.
     fn work(&mut self, alloc: Global, line: &str) -> Result<String, Oom> {
         let mut out = String::new(alloc);
         let (command, rest) = parted(line);

@@ -1,13 +1,13 @@
-//! The lines of segments that a script says.
+//! Lines of segments as a script writes them.
 use crate::codes::clocks::zone_of;
 use hazard_types::{
     Action, End, Event, LocalZone, Minute, SegLine, actions, event_in, find, hazard_in, read_stamp,
 };
 
-/// What is printed of a begin that has passed, and of an end that is not set.
+/// A begin that has passed, or an end until further notice.
 const ZEROS: &str = "000000T0000Z";
 
-/// A line of a segment, the zone of the office and the minute of the product.
+/// A line of a segment, with the local zone and the minute of its product.
 #[derive(Clone, Copy, Debug)]
 pub struct Said {
     pub line: SegLine,
@@ -15,10 +15,12 @@ pub struct Said {
     pub t: Minute,
 }
 
+/// Returns the minute of a stamp, or `None` if the word is no stamp.
 fn minute_of(word: &str) -> Option<Minute> {
     read_stamp(word.as_bytes())
 }
 
+/// Returns the begin, or `None` if the word is no stamp and not zeros.
 fn begin_of(word: &str) -> Option<Option<Minute>> {
     if word == ZEROS {
         return Some(None);
@@ -26,6 +28,7 @@ fn begin_of(word: &str) -> Option<Option<Minute>> {
     minute_of(word).map(Some)
 }
 
+/// Returns the end, or `None` if the word is no stamp and not zeros.
 fn end_of(word: &str) -> Option<End> {
     if word == ZEROS {
         return Some(End::Ufn);
@@ -33,6 +36,7 @@ fn end_of(word: &str) -> Option<End> {
     minute_of(word).map(End::At)
 }
 
+/// Returns a line without flood values.
 fn line_of(action: Action, event: Event, begin: Option<Minute>, end: End) -> SegLine {
     SegLine {
         action,
@@ -43,7 +47,7 @@ fn line_of(action: Action, event: Event, begin: Option<Minute>, end: End) -> Seg
     }
 }
 
-/// The event of a routine line, which has the number 0.
+/// Returns the event of a routine line, whose event tracking number is 0, or `None`.
 fn routine_of(word: &str) -> Option<Event> {
     let (hazard, year) = word.split_once(".0000.")?;
     let hazard = hazard_in(hazard.as_bytes())?;
@@ -55,6 +59,7 @@ fn routine_of(word: &str) -> Option<Event> {
     })
 }
 
+/// Returns the event of a word, as `WS.W.0001.2018`, or `None`.
 fn event_of(word: &str) -> Option<Event> {
     match event_in(word.as_bytes()) {
         Some(event) => Some(event),
@@ -62,7 +67,8 @@ fn event_of(word: &str) -> Option<Event> {
     }
 }
 
-/// Action, event, begin, end, zone and minute, with blanks between them.
+/// Returns the line of the words `ACTION EVENT BEGIN END ZONE STAMP`, or `None` if they are not
+/// such words.
 pub fn read_line(words: &str) -> Option<Said> {
     let mut words = words.split_whitespace();
     let action = find(&actions(), words.next()?.as_bytes())?;

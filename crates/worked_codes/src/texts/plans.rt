@@ -1,4 +1,4 @@
-//! Plans of one segment with one line, and whether they can be texts.
+//! Plans of one segment with one line, and the test that a product text can be written of them.
 ghost use Rattle.std.specs.Prelude.{◌≡◌, ◌≤◌, IsTrue, IsSome, IfOk, false, is_some};
 ghost use Rattle.std.specs.List.{All, list_all};
 ghost use Rattle.std.specs.List.Sorted.{IsStrictlySortedBy};
@@ -21,6 +21,7 @@ use hazard_types::{
 };
 use std::alloc::Global;
 
+/// Whether the site of the flood values, if any, is a location's code.
 fn has_location(flood: &Option<Flood>) -> bool
     ensures { IsTrue result → HasLocation flood.now }
 {
@@ -30,7 +31,7 @@ fn has_location(flood: &Option<Flood>) -> bool
     }
 }
 
-/// Whether the end of a line that expires is a minute.
+/// Whether the line's end is a minute, or its action is not EXP.
 fn has_expiry(line: &SegLine) -> bool
     ensures { IsTrue result → line.now.action ≡ action.Exp → IsTrue (is_minute line.now.end) }
 {
@@ -40,6 +41,8 @@ fn has_expiry(line: &SegLine) -> bool
     }
 }
 
+/// Whether a product text can have the line: the hazard is known, a flood has a location, an EXP
+/// line has an end, and the event tracking number has at most four digits.
 fn is_sayable(line: &SegLine) -> bool
     ensures { IsTrue result → CanBeSaid line.now }
 {
@@ -49,6 +52,7 @@ fn is_sayable(line: &SegLine) -> bool
     known && placed && ending && line.event.etn <= 9999
 }
 
+/// Whether the settings have a name for a zone.
 fn has_name(settings: &Settings, zone: &Zone) -> bool
     requires { IsStrictlySortedBy by_place (keys_of settings.now.zones) }
     ensures { result ≡ is_some (name_beside settings.now.zones zone.now) }
@@ -56,7 +60,7 @@ fn has_name(settings: &Settings, zone: &Zone) -> bool
     settings.zone_name(zone).is_some()
 }
 
-/// Whether each zone has a name.
+/// Whether the settings have a name for each zone.
 fn have_names(settings: &Settings, zones: &[Zone]) -> bool
     requires { IsStrictlySortedBy by_place (keys_of settings.now.zones) }
     ensures { result ≡ list_all (λ z. is_some (name_beside settings.now.zones z)) zones.now }
@@ -69,11 +73,13 @@ fn have_names(settings: &Settings, zones: &[Zone]) -> bool
     true
 }
 
-/// Whether each zone has a name, or none is written.
+/// Whether the settings have a name for each zone, or the class is T, whose texts have no names of
+/// zones.
 #[tactic(auto, using(crate::proofs::Fitting::all_some))]
 fn are_named(settings: &Settings, class: Class, zones: &[Zone]) -> bool
     requires { IsStrictlySortedBy by_place (keys_of settings.now.zones) }
-    ensures { IsTrue result → is_training class ≡ false → All (λ z. IsSome (name_beside settings.now.zones z)) zones.now }
+    ensures { IsTrue result → is_training class ≡ false →
+        All (λ z. IsSome (name_beside settings.now.zones z)) zones.now }
 {
     match class {
         Class::T => true,
@@ -81,12 +87,14 @@ fn are_named(settings: &Settings, class: Class, zones: &[Zone]) -> bool
     }
 }
 
+/// Whether all bytes are printable.
 fn are_printable(text: &[u8]) -> bool
     ensures { result ≡ list_all is_printable text.now }
 {
     text.iter().all(|byte| is_printable(*byte))
 }
 
+/// Whether all bytes of the texts are printable.
 fn print(texts: &Texts) -> bool
     ensures what { IsTrue result → IsTrue (list_all is_printable texts.now.what) }
     ensures area { IsTrue result → IsTrue (list_all is_printable texts.now.area) }
@@ -100,6 +108,7 @@ fn print(texts: &Texts) -> bool
     what && area && impacts && details
 }
 
+/// Whether a correction's letter, if any, is A-Z.
 fn is_letter(letter: &Option<u8>) -> bool
     ensures { IsTrue result → IsLetter letter.now }
 {
@@ -109,7 +118,7 @@ fn is_letter(letter: &Option<u8>) -> bool
     }
 }
 
-/// Whether a product text can be written of these.
+/// Whether a product text can be written of these values, at a minute `t` of at most 52,000,000.
 pub fn fits(
     settings: &Settings,
     class: Class,
@@ -129,7 +138,11 @@ pub fn fits(
     said && named && printable && capital && t.get() <= 52_000_000
 }
 
-/// The plan of one segment with one line.
+/// Returns the plan of one segment with one line and its texts.
+///
+/// # Errors
+///
+/// Out of memory.
 pub fn plan_of(
     alloc: Global,
     category: Category,

@@ -20,18 +20,23 @@ use std::alloc::Global;
 use ugc_codes::read_ugc;
 use worked_lines::text_of;
 
-/// What a script asks of a product: whether its text is written or its length alone, how often it is made before, its edition, class, category and letter, and its line.
+/// What a line asks for.
 #[derive(Clone, Copy, Debug)]
 struct Asked {
+    /// Whether the text is printed, and not its length.
     whole: bool,
+    /// How often the text is made before it is printed.
     before: usize,
     edition: Edition,
     class: Class,
     category: Category,
+    /// The letter of a correction.
     letter: Option<u8>,
+    /// The segment's line.
     said: Said,
 }
 
+/// Returns the edition of the product text with this name, or `None`.
 fn edition_of(word: &str) -> Option<Edition> {
     match word {
         "One" => Some(Edition::One),
@@ -40,7 +45,9 @@ fn edition_of(word: &str) -> Option<Edition> {
     }
 }
 
-/// `text`, `length` or how often the text is made before its length is told, edition, class, category, the letter or `-`, the H-VTEC text or `-`, and the line.
+/// Returns what the words `FORM EDITION CLASS CATEGORY LETTER H-VTEC LINE` ask for, or `None` if
+/// they are not such words. FORM is `text`, `length`, or how often the text is made before its
+/// length is printed; LETTER and H-VTEC may be `-`.
 fn read_asked(words: &str) -> Option<Asked> {
     let (form, rest) = parted(words);
     let (edition, rest) = parted(rest);
@@ -64,7 +71,7 @@ fn read_asked(words: &str) -> Option<Asked> {
     })
 }
 
-/// How often the words of a forecaster's text stand, and the words: `N*words`, or once.
+/// Returns N and WORDS for a text `N*WORDS`, or 1 and the whole text.
 fn times_of(written: &str) -> (usize, &str) {
     match written.split_once('*') {
         Some((count, words)) => (count.parse::<usize>().unwrap_or(0), words),
@@ -72,7 +79,7 @@ fn times_of(written: &str) -> (usize, &str) {
     }
 }
 
-/// A forecaster's text.
+/// Returns a forecaster's text: the words, N times.
 fn repeated(alloc: Global, written: &str) -> Result<Text, Oom> {
     let mut text = Text::new(alloc);
     let (count, words) = times_of(written);
@@ -82,6 +89,7 @@ fn repeated(alloc: Global, written: &str) -> Result<Text, Oom> {
     Ok(text)
 }
 
+/// Appends a refusal: `TooLong` with the number of bytes, or `refused`.
 fn put_refusal(out: &mut String, alloc: Global, refusal: &Refusal) -> Result<(), Oom> {
     match refusal {
         Refusal::TooLong { bytes } => {
@@ -93,7 +101,7 @@ fn put_refusal(out: &mut String, alloc: Global, refusal: &Refusal) -> Result<(),
     Ok(())
 }
 
-/// Makes the text of a plan again and again.
+/// Makes the text of a plan `before` times, and drops each.
 fn make_texts(
     alloc: Global,
     settings: &Settings,
@@ -113,7 +121,7 @@ fn make_texts(
     Ok(())
 }
 
-/// Adds the text of a plan, its length, or that it is too long.
+/// Appends the text of a plan, or its length in bytes, or that it is too long.
 fn put_product(
     out: &mut String,
     alloc: Global,
@@ -139,6 +147,7 @@ fn put_product(
     Ok(())
 }
 
+/// Appends the product in these zones, or `unfit` if no product text can be written of it.
 fn put_fitting(
     out: &mut String,
     alloc: Global,
@@ -170,6 +179,7 @@ fn put_fitting(
     put_product(out, alloc, settings, asked, &plan, t)
 }
 
+/// Appends the product in the zones of a UGC string, or `unread` if the text is none.
 fn put_in_zones(
     out: &mut String,
     alloc: Global,
@@ -190,7 +200,7 @@ fn put_in_zones(
     }
 }
 
-/// The settings of a training, where the text is an office's code.
+/// Returns the training settings of an office, or `None` if the text is not an office's code.
 fn training_of(alloc: Global, office: &str) -> Result<Option<Settings>, Oom>
     ensures { IfOk result (λ found. IfSome found HasForms) }
 {
@@ -205,7 +215,7 @@ fn training_of(alloc: Global, office: &str) -> Result<Option<Settings>, Oom>
     Ok(Some(settings))
 }
 
-/// The settings that a text is.
+/// Returns the settings of a file's text, or `None` if it has a fault.
 fn settings_of(alloc: Global, text: &[u8]) -> Result<Option<Settings>, Oom>
     ensures { IfOk result (λ found. IfSome found HasForms) }
 {
@@ -216,7 +226,8 @@ fn settings_of(alloc: Global, text: &[u8]) -> Result<Option<Settings>, Oom>
     }
 }
 
-/// The settings of a script: an office's code in training, else a file's text.
+/// Returns the settings that a script's text gives: in class T by an office's code, else as a
+/// file's text.
 fn settings_for(alloc: Global, class: Class, written: &str) -> Result<Option<Settings>, Oom>
     ensures { IfOk result (λ found. IfSome found HasForms) }
 {
@@ -229,7 +240,11 @@ fn settings_for(alloc: Global, class: Class, written: &str) -> Result<Option<Set
     }
 }
 
-/// Adds the product of one segment: what is asked, the zones as UGC, four texts and the settings, with `|` between them.
+/// Appends the product of a line `ASKED|UGC|WHAT|AREA|IMPACTS|DETAILS|SETTINGS`, or `unread`.
+///
+/// # Errors
+///
+/// Out of memory.
 pub fn product_answer(out: &mut String, alloc: Global, rest: &str) -> Result<(), Oom> {
     let mut parts = rest.split('|');
     let words = parts.next().unwrap_or("");

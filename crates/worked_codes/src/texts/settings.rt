@@ -1,4 +1,4 @@
-//! Settings of a script, and what they are answered.
+//! Settings as a script writes them, and what is printed of them.
 use crate::codes::answers::bytes_of;
 use desk_settings::{Settings, SettingsFault, read_settings, training_settings};
 use hazard_types::{
@@ -7,7 +7,11 @@ use hazard_types::{
 use std::alloc::{AllocError, Global};
 use worked_lines::text_of;
 
-/// The text with a comment behind it, so that it has this many bytes.
+/// Returns the bytes of a text, with a comment at the end that brings them to `count` bytes.
+///
+/// # Errors
+///
+/// Out of memory.
 pub fn filled(alloc: Global, count: &str, written: &str) -> Result<Text, Oom> {
     let mut text = bytes_of(alloc, written)?;
     text.push(b'#')?;
@@ -18,7 +22,11 @@ pub fn filled(alloc: Global, count: &str, written: &str) -> Result<Text, Oom> {
     Ok(text)
 }
 
-/// The text with this many zones behind it.
+/// Returns the bytes of a text, with a table of `count` named zones at the end.
+///
+/// # Errors
+///
+/// Out of memory.
 pub fn with_zones(alloc: Global, count: &str, written: &str) -> Result<Text, Oom> {
     let mut text = bytes_of(alloc, written)?;
     text.extend(b"[zones]\n")?;
@@ -33,7 +41,7 @@ pub fn with_zones(alloc: Global, count: &str, written: &str) -> Result<Text, Oom
     Ok(text)
 }
 
-/// Adds a fault, with its key where it has one.
+/// Appends a fault, with its key if it has one.
 fn push_fault(out: &mut String, fault: &SettingsFault) -> Result<(), AllocError> {
     match fault {
         SettingsFault::NotToml => out.push_str("NotToml"),
@@ -53,7 +61,11 @@ fn push_fault(out: &mut String, fault: &SettingsFault) -> Result<(), AllocError>
     }
 }
 
-/// Adds `accepted`, or the fault of settings.
+/// Appends `accepted`, or the first fault of a text of settings.
+///
+/// # Errors
+///
+/// Out of memory.
 pub fn settings_answer(out: &mut String, alloc: Global, text: &[u8]) -> Result<(), Oom> {
     match read_settings(alloc, text) {
         Ok(_settings) => out.push_str("accepted")?,
@@ -63,7 +75,11 @@ pub fn settings_answer(out: &mut String, alloc: Global, text: &[u8]) -> Result<(
     Ok(())
 }
 
-/// Adds the name of a zone of settings, or `none`.
+/// Appends the name that settings have for a zone, or `none`.
+///
+/// # Errors
+///
+/// Out of memory.
 pub fn zone_answer(out: &mut String, alloc: Global, code: &str, text: &[u8]) -> Result<(), Oom> {
     match (zone_in(code.as_bytes()), read_settings(alloc, text)) {
         (Some(zone), Ok(settings)) => match settings.zone_name(&zone) {
@@ -75,7 +91,11 @@ pub fn zone_answer(out: &mut String, alloc: Global, code: &str, text: &[u8]) -> 
     Ok(())
 }
 
-/// Adds whether settings have a desk.
+/// Appends whether settings have a desk, as `yes` or `no`.
+///
+/// # Errors
+///
+/// Out of memory.
 pub fn desk_answer(out: &mut String, alloc: Global, name: &str, text: &[u8]) -> Result<(), Oom> {
     match (Desk::new(name.as_bytes()), read_settings(alloc, text)) {
         (Some(desk), Ok(settings)) => {
@@ -90,7 +110,11 @@ pub fn desk_answer(out: &mut String, alloc: Global, name: &str, text: &[u8]) -> 
     Ok(())
 }
 
-/// Adds what the headings of a category begin with.
+/// Appends the first six characters of the headings of a category's products.
+///
+/// # Errors
+///
+/// Out of memory.
 pub fn heading_answer(out: &mut String, alloc: Global, code: &str, text: &[u8]) -> Result<(), Oom> {
     match (
         find(&categories(), code.as_bytes()),
@@ -102,16 +126,19 @@ pub fn heading_answer(out: &mut String, alloc: Global, code: &str, text: &[u8]) 
     Ok(())
 }
 
+/// Appends an office's code.
 fn push_office(out: &mut String, office: [u8; 4]) -> Result<(), AllocError> {
     out.push_str(text_of(&office))
 }
 
+/// Appends a blank and a site's code.
 fn push_site(out: &mut String, site: [u8; 3]) -> Result<(), AllocError> {
     out.push(' ')?;
     out.push_str(text_of(&site))
 }
 
-/// Adds the settings of training: office, site, office line, desks, the heading of the first category, and how many zones have names.
+/// Appends the values of training settings: office, site, desks, the heading of WSW, the number of
+/// zones with a name, and the office line.
 fn push_training(out: &mut String, alloc: Global, settings: &Settings) -> Result<(), Oom> {
     push_office(out, settings.office)?;
     push_site(out, settings.site)?;
@@ -128,7 +155,12 @@ fn push_training(out: &mut String, alloc: Global, settings: &Settings) -> Result
     Ok(())
 }
 
-/// Adds the settings of training of an office.
+/// Appends the values of an office's training settings, or `unread` if the text is not an office's
+/// code.
+///
+/// # Errors
+///
+/// Out of memory.
 pub fn training_answer(out: &mut String, alloc: Global, office: &str) -> Result<(), Oom> {
     let [a, b, c, d] = office.as_bytes() else {
         out.push_str("unread")?;

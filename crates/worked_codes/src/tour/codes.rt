@@ -1,11 +1,12 @@
-//! The codes of a product's lines, read and written.
+//! UGC and P-VTEC strings, read and written.
 use hazard_types::{Action, Oom, Or, Text};
 use std::alloc::{AllocError, Global};
 use ugc_codes::{UgcFault, read_ugc, write_ugc};
 use vtec_string::{read_vtec, vtec_text};
 use worked_lines::text_of;
 
-/// The P-VTEC text that says that the event of another one goes on. None for bytes that are no P-VTEC text.
+/// Returns the P-VTEC string that continues (CON) the event of another one, or `None` if the bytes
+/// are not one.
 fn continuation(text: &[u8]) -> Option<[u8; 48]> {
     let mut vtec = read_vtec(text)?;
     vtec.action = Action::Con;
@@ -13,13 +14,14 @@ fn continuation(text: &[u8]) -> Option<[u8; 48]> {
     Some(vtec_text(&vtec))
 }
 
-/// A UGC text as this desk writes it, or the first fault of the bytes.
+/// Returns a UGC string as this desk writes it, or the first fault of the bytes.
 fn desk_form(alloc: Global, text: &[u8]) -> Result<Text, Or<UgcFault>> {
     let read = read_ugc(alloc, text)?;
     let written = write_ugc(alloc, &read.zones, read.expiry)?;
     Ok(written)
 }
 
+/// Appends the continuation of a P-VTEC string, or `none`.
 fn put_vtec(out: &mut String, text: &[u8]) -> Result<(), AllocError> {
     match continuation(text) {
         Some(text) => {
@@ -30,6 +32,7 @@ fn put_vtec(out: &mut String, text: &[u8]) -> Result<(), AllocError> {
     }
 }
 
+/// Appends a UGC string as this desk writes it, or its fault.
 fn put_ugc(alloc: Global, out: &mut String, text: &[u8]) -> Result<(), Oom> {
     match desk_form(alloc, text) {
         Ok(text) => {
@@ -44,7 +47,11 @@ fn put_ugc(alloc: Global, out: &mut String, text: &[u8]) -> Result<(), Oom> {
     Ok(())
 }
 
-/// What comes of some codes.
+/// Appends what the calls return for some strings.
+///
+/// # Errors
+///
+/// Out of memory.
 pub fn put_codes(alloc: Global, out: &mut String) -> Result<(), Oom> {
     put_vtec(out, b"/O.NEW.KLWX.FG.Y.0001.180103T1000Z-180103T1500Z/")?;
     put_vtec(out, b"/O.NEW.KLWX.FG.Y.0001.180103T1000Z-180103T1500/")?;

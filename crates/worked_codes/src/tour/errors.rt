@@ -1,4 +1,4 @@
-//! Errors, printed as they come.
+//! Errors, as they are printed.
 use desk_clock::read_local_line;
 use desk_settings::read_settings;
 use hazard_types::{Desk, Oom, Refusal, event_in, zone_in};
@@ -7,16 +7,16 @@ use std::alloc::{AllocError, Global};
 use std::error::Error;
 use ugc_codes::read_ugc;
 
-/// A text whose zones, on line 6, hold a group that is none.
+/// A product's text in which line 6 has a bad zone.
 const BAD_ZONES: &[u8] =
     b"WWUS41 KLWX 031530\nWSWLWX\n\n1030 AM EST Wed Jan 3 2018\n\nMDZ003-04-031500-\n$$\n";
 
-/// Writes what an error says, whatever its type.
+/// Appends what an error prints, whatever its type.
 fn put_error<E: Error>(out: &mut String, error: E) -> Result<(), AllocError> {
     writeln!(out, "error {error}")
 }
 
-/// Writes what the error of a call says, if the call has one.
+/// Appends what the error of a call prints, or `no error`.
 fn put_error_of<T: Drop, E: Error>(
     out: &mut String,
     outcome: Result<T, E>,
@@ -27,7 +27,7 @@ fn put_error_of<T: Drop, E: Error>(
     }
 }
 
-/// Refusals that name a number, a desk, a zone, and an event in a zone.
+/// Appends refusals that have a number, a desk, a zone, and an event in a zone.
 fn put_refusals(out: &mut String) -> Result<(), AllocError> {
     put_error(out, Refusal::Reused { last: 5 })?;
     if let Some(owner) = Desk::new(b"A") {
@@ -42,7 +42,11 @@ fn put_refusals(out: &mut String) -> Result<(), AllocError> {
     }
 }
 
-/// What errors of each type say.
+/// Appends what errors of each type print.
+///
+/// # Errors
+///
+/// Out of memory.
 pub fn put_errors(alloc: Global, out: &mut String) -> Result<(), Oom> {
     put_error_of(out, read_ugc(alloc, b"MDZ005>003-031500-"))?;
     put_error_of(out, read_local_line(b"1030 AM XYZ Wed Jan 3 2018"))?;

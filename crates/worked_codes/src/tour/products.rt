@@ -1,11 +1,11 @@
-//! Products, read one by one and then together.
+//! Products, read one at a time and then together.
 use hazard_types::{Class, Minute, Oom, Or, Text, read_stamp};
 use product_decoder::{Reader, Track, decode};
 use product_frame::FrameFault;
 use std::alloc::{AllocError, Global};
 use worked_lines::text_of;
 
-/// What a product's text says in short, or its first fault.
+/// Appends a product's identifier, issue time and number of P-VTEC lines, or its first fault.
 fn put_product(alloc: Global, out: &mut String, text: &[u8]) -> Result<(), Oom> {
     match decode(alloc, text) {
         Ok(product) => {
@@ -20,7 +20,8 @@ fn put_product(alloc: Global, out: &mut String, text: &[u8]) -> Result<(), Oom> 
     Ok(())
 }
 
-/// A reader that has taken two products of the office KLWX, or the first fault of the first text that has one.
+/// Returns a reader that has taken two products of office KLWX, or the first fault of the first
+/// text that has one.
 fn reader_of(alloc: Global, first: &[u8], second: &[u8]) -> Result<Reader, Or<FrameFault>> {
     let mut reader = Reader::new(alloc, *b"KLWX", Class::O);
     let product = decode(alloc, first)?;
@@ -30,6 +31,7 @@ fn reader_of(alloc: Global, first: &[u8], second: &[u8]) -> Result<Reader, Or<Fr
     Ok(reader)
 }
 
+/// Appends a life: its event and zone, and the action and time of each step.
 fn put_life(out: &mut String, life: &Track) -> Result<(), AllocError> {
     write!(out, "life {} {}", life.event, life.zone)?;
     for step in life.steps.as_slice() {
@@ -38,7 +40,8 @@ fn put_life(out: &mut String, life: &Track) -> Result<(), AllocError> {
     out.push('\n')
 }
 
-/// What a reader has found: the life of each event in each zone, the lines in breach, and the rows that are live at a minute.
+/// Appends what a reader has found: the life of each event in each zone, the lines in breach, and
+/// the rows that are live at a minute.
 fn put_findings(
     alloc: Global,
     out: &mut String,
@@ -63,7 +66,7 @@ fn put_findings(
     Ok(())
 }
 
-/// What comes of two products, one by one, and then together.
+/// Appends what the calls return for two products, one at a time and then together.
 fn put_both(
     alloc: Global,
     out: &mut String,
@@ -79,7 +82,12 @@ fn put_both(
     Ok(())
 }
 
-/// What comes of a text that is no product, and of the first two texts.
+/// Appends what the calls return for a text that is no product, and for the first two texts.
+///
+/// # Errors
+///
+/// - `No` with the first fault of one of the two texts.
+/// - `OutOfMemory`.
 pub fn put_products(alloc: Global, out: &mut String, texts: &[Text]) -> Result<(), Or<FrameFault>> {
     put_product(alloc, out, b"no product\n")?;
     match texts {

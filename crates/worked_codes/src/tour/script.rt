@@ -1,5 +1,5 @@
-//! The script: the lines of a stream of two products, and then `tour`, which is answered by what
-//! comes of each call.
+//! The lines of the tour: a stream of two products, and then `tour`, which prints what each call
+//! returns.
 use crate::tour::codes::put_codes;
 use crate::tour::errors::put_errors;
 use crate::tour::products::put_products;
@@ -9,7 +9,7 @@ use product_frame::FrameFault;
 use std::alloc::Global;
 use worked_lines::Work;
 
-/// What comes of the calls, over a stream of two products.
+/// Returns what is printed of the calls, over a stream of two products.
 fn answers_of(alloc: Global, stream: &[u8]) -> Result<String, Or<FrameFault>> {
     let mut out = String::new(alloc);
     put_codes(alloc, &mut out)?;
@@ -34,7 +34,7 @@ impl Tour {
 }
 
 impl Work for Tour {
-    /// Adds a line to the stream, or makes the tour.
+    /// Appends a line to the stream, or returns what is printed of the tour.
     fn work(&mut self, alloc: Global, line: &str) -> Result<String, Oom> {
         if line != "tour" {
             self.stream.extend(line.as_bytes())?;

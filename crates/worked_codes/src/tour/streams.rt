@@ -1,9 +1,10 @@
-//! A stream of products, which comes in pieces.
+//! A stream of products that comes in pieces.
 use hazard_types::{List, Oom, Text};
 use product_decoder::Feed;
 use std::alloc::Global;
 
-/// Says what the feed gave, and keeps it.
+/// Appends the length in bytes of the product that the feed returned, or `none`, and keeps its
+/// text.
 fn keep(out: &mut String, texts: &mut List<Text>, text: Option<Text>) -> Result<(), Oom> {
     match text {
         Some(text) => {
@@ -15,7 +16,12 @@ fn keep(out: &mut String, texts: &mut List<Text>, text: Option<Text>) -> Result<
     }
 }
 
-/// The products of a stream, of which one half comes and then the other.
+/// Returns the texts of the products of a stream, which comes in two halves, and appends what each
+/// call of the feed returned.
+///
+/// # Errors
+///
+/// Out of memory.
 pub fn put_stream(alloc: Global, out: &mut String, stream: &[u8]) -> Result<List<Text>, Oom> {
     let (head, tail) = stream.split_at(stream.len() / 2);
     let mut texts = List::new(alloc);

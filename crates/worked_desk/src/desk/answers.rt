@@ -1,14 +1,23 @@
-//! What lines are answered.
+//! What is printed for the lines of a script.
 use crate::desk::sweeps::Tally;
 use hazard_types::{Oom, Text};
 use std::alloc::Global;
 
-/// A line that is no step.
+/// Returns what is printed for a line that is no step: `unread: LINE`, with a line end.
+///
+/// # Errors
+///
+/// Out of memory.
 pub fn unread(alloc: Global, line: &str) -> Result<String, Oom> {
     Ok(format!(in alloc; "unread: {line}\n")?)
 }
 
-/// What a command wrote, its status, and the file behind it.
+/// Returns what a command wrote, and a line with its exit status, the number of bytes of the file
+/// after it, and whether the file is unchanged.
+///
+/// # Errors
+///
+/// Out of memory.
 pub fn run_answer(
     alloc: Global,
     written: &Text,
@@ -24,7 +33,12 @@ pub fn run_answer(
     Ok(answer)
 }
 
-/// What a command wrote from so many bytes on: its last line, how many bytes it is in all, and its status.
+/// Returns a line for a run over the first `count` bytes: the last line of what it wrote, the
+/// number of bytes that it wrote, and its exit status.
+///
+/// # Errors
+///
+/// Out of memory.
 pub fn cut_answer(alloc: Global, count: usize, written: &Text, status: u8) -> Result<String, Oom> {
     let text = String::from_utf8_lossy(alloc, written.as_slice())?;
     let last = text.as_str().lines().last().unwrap_or("");
@@ -32,7 +46,11 @@ pub fn cut_answer(alloc: Global, count: usize, written: &Text, status: u8) -> Re
     Ok(format!(in alloc; "from {count}: {last}, {bytes} bytes, status {status}\n")?)
 }
 
-/// What a sweep counted.
+/// Returns a line with the counts of a sweep.
+///
+/// # Errors
+///
+/// Out of memory.
 pub fn sweep_answer(alloc: Global, tally: &Tally) -> Result<String, Oom> {
     let runs = tally.runs;
     let differ = tally.differ;

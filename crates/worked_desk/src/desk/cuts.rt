@@ -1,11 +1,11 @@
-//! What a command says of each beginning of a file, or of settings.
+//! Runs over each beginning of a file or of settings.
 use crate::desk::answers::cut_answer;
 use crate::desk::runs::{Command, Given, NO_FAULTS, Run, run_command};
 use crate::desk::steps::Cutting;
 use hazard_types::{List, Oom, Text};
 use std::alloc::Global;
 
-/// A run over the first bytes: `export` of a file with them, or `init` with them as its settings.
+/// Runs `export` of a file with these bytes, or `init` with them as settings.
 fn run_on(alloc: Global, cutting: Cutting, bytes: &[u8]) -> Result<Run, Oom> {
     let none = Given {
         input: Text::new(alloc),
@@ -23,7 +23,11 @@ fn run_on(alloc: Global, cutting: Cutting, bytes: &[u8]) -> Result<Run, Oom> {
     }
 }
 
-/// A line at each number of first bytes from which on the run says another thing.
+/// Returns a line for each number of first bytes whose run differs from the one before it.
+///
+/// # Errors
+///
+/// Out of memory.
 pub fn cuts(alloc: Global, cutting: Cutting, bytes: &[u8]) -> Result<String, Oom> {
     let mut answer = String::new(alloc);
     let mut last: Option<Run> = None;

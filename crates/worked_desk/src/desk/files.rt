@@ -1,17 +1,19 @@
-//! Journals as bytes: that of an older office, and the last record of one.
+//! Journals as bytes: the making of one of an older office, changes of one, and its last record. A
+//! record is the byte `G`, the length of its body as four bytes, most significant first, and the
+//! body.
 use hazard_types::{List, Oom, Text};
 use std::alloc::Global;
 
-/// The gate of each record.
+/// The first byte of a record.
 const GATE: u8 = b'G';
 
-/// What a journal ends with.
+/// The last byte of a journal.
 const CLOSE: u8 = b'.';
 
-/// The bytes of a record's gate and length.
+/// The number of bytes before the body of a record.
 const HEAD: usize = 5;
 
-/// Adds a record to a journal: its gate, the length of its body, and the body.
+/// Appends a record with this body.
 fn add_record(journal: &mut Text, body: &[u8]) -> Result<(), Oom> {
     let length = u32::try_from(body.len()).unwrap_or(u32::MAX);
     journal.push(GATE)?;
@@ -19,7 +21,11 @@ fn add_record(journal: &mut Text, body: &[u8]) -> Result<(), Oom> {
     journal.extend(body)
 }
 
-/// The journal of an office of edition One with one entry.
+/// Returns the journal of an office of edition One with one entry.
+///
+/// # Errors
+///
+/// Out of memory.
 pub fn older_journal(alloc: Global, settings: &[u8], entry: &[u8]) -> Result<Text, Oom> {
     let mut journal = List::new(alloc);
     add_record(&mut journal, settings)?;
@@ -28,7 +34,11 @@ pub fn older_journal(alloc: Global, settings: &[u8], entry: &[u8]) -> Result<Tex
     Ok(journal)
 }
 
-/// A journal with one record more behind its last one.
+/// Returns a journal with one more record, at the end.
+///
+/// # Errors
+///
+/// Out of memory.
 pub fn with_record(alloc: Global, journal: &[u8], body: &[u8]) -> Result<Text, Oom> {
     let records = records_of(journal);
     let mut longer = List::from_slice(alloc, records)?;
@@ -37,7 +47,7 @@ pub fn with_record(alloc: Global, journal: &[u8], body: &[u8]) -> Result<Text, O
     Ok(longer)
 }
 
-/// The records of a journal, without the byte that it ends with.
+/// Returns the records of a journal, without its last byte.
 pub fn records_of(journal: &[u8]) -> &[u8] {
     match journal.split_last() {
         Some((_close, records)) => records,
@@ -45,7 +55,11 @@ pub fn records_of(journal: &[u8]) -> &[u8] {
     }
 }
 
-/// A copy of a file in which the byte that stands so many bytes from the end is another.
+/// Returns a file with another byte at a place, which counts `back` bytes from the end, from 1.
+///
+/// # Errors
+///
+/// Out of memory.
 pub fn with_byte(alloc: Global, file: &[u8], back: u64, byte: u8) -> Result<Text, Oom> {
     let length = file.len() as u64;
     let mut changed = List::new(alloc);
@@ -58,7 +72,8 @@ pub fn with_byte(alloc: Global, file: &[u8], back: u64, byte: u8) -> Result<Text
     Ok(changed)
 }
 
-/// The length of the body of the record at the head of these bytes.
+/// Returns the length of the body of the record at the start of the bytes, or `None` if there is no
+/// record.
 fn body_length(bytes: &[u8]) -> Option<u32> {
     if *bytes.first()? != GATE {
         return None;
@@ -70,13 +85,13 @@ fn body_length(bytes: &[u8]) -> Option<u32> {
     Some(u32::from_be_bytes([first, second, third, fourth]))
 }
 
-/// What stands behind the record at the head of these bytes.
+/// Returns the bytes after the record at their start, or `None` if it is not whole.
 fn behind_record(bytes: &[u8]) -> Option<&[u8]> {
     let length = usize::try_from(body_length(bytes)?).ok()?;
     bytes.get(HEAD.checked_add(length)?..)
 }
 
-/// A journal from the gate of its last record on.
+/// Returns the bytes of a journal from its last record on.
 fn last_record(journal: &[u8]) -> &[u8] {
     let mut bytes = journal;
     for _turn in 0..journal.len() {
@@ -88,7 +103,12 @@ fn last_record(journal: &[u8]) -> &[u8] {
     bytes
 }
 
-/// The last record of a journal as text: its gate, its length in hexadecimal digits, and what stands behind them.
+/// Returns a line with the last record of a journal: `G`, its length as eight hex digits, and the
+/// rest of the journal as text.
+///
+/// # Errors
+///
+/// Out of memory.
 pub fn record_text(alloc: Global, journal: &[u8]) -> Result<String, Oom> {
     let record = last_record(journal);
     let (Some(length), Some(rest)) = (body_length(record), record.get(HEAD..)) else {

@@ -1,14 +1,14 @@
-//! A command over a disk in memory.
+//! Runs of a command over a disk in memory.
 use byte_streams::{MemSink, MemSource};
 use desk_commands::{Ended, run_board, run_export, run_init, run_script, run_upgrade};
 use desk_traits::{MemDisk, SetClock};
 use hazard_types::{List, Minute, Oom, Text};
 use std::alloc::Global;
 
-/// The most bytes of an input.
+/// The largest number of bytes of an input.
 const LIMIT: usize = 100_000;
 
-/// The most bytes that are read at once.
+/// The largest number of bytes that a read returns.
 const PIECE: usize = 4096;
 
 /// A command of the desk.
@@ -22,17 +22,20 @@ pub enum Command {
     Board(Option<Minute>),
 }
 
-/// How a disk fails: at a call, and at each behind a stop. The pick chooses what a crash leaves of its writes. And which
-/// write of the output fails.
+/// The faults of a disk and an output.
 #[derive(Clone, Copy, Debug)]
 pub struct Faults {
+    /// The number of a call of the disk that fails.
     pub failing: Option<u64>,
+    /// The number of the last call of the disk that may succeed.
     pub stop: Option<u64>,
+    /// What a crash leaves of the disk's writes.
     pub pick: Option<u64>,
+    /// The number of a write of the output that fails.
     pub unwritten: Option<u64>,
 }
 
-/// A disk and an output that do not fail.
+/// No fault.
 pub const NO_FAULTS: Faults = Faults {
     failing: None,
     stop: None,
@@ -40,14 +43,14 @@ pub const NO_FAULTS: Faults = Faults {
     unwritten: None,
 };
 
-/// What a command is run over: its input and the readings of its clock.
+/// The input of a command, and the readings of its clock.
 #[derive(Drop)]
 pub struct Given {
     pub input: Text,
     pub readings: List<i64>,
 }
 
-/// What a command left.
+/// What a command left: its exit status, what it wrote, and its disk.
 #[derive(Drop)]
 pub struct Run {
     pub status: u8,
@@ -55,7 +58,7 @@ pub struct Run {
     pub disk: MemDisk,
 }
 
-/// The calls that fail: this one, or none.
+/// Returns the list of this call, or an empty one.
 fn failing_calls(alloc: Global, call: Option<u64>) -> Result<List<u64>, Oom> {
     let mut failing: List<u64> = List::new(alloc);
     if let Some(call) = call {
@@ -64,13 +67,13 @@ fn failing_calls(alloc: Global, call: Option<u64>) -> Result<List<u64>, Oom> {
     Ok(failing)
 }
 
-/// A disk with a file and these faults.
+/// Returns a disk with a file and these faults.
 fn disk_of(alloc: Global, file: &[u8], faults: &Faults) -> Result<MemDisk, Oom> {
     let failing = failing_calls(alloc, faults.failing)?;
     MemDisk::new(alloc, file, &failing, faults.stop, faults.pick.unwrap_or(0))
 }
 
-/// A clock with these readings; without any it stands at 0.
+/// Returns a clock with these readings, or with the reading 0 if there are none.
 fn clock_of(alloc: Global, readings: &List<i64>) -> Result<SetClock, Oom> {
     if readings.is_empty() {
         let zero = List::from_slice(alloc, &[0])?;
@@ -97,7 +100,11 @@ fn ended(
     }
 }
 
-/// A command over a disk with a file and these faults.
+/// Runs a command over a disk with a file and these faults.
+///
+/// # Errors
+///
+/// Out of memory.
 pub fn run_command(
     alloc: Global,
     command: &Command,
@@ -119,7 +126,11 @@ pub fn run_command(
     })
 }
 
-/// The texts that `export` writes of a file.
+/// Returns the texts that `export` writes of a file.
+///
+/// # Errors
+///
+/// Out of memory.
 pub fn exported(alloc: Global, given: &Given, file: &[u8]) -> Result<Text, Oom> {
     let run = run_command(alloc, &Command::Export, given, file, &NO_FAULTS)?;
     Ok(run.text)

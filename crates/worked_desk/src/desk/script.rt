@@ -1,4 +1,4 @@
-//! The script of a kept office's days: each line's step is worked, and answered by text.
+//! The script of an office.
 use crate::desk::answers::{run_answer, sweep_answer, unread};
 use crate::desk::cuts::cuts;
 use crate::desk::files::{older_journal, record_text, with_byte, with_record};
@@ -10,8 +10,8 @@ use hazard_types::{List, Oom, Text};
 use std::alloc::Global;
 use worked_lines::Work;
 
-/// The settings' text, the file's bytes, the pending input with the readings of the clock, and the faults of the next
-/// run's disk.
+/// The settings, the file, the input and the readings of the clock for the next run, and its
+/// faults.
 #[derive(Drop)]
 pub struct Script {
     settings: Text,
@@ -20,7 +20,7 @@ pub struct Script {
     faults: Faults,
 }
 
-/// The readings of a line, if each of its words is one.
+/// Returns the readings of a line, or `None` if a word is none.
 fn readings_of(alloc: Global, words: &str) -> Result<Option<List<i64>>, Oom> {
     let mut readings = List::new(alloc);
     for word in words.split(' ') {
@@ -32,7 +32,7 @@ fn readings_of(alloc: Global, words: &str) -> Result<Option<List<i64>>, Oom> {
     Ok(Some(readings))
 }
 
-/// What stands behind a line.
+/// Returns the bytes of a line end.
 fn ending_bytes(ending: Ending) -> &'static [u8] {
     match ending {
         Ending::Feed => b"\n",
@@ -41,7 +41,7 @@ fn ending_bytes(ending: Ending) -> &'static [u8] {
     }
 }
 
-/// Adds a line of so many bytes to a text.
+/// Appends a line of `length` letters.
 fn add_long(text: &mut Text, length: u64) -> Result<(), Oom> {
     for _place in 0..length {
         text.push(b'x')?;
@@ -49,7 +49,7 @@ fn add_long(text: &mut Text, length: u64) -> Result<(), Oom> {
     text.push(b'\n')
 }
 
-/// The file behind a run: what a crash leaves, or what a read gives.
+/// Returns the file after a run: what a crash leaves, or what the disk has.
 fn file_behind(disk: MemDisk, crashes: bool) -> Result<Text, Oom> {
     if crashes {
         return disk.crashed();
@@ -70,19 +70,19 @@ impl Script {
         }
     }
 
-    /// Adds a line to the settings.
+    /// Appends a line to the settings.
     fn add_setting(&mut self, line: &str) -> Result<(), Oom> {
         self.settings.extend(line.as_bytes())?;
         self.settings.push(b'\n')
     }
 
-    /// Adds a line to the next input.
+    /// Appends a line to the input.
     fn ask(&mut self, line: &str, ending: Ending) -> Result<(), Oom> {
         self.given.input.extend(line.as_bytes())?;
         self.given.input.extend(ending_bytes(ending))
     }
 
-    /// Sets the readings of the clock.
+    /// Sets the readings of the clock, and returns whether the words are readings.
     fn set_readings(&mut self, alloc: Global, words: &str) -> Result<bool, Oom> {
         match readings_of(alloc, words)? {
             Some(readings) => {
@@ -93,7 +93,7 @@ impl Script {
         }
     }
 
-    /// Runs a command over the pending input, or the settings.
+    /// Runs a command over the input; `init` over the settings.
     fn run_over(&self, alloc: Global, command: &Command) -> Result<Run, Oom> {
         let file = self.file.as_slice();
         match command {
@@ -110,7 +110,8 @@ impl Script {
         }
     }
 
-    /// Runs a command, and keeps the file that it leaves. `init` and `script` use the input up.
+    /// Runs a command, keeps the file that it leaves, and returns what is printed. The faults are
+    /// then removed; `init` and `script` empty the input too.
     fn run_step(&mut self, alloc: Global, command: &Command) -> Result<String, Oom> {
         let Run { status, text, disk } = self.run_over(alloc, command)?;
         let crashes = self.faults.stop.is_some() || self.faults.pick.is_some();
@@ -124,11 +125,13 @@ impl Script {
         Ok(answer)
     }
 
+    /// Returns the counts of a sweep over the input and the file.
     fn sweep_step(&self, alloc: Global, tried: Tried, calls: u8) -> Result<String, Oom> {
         let tally = sweep(alloc, tried, &self.given, self.file.as_slice(), calls)?;
         sweep_answer(alloc, &tally)
     }
 
+    /// Returns the runs over each beginning of the file or of the settings.
     fn cuts_step(&self, alloc: Global, cutting: Cutting) -> Result<String, Oom> {
         let bytes = match cutting {
             Cutting::File => self.file.as_slice(),
@@ -137,19 +140,19 @@ impl Script {
         cuts(alloc, cutting, bytes)
     }
 
-    /// Makes the file the journal of an office of edition One.
+    /// Makes the file the journal of an office of edition One with this entry.
     fn set_older(&mut self, alloc: Global, entry: &str) -> Result<(), Oom> {
         self.file = older_journal(alloc, self.settings.as_slice(), entry.as_bytes())?;
         Ok(())
     }
 
-    /// Adds a remark of so many bytes, at least one, to the settings.
+    /// Appends a comment of `length` bytes, at least one, to the settings.
     fn add_comment(&mut self, length: u64) -> Result<(), Oom> {
         self.settings.push(b'#')?;
         add_long(&mut self.settings, length.saturating_sub(1))
     }
 
-    /// Works a step that changes the file by hand. Answers whether it was one.
+    /// Does a step that changes the file by hand, and returns whether the step is one.
     fn spoil(&mut self, alloc: Global, step: &Step<'_>) -> Result<bool, Oom> {
         match step {
             Step::File(text) => self.file = List::from_slice(alloc, text.as_bytes())?,
@@ -165,7 +168,7 @@ impl Script {
         Ok(true)
     }
 
-    /// Sets a fault of the next run. Answers whether the step was one.
+    /// Does a step that sets a fault of the next run, and returns whether the step is one.
     fn set_fault(&mut self, step: &Step<'_>) -> bool {
         match step {
             Step::Failing(call) => self.faults.failing = Some(*call),
@@ -177,7 +180,7 @@ impl Script {
         true
     }
 
-    /// Works a step that is answered by nothing. Answers whether it was one.
+    /// Does a step that prints nothing, and returns whether the step is one.
     fn prepare(&mut self, alloc: Global, step: &Step<'_>) -> Result<bool, Oom> {
         match step {
             Step::Remark => {}
@@ -194,7 +197,7 @@ impl Script {
 }
 
 impl Work for Script {
-    /// What a line is answered.
+    /// Returns what is printed for a line.
     fn work(&mut self, alloc: Global, line: &str) -> Result<String, Oom> {
         let step = step_of(line);
         if self.prepare(alloc, &step)? || self.spoil(alloc, &step)? || self.set_fault(&step) {

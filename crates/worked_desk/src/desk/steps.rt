@@ -1,94 +1,94 @@
-//! The steps of a script, one a line.
+//! The steps of a script of an office, one a line.
 use crate::desk::runs::Command;
 use hazard_types::read_stamp;
 
-/// What stands behind a line of an input.
+/// The end of a line of the input.
 #[derive(Clone, Copy, Debug)]
 pub enum Ending {
     /// LF.
     Feed,
     /// CR and LF.
     ReturnAndFeed,
-    /// Nothing.
+    /// No byte.
     Nothing,
 }
 
-/// What is tried at each call of a disk.
+/// What a sweep runs at each call of a disk.
 #[derive(Clone, Copy, Debug)]
 pub enum Tried {
-    /// The pending input.
+    /// The input.
     Input,
     /// An upgrade.
     Upgrade,
-    /// The pending input, each line of it twice.
+    /// The input, each line of it twice.
     Twice,
 }
 
 /// What is cut at each byte.
 #[derive(Clone, Copy, Debug)]
 pub enum Cutting {
-    /// The file, of which the texts are then exported.
+    /// The file, whose texts are then exported.
     File,
-    /// The settings, of which a journal is then made.
+    /// The settings, from which a journal is then made.
     Settings,
 }
 
-/// A step of a script.
+/// A step of the script.
 #[derive(Clone, Copy, Debug)]
 pub enum Step<'a> {
-    /// A line that is answered by nothing.
+    /// Nothing is done or printed.
     Remark,
-    /// A line of the settings.
+    /// Appends a line to the settings.
     Setting(&'a str),
-    /// The settings are emptied.
+    /// Empties the settings.
     NoSettings,
-    /// The bytes of the file.
+    /// Sets the bytes of the file.
     File(&'a str),
-    /// The entry of an office of edition One, whose journal is the file.
+    /// Makes the file the journal of an office of edition One with this entry.
     Older(&'a str),
-    /// A line of the next input.
+    /// Appends a line to the input.
     Ask(&'a str, Ending),
-    /// A line of the next input that has so many bytes.
+    /// Appends a line of this many letters to the input.
     Long(u64),
-    /// A remark of the settings that has so many bytes.
+    /// Appends a comment of this many bytes to the settings.
     Comment(u64),
-    /// The readings of the clock, as words.
+    /// Sets the readings of the clock, as words.
     At(&'a str),
-    /// A record with this body, behind the file's last one.
+    /// Appends a record with this body to the file.
     Add(&'a str),
-    /// The byte of the file that stands so many bytes from its end is made this one.
+    /// Sets the byte of the file that is this many bytes from its end.
     Back(u64, u8),
-    /// The write of the next run's output that fails.
+    /// Sets the write of the next run's output that fails.
     Unwritten(u64),
-    /// The call of the next run's disk that fails.
+    /// Sets the call of the next run's disk that fails.
     Failing(u64),
-    /// The call behind which the next run's disk stops.
+    /// Sets the last call of the next run's disk that may succeed.
     Stop(u64),
-    /// What a crash leaves of the next run's writes.
+    /// Sets what a crash leaves of the next run's writes.
     Pick(u64),
-    /// A command.
+    /// Runs a command.
     Run(Command),
-    /// Each of the first calls of a disk fails in turn, and the disk stops behind each.
+    /// Runs a sweep over the first calls of a disk, this many.
     Sweep(Tried, u8),
-    /// What is left of a cut at each byte is tried.
+    /// Runs over each beginning of what is cut.
     Cuts(Cutting),
-    /// The last record of the file is shown.
+    /// Prints the last record of the file.
     Record,
-    /// A line that is no step.
+    /// The line is no step.
     Unread,
 }
 
-/// A number in decimal digits.
+/// Returns the word as a decimal number, or `None`.
 fn number_of(word: &str) -> Option<u64> {
     word.parse::<u64>().ok()
 }
 
-/// How many calls are tried.
+/// Returns the number of calls of a sweep, at most 255, or `None`.
 fn calls_of(word: &str) -> Option<u8> {
     word.parse::<u8>().ok()
 }
 
-/// A stamp, or a count of minutes.
+/// Returns the reading of a stamp or of a number of minutes since 2000-01-01 00:00 UTC, or `None`.
 pub fn reading_of(word: &str) -> Option<i64> {
     match read_stamp(word.as_bytes()) {
         Some(minute) => Some(i64::from(minute.get())),
@@ -96,7 +96,7 @@ pub fn reading_of(word: &str) -> Option<i64> {
     }
 }
 
-/// The step of a word that stands alone.
+/// Returns the step that is this whole line, or `None`.
 fn bare_step(word: &str) -> Option<Step<'_>> {
     let step = match word {
         "no settings" => Step::NoSettings,
@@ -115,13 +115,14 @@ fn bare_step(word: &str) -> Option<Step<'_>> {
     Some(step)
 }
 
-/// The step of the board at a stamp.
+/// Returns the step of the board at a stamp, or `None` if the word is no stamp.
 fn board_step(stamp: &str) -> Option<Step<'_>> {
     let minute = read_stamp(stamp.as_bytes())?;
     Some(Step::Run(Command::Board(Some(minute))))
 }
 
-/// The step of a sweep over a script, over one whose lines come twice, or over an upgrade.
+/// Returns the step of the words `CALLS`, `twice CALLS` or `upgrade CALLS`, or `None` if they are
+/// not such words.
 fn sweep_step(rest: &str) -> Option<Step<'_>> {
     match rest.split_once(' ') {
         Some(("upgrade", calls)) => Some(Step::Sweep(Tried::Upgrade, calls_of(calls)?)),
@@ -131,13 +132,13 @@ fn sweep_step(rest: &str) -> Option<Step<'_>> {
     }
 }
 
-/// The step of a byte that is changed.
+/// Returns the step of the words `PLACE BYTE`, or `None` if they are not such words.
 fn back_step(rest: &str) -> Option<Step<'_>> {
     let (place, byte) = rest.split_once(' ')?;
     Some(Step::Back(number_of(place)?, byte.parse::<u8>().ok()?))
 }
 
-/// The step that a word says with a number: a long line, or a fault of the next run.
+/// Returns the step of a word with a number, or `None`.
 fn numbered_step<'a>(word: &str, rest: &'a str) -> Option<Step<'a>> {
     let number = number_of(rest)?;
     match word {
@@ -151,7 +152,7 @@ fn numbered_step<'a>(word: &str, rest: &'a str) -> Option<Step<'a>> {
     }
 }
 
-/// The step that a line's first word says, with what stands behind it.
+/// Returns the step of a first word with what comes after it, or `None`.
 fn worded_step(line: &str) -> Option<Step<'_>> {
     let (word, rest) = line.split_once(' ')?;
     match word {
@@ -170,7 +171,7 @@ fn worded_step(line: &str) -> Option<Step<'_>> {
     }
 }
 
-/// The step of a line.
+/// Returns the step of a line. An empty line and one that begins with `#` are remarks.
 pub fn step_of(line: &str) -> Step<'_> {
     if line.is_empty() || line.starts_with('#') {
         return Step::Remark;

@@ -1,4 +1,5 @@
-//! Sweeps: each call of a disk fails in turn, and the disk stops behind each, whatever a crash leaves of the writes.
+//! Sweeps: runs in which one call of a disk fails, or is the last that may succeed, for each call
+//! in turn and for several states that a crash may leave.
 use crate::desk::files::records_of;
 use crate::desk::runs::{Command, Faults, Given, NO_FAULTS, Run, exported, run_command};
 use crate::desk::steps::Tried;
@@ -6,16 +7,16 @@ use hazard_types::{List, Oom, Text};
 use std::alloc::Global;
 use worked_lines::text_of;
 
-/// What a crash leaves of the writes since the last sync, one case after another.
+/// The states that a crash leaves of the writes since the last sync.
 const PICKS: [u64; 6] = [0, 1, 2, 3, 5, 15];
 
-/// The status of a run that went well.
+/// The exit status of a run without an error.
 const DONE: u8 = 0;
 
-/// The status of a run that met a fault of its disk.
+/// The exit status of a run that a fault of its disk ended.
 const DISK_FAULT: u8 = 9;
 
-/// The line that tells a fault of the disk.
+/// The answer to a request that met a fault of the disk.
 const FAULT_LINE: &str = "{\"no\":\"D1\",\"rule\":\"DiskFault\"}";
 
 /// How many runs met a fault, and how many of them differ from the run without any.
@@ -35,7 +36,8 @@ impl Tally {
     }
 }
 
-/// What an input comes to: how it ends, what it is answered, and the products behind it.
+/// What an input leads to: the exit status, the answers to its lines, and the products of the
+/// office.
 #[derive(Drop)]
 struct Outcome {
     status: u8,
@@ -44,6 +46,7 @@ struct Outcome {
 }
 
 impl Outcome {
+    /// Whether two outcomes are equal.
     fn is_same(&self, other: &Self) -> bool {
         self.status == other.status
             && self.answers.as_slice() == other.answers.as_slice()
@@ -51,7 +54,7 @@ impl Outcome {
     }
 }
 
-/// A file, what is run over it, and what comes of it over a disk without faults.
+/// A file, an input, and their outcome over a disk without faults.
 #[derive(Drop)]
 struct Wanted<'a> {
     given: &'a Given,
@@ -59,7 +62,7 @@ struct Wanted<'a> {
     outcome: Outcome,
 }
 
-/// What an input comes to over a disk without faults.
+/// Returns the outcome of an input over a disk without faults.
 fn outcome_of(alloc: Global, given: &Given, file: &[u8]) -> Result<Outcome, Oom> {
     let done = run_command(alloc, &Command::Script, given, file, &NO_FAULTS)?;
     let products = exported(alloc, given, done.disk.file().as_slice())?;
@@ -70,12 +73,12 @@ fn outcome_of(alloc: Global, given: &Given, file: &[u8]) -> Result<Outcome, Oom>
     })
 }
 
-/// Whether a run ended well, or by a fault of its disk.
+/// Whether a run ended without an error, or by a fault of its disk.
 fn is_fair(status: u8) -> bool {
     status == DONE || status == DISK_FAULT
 }
 
-/// The lines of answers that tell no fault of the disk, one after another.
+/// Returns the answers that report no fault of the disk.
 fn without_faults(alloc: Global, answers: &str) -> Result<Text, Oom> {
     let mut text = Text::new(alloc);
     for answer in answers.lines() {
@@ -87,7 +90,8 @@ fn without_faults(alloc: Global, answers: &str) -> Result<Text, Oom> {
     Ok(text)
 }
 
-/// The lines of an input whose answers tell no fault of the disk, each with its reading. No line of the input is empty.
+/// Returns the lines of an input whose answers report no fault of the disk, each with its reading.
+/// No line of the input may be empty.
 fn undisturbed(alloc: Global, given: &Given, answers: &str) -> Result<Given, Oom> {
     let mut input = Text::new(alloc);
     let mut readings = List::new(alloc);
@@ -110,8 +114,8 @@ fn undisturbed(alloc: Global, given: &Given, answers: &str) -> Result<Given, Oom
     Ok(Given { input, readings })
 }
 
-/// Whether each line that was answered without a fault of the disk was answered as where those with one had not been
-/// sent, and stands so in the file that a crash left.
+/// Whether the lines that met no fault of the disk have the answers that they get if the others are
+/// not sent, and the file that a crash left begins with the records of that run.
 fn answers_are_kept(
     alloc: Global,
     wanted: &Wanted<'_>,
@@ -125,7 +129,7 @@ fn answers_are_kept(
     Ok(told.as_slice() == run.text.as_slice() && kept)
 }
 
-/// What the lines of a run were answered: nothing where the run ended otherwise than well.
+/// Returns the answers to the lines of a run; empty if it ended with an error.
 fn answers_of(status: u8, text: &Text) -> &str {
     if status != DONE {
         return "";
@@ -133,8 +137,8 @@ fn answers_of(status: u8, text: &Text) -> &str {
     text_of(text.as_slice())
 }
 
-/// Whether an input that meets these faults, and then a crash, keeps what it was answered, and is answered as without
-/// them when it is sent again.
+/// Whether an input that meets these faults, and then a crash, keeps what was answered, and has the
+/// outcome of a run without faults if it is sent again.
 fn input_survives(alloc: Global, wanted: &Wanted<'_>, faults: &Faults) -> Result<bool, Oom> {
     let first = run_command(alloc, &Command::Script, wanted.given, wanted.file, faults)?;
     let Run { status, text, disk } = first;
@@ -146,7 +150,7 @@ fn input_survives(alloc: Global, wanted: &Wanted<'_>, faults: &Faults) -> Result
     Ok(fair && kept && again.is_same(&wanted.outcome))
 }
 
-/// The pending input is sent over a disk that fails or stops at each call.
+/// Counts the runs of the input over disks that fail or stop at each call.
 fn sweep_input(alloc: Global, given: &Given, file: &[u8], calls: u8) -> Result<Tally, Oom> {
     let wanted = Wanted {
         given,
@@ -165,7 +169,7 @@ fn sweep_input(alloc: Global, given: &Given, file: &[u8], calls: u8) -> Result<T
     Ok(tally)
 }
 
-/// A fault at one call, or a stop behind it.
+/// Returns a fault at one call, or a stop after it.
 fn faults_at(call: u64, stops: bool, pick: u64) -> Faults {
     let (failing, stop) = if stops {
         (None, Some(call))
@@ -180,7 +184,8 @@ fn faults_at(call: u64, stops: bool, pick: u64) -> Faults {
     }
 }
 
-/// Whether the products are the same behind an upgrade that meets these faults, and then a crash.
+/// Whether the products after an upgrade that meets these faults, and then a crash, are those
+/// before it.
 fn upgrade_survives(alloc: Global, wanted: &Wanted<'_>, faults: &Faults) -> Result<bool, Oom> {
     let first = run_command(alloc, &Command::Upgrade, wanted.given, wanted.file, faults)?;
     let fair = is_fair(first.status);
@@ -189,7 +194,7 @@ fn upgrade_survives(alloc: Global, wanted: &Wanted<'_>, faults: &Faults) -> Resu
     Ok(fair && products.as_slice() == wanted.outcome.products.as_slice())
 }
 
-/// The file is upgraded over a disk that stops behind each call.
+/// Counts the upgrades of the file over disks that stop after each call.
 fn sweep_upgrade(alloc: Global, given: &Given, file: &[u8], calls: u8) -> Result<Tally, Oom> {
     let wanted = Wanted {
         given,
@@ -210,7 +215,8 @@ fn sweep_upgrade(alloc: Global, given: &Given, file: &[u8], calls: u8) -> Result
     Ok(tally)
 }
 
-/// The input with each line of it twice, each at the reading of the line. No line of the input is empty.
+/// Returns the input with each line twice, both at the line's reading. No line of the input may be
+/// empty.
 fn with_lines_twice(alloc: Global, given: &Given) -> Result<Given, Oom> {
     let mut input = Text::new(alloc);
     let mut readings = List::new(alloc);
@@ -231,8 +237,8 @@ fn with_lines_twice(alloc: Global, given: &Given) -> Result<Given, Oom> {
     Ok(Given { input, readings })
 }
 
-/// Whether each line was answered at its second time as over a disk without faults, and at its first time so too, or that
-/// the disk failed.
+/// Whether the second answer to each line is that of a disk without faults, and the first one is
+/// too, or reports a fault of the disk.
 fn second_answers_are_good(answers: &str, wanted: &str) -> bool {
     let mut answers = answers.lines();
     for good in wanted.lines() {
@@ -245,8 +251,8 @@ fn second_answers_are_good(answers: &str, wanted: &str) -> bool {
     answers.next().is_none()
 }
 
-/// Whether an input of which each line comes twice in one run is answered, and leaves the products, as without a fault,
-/// or the fault ends the opening.
+/// Whether an input with each line twice has the answers and products of a run without faults, or a
+/// fault of the disk ended the run.
 fn lines_survive(
     alloc: Global,
     wanted: &Wanted<'_>,
@@ -264,7 +270,7 @@ fn lines_survive(
     Ok(good && products.as_slice() == outcome.products.as_slice())
 }
 
-/// The pending input is sent with each line twice over a disk that fails at each call.
+/// Counts the runs of the input with each line twice over disks that fail at each call.
 fn sweep_twice(alloc: Global, given: &Given, file: &[u8], calls: u8) -> Result<Tally, Oom> {
     let wanted = Wanted {
         given,
@@ -280,7 +286,11 @@ fn sweep_twice(alloc: Global, given: &Given, file: &[u8], calls: u8) -> Result<T
     Ok(tally)
 }
 
-/// What a sweep over so many calls of a disk counts.
+/// Counts the runs of a sweep over the first `calls` calls of a disk.
+///
+/// # Errors
+///
+/// Out of memory.
 pub fn sweep(
     alloc: Global,
     tried: Tried,

@@ -1,8 +1,13 @@
-//! Lines that are made of a pattern.
+//! Lines that are made from a pattern.
 use hazard_types::Oom;
 use std::alloc::Global;
 
-/// The pattern with three digits of a number in place of `###`, and so many minutes as hour and minute in place of `@@@@`.
+/// Returns the pattern with three digits of the number in place of `###`, and that many minutes, as
+/// hour and minute, in place of `@@@@` after it.
+///
+/// # Errors
+///
+/// Out of memory.
 pub fn numbered_line(alloc: Global, pattern: &str, number: u16) -> Result<String, Oom> {
     let (front, rest) = pattern.split_once("###").unwrap_or((pattern, ""));
     let (middle, back) = rest.split_once("@@@@").unwrap_or((rest, ""));
@@ -11,7 +16,11 @@ pub fn numbered_line(alloc: Global, pattern: &str, number: u16) -> Result<String
     Ok(format!(in alloc; "{front}{number:03}{middle}{hour:02}{minute:02}{back}")?)
 }
 
-/// The pattern with a list of counties of Maryland, from 001 up to this number, in place of `***`.
+/// Returns the pattern with the list of the counties MDC001 to `last` in place of `***`.
+///
+/// # Errors
+///
+/// Out of memory.
 pub fn line_of_counties(alloc: Global, pattern: &str, last: u16) -> Result<String, Oom> {
     let (front, back) = pattern.split_once("***").unwrap_or((pattern, ""));
     let mut line = String::from_str(alloc, front)?;

@@ -1,4 +1,4 @@
-//! A run over a source and a sink in memory.
+//! Runs of the notices over a source and a sink in memory.
 use byte_streams::{MemSink, MemSource};
 use county_notices::notice_within;
 use hazard_types::{List, Oom, Text};
@@ -9,22 +9,28 @@ use worked_lines::words_of;
 /// How an input comes, and which calls fail.
 #[derive(Drop)]
 pub struct Given {
-    /// The most bytes that a read gives.
+    /// The largest number of bytes that a read returns.
     pub piece: usize,
-    /// The most bytes of the input.
+    /// The largest number of bytes of the input.
     pub limit: usize,
+    /// The numbers of the reads that fail.
     pub bad_reads: List<u64>,
+    /// The numbers of the writes that fail.
     pub bad_writes: List<u64>,
 }
 
-/// What a run left.
+/// How a run ended: its exit status, and what it wrote.
 #[derive(Drop)]
 pub struct Run {
     pub status: u8,
     pub text: Text,
 }
 
-/// A run by the words of a line.
+/// Writes the notices of an input, with the words of a line as arguments.
+///
+/// # Errors
+///
+/// Out of memory.
 pub fn run_words(alloc: Global, line: &str, input: &Text, given: &Given) -> Result<Run, Oom> {
     let words = words_of(alloc, line)?;
     let piece = given.piece.max(1);

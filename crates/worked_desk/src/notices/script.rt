@@ -1,4 +1,4 @@
-//! The script of runs: each line's step is worked, and answered by text.
+//! The script of county notices.
 use crate::notices::lines::{line_of_counties, numbered_line};
 use crate::notices::runs::{Given, run_words};
 use crate::notices::steps::{Step, step_of};
@@ -7,17 +7,17 @@ use program_ends::LIMIT;
 use std::alloc::Global;
 use worked_lines::Work;
 
-/// How many bytes a read gives where the script does not say.
+/// The largest number of bytes that a read returns, unless the script sets it.
 const PIECE: usize = 4096;
 
-/// The next run's input, and what is given of it.
+/// The input of the next run, and what is set for it.
 #[derive(Drop)]
 pub struct Script {
     input: Text,
     given: Given,
 }
 
-/// What is given where the script does not say.
+/// Returns what holds for a run unless the script sets it.
 fn nothing_given(alloc: Global) -> Given {
     Given {
         piece: PIECE,
@@ -27,7 +27,7 @@ fn nothing_given(alloc: Global) -> Given {
     }
 }
 
-/// The last line of a text.
+/// Returns the last line of a text.
 fn last_line(text: &str) -> &str {
     let whole = text.strip_suffix('\n').unwrap_or(text);
     match whole.rsplit_once('\n') {
@@ -44,13 +44,13 @@ impl Script {
         }
     }
 
-    /// Adds a line to the input, with what stands behind it.
+    /// Appends a line to the input, with this line end.
     fn add_line(&mut self, line: &str, end: &str) -> Result<(), Oom> {
         self.input.extend(line.as_bytes())?;
         self.input.extend(end.as_bytes())
     }
 
-    /// Adds so many letters to the input.
+    /// Appends `count` letters to the input.
     fn add_letters(&mut self, count: usize) -> Result<(), Oom> {
         for _ in 0..count {
             self.input.push(b'a')?;
@@ -58,7 +58,7 @@ impl Script {
         Ok(())
     }
 
-    /// Adds a line of the pattern for each number from 1 to this one.
+    /// Appends a line of the pattern for each number from 1 to `last`.
     fn add_each(&mut self, alloc: Global, last: u16, pattern: &str) -> Result<(), Oom> {
         for before in 0..last {
             let line = numbered_line(alloc, pattern, before + 1)?;
@@ -67,7 +67,8 @@ impl Script {
         Ok(())
     }
 
-    /// A run by these words: what it wrote, or how many bytes and the last line, and its status. The input is used up.
+    /// Runs with these words, and returns what it wrote, or the number of bytes and the last line,
+    /// and the exit status. The input and what was set are then removed.
     fn run_step(&mut self, alloc: Global, words: &str, shows_all: bool) -> Result<String, Oom> {
         let run = run_words(alloc, words, &self.input, &self.given)?;
         self.input = List::new(alloc);
@@ -82,7 +83,7 @@ impl Script {
         Ok(format!(in alloc; "{bytes} bytes\n{last}\nstatus {status}\n")?)
     }
 
-    /// Works a step that is answered by nothing. Returns whether it was one.
+    /// Does a step that prints nothing, and returns whether the step is one.
     fn prepare(&mut self, alloc: Global, step: &Step<'_>) -> Result<bool, Oom> {
         match step {
             Step::Remark => {}
@@ -104,7 +105,7 @@ impl Script {
 }
 
 impl Work for Script {
-    /// What a line is answered.
+    /// Returns what is printed for a line.
     fn work(&mut self, alloc: Global, line: &str) -> Result<String, Oom> {
         let step = step_of(line);
         if self.prepare(alloc, &step)? {

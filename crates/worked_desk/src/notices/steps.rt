@@ -1,35 +1,35 @@
-//! The steps of a script, one a line.
+//! The steps of a script of county notices, one a line.
 
-/// A step of a script.
+/// A step of the script.
 #[derive(Clone, Copy, Debug)]
 pub enum Step<'a> {
-    /// A line that is answered by nothing.
+    /// Nothing is done or printed.
     Remark,
-    /// A line of the input, and what stands behind it.
+    /// Appends a line to the input, with this line end.
     Line(&'a str, &'static str),
-    /// Letters of the input, with nothing behind them.
+    /// Appends this many letters to the input, without a line end.
     Letters(usize),
-    /// A line of the pattern for each number from 1 to this one.
+    /// Appends a line of the pattern for each number from 1 to this one.
     Each(u16, &'a str),
-    /// A line of the pattern with so many counties.
+    /// Appends a line of the pattern with this many counties.
     Counties(u16, &'a str),
-    /// How many bytes a read gives in the next run.
+    /// Sets the largest number of bytes that a read returns in the next run.
     Piece(usize),
-    /// How many bytes the input of the next run may have.
+    /// Sets the largest number of bytes of the input of the next run.
     Limit(usize),
-    /// The read that fails in the next run.
+    /// Adds a read that fails in the next run.
     BadRead(u64),
-    /// A write that fails in the next run.
+    /// Adds a write that fails in the next run.
     BadWrite(u64),
-    /// A run by these words.
+    /// Runs with these words.
     Run(&'a str),
-    /// A run by these words, of which the number of bytes and the last line are shown.
+    /// Runs with these words, and prints the number of bytes and the last line.
     Last(&'a str),
-    /// A line that is no step.
+    /// The line is no step.
     Unread,
 }
 
-/// The step of a word that stands alone.
+/// Returns the step that is this whole line, or `None`.
 fn bare_step(line: &str) -> Option<Step<'_>> {
     match line {
         "ask" => Some(Step::Line("", "\n")),
@@ -39,7 +39,7 @@ fn bare_step(line: &str) -> Option<Step<'_>> {
     }
 }
 
-/// The step of a number.
+/// Returns the step of a word with a number, or `None`.
 fn numbered_step<'a>(word: &str, rest: &str) -> Option<Step<'a>> {
     let number = rest.parse::<u32>().ok()?;
     match word {
@@ -52,7 +52,7 @@ fn numbered_step<'a>(word: &str, rest: &str) -> Option<Step<'a>> {
     }
 }
 
-/// The step of a number and a pattern.
+/// Returns the step of a word with a number and a pattern, or `None`.
 fn patterned_step<'a>(word: &str, rest: &'a str) -> Option<Step<'a>> {
     let (number, pattern) = rest.split_once(' ')?;
     let last = number.parse::<u16>().ok()?;
@@ -63,7 +63,7 @@ fn patterned_step<'a>(word: &str, rest: &'a str) -> Option<Step<'a>> {
     }
 }
 
-/// The step that a line's first word says, with what stands behind it.
+/// Returns the step of a first word with what comes after it, or `None`.
 fn worded_step(line: &str) -> Option<Step<'_>> {
     let (word, rest) = line.split_once(' ')?;
     match word {
@@ -77,7 +77,7 @@ fn worded_step(line: &str) -> Option<Step<'_>> {
     }
 }
 
-/// The step of a line.
+/// Returns the step of a line. An empty line and one that begins with `#` are remarks.
 pub fn step_of(line: &str) -> Step<'_> {
     if line.is_empty() || line.starts_with('#') {
         return Step::Remark;

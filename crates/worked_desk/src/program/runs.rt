@@ -1,4 +1,4 @@
-//! A run over a source, a sink and a disk in memory.
+//! Runs of the program over a source, a sink and a disk in memory.
 use byte_streams::{MemSink, MemSource, Sink, Source, SureSink, SureSource};
 use desk_program::desk_within;
 use desk_traits::{Disk, SetClock, SureDisk};
@@ -7,24 +7,26 @@ use program_ends::LIMIT;
 use std::alloc::Global;
 use worked_lines::words_of;
 
-/// The bytes that a disk has room for.
+/// The number of bytes that a disk has room for.
 const ROOM: usize = 200_000;
 
-/// 2018-01-03 15:30 UTC, in minutes since 2000.
+/// The reading of the clock: 2018-01-03 15:30 UTC, in minutes since 2000-01-01 00:00 UTC.
 const MINUTE: i64 = 9_471_810;
 
 /// How an input comes, and which calls fail.
 #[derive(Drop)]
 pub struct Given {
-    /// The most bytes that a read gives.
+    /// The largest number of bytes that a read returns.
     pub piece: usize,
-    /// The most bytes of the input.
+    /// The largest number of bytes of the input.
     pub limit: usize,
+    /// The numbers of the reads that fail.
     pub bad_reads: List<u64>,
+    /// The numbers of the writes that fail.
     pub bad_writes: List<u64>,
 }
 
-/// What a run left.
+/// How a run ended: its exit status, what it wrote, and its disk.
 #[derive(Drop)]
 pub struct Run {
     pub status: u8,
@@ -32,19 +34,27 @@ pub struct Run {
     pub disk: SureDisk,
 }
 
-/// How a run ended, and its disk.
+/// How a run ended: its exit status, and its disk.
 #[derive(Drop)]
 pub struct Left {
     pub status: u8,
     pub disk: SureDisk,
 }
 
-/// A disk with no file.
+/// Returns a disk without a file.
+///
+/// # Errors
+///
+/// Out of memory.
 pub fn new_disk(alloc: Global) -> Result<SureDisk, Oom> {
     SureDisk::new(alloc, ROOM)
 }
 
-/// Another disk with the same file.
+/// Returns another disk with the same file.
+///
+/// # Errors
+///
+/// Out of memory.
 pub fn copy_of(alloc: Global, disk: &mut SureDisk) -> Result<SureDisk, Oom> {
     let mut copy = new_disk(alloc)?;
     let length = disk.len().unwrap_or(0);
@@ -55,7 +65,7 @@ pub fn copy_of(alloc: Global, disk: &mut SureDisk) -> Result<SureDisk, Oom> {
     Ok(copy)
 }
 
-/// Does what the words of a line ask for.
+/// Runs the program with the words of a line as arguments.
 fn end_of<S: Source, K: Sink>(
     alloc: Global,
     line: &str,
@@ -75,13 +85,22 @@ fn end_of<S: Source, K: Sink>(
     })
 }
 
-/// A run by the words of a line over ends that cannot fail: its status, and the disk.
+/// Runs the program with the words of a line as arguments, over a source and a sink that never
+/// fail.
+///
+/// # Errors
+///
+/// Out of memory.
 pub fn run_surely(alloc: Global, line: &str, input: &Text, disk: SureDisk) -> Result<Left, Oom> {
     let mut source = SureSource::new(alloc, input.as_slice())?;
     end_of(alloc, line, &mut source, &mut SureSink, disk, LIMIT)
 }
 
-/// A run by the words of a line.
+/// Runs the program with the words of a line as arguments.
+///
+/// # Errors
+///
+/// Out of memory.
 pub fn run_words(
     alloc: Global,
     line: &str,

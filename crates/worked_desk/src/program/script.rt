@@ -1,4 +1,4 @@
-//! The script of runs: each line's step is worked, and answered by text.
+//! The script of the desk's program.
 use crate::program::runs::{Given, new_disk, run_surely, run_words};
 use crate::program::steps::{Step, step_of};
 use crate::program::sweeps::{Failing, sweep};
@@ -8,10 +8,10 @@ use program_ends::LIMIT;
 use std::alloc::Global;
 use worked_lines::Work;
 
-/// How many bytes a read gives where the script does not say.
+/// The largest number of bytes that a read returns, unless the script sets it.
 const PIECE: usize = 4096;
 
-/// The next run's input, what is given of it, and the disk that the last one left.
+/// The input of the next run, what is set for it, and the disk that the last run left.
 #[derive(Drop)]
 pub struct Script {
     input: Text,
@@ -19,7 +19,7 @@ pub struct Script {
     disk: Option<SureDisk>,
 }
 
-/// What is given where the script does not say.
+/// Returns what holds for a run unless the script sets it.
 fn nothing_given(alloc: Global) -> Given {
     Given {
         piece: PIECE,
@@ -29,7 +29,7 @@ fn nothing_given(alloc: Global) -> Given {
     }
 }
 
-/// The last line of a text.
+/// Returns the last line of a text.
 fn last_line(text: &str) -> &str {
     let whole = text.strip_suffix('\n').unwrap_or(text);
     match whole.rsplit_once('\n') {
@@ -47,13 +47,13 @@ impl Script {
         }
     }
 
-    /// Adds a line to the input, with what stands behind it.
+    /// Appends a line to the input, with this line end.
     fn add_line(&mut self, line: &str, end: &str) -> Result<(), Oom> {
         self.input.extend(line.as_bytes())?;
         self.input.extend(end.as_bytes())
     }
 
-    /// Adds so many letters to the input.
+    /// Appends `count` letters to the input.
     fn add_letters(&mut self, count: usize) -> Result<(), Oom> {
         for _ in 0..count {
             self.input.push(b'a')?;
@@ -61,7 +61,7 @@ impl Script {
         Ok(())
     }
 
-    /// Adds requests that open and discard so many drafts.
+    /// Appends requests of desk A that open and discard `count` drafts.
     fn add_drafts(&mut self, alloc: Global, count: u32) -> Result<(), Oom> {
         let mut seq = 0u32;
         for draft in 0..count {
@@ -80,7 +80,7 @@ impl Script {
         Ok(())
     }
 
-    /// The disk, or a new one where there is none.
+    /// Returns the disk, or a new one if there is none.
     fn take_disk(&mut self, alloc: Global) -> Result<SureDisk, Oom> {
         match self.disk.take() {
             Some(disk) => Ok(disk),
@@ -88,7 +88,8 @@ impl Script {
         }
     }
 
-    /// A run by these words over ends that cannot fail: its status. The input is used up.
+    /// Runs with these words over a source and a sink that never fail, and returns the exit status.
+    /// The input is then empty.
     fn sure_step(&mut self, alloc: Global, words: &str) -> Result<String, Oom> {
         let disk = self.take_disk(alloc)?;
         let ended = run_surely(alloc, words, &self.input, disk)?;
@@ -98,7 +99,8 @@ impl Script {
         Ok(format!(in alloc; "status {status}\n")?)
     }
 
-    /// Runs by these words in which each of the first calls fails in turn: what they come to. The disk stays as it is.
+    /// Runs with these words, with each of the first calls failing in turn, and returns the counts.
+    /// The disk stays as it is.
     fn sweep_step(
         &mut self,
         alloc: Global,
@@ -114,7 +116,8 @@ impl Script {
         Ok(format!(in alloc; "{calls} runs, {ended} ended by a fault, {differ} differ\n")?)
     }
 
-    /// A run by these words: what it wrote, or its last line, and its status. The input is used up.
+    /// Runs with these words, and returns what it wrote, or its last line, and the exit status. The
+    /// input and what was set are then removed.
     fn run_step(&mut self, alloc: Global, words: &str, shows_all: bool) -> Result<String, Oom> {
         let disk = self.take_disk(alloc)?;
         let run = run_words(alloc, words, &self.input, &self.given, disk)?;
@@ -130,7 +133,7 @@ impl Script {
         Ok(format!(in alloc; "{last}\nstatus {status}\n")?)
     }
 
-    /// Works a step that is answered by nothing. Returns whether it was one.
+    /// Does a step that prints nothing, and returns whether the step is one.
     fn prepare(&mut self, alloc: Global, step: &Step<'_>) -> Result<bool, Oom> {
         match step {
             Step::Remark => {}
@@ -151,7 +154,7 @@ impl Script {
 }
 
 impl Work for Script {
-    /// What a line is answered.
+    /// Returns what is printed for a line.
     fn work(&mut self, alloc: Global, line: &str) -> Result<String, Oom> {
         let step = step_of(line);
         if self.prepare(alloc, &step)? {

@@ -1,40 +1,40 @@
-//! The steps of a script, one a line.
+//! The steps of a script of the desk's program, one a line.
 use crate::program::sweeps::Failing;
 
-/// A step of a script.
+/// A step of the script.
 #[derive(Clone, Copy, Debug)]
 pub enum Step<'a> {
-    /// A line that is answered by nothing.
+    /// Nothing is done or printed.
     Remark,
-    /// A line of the input, and what stands behind it.
+    /// Appends a line to the input, with this line end.
     Line(&'a str, &'static str),
-    /// Letters of the input, with nothing behind them.
+    /// Appends this many letters to the input, without a line end.
     Letters(usize),
-    /// Requests that open and discard so many drafts, one after another.
+    /// Appends requests that open and discard this many drafts, one after another.
     Drafts(u32),
-    /// A new disk, with no file.
+    /// Removes the disk, so that the next run has a new one, without a file.
     NoFile,
-    /// How many bytes a read gives in the next run.
+    /// Sets the largest number of bytes that a read returns in the next run.
     Piece(usize),
-    /// How many bytes the input of the next run may have.
+    /// Sets the largest number of bytes of the input of the next run.
     Limit(usize),
-    /// The read that fails in the next run.
+    /// Adds a read that fails in the next run.
     BadRead(u64),
-    /// A write that fails in the next run.
+    /// Adds a write that fails in the next run.
     BadWrite(u64),
-    /// A run by these words.
+    /// Runs with these words.
     Run(&'a str),
-    /// A run by these words, of which the last line is shown.
+    /// Runs with these words, and prints the last line.
     Last(&'a str),
-    /// A run by these words over ends that cannot fail.
+    /// Runs with these words over a source and a sink that never fail.
     Sure(&'a str),
-    /// Runs by these words, in which each of the first calls fails in turn.
+    /// Runs with these words, with each of this many first calls failing in turn.
     Sweep(Failing, u32, &'a str),
-    /// A line that is no step.
+    /// The line is no step.
     Unread,
 }
 
-/// The step of a word that stands alone.
+/// Returns the step that is this whole line, or `None`.
 fn bare_step(line: &str) -> Option<Step<'_>> {
     match line {
         "ask" => Some(Step::Line("", "\n")),
@@ -45,7 +45,7 @@ fn bare_step(line: &str) -> Option<Step<'_>> {
     }
 }
 
-/// The step of a number.
+/// Returns the step of a word with a number, or `None`.
 fn numbered_step<'a>(word: &str, rest: &str) -> Option<Step<'a>> {
     let number = rest.parse::<u32>().ok()?;
     match word {
@@ -59,7 +59,8 @@ fn numbered_step<'a>(word: &str, rest: &str) -> Option<Step<'a>> {
     }
 }
 
-/// The step of a sweep: which calls fail, how many are tried, and the words.
+/// Returns the step of the words `reads CALLS WORDS` or `writes CALLS WORDS`, or `None` if they are
+/// not such words.
 fn sweep_step(rest: &str) -> Option<Step<'_>> {
     let (kind, rest) = rest.split_once(' ')?;
     let (calls, words) = rest.split_once(' ')?;
@@ -71,7 +72,7 @@ fn sweep_step(rest: &str) -> Option<Step<'_>> {
     }
 }
 
-/// The step that a line's first word says, with what stands behind it.
+/// Returns the step of a first word with what comes after it, or `None`.
 fn worded_step(line: &str) -> Option<Step<'_>> {
     let (word, rest) = line.split_once(' ')?;
     match word {
@@ -86,7 +87,7 @@ fn worded_step(line: &str) -> Option<Step<'_>> {
     }
 }
 
-/// The step of a line.
+/// Returns the step of a line. An empty line and one that begins with `#` are remarks.
 pub fn step_of(line: &str) -> Step<'_> {
     if line.is_empty() || line.starts_with('#') {
         return Step::Remark;

@@ -1,4 +1,5 @@
-//! Sweeps: each read of an input, or each write of an output, fails in turn.
+//! Sweeps: runs in which one read of the input, or one write of the output, fails, for each call in
+//! turn.
 use crate::program::runs::{Given, Run, copy_of, run_words};
 use desk_traits::SureDisk;
 use hazard_types::{List, Oom, Text};
@@ -12,8 +13,7 @@ pub enum Failing {
     Writes,
 }
 
-/// How many runs a fault ended, and how many wrote anything but a beginning of what a run without faults writes, and the
-/// line of the fault.
+/// How many runs a fault ended, and how many runs differ from what they should write.
 #[derive(Clone, Copy, Debug)]
 pub struct Tally {
     pub ended: u64,
@@ -21,7 +21,7 @@ pub struct Tally {
 }
 
 impl Failing {
-    /// The status of a run that such a fault ends.
+    /// Returns the exit status of a run that such a fault ends.
     fn status(self) -> u8 {
         match self {
             Failing::Reads => 7,
@@ -29,7 +29,7 @@ impl Failing {
         }
     }
 
-    /// The line that tells it.
+    /// Returns the line that a run writes for such a fault.
     fn line(self) -> &'static [u8] {
         match self {
             Failing::Reads => b"fault ReadFault\n",
@@ -37,7 +37,7 @@ impl Failing {
         }
     }
 
-    /// An input that comes a byte at a time, of which this call fails.
+    /// Returns an input that comes one byte at a time, where this call fails.
     fn given(self, alloc: Global, call: u32) -> Result<Given, Oom> {
         let bad = List::from_slice(alloc, &[u64::from(call)])?;
         let (bad_reads, bad_writes) = match self {
@@ -53,7 +53,7 @@ impl Failing {
     }
 }
 
-/// Whether the text is a beginning of the whole one, and a line behind it.
+/// Whether the text is a beginning of the whole one, and then the line.
 fn is_beginning(text: &[u8], line: &[u8], whole: &[u8]) -> bool {
     match text.strip_suffix(line) {
         Some(front) => whole.starts_with(front),
@@ -61,7 +61,12 @@ fn is_beginning(text: &[u8], line: &[u8], whole: &[u8]) -> bool {
     }
 }
 
-/// Runs the words over copies of a disk, of which each of the first calls fails in turn.
+/// Counts the runs with these words over copies of a disk, with each of the first `calls` calls
+/// failing in turn. Each is compared with a run without a fault.
+///
+/// # Errors
+///
+/// Out of memory.
 pub fn sweep(
     alloc: Global,
     failing: Failing,
@@ -85,7 +90,8 @@ pub fn sweep(
 }
 
 impl Tally {
-    /// Counts a run beside the one without faults.
+    /// Counts a run. One that a fault ended writes a beginning of what the run without faults
+    /// writes, and the line of the fault; any other writes the same as that run.
     fn count(&mut self, failing: Failing, run: &Run, whole: &Run) {
         let text = run.text.as_slice();
         let as_defined = if run.status == failing.status() {

@@ -1,4 +1,4 @@
-//! What an office answers, as text.
+//! The replies of an office, as text.
 ghost use Rattle.std.specs.Prelude.{IfOk};
 ghost use Rattle.request_json.specs.Formed.{HasForm};
 ghost use Rattle.office_core.specs.Prepared.{MayCommit};
@@ -8,13 +8,13 @@ use office_core::{Office, Prepared, Ready};
 use request_json::{Asked, read_request, refusal_text, reply_text};
 use std::alloc::Global;
 
-/// A text with LF behind it.
+/// Returns a text with LF.
 fn line_of(mut text: Text) -> Result<Text, Oom> {
     text.push(b'\n')?;
     Ok(text)
 }
 
-/// The line of a refusal. Out of memory ends the script.
+/// Returns the text of a refusal, on a line.
 fn refused(alloc: Global, stop: Or<Refusal>) -> Result<Text, Oom> {
     match stop {
         Or::No(refusal) => line_of(refusal_text(alloc, &refusal)?),
@@ -22,7 +22,7 @@ fn refused(alloc: Global, stop: Or<Refusal>) -> Result<Text, Oom> {
     }
 }
 
-/// The reply to a desk's last request, which was repeated.
+/// Returns the reply to a desk's last request, which was repeated.
 fn kept_answer(alloc: Global, office: &Office, asked: &Asked) -> Result<Text, Oom> {
     match office.kept(asked.desk) {
         Some(reply) => line_of(reply_text(alloc, reply)?),
@@ -30,7 +30,7 @@ fn kept_answer(alloc: Global, office: &Office, asked: &Asked) -> Result<Text, Oo
     }
 }
 
-/// Commits what was accepted, and gives its reply.
+/// Commits an accepted request, and returns its reply.
 fn committed(alloc: Global, office: &mut Office, prepared: Prepared) -> Result<Text, Oom>
     requires { MayCommit office.old prepared }
 {
@@ -39,7 +39,8 @@ fn committed(alloc: Global, office: &mut Office, prepared: Prepared) -> Result<T
     Ok(text)
 }
 
-/// Hands a request to the office, and commits it where it is accepted.
+/// Submits a request, commits it if it is accepted, and returns its reply or refusal. After
+/// 4,294,967,295 drafts it submits no request.
 fn submit(alloc: Global, office: &mut Office, asked: &Asked, reading: i64) -> Result<Text, Oom>
     requires { HasForm asked.now }
 {
@@ -56,14 +57,19 @@ fn submit(alloc: Global, office: &mut Office, asked: &Asked, reading: i64) -> Re
     }
 }
 
-/// The request of a text.
+/// Returns the request of a text.
 fn request_in(alloc: Global, text: &str) -> Result<Asked, Or<Refusal>>
     ensures { IfOk result HasForm }
 {
     read_request(alloc, text.as_bytes())
 }
 
-/// The reply to a request as JSON, or the refusal.
+/// Returns the reply to a request as JSON, or the refusal, on a line. The reading of the clock is
+/// minutes since 2000-01-01 00:00 UTC.
+///
+/// # Errors
+///
+/// Out of memory.
 pub fn request_answer(
     alloc: Global,
     office: &mut Office,
@@ -76,7 +82,12 @@ pub fn request_answer(
     }
 }
 
-/// Sets the edition of the texts from now on. There is no way back from Two to One.
+/// Sets the edition of later texts, and returns an empty text; from Two to One it only returns `no
+/// way back`.
+///
+/// # Errors
+///
+/// Out of memory.
 pub fn turn_answer(alloc: Global, office: &mut Office, edition: Edition) -> Result<Text, Oom> {
     match (office.edition(), edition) {
         (Edition::Two, Edition::One) => List::from_slice(alloc, b"no way back\n"),
@@ -87,12 +98,17 @@ pub fn turn_answer(alloc: Global, office: &mut Office, edition: Edition) -> Resu
     }
 }
 
-/// What the office shows.
+/// Returns what a query asks for.
 fn shown(alloc: Global, office: &Office, q: &Query, reading: i64) -> Result<Text, Or<Refusal>> {
     office.look(alloc, q, reading)
 }
 
-/// What is looked at. A draft is a line, and all else as it is.
+/// Returns what a query asks for, or the refusal, at a reading of the clock in minutes since
+/// 2000-01-01 00:00 UTC. A draft is on a line; other texts are unchanged.
+///
+/// # Errors
+///
+/// Out of memory.
 pub fn look_answer(alloc: Global, office: &Office, q: &Query, reading: i64) -> Result<Text, Oom> {
     let text = match shown(alloc, office, q, reading) {
         Ok(text) => text,

@@ -1,4 +1,4 @@
-//! The script of an office's days: each line's step is worked, and answered by text.
+//! The script of an office.
 ghost use Rattle.std.specs.Prelude.{IfOk, IfSome};
 ghost use Rattle.desk_settings.specs.AreSettings.{AreSettings};
 
@@ -13,32 +13,35 @@ use worked_lines::{Work, shown, text_of};
 /// The minutes from one issue of a fill to the next.
 const APART: i64 = 11;
 
-/// For how many minutes an issue of a fill is in effect.
+/// The minutes for which an issue of a fill is in effect.
 const LASTING: i64 = 10;
 
-/// What is answered where no office is open.
+/// What is printed if no office is open.
 const NO_OFFICE: &[u8] = b"no office\n";
 
-/// The settings, and whether an office was opened with them; the office that is open, and the reading of its clock in minutes.
+/// The script: its settings, and the office that is open.
 #[derive(Drop)]
 pub struct Script {
     settings: String,
+    /// Whether an office was opened with the settings.
     used: bool,
     office: Option<Office>,
+    /// The reading of the clock, in minutes since 2000-01-01 00:00 UTC.
     reading: i64,
 }
 
+/// Returns a text.
 fn note(alloc: Global, text: &[u8]) -> Result<Text, Oom> {
     List::from_slice(alloc, text)
 }
 
-/// The minute of a reading, if it has one.
+/// Returns the minute of a reading, or `None` if it is out of range.
 fn minute_of(reading: i64) -> Option<Minute> {
     let count = u32::try_from(reading).ok()?;
     Minute::new(count)
 }
 
-/// The request of an issue under this number that is in effect until this minute.
+/// Returns request `seq` of desk A: an issue of FR.Y in zone MDZ003 from now to `end`.
 fn issue_until(alloc: Global, seq: u32, end: Minute) -> Result<String, Oom> {
     let end = stamp(end);
     let end = text_of(&end);
@@ -47,7 +50,7 @@ fn issue_until(alloc: Global, seq: u32, end: Minute) -> Result<String, Oom> {
     )?)
 }
 
-/// The settings of a text, if it has some.
+/// Returns the settings of a text, or `None` if it has a fault.
 fn settings_of(alloc: Global, text: &[u8]) -> Result<Option<Settings>, Oom>
     ensures { IfOk result (λ found. IfSome found AreSettings) }
 {
@@ -58,7 +61,7 @@ fn settings_of(alloc: Global, text: &[u8]) -> Result<Option<Settings>, Oom>
     }
 }
 
-/// A new office with the settings of a text, if it has some.
+/// Returns a new office with the settings of a text, or `None` if it has a fault.
 fn office_of(alloc: Global, text: &[u8], edition: Edition) -> Result<Option<Office>, Oom> {
     let Some(settings) = settings_of(alloc, text)? else {
         return Ok(None);
@@ -77,7 +80,8 @@ impl Script {
         }
     }
 
-    /// Adds a line to the settings. The first one behind an office begins new settings.
+    /// Appends a line to the settings. The first one after an office was opened begins new
+    /// settings.
     fn add_setting(&mut self, alloc: Global, line: &str) -> Result<Text, Oom> {
         if self.used {
             self.settings = String::new(alloc);
@@ -88,6 +92,7 @@ impl Script {
         note(alloc, b"")
     }
 
+    /// Opens an office with the settings.
     fn open(&mut self, alloc: Global, edition: Edition) -> Result<Text, Oom> {
         self.used = true;
         let Some(office) = office_of(alloc, self.settings.as_bytes(), edition)? else {
@@ -97,6 +102,7 @@ impl Script {
         note(alloc, b"open\n")
     }
 
+    /// Sets the edition of later texts.
     fn turn(&mut self, alloc: Global, edition: Edition) -> Result<Text, Oom> {
         match &mut self.office {
             Some(office) => turn_answer(alloc, office, edition),
@@ -104,6 +110,7 @@ impl Script {
         }
     }
 
+    /// Returns the reply to a request.
     fn request(&mut self, alloc: Global, text: &str) -> Result<Text, Oom> {
         match &mut self.office {
             Some(office) => request_answer(alloc, office, text, self.reading),
@@ -111,6 +118,7 @@ impl Script {
         }
     }
 
+    /// Returns what a query asks for.
     fn look(&self, alloc: Global, q: &Query) -> Result<Text, Oom> {
         match &self.office {
             Some(office) => look_answer(alloc, office, q, self.reading),
@@ -118,7 +126,7 @@ impl Script {
         }
     }
 
-    /// Sets the clock on and issues once, under this number.
+    /// Sets the clock forward, issues with request number `seq`, and returns the reply.
     fn issue_later(&mut self, alloc: Global, seq: u32) -> Result<Text, Oom> {
         self.reading = self.reading.saturating_add(APART);
         match minute_of(self.reading.saturating_add(LASTING)) {
@@ -130,7 +138,7 @@ impl Script {
         }
     }
 
-    /// So many issues, one after another. The last one's answer is that of all.
+    /// Issues `count` times, and returns the last reply.
     fn fill(&mut self, alloc: Global, count: u32) -> Result<Text, Oom> {
         let mut answer = note(alloc, b"")?;
         for seq in 1..=count {
@@ -139,6 +147,7 @@ impl Script {
         Ok(answer)
     }
 
+    /// Does a step, and returns what is printed for it.
     fn step(&mut self, alloc: Global, step: &Step<'_>, line: &str) -> Result<Text, Oom> {
         match step {
             Step::Remark => {
@@ -161,7 +170,7 @@ impl Script {
 }
 
 impl Work for Script {
-    /// What a line is answered.
+    /// Returns what is printed for a line.
     fn work(&mut self, alloc: Global, line: &str) -> Result<String, Oom> {
         let text = self.step(alloc, &step_of(line), line)?;
         shown(alloc, text.as_slice())

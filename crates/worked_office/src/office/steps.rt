@@ -1,27 +1,28 @@
-//! The steps of a script, one a line.
+//! The steps of a script of an office, one a line.
 use hazard_types::{Edition, Query, read_stamp};
 
-/// A step of a script.
+/// A step of the script.
 #[derive(Clone, Copy)]
 pub enum Step<'a> {
-    /// A line that is answered by itself.
+    /// Prints the line.
     Remark,
-    /// A line of settings.
+    /// Appends a line to the settings.
     Setting(&'a str),
-    /// A new office in this edition.
+    /// Opens an office in this edition.
     Open(Edition),
-    /// The edition of the texts from now on.
+    /// Sets the edition of later texts.
     Turn(Edition),
-    /// The reading of the clock from now on, in minutes.
+    /// Sets the reading of the clock, in minutes since 2000-01-01 00:00 UTC.
     At(i64),
-    /// What is looked at.
+    /// Prints what a query asks for.
     Look(Query),
-    /// So many issues, one after another.
+    /// Issues this many times.
     Fill(u32),
-    /// A request of a desk.
+    /// Sends the line as a request.
     Request,
 }
 
+/// Returns the edition with this name, or `None`.
 fn edition_of(word: &str) -> Option<Edition> {
     match word {
         "One" => Some(Edition::One),
@@ -30,7 +31,7 @@ fn edition_of(word: &str) -> Option<Edition> {
     }
 }
 
-/// A stamp, or a count of minutes.
+/// Returns the reading of a stamp or of a number of minutes, or `None`.
 fn reading_of(word: &str) -> Option<i64> {
     match read_stamp(word.as_bytes()) {
         Some(minute) => Some(i64::from(minute.get())),
@@ -38,12 +39,12 @@ fn reading_of(word: &str) -> Option<i64> {
     }
 }
 
-/// A number in decimal digits.
+/// Returns the word as a decimal number, or `None`.
 fn number_of(word: &str) -> Option<u32> {
     word.parse::<u32>().ok()
 }
 
-/// What a word with a number behind it looks at.
+/// Returns the query of a word and a number, or `None` if they are not one.
 fn query_of(word: &str, rest: &str) -> Option<Query> {
     let number = number_of(rest)?;
     match word {
@@ -55,7 +56,7 @@ fn query_of(word: &str, rest: &str) -> Option<Query> {
     }
 }
 
-/// The step that a line's first word says, if it is one of the script's.
+/// Returns the step of a first word with what comes after it, or `None` if the line is a request.
 fn worded_step(line: &str) -> Option<Step<'_>> {
     if line == "board" {
         return Some(Step::Look(Query::Board));
@@ -72,7 +73,8 @@ fn worded_step(line: &str) -> Option<Step<'_>> {
     Some(step)
 }
 
-/// The step of a line: a line that is none of the script's words is a request.
+/// Returns the step of a line. An empty line and one that begins with `#` are remarks; one that has
+/// no other step is a request.
 pub fn step_of(line: &str) -> Step<'_> {
     if line.is_empty() || line.starts_with('#') {
         return Step::Remark;

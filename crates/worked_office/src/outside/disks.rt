@@ -1,4 +1,4 @@
-//! Disks.
+//! Rows of disks.
 ghost use Rattle.std.specs.Prelude.{◌+◌};
 ghost use Rattle.desk_traits.specs.File.{IsWithin};
 
@@ -14,12 +14,13 @@ enum Call {
     Len,
     Read { at: u64, count: u16 },
     Write { at: u64, bytes: Text },
+    /// A write and a sync.
     Put { at: u64, bytes: Text },
     Sync,
 }
 
-/// A call as it is written: `len`, `sync`, `read:AT:COUNT`, `write:AT:BYTES`, or `put:AT:BYTES` for
-/// a write and a sync.
+/// Returns the call of a word `len`, `sync`, `read:AT:COUNT`, `write:AT:BYTES` or `put:AT:BYTES`,
+/// or `None` for another word.
 fn call_of(alloc: Global, word: &str) -> Result<Option<Call>, Oom> {
     match word {
         "len" => return Ok(Some(Call::Len)),
@@ -53,6 +54,7 @@ fn call_of(alloc: Global, word: &str) -> Result<Option<Call>, Oom> {
     }
 }
 
+/// Appends `ok` or `failed`.
 fn add_done(answer: &mut String, done: Result<(), Failed>) -> Result<(), Oom> {
     match done {
         Ok(()) => add(answer, "ok"),
@@ -60,6 +62,7 @@ fn add_done(answer: &mut String, done: Result<(), Failed>) -> Result<(), Oom> {
     }
 }
 
+/// Appends the length of the file, or `failed`.
 fn tell_len<D: Disk>(alloc: Global, disk: &mut D, answer: &mut String) -> Result<(), Oom> {
     match disk.len() {
         Ok(len) => add(answer, format!(in alloc; "{len}")?.as_str()),
@@ -67,10 +70,12 @@ fn tell_len<D: Disk>(alloc: Global, disk: &mut D, answer: &mut String) -> Result
     }
 }
 
+/// Syncs, and appends `ok` or `failed`.
 fn tell_sync<D: Disk>(disk: &mut D, answer: &mut String) -> Result<(), Oom> {
     add_done(answer, disk.sync())
 }
 
+/// Appends the `count` bytes read at place `at`, or `failed`.
 fn tell_read<D: Disk>(
     alloc: Global,
     disk: &mut D,
@@ -90,19 +95,22 @@ fn tell_read<D: Disk>(
     }
 }
 
+/// Writes at place `at`, and appends `ok` or `failed`.
 fn tell_write<D: Disk>(disk: &mut D, at: u64, bytes: &Text, answer: &mut String) -> Result<(), Oom>
     requires { IsWithin at (D.seen disk.old) }
 {
     add_done(answer, disk.write_at(at, bytes.as_slice()))
 }
 
+/// Writes at place `at` and syncs, and appends `ok` or `failed`.
 fn tell_put<D: Disk>(disk: &mut D, at: u64, bytes: &Text, answer: &mut String) -> Result<(), Oom>
     requires { IsWithin at (D.seen disk.old) }
 {
     add_done(answer, write_synced(disk, at, bytes.as_slice()))
 }
 
-/// Makes a call of a disk in memory. One that its file has no room for is not made.
+/// Makes a call of a disk in memory, and appends what it returned, or `outside` for a call past the
+/// end of the file, which is not made.
 fn make(alloc: Global, disk: &mut MemDisk, call: &Call, answer: &mut String) -> Result<(), Oom> {
     let len = disk.file().len() as u64;
     match call {
@@ -129,7 +137,7 @@ fn make(alloc: Global, disk: &mut MemDisk, call: &Call, answer: &mut String) -> 
     }
 }
 
-/// Makes a call of a disk that can't fail.
+/// Makes a call of a disk that never fails, and appends what it returned.
 fn make_sure(
     alloc: Global,
     disk: &mut SureDisk,
@@ -145,7 +153,7 @@ fn make_sure(
     }
 }
 
-/// What a disk in memory has noted of a call.
+/// Returns the letter of a call that a disk in memory has recorded, a small one if the call failed.
 fn noted(call: &DiskCall) -> &'static str {
     match call {
         DiskCall::Looked => "L",
@@ -159,24 +167,36 @@ fn noted(call: &DiskCall) -> &'static str {
     }
 }
 
-/// A disk in memory with the faults that were told.
+/// Returns a disk in memory with these bytes and faults.
+///
+/// # Errors
+///
+/// Out of memory.
 pub fn disk_of(alloc: Global, told: &Told) -> Result<MemDisk, Oom> {
     let bytes = told.bytes.as_slice();
     MemDisk::new(alloc, bytes, &told.failing, told.stop, told.pick)
 }
 
-/// A disk in memory with this file, which does not fail.
+/// Returns a disk in memory with this file and no fault.
+///
+/// # Errors
+///
+/// Out of memory.
 pub fn disk_with(alloc: Global, file: &[u8]) -> Result<MemDisk, Oom> {
     let none = List::new(alloc);
     MemDisk::new(alloc, file, &none, None, 0)
 }
 
-/// What a crash leaves of a disk.
+/// Returns the file that a crash leaves.
+///
+/// # Errors
+///
+/// Out of memory.
 pub fn left_by(disk: MemDisk) -> Result<Text, Oom> {
     disk.crashed()
 }
 
-/// Adds the calls that a disk noted, the failed ones small.
+/// Appends the letters of the calls that a disk has recorded.
 fn add_noted(answer: &mut String, disk: &MemDisk) -> Result<(), Oom> {
     answer.push_str("; calls ")?;
     for call in disk.calls() {
@@ -185,13 +205,21 @@ fn add_noted(answer: &mut String, disk: &MemDisk) -> Result<(), Oom> {
     Ok(())
 }
 
-/// Adds a disk's file.
+/// Appends a disk's file.
+///
+/// # Errors
+///
+/// Out of memory.
 pub fn add_file(answer: &mut String, disk: &MemDisk) -> Result<(), Oom> {
     add_part(answer, "file", disk.file().as_slice())
 }
 
-/// Calls of a disk; then the calls that it noted, the failed ones small, its file, and what a crash
-/// leaves.
+/// Returns what the calls of a disk returned, the letters of the calls that it recorded, its file,
+/// and the file that a crash leaves.
+///
+/// # Errors
+///
+/// Out of memory.
 pub fn disk_row(alloc: Global, told: &Told, calls: &str) -> Result<String, Oom> {
     let mut answer = String::new(alloc);
     let mut disk = disk_of(alloc, told)?;
@@ -208,7 +236,11 @@ pub fn disk_row(alloc: Global, told: &Told, calls: &str) -> Result<String, Oom> 
     Ok(answer)
 }
 
-/// Calls of a disk that can't fail, with room for as many bytes as were told.
+/// Returns what the calls of a disk that never fails returned. The disk has room for `piece` bytes.
+///
+/// # Errors
+///
+/// Out of memory.
 pub fn sure_disk_row(alloc: Global, told: &Told, calls: &str) -> Result<String, Oom> {
     let mut answer = String::new(alloc);
     let mut disk = SureDisk::new(alloc, told.piece)?;

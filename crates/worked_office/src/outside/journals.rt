@@ -1,4 +1,4 @@
-//! Journals.
+//! Rows of journals.
 use crate::outside::disks::{add_file, disk_of, disk_with, left_by};
 use crate::outside::told::Told;
 use crate::outside::words::{add, bytes_of, unread};
@@ -7,7 +7,8 @@ use hazard_types::Oom;
 use journal_core::{AdoptFault, AppendFault, CreateFault, Journal, Packet};
 use std::alloc::Global;
 
-/// A body of a record, if the word is one.
+/// Returns the body of a record, or `None` if the word cannot be read as bytes or has more than
+/// 65,536.
 fn packet_of(alloc: Global, word: &str) -> Result<Option<Packet>, Oom> {
     match bytes_of(alloc, word)? {
         Some(bytes) if bytes.len() <= 65_536 => Ok(Some(Packet::new(alloc, bytes.as_slice())?)),
@@ -15,6 +16,7 @@ fn packet_of(alloc: Global, word: &str) -> Result<Option<Packet>, Oom> {
     }
 }
 
+/// Appends a record to a journal, and returns `ok`, `full` or `failed`.
 fn added<D: Disk>(journal: &mut Journal<D>, body: &Packet) -> &'static str {
     match journal.append(body) {
         Ok(()) => "ok",
@@ -23,7 +25,7 @@ fn added<D: Disk>(journal: &mut Journal<D>, body: &Packet) -> &'static str {
     }
 }
 
-/// How many bodies a disk's journal has, or why it has none.
+/// Returns the number of bodies of the journal on a disk, or why it has none.
 fn adopted<D: Disk + Drop>(alloc: Global, disk: D) -> Result<usize, AdoptFault> {
     match Journal::adopt(alloc, disk) {
         Ok((_journal, bodies)) => Ok(bodies.len()),
@@ -31,23 +33,23 @@ fn adopted<D: Disk + Drop>(alloc: Global, disk: D) -> Result<usize, AdoptFault> 
     }
 }
 
-/// A journal that is made with this body; where it is not, the disk and why.
+/// Returns a journal whose first record has this body, or the disk and why there is none.
 fn created<D: Disk>(disk: D, body: &Packet) -> Result<Journal<D>, (D, CreateFault)> {
     Journal::create(disk, body)
 }
 
-/// The disk of a journal.
+/// Returns the disk of a journal.
 fn disk_under<D: Disk>(journal: Journal<D>) -> D {
     journal.into_disk()
 }
 
-/// How many bodies a file has, or why it is no journal.
+/// Returns the number of bodies of a file, or why it is no journal.
 fn bodies_in(alloc: Global, file: &[u8]) -> Result<Result<usize, AdoptFault>, Oom> {
     let disk = disk_with(alloc, file)?;
     Ok(adopted(alloc, disk))
 }
 
-/// The same in words.
+/// Appends the number of bodies of a file, or why it is no journal.
 fn add_opened(alloc: Global, file: &[u8], answer: &mut String) -> Result<(), Oom> {
     match bodies_in(alloc, file)? {
         Ok(count) => answer.push_str(format!(in alloc; "{count}")?.as_str())?,
@@ -61,7 +63,7 @@ fn add_opened(alloc: Global, file: &[u8], answer: &mut String) -> Result<(), Oom
     Ok(())
 }
 
-/// Adds bodies to a journal, and gives its disk.
+/// Appends a record to a journal for each word, and returns its disk.
 fn appended(
     alloc: Global,
     mut journal: Journal<MemDisk>,
@@ -77,7 +79,7 @@ fn appended(
     Ok(disk_under(journal))
 }
 
-/// Makes a journal of a body on a disk, and adds others; gives the disk.
+/// Creates a journal on a disk, appends a record for each word, and returns the disk.
 fn journal_over(
     alloc: Global,
     disk: MemDisk,
@@ -99,8 +101,12 @@ fn journal_over(
     Ok(disk)
 }
 
-/// Makes a journal of the first word on a disk, and adds the others; then the file, and what a crash
-/// leaves: how many bodies it has.
+/// Returns what the creation of a journal with the first word, and the appending of the others,
+/// returned; then the file, and the number of bodies that a crash leaves.
+///
+/// # Errors
+///
+/// Out of memory.
 pub fn journal_row(alloc: Global, told: &Told, words: &str) -> Result<String, Oom> {
     let mut answer = String::new(alloc);
     let words = words.trim();
@@ -116,14 +122,18 @@ pub fn journal_row(alloc: Global, told: &Told, words: &str) -> Result<String, Oo
     Ok(answer)
 }
 
-/// How many bodies the bytes have as a journal, or why they are none.
+/// Returns the number of bodies of the bytes, or why they are no journal.
+///
+/// # Errors
+///
+/// Out of memory.
 pub fn opened_row(alloc: Global, told: &Told) -> Result<String, Oom> {
     let mut answer = String::new(alloc);
     add_opened(alloc, told.bytes.as_slice(), &mut answer)?;
     Ok(answer)
 }
 
-/// A file of one body of so many bytes `x`.
+/// Returns a journal of one body of `count` bytes `x`.
 fn long_file(alloc: Global, count: u32) -> Result<Vec<u8>, Oom> {
     let mut file = Vec::new(alloc);
     file.push(b'G')?;
@@ -133,7 +143,11 @@ fn long_file(alloc: Global, count: u32) -> Result<Vec<u8>, Oom> {
     Ok(file)
 }
 
-/// The same of such a file.
+/// Returns the number of bodies of a journal of one body of `pick` bytes, or why it is no journal.
+///
+/// # Errors
+///
+/// Out of memory.
 pub fn long_row(alloc: Global, told: &Told) -> Result<String, Oom> {
     let mut answer = String::new(alloc);
     let Ok(count) = u32::try_from(told.pick) else {

@@ -1,4 +1,4 @@
-//! Links and peers.
+//! Rows of links and peers.
 use crate::outside::streams::{read_once, write_word};
 use crate::outside::told::Told;
 use crate::outside::words::{add, add_bytes, add_part};
@@ -6,7 +6,7 @@ use desk_links::{Link, MemLink, MemPeer, Peer};
 use hazard_types::Oom;
 use std::alloc::Global;
 
-/// Calls of a link: `read:ROOM` and `write:BYTES`.
+/// Makes the calls of a link, `read:ROOM` and `write:BYTES`, and appends what they returned.
 fn talk<L: Link>(alloc: Global, link: &mut L, calls: &str, answer: &mut String) -> Result<(), Oom> {
     for call in calls.split_whitespace() {
         match call.split_once(':') {
@@ -18,12 +18,20 @@ fn talk<L: Link>(alloc: Global, link: &mut L, calls: &str, answer: &mut String) 
     Ok(())
 }
 
-/// A link as it was told.
+/// Returns a link with these bytes and faults.
+///
+/// # Errors
+///
+/// Out of memory.
 pub fn link_of(alloc: Global, told: &Told) -> Result<MemLink, Oom> {
     MemLink::new(alloc, told.bytes.as_slice(), told.piece, &told.failing)
 }
 
-/// Calls of a link, and the bytes written.
+/// Returns what the calls of a link returned, and the bytes written on it.
+///
+/// # Errors
+///
+/// Out of memory.
 pub fn link_row(alloc: Global, told: &Told, calls: &str) -> Result<String, Oom> {
     let mut answer = String::new(alloc);
     let mut link = link_of(alloc, told)?;
@@ -32,6 +40,8 @@ pub fn link_row(alloc: Global, told: &Told, calls: &str) -> Result<String, Oom> 
     Ok(answer)
 }
 
+/// Reads a peer once by `read_some`, with a buffer of `room` bytes, and appends what was read, or
+/// `failed`. With no room it does nothing.
 fn hear_once<P: Peer>(
     alloc: Global,
     peer: &mut P,
@@ -51,7 +61,12 @@ fn hear_once<P: Peer>(
     }
 }
 
-/// Calls of a peer, and after them so many more reads by `read_some`, of two bytes each.
+/// Returns what the calls of a peer, and one more read of two bytes by `read_some`, returned, and
+/// the bytes written on it.
+///
+/// # Errors
+///
+/// Out of memory.
 pub fn peer_row(alloc: Global, told: &Told, calls: &str) -> Result<String, Oom> {
     let mut answer = String::new(alloc);
     let mut peer = MemPeer::new(link_of(alloc, told)?);

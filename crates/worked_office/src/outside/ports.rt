@@ -1,4 +1,4 @@
-//! Ports with doors, and dialers.
+//! Rows of ports with their doors, and of dialers.
 ghost use Rattle.std.specs.Prelude.{◌≡◌, ◌≤◌, ◌<◌, ◌+◌, ◌^◌, [], All, length, IfOk, IfSome, OnOk};
 ghost use Rattle.desk_links.specs.LinkMemory.{IsUntouched, IsIdle, all_links};
 
@@ -8,7 +8,8 @@ use desk_links::{Dialer, Door, Link, MemDialer, MemDoor, MemLink, MemPort, Port}
 use hazard_types::{List, Oom};
 use std::alloc::Global;
 
-/// Links of the bytes of these words, with commas between them; `-` is none.
+/// Returns a link for each word between commas, with the word's bytes, or an empty list for `-`. A
+/// word that cannot be read as bytes is left out.
 fn links_of(alloc: Global, words: &str) -> Result<List<MemLink>, Oom>
     ensures { IfOk result (All IsUntouched) }
 {
@@ -25,7 +26,7 @@ fn links_of(alloc: Global, words: &str) -> Result<List<MemLink>, Oom>
     Ok(links)
 }
 
-/// Lists of links, with `/` between them.
+/// Returns a list of links for each part between `/`.
 fn lists_of(alloc: Global, words: &str) -> Result<List<List<MemLink>>, Oom>
     ensures { IfOk result (All (λ list. All IsUntouched list)) }
 {
@@ -36,7 +37,7 @@ fn lists_of(alloc: Global, words: &str) -> Result<List<List<MemLink>>, Oom>
     Ok(lists)
 }
 
-/// Lists of numbers, with `/` between them.
+/// Returns a list of numbers for each part between `/`. A part that cannot be read is left out.
 fn failing_of(alloc: Global, words: &str) -> Result<List<List<u64>>, Oom> {
     let mut lists = List::new(alloc);
     for list in words.split('/') {
@@ -47,7 +48,7 @@ fn failing_of(alloc: Global, words: &str) -> Result<List<List<u64>>, Oom> {
     Ok(lists)
 }
 
-/// Reads of a link once, at most eight bytes, and writes them on it.
+/// Reads a link once, at most eight bytes, and writes them on it. Appends the bytes, or `silent`.
 fn echo<L: Link>(link: &mut L, answer: &mut String) -> Result<(), Oom> {
     let mut buffer = [0; 8];
     match link.read(&mut buffer) {
@@ -61,7 +62,7 @@ fn echo<L: Link>(link: &mut L, answer: &mut String) -> Result<(), Oom> {
     }
 }
 
-/// A link that a door gives is echoed, and taken back.
+/// Accepts a link, echoes what it has, and returns it to the door. Appends the bytes, or `failed`.
 fn visit(door: &mut MemDoor, answer: &mut String) -> Result<(), Oom>
     requires none_out { door.old.given ≡ length door.old.back }
     requires few { length door.old.back < 2 ^ 32 }
@@ -78,6 +79,7 @@ fn visit(door: &mut MemDoor, answer: &mut String) -> Result<(), Oom>
     }
 }
 
+/// Visits a door `visits` times.
 fn visit_all(door: &mut MemDoor, visits: u8, answer: &mut String) -> Result<(), Oom>
     requires { IsIdle door.old }
     ensures none_out { OnOk result (door.new.given ≡ length door.new.back) }
@@ -89,7 +91,7 @@ fn visit_all(door: &mut MemDoor, visits: u8, answer: &mut String) -> Result<(), 
     Ok(())
 }
 
-/// So many visits of each door, which then goes back to the port.
+/// Visits each door `visits` times, and returns it to the port.
 fn visit_doors(
     port: &mut MemPort,
     doors: List<MemDoor>,
@@ -107,7 +109,7 @@ fn visit_doors(
     Ok(())
 }
 
-/// What was written on the links, a list for each door that took one back.
+/// Appends what was written on the links, by the doors that took them back.
 fn add_back(answer: &mut String, port: &MemPort) -> Result<(), Oom> {
     answer.push_str("; back")?;
     for links in port.links() {
@@ -120,7 +122,7 @@ fn add_back(answer: &mut String, port: &MemPort) -> Result<(), Oom> {
     Ok(())
 }
 
-/// A port of these lists of links, whose doors fail so.
+/// Returns a port of these lists of links, where these accepts of each door fail.
 fn port_of(alloc: Global, lists: &str, failing: &str) -> Result<MemPort, Oom>
     ensures { IfOk result (λ port. port.back ≡ []) }
 {
@@ -128,7 +130,7 @@ fn port_of(alloc: Global, lists: &str, failing: &str) -> Result<MemPort, Oom>
     MemPort::new(alloc, lists_of(alloc, lists)?, &failing)
 }
 
-/// So many doors of a port, if it gives them.
+/// Returns `count` doors of a port that listens at 8080, or `None` if it fails.
 fn doors_of(port: &mut MemPort, count: u8) -> Option<List<MemDoor>>
     ensures idle { IfSome result (All IsIdle) }
     ensures few { IfSome result (λ doors. length doors ≤ 255) }
@@ -137,7 +139,7 @@ fn doors_of(port: &mut MemPort, count: u8) -> Option<List<MemDoor>>
     port.listen(8080, count as usize).ok()
 }
 
-/// So many visits of so many doors of a port.
+/// Visits each of `doors` doors of a port `visits` times.
 fn visit_port(port: &mut MemPort, doors: u8, visits: u8, answer: &mut String) -> Result<(), Oom>
     requires new { port.old.back ≡ [] }
 {
@@ -147,7 +149,12 @@ fn visit_port(port: &mut MemPort, doors: u8, visits: u8, answer: &mut String) ->
     }
 }
 
-/// Visits of a port's doors: `port LINKS FAILING DOORS : VISITS`.
+/// Returns what the visits of a port's doors returned, and what was written on the links: `port
+/// LINKS FAILING DOORS : VISITS`.
+///
+/// # Errors
+///
+/// Out of memory.
 pub fn port_row(alloc: Global, words: &str, visits: &str) -> Result<String, Oom> {
     let mut answer = String::new(alloc);
     let (lists, rest) = words.split_once(' ').unwrap_or((words, ""));
@@ -164,7 +171,7 @@ pub fn port_row(alloc: Global, words: &str, visits: &str) -> Result<String, Oom>
     Ok(answer)
 }
 
-/// A link that a dialer gives is echoed, and taken back.
+/// Dials a link, echoes what it has, and returns it to the dialer. Appends the bytes, or `failed`.
 fn dial_once(dialer: &mut MemDialer, answer: &mut String) -> Result<(), Oom>
     requires none_out { dialer.old.given ≡ length dialer.old.back }
     requires few { length dialer.old.back < 2 ^ 32 }
@@ -181,6 +188,7 @@ fn dial_once(dialer: &mut MemDialer, answer: &mut String) -> Result<(), Oom>
     }
 }
 
+/// Dials `dials` times.
 fn dial_all(dialer: &mut MemDialer, dials: u8, answer: &mut String) -> Result<(), Oom>
     requires { IsIdle dialer.old }
 {
@@ -190,14 +198,14 @@ fn dial_all(dialer: &mut MemDialer, dials: u8, answer: &mut String) -> Result<()
     Ok(())
 }
 
-/// A dialer of these links, which fails so.
+/// Returns a dialer of these links, where these dials fail.
 fn dialer_of(alloc: Global, links: &str, failing: &List<u64>) -> Result<MemDialer, Oom>
     ensures { IfOk result IsIdle }
 {
     MemDialer::new(alloc, links_of(alloc, links)?, failing)
 }
 
-/// What was written on the links that a dialer took back.
+/// Appends what was written on the links that a dialer took back.
 fn add_dialed(answer: &mut String, dialer: &MemDialer) -> Result<(), Oom> {
     answer.push_str("; back")?;
     for link in dialer.links() {
@@ -207,7 +215,12 @@ fn add_dialed(answer: &mut String, dialer: &MemDialer) -> Result<(), Oom> {
     Ok(())
 }
 
-/// Dials, and what was written on the links taken back: `dialer LINKS FAILING : DIALS`.
+/// Returns what the dials returned, and what was written on the links: `dialer LINKS FAILING :
+/// DIALS`.
+///
+/// # Errors
+///
+/// Out of memory.
 pub fn dialer_row(alloc: Global, words: &str, dials: &str) -> Result<String, Oom> {
     let mut answer = String::new(alloc);
     let (links, failing) = words.split_once(' ').unwrap_or((words, "-"));

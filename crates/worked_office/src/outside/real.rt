@@ -1,5 +1,5 @@
-//! The real ones: over slices and a broken stream, a file, the system's clock, and the network of
-//! this machine.
+//! Rows of what is not in memory: streams of the standard library, a file, the system's clock, and
+//! the network of this machine.
 ghost use Rattle.std.specs.Prelude.{◌≡◌};
 
 use crate::outside::streams::{read_once, write_word};
@@ -13,7 +13,7 @@ use std::alloc::Global;
 use std::fs::{self, File};
 use std::io::{self, ErrorKind, Read, Write};
 
-/// Gives an error at each read, and takes nothing at each write.
+/// A stream whose reads fail and whose writes write no byte.
 #[derive(Drop)]
 struct Broken {}
 
@@ -33,7 +33,12 @@ impl Write for Broken {
     }
 }
 
-/// Reads of a source over the bytes, and a write to a sink of the system's that keeps nothing.
+/// Returns what each read of a source over the bytes returned, and a write to a sink that keeps
+/// nothing.
+///
+/// # Errors
+///
+/// Out of memory.
 pub fn std_row(alloc: Global, told: &Told, calls: &str) -> Result<String, Oom> {
     let mut answer = String::new(alloc);
     let mut source = StdSource::new(told.bytes.as_slice());
@@ -45,7 +50,11 @@ pub fn std_row(alloc: Global, told: &Told, calls: &str) -> Result<String, Oom> {
     Ok(answer)
 }
 
-/// Reads and writes of a stream that is broken.
+/// Returns what a read and two writes of a broken stream returned.
+///
+/// # Errors
+///
+/// Out of memory.
 pub fn broken_row(alloc: Global) -> Result<String, Oom> {
     let mut answer = String::new(alloc);
     let mut source = StdSource::new(Broken {});
@@ -56,15 +65,16 @@ pub fn broken_row(alloc: Global) -> Result<String, Oom> {
     Ok(answer)
 }
 
-/// The name of the file, which is gone when its row ends.
+/// The name of the file, which is removed when its row ends.
 const NAME: &str = "real.disk";
 
+/// Returns `ok` or `failed`.
 fn said(is_ok: bool) -> &'static str {
     if is_ok { "ok" } else { "failed" }
 }
 
-/// The calls of a disk that tells nothing of its file: a write and a sync, its length, a read within
-/// it and one past its end.
+/// Appends what the calls of a disk returned: a write with a sync, the length, a read within the
+/// file, and one past its end.
 fn try_disk(alloc: Global, disk: &mut FileDisk, answer: &mut String) -> Result<(), Oom> {
     let mut bytes = [0; 2];
     add(answer, said(write_synced(disk, 0, b"abcd").is_ok()))?;
@@ -77,7 +87,11 @@ fn try_disk(alloc: Global, disk: &mut FileDisk, answer: &mut String) -> Result<(
     add(answer, said(disk.read_at(3, &mut bytes).is_ok()))
 }
 
-/// A file of the system as a disk, and a disk without a file.
+/// Returns what the calls of a disk over a file returned, and two calls of a disk without a file.
+///
+/// # Errors
+///
+/// Out of memory.
 pub fn file_row(rt: &HostRuntime) -> Result<String, Oom> {
     let alloc = rt.alloc();
     let mut answer = String::new(alloc);
@@ -93,10 +107,14 @@ pub fn file_row(rt: &HostRuntime) -> Result<String, Oom> {
     Ok(answer)
 }
 
-// The minutes to the begin of 2020.
+/// The minutes from 2000-01-01 to 2020-01-01, both at 00:00 UTC.
 const TO_2020: i64 = 10_519_200;
 
-/// Whether the system's clock is past 2020, and does not go back.
+/// Returns `ok` if the system's clock is past 2020-01-01, and `ok` if it does not go back.
+///
+/// # Errors
+///
+/// Out of memory.
 pub fn system_clock_row(rt: &HostRuntime) -> Result<String, Oom> {
     let mut answer = String::new(rt.alloc());
     let mut clock = SystemClock::new(rt);
@@ -107,10 +125,10 @@ pub fn system_clock_row(rt: &HostRuntime) -> Result<String, Oom> {
     Ok(answer)
 }
 
-/// The first number of a port that is tried, where the one before is taken.
+/// The first port number that is tried.
 const FIRST: u16 = 48_600;
 
-/// Reads a peer until so many bytes came or it fails.
+/// Returns the bytes of a peer, read until at least `count` came or a read failed.
 fn hear_all(
     alloc: Global,
     peer: &mut TcpPeer<&HostRuntime>,
@@ -129,7 +147,8 @@ fn hear_all(
     Ok(heard)
 }
 
-/// The door's side of a link: it reads what was asked, answers, and closes. Whether a link came.
+/// Accepts a link, reads its question, writes an answer and returns the link to the door. Returns
+/// whether a link came.
 fn try_door(door: &mut TcpDoor<&HostRuntime>, answer: &mut String) -> Result<bool, Oom>
     requires door { door.old.given ≡ door.old.returned }
     requires first { door.old.returned ≡ 0 }
@@ -147,7 +166,7 @@ fn try_door(door: &mut TcpDoor<&HostRuntime>, answer: &mut String) -> Result<boo
     Ok(true)
 }
 
-/// What a peer hears: the answer, and then the end.
+/// Appends the answer that a peer reads, and whether a read after it succeeds.
 fn try_hearing(
     alloc: Global,
     peer: &mut TcpPeer<&HostRuntime>,
@@ -159,8 +178,7 @@ fn try_hearing(
     add(answer, said(peer.read_some(&mut buffer).is_ok()))
 }
 
-/// A link from one side to the other: the dialer asks, the door answers and closes, and the dialer
-/// hears the answer and then the end.
+/// Writes a question on a peer, has the door answer it, and appends what each side read.
 fn try_peer(
     alloc: Global,
     door: &mut TcpDoor<&HostRuntime>,
@@ -177,7 +195,7 @@ fn try_peer(
     try_hearing(alloc, peer, answer)
 }
 
-/// A link between a dialer of this number and the door.
+/// Appends what a link between a dialer at this number and the door carried.
 fn try_link(
     rt: &HostRuntime,
     number: u16,
@@ -196,7 +214,8 @@ fn try_link(
     Ok(())
 }
 
-/// A link over the one door of a port at this number, if that is free. Whether it was.
+/// Appends what a link over the one door of a port at this number carried, and returns whether the
+/// number was free.
 fn try_number(
     rt: &HostRuntime,
     port: &mut TcpPort<&HostRuntime>,
@@ -212,8 +231,12 @@ fn try_number(
     Ok(true)
 }
 
-/// A port of this machine with one door, and a dialer of it. The first of some ports that is free
-/// is taken.
+/// Returns what a link between a dialer and a door of this machine carried, at the first of 100
+/// numbers that is free.
+///
+/// # Errors
+///
+/// Out of memory.
 pub fn network_row(rt: &HostRuntime) -> Result<String, Oom> {
     let alloc = rt.alloc();
     let mut answer = String::new(alloc);

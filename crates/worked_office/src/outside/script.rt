@@ -1,4 +1,5 @@
-//! The script: each line has a form, what it is told, and its calls.
+//! The lines of what is outside: `FORM WORDS : CALLS`, where FORM says what is made, WORDS how, and
+//! CALLS what is called.
 use crate::outside::disks::{disk_row, sure_disk_row};
 use crate::outside::journals::{journal_row, long_row, opened_row};
 use crate::outside::links::{link_row, peer_row};
@@ -11,13 +12,13 @@ use hazard_types::Oom;
 use std::alloc::Global;
 use worked_lines::Work;
 
-/// Keeps nothing from line to line.
+/// The script, which keeps nothing from line to line.
 #[derive(Drop)]
 pub struct Script<'a> {
     pub rt: &'a HostRuntime,
 }
 
-/// The answer of a form, told by these words.
+/// Returns what is printed for a form that is made with bytes and faults.
 fn told_row(alloc: Global, form: &str, words: &str, calls: &str) -> Result<String, Oom> {
     let Some(told) = told_by(alloc, words)? else {
         return unread(alloc);
@@ -39,7 +40,7 @@ fn told_row(alloc: Global, form: &str, words: &str, calls: &str) -> Result<Strin
     }
 }
 
-/// The answer of a line: `FORM WORDS : CALLS`.
+/// Returns what is printed for a line, without a line end.
 fn row(rt: &HostRuntime, line: &str) -> Result<String, Oom> {
     let alloc = rt.alloc();
     let (made, calls) = line.split_once(" :").unwrap_or((line, ""));
@@ -57,7 +58,7 @@ fn row(rt: &HostRuntime, line: &str) -> Result<String, Oom> {
 }
 
 impl<'a> Work for Script<'a> {
-    /// A line that is empty or a remark is answered by nothing.
+    /// Returns what is printed for a line. For a remark and an empty line it is empty.
     fn work(&mut self, alloc: Global, line: &str) -> Result<String, Oom> {
         if line.is_empty() || line.starts_with('#') {
             return Ok(String::new(alloc));

@@ -1,4 +1,4 @@
-//! Sources, sinks and clocks.
+//! Rows of sources, sinks and clocks.
 ghost use Rattle.std.specs.Prelude.{◌<◌, length};
 
 use crate::outside::told::Told;
@@ -8,7 +8,12 @@ use desk_traits::{Clock, SetClock};
 use hazard_types::{List, Oom};
 use std::alloc::Global;
 
-/// A read into a buffer of so many bytes: how many came, and which.
+/// Reads into a buffer of `room` bytes, and appends the number of bytes read and the bytes, or
+/// `failed`.
+///
+/// # Errors
+///
+/// Out of memory.
 pub fn read_once<S: Source>(
     alloc: Global,
     source: &mut S,
@@ -28,7 +33,11 @@ pub fn read_once<S: Source>(
     }
 }
 
-/// A write of the whole of a word's bytes.
+/// Writes all bytes of a word, and appends `ok` or `failed`.
+///
+/// # Errors
+///
+/// Out of memory.
 pub fn write_word<K: Sink>(
     alloc: Global,
     sink: &mut K,
@@ -44,6 +53,7 @@ pub fn write_word<K: Sink>(
     }
 }
 
+/// Returns what each read of a source returned.
 fn read_all<S: Source>(alloc: Global, mut source: S, calls: &str) -> Result<String, Oom>
 where
     S: Drop,
@@ -55,20 +65,28 @@ where
     Ok(answer)
 }
 
-/// Reads of a source, each into a buffer of so many bytes.
+/// Returns what each read of a source in memory returned.
+///
+/// # Errors
+///
+/// Out of memory.
 pub fn source_row(alloc: Global, told: &Told, calls: &str) -> Result<String, Oom> {
     let bytes = told.bytes.as_slice();
     let source = MemSource::new(alloc, bytes, told.piece, &told.failing)?;
     read_all(alloc, source, calls)
 }
 
-/// The same of a source that can't fail.
+/// Returns what each read of a source that never fails returned.
+///
+/// # Errors
+///
+/// Out of memory.
 pub fn sure_source_row(alloc: Global, told: &Told, calls: &str) -> Result<String, Oom> {
     let source = SureSource::new(alloc, told.bytes.as_slice())?;
     read_all(alloc, source, calls)
 }
 
-/// Writes to a sink, each of a whole word.
+/// Returns what each write to a sink returned, of one word each.
 fn write_words<K: Sink>(alloc: Global, sink: &mut K, calls: &str) -> Result<String, Oom> {
     let mut answer = String::new(alloc);
     for word in calls.split_whitespace() {
@@ -77,12 +95,16 @@ fn write_words<K: Sink>(alloc: Global, sink: &mut K, calls: &str) -> Result<Stri
     Ok(answer)
 }
 
-/// A sink as it was told.
+/// Returns a sink with these faults.
 fn sink_of(alloc: Global, told: &Told) -> Result<MemSink, Oom> {
     MemSink::new(alloc, &told.failing)
 }
 
-/// Writes to a sink, each of a whole word, and the bytes taken.
+/// Returns what each write to a sink in memory returned, and the bytes that it took.
+///
+/// # Errors
+///
+/// Out of memory.
 pub fn sink_row(alloc: Global, told: &Told, calls: &str) -> Result<String, Oom> {
     let mut sink = sink_of(alloc, told)?;
     let mut answer = write_words(alloc, &mut sink, calls)?;
@@ -90,12 +112,16 @@ pub fn sink_row(alloc: Global, told: &Told, calls: &str) -> Result<String, Oom> 
     Ok(answer)
 }
 
-/// The same to a sink that can't fail.
+/// Returns what each write to a sink that never fails returned.
+///
+/// # Errors
+///
+/// Out of memory.
 pub fn sure_sink_row(alloc: Global, calls: &str) -> Result<String, Oom> {
     write_words(alloc, &mut SureSink, calls)
 }
 
-/// Readings, with commas between them.
+/// Returns the readings of words with commas between them. A word that is not a number is left out.
 fn readings_of(alloc: Global, words: &str) -> Result<List<i64>, Oom> {
     let mut readings = List::new(alloc);
     for word in words.split(',') {
@@ -106,6 +132,7 @@ fn readings_of(alloc: Global, words: &str) -> Result<List<i64>, Oom> {
     Ok(readings)
 }
 
+/// Returns the reading that a call of a clock returned.
 fn clock_call<C: Clock>(alloc: Global, clock: &mut C, call: &str) -> Result<String, Oom> {
     let reading = match call {
         "tick" => clock.tick(),
@@ -115,7 +142,7 @@ fn clock_call<C: Clock>(alloc: Global, clock: &mut C, call: &str) -> Result<Stri
     Ok(format!(in alloc; "{reading}")?)
 }
 
-/// The calls of a clock.
+/// Returns the readings that the calls of a clock returned.
 fn clock_calls<C: Clock>(alloc: Global, clock: &mut C, calls: &str) -> Result<String, Oom> {
     let mut answer = String::new(alloc);
     for call in calls.split_whitespace() {
@@ -125,14 +152,19 @@ fn clock_calls<C: Clock>(alloc: Global, clock: &mut C, calls: &str) -> Result<St
     Ok(answer)
 }
 
-/// A clock with these readings, of which there is one at least.
+/// Returns a clock with these readings.
 fn clock_of(readings: &List<i64>) -> Result<SetClock, Oom>
     requires { 0 < length readings.now }
 {
     SetClock::new(readings)
 }
 
-/// The calls of a clock with these readings.
+/// Returns the readings that the calls of a clock with these readings returned; empty if there are
+/// no readings.
+///
+/// # Errors
+///
+/// Out of memory.
 pub fn clock_row(alloc: Global, words: &str, calls: &str) -> Result<String, Oom> {
     let readings = readings_of(alloc, words)?;
     if readings.is_empty() {

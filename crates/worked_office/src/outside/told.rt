@@ -1,23 +1,28 @@
-//! What a form in memory is told: which of its calls fail, and the like.
+//! The bytes and the faults with which a line makes what it calls.
 ghost use Rattle.std.specs.Prelude.{◌≤◌};
 
 use crate::outside::words::{bytes_of, numbers_of};
 use hazard_types::{List, Oom, Text};
 use std::alloc::Global;
 
-/// The bytes it is made with, the calls that fail, the last call that may be answered, the pick, and
-/// the most bytes given at once.
+/// The bytes and the faults of what is made.
 #[derive(Drop)]
 pub struct Told {
+    /// The bytes of a stream, a disk or a link.
     pub bytes: Text,
+    /// The numbers of the calls that fail.
     pub failing: List<u64>,
+    /// The number of the last call that may succeed.
     pub stop: Option<u64>,
+    /// What a crash leaves of a disk's writes.
     pub pick: u64,
+    /// The largest number of bytes that a read returns.
     pub piece: usize,
     pub ghost positive: { 1 ≤ piece },
 }
 
-/// Takes in a word such as `stop=5`. Answers whether it was one.
+/// Sets the value of a word `failing=NUMBERS`, `stop=NUMBER`, `pick=NUMBER` or `piece=NUMBER`, and
+/// returns whether the word is one.
 fn take_word(alloc: Global, told: &mut Told, word: &str) -> Result<bool, Oom> {
     let Some((key, value)) = word.split_once('=') else {
         return Ok(false);
@@ -43,7 +48,12 @@ fn take_word(alloc: Global, told: &mut Told, word: &str) -> Result<bool, Oom> {
     Ok(true)
 }
 
-/// What the words tell: the bytes, and then what fails.
+/// Returns the bytes of the first word and the faults of the others, or `None` if a word cannot be
+/// read.
+///
+/// # Errors
+///
+/// Out of memory.
 pub fn told_by(alloc: Global, words: &str) -> Result<Option<Told>, Oom> {
     let (first, rest) = words.split_once(' ').unwrap_or((words, ""));
     let Some(bytes) = bytes_of(alloc, first)? else {

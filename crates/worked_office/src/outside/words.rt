@@ -1,10 +1,10 @@
-//! Bytes and numbers in words, and bytes as text.
+//! Bytes and numbers of words, and bytes as text.
 ghost use Rattle.std.specs.Prelude.{◌<◌, IfSome};
 
 use hazard_types::{List, Oom, Text};
 use std::alloc::Global;
 
-/// What a digit of base 16 stands for.
+/// Returns the value of a hex digit, `0` to `9` or `a` to `f`, or `None`.
 fn digit_of(byte: u8) -> Option<u8>
     ensures { IfSome result (λ digit. digit < 16) }
 {
@@ -17,7 +17,8 @@ fn digit_of(byte: u8) -> Option<u8>
     }
 }
 
-/// Adds the byte of two digits, and the bytes behind them. Answers whether there were two.
+/// Appends the byte of two hex digits, and the bytes after them, and returns whether the piece
+/// begins with two digits.
 fn add_escaped(bytes: &mut Text, piece: &[u8]) -> Result<bool, Oom> {
     if piece.len() < 2 {
         return Ok(false);
@@ -30,7 +31,12 @@ fn add_escaped(bytes: &mut Text, piece: &[u8]) -> Result<bool, Oom> {
     Ok(true)
 }
 
-/// The bytes of a word, in which `\` and two digits are one byte. `_` is no byte.
+/// Returns the bytes of a word, in which `\` and two hex digits are one byte and the word `_` is no
+/// byte. `None` if a `\` has no two digits.
+///
+/// # Errors
+///
+/// Out of memory.
 pub fn bytes_of(alloc: Global, word: &str) -> Result<Option<Text>, Oom> {
     let mut bytes = List::new(alloc);
     if word == "_" {
@@ -48,7 +54,7 @@ pub fn bytes_of(alloc: Global, word: &str) -> Result<Option<Text>, Oom> {
     Ok(Some(bytes))
 }
 
-/// A digit of base 16.
+/// Returns the hex digit of a value.
 fn digit(value: u8) -> char
     requires { value < 16 }
 {
@@ -59,7 +65,11 @@ fn digit(value: u8) -> char
     }
 }
 
-/// Adds the bytes as `bytes_of` reads them.
+/// Appends bytes as `bytes_of` reads them.
+///
+/// # Errors
+///
+/// Out of memory.
 pub fn add_bytes(answer: &mut String, bytes: &[u8]) -> Result<(), Oom> {
     if bytes.is_empty() {
         answer.push('_')?;
@@ -76,7 +86,11 @@ pub fn add_bytes(answer: &mut String, bytes: &[u8]) -> Result<(), Oom> {
     Ok(())
 }
 
-/// Adds words, behind a comma where words stand before them.
+/// Appends words, after a comma unless they are the first.
+///
+/// # Errors
+///
+/// Out of memory.
 pub fn add(answer: &mut String, words: &str) -> Result<(), Oom> {
     if !answer.is_empty() {
         answer.push_str(", ")?;
@@ -85,7 +99,11 @@ pub fn add(answer: &mut String, words: &str) -> Result<(), Oom> {
     Ok(())
 }
 
-/// Adds a part of an answer: its name and its bytes.
+/// Appends a part of a line: its name and its bytes.
+///
+/// # Errors
+///
+/// Out of memory.
 pub fn add_part(answer: &mut String, name: &str, bytes: &[u8]) -> Result<(), Oom> {
     answer.push_str("; ")?;
     answer.push_str(name)?;
@@ -93,12 +111,21 @@ pub fn add_part(answer: &mut String, name: &str, bytes: &[u8]) -> Result<(), Oom
     add_bytes(answer, bytes)
 }
 
-/// What is answered where a line's words are not read.
+/// Returns what is printed for a line that the script cannot read.
+///
+/// # Errors
+///
+/// Out of memory.
 pub fn unread(alloc: Global) -> Result<String, Oom> {
     Ok(String::from_str(alloc, "unread")?)
 }
 
-/// Numbers with commas between them; `-` is none.
+/// Returns the numbers of words with commas between them, or an empty list for `-`. `None` if a
+/// word is not a number.
+///
+/// # Errors
+///
+/// Out of memory.
 pub fn numbers_of(alloc: Global, words: &str) -> Result<Option<List<u64>>, Oom> {
     let mut numbers = List::new(alloc);
     if words == "-" {

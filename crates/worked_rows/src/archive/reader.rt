@@ -1,4 +1,4 @@
-//! A reader that takes the products of an input one by one, and goes on where memory ran out.
+//! A reader of the products of an archive that goes on after it ran out of memory.
 ghost use Rattle.std.specs.Prelude.{◌≡◌, []};
 
 use archive_report::Asked;
@@ -7,15 +7,15 @@ use product_decoder::{Decoded, Reader, decode, products_of};
 use std::alloc::Global;
 use std::marker::Model;
 
-/// A reader, and what came to it.
+/// A reader, and counts of what came to it.
 #[derive(Drop)]
 struct Taking {
     reader: Reader,
-    /// How many products it took.
+    /// The number of products that the reader took.
     taken: u32,
-    /// How many of them it was given again, since memory ran out.
+    /// The number of them that it took the second time only, since memory ran out the first time.
     again: u32,
-    /// How many texts have a fault.
+    /// The number of texts with a fault.
     faults: u32,
 }
 
@@ -31,6 +31,7 @@ impl Model for Taking {
 }
 
 impl Taking {
+    /// Returns a reader that has taken no product.
     fn new(alloc: Global, asked: &Asked) -> Self
         ensures { result.products ≡ [] }
     {
@@ -42,7 +43,8 @@ impl Taking {
         }
     }
 
-    /// Takes a product, at the second time where memory ran out at the first.
+    /// Takes a product, and tries once more if memory runs out. After 4,294,967,295 products it
+    /// does nothing.
     fn take(&mut self, alloc: Global, product: &Decoded) -> Result<(), Oom> {
         let Some(taken) = self.taken.checked_add(1) else {
             return Ok(());
@@ -58,7 +60,7 @@ impl Taking {
         Ok(())
     }
 
-    /// Reads a text, and takes its product unless it has a fault.
+    /// Reads a text and takes its product, or counts its fault.
     fn read(&mut self, alloc: Global, text: &[u8]) -> Result<(), Oom> {
         match decode(alloc, text) {
             Ok(product) => self.take(alloc, &product),
@@ -70,7 +72,8 @@ impl Taking {
         }
     }
 
-    /// What came, and how much the reader says of it.
+    /// Returns in words the counts, and how many lives, breaches, gaps and live rows the reader
+    /// has.
     fn told(&self, alloc: Global, minute: Minute) -> Result<String, Oom> {
         let lives = self.reader.lives(alloc)?.len();
         let breaches = self.reader.breaches(alloc)?.len();
@@ -88,7 +91,12 @@ impl Taking {
     }
 }
 
-/// What a reader says of an input that comes in pieces of this size.
+/// Returns in words what a reader has found in an archive that comes in pieces of at most `piece`
+/// bytes.
+///
+/// # Errors
+///
+/// Out of memory.
 pub fn told_by_reader(
     alloc: Global,
     asked: &Asked,

@@ -1,4 +1,4 @@
-//! A report, or statistics, over a source and a sink in memory.
+//! Runs of the archive's report and of the statistics, over a source and a sink in memory.
 use archive_report::archive_within;
 use byte_streams::{MemSink, MemSource};
 use hazard_types::{List, Oom, Text};
@@ -7,25 +7,27 @@ use sha2::{Digest, Sha256};
 use stats_report::stats_within;
 use std::alloc::Global;
 
-/// What is told of an input.
+/// What is written of an archive.
 #[derive(Clone, Copy, Debug)]
 pub enum Telling {
     Report,
     Stats,
 }
 
-/// How an input comes, and which calls fail.
+/// How the archive comes, and which calls fail.
 #[derive(Drop)]
 pub struct Given {
-    /// The most bytes that a read gives.
+    /// The largest number of bytes that a read returns.
     pub piece: usize,
-    /// The most bytes of the input.
+    /// The largest number of bytes of the archive.
     pub limit: usize,
+    /// The numbers of the reads that fail.
     pub bad_reads: List<u64>,
+    /// The numbers of the writes that fail.
     pub bad_writes: List<u64>,
 }
 
-/// What a report, or statistics, left.
+/// How a run ended: its exit status, and the text that it wrote.
 #[derive(Drop)]
 pub struct Run {
     pub status: u8,
@@ -33,7 +35,12 @@ pub struct Run {
 }
 
 impl Run {
-    /// The status, and of the text how many lines and bytes it has, and its digest.
+    /// Returns a line with the exit status, and the number of lines, the number of bytes and the
+    /// SHA-256 of the text.
+    ///
+    /// # Errors
+    ///
+    /// Out of memory.
     pub fn in_short(&self, alloc: Global) -> Result<String, Oom> {
         let text = self.text.as_slice();
         let status = self.status;
@@ -48,7 +55,11 @@ impl Run {
     }
 }
 
-/// The report of an input, or its statistics.
+/// Runs the report or the statistics of an archive, with these words as arguments.
+///
+/// # Errors
+///
+/// Out of memory.
 pub fn run_telling(
     alloc: Global,
     telling: Telling,
@@ -67,7 +78,8 @@ pub fn run_telling(
     Ok(Run { status, text })
 }
 
-/// The report of an input that comes in pieces of this size, with no fault.
+/// Runs the report of an archive that comes in pieces of at most `piece` bytes, where no call
+/// fails.
 fn whole_report(alloc: Global, words: &List<Text>, input: &[u8], piece: usize) -> Result<Run, Oom> {
     let given = Given {
         piece,
@@ -78,19 +90,25 @@ fn whole_report(alloc: Global, words: &List<Text>, input: &[u8], piece: usize) -
     run_telling(alloc, Telling::Report, words, input, &given)
 }
 
-/// Whether two reports are the same.
+/// Whether two runs ended alike and wrote the same text.
 fn is_same(one: &Run, other: &Run) -> bool {
     one.status == other.status && one.text == other.text
 }
 
-/// How many reports were made of an input that is cut off, and how many cuts have other reports in other pieces, or none.
+/// How many beginnings of an archive were tried, and for how many of them the report failed or
+/// depended on the size of the pieces.
 #[derive(Drop)]
 pub struct Tally {
     pub cuts: usize,
     pub differ: usize,
 }
 
-/// Makes the report of each front of an input, in pieces of one, seven and a thousand bytes.
+/// Runs the report of each beginning of an archive, in pieces of 1, 7 and 1000 bytes. A report
+/// fails if its exit status is not 0 or 3.
+///
+/// # Errors
+///
+/// Out of memory.
 pub fn try_cuts(alloc: Global, words: &List<Text>, input: &[u8]) -> Result<Tally, Oom> {
     let mut cuts = 0usize;
     let mut differ = 0usize;

@@ -1,4 +1,4 @@
-//! The script of reports and statistics: each line's step is worked, and answered by text.
+//! The script of archives.
 use crate::archive::reader::told_by_reader;
 use crate::archive::runs::{Given, Run, Telling, run_telling, try_cuts};
 use crate::archive::steps::{Step, step_of};
@@ -8,17 +8,17 @@ use program_ends::LIMIT;
 use std::alloc::Global;
 use worked_lines::{Work, words_of};
 
-/// How many bytes a read gives where the script does not say.
+/// The largest number of bytes that a read returns, unless the script sets it.
 const PIECE: usize = 4096;
 
-/// The input, and what is given of the next report.
+/// The archive, and what is set for the next run.
 #[derive(Drop)]
 pub struct Script {
     input: Text,
     given: Given,
 }
 
-/// What is given where the script does not say.
+/// Returns what holds for a run unless the script sets it.
 fn nothing_given(alloc: Global) -> Given {
     Given {
         piece: PIECE,
@@ -36,19 +36,20 @@ impl Script {
         }
     }
 
-    /// Lays the input behind itself.
+    /// Appends the archive to itself.
     fn double(&mut self) -> Result<(), Oom> {
         let again = self.input.clone()?;
         self.input.extend(again.as_slice())
     }
 
-    /// Adds a line of the input.
+    /// Appends a line to the archive, with CR, CR and LF.
     fn add_line(&mut self, text: &str) -> Result<(), Oom> {
         self.input.extend(text.as_bytes())?;
         self.input.extend(b"\r\r\n")
     }
 
-    /// Adds a line for each number from 1 to this one, with its digits in place of `####`.
+    /// Appends a line for each number from 1 to `most`, with its four digits in place of `####`. A
+    /// text without `####` is appended once.
     fn add_numbered(&mut self, alloc: Global, most: u16, text: &str) -> Result<(), Oom> {
         let Some((front, rest)) = text.split_once("####") else {
             return self.add_line(text);
@@ -61,7 +62,7 @@ impl Script {
         Ok(())
     }
 
-    /// Adds the lines between bars.
+    /// Appends the lines between bars.
     fn add_lines(&mut self, texts: &str) -> Result<(), Oom> {
         for text in texts.split('|') {
             self.add_line(text)?;
@@ -69,7 +70,7 @@ impl Script {
         Ok(())
     }
 
-    /// A report or statistics of what is given, which is given no more.
+    /// Runs the report or the statistics, and forgets what was set for the run.
     fn run(&mut self, alloc: Global, telling: Telling, line: &str) -> Result<Run, Oom> {
         let words = words_of(alloc, line)?;
         let run = run_telling(alloc, telling, &words, self.input.as_slice(), &self.given)?;
@@ -77,7 +78,7 @@ impl Script {
         Ok(run)
     }
 
-    /// A report or statistics, and the status.
+    /// Returns the text of the report or the statistics, and a line with the exit status.
     fn telling_step(&mut self, alloc: Global, telling: Telling, line: &str) -> Result<String, Oom> {
         let run = self.run(alloc, telling, line)?;
         let mut answer = String::from_utf8_lossy(alloc, run.text.as_slice())?;
@@ -87,7 +88,7 @@ impl Script {
         Ok(answer)
     }
 
-    /// What a reader says of the input in pieces of this size.
+    /// Returns what a reader has found in the archive, in pieces of at most `size` bytes.
     fn reader_step(&self, alloc: Global, size: usize, line: &str) -> Result<String, Oom> {
         let words = words_of(alloc, line)?;
         match asked_of(&words) {
@@ -96,7 +97,7 @@ impl Script {
         }
     }
 
-    /// The reports of the input cut off behind each of its bytes.
+    /// Returns the tally of the reports of each beginning of the archive.
     fn cuts_step(&self, alloc: Global, line: &str) -> Result<String, Oom> {
         let words = words_of(alloc, line)?;
         let tally = try_cuts(alloc, &words, self.input.as_slice())?;
@@ -105,7 +106,7 @@ impl Script {
         Ok(format!(in alloc; "{cuts} cuts, {differ} differ\n")?)
     }
 
-    /// Works a step that is answered by nothing. Returns whether it was one.
+    /// Does a step that prints nothing, and returns whether the step is one.
     fn prepare(&mut self, alloc: Global, step: &Step<'_>) -> Result<bool, Oom> {
         match step {
             Step::Remark => {}
@@ -131,7 +132,7 @@ impl Script {
 }
 
 impl Work for Script {
-    /// What a line is answered.
+    /// Returns what is printed for a line.
     fn work(&mut self, alloc: Global, line: &str) -> Result<String, Oom> {
         let step = step_of(line);
         if self.prepare(alloc, &step)? {

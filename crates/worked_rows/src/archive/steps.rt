@@ -1,45 +1,45 @@
-//! The steps of a script, one a line.
+//! The steps of a script of archives, one a line.
 
-/// A step of a script.
+/// A step of the script.
 #[derive(Clone, Copy, Debug)]
 pub enum Step<'a> {
-    /// A line that is answered by nothing.
+    /// Nothing is done or printed.
     Remark,
-    /// A line of the input, with CR, CR and LF.
+    /// Appends a line to the archive, with CR, CR and LF.
     Line(&'a str),
-    /// Lines of the input, between bars.
+    /// Appends the lines between bars.
     Lines(&'a str),
-    /// Bytes of the input, with nothing behind them.
+    /// Appends bytes, without a line end.
     Unended(&'a str),
-    /// A line of the input for each number from 1 to this one, with its four digits in place of `####`.
+    /// Appends a line for each number from 1 to this one, with its four digits in place of `####`.
     Numbered(u16, &'a str),
-    /// The input is emptied.
+    /// Empties the archive.
     NoText,
-    /// The input is laid behind itself.
+    /// Appends the archive to itself.
     Again,
-    /// How many bytes a read gives.
+    /// Sets the largest number of bytes that a read returns in the next run.
     Piece(usize),
-    /// How many bytes an input may have, in the next report.
+    /// Sets the largest number of bytes of the archive in the next run.
     Limit(usize),
-    /// The read that fails in the next report.
+    /// Adds a read that fails in the next run.
     BadRead(u64),
-    /// A write that fails in the next report.
+    /// Adds a write that fails in the next run.
     BadWrite(u64),
-    /// The report for these words.
+    /// Prints the report for these words.
     Report(&'a str),
-    /// The report for these words in short.
+    /// Prints the size and the digest of the report for these words.
     Short(&'a str),
-    /// What a reader says for these words of the input in pieces of this size.
+    /// Prints what a reader has found for these words, in pieces of this size.
     Reader(usize, &'a str),
-    /// The statistics for these words.
+    /// Prints the statistics for these words.
     Stats(&'a str),
-    /// The reports of the input cut off behind each of its bytes.
+    /// Prints the tally of the reports of each beginning of the archive for these words.
     Cuts(&'a str),
-    /// A line that is no step.
+    /// The line is no step.
     Unread,
 }
 
-/// The step of a word that stands alone.
+/// Returns the step that is this whole line, or `None`.
 fn bare_step(line: &str) -> Option<Step<'_>> {
     match line {
         "line" => Some(Step::Line("")),
@@ -51,7 +51,7 @@ fn bare_step(line: &str) -> Option<Step<'_>> {
     }
 }
 
-/// The step of a number.
+/// Returns the step of a word with a number, or `None`.
 fn numbered_step<'a>(word: &str, rest: &str) -> Option<Step<'a>> {
     let number = rest.parse::<u32>().ok()?;
     match word {
@@ -63,21 +63,21 @@ fn numbered_step<'a>(word: &str, rest: &str) -> Option<Step<'a>> {
     }
 }
 
-/// The step of a number and a line.
+/// Returns the step of the words `NUMBER LINE`, or `None` if they are not such words.
 fn numbered_lines(rest: &str) -> Option<Step<'_>> {
     let (most, line) = rest.split_once(' ')?;
     let most = most.parse::<u16>().ok()?;
     Some(Step::Numbered(most, line))
 }
 
-/// The step of a size and words.
+/// Returns the step of the words `SIZE WORDS`, or `None` if they are not such words.
 fn reader_step(rest: &str) -> Option<Step<'_>> {
     let (size, words) = rest.split_once(' ')?;
     let size = size.parse::<u32>().ok()?;
     Some(Step::Reader(size as usize, words))
 }
 
-/// The step that a line's first word says, with what stands behind it.
+/// Returns the step of a first word with what comes after it, or `None`.
 fn worded_step(line: &str) -> Option<Step<'_>> {
     let (word, rest) = line.split_once(' ')?;
     match word {
@@ -94,7 +94,7 @@ fn worded_step(line: &str) -> Option<Step<'_>> {
     }
 }
 
-/// The step of a line.
+/// Returns the step of a line. An empty line and one that begins with `#` are remarks.
 pub fn step_of(line: &str) -> Step<'_> {
     if line.is_empty() || line.starts_with('#') {
         return Step::Remark;

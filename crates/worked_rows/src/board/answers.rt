@@ -1,4 +1,4 @@
-//! What becomes of a draft, as text.
+//! What is printed of plans, refusals, rows and events.
 ghost use Rattle.std.specs.Prelude.{◌≡◌, ◌≤◌, IsTrue};
 ghost use Rattle.std.specs.List.{AllByRecursion};
 ghost use Rattle.hazard_types.specs.Days.{day_stamp_of};
@@ -17,10 +17,10 @@ use ugc_codes::write_ugc;
 use vtec_string::vtec_text;
 use worked_lines::text_of;
 
-/// The office of the worked days.
+/// The office of the days.
 const OFFICE: [u8; 4] = *b"KLWX";
 
-/// The day stamp of a minute.
+/// Returns the day stamp of a minute.
 #[tactic(auto, using(crate::proofs::Expiries::is_day))]
 fn expiry_stamp(minute: Minute) -> DayStamp
     ensures { IsTrue (is_day_stamp result) }
@@ -33,7 +33,7 @@ fn expiry_stamp(minute: Minute) -> DayStamp
     }
 }
 
-/// Adds the P-VTEC line of a line, and the location of its flood values behind it.
+/// Appends the P-VTEC string of a line, and a line with the site of its flood values, if any.
 fn push_line(out: &mut String, line: &SegLine) -> Result<(), AllocError>
     requires { line.now.event.etn ≤ 9999 }
 {
@@ -59,7 +59,7 @@ fn push_line(out: &mut String, line: &SegLine) -> Result<(), AllocError>
     Ok(())
 }
 
-/// Adds the P-VTEC lines of lines.
+/// Appends the P-VTEC strings of lines.
 fn push_lines(out: &mut String, lines: &[SegLine]) -> Result<(), AllocError>
     requires { AllByRecursion (λ (line : SaidLine). line.event.etn ≤ 9999) lines.now }
 {
@@ -69,7 +69,7 @@ fn push_lines(out: &mut String, lines: &[SegLine]) -> Result<(), AllocError>
     Ok(())
 }
 
-/// Adds a segment's UGC text, its P-VTEC lines and its end.
+/// Appends a segment's UGC string, its P-VTEC strings and `$$`.
 fn push_segment(alloc: Global, out: &mut String, t: Minute, segment: &Segment) -> Result<(), Oom>
     requires written { CanBeWritten segment.now }
     requires soon { t ≤ 52000000 }
@@ -83,7 +83,7 @@ fn push_segment(alloc: Global, out: &mut String, t: Minute, segment: &Segment) -
     Ok(())
 }
 
-/// Adds segments.
+/// Appends segments.
 fn push_segments(
     alloc: Global,
     out: &mut String,
@@ -99,7 +99,12 @@ fn push_segments(
     Ok(())
 }
 
-/// The letters of a correction and the segments of a plan, as they stand in its product.
+/// Returns the codes of a plan, as its product has them: the letters of a correction, and the
+/// segments.
+///
+/// # Errors
+///
+/// Out of memory.
 pub fn plan_text(alloc: Global, t: Minute, plan: &Plan) -> Result<String, Oom>
     requires written { AllByRecursion CanBeWritten plan.now.segments }
     requires soon { t ≤ 52000000 }
@@ -113,7 +118,7 @@ pub fn plan_text(alloc: Global, t: Minute, plan: &Plan) -> Result<String, Oom>
     Ok(out)
 }
 
-/// An event, as `WS.W.0001.2018`.
+/// Returns an event, as `WS.W.0001.2018`.
 fn event_text(alloc: Global, event: &Event) -> Result<String, AllocError> {
     let hazard = hazard_text(&event.hazard);
     let hazard = text_of(&hazard);
@@ -122,7 +127,12 @@ fn event_text(alloc: Global, event: &Event) -> Result<String, AllocError> {
     format!(in alloc; "{hazard}.{etn:04}.{year}")
 }
 
-/// The events that a plan opens, a line each, and the texts of each event with a line, of which `what` is told.
+/// Returns a line for each event that a plan opens, and one for each event with texts, of which it
+/// has `what`.
+///
+/// # Errors
+///
+/// Out of memory.
 pub fn told_text(alloc: Global, plan: &Plan) -> Result<String, AllocError> {
     let mut out = String::new(alloc);
     for event in plan.opened.as_slice() {
@@ -137,12 +147,12 @@ pub fn told_text(alloc: Global, plan: &Plan) -> Result<String, AllocError> {
     Ok(out)
 }
 
-/// The line of a refusal without values.
+/// Returns the line of a refusal without values.
 fn bare(alloc: Global, number: &str, rule: &str) -> Result<String, AllocError> {
     format!(in alloc; "{{\"no\":\"{number}\",\"rule\":\"{rule}\"}}\n")
 }
 
-/// The line of a refusal that names an event and a zone.
+/// Returns the line of a refusal with an event and a zone.
 fn in_zone(
     alloc: Global,
     number: &str,
@@ -158,18 +168,18 @@ fn in_zone(
     )
 }
 
-/// The line of a refusal that names an event.
+/// Returns the line of a refusal with an event.
 fn of_event(alloc: Global, number: &str, rule: &str, event: &Event) -> Result<String, AllocError> {
     let event = event_text(alloc, event)?;
     format!(in alloc; "{{\"event\":\"{event}\",\"no\":\"{number}\",\"rule\":\"{rule}\"}}\n")
 }
 
-/// The line of a refusal that names an intent.
+/// Returns the line of a refusal with the place of an intent.
 fn at_place(alloc: Global, number: &str, rule: &str, place: u32) -> Result<String, AllocError> {
     format!(in alloc; "{{\"no\":\"{number}\",\"place\":{place},\"rule\":\"{rule}\"}}\n")
 }
 
-/// The line of a conflict.
+/// Returns the line of a refusal with two events that conflict in a zone.
 fn conflict(
     alloc: Global,
     zone: &Zone,
@@ -185,14 +195,19 @@ fn conflict(
     )
 }
 
-/// The line of spent numbers.
+/// Returns the line of a refusal with a hazard that has no event tracking number left.
 fn spent(alloc: Global, hazard: &Hazard) -> Result<String, AllocError> {
     let hazard = hazard_text(hazard);
     let hazard = text_of(&hazard);
     format!(in alloc; "{{\"hazard\":\"{hazard}\",\"no\":\"L14\",\"rule\":\"NumbersSpent\"}}\n")
 }
 
-/// The line of a refusal of a draft or a correction. Others, which no plan is refused with, are told by their names in the code.
+/// Returns the line of a refusal of a draft or a correction. Any other refusal, which no plan has,
+/// is printed by its name in the code.
+///
+/// # Errors
+///
+/// Out of memory.
 pub fn refusal_text(alloc: Global, refusal: &Refusal) -> Result<String, AllocError> {
     match refusal {
         Refusal::EmptyDraft => bare(alloc, "L1", "EmptyDraft"),
@@ -225,7 +240,7 @@ pub fn refusal_text(alloc: Global, refusal: &Refusal) -> Result<String, AllocErr
     }
 }
 
-/// The line of a row that is shown.
+/// Appends the line of a row.
 fn push_row(alloc: Global, out: &mut String, row: &Row) -> Result<(), AllocError> {
     let zone = zone_text(&row.zone);
     let zone = text_of(&zone);
@@ -237,7 +252,11 @@ fn push_row(alloc: Global, out: &mut String, row: &Row) -> Result<(), AllocError
     writeln!(out, "{zone} {event} {begin}-{end}")
 }
 
-/// The rows that are shown, a line each.
+/// Returns rows, one a line.
+///
+/// # Errors
+///
+/// Out of memory.
 pub fn board_text(alloc: Global, rows: &[Row]) -> Result<String, AllocError> {
     let mut out = String::new(alloc);
     for row in rows {
@@ -246,7 +265,11 @@ pub fn board_text(alloc: Global, rows: &[Row]) -> Result<String, AllocError> {
     Ok(out)
 }
 
-/// The least clash, as a draft with it is refused, or that there is none.
+/// Returns the line of the refusal of a draft with this clash, or that there is none.
+///
+/// # Errors
+///
+/// Out of memory.
 pub fn clash_text(alloc: Global, found: &Option<Clash>) -> Result<String, AllocError> {
     match found {
         Some(clash) => conflict(alloc, &clash.zone, &clash.first, &clash.second),
@@ -254,7 +277,7 @@ pub fn clash_text(alloc: Global, found: &Option<Clash>) -> Result<String, AllocE
     }
 }
 
-/// The line of a standing event, with its latest end.
+/// Appends the line of an event, with its latest end.
 fn push_standing(alloc: Global, out: &mut String, standing: &Standing) -> Result<(), AllocError> {
     let event = event_text(alloc, &standing.event)?;
     let end = end_text(&standing.latest);
@@ -262,7 +285,11 @@ fn push_standing(alloc: Global, out: &mut String, standing: &Standing) -> Result
     writeln!(out, "{event} {end}")
 }
 
-/// Standing events, a line each.
+/// Returns events that have an unended row, one a line.
+///
+/// # Errors
+///
+/// Out of memory.
 pub fn standing_text(alloc: Global, standing: &[Standing]) -> Result<String, AllocError> {
     let mut out = String::new(alloc);
     for event in standing {

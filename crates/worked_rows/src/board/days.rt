@@ -1,4 +1,5 @@
-//! A day at the desk: the board, the numbers and the products after the drafts that were sent.
+//! A day at a desk: the board, the event tracking numbers and the products after the drafts that
+//! were sent.
 ghost use Rattle.std.specs.Prelude.{◌≡◌, ◌<◌, ◌≤◌, [], ◌∷◌, ◌++◌, length, None, Some, Err, IfOk, OnOk, OnErr};
 ghost use Rattle.std.specs.List.{AllByRecursion};
 ghost use Rattle.hazard_types.specs.declared.or.Or.TheVariants.{No};
@@ -33,7 +34,7 @@ use hazard_types::{
 use std::alloc::Global;
 use std::marker::Model;
 
-/// The rows, numbers and products of an office, and the minute of the last product.
+/// The rows, event tracking numbers and products of an office, and the minute of the last product.
 #[derive(Drop)]
 pub struct Day {
     board: Board,
@@ -53,10 +54,11 @@ impl Model for Day {
 
     ghost view = { λ d. record { rows = d.board.rows; counts = d.numbers.counts; products = d.products; last = d.last } };
 
-    ghost invariant = { λ d. Stands d.board.rows d.numbers.counts d.last × IsStrictlySortedBy by_key d.board.rows × AllByRecursion HasApart d.products };
+    ghost invariant = { λ d. Stands d.board.rows d.numbers.counts d.last
+        × IsStrictlySortedBy by_key d.board.rows × AllByRecursion HasApart d.products };
 }
 
-/// The number of a product behind so many, as far as 32 bits go.
+/// Returns the number of the product after `before` others, at most 4,294,967,295.
 fn number_behind(before: usize) -> u32
     ensures { result ≡ number_behind before }
 {
@@ -66,7 +68,7 @@ fn number_behind(before: usize) -> u32
     }
 }
 
-/// The product of a plan, behind so many others. Its text is not written.
+/// Returns the product of a plan, after `before` others. Its text is empty.
 fn sent_of(
     alloc: Global,
     before: usize,
@@ -91,7 +93,7 @@ fn sent_of(
 }
 
 impl Day {
-    /// No row stands, no number is drawn and no product is sent.
+    /// Returns a day with no row, no event tracking number and no product.
     pub fn new(alloc: Global) -> Self
         ensures rows { result.rows ≡ [] }
         ensures counts { result.counts ≡ [] }
@@ -107,27 +109,36 @@ impl Day {
         }
     }
 
-    /// The minute of the last product.
+    /// Returns the minute of the last product; 0 before the first.
     pub fn last(&self) -> Minute
         ensures { result ≡ self.now.last }
     {
         self.last
     }
 
-    /// How many products were sent.
+    /// Returns the number of products that were sent.
     pub fn count(&self) -> usize
         ensures { result ≡ length self.now.products }
     {
         self.products.len()
     }
 
-    /// What a draft would be, sent at t, or the first rule that it breaks.
+    /// Returns the plan of a draft, as sent at minute `t`.
+    ///
+    /// # Errors
+    ///
+    /// - `No` with the first rule that the draft breaks.
+    /// - `OutOfMemory`.
     pub fn plan(&self, alloc: Global, draft: &Draft, t: Minute) -> Result<Plan, Or<Refusal>>
         requires { MaySend draft.now.category draft.now.intents self.now.last t }
-        ensures plan { IfOk result (λ plan. IsPlan draft.now.category self.now.rows t (placed self.now.counts t draft.now.intents) plan) }
+        ensures plan { IfOk result (λ plan. IsPlan draft.now.category self.now.rows t
+            (placed self.now.counts t draft.now.intents) plan) }
         ensures written { IfOk result (λ plan. AllByRecursion CanBeWritten plan.segments) }
-        ensures kept { OnOk result (broken draft.now.category self.now.rows t (placed self.now.counts t draft.now.intents) ≡ None) }
-        ensures refused { (r : Refused) → result ≡ Err (No r) → broken draft.now.category self.now.rows t (placed self.now.counts t draft.now.intents) ≡ Some r }
+        ensures kept { OnOk result (broken draft.now.category self.now.rows t
+            (placed self.now.counts t draft.now.intents) ≡ None) }
+        ensures refused { (r : Refused) → result ≡ Err (No r) →
+            broken draft.now.category self.now.rows t
+            (placed self.now.counts t draft.now.intents) ≡ Some r }
     {
         what_stands_stands_later();
         lines_have_four_digits();
@@ -135,17 +146,32 @@ impl Day {
         Ok(plan)
     }
 
-    /// Sends a draft at t: its lines change the rows, the events that it opens draw their numbers, and its product stands behind the others. A refusal, and want of memory, changes nothing.
+    /// Sends a draft at minute `t` and returns its plan. The plan's lines change the rows, the
+    /// events that it opens draw their event tracking numbers, and its product comes after the
+    /// others.
+    ///
+    /// # Errors
+    ///
+    /// The day is then unchanged.
+    ///
+    /// - `No` with the first rule that the draft breaks.
+    /// - `OutOfMemory`.
     pub fn send(&mut self, alloc: Global, draft: &Draft, t: Minute) -> Result<Plan, Or<Refusal>>
         requires { MaySend draft.now.category draft.now.intents self.old.last t }
-        ensures plan { IfOk result (λ plan. IsPlan draft.now.category self.old.rows t (placed self.old.counts t draft.now.intents) plan) }
+        ensures plan { IfOk result (λ plan. IsPlan draft.now.category self.old.rows t
+            (placed self.old.counts t draft.now.intents) plan) }
         ensures written { IfOk result (λ plan. AllByRecursion CanBeWritten plan.segments) }
         ensures rows { IfOk result (λ plan. self.new.rows ≡ rows_after self.old.rows t plan.lines) }
-        ensures counts { OnOk result (DrawsAll self.old.counts self.new.counts (opened (placed self.old.counts t draft.now.intents))) }
-        ensures products { IfOk result (λ plan. self.new.products ≡ self.old.products ++ sent_of (length self.old.products) plan t None ∷ []) }
+        ensures counts { OnOk result (DrawsAll self.old.counts self.new.counts
+            (opened (placed self.old.counts t draft.now.intents))) }
+        ensures products { IfOk result (λ plan. self.new.products ≡
+            self.old.products ++ sent_of (length self.old.products) plan t None ∷ []) }
         ensures last { OnOk result (self.new.last ≡ t) }
-        ensures kept { OnOk result (broken draft.now.category self.old.rows t (placed self.old.counts t draft.now.intents) ≡ None) }
-        ensures refused { (r : Refused) → result ≡ Err (No r) → broken draft.now.category self.old.rows t (placed self.old.counts t draft.now.intents) ≡ Some r }
+        ensures kept { OnOk result (broken draft.now.category self.old.rows t
+            (placed self.old.counts t draft.now.intents) ≡ None) }
+        ensures refused { (r : Refused) → result ≡ Err (No r) →
+            broken draft.now.category self.old.rows t
+            (placed self.old.counts t draft.now.intents) ≡ Some r }
         ensures unchanged { OnErr result (self.new ≡ self.old) }
     {
         what_stands_stands_later();
@@ -165,7 +191,16 @@ impl Day {
         Ok(plan)
     }
 
-    /// Corrects the product at a place among those that were sent: what stays live of its lines is said again, and the correction stands behind the others. A refusal, and want of memory, changes nothing.
+    /// Corrects the product at a 0-based place and returns the plan of the correction. The lines of
+    /// the product that are still live are written again, and the correction comes after the other
+    /// products.
+    ///
+    /// # Errors
+    ///
+    /// The day is then unchanged.
+    ///
+    /// - `No` with the first rule that the correction breaks.
+    /// - `OutOfMemory`.
     pub fn correct(
         &mut self,
         alloc: Global,
@@ -176,14 +211,23 @@ impl Day {
         requires place { place < length self.old.products }
         requires later { self.old.last ≤ t }
         requires soon { t ≤ 52000000 }
-        ensures plan { IfOk result (λ plan. (s : AnySent) → IsAt self.old.products place s → IsCorrection self.old.rows t s (letters_of self.old.products (original_of s)) texts.now plan) }
+        ensures plan { IfOk result (λ plan. (s : AnySent) → IsAt self.old.products place s →
+            IsCorrection self.old.rows t s (letters_of self.old.products (original_of s))
+            texts.now plan) }
         ensures written { IfOk result (λ plan. AllByRecursion CanBeWritten plan.segments) }
         ensures rows { IfOk result (λ plan. self.new.rows ≡ rows_after self.old.rows t plan.lines) }
         ensures counts { OnOk result (self.new.counts ≡ self.old.counts) }
-        ensures products { IfOk result (λ plan. (s : AnySent) → IsAt self.old.products place s → self.new.products ≡ self.old.products ++ sent_of (length self.old.products) plan t (Some (original_of s)) ∷ []) }
+        ensures products { IfOk result (λ plan. (s : AnySent) → IsAt self.old.products place s →
+            self.new.products ≡ self.old.products
+            ++ sent_of (length self.old.products) plan t (Some (original_of s)) ∷ []) }
         ensures last { OnOk result (self.new.last ≡ t) }
-        ensures kept { OnOk result ((s : AnySent) → IsAt self.old.products place s → broken_correction self.old.rows t s (last_of self.old.products s.category) (letters_of self.old.products (original_of s)) texts.now ≡ None) }
-        ensures refused { (r : Refused) → result ≡ Err (No r) → (s : AnySent) → IsAt self.old.products place s → broken_correction self.old.rows t s (last_of self.old.products s.category) (letters_of self.old.products (original_of s)) texts.now ≡ Some r }
+        ensures kept { OnOk result ((s : AnySent) → IsAt self.old.products place s →
+            broken_correction self.old.rows t s (last_of self.old.products s.category)
+            (letters_of self.old.products (original_of s)) texts.now ≡ None) }
+        ensures refused { (r : Refused) → result ≡ Err (No r) →
+            (s : AnySent) → IsAt self.old.products place s →
+            broken_correction self.old.rows t s (last_of self.old.products s.category)
+            (letters_of self.old.products (original_of s)) texts.now ≡ Some r }
         ensures unchanged { OnErr result (self.new ≡ self.old) }
     {
         what_stands_stands_later();
@@ -205,22 +249,34 @@ impl Day {
         Ok(correction)
     }
 
-    /// The rows that are shown at a minute, by zone, then event.
+    /// Returns the rows that are live at `t`, by zone, then event.
+    ///
+    /// # Errors
+    ///
+    /// Out of memory.
     pub fn shown(&self, alloc: Global, t: Minute) -> Result<List<Row>, Oom>
         ensures { IfOk result (λ rows. rows ≡ shown_at t self.now.rows) }
     {
         self.board.shown(alloc, t)
     }
 
-    /// The rows of a zone that are shown at a minute, by event.
+    /// Returns the rows of a zone that are live at `t`, by event.
+    ///
+    /// # Errors
+    ///
+    /// Out of memory.
     pub fn rows_of(&self, alloc: Global, z: Zone, t: Minute) -> Result<List<Row>, Oom>
         ensures { IfOk result (λ rows. rows ≡ live_in z t self.now.rows) }
     {
         self.board.rows_of(alloc, z, t)
     }
 
-    /// The least clash of the rows after lines, each of which leaves its row where the life that it
-    /// meets allows it.
+    /// Returns the least clash of the rows after lines, or `None`. Each line leaves its row if the
+    /// life that it meets allows it.
+    ///
+    /// # Errors
+    ///
+    /// Out of memory.
     pub fn conflict(
         &self,
         alloc: Global,
@@ -233,7 +289,7 @@ impl Day {
         self.board.conflict(alloc, lines, t)
     }
 
-    /// The standing events of a hazard, by number, then year.
+    /// Returns the events of a hazard that have an unended row, by number, then year.
     pub fn standing(&self, h: Hazard) -> &[Standing]
         ensures { AreStandingOf h self.now.rows result.now }
     {

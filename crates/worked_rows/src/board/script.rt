@@ -1,4 +1,4 @@
-//! The script of a day: each line's step is worked, and answered by text.
+//! The script of days.
 ghost use Rattle.std.specs.Prelude.{◌↔◌, IsTrue};
 ghost use Rattle.worked_rows.specs.Days.{MaySend};
 
@@ -17,16 +17,16 @@ use hazard_types::{
 use std::alloc::Global;
 use worked_lines::Work;
 
-/// The last minute at which a draft is sent.
+/// The last minute at which a draft is sent, since 2000-01-01 00:00 UTC.
 const LAST_MINUTE: u32 = 52_000_000;
 
-/// What a draft is answered that may not be sent.
+/// What is printed for a draft that no office would have, or that comes too early or too late.
 const NO_FORM: &str = "no draft of this form\n";
 
-/// What is answered where there is no draft.
+/// What is printed if there is no draft.
 const NO_DRAFT: &str = "no draft\n";
 
-/// A day, and the draft that is being written on it.
+/// A day, the draft that is being written, and the minute at which it is sent.
 #[derive(Drop)]
 pub struct Script {
     day: Day,
@@ -34,7 +34,7 @@ pub struct Script {
     minute: Minute,
 }
 
-/// A draft without intents.
+/// Returns a draft without intents.
 fn new_draft(alloc: Global, category: Category, minute: Minute) -> Option<Draft> {
     Some(Draft {
         id: 1,
@@ -45,18 +45,20 @@ fn new_draft(alloc: Global, category: Category, minute: Minute) -> Option<Draft>
     })
 }
 
+/// Returns a text.
 fn note(alloc: Global, text: &str) -> Result<String, Oom> {
     Ok(String::from_str(alloc, text)?)
 }
 
-/// Whether a draft may be sent at a minute, after what was sent on the day.
+/// Whether a draft may be sent at a minute: not before the last product, not after `LAST_MINUTE`,
+/// and of a form that may be planned.
 fn may_be_sent(day: &Day, draft: &Draft, t: Minute) -> bool
     ensures { IsTrue result ↔ MaySend draft.now.category draft.now.intents day.now.last t }
 {
     day.last().get() <= t.get() && t.get() <= LAST_MINUTE && may_be_planned(draft)
 }
 
-/// What becomes of a product that is not sent: the first rule that is broken, or out of memory.
+/// Returns the first rule that a draft or a correction breaks, as a line.
 fn refused(alloc: Global, stop: Or<Refusal>) -> Result<String, Oom> {
     match stop {
         Or::No(refusal) => Ok(refusal_text(alloc, &refusal)?),
@@ -64,7 +66,7 @@ fn refused(alloc: Global, stop: Or<Refusal>) -> Result<String, Oom> {
     }
 }
 
-/// Looks at what a draft would be.
+/// Returns the codes of the product that a draft would be.
 fn preview_text(alloc: Global, day: &Day, draft: &Draft, t: Minute) -> Result<String, Oom> {
     if !may_be_sent(day, draft, t) {
         return note(alloc, NO_FORM);
@@ -75,7 +77,7 @@ fn preview_text(alloc: Global, day: &Day, draft: &Draft, t: Minute) -> Result<St
     }
 }
 
-/// Looks at what a draft would open, and at its texts.
+/// Returns the events that a draft would open, and its texts.
 fn told(alloc: Global, day: &Day, draft: &Draft, t: Minute) -> Result<String, Oom> {
     if !may_be_sent(day, draft, t) {
         return note(alloc, NO_FORM);
@@ -86,7 +88,7 @@ fn told(alloc: Global, day: &Day, draft: &Draft, t: Minute) -> Result<String, Oo
     }
 }
 
-/// Corrects the product of a number.
+/// Corrects the product with a number, and returns the codes of the correction.
 fn corrected(
     alloc: Global,
     day: &mut Day,
@@ -107,7 +109,7 @@ fn corrected(
     }
 }
 
-/// A put of a hazard in a zone for one minute.
+/// Returns a put of a new event of a hazard in a zone, from now to `end`.
 fn brief_put(alloc: Global, hazard: &Hazard, zone: Zone, end: Minute) -> Result<Intent, Oom> {
     Ok(Intent::Put(PutPart {
         target: Target::Fresh(*hazard),
@@ -119,7 +121,8 @@ fn brief_put(alloc: Global, hazard: &Hazard, zone: Zone, end: Minute) -> Result<
     }))
 }
 
-/// So many puts of a hazard in the first zones of Maryland, each for one minute.
+/// Returns a draft at minute `t` with `count` puts of a hazard, each for one minute in a zone of
+/// its own from MDZ001 on. `None` if the hazard is unknown or the time is out of range.
 fn brief_draft(
     alloc: Global,
     hazard: &Hazard,
@@ -143,7 +146,8 @@ fn brief_draft(
     Ok(Some(draft))
 }
 
-/// Opens so many events of a hazard, and returns how many were opened.
+/// Opens `count` events of a hazard, in drafts an hour apart from minute `from` on, and returns how
+/// many were opened before the first draft that is not sent.
 fn fill(
     alloc: Global,
     day: &mut Day,
@@ -184,6 +188,7 @@ impl Script {
         }
     }
 
+    /// Adds an intent to the draft.
     fn add(&mut self, alloc: Global, intent: Intent) -> Result<String, Oom> {
         match &mut self.draft {
             Some(draft) => {
@@ -194,7 +199,7 @@ impl Script {
         }
     }
 
-    /// Sends the draft. One that is refused stays.
+    /// Sends the draft, and returns the codes of its product. A draft that is refused stays.
     fn send(&mut self, alloc: Global) -> Result<String, Oom> {
         let Some(draft) = self.draft.take() else {
             return note(alloc, NO_DRAFT);
@@ -213,7 +218,7 @@ impl Script {
         }
     }
 
-    /// What the draft would open, and its texts.
+    /// Returns the events that the draft would open, and its texts.
     fn tell(&self, alloc: Global) -> Result<String, Oom> {
         match &self.draft {
             Some(draft) => told(alloc, &self.day, draft, self.minute),
@@ -221,6 +226,7 @@ impl Script {
         }
     }
 
+    /// Returns the codes of the product that the draft would be.
     fn preview(&self, alloc: Global) -> Result<String, Oom> {
         match &self.draft {
             Some(draft) => preview_text(alloc, &self.day, draft, self.minute),
@@ -228,33 +234,39 @@ impl Script {
         }
     }
 
+    /// Begins a draft, to be sent at a minute.
     fn begin(&mut self, alloc: Global, minute: Minute, category: Category) -> Result<String, Oom> {
         self.draft = new_draft(alloc, category, minute);
         self.minute = minute;
         note(alloc, "")
     }
 
+    /// Begins a day without a draft.
     fn start(&mut self, alloc: Global) -> Result<String, Oom> {
         self.day = Day::new(alloc);
         self.draft = None;
         note(alloc, "")
     }
 
+    /// Returns the rows that are live at a minute.
     fn board(&self, alloc: Global, minute: Minute) -> Result<String, Oom> {
         let rows = self.day.shown(alloc, minute)?;
         Ok(board_text(alloc, rows.as_slice())?)
     }
 
+    /// Returns the rows of a zone that are live at a minute.
     fn zone(&self, alloc: Global, zone: Zone, minute: Minute) -> Result<String, Oom> {
         let rows = self.day.rows_of(alloc, zone, minute)?;
         Ok(board_text(alloc, rows.as_slice())?)
     }
 
+    /// Returns the least clash of the rows after lines.
     fn clash(&self, alloc: Global, lines: &List<Line>, minute: Minute) -> Result<String, Oom> {
         let found = self.day.conflict(alloc, lines, minute)?;
         Ok(clash_text(alloc, &found)?)
     }
 
+    /// Opens `count` events of a hazard, and returns how many were opened, as a line.
     fn fill(
         &mut self,
         alloc: Global,
@@ -266,6 +278,7 @@ impl Script {
         Ok(format!(in alloc; "opened {done}\n")?)
     }
 
+    /// Does a step, and returns what is printed for it.
     fn step(&mut self, alloc: Global, step: Step) -> Result<String, Oom> {
         match step {
             Step::Day => self.start(alloc),
@@ -287,7 +300,7 @@ impl Script {
 }
 
 impl Work for Script {
-    /// What a line is answered. A remark is answered by itself, as is an empty line.
+    /// Returns what is printed for a line. A remark and an empty line are returned unchanged.
     fn work(&mut self, alloc: Global, line: &str) -> Result<String, Oom> {
         if line.is_empty() || line.starts_with('#') {
             return Ok(format!(in alloc; "{line}\n")?);

@@ -1,4 +1,4 @@
-//! The series of a product and its corrections.
+//! The products of a category, and the corrections of a product.
 ghost use Rattle.std.specs.Prelude.{◌≡◌, ◌≤◌};
 ghost use Rattle.worked_rows.specs.Days.{of_rivers, are_alike, last_of, is_number, corrects, letters_of, original_of};
 
@@ -11,14 +11,14 @@ fn of_rivers(category: Category) -> bool
     matches!(category, Category::Flw | Category::Fls)
 }
 
-/// Whether two categories are one: FLW and FLS count as one.
+/// Whether two categories are the same, where FLW and FLS count as one.
 fn are_alike(first: Category, second: Category) -> bool
     ensures { result ≡ are_alike first second }
 {
     first == second || (of_rivers(first) && of_rivers(second))
 }
 
-/// The number of the last product of a category, 0 where there is none.
+/// Returns the number of the last product of a category, or 0 if there is none.
 pub fn last_of(products: &[Sent], category: Category) -> u32
     ensures { result ≡ last_of products.now category }
 {
@@ -31,7 +31,7 @@ pub fn last_of(products: &[Sent], category: Category) -> u32
     last
 }
 
-/// Whether a number is there and is this one.
+/// Whether there is a number and it is this one.
 fn is_number(number: u32, found: &Option<u32>) -> bool
     ensures { result ≡ is_number number found.now }
 {
@@ -41,14 +41,14 @@ fn is_number(number: u32, found: &Option<u32>) -> bool
     }
 }
 
-/// Whether a product is a correction of this one.
+/// Whether a product is a correction of the product with this number.
 fn corrects(number: u32, sent: &Sent) -> bool
     ensures { result ≡ corrects number sent.now }
 {
     is_number(number, &sent.original)
 }
 
-/// How many corrections a product has, 24 at most.
+/// Returns the number of corrections that the product with this number has, or 24 if it has more.
 pub fn letters_of(products: &[Sent], number: u32) -> u8
     ensures value { result ≡ letters_of products.now number }
     ensures range { result ≤ 24 }
@@ -60,7 +60,7 @@ pub fn letters_of(products: &[Sent], number: u32) -> u8
         .min(24) as u8
 }
 
-/// The number of the product that a correction of this one counts for.
+/// Returns the number of the product that this one corrects, or its own if it is no correction.
 pub fn original_of(sent: &Sent) -> u32
     ensures { result ≡ original_of sent.now }
 {

@@ -1,4 +1,4 @@
-//! The steps of a script, one a line.
+//! The steps of a script of days, one a line.
 use crate::board::words::{
     Unread, action_of, begin_of, category_of, end_of, event_of, hazard_of, minute_of, number_of,
     site_of, target_of, zone_of, zones_of,
@@ -11,36 +11,38 @@ use hazard_types::{
 use std::alloc::Global;
 use std::str::SplitWhitespace;
 
-/// A step of a script.
+/// A step of the script.
 #[derive(Debug, Drop)]
 pub enum Step {
-    /// A new day: no row stands, and no number is drawn.
+    /// Begins a day: no row, no event tracking number and no product.
     Day,
-    /// A new draft, to be sent at a minute.
+    /// Begins a draft, to be sent at a minute.
     At(Minute, Category),
-    /// One intent more.
+    /// Adds an intent to the draft.
     Add(Intent),
-    /// The draft is sent: the rows and numbers are those after it, and there is no draft any more.
+    /// Sends the draft, which changes the rows and the event tracking numbers. There is then no
+    /// draft.
     Send,
-    /// What the draft would be, without sending it.
+    /// Prints the codes of the product that the draft would be.
     Preview,
-    /// The events that the draft would open, and the texts of each event with a line.
+    /// Prints the events that the draft would open, and the texts of each event with a line.
     Plan,
-    /// The correction of a product by its number, at a minute, with texts.
+    /// Corrects a product by its number, at a minute, with texts.
     Correct(Minute, u16, List<EventTexts>),
-    /// The rows that are shown at a minute.
+    /// Prints the rows that are live at a minute.
     Board(Minute),
-    /// The rows of one zone that are shown at a minute.
+    /// Prints the rows of a zone that are live at a minute.
     Zone(Zone, Minute),
-    /// The least clash of the rows after lines at a minute.
+    /// Prints the least clash of the rows after lines at a minute.
     Clash(List<Line>, Minute),
-    /// The standing events of a hazard.
+    /// Prints the events of a hazard that have an unended row.
     Standing(Hazard),
-    /// So many events of a hazard, sixty-four a draft and a draft an hour from a minute on, each over at once.
+    /// Opens this many events of a hazard, at most 64 a draft and a draft an hour from a minute on,
+    /// each event for one minute.
     Fill(Hazard, u16, Minute),
 }
 
-/// The flood values of a location, without a forecast.
+/// Returns the flood values of a location, without a forecast.
 fn flood_at(site: [u8; 5]) -> Option<Flood> {
     Some(Flood {
         site,
@@ -53,16 +55,17 @@ fn flood_at(site: [u8; 5]) -> Option<Flood> {
     })
 }
 
-/// What was read, unless it is none of the script's words.
+/// Returns the value, or `Unread` if there is none.
 fn known<T>(found: Option<T>) -> Result<T, Or<Unread>> {
     found.ok_or(Or::No(Unread))
 }
 
+/// Returns the next word.
 fn next_word<'a>(words: &mut SplitWhitespace<'a>) -> Result<&'a str, Or<Unread>> {
     known(words.next())
 }
 
-/// Texts of which `what` is this word.
+/// Returns texts in which `what` is this word.
 fn texts_of(alloc: Global, word: &str) -> Result<Texts, Or<Unread>> {
     let what = List::from_slice(alloc, word.as_bytes())?;
     Ok(Texts {
@@ -73,7 +76,7 @@ fn texts_of(alloc: Global, word: &str) -> Result<Texts, Or<Unread>> {
     })
 }
 
-/// The texts that `what=WORD` asks for; none without it.
+/// Returns the texts of a word `what=WORD`, or empty ones if there is no word.
 fn said_of(alloc: Global, word: Option<&str>) -> Result<Texts, Or<Unread>> {
     let Some(word) = word else {
         return Ok(no_texts(alloc));
@@ -84,7 +87,7 @@ fn said_of(alloc: Global, word: Option<&str>) -> Result<Texts, Or<Unread>> {
     }
 }
 
-/// The flood values that `flood` or `flood=SITE` asks for.
+/// Returns the flood values of a word `flood` or `flood=SITE`, or `None` for another word.
 fn flood_of(word: &str) -> Option<Flood> {
     match word.split_once('=') {
         None if word == "flood" => flood_at(*b"00000"),
@@ -93,7 +96,8 @@ fn flood_of(word: &str) -> Option<Flood> {
     }
 }
 
-/// `HAZARD-OR-EVENT ZONES BEGIN END`, then `flood` or `flood=SITE` for flood values, then `what=WORD` for a text.
+/// Returns the put of the words `HAZARD-OR-EVENT ZONES BEGIN END`, then `flood` or `flood=SITE` for
+/// flood values, if any, then `what=WORD` for a text, if any.
 fn put_of(alloc: Global, words: &mut SplitWhitespace<'_>) -> Result<Intent, Or<Unread>> {
     let target = known(target_of(next_word(words)?))?;
     let zones = zones_of(alloc, next_word(words)?)?;
@@ -113,7 +117,7 @@ fn put_of(alloc: Global, words: &mut SplitWhitespace<'_>) -> Result<Intent, Or<U
     }))
 }
 
-/// `EVENT ZONES`, then `what=WORD` for a text.
+/// Returns the part of the words `EVENT ZONES`, then `what=WORD` for a text, if any.
 fn part_of(alloc: Global, words: &mut SplitWhitespace<'_>) -> Result<EventPart, Or<Unread>> {
     let event = known(event_of(next_word(words)?))?;
     let zones = zones_of(alloc, next_word(words)?)?;
@@ -125,7 +129,7 @@ fn part_of(alloc: Global, words: &mut SplitWhitespace<'_>) -> Result<EventPart, 
     })
 }
 
-/// `HAZARD ZONES`, then `what=WORD` for a text.
+/// Returns the part of the words `HAZARD ZONES`, then `what=WORD` for a text, if any.
 fn routine_of(alloc: Global, words: &mut SplitWhitespace<'_>) -> Result<RoutinePart, Or<Unread>> {
     let hazard = known(hazard_of(next_word(words)?))?;
     let zones = zones_of(alloc, next_word(words)?)?;
@@ -137,14 +141,14 @@ fn routine_of(alloc: Global, words: &mut SplitWhitespace<'_>) -> Result<RoutineP
     })
 }
 
-/// `STAMP CATEGORY`.
+/// Returns the step of the words `STAMP CATEGORY`.
 fn at_of(words: &mut SplitWhitespace<'_>) -> Result<Step, Or<Unread>> {
     let minute = known(minute_of(next_word(words)?))?;
     let category = known(category_of(next_word(words)?))?;
     Ok(Step::At(minute, category))
 }
 
-/// `EVENT=WORD`.
+/// Returns the texts of a word `EVENT=WORD`.
 fn told_of(alloc: Global, word: &str) -> Result<EventTexts, Or<Unread>> {
     let (event, text) = known(word.split_once('='))?;
     let event = known(event_of(event))?;
@@ -152,7 +156,7 @@ fn told_of(alloc: Global, word: &str) -> Result<EventTexts, Or<Unread>> {
     Ok(EventTexts { event, texts })
 }
 
-/// `STAMP NUMBER`, then `EVENT=WORD` for each text.
+/// Returns the step of the words `STAMP NUMBER`, then `EVENT=WORD` for each text.
 fn correct_of(alloc: Global, words: &mut SplitWhitespace<'_>) -> Result<Step, Or<Unread>> {
     let minute = known(minute_of(next_word(words)?))?;
     let number = known(number_of(next_word(words)?))?;
@@ -163,7 +167,7 @@ fn correct_of(alloc: Global, words: &mut SplitWhitespace<'_>) -> Result<Step, Or
     Ok(Step::Correct(minute, number, texts))
 }
 
-/// `HAZARD COUNT STAMP`.
+/// Returns the step of the words `HAZARD COUNT STAMP`.
 fn fill_of(words: &mut SplitWhitespace<'_>) -> Result<Step, Or<Unread>> {
     let hazard = known(hazard_of(next_word(words)?))?;
     let count = known(number_of(next_word(words)?))?;
@@ -171,14 +175,15 @@ fn fill_of(words: &mut SplitWhitespace<'_>) -> Result<Step, Or<Unread>> {
     Ok(Step::Fill(hazard, count, minute))
 }
 
-/// `ZONE STAMP`.
+/// Returns the step of the words `ZONE STAMP`.
 fn zone_step(words: &mut SplitWhitespace<'_>) -> Result<Step, Or<Unread>> {
     let zone = known(zone_of(next_word(words)?))?;
     let minute = known(minute_of(next_word(words)?))?;
     Ok(Step::Zone(zone, minute))
 }
 
-/// `STAMP ACTION EVENT ZONES BEGIN END`: a line in each of the zones.
+/// Returns the step of the words `STAMP ACTION EVENT ZONES BEGIN END`, with a line in each of the
+/// zones.
 fn clash_of(alloc: Global, words: &mut SplitWhitespace<'_>) -> Result<Step, Or<Unread>> {
     let minute = known(minute_of(next_word(words)?))?;
     let action = known(action_of(next_word(words)?))?;
@@ -200,7 +205,7 @@ fn clash_of(alloc: Global, words: &mut SplitWhitespace<'_>) -> Result<Step, Or<U
     Ok(Step::Clash(lines, minute))
 }
 
-/// The step that the first words say.
+/// Returns the step of the first words.
 fn read_step(alloc: Global, words: &mut SplitWhitespace<'_>) -> Result<Step, Or<Unread>> {
     match next_word(words)? {
         "day" => Ok(Step::Day),
@@ -222,7 +227,12 @@ fn read_step(alloc: Global, words: &mut SplitWhitespace<'_>) -> Result<Step, Or<
     }
 }
 
-/// The step of a line, which has no further words.
+/// Returns the step of a line.
+///
+/// # Errors
+///
+/// - `No` if the line is no step, or has more words than its step.
+/// - `OutOfMemory`.
 pub fn step_of(alloc: Global, line: &str) -> Result<Step, Or<Unread>> {
     let mut words = line.split_whitespace();
     let step = read_step(alloc, &mut words)?;

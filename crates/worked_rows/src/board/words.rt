@@ -1,20 +1,20 @@
-//! The words of a script's lines.
+//! The words of a script of days.
 use hazard_types::{
     Action, Begin, Category, End, Event, Hazard, List, Minute, Or, Target, Zone, actions,
     categories, event_in, find, hazard_in, read_stamp, zone_in,
 };
 use std::alloc::Global;
 
-/// A word that is none of the script's.
+/// The error of a word that the script cannot read.
 #[derive(Clone, Copy, Debug, PartialEq, Eq)]
 pub struct Unread;
 
-/// The minute of a stamp.
+/// Returns the minute of a stamp, or `None` if the word is no stamp.
 pub fn minute_of(word: &str) -> Option<Minute> {
     read_stamp(word.as_bytes())
 }
 
-/// `now`, or a stamp.
+/// Returns the begin of `now` or a stamp, or `None`.
 pub fn begin_of(word: &str) -> Option<Begin> {
     if word == "now" {
         return Some(Begin::Now);
@@ -22,7 +22,7 @@ pub fn begin_of(word: &str) -> Option<Begin> {
     minute_of(word).map(Begin::At)
 }
 
-/// `ufn`, or a stamp.
+/// Returns the end of `ufn` or a stamp, or `None`.
 pub fn end_of(word: &str) -> Option<End> {
     if word == "ufn" {
         return Some(End::Ufn);
@@ -30,36 +30,38 @@ pub fn end_of(word: &str) -> Option<End> {
     minute_of(word).map(End::At)
 }
 
-/// An action, as `NEW`.
+/// Returns the action of a code, as `NEW`, or `None`.
 pub fn action_of(word: &str) -> Option<Action> {
     find(&actions(), word.as_bytes())
 }
 
-/// A zone, as `MDZ003`.
+/// Returns the zone of a code, as `MDZ003`, or `None`.
 pub fn zone_of(word: &str) -> Option<Zone> {
     zone_in(word.as_bytes())
 }
 
+/// Returns the category of a code, as `WSW`, or `None`.
 pub fn category_of(word: &str) -> Option<Category> {
     find(&categories(), word.as_bytes())
 }
 
-/// A hazard of two letters and a significance, as `WS.W`.
+/// Returns the hazard of a phenomenon and a significance, as `WS.W`, or `None`.
 pub fn hazard_of(word: &str) -> Option<Hazard> {
     hazard_in(word.as_bytes())
 }
 
-/// A number in decimal digits.
+/// Returns the word as a decimal number of at most 65,535, or `None`.
 pub fn number_of(word: &str) -> Option<u16> {
     word.parse::<u16>().ok()
 }
 
-/// An event, as `WS.W.0001.2018`.
+/// Returns the event of a word, as `WS.W.0001.2018`, or `None`.
 pub fn event_of(word: &str) -> Option<Event> {
     event_in(word.as_bytes())
 }
 
-/// A new event of a hazard, or an event that is joined.
+/// Returns the target of a word: an event to join, or a hazard to open an event of. `None` if the
+/// word is neither.
 pub fn target_of(word: &str) -> Option<Target> {
     match event_of(word) {
         Some(event) => Some(Target::Join(event)),
@@ -67,7 +69,7 @@ pub fn target_of(word: &str) -> Option<Target> {
     }
 }
 
-/// The five characters of a location.
+/// Returns the five characters of a location, or `None` if there are not five.
 pub fn site_of(word: &str) -> Option<[u8; 5]> {
     let [a, b, c, d, e] = word.as_bytes() else {
         return None;
@@ -75,7 +77,7 @@ pub fn site_of(word: &str) -> Option<[u8; 5]> {
     Some([*a, *b, *c, *d, *e])
 }
 
-/// The zones of one state and kind from the first number to the last.
+/// Appends the zones of one state and kind from the number of `first` to `last`.
 fn push_run(zones: &mut List<Zone>, first: &Zone, last: u16) -> Result<(), Or<Unread>> {
     for number in first.number()..=last {
         let zone = Zone::new(first.state(), first.kind(), number).ok_or(Or::No(Unread))?;
@@ -84,7 +86,12 @@ fn push_run(zones: &mut List<Zone>, first: &Zone, last: u16) -> Result<(), Or<Un
     Ok(())
 }
 
-/// Zones and runs of zones with commas between them, as `MDZ003,MDZ010>015`.
+/// Returns the zones of codes and runs of zones with commas between them, as `MDZ003,MDZ010>015`.
+///
+/// # Errors
+///
+/// - `No` if an item is no zone or no run.
+/// - `OutOfMemory`.
 pub fn zones_of(alloc: Global, word: &str) -> Result<List<Zone>, Or<Unread>> {
     let mut zones = List::new(alloc);
     for item in word.split(',') {

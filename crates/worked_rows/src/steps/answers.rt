@@ -1,10 +1,11 @@
-//! What becomes of a line, as text.
+//! What is printed for the line of a product.
 use event_life::{Breach, Life};
 use hazard_types::{Oom, end_text, stamp};
 use std::alloc::{AllocError, Global};
 use worked_lines::text_of;
 
-/// Adds the period of a life, its flood location, if it has one, and whether a line has ended it.
+/// Appends the period of a life, the location of its flood values, if any, and whether a line has
+/// ended it.
 fn push_life(out: &mut String, life: &Life) -> Result<(), AllocError> {
     out.push_str(text_of(&stamp(life.period.begin)))?;
     out.push('-')?;
@@ -19,7 +20,12 @@ fn push_life(out: &mut String, life: &Life) -> Result<(), AllocError> {
     out.push('\n')
 }
 
-/// The life that a line leaves, or its breach. A routine line has neither.
+/// Returns the life that a line leaves, or its breach, or that it touches no life, as of a routine
+/// line.
+///
+/// # Errors
+///
+/// Out of memory.
 pub fn answer_text(alloc: Global, found: &Option<Result<Life, Breach>>) -> Result<String, Oom> {
     match found {
         Some(Ok(life)) => {

@@ -1,4 +1,4 @@
-//! The script: rows that stand, and lines that are judged by them.
+//! The script of lives.
 ghost use Rattle.std.specs.Prelude.{◌≡◌, Some, None, ◌||◌, not, if◌then◌else◌};
 ghost use Rattle.event_life.specs.Higher.{may_yield};
 ghost use Rattle.event_life.specs.Products.{is_routine, is_overlapped, row_at, life_at, around_but_higher};
@@ -11,16 +11,20 @@ use hazard_types::{Line, Minute, Oom, Row};
 use std::alloc::Global;
 use worked_lines::Work;
 
-/// Rows by zone, then event, and the minute at which lines are judged.
+/// The rows, by zone, then event, and the minute at which lines are judged.
 #[derive(Drop)]
 pub struct Script {
     rows: Vec<Row>,
     minute: Minute,
 }
 
-/// What a line that is alone in its product does to the life of its event in its zone. None for a routine line.
+/// Returns the life or the breach of a line that is alone in its product at minute `t`, or `None`
+/// for a routine line.
 fn stepped(rows: &[Row], t: Minute, line: &Line) -> Option<Result<Life, Breach>>
-    ensures { result ≡ (if is_routine line.now.action then None else Some (step (life_at rows.now line.now) line.now t (around_but_higher rows.now t line.now (not (may_yield line.now.event.hazard) || is_overlapped rows.now t (row_at rows.now line.now.event line.now.zone))))) }
+    ensures { result ≡ (if is_routine line.now.action then None
+        else Some (step (life_at rows.now line.now) line.now t
+        (around_but_higher rows.now t line.now (not (may_yield line.now.event.hazard)
+        || is_overlapped rows.now t (row_at rows.now line.now.event line.now.zone))))) }
 {
     if is_routine(&line.action) {
         return None;
@@ -37,10 +41,12 @@ impl Script {
         }
     }
 
+    /// Returns what is printed for a line.
     fn judge(&self, alloc: Global, line: &Line) -> Result<String, Oom> {
         answer_text(alloc, &stepped(&self.rows, self.minute, line))
     }
 
+    /// Returns what is printed for a line, and puts the row of the life that it leaves.
     fn take(&mut self, alloc: Global, line: &Line) -> Result<String, Oom> {
         let found = stepped(&self.rows, self.minute, line);
         if let Some(Ok(life)) = &found {
@@ -49,6 +55,7 @@ impl Script {
         answer_text(alloc, &found)
     }
 
+    /// Does a step, and returns what is printed for it.
     fn step(&mut self, alloc: Global, step: &Step) -> Result<String, Oom> {
         match step {
             Step::Clear => self.rows.clear(),
@@ -62,7 +69,7 @@ impl Script {
 }
 
 impl Work for Script {
-    /// What a line is answered. A remark is answered by itself, as is an empty line.
+    /// Returns what is printed for a line. A remark and an empty line are returned unchanged.
     fn work(&mut self, alloc: Global, line: &str) -> Result<String, Oom> {
         if line.is_empty() || line.starts_with('#') {
             return Ok(format!(in alloc; "{line}\n")?);

@@ -1,39 +1,40 @@
-//! The words of a script's lines.
+//! The steps of a script of lives, and their words.
 use hazard_types::{
     Cause, End, Flood, Line, Minute, Period, Row, Severity, Status, Zone, actions, event_in, find,
     read_stamp, time_in, zone_in,
 };
 use std::str::SplitWhitespace;
 
-/// A line that is none of the script's.
+/// The error of a line that is no step.
 #[derive(Clone, Copy, Debug, PartialEq, Eq)]
 pub struct Unread;
 
-/// What a line of a script says.
+/// A step of the script.
 #[derive(Clone, Copy, Debug)]
 pub enum Step {
-    /// No row stands.
+    /// Removes all rows.
     Clear,
-    /// The minute of the products from here on.
+    /// Sets the minute of the products.
     At(Minute),
-    /// A row stands.
+    /// Puts a row.
     Stand(Row),
-    /// What a line would leave.
+    /// Prints what a line would leave.
     Judge(Line),
-    /// A line whose life stands from here on, where it is lawful.
+    /// Prints what a line leaves, and puts the row of its life, if the line is lawful.
     Take(Line),
 }
 
-/// What was read, unless it is none of the script's words.
+/// Returns the value, or `Unread` if there is none.
 fn known<T>(found: Option<T>) -> Result<T, Unread> {
     found.ok_or(Unread)
 }
 
+/// Returns the next word.
 fn next_word<'a>(words: &mut SplitWhitespace<'a>) -> Result<&'a str, Unread> {
     known(words.next())
 }
 
-/// The values of a minor flood at a location of five characters.
+/// Returns the values of a minor flood at a location of five characters, or `None`.
 fn flood_at(location: &str) -> Option<Flood> {
     let [a, b, c, d, e] = location.as_bytes() else {
         return None;
@@ -49,7 +50,7 @@ fn flood_at(location: &str) -> Option<Flood> {
     })
 }
 
-/// The flood values of a last word, if there is one.
+/// Returns the flood values of a last word, if there is one.
 fn flood_of(word: Option<&str>) -> Result<Option<Flood>, Unread> {
     match word {
         None => Ok(None),
@@ -57,12 +58,12 @@ fn flood_of(word: Option<&str>) -> Result<Option<Flood>, Unread> {
     }
 }
 
-/// A stamp, or the zero time.
+/// Returns the minute of a stamp, or `None` for zeros.
 fn time_of(word: &str) -> Result<Option<Minute>, Unread> {
     known(time_in(word.as_bytes()))
 }
 
-/// A stamp, or the zero time for until further notice.
+/// Returns the end of a stamp, or until further notice for zeros.
 fn end_of(word: &str) -> Result<End, Unread> {
     match time_of(word)? {
         Some(minute) => Ok(End::At(minute)),
@@ -70,15 +71,17 @@ fn end_of(word: &str) -> Result<End, Unread> {
     }
 }
 
+/// Returns the minute of a stamp.
 fn minute_of(word: &str) -> Result<Minute, Unread> {
     known(read_stamp(word.as_bytes()))
 }
 
+/// Returns the zone of a code, as `MDZ003`.
 fn zone_of(word: &str) -> Result<Zone, Unread> {
     known(zone_in(word.as_bytes()))
 }
 
-/// `ZONE EVENT BEGIN END`, and the location of flood values, if the row has any.
+/// Returns the row of the words `ZONE EVENT BEGIN END`, with the location of flood values, if any.
 fn row_of(words: &mut SplitWhitespace<'_>, ended: bool) -> Result<Row, Unread> {
     let zone = zone_of(next_word(words)?)?;
     let event = known(event_in(next_word(words)?.as_bytes()))?;
@@ -94,7 +97,9 @@ fn row_of(words: &mut SplitWhitespace<'_>, ended: bool) -> Result<Row, Unread> {
     })
 }
 
-/// `ACTION ZONE EVENT BEGIN END`, and the location of flood values, if the line has any. Zeros are as in a P-VTEC text.
+/// Returns the line of the words `ACTION ZONE EVENT BEGIN END`, with the location of flood values,
+/// if any. A begin that has passed and an end until further notice are zeros, as in a P-VTEC
+/// string.
 fn line_of(words: &mut SplitWhitespace<'_>) -> Result<Line, Unread> {
     let action = known(find(&actions(), next_word(words)?.as_bytes()))?;
     let zone = zone_of(next_word(words)?)?;
@@ -112,7 +117,7 @@ fn line_of(words: &mut SplitWhitespace<'_>) -> Result<Line, Unread> {
     })
 }
 
-/// The step that the first words say.
+/// Returns the step of the first words.
 fn read_step(words: &mut SplitWhitespace<'_>) -> Result<Step, Unread> {
     match next_word(words)? {
         "clear" => Ok(Step::Clear),
@@ -125,7 +130,11 @@ fn read_step(words: &mut SplitWhitespace<'_>) -> Result<Step, Unread> {
     }
 }
 
-/// The step of a line, which has no further words.
+/// Returns the step of a line.
+///
+/// # Errors
+///
+/// The line is no step, or has more words than its step.
 pub fn step_of(line: &str) -> Result<Step, Unread> {
     let mut words = line.split_whitespace();
     let step = read_step(&mut words)?;

@@ -1,19 +1,19 @@
-//! Answers as the bytes that a link gives.
+//! HTTP answers, as the bytes that come on a link.
 use hazard_types::{Oom, Text};
 use std::alloc::Global;
 use worked_lines::times_of;
 
-/// The body of the answer that there is no further product.
+/// The body of the answer that there is no later product.
 const NO_PRODUCT: &str = "{\"no\":\"E14\",\"rule\":\"NoProduct\"}";
 
-/// The kept text of this number, counted from 1.
+/// Returns the kept text with this number, from 1, or `None` if there is none.
 pub fn kept_text<'a>(kept: &'a [Text], number: &str) -> Option<&'a [u8]> {
     let number = number.parse::<usize>().ok()?;
     let text = kept.get(number.checked_sub(1)?)?;
     Some(text.as_slice())
 }
 
-/// Adds an answer with a body; its head ends with this field, if it is one.
+/// Appends an answer with a body. `field` is empty or the last field of its head.
 fn add_answer(
     alloc: Global,
     bytes: &mut Text,
@@ -27,8 +27,9 @@ fn add_answer(
     bytes.extend(body)
 }
 
-/// Adds what a line says: an answer with a kept text, one behind which the link closes, the end,
-/// a line of a head, or other bytes. Answers whether it says one.
+/// Appends the bytes of a line, and returns whether it has any: an answer with a kept text, one
+/// after which the link closes, the answer that there is no later product, a line of a head, or
+/// other bytes.
 fn add_once(alloc: Global, bytes: &mut Text, kept: &[Text], line: &str) -> Result<bool, Oom> {
     let (word, rest) = line.split_once(' ').unwrap_or((line, ""));
     match word {
@@ -54,7 +55,11 @@ fn add_once(alloc: Global, bytes: &mut Text, kept: &[Text], line: &str) -> Resul
     Ok(true)
 }
 
-/// Adds what a line says, as often as it says. Answers whether it says something to add.
+/// Appends the bytes of a line, as often as it sets, and returns whether it has any.
+///
+/// # Errors
+///
+/// Out of memory.
 pub fn add_bytes(alloc: Global, bytes: &mut Text, kept: &[Text], line: &str) -> Result<bool, Oom> {
     let (times, line) = times_of(line);
     for _ in 0..times {

@@ -1,9 +1,10 @@
-//! What a run stands on.
+//! What a script sets for a run of the follower.
 use hazard_types::{List, Oom, Text};
 use std::alloc::Global;
 use std::mem;
 
-/// The bytes that a link gives, and which of its calls (reads and writes) fail.
+/// The bytes that come on a link, and the numbers of its calls (reads and writes together) that
+/// fail.
 #[derive(Drop)]
 pub struct LinkGiven {
     pub bytes: Text,
@@ -19,7 +20,8 @@ impl LinkGiven {
     }
 }
 
-/// The links of a dialer, the dials that fail, and the writes of the output that fail.
+/// The links of a dialer, the numbers of the dials that fail, and those of the writes of the output
+/// that fail.
 #[derive(Drop)]
 pub struct Given {
     pub links: List<LinkGiven>,
@@ -28,7 +30,7 @@ pub struct Given {
 }
 
 impl Given {
-    /// No link, and no faults.
+    /// Returns no link and no fault.
     pub fn new(alloc: Global) -> Self {
         Given {
             links: List::new(alloc),
@@ -37,7 +39,11 @@ impl Given {
         }
     }
 
-    /// Takes a link that was written, and leaves a new one in its place.
+    /// Moves a link to the others, and leaves an empty one in its place.
+    ///
+    /// # Errors
+    ///
+    /// Out of memory.
     pub fn take_link(&mut self, alloc: Global, link: &mut LinkGiven) -> Result<(), Oom> {
         self.links.push(mem::replace(link, LinkGiven::new(alloc)))
     }

@@ -1,4 +1,4 @@
-//! The other end: an office on a disk in memory, served over one link.
+//! The other end of a link: an office on a disk in memory.
 use crate::memory::{disk_of, journal_of};
 use crate::serve::given::Given;
 use crate::serve::links::{LinkRun, run_link};
@@ -6,7 +6,7 @@ use hazard_types::{List, Oom, Text};
 use std::alloc::Global;
 use std::sync::Wait;
 
-/// The settings, and the journal and the clock that the office is served with.
+/// The settings of an office, and the journal and the clock that it is served with.
 #[derive(Drop)]
 pub struct Office {
     pub settings: Text,
@@ -14,7 +14,7 @@ pub struct Office {
 }
 
 impl Office {
-    /// No settings and no journal.
+    /// Returns an office without settings and journal.
     pub fn new(alloc: Global) -> Self {
         Office {
             settings: List::new(alloc),
@@ -22,7 +22,11 @@ impl Office {
         }
     }
 
-    /// Makes the journal of a new office. Answers whether the settings are those of one.
+    /// Makes the journal of a new office, and returns whether the office was created.
+    ///
+    /// # Errors
+    ///
+    /// Out of memory.
     pub fn make_journal(&mut self, alloc: Global) -> Result<bool, Oom> {
         let disk = disk_of(alloc, b"")?;
         match journal_of(alloc, disk, self.settings.as_slice())? {
@@ -34,7 +38,11 @@ impl Office {
         }
     }
 
-    /// Serves a link that gives these bytes. None where there is no journal.
+    /// Serves a link that has these bytes. Returns `None` if there is no journal.
+    ///
+    /// # Errors
+    ///
+    /// Out of memory.
     pub fn serve<R: Wait>(
         &self,
         rt: &R,
@@ -45,13 +53,21 @@ impl Office {
     }
 }
 
-/// The call that posts a request.
+/// Returns the HTTP call that posts a request.
+///
+/// # Errors
+///
+/// Out of memory.
 pub fn post_text(alloc: Global, body: &str) -> Result<String, Oom> {
     let count = body.len();
     Ok(format!(in alloc; "POST /requests HTTP/1.1\r\nContent-Length: {count}\r\n\r\n{body}")?)
 }
 
-/// The questions after the first places, so many.
+/// Returns the HTTP calls that get the products after places 0 to `count` - 1.
+///
+/// # Errors
+///
+/// Out of memory.
 pub fn questions(alloc: Global, count: u32) -> Result<Text, Oom> {
     let mut bytes = List::new(alloc);
     for place in 0..count {

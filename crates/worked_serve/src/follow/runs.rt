@@ -1,4 +1,4 @@
-//! A run of a follower over links in memory.
+//! Runs of a follower over links in memory.
 ghost use Rattle.std.specs.Prelude.{◌≡◌, [], All, IfOk};
 ghost use Rattle.desk_links.specs.LinkMemory.{IsUntouched};
 
@@ -10,7 +10,8 @@ use follow_links::follow_run;
 use hazard_types::{List, Oom, Text};
 use std::alloc::Global;
 
-/// How many bytes of the first link come, and the most bytes that a link gives at once.
+/// The largest number of bytes that come on the first link, and the largest number that a read of a
+/// link returns.
 #[derive(Clone, Copy, Debug)]
 pub struct Cut {
     pub first: usize,
@@ -23,15 +24,18 @@ pub const WHOLE: Cut = Cut {
     piece: usize::MAX,
 };
 
-/// The status of a run, what it wrote, and what was written on each link that it gave back.
+/// How a run ended.
 #[derive(Drop)]
 pub struct Run {
+    /// The exit status.
     pub status: u8,
+    /// What the program wrote.
     pub told: Text,
+    /// What was written on each link that it returned.
     pub asked: List<Text>,
 }
 
-/// The links of a dialer.
+/// Returns the links of a dialer.
 fn links_of(alloc: Global, given: &Given, cut: Cut) -> Result<List<MemLink>, Oom>
     ensures { IfOk result (All IsUntouched) }
 {
@@ -47,7 +51,7 @@ fn links_of(alloc: Global, given: &Given, cut: Cut) -> Result<List<MemLink>, Oom
     Ok(links)
 }
 
-/// A dialer of the links.
+/// Returns a dialer of the links.
 fn dialer_of(alloc: Global, given: &Given, cut: Cut) -> Result<MemDialer, Oom>
     ensures { IfOk result (λ dialer. (dialer.given ≡ 0) × (dialer.back ≡ [])) }
 {
@@ -55,14 +59,14 @@ fn dialer_of(alloc: Global, given: &Given, cut: Cut) -> Result<MemDialer, Oom>
     MemDialer::new(alloc, links, &given.dials)
 }
 
-/// Follows as the words say, and answers the status.
+/// Follows with these words as arguments, and returns the exit status.
 fn follow(alloc: Global, words: &List<Text>, dialer: &mut MemDialer, output: &mut MemSink) -> u8
     requires { (dialer.old.given ≡ 0) × (dialer.old.back ≡ []) }
 {
     follow_run(alloc, words, dialer, output)
 }
 
-/// What was written on each link that the dialer got back.
+/// Returns what was written on each link that the dialer took back.
 fn asked_on(alloc: Global, dialer: &MemDialer) -> Result<List<Text>, Oom> {
     let mut asked = List::new(alloc);
     for link in dialer.links() {
@@ -71,7 +75,11 @@ fn asked_on(alloc: Global, dialer: &MemDialer) -> Result<List<Text>, Oom> {
     Ok(asked)
 }
 
-/// Follows as the words say, over the links.
+/// Follows with these words as arguments, over the links.
+///
+/// # Errors
+///
+/// Out of memory.
 pub fn run_follow(alloc: Global, given: &Given, words: &List<Text>, cut: Cut) -> Result<Run, Oom> {
     let mut output = output_of(alloc, &given.writes)?;
     let mut dialer = dialer_of(alloc, given, cut)?;

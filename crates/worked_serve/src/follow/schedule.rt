@@ -1,14 +1,14 @@
-//! A follower alone, and a schedule of what may happen: texts come to the office, and answers
-//! come, come again, come late or are lost.
+//! Schedules of a follower: texts come to the office, and answers come, come again, come late or
+//! are lost.
 use crate::follow::answers::kept_text;
 use follow_core::{Follower, Heard};
 use hazard_types::{Class, List, Minute, Oom, Text, read_stamp};
 use std::alloc::Global;
 
-/// The most texts that a follower takes.
+/// The largest number of texts that a follower takes.
 const MOST: u32 = 8192;
 
-/// The office's texts so far, the places after which was asked, and the follower.
+/// The texts of the office so far, the places after which the follower asked, and the follower.
 #[derive(Drop)]
 struct World {
     texts: List<Text>,
@@ -25,20 +25,23 @@ impl World {
         }
     }
 
+    /// Adds a text to the office.
     fn append(&mut self, alloc: Global, text: &[u8]) -> Result<String, Oom> {
         self.texts.push(List::from_slice(alloc, text)?)?;
         let count = self.texts.len();
         Ok(format!(in alloc; "texts {count}")?)
     }
 
+    /// Asks for the text after the follower's place.
     fn ask(&mut self, alloc: Global) -> Result<String, Oom> {
         let place = self.follower.place();
         self.asked.push(place)?;
         Ok(format!(in alloc; "ask {place}")?)
     }
 
-    /// What becomes of the answer to the question after a place: nothing where that was not
-    /// asked, or the office has no such text.
+    /// Delivers the answer to the question after a place, and returns what the follower did with
+    /// it; `nothing` if the question was not asked, the office has no such text, or the follower
+    /// has `MOST` texts.
     fn deliver(&mut self, alloc: Global, after: u32) -> Result<&'static str, Oom> {
         let place = self.follower.place();
         if !self.asked.as_slice().contains(&after) || place < after || MOST <= place {
@@ -54,8 +57,9 @@ impl World {
         }
     }
 
-    /// What comes of an event: `+K`, the office has kept text K more; `?`, the follower asks;
-    /// `N`, the answer to the question after N comes; `-N`, it is lost.
+    /// Does an event and returns it in words, or `None` if it is none. `+K` adds kept text K to the
+    /// office, `?` has the follower ask, `N` delivers the answer to the question after place N, and
+    /// `-N` loses it.
     fn happen(&mut self, alloc: Global, kept: &[Text], event: &str) -> Result<Option<String>, Oom> {
         if let Some(number) = event.strip_prefix('+') {
             return match kept_text(kept, number) {
@@ -75,7 +79,7 @@ impl World {
         }
     }
 
-    /// What comes of each event. None where one is none.
+    /// Does each event and returns it in words, or `None` if one is none.
     fn happen_all(
         &mut self,
         alloc: Global,
@@ -93,7 +97,7 @@ impl World {
         Ok(Some(answer))
     }
 
-    /// The place, and how many rows are shown at the minute.
+    /// Returns the follower's place, and how many rows it has that are live at a minute.
     fn end_line(&self, alloc: Global, minute: Minute) -> Result<String, Oom> {
         let place = self.follower.place();
         let shown = self.follower.shown(alloc, minute)?.len();
@@ -101,8 +105,12 @@ impl World {
     }
 }
 
-/// What comes of each event of a schedule, the place behind it, and how many rows are shown at
-/// the minute that the schedule begins with. None where it is no schedule.
+/// Returns in words each event of a schedule, the follower's place after it, and how many rows are
+/// live at the minute with which the schedule begins. `None` if the line is no schedule.
+///
+/// # Errors
+///
+/// Out of memory.
 pub fn schedule_answer(alloc: Global, kept: &[Text], line: &str) -> Result<Option<String>, Oom> {
     let (stamp, events) = line.split_once(' ').unwrap_or((line, ""));
     let Some(minute) = read_stamp(stamp.as_bytes()) else {

@@ -1,4 +1,5 @@
-//! The script: each line adds to what is given for the next run, or is a run, which uses that up.
+//! The script of following: a line sets something for the next run, or is a run, after which the
+//! links and faults are removed.
 use crate::follow::answers::add_bytes;
 use crate::follow::given::{Given, LinkGiven};
 use crate::follow::office::{Office, post_text, questions};
@@ -13,14 +14,15 @@ use std::mem;
 use std::sync::Wait;
 use worked_lines::{Work, numbers_of, shown, unread, words_of};
 
-/// The status of an answer.
+/// Returns the status of an answer, as a line.
 fn posted(alloc: Global, written: &Text) -> Result<String, Oom> {
     let line = shown(alloc, written.as_slice())?;
     let status = line.as_str().get(9..12).unwrap_or("");
     Ok(format!(in alloc; "answered {status}\n")?)
 }
 
-/// What came of following a served office: also whether what was asked is what it had answered.
+/// Returns the counts of a run over a served office, and whether what the follower asked is what
+/// the office had answered.
 fn met(alloc: Global, run: &Run, asked: &Text) -> Result<String, Oom> {
     let mut answer = tally_answer(alloc, run)?;
     let same = match run.asked.as_slice() {
@@ -35,8 +37,8 @@ fn met(alloc: Global, run: &Run, asked: &Text) -> Result<String, Oom> {
     Ok(answer)
 }
 
-/// The text that is written and those that are kept, the link that is written and what else the
-/// next run stands on, and the office that is served.
+/// The text that is being written and those that are kept, the link that is being written, what is
+/// set for the next run, and the office that is served.
 #[derive(Drop)]
 pub struct Script<'a, R> {
     rt: &'a R,
@@ -59,7 +61,7 @@ impl<'a, R: Wait> Script<'a, R> {
         }
     }
 
-    /// Sets which calls fail. Answers whether the words say it.
+    /// Sets the calls that fail, and returns whether the words are such a line.
     fn set_failing(&mut self, alloc: Global, word: &str, rest: &str) -> Result<bool, Oom> {
         let Some(numbers) = numbers_of(alloc, rest)? else {
             return Ok(false);
@@ -73,7 +75,7 @@ impl<'a, R: Wait> Script<'a, R> {
         Ok(true)
     }
 
-    /// Sets the reading of the clock. Answers whether the word is a stamp.
+    /// Sets the reading of the clock, and returns whether the word is a stamp.
     fn set_clock(&mut self, alloc: Global, stamp: &str) -> Result<bool, Oom> {
         let Some(minute) = read_stamp(stamp.as_bytes()) else {
             return Ok(false);
@@ -83,7 +85,7 @@ impl<'a, R: Wait> Script<'a, R> {
         Ok(true)
     }
 
-    /// Adds what a line says to what is given. Answers whether it says something to add.
+    /// Does a line that only sets something, and returns whether the line is one.
     fn prepare(&mut self, alloc: Global, line: &str) -> Result<bool, Oom> {
         let (word, rest) = line.split_once(' ').unwrap_or((line, ""));
         match word {
@@ -110,6 +112,7 @@ impl<'a, R: Wait> Script<'a, R> {
         Ok(true)
     }
 
+    /// Makes the journal of the served office.
     fn make_journal(&mut self, alloc: Global) -> Result<String, Oom> {
         let word = if self.office.make_journal(alloc)? {
             "ready\n"
@@ -119,7 +122,8 @@ impl<'a, R: Wait> Script<'a, R> {
         Ok(String::from_str(alloc, word)?)
     }
 
-    /// Posts a request to the served office, and keeps the journal that it leaves.
+    /// Posts a request to the served office, keeps the journal that it leaves, and returns the
+    /// status of the answer.
     fn post(&mut self, alloc: Global, body: &str) -> Result<String, Oom> {
         let call = post_text(alloc, body)?;
         match self.office.serve(self.rt, alloc, call.as_bytes())? {
@@ -131,8 +135,9 @@ impl<'a, R: Wait> Script<'a, R> {
         }
     }
 
-    /// Follows the served office: the link gives what that answers to the questions after the
-    /// first places, so many. Says also whether what was asked is what was answered.
+    /// Follows the served office: the link has its answers to the questions after the first `COUNT`
+    /// places, at most 100,000. Returns `None` if the words are not `COUNT WORDS`, or there is no
+    /// office.
     fn meet(&mut self, alloc: Global, line: &str) -> Result<Option<String>, Oom> {
         let Some((count, words)) = line.split_once(' ') else {
             return Ok(None);
@@ -148,8 +153,8 @@ impl<'a, R: Wait> Script<'a, R> {
         Ok(Some(met(alloc, &run, &asked)?))
     }
 
-    /// A link that gives what the served office answers to these questions. Answers whether there
-    /// is an office.
+    /// Makes a link that has the served office's answers to these questions, and returns whether
+    /// there is an office.
     fn hear_office(&mut self, alloc: Global, asked: &Text) -> Result<bool, Oom> {
         let Some(served) = self.office.serve(self.rt, alloc, asked.as_slice())? else {
             return Ok(false);
@@ -159,13 +164,13 @@ impl<'a, R: Wait> Script<'a, R> {
         Ok(true)
     }
 
-    /// Follows as the words say, over the links, whose bytes all come.
+    /// Follows with these words as arguments, over the links, whose bytes all come.
     fn run_whole(&self, alloc: Global, words: &str) -> Result<Run, Oom> {
         let words = words_of(alloc, words)?;
         run_follow(alloc, &self.given, &words, WHOLE)
     }
 
-    /// Follows over the links that are written.
+    /// Follows over the links that are written, and returns what is printed.
     fn follow(&mut self, alloc: Global, word: &str, rest: &str) -> Result<String, Oom> {
         if !self.link.bytes.is_empty() || !self.link.failing.is_empty() {
             self.given.take_link(alloc, &mut self.link)?;
@@ -178,7 +183,7 @@ impl<'a, R: Wait> Script<'a, R> {
         }
     }
 
-    /// What a run is answered, where the line is one.
+    /// Returns what is printed for a run, or `None` if the line is none.
     fn run(&mut self, alloc: Global, line: &str) -> Result<Option<String>, Oom> {
         let (word, rest) = line.split_once(' ').unwrap_or((line, ""));
         match word {
@@ -193,7 +198,7 @@ impl<'a, R: Wait> Script<'a, R> {
 }
 
 impl<'a, R: Wait> Work for Script<'a, R> {
-    /// What a line of the script is answered.
+    /// Returns what is printed for a line.
     fn work(&mut self, alloc: Global, line: &str) -> Result<String, Oom> {
         if line.is_empty() || line.starts_with('#') || self.prepare(alloc, line)? {
             return Ok(String::new(alloc));

@@ -1,9 +1,9 @@
-//! What came of a run, as text.
+//! What is printed of a run.
 use crate::follow::runs::Run;
 use hazard_types::{Oom, Text};
 use std::alloc::Global;
 
-/// Adds the bytes in one line, in which CR and LF are shown as `\r` and `\n`.
+/// Appends the bytes in one line, with CR and LF as `\r` and `\n`.
 fn add_line(answer: &mut String, bytes: &[u8]) -> Result<(), Oom> {
     for byte in bytes {
         match byte {
@@ -16,7 +16,7 @@ fn add_line(answer: &mut String, bytes: &[u8]) -> Result<(), Oom> {
     Ok(())
 }
 
-/// Adds a text, and ends its last line.
+/// Appends a text, and a line end if it has none.
 fn add_text(answer: &mut String, text: &Text) -> Result<(), Oom> {
     for byte in text.as_slice() {
         answer.push(char::from(*byte))?;
@@ -27,7 +27,12 @@ fn add_text(answer: &mut String, text: &Text) -> Result<(), Oom> {
     Ok(())
 }
 
-/// What the program wrote and its status, and a line for each link with what was written on it.
+/// Returns what the program wrote, its exit status, and a line for each link with what was written
+/// on it.
+///
+/// # Errors
+///
+/// Out of memory.
 pub fn run_answer(alloc: Global, run: &Run) -> Result<String, Oom> {
     let mut answer = String::new(alloc);
     add_text(&mut answer, &run.told)?;
@@ -40,7 +45,12 @@ pub fn run_answer(alloc: Global, run: &Run) -> Result<String, Oom> {
     Ok(answer)
 }
 
-/// What the program wrote and its status, and how many links and bytes of questions there were.
+/// Returns what the program wrote, its exit status, and the numbers of links and of bytes written
+/// on them.
+///
+/// # Errors
+///
+/// Out of memory.
 pub fn tally_answer(alloc: Global, run: &Run) -> Result<String, Oom> {
     let mut answer = String::new(alloc);
     add_text(&mut answer, &run.told)?;

@@ -1,10 +1,10 @@
-//! The same run over and over: with the first link cut at each byte, and in pieces of each size.
+//! Sweeps: the same run with the first link cut at each byte, or with pieces of each size.
 use crate::follow::given::Given;
 use crate::follow::runs::{Cut, Run, WHOLE, run_follow};
 use hazard_types::{List, Oom, Text};
 use std::alloc::Global;
 
-/// How many bytes the first link gives.
+/// Returns the number of bytes on the first link.
 fn first_length(given: &Given) -> usize {
     match given.links.as_slice() {
         [link, ..] => link.bytes.len(),
@@ -12,11 +12,12 @@ fn first_length(given: &Given) -> usize {
     }
 }
 
+/// Whether two runs ended alike: the same exit status, the same output, and as many links.
 fn are_alike(one: &Run, other: &Run) -> bool {
     one.status == other.status && one.told == other.told && one.asked.len() == other.asked.len()
 }
 
-/// The first line of what was written.
+/// Returns the first line of what was written.
 fn first_line(alloc: Global, told: &Text) -> Result<String, Oom> {
     let mut line = String::new(alloc);
     for byte in told.as_slice() {
@@ -28,7 +29,7 @@ fn first_line(alloc: Global, told: &Text) -> Result<String, Oom> {
     Ok(line)
 }
 
-/// A run in which the first link gives its first bytes alone, so many.
+/// Follows with only the first `count` bytes of the first link.
 fn run_cut(alloc: Global, given: &Given, words: &List<Text>, count: usize) -> Result<Run, Oom> {
     let cut = Cut {
         first: count,
@@ -37,7 +38,7 @@ fn run_cut(alloc: Global, given: &Given, words: &List<Text>, count: usize) -> Re
     run_follow(alloc, given, words, cut)
 }
 
-/// The line of a run in which the first link gave so many bytes.
+/// Returns the line of a run with only the first `count` bytes of the first link.
 fn cut_line(alloc: Global, count: usize, run: &Run) -> Result<String, Oom> {
     let status = run.status;
     let links = run.asked.len();
@@ -53,7 +54,7 @@ struct Sweep {
 }
 
 impl Sweep {
-    /// Whether the last run was the same.
+    /// Whether the last run ended like this one.
     fn had(&self, run: &Run) -> bool {
         match &self.last {
             Some(last) => are_alike(last, run),
@@ -61,7 +62,8 @@ impl Sweep {
         }
     }
 
-    /// Takes a run in which the first link gave so many bytes: a line, where it is another one.
+    /// Takes a run with only the first `count` bytes of the first link, and appends its line if it
+    /// ended otherwise than the last one.
     fn take(&mut self, alloc: Global, count: usize, run: Run) -> Result<(), Oom> {
         if !self.had(&run) {
             let line = cut_line(alloc, count, &run)?;
@@ -72,8 +74,12 @@ impl Sweep {
     }
 }
 
-/// How a run ends where the first link gives its first bytes alone, from none on: a line at each
-/// number of bytes from which on it changes.
+/// Returns a line for each number of first bytes of the first link, from 0, whose run ended
+/// otherwise than the one before it.
+///
+/// # Errors
+///
+/// Out of memory.
 pub fn sweep_cuts(alloc: Global, given: &Given, words: &List<Text>) -> Result<String, Oom> {
     let mut sweep = Sweep {
         answer: String::new(alloc),
@@ -86,7 +92,7 @@ pub fn sweep_cuts(alloc: Global, given: &Given, words: &List<Text>) -> Result<St
     Ok(sweep.answer)
 }
 
-/// A run in which each link gives pieces of this size.
+/// Follows over links whose reads return at most `piece` bytes.
 fn run_pieces(alloc: Global, given: &Given, words: &List<Text>, piece: usize) -> Result<Run, Oom> {
     let cut = Cut {
         first: usize::MAX,
@@ -95,8 +101,12 @@ fn run_pieces(alloc: Global, given: &Given, words: &List<Text>, piece: usize) ->
     run_follow(alloc, given, words, cut)
 }
 
-/// How many sizes of pieces, from one byte to all of the first link, give another run than all
-/// bytes at once.
+/// Returns how many sizes of pieces there are, from 1 to the bytes of the first link, and at how
+/// many of them the run ended otherwise than with all bytes at once.
+///
+/// # Errors
+///
+/// Out of memory.
 pub fn sweep_pieces(alloc: Global, given: &Given, words: &List<Text>) -> Result<String, Oom> {
     let whole = run_follow(alloc, given, words, WHOLE)?;
     let sizes = first_length(given);

@@ -1,13 +1,17 @@
-//! What was written, as text.
+//! What is printed of the bytes on a link.
 ghost use Rattle.std.specs.Prelude.{◌<◌, length};
 
 use hazard_types::{Oom, Text};
 use warn_serve::LinkEnd;
 
-/// What each answer on a link begins with.
+/// The bytes that each answer on a link begins with.
 const ANSWER: &[u8] = b"HTTP/1.1 ";
 
-/// Adds the bytes, in which CR is shown as `\r`, and ends their last line.
+/// Appends the bytes, with CR as `\r`, and a line end if they have none.
+///
+/// # Errors
+///
+/// Out of memory.
 pub fn add_bytes(answer: &mut String, bytes: &[u8]) -> Result<(), Oom> {
     for byte in bytes {
         match byte {
@@ -21,7 +25,7 @@ pub fn add_bytes(answer: &mut String, bytes: &[u8]) -> Result<(), Oom> {
     Ok(())
 }
 
-/// How often the bytes have this part.
+/// Returns how often the bytes have this part.
 pub fn count_of(bytes: &[u8], part: &[u8]) -> u64
     requires { 0 < length part.now }
 {
@@ -34,11 +38,12 @@ pub fn count_of(bytes: &[u8], part: &[u8]) -> u64
     count
 }
 
-/// How many answers were written on a link.
+/// Returns the number of answers on a link.
 pub fn count_answers(written: &Text) -> u64 {
     count_of(written.as_slice(), ANSWER)
 }
 
+/// Returns the name of how a link ended.
 pub fn end_name(end: LinkEnd) -> &'static str {
     match end {
         LinkEnd::Closed => "Closed",

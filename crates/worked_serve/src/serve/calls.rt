@@ -1,10 +1,10 @@
-//! Calls as the bytes that a link gives.
+//! HTTP calls, as the bytes that come on a link.
 use hazard_types::{Oom, Text};
 use std::alloc::Global;
 use worked_lines::times_of;
 
-/// Adds what a line says: a call for a path, one that posts a body, a line of a head, or other bytes. Answers whether it
-/// says one.
+/// Appends the bytes of a line, and returns whether it has any: a call that gets a path, one that
+/// posts a body, a line of a head, or other bytes.
 fn add_once(alloc: Global, bytes: &mut Text, line: &str) -> Result<bool, Oom> {
     let (word, rest) = line.split_once(' ').unwrap_or((line, ""));
     match word {
@@ -27,7 +27,11 @@ fn add_once(alloc: Global, bytes: &mut Text, line: &str) -> Result<bool, Oom> {
     Ok(true)
 }
 
-/// Adds what a line says, as often as it says. Answers whether it says something to add.
+/// Appends the bytes of a line, as often as it sets, and returns whether it has any.
+///
+/// # Errors
+///
+/// Out of memory.
 pub fn add_calls(alloc: Global, bytes: &mut Text, line: &str) -> Result<bool, Oom> {
     let (times, line) = times_of(line);
     for _ in 0..times {

@@ -2,10 +2,11 @@
 use desk_links::Gate;
 use std::sync::atomic::{AtomicU64, Ordering};
 
-/// The most times that a gate looks whether another call was answered.
+/// How often a gate looks for the end of another call before it gives up.
 const MOST_LOOKS: u64 = 1_000_000_000;
 
-/// Holds the first call that comes, until another one was answered, where it is told to.
+/// A gate that, if it holds, lets the first call enter only after another one has left, or after
+/// `MOST_LOOKS` looks.
 #[derive(Drop)]
 pub struct HoldingGate {
     holds: bool,
@@ -15,6 +16,7 @@ pub struct HoldingGate {
 }
 
 impl HoldingGate {
+    /// Returns a gate that no call has entered.
     pub fn new(holds: bool) -> Self {
         HoldingGate {
             holds,
@@ -24,7 +26,7 @@ impl HoldingGate {
         }
     }
 
-    /// Waits until a call was answered, and notes where none was within the most looks.
+    /// Waits until a call has left, or records that none did within `MOST_LOOKS` looks.
     fn wait(&self) {
         for _ in 0..MOST_LOOKS {
             if 0 < self.answered.load(Ordering::SeqCst) {
@@ -34,7 +36,7 @@ impl HoldingGate {
         let _ = self.spent.fetch_add(1, Ordering::SeqCst);
     }
 
-    /// Whether a call was held for the most looks in vain.
+    /// Whether a call was held for `MOST_LOOKS` looks.
     pub fn is_spent(&self) -> bool {
         0 < self.spent.load(Ordering::SeqCst)
     }

@@ -1,4 +1,4 @@
-//! What a run stands on.
+//! What a script sets for a run of the server.
 ghost use Rattle.std.specs.Prelude.{◌<◌, length, IfOk};
 
 use crate::memory::{clock_of, journal_of};
@@ -6,7 +6,11 @@ use desk_traits::{MemDisk, SetClock};
 use hazard_types::{List, Oom, Text, read_stamp};
 use std::alloc::Global;
 
-/// One reading.
+/// Returns a list of one reading.
+///
+/// # Errors
+///
+/// Out of memory.
 pub fn one_reading(alloc: Global, reading: i64) -> Result<List<i64>, Oom>
     ensures { IfOk result (λ readings. 0 < length readings) }
 {
@@ -15,20 +19,25 @@ pub fn one_reading(alloc: Global, reading: i64) -> Result<List<i64>, Oom>
     Ok(readings)
 }
 
-/// The file of a run's disk, the readings of its clock, and the calls of its disk and of each of
-/// its links that fail. And the call behind which the disk stops, with what a crash then leaves.
+/// The disk, the clock and the faults of a run.
 #[derive(Drop)]
 pub struct Given {
+    /// The file of the disk.
     pub file: Text,
+    /// The readings of the clock, in minutes since 2000-01-01 00:00 UTC.
     pub readings: List<i64>,
+    /// The numbers of the calls of the disk that fail.
     pub failing: List<u64>,
+    /// The numbers of the calls of each link that fail.
     pub broken: List<u64>,
+    /// The number of the last call of the disk that may succeed.
     pub stop: Option<u64>,
+    /// What a crash leaves of the disk's writes.
     pub pick: u64,
 }
 
 impl Given {
-    /// An empty file, a clock at 0, and no faults.
+    /// Returns an empty file, a clock at 0, and no fault.
     pub fn new(alloc: Global) -> Self {
         Given {
             file: List::new(alloc),
@@ -40,6 +49,11 @@ impl Given {
         }
     }
 
+    /// Returns the disk.
+    ///
+    /// # Errors
+    ///
+    /// Out of memory.
     pub fn disk(&self, alloc: Global) -> Result<MemDisk, Oom> {
         MemDisk::new(
             alloc,
@@ -50,7 +64,11 @@ impl Given {
         )
     }
 
-    /// The same, with a disk that stops behind a call.
+    /// Returns the same with a disk that stops after call `stop`.
+    ///
+    /// # Errors
+    ///
+    /// Out of memory.
     pub fn stopping(&self, stop: u64, pick: u64) -> Result<Self, Oom> {
         Ok(Given {
             file: self.file.clone()?,
@@ -62,6 +80,11 @@ impl Given {
         })
     }
 
+    /// Returns the clock. Without readings it is at 0.
+    ///
+    /// # Errors
+    ///
+    /// Out of memory.
     pub fn clock(&self, alloc: Global) -> Result<SetClock, Oom> {
         if self.readings.is_empty() {
             return clock_of(&one_reading(alloc, 0)?);
@@ -69,7 +92,11 @@ impl Given {
         clock_of(&self.readings)
     }
 
-    /// Makes the file the journal of a new office. Answers whether the settings are those of one.
+    /// Makes the file the journal of a new office, and returns whether the office was created.
+    ///
+    /// # Errors
+    ///
+    /// Out of memory.
     pub fn make_journal(&mut self, alloc: Global, settings: &[u8]) -> Result<bool, Oom> {
         let disk = self.disk(alloc)?;
         match journal_of(alloc, disk, settings)? {
@@ -82,7 +109,11 @@ impl Given {
     }
 }
 
-/// The minutes of a line's stamps, if each of its words is one.
+/// Returns the minutes of stamps, or `None` if a word is no stamp.
+///
+/// # Errors
+///
+/// Out of memory.
 pub fn minutes_of(alloc: Global, stamps: &str) -> Result<Option<List<i64>>, Oom> {
     let mut minutes = List::new(alloc);
     for stamp in stamps.split_whitespace() {

@@ -1,4 +1,4 @@
-//! One link, served over the office of a journal.
+//! The serving of one link over the office of a journal.
 ghost use Rattle.std.specs.Prelude.{◌≤◌};
 
 use crate::memory::{link_of, serve_link};
@@ -12,8 +12,8 @@ use std::alloc::Global;
 use std::sync::Wait;
 use warn_serve::LinkEnd;
 
-/// How a link ended, what was written on it, the file that the disk then has, and how many requests
-/// the office has.
+/// What the serving of a link left: how it ended, what was written on it, the file of the disk, and
+/// the number of requests of the office.
 #[derive(Drop)]
 pub struct LinkRun {
     pub end: LinkEnd,
@@ -22,7 +22,7 @@ pub struct LinkRun {
     pub requests: u64,
 }
 
-/// What came of a link.
+/// Returns what the serving of a link left.
 fn link_run(link: &MemLink, left: &Left<MemDisk>) -> Result<LinkRun, Oom> {
     let written = link.written().clone()?;
     let file = left.disk.file().clone()?;
@@ -34,7 +34,12 @@ fn link_run(link: &MemLink, left: &Left<MemDisk>) -> Result<LinkRun, Oom> {
     })
 }
 
-/// Serves a link that gives the bytes, so many at once. None where the file is no journal.
+/// Serves a link that has these bytes, in pieces of at most `piece`. Returns `None` if the file is
+/// no journal.
+///
+/// # Errors
+///
+/// Out of memory.
 pub fn run_link<R: Wait>(
     rt: &R,
     alloc: Global,
@@ -53,7 +58,12 @@ pub fn run_link<R: Wait>(
     }
 }
 
-/// What was written on a link, and how it ended.
+/// Returns what was written on a link, and a line with how it ended and the number of requests of
+/// the office.
+///
+/// # Errors
+///
+/// Out of memory.
 pub fn link_answer(alloc: Global, run: &LinkRun) -> Result<String, Oom> {
     let mut answer = String::new(alloc);
     add_bytes(&mut answer, run.written.as_slice())?;
@@ -63,7 +73,12 @@ pub fn link_answer(alloc: Global, run: &LinkRun) -> Result<String, Oom> {
     Ok(answer)
 }
 
-/// How many answers were written on a link, in how many bytes, and how it ended.
+/// Returns a line with the numbers of answers and bytes written on a link, how it ended, and the
+/// number of requests of the office.
+///
+/// # Errors
+///
+/// Out of memory.
 pub fn tally_answer(alloc: Global, run: &LinkRun) -> Result<String, Oom> {
     let answers = count_answers(&run.written);
     let bytes = run.written.len();

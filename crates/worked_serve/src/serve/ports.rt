@@ -1,4 +1,4 @@
-//! A port in memory, served over the office of a journal.
+//! The serving of a port in memory over the office of a journal.
 ghost use Rattle.std.specs.Prelude.{◌≡◌, [], All, IfOk};
 ghost use Rattle.desk_links.specs.LinkMemory.{IsUntouched};
 ghost use Rattle.serve_command.specs.Words.{IsServing};
@@ -17,7 +17,7 @@ use std::alloc::Global;
 use std::sync::Wait;
 use std::thread::Threads;
 
-/// The bytes that the links of a door give, and the accepts of the door that fail.
+/// The bytes that come on each link of a door, and the numbers of its accepts that fail.
 #[derive(Drop)]
 pub struct DoorGiven {
     pub links: List<Text>,
@@ -33,10 +33,10 @@ impl DoorGiven {
     }
 }
 
-/// The most bytes that a link gives at once.
+/// The largest number of bytes that a read of a link returns.
 const PIECE: usize = 4096;
 
-/// The links of a door.
+/// Returns the links of a door.
 fn links_of(alloc: Global, given: &Given, door: &DoorGiven) -> Result<List<MemLink>, Oom>
     ensures { IfOk result (All IsUntouched) }
 {
@@ -47,7 +47,7 @@ fn links_of(alloc: Global, given: &Given, door: &DoorGiven) -> Result<List<MemLi
     Ok(links)
 }
 
-/// A port with these doors.
+/// Returns a port with these doors.
 fn port_of(alloc: Global, given: &Given, doors: &[DoorGiven]) -> Result<MemPort, Oom>
     ensures { IfOk result (λ port. port.back ≡ []) }
 {
@@ -60,15 +60,14 @@ fn port_of(alloc: Global, given: &Given, doors: &[DoorGiven]) -> Result<MemPort,
     MemPort::new(alloc, links, &failing)
 }
 
-/// How the links of a port are shown: by what was written on each, or by how many answers that
-/// were.
+/// What is printed of each link: the bytes written on it, or the number of answers among them.
 #[derive(Clone, Copy, Debug, PartialEq, Eq)]
 pub enum Shown {
     Texts,
     Counts,
 }
 
-/// Adds the links of each door that took one back.
+/// Appends the links of each door that took one back.
 fn add_links(alloc: Global, answer: &mut String, port: &MemPort, shown: Shown) -> Result<(), Oom> {
     for links in port.links() {
         let count = links.len();
@@ -86,7 +85,7 @@ fn add_links(alloc: Global, answer: &mut String, port: &MemPort, shown: Shown) -
     Ok(())
 }
 
-/// Adds a line for each number at which a port listened.
+/// Appends a line for each number at which a port listened.
 fn add_numbers(alloc: Global, answer: &mut String, port: &MemPort) -> Result<(), Oom> {
     for number in port.numbers() {
         answer.push_str(format!(in alloc; "listened at {number}\n")?.as_str())?;
@@ -94,8 +93,8 @@ fn add_numbers(alloc: Global, answer: &mut String, port: &MemPort) -> Result<(),
     Ok(())
 }
 
-/// What the program wrote, its status, the file that the disk then has, and the one that a crash
-/// leaves.
+/// How the program ended: what it wrote, its exit status, the file of the disk, and the file that a
+/// crash leaves.
 #[derive(Drop)]
 pub struct Ran {
     pub output: Text,
@@ -105,6 +104,7 @@ pub struct Ran {
 }
 
 impl Ran {
+    /// Returns how the program ended.
     fn of(output: &MemSink, ended: Ended<MemDisk>) -> Result<Self, Oom> {
         let Ended { status, disk } = ended;
         let output = output.taken().clone()?;
@@ -119,7 +119,11 @@ impl Ran {
     }
 }
 
-/// Adds what the program wrote, and its status.
+/// Appends what the program wrote, and its exit status.
+///
+/// # Errors
+///
+/// Out of memory.
 pub fn add_output(alloc: Global, answer: &mut String, ran: &Ran) -> Result<(), Oom> {
     add_bytes(answer, ran.output.as_slice())?;
     let status = ran.status;
@@ -127,7 +131,11 @@ pub fn add_output(alloc: Global, answer: &mut String, ran: &Ran) -> Result<(), O
     Ok(())
 }
 
-/// Serves a port over the disk that is given.
+/// Serves a port over the disk of a run.
+///
+/// # Errors
+///
+/// Out of memory.
 pub fn serve_given<R: Threads + Wait + Sync, P: Port>(
     means: &Means<'_, R, SetClock, HoldingGate>,
     given: &Given,
@@ -143,14 +151,18 @@ pub fn serve_given<R: Threads + Wait + Sync, P: Port>(
     Ran::of(&output, ended)
 }
 
-/// The port after a run, and what came of it.
+/// The port after a run, and how the program ended.
 #[derive(Drop)]
 pub struct PortRun {
     pub port: MemPort,
     pub ran: Ran,
 }
 
-/// Serves a port with these doors, at a gate that may hold the first call.
+/// Serves a port with these doors, through a gate that may hold the first call.
+///
+/// # Errors
+///
+/// Out of memory.
 pub fn serve_doors<R: Threads + Wait + Sync>(
     rt: &R,
     alloc: Global,
@@ -173,8 +185,12 @@ pub fn serve_doors<R: Threads + Wait + Sync>(
     Ok(PortRun { port, ran })
 }
 
-/// The numbers at which a port listened, what was written on its links, what the program wrote, and
-/// its status.
+/// Returns the numbers at which a port listened, what was written on its links, what the program
+/// wrote, and its exit status.
+///
+/// # Errors
+///
+/// Out of memory.
 pub fn port_answer(alloc: Global, run: &PortRun, shown: Shown) -> Result<String, Oom> {
     let mut answer = String::new(alloc);
     add_numbers(alloc, &mut answer, &run.port)?;

@@ -1,4 +1,4 @@
-//! A port of this machine, served over the office of a journal.
+//! The serving of a port of this machine over the office of a journal.
 ghost use Rattle.std.specs.Prelude.{IfOk, IfSome};
 ghost use Rattle.std.specs.Thread.{IsSync};
 ghost use Rattle.serve_command.specs.Words.{IsServing};
@@ -18,20 +18,20 @@ use std::sync::Wait;
 use std::thread::{self, Threads, join};
 use std::time::{Clock, SystemTime};
 
-/// The first of the numbers at which a port may be looked for, of which none is given to those that
-/// dial.
+/// The first of the port numbers that may be tried. The system gives none of them to a dialer.
 const FIRST: u16 = 21_000;
 
-/// How many these are.
+/// How many numbers the search may begin with.
 const NUMBERS: u64 = 10_000;
 
-/// The most ports that are tried.
+/// The largest number of ports that are tried.
 const MOST_PORTS: u16 = 100;
 
-/// The most dials that are tried, and the most reads.
+/// The largest number of dials that are tried, and of reads.
 const MOST_TRIES: u32 = 200_000;
 
-/// A number to begin with, another one at each moment, so that two programs do not meet.
+/// Returns the port number to begin with, by the clock's nanoseconds, so that two programs rarely
+/// meet.
 fn first_number<R: Clock>(rt: &R) -> u16 {
     let Ok(now) = SystemTime::now(rt) else {
         return FIRST;
@@ -42,7 +42,7 @@ fn first_number<R: Clock>(rt: &R) -> u16 {
     }
 }
 
-/// A number that is free, and a door at which it is taken.
+/// Returns a free port number and a door that occupies it, or `None` if none was found.
 fn free_port<R: Clock + Sync + Net<Listener = TcpListener, Stream = TcpStream>>(
     rt: &R,
     alloc: Global,
@@ -58,7 +58,7 @@ fn free_port<R: Clock + Sync + Net<Listener = TcpListener, Stream = TcpStream>>(
     None
 }
 
-/// Serves a port of this machine, and adds what the program wrote.
+/// Serves a port of this machine, and returns what the program wrote.
 fn serve_host<R: Clock + Threads + Wait + Sync + Net<Listener = TcpListener, Stream = TcpStream>>(
     rt: &R,
     alloc: Global,
@@ -82,7 +82,7 @@ fn serve_host<R: Clock + Threads + Wait + Sync + Net<Listener = TcpListener, Str
     Ok(answer)
 }
 
-/// One link of a dialer of its own.
+/// Returns a link of a new dialer, or `None` if the dial fails.
 fn dial_once<R: Clock + Sync + Net<Listener = TcpListener, Stream = TcpStream>>(
     rt: &R,
     number: u16,
@@ -91,7 +91,8 @@ fn dial_once<R: Clock + Sync + Net<Listener = TcpListener, Stream = TcpStream>>(
     dialer.dial().ok()
 }
 
-/// Dials until the other side listens.
+/// Returns a link to the port number, dialed again and again until the other side listens, or
+/// `None` after `MOST_TRIES` dials.
 fn dial<R: Clock + Sync + Net<Listener = TcpListener, Stream = TcpStream>>(
     rt: &R,
     number: u16,
@@ -106,7 +107,7 @@ fn dial<R: Clock + Sync + Net<Listener = TcpListener, Stream = TcpStream>>(
     None
 }
 
-/// Asks on a link, and hears it to its end.
+/// Writes the bytes on a link, and returns what is read to its end.
 fn ask<C: Clock>(alloc: Global, peer: &mut TcpPeer<C>, bytes: &[u8]) -> Result<Text, Oom> {
     let mut heard = List::new(alloc);
     if write_whole(peer, bytes).is_err() {
@@ -122,7 +123,7 @@ fn ask<C: Clock>(alloc: Global, peer: &mut TcpPeer<C>, bytes: &[u8]) -> Result<T
     Ok(heard)
 }
 
-/// What two clients hear that are there at once and ask the same. The one that came last asks
+/// Returns what two clients read that are connected at once and ask the same. The second one asks
 /// first.
 fn ask_both<R: Clock + Sync + Net<Listener = TcpListener, Stream = TcpStream>>(
     rt: &R,
@@ -142,7 +143,7 @@ fn ask_both<R: Clock + Sync + Net<Listener = TcpListener, Stream = TcpStream>>(
     Ok(answer)
 }
 
-/// Serves two clients side by side, each on a worker of its own.
+/// Serves two clients at once, each on a worker of its own.
 fn serve_clients<
     R: Clock + Threads + Wait + Sync + Net<Listener = TcpListener, Stream = TcpStream>,
 >(rt: &R, alloc: Global, given: &Given, serving: &Serving, bytes: &[u8]) -> Result<String, Oom>
@@ -161,7 +162,7 @@ fn serve_clients<
     Ok(answer)
 }
 
-/// What is asked to be served by two workers over two connections.
+/// Returns the arguments to serve with two workers over two connections.
 fn serving_at(alloc: Global, number: u16) -> Result<Option<Serving>, Oom>
     ensures { IfOk result (λ serving. IfSome serving IsServing) }
 {
@@ -169,7 +170,11 @@ fn serving_at(alloc: Global, number: u16) -> Result<Option<Serving>, Oom>
     serving_in(alloc, words.as_str())
 }
 
-/// Serves a port that another one has taken.
+/// Returns what the program writes when it serves a port number that is in use.
+///
+/// # Errors
+///
+/// Out of memory.
 pub fn taken_answer<
     R: Clock + Threads + Wait + Sync + Net<Listener = TcpListener, Stream = TcpStream>,
 >(rt: &R, alloc: Global, given: &Given) -> Result<String, Oom> {
@@ -184,7 +189,11 @@ pub fn taken_answer<
     Ok(answer)
 }
 
-/// Serves two clients that ask these bytes.
+/// Returns what two clients read that ask these bytes, and what the program writes.
+///
+/// # Errors
+///
+/// Out of memory.
 pub fn clients_answer<
     R: Clock + Threads + Wait + Sync + Net<Listener = TcpListener, Stream = TcpStream>,
 >(rt: &R, alloc: Global, given: &Given, bytes: &[u8]) -> Result<String, Oom> {

@@ -1,4 +1,5 @@
-//! The script: each line adds to what is given for the next run, or is a run, which uses that up.
+//! The script of serving: a line sets something for the next run, or is a run, after which the
+//! links, the doors and the faults are removed.
 ghost use Rattle.std.specs.Prelude.{◌≤◌};
 
 use crate::serve::calls::add_calls;
@@ -18,7 +19,8 @@ use std::thread::Threads;
 use std::time::Clock;
 use worked_lines::{numbers_of, unread};
 
-/// How many bytes a link gives at once: as a word says, or all.
+/// Returns the largest number of bytes that a read of a link returns: that of the word, or any
+/// number if the word is not one.
 fn piece_of(word: &str) -> usize
     ensures { 1 ≤ result }
 {
@@ -28,8 +30,8 @@ fn piece_of(word: &str) -> usize
     }
 }
 
-/// The settings, what the next run stands on, and the bytes of the link, the links of the door and the doors that were
-/// written so far. And whether the next run's gate holds the first call.
+/// The settings, the disk, clock and faults of the next run, the link, the door and the doors that
+/// are being written, and whether the gate holds the first call.
 #[derive(Drop)]
 pub struct Script<'a, R> {
     rt: &'a R,
@@ -57,25 +59,27 @@ impl<'a, R: Clock + Threads + Wait + Sync + Net<Listener = TcpListener, Stream =
         }
     }
 
-    /// Ends the link that is written.
+    /// Ends the link that is being written.
     fn end_link(&mut self, alloc: Global) -> Result<(), Oom> {
         let bytes = mem::replace(&mut self.bytes, List::new(alloc));
         self.door.links.push(bytes)
     }
 
-    /// Ends the door that is written, and its last link.
+    /// Ends the door that is being written, and its last link.
     fn end_door(&mut self, alloc: Global) -> Result<(), Oom> {
         self.end_link(alloc)?;
         let door = mem::replace(&mut self.door, DoorGiven::new(alloc));
         self.doors.push(door)
     }
 
+    /// Appends a line to the settings.
     fn add_setting(&mut self, line: &str) -> Result<(), Oom> {
         self.settings.extend(line.as_bytes())?;
         self.settings.push(b'\n')
     }
 
-    /// Sets the readings of the clock, or which calls fail. Answers whether the words say it.
+    /// Sets the readings of the clock, or the calls that fail, and returns whether the words are
+    /// such a line.
     fn set_numbers(&mut self, alloc: Global, word: &str, rest: &str) -> Result<bool, Oom> {
         if word == "at" {
             let Some(minutes) = minutes_of(alloc, rest)? else {
@@ -96,7 +100,7 @@ impl<'a, R: Clock + Threads + Wait + Sync + Net<Listener = TcpListener, Stream =
         Ok(true)
     }
 
-    /// Adds what a line says to what is given. Answers whether it says something to add.
+    /// Does a line that only sets something, and returns whether the line is one.
     fn prepare(&mut self, alloc: Global, line: &str) -> Result<bool, Oom> {
         let (word, rest) = line.split_once(' ').unwrap_or((line, ""));
         match word {
@@ -115,7 +119,7 @@ impl<'a, R: Clock + Threads + Wait + Sync + Net<Listener = TcpListener, Stream =
         Ok(true)
     }
 
-    /// Uses up what was given for a run.
+    /// Removes what was set for a run.
     fn clear(&mut self, alloc: Global) {
         self.bytes = List::new(alloc);
         self.door = DoorGiven::new(alloc);
@@ -125,6 +129,7 @@ impl<'a, R: Clock + Threads + Wait + Sync + Net<Listener = TcpListener, Stream =
         self.holds = false;
     }
 
+    /// Makes the file the journal of a new office.
     fn make_journal(&mut self, alloc: Global) -> Result<String, Oom> {
         self.given.file = List::new(alloc);
         let made = self.given.make_journal(alloc, self.settings.as_slice())?;
@@ -132,7 +137,8 @@ impl<'a, R: Clock + Threads + Wait + Sync + Net<Listener = TcpListener, Stream =
         Ok(String::from_str(alloc, word)?)
     }
 
-    /// Serves the link, in pieces of so many bytes, and keeps the file that it leaves.
+    /// Serves the link, in pieces of at most `piece` bytes, and keeps the file that it leaves.
+    /// Returns `None` if the file is no journal.
     fn serve_link(&mut self, alloc: Global, piece: usize) -> Result<Option<LinkRun>, Oom>
         requires { 1 ≤ piece }
     {
@@ -144,7 +150,7 @@ impl<'a, R: Clock + Threads + Wait + Sync + Net<Listener = TcpListener, Stream =
         Ok(run)
     }
 
-    /// Serves the doors, and keeps the file that they leave.
+    /// Serves the doors, keeps the file that they leave, and returns what is printed.
     fn serve_doors(&mut self, alloc: Global, line: &str, shown: Shown) -> Result<String, Oom> {
         self.end_door(alloc)?;
         let Some(serving) = serving_in(alloc, line)? else {
@@ -161,7 +167,7 @@ impl<'a, R: Clock + Threads + Wait + Sync + Net<Listener = TcpListener, Stream =
         Ok(answer)
     }
 
-    /// Serves the doors over a disk that stops behind each of so many calls, as the line says.
+    /// Serves the doors over disks that stop after each call, and returns the counts.
     fn sweep_crashes(&mut self, alloc: Global, line: &str) -> Result<String, Oom> {
         self.end_door(alloc)?;
         let (calls, words) = line.split_once(' ').unwrap_or((line, ""));
@@ -175,7 +181,7 @@ impl<'a, R: Clock + Threads + Wait + Sync + Net<Listener = TcpListener, Stream =
         sweep_crashes(self.rt, alloc, &self.given, doors, &serving, calls)
     }
 
-    /// What a run is answered.
+    /// Returns what is printed for a run.
     fn run(&mut self, alloc: Global, line: &str) -> Result<String, Oom> {
         let (word, rest) = line.split_once(' ').unwrap_or((line, ""));
         match word {
@@ -200,7 +206,11 @@ impl<'a, R: Clock + Threads + Wait + Sync + Net<Listener = TcpListener, Stream =
         }
     }
 
-    /// What a line of the script is answered.
+    /// Returns what is printed for a line.
+    ///
+    /// # Errors
+    ///
+    /// Out of memory.
     pub fn answer(&mut self, alloc: Global, line: &str) -> Result<String, Oom> {
         if line.is_empty() || line.starts_with('#') || self.prepare(alloc, line)? {
             return Ok(String::new(alloc));

@@ -1,5 +1,5 @@
-//! The same bytes on many links: in pieces of each size, cut at each byte, and over a disk that
-//! stops behind each call.
+//! Sweeps: the same bytes in pieces of each size, cut at each byte, or over disks that stop after
+//! each call.
 ghost use Rattle.std.specs.Prelude.{◌≤◌};
 ghost use Rattle.serve_command.specs.Words.{IsServing};
 
@@ -17,20 +17,20 @@ use std::sync::Wait;
 use std::thread::Threads;
 use warn_serve::LinkEnd;
 
-/// What a crash leaves of the writes since the last sync, one case after another.
+/// The states that a crash leaves of the writes since the last sync.
 const PICKS: [u64; 6] = [0, 1, 2, 3, 5, 15];
 
-/// What the reply to an accepted request has, and no other answer to a request.
+/// The bytes that the reply to an accepted request has, and no other reply.
 const ACCEPTED: &[u8] = b"\"ok\":";
 
-/// Whether two links were served alike.
+/// Whether two links were served alike: how they ended, what was written, and the file.
 fn are_alike(one: &LinkRun, other: &LinkRun) -> bool {
     one.end == other.end
         && one.written.as_slice() == other.written.as_slice()
         && one.file.as_slice() == other.file.as_slice()
 }
 
-/// Whether the bytes in pieces of this size are served as they were when all came at once.
+/// Whether the bytes in pieces of at most `piece` are served as all at once.
 fn is_served_as<R: Wait>(
     rt: &R,
     alloc: Global,
@@ -47,7 +47,7 @@ fn is_served_as<R: Wait>(
     })
 }
 
-/// How many sizes of pieces there are at which another thing is done than when all came at once.
+/// Returns the number of sizes of pieces at which the bytes are not served as all at once.
 fn count_others<R: Wait>(
     rt: &R,
     alloc: Global,
@@ -64,8 +64,12 @@ fn count_others<R: Wait>(
     Ok(differ)
 }
 
-/// Serves the bytes in pieces of each size from 1 on, and counts the sizes at which another thing is done than where all
-/// come at once.
+/// Returns a line with the number of sizes of pieces, from 1 to all bytes, and the number of them
+/// at which the bytes are not served as all at once.
+///
+/// # Errors
+///
+/// Out of memory.
 pub fn sweep_pieces<R: Wait>(
     rt: &R,
     alloc: Global,
@@ -80,7 +84,7 @@ pub fn sweep_pieces<R: Wait>(
     Ok(format!(in alloc; "sizes {sizes}, differ {differ}\n")?)
 }
 
-/// How a link ends that gives these bytes. None where the file is no journal.
+/// Returns how a link with these bytes ends, or `None` if the file is no journal.
 fn end_of<R: Wait>(
     rt: &R,
     alloc: Global,
@@ -93,7 +97,12 @@ fn end_of<R: Wait>(
     }
 }
 
-/// How links end that give the first bytes alone, from none on: a line at each number of bytes from which on it changes.
+/// Returns a line for each number of first bytes, from 0, with which the link ends otherwise than
+/// with one fewer.
+///
+/// # Errors
+///
+/// Out of memory.
 pub fn sweep_ends<R: Wait>(
     rt: &R,
     alloc: Global,
@@ -115,7 +124,8 @@ pub fn sweep_ends<R: Wait>(
     Ok(answer)
 }
 
-/// How many requests were answered on a port's links as accepted, where none was sent twice.
+/// Returns the number of accepted requests by the replies on a port's links, if none was sent
+/// twice.
 fn accepted_on(port: &MemPort) -> u64 {
     let mut count = 0u64;
     for links in port.links() {
@@ -127,7 +137,7 @@ fn accepted_on(port: &MemPort) -> u64 {
     count
 }
 
-/// Whether a crash left each request that was answered as accepted, and one more at most.
+/// Whether a crash leaves each request that was answered as accepted, and at most one more.
 fn is_left(alloc: Global, run: &PortRun) -> Result<bool, Oom> {
     let Some(left) = requests_of(alloc, run.ran.left.as_slice())? else {
         return Ok(false);
@@ -136,7 +146,8 @@ fn is_left(alloc: Global, run: &PortRun) -> Result<bool, Oom> {
     Ok(accepted <= left && left <= accepted.saturating_add(1))
 }
 
-/// Serves the doors, and answers whether a crash then leaves just what was answered.
+/// Serves the doors, and returns whether a crash then leaves each request that was answered as
+/// accepted, and at most one more.
 fn is_kept<R: Threads + Wait + Sync>(
     rt: &R,
     alloc: Global,
@@ -151,8 +162,13 @@ fn is_kept<R: Threads + Wait + Sync>(
     is_left(alloc, &run)
 }
 
-/// Serves the doors over a disk that stops behind each of its first calls, whatever a crash leaves of
-/// the writes, and counts the runs after which it does not hold just what was answered.
+/// Serves the doors over disks that stop after each of the first `calls` calls, for each state that
+/// a crash may leave. Returns a line with the number of runs, and the number of them in which the
+/// crash leaves a wrong number of requests.
+///
+/// # Errors
+///
+/// Out of memory.
 pub fn sweep_crashes<R: Threads + Wait + Sync>(
     rt: &R,
     alloc: Global,

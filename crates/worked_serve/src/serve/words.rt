@@ -7,7 +7,11 @@ use serve_command::{Serving, serving_of};
 use std::alloc::Global;
 use worked_lines::words_of;
 
-/// What a line asks to be served, if it does.
+/// Returns what the words of a line ask to serve, or `None` if they are no such command.
+///
+/// # Errors
+///
+/// Out of memory.
 pub fn serving_in(alloc: Global, line: &str) -> Result<Option<Serving>, Oom>
     ensures { IfOk result (λ serving. IfSome serving IsServing) }
 {
@@ -15,7 +19,11 @@ pub fn serving_in(alloc: Global, line: &str) -> Result<Option<Serving>, Oom>
     Ok(serving_of(&words))
 }
 
-/// What a line asks to be served, as text.
+/// Returns the port, workers and connections of the words of a line, or `Usage`.
+///
+/// # Errors
+///
+/// Out of memory.
 pub fn words_answer(alloc: Global, line: &str) -> Result<String, Oom> {
     match serving_in(alloc, line)? {
         Some(serving) => {

@@ -1,4 +1,4 @@
-//! The list that the threads take turns at.
+//! The list of a lock that the threads take turns at.
 ghost use Rattle.std.specs.Prelude.{◌≡◌, ◌++◌, ◌∷◌, [], OnOk, OnErr};
 
 use hazard_types::Oom;
@@ -8,13 +8,13 @@ use turn_lock::Storied;
 /// Who added an entry.
 #[derive(Clone, Copy, Debug, PartialEq, Eq)]
 pub enum Entry {
-    /// The thread that held the turn.
+    /// The thread that had the first turn.
     Held,
     /// A thread that waited for its turn.
     Waited,
 }
 
-/// The entries so far. The list has nothing beside them.
+/// The entries so far.
 #[derive(Drop)]
 pub struct Entries {
     pub items: Vec<Entry>,
@@ -30,6 +30,10 @@ impl Entries {
     }
 
     /// Adds an entry.
+    ///
+    /// # Errors
+    ///
+    /// Out of memory; the list is unchanged.
     pub fn add(&mut self, entry: Entry) -> Result<(), Oom>
         ensures ok { OnOk result (self.new.items.items ≡ self.old.items.items ++ entry ∷ []) }
         ensures err { OnErr result (self.new.items.items ≡ self.old.items.items) }

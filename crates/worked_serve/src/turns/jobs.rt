@@ -1,4 +1,4 @@
-//! What the threads do in their turns.
+//! The jobs of the threads in their turns.
 use crate::turns::entries::{Entries, Entry};
 use hazard_types::Oom;
 use std::thread;
@@ -6,7 +6,7 @@ use std::thread::Parker;
 use std::time::{Clock, Duration};
 use turn_lock::Job;
 
-/// Lets others begin, sleeps, and adds an entry.
+/// A job that lets others begin, sleeps, and adds an entry.
 pub struct Hold<'a, R> {
     pub rt: &'a R,
     pub begun: &'a Parker,
@@ -21,7 +21,8 @@ impl<R: Clock> Job<Entries> for Hold<'_, R> {
 
     ghost may_run = { λ _. Unit {0} };
 
-    ghost meets = { λ job base before after answer. OnOk answer (after ≡ before ++ Entry.Held ∷ []) };
+    ghost meets = { λ job base before after answer.
+        OnOk answer (after ≡ before ++ Entry.Held ∷ []) };
 
     fn run(self, value: &mut Entries) -> Result<(), Oom> {
         let Hold { rt, begun, time } = self;
@@ -31,7 +32,7 @@ impl<R: Clock> Job<Entries> for Hold<'_, R> {
     }
 }
 
-/// Adds an entry.
+/// A job that adds an entry.
 #[derive(Drop)]
 pub struct Add;
 
@@ -43,7 +44,8 @@ impl Job<Entries> for Add {
 
     ghost may_run = { λ _. Unit {0} };
 
-    ghost meets = { λ job base before after answer. OnOk answer (after ≡ before ++ Entry.Waited ∷ []) };
+    ghost meets = { λ job base before after answer.
+        OnOk answer (after ≡ before ++ Entry.Waited ∷ []) };
 
     fn run(self, value: &mut Entries) -> Result<(), Oom> {
         value.add(Entry::Waited)

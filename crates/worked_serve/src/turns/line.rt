@@ -1,4 +1,4 @@
-//! A line, and what it is answered.
+//! The lines of turns.
 ghost use Rattle.std.specs.Prelude.{◌≤◌, IfSome};
 
 use crate::turns::entries::Entry;
@@ -10,7 +10,8 @@ use std::sync::Wait;
 use std::thread::Threads;
 use std::time::{Clock, Duration};
 
-/// How many threads wait, and for how long another one holds the turn.
+/// Returns how many threads wait, and how long another one has the turn, or `None` if the words are
+/// not `COUNT MILLISECONDS`, with at most `MOST_WAITING` threads.
 fn read(line: &str) -> Option<(u32, Duration)>
     ensures { IfSome result (λ said. said.0 ≤ MOST_WAITING) }
 {
@@ -23,7 +24,8 @@ fn read(line: &str) -> Option<(u32, Duration)>
     Some((waiting, Duration::from_millis(time)))
 }
 
-/// How many added their entries behind the thread that held the first turn.
+/// Returns the number of entries after that of the thread that had the first turn; 0 if the first
+/// entry is another one.
 fn count_waited(entries: &[Entry]) -> usize {
     match entries {
         [Entry::Held, waited @ ..] => waited.len(),
@@ -31,7 +33,11 @@ fn count_waited(entries: &[Entry]) -> usize {
     }
 }
 
-/// What a line is answered.
+/// Returns what is printed for a line.
+///
+/// # Errors
+///
+/// Out of memory.
 pub fn answer<R: Clock + Threads + Wait + Sync>(
     rt: &R,
     alloc: Global,

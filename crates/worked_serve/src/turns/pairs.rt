@@ -1,4 +1,4 @@
-//! Two threads over one list of numbers.
+//! Two threads that add to one list of numbers.
 ghost use Rattle.std.specs.Prelude.{◌≡◌, ◌+◌, [], length, IfSome};
 ghost use Rattle.turn_lock.specs.Passes.{KeepsRights};
 ghost use Rattle.turn_lock.specs.Story.{StandAt, IsOfTwo};
@@ -30,7 +30,8 @@ impl Storied for Numbers {
     }
 }
 
-/// Adds a number at the end, and answers the list's label; `None`, with the list as it was, for want of memory.
+/// A job that adds a number at the end and returns the list's label. `None`, with the list
+/// unchanged, if memory runs out.
 #[derive(Drop)]
 struct Push {
     number: u64,
@@ -43,7 +44,8 @@ impl Job<Numbers> for Push {
 
     ghost may_run = { λ _. Unit {0} };
 
-    ghost meets = { λ job base before after answer. MatchOption answer (after ≡ before) (λ label. (label ≡ base) × (after ≡ before ++ job.number ∷ [])) };
+    ghost meets = { λ job base before after answer. MatchOption answer (after ≡ before)
+        (λ label. (label ≡ base) × (after ≡ before ++ job.number ∷ [])) };
 
     fn run(self, value: &mut Numbers) -> Option<u64> {
         match value.items.push(self.number) {
@@ -53,7 +55,7 @@ impl Job<Numbers> for Push {
     }
 }
 
-/// Adds the numbers, each in a turn of its own, and gives the pass back; `None` where memory ran out.
+/// Adds the numbers, each in a turn of its own, and returns the pass, or `None` if memory runs out.
 fn add_each<R: Wait>(
     rt: &R,
     lock: &TurnLock<Numbers>,
@@ -64,7 +66,8 @@ fn add_each<R: Wait>(
     requires fresh { pass.mine ≡ [] }
     ensures kept { IfSome result (λ after. KeepsRights pass after) }
     ensures added { IfSome result (λ after. StandAt after.seen after.mine numbers.now) }
-    ensures alone { IfSome result (λ after. pass.shares ≡ 1024 → length after.seen ≡ length pass.seen + length numbers.now) }
+    ensures alone { IfSome result (λ after. pass.shares ≡ 1024 →
+        length after.seen ≡ length pass.seen + length numbers.now) }
 {
     for number in numbers {
         match lock.turn(rt, &mut pass, Push { number: *number }) {
@@ -75,7 +78,7 @@ fn add_each<R: Wait>(
     Some(pass)
 }
 
-/// What two threads add to one empty list, each its own numbers; `None` where memory ran out.
+/// Returns the list to which two threads add, each its own numbers, or `None` if memory runs out.
 fn add_side_by_side<R: Threads + Wait + Sync>(
     rt: &R,
     alloc: Global,
@@ -100,11 +103,13 @@ fn add_side_by_side<R: Threads + Wait + Sync>(
         rt,
         || -> Option<Pass<Numbers>>
             requires { (pass.lock ≡ lock.now) × (pass.mine ≡ []) }
-            ensures { IfSome result (λ after. KeepsRights pass after × StandAt after.seen after.mine ours.entry.now) }
+            ensures { IfSome result
+                (λ after. KeepsRights pass after × StandAt after.seen after.mine ours.entry.now) }
         { add_each(rt, lock, pass, ours) },
         || -> Option<Pass<Numbers>>
             requires { (other.lock ≡ lock.now) × (other.mine ≡ []) }
-            ensures { IfSome result (λ after. KeepsRights other after × StandAt after.seen after.mine theirs.entry.now) }
+            ensures { IfSome result (λ after. KeepsRights other after
+                × StandAt after.seen after.mine theirs.entry.now) }
         { add_each(rt, lock, other, theirs) },
     );
     let mut ours_pass = ours_done?;
@@ -113,7 +118,7 @@ fn add_side_by_side<R: Threads + Wait + Sync>(
     Some(whole.close(ours_pass))
 }
 
-/// The place behind the number, where the number stands at this place; 1000 where it does not.
+/// Returns the place after this one if the number is at it, else 1000.
 fn behind(numbers: &[u64], place: usize, number: u64) -> usize {
     match numbers.get(place) {
         Some(next) => {
@@ -127,7 +132,8 @@ fn behind(numbers: &[u64], place: usize, number: u64) -> usize {
     }
 }
 
-/// Whether the numbers are those of both threads, those of each in their order. Ours are at most 100.
+/// Whether the numbers are those of both threads, each thread's in its order. Ours are at most 100,
+/// theirs are greater.
 fn are_in_order(numbers: &[u64], ours: &[u64], theirs: &[u64]) -> bool {
     let mut our_place = 0;
     let mut their_place = 0;
@@ -141,8 +147,12 @@ fn are_in_order(numbers: &[u64], ours: &[u64], theirs: &[u64]) -> bool {
     our_place == ours.len() && their_place == theirs.len()
 }
 
-/// How many numbers two threads add to one list, a hundred each, and whether those of each stand in
-/// their order.
+/// Returns how many numbers two threads add to one list, a hundred each, and whether each thread's
+/// are in its order.
+///
+/// # Errors
+///
+/// Out of memory.
 pub fn work_side_by_side<R: Threads + Wait + Sync>(
     rt: &R,
     alloc: Global,

@@ -1,4 +1,4 @@
-//! The threads: one holds the turn, and the others wait for theirs.
+//! The threads: one has the turn, and the others wait for theirs.
 ghost use Rattle.std.specs.Prelude.{◌≡◌, ◌+◌, ◌<◌, ◌≤◌, [], length, vec_len, IfOk};
 ghost use Rattle.std.specs.Thread.{IsSync};
 ghost use Rattle.worked_serve.specs.Turns.{Adds};
@@ -12,10 +12,10 @@ use std::thread::{Parker, Threads, join};
 use std::time::{Clock, Duration};
 use turn_lock::{Pass, TurnLock};
 
-/// The most threads that wait. The lock's shares are more.
+/// The largest number of threads that wait. A whole pass has more shares.
 pub const MOST_WAITING: u32 = 1000;
 
-/// Holds the turn for that time, and adds an entry.
+/// Has the turn for `time`, and adds an entry.
 fn hold<R: Wait + Clock>(
     rt: &R,
     lock: &TurnLock<Entries>,
@@ -43,7 +43,7 @@ fn wait<R: Wait>(
     Ok(pass)
 }
 
-/// So many threads wait, each for a turn of its own, with a share of the pass each.
+/// Runs `waiting` threads that each wait for a turn, with a share of the pass each.
 fn wait_each<R: Threads + Wait + Sync>(
     rt: &R,
     lock: &TurnLock<Entries>,
@@ -75,7 +75,12 @@ fn wait_each<R: Threads + Wait + Sync>(
     Ok(whole)
 }
 
-/// The entries of so many threads that wait while another one holds the turn for that time, and of this one.
+/// Returns the entries of `waiting` threads, which wait while another one has the turn for `time`,
+/// and of that one.
+///
+/// # Errors
+///
+/// Out of memory.
 pub fn take_turns<R: Threads + Wait + Clock + Sync>(
     rt: &R,
     alloc: Global,
