@@ -1,4 +1,5 @@
-//! Laws of the types' equalities and orders, and of stamps, for the crates above. The functions do nothing; their contracts are the laws.
+//! Laws of equality, of orders, of stamps and of names, for the crates above. The functions do
+//! nothing: their contracts are the laws.
 ghost use Rattle.std.specs.Prelude.{◌≡◌, ◌<◌, ℕ, List, Some, true};
 ghost use Rattle.std.specs.Bool.{Decides};
 ghost use Rattle.std.specs.Cmp.{IsTotalOrder};
@@ -34,7 +35,7 @@ pub fn equality_is_identity()
     ensures requests { (a b : Request) → Decides (⟦<Request as PartialEq>⟧.eq a b) (a ≡ b) }
 {}
 
-/// Zones, hazards, events and ends are totally ordered, and what ties is identical.
+/// Zones, hazards, events and ends are totally ordered, and those that compare equal are identical.
 #[tactic(auto, using(crate::proofs::OrderLaws::by_place_total, crate::proofs::OrderLaws::by_place_ties, crate::proofs::OrderLaws::by_hazard_total, crate::proofs::OrderLaws::by_hazard_ties, crate::proofs::OrderLaws::by_event_total, crate::proofs::OrderLaws::by_event_ties, crate::proofs::OrderLaws::event_cmp_is, crate::proofs::OrderLaws::end_cmp_is, crate::proofs::OrderLaws::by_end_total, crate::proofs::OrderLaws::by_end_ties))]
 pub fn orders_are_total()
     ensures zones { IsTotalOrder by_place }
@@ -49,14 +50,14 @@ pub fn orders_are_total()
     ensures end_ties { (a b : End) → ⟦<End as Ord>⟧.cmp a b ≡ Equal → a ≡ b }
 {}
 
-/// Stamps are read back: the stamp of a minute spells it, and what spells a minute is its stamp.
+/// The stamp of a minute is read as that minute, and bytes that are read as a minute are its stamp.
 #[tactic(auto, using(crate::proofs::Stamps::stamp_spells, crate::proofs::Stamps::spells_stamp))]
 pub fn stamps_are_inverse()
     ensures reads { (m : ℕ) → m < 52596000 → stamp_at (stamp_of m) ≡ Some m }
     ensures writes { (bytes : List ℕ) (m : ℕ) → stamp_at bytes ≡ Some m → bytes ≡ stamp_of m }
 {}
 
-/// `==` of the values of the tables of codes holds of identical values alone, as reading a table backwards asks.
+/// Two values of a table of codes that are equal by `==` are identical, as `code_of` requires.
 #[tactic(auto, using(crate::proofs::Equality::class_one, crate::proofs::Equality::action_one, crate::proofs::Equality::sig_one, crate::proofs::Equality::severity_one, crate::proofs::Equality::cause_one, crate::proofs::Equality::status_one, crate::proofs::Equality::category_one, crate::proofs::Equality::hazard_one))]
 pub fn values_of_tables_are_identical()
     ensures classes { HoldsOfIdentical ⟦<Class as PartialEq>⟧.eq }
@@ -69,7 +70,8 @@ pub fn values_of_tables_are_identical()
     ensures hazards { HoldsOfIdentical ⟦<Hazard as PartialEq>⟧.eq }
 {}
 
-/// What is written of a zone, a hazard, an event or a category is read back.
+/// The text of a zone, a hazard, a category or an event is read as that value. Events have numbers
+/// 1 to 9,999 and years 2000 to 2099.
 #[tactic(auto, using(crate::proofs::NamesBack::zone_back, crate::proofs::NamesBack::hazard_back, crate::proofs::NamesBack::event_back, crate::proofs::NamesBack::category_back))]
 pub fn names_read_back()
     ensures zones { (z : Place) → IsPlace z → zone_at (zone_text z) ≡ Some z }
