@@ -177,7 +177,8 @@ fn beside<V: Copy>(rows: &[Known<V>], h: Hazard) -> Option<V>
 /// Source: docs/HAZARDS.md.
 pub fn facts(h: Hazard) -> Option<Facts>
     ensures value { result ≡ facts_of h }
-    ensures stands { IfSome result (λ f. (d : DeskHazard) × Contains desk_hazards d × (d.hazard ≡ h) × (d.facts ≡ f)) }
+    ensures stands { IfSome result (λ f. (d : DeskHazard) ×
+        Contains desk_hazards d × (d.hazard ≡ h) × (d.facts ≡ f)) }
     ensures none { IfNone result ((d : DeskHazard) → Contains desk_hazards d → d.hazard ≢ h) }
 {
     beside(&FACTS, h)
@@ -189,7 +190,8 @@ pub fn facts(h: Hazard) -> Option<Facts>
 /// Source: docs/HAZARDS.md.
 pub fn name_of(h: Hazard) -> Option<&'static str>
     ensures value { option_copied result ≡ name_of h }
-    ensures stands { IfSome result (λ name. (d : DeskHazard) × Contains desk_hazards d × (d.hazard ≡ h) × (d.name ≡ name.now)) }
+    ensures stands { IfSome result (λ name. (d : DeskHazard) ×
+        Contains desk_hazards d × (d.hazard ≡ h) × (d.name ≡ name.now)) }
     ensures none { IfNone result ((d : DeskHazard) → Contains desk_hazards d → d.hazard ≢ h) }
 {
     beside(all_names(), h)

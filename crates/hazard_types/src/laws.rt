@@ -75,7 +75,11 @@ pub fn values_of_tables_are_identical()
 #[tactic(auto, using(crate::proofs::NamesBack::zone_back, crate::proofs::NamesBack::hazard_back, crate::proofs::NamesBack::event_back, crate::proofs::NamesBack::category_back))]
 pub fn names_read_back()
     ensures zones { (z : Place) → IsPlace z → zone_at (zone_text z) ≡ Some z }
-    ensures hazards { (h : Hazard) → IsTrue (are_letters h.phen) → length h.phen ≡ 2 → hazard_at (hazard_code h) ≡ Some h }
+    ensures hazards { (h : Hazard) → IsTrue (are_letters h.phen) → length h.phen ≡ 2 →
+        hazard_at (hazard_code h) ≡ Some h }
     ensures categories { (c : Category) → value_beside category_rows (category_code c) ≡ Some c }
-    ensures events { (e : Event) → IsTrue (are_letters e.hazard.phen) → length e.hazard.phen ≡ 2 → 1 ≤ e.etn → e.etn ≤ 9999 → 2000 ≤ e.year → e.year ≤ 2099 → event_at (event_text e) ≡ Some e }
+    ensures events { (e : Event) →
+        IsTrue (are_letters e.hazard.phen) → length e.hazard.phen ≡ 2 →
+        1 ≤ e.etn → e.etn ≤ 9999 → 2000 ≤ e.year → e.year ≤ 2099 →
+        event_at (event_text e) ≡ Some e }
 {}
