@@ -110,7 +110,12 @@ pub fn statuses() -> [Coded<Status>; 4]
     ensures rows { result ≡ status_rows }
     ensures table { IsTable result }
 {
-    rows![b"NO  " => Status::No, b"NR  " => Status::Nr, b"UU  " => Status::Uu, b"OO  " => Status::Oo]
+    rows![
+        b"NO  " => Status::No,
+        b"NR  " => Status::Nr,
+        b"UU  " => Status::Uu,
+        b"OO  " => Status::Oo
+    ]
 }
 
 /// Returns the table of product categories.

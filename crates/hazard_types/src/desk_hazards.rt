@@ -113,18 +113,28 @@ macro_rules! facts_of_row {
 }
 
 macro_rules! known_facts {
-    ($letters:literal, $sig:ident, $name:literal, zonal $category:ident, $family:ident, $rank:literal) => {
+    (
+        $letters:literal, $sig:ident, $name:literal,
+        zonal $category:ident, $family:ident, $rank:literal
+    ) => {
         Known {
             letters: *$letters,
             sig: Sig::$sig,
-            value: facts_of_row!($category, $category, Z, Some((Family::$family, $rank)), false, false),
+            value: facts_of_row!(
+                $category, $category, Z, Some((Family::$family, $rank)), false, false
+            ),
         }
     };
-    ($letters:literal, $sig:ident, $name:literal, areal $category:ident, $family:ident, $rank:literal) => {
+    (
+        $letters:literal, $sig:ident, $name:literal,
+        areal $category:ident, $family:ident, $rank:literal
+    ) => {
         Known {
             letters: *$letters,
             sig: Sig::$sig,
-            value: facts_of_row!($category, $category, Z, Some((Family::$family, $rank)), false, true),
+            value: facts_of_row!(
+                $category, $category, Z, Some((Family::$family, $rank)), false, true
+            ),
         }
     };
     ($letters:literal, $sig:ident, $name:literal, river $opens:ident, $follows:ident) => {

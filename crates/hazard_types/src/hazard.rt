@@ -115,7 +115,8 @@ impl Ord for Sig {
 impl PartialOrd for Sig {
     ghost partial_cmp = { as_partial_cmp by_letter };
 
-    ghost laws = { partial_order_from_own_ties (Prim.search (comparing, rules)) (Prim.search (comparing, rules)) };
+    ghost laws = { partial_order_from_own_ties
+        (Prim.search (comparing, rules)) (Prim.search (comparing, rules)) };
 
     fn partial_cmp(&self, other: &Sig) -> Option<Ordering> {
         Some(self.cmp(other))
@@ -152,7 +153,8 @@ impl Ord for Hazard {
 impl PartialOrd for Hazard {
     ghost partial_cmp = { as_partial_cmp by_hazard };
 
-    ghost laws = { partial_order_from_own_ties (Prim.search (comparing, rules)) (Prim.search (comparing, rules)) };
+    ghost laws = { partial_order_from_own_ties
+        (Prim.search (comparing, rules)) (Prim.search (comparing, rules)) };
 
     fn partial_cmp(&self, other: &Hazard) -> Option<Ordering> {
         Some(self.cmp(other))
