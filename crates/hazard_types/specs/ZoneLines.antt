@@ -1,4 +1,4 @@
--- What a text says of a zone in a P-VTEC line, which has no year and in the H-VTEC line after it, if any.
+-- What a text says of a zone: a P-VTEC line, without a year, and the H-VTEC line after it, if any.
 use Rattle.std.specs.Prelude.{Option}
 use Rattle.hazard_types.specs.Places.{Place}
 use Rattle.hazard_types.specs.declared.line.Vtec.{Vtec}

@@ -1,4 +1,4 @@
-//! Canonical texts of requests.
+//! Canonical texts of requests and intents: compact JSON, keys in byte order.
 ghost use Rattle.std.specs.Prelude.{◌≡◌, None, IfOk, IfSome, OnOk, map, codes};
 ghost use Rattle.hazard_types.specs.declared.request.Request.TheVariants.{Issue};
 ghost use Rattle.hazard_types.specs.declared.request.Target.TheVariants.{Fresh};
@@ -16,7 +16,7 @@ use hazard_types::{
 use serde_json::{Map, Value};
 use std::alloc::Global;
 
-/// Sets the begin.
+/// Sets the member `begin`.
 fn put_begin(alloc: Global, members: &mut Members, begin: &Begin) -> Result<(), Oom>
     ensures { OnOk result (members_view members.new.entries ≡ put_begin begin.now (members_view members.old.entries)) }
 {
@@ -26,7 +26,7 @@ fn put_begin(alloc: Global, members: &mut Members, begin: &Begin) -> Result<(), 
     }
 }
 
-/// Sets the end.
+/// Sets the member `end`.
 fn put_end(alloc: Global, members: &mut Members, end: &End) -> Result<(), Oom>
     ensures { OnOk result (members_view members.new.entries ≡ put_end end.now (members_view members.old.entries)) }
 {
@@ -36,7 +36,7 @@ fn put_end(alloc: Global, members: &mut Members, end: &End) -> Result<(), Oom>
     }
 }
 
-/// The texts of zones.
+/// Returns the zones as JSON strings.
 fn zone_values(alloc: Global, zones: &[Zone]) -> Result<Vec<Value>, Oom>
     ensures { IfOk result (λ values. map view values.items ≡ map zone_data zones.now) }
 {
@@ -48,7 +48,7 @@ fn zone_values(alloc: Global, zones: &[Zone]) -> Result<Vec<Value>, Oom>
     Ok(values)
 }
 
-/// The four texts, also where they are empty.
+/// Returns the four texts as a JSON object, empty ones too.
 #[tactic(auto, unfolding(crate::specs::Canonical::texts_data))]
 fn texts_value(alloc: Global, texts: &Texts) -> Result<Value, Oom>
     ensures { IfOk result (λ value. view value ≡ texts_data texts.now) }
@@ -67,7 +67,7 @@ fn put_site(alloc: Global, members: &mut Members, site: &[u8; 5]) -> Result<(), 
     put_text(alloc, members, "site", site)
 }
 
-/// Sets where a flood is, and of which severity and cause.
+/// Sets the location, the severity and the cause of a flood.
 fn put_source(alloc: Global, members: &mut Members, flood: &Flood) -> Result<(), Oom>
     ensures { OnOk result (members_view members.new.entries ≡ put_source flood.now (members_view members.old.entries)) }
 {
@@ -78,7 +78,7 @@ fn put_source(alloc: Global, members: &mut Members, flood: &Flood) -> Result<(),
     put_text(alloc, members, "cause", &cause.letters())
 }
 
-/// Sets when a flood begins, crests and ends.
+/// Sets the begin, the crest and the end of a flood.
 fn put_times(alloc: Global, members: &mut Members, flood: &Flood) -> Result<(), Oom>
     ensures { OnOk result (members_view members.new.entries ≡ put_times flood.now (members_view members.old.entries)) }
 {
@@ -120,7 +120,7 @@ fn event_texts_values(alloc: Global, list: &[EventTexts]) -> Result<Vec<Value>, 
     Ok(values)
 }
 
-/// Sets flood values, where there are some.
+/// Sets the member `flood`, if there are H-VTEC values.
 fn put_flood(alloc: Global, members: &mut Members, flood: &Option<Flood>) -> Result<(), Oom>
     ensures { OnOk result (members_view members.new.entries ≡ put_flood flood.now (members_view members.old.entries)) }
 {
@@ -210,7 +210,7 @@ fn put_routine_do(alloc: Global, members: &mut Members, part: &RoutinePart) -> R
     put_routine(alloc, members, part)
 }
 
-/// Sets what a step of a draft asks.
+/// Sets the members of an intent.
 #[tactic(auto, unfolding(crate::specs::Canonical::put_intent))]
 fn put_intent(alloc: Global, members: &mut Members, intent: &Intent) -> Result<(), Oom>
     ensures { OnOk result (members_view members.new.entries ≡ put_intent intent.now (members_view members.old.entries)) }
@@ -223,7 +223,11 @@ fn put_intent(alloc: Global, members: &mut Members, intent: &Intent) -> Result<(
     }
 }
 
-/// The canonical request of an intent, without desk, number and draft.
+/// Returns an intent as a JSON object: its canonical request without desk, number and draft.
+///
+/// # Errors
+///
+/// Out of memory.
 #[tactic(auto, unfolding(crate::specs::Canonical::intent_data))]
 pub fn intent_value(alloc: Global, intent: &Intent) -> Result<Value, Oom>
     ensures { IfOk result (λ value. view value ≡ intent_data intent.now) }
@@ -233,7 +237,13 @@ pub fn intent_value(alloc: Global, intent: &Intent) -> Result<Value, Oom>
     Ok(Value::Object(members))
 }
 
-/// The canonical text of an intent: its request without desk, number and draft.
+/// Returns the canonical text of an intent: that of its request without desk, number and draft.
+///
+/// # Errors
+///
+/// Out of memory.
+///
+/// Source: docs/REQUESTS.md, "Replies".
 #[tactic(auto, using(crate::proofs::CanonicalFloats::intent_clean), unfolding(crate::specs::Canonical::intent_text))]
 pub fn intent_text(alloc: Global, intent: &Intent) -> Result<Text, Oom>
     ensures { IfOk result (λ text. text ≡ intent_text intent.now) }
@@ -256,7 +266,7 @@ fn put_correct(
     put(alloc, members, "texts", Value::Array(values))
 }
 
-/// Sets a word and a draft.
+/// Sets the members `do` and `draft`.
 fn put_draft_do(alloc: Global, members: &mut Members, word: &str, draft: u32) -> Result<(), Oom>
     ensures { OnOk result (members_view members.new.entries ≡ put_draft_do word.now draft (members_view members.old.entries)) }
 {
@@ -278,7 +288,7 @@ fn put_open(alloc: Global, members: &mut Members, category: Category) -> Result<
     put_text(alloc, members, "category", &category.code())
 }
 
-/// Sets what a request asks of a draft.
+/// Sets the members of a request, without desk and number.
 #[tactic(auto, unfolding(crate::specs::Canonical::put_request))]
 fn put_request(alloc: Global, members: &mut Members, request: &Request) -> Result<(), Oom>
     ensures { OnOk result (members_view members.new.entries ≡ put_request request.now (members_view members.old.entries)) }
@@ -323,7 +333,7 @@ fn asked_members(alloc: Global, desk: &Desk, seq: u32, request: &Request) -> Res
     Ok(members)
 }
 
-/// The canonical text of what a desk asks, by its members.
+/// Returns the canonical text of a request, written from its members.
 #[tactic(auto, using(crate::proofs::CanonicalFloats::asked_no_float), unfolding(crate::specs::Canonical::asked_text))]
 fn text_by_members(alloc: Global, desk: &Desk, seq: u32, request: &Request) -> Result<Text, Oom>
     ensures { IfOk result (λ text. text ≡ asked_text (record { desk = desk.now; seq = seq; request = request.now })) }
@@ -332,7 +342,8 @@ fn text_by_members(alloc: Global, desk: &Desk, seq: u32, request: &Request) -> R
     text_of_members(alloc, members)
 }
 
-/// The hazard of the new event that an issue opens, where it has no flood values.
+/// Returns the put of an issue and the hazard of the event that it opens, or `None` if the request
+/// is another one or has H-VTEC values.
 fn bare_issue(request: &Request) -> Option<(&PutPart, Hazard)>
     ensures { IfSome result (λ found. (request.now ≡ Issue found.0.now) × (found.0.now.target ≡ Fresh found.1) × (found.0.now.flood ≡ None)) }
 {
@@ -345,8 +356,14 @@ fn bare_issue(request: &Request) -> Option<(&PutPart, Hazard)>
     }
 }
 
-/// The canonical text of what a desk asks under a number: compact JSON, keys in byte order, with all four texts, without
-/// flood values that it doesn't have.
+/// Returns the canonical text of a request: compact JSON, keys in byte order, with all four texts.
+/// Bytes of texts that are not UTF-8 become replacement characters.
+///
+/// # Errors
+///
+/// Out of memory.
+///
+/// Source: docs/DECISIONS.md, "Requests".
 pub fn text_of_request(alloc: Global, desk: &Desk, seq: u32, request: &Request) -> Result<Text, Oom>
     ensures { IfOk result (λ text. text ≡ asked_text (record { desk = desk.now; seq = seq; request = request.now })) }
 {
@@ -356,7 +373,13 @@ pub fn text_of_request(alloc: Global, desk: &Desk, seq: u32, request: &Request) 
     }
 }
 
-/// The canonical text of a request.
+/// Returns the canonical text of a request, as `text_of_request` does.
+///
+/// # Errors
+///
+/// Out of memory.
+///
+/// Source: docs/DECISIONS.md, "Requests".
 pub fn request_text(alloc: Global, asked: &Asked) -> Result<Text, Oom>
     ensures { IfOk result (λ text. text ≡ asked_text asked.now) }
 {

@@ -1,4 +1,8 @@
-//! Requests as JSON: those of the desks, and the lines of the training office.
+//! Requests of the desks as JSON, read and written, and the texts of replies, refusals and drafts.
+//! Also reads the lines of the training office.
+//!
+//! For crates that read requests or write replies. One begins with `read_request`, `reply_text` and
+//! `refusal_text`.
 #![tactic(auto)]
 
 mod asked;

@@ -12,7 +12,7 @@ use hazard_types::{
 use serde_json::Map;
 use std::alloc::Global;
 
-/// The code and the name of a refusal.
+/// Returns the code and the name of a refusal.
 fn label(refusal: &Refusal) -> (&'static str, &'static str)
     ensures { (result.0.now, result.1.now) ≡ label refusal.now }
 {
@@ -20,7 +20,11 @@ fn label(refusal: &Refusal) -> (&'static str, &'static str)
     (code, name)
 }
 
-/// Sets a member that is an event.
+/// Sets a member that is the text of an event.
+///
+/// # Errors
+///
+/// Out of memory.
 pub fn put_event_text(
     alloc: Global,
     members: &mut Members,
@@ -52,7 +56,7 @@ fn put_event_zone(
     put_event_text(alloc, members, "event", event)
 }
 
-/// Sets two events that clash in a zone.
+/// Sets the zone and the two events of a conflict.
 fn put_clash(
     alloc: Global,
     members: &mut Members,
@@ -67,7 +71,7 @@ fn put_clash(
     put_event_text(alloc, members, "second", second)
 }
 
-/// Sets a field, and a place in its text.
+/// Sets the name of a text, and the index of a byte in it.
 fn put_place_in(alloc: Global, members: &mut Members, field: &[u8], at: usize) -> Result<(), Oom>
     ensures { OnOk result (members_view members.new.entries ≡ put_place_in field.now at (members_view members.old.entries)) }
 {
@@ -75,7 +79,7 @@ fn put_place_in(alloc: Global, members: &mut Members, field: &[u8], at: usize) -
     put_size(alloc, members, "at", at)
 }
 
-/// Sets the values of a refusal, by name.
+/// Sets the values of a refusal, each under its name.
 #[tactic(auto, unfolding(crate::specs::Replies::put_values))]
 fn put_values(alloc: Global, members: &mut Members, refusal: &Refusal) -> Result<(), Oom>
     ensures { OnOk result (members_view members.new.entries ≡ put_values refusal.now (members_view members.old.entries)) }
@@ -131,7 +135,14 @@ fn refusal_members(alloc: Global, refusal: &Refusal) -> Result<Members, Oom>
     Ok(members)
 }
 
-/// The text of a refusal: an object of its code, its name and its values, keys in byte order.
+/// Returns the text of a refusal as compact JSON, keys in byte order: its code `no`, its name
+/// `rule` and its values.
+///
+/// # Errors
+///
+/// Out of memory.
+///
+/// Source: docs/REQUESTS.md, "Refusals".
 #[tactic(auto, using(crate::proofs::Floats::refusal_no_float), unfolding(crate::specs::Replies::refusal_text))]
 pub fn refusal_text(alloc: Global, refusal: &Refusal) -> Result<Text, Oom>
     ensures { IfOk result (λ text. text ≡ refusal_text refusal.now) }
