@@ -94,7 +94,8 @@ pub fn zones_of(alloc: Global, values: &[Value]) -> Result<Option<List<Zone>>, O
 ///
 /// Out of memory.
 pub fn zones_at(alloc: Global, value: &Value) -> Result<Option<List<Zone>>, Oom>
-    ensures { IfOk result (λ zones. zones ≡ option_and_then zones_of (option_and_then as_array (get (codes "zones") (view value.now)))) }
+    ensures { IfOk result (λ zones. zones
+        ≡ option_and_then zones_of (option_and_then as_array (get (codes "zones") (view value.now)))) }
 {
     match value.get("zones").and_then(Value::as_array) {
         Some(values) => zones_of(alloc, values),
@@ -242,7 +243,8 @@ pub fn texts_of(alloc: Global, value: &Value) -> Result<Option<Texts>, Oom>
 
 /// Returns the texts of the member `texts`, or `None` if it is missing or wrong.
 fn texts_within(alloc: Global, value: &Value) -> Result<Option<Texts>, Oom>
-    ensures { IfOk result (λ texts. texts ≡ option_and_then texts_of (get (codes "texts") (view value.now))) }
+    ensures { IfOk result (λ texts. texts
+        ≡ option_and_then texts_of (get (codes "texts") (view value.now))) }
 {
     match value.get("texts") {
         Some(texts) => texts_of(alloc, texts),

@@ -120,7 +120,8 @@ pub(crate) fn bare_issue_text(
 ) -> Result<Text, Oom>
     requires target { part.now.target ≡ Fresh hazard }
     requires flood { part.now.flood ≡ None }
-    ensures { IfOk result (λ text. text ≡ asked_text (record { desk = desk.now; seq = seq; request = Issue part.now })) }
+    ensures { IfOk result (λ text. text
+        ≡ asked_text (record { desk = desk.now; seq = seq; request = Issue part.now })) }
 {
     let mut text = Text::from_vec(Vec::with_capacity(alloc, room_of(part))?);
     put_begin_desk(alloc, &mut text, &part.begin, desk)?;

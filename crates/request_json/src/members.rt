@@ -32,7 +32,8 @@ pub fn text_value(alloc: Global, bytes: &[u8]) -> Result<Value, Oom>
 ///
 /// Out of memory.
 pub fn put(alloc: Global, members: &mut Members, key: &str, value: Value) -> Result<(), Oom>
-    ensures { OnOk result (members_view members.new.entries ≡ put key.now (view value) (members_view members.old.entries)) }
+    ensures { OnOk result (members_view members.new.entries
+        ≡ put key.now (view value) (members_view members.old.entries)) }
 {
     serde_json::put(members, alloc, key, value)?;
     Ok(())
@@ -44,7 +45,8 @@ pub fn put(alloc: Global, members: &mut Members, key: &str, value: Value) -> Res
 ///
 /// Out of memory.
 pub fn put_text(alloc: Global, members: &mut Members, key: &str, bytes: &[u8]) -> Result<(), Oom>
-    ensures { OnOk result (members_view members.new.entries ≡ put_text key.now bytes.now (members_view members.old.entries)) }
+    ensures { OnOk result (members_view members.new.entries
+        ≡ put_text key.now bytes.now (members_view members.old.entries)) }
 {
     let value = text_value(alloc, bytes)?;
     put(alloc, members, key, value)
@@ -56,7 +58,8 @@ pub fn put_text(alloc: Global, members: &mut Members, key: &str, bytes: &[u8]) -
 ///
 /// Out of memory.
 pub fn put_number(alloc: Global, members: &mut Members, key: &str, number: u32) -> Result<(), Oom>
-    ensures { OnOk result (members_view members.new.entries ≡ put_number key.now number (members_view members.old.entries)) }
+    ensures { OnOk result (members_view members.new.entries
+        ≡ put_number key.now number (members_view members.old.entries)) }
 {
     put(alloc, members, key, Value::from(number))
 }
@@ -67,7 +70,8 @@ pub fn put_number(alloc: Global, members: &mut Members, key: &str, number: u32) 
 ///
 /// Out of memory.
 pub fn put_size(alloc: Global, members: &mut Members, key: &str, size: usize) -> Result<(), Oom>
-    ensures { OnOk result (members_view members.new.entries ≡ put_number key.now size (members_view members.old.entries)) }
+    ensures { OnOk result (members_view members.new.entries
+        ≡ put_number key.now size (members_view members.old.entries)) }
 {
     put(alloc, members, key, Value::from(size))
 }
@@ -78,7 +82,8 @@ pub fn put_size(alloc: Global, members: &mut Members, key: &str, size: usize) ->
 ///
 /// Out of memory.
 pub fn put_signed(alloc: Global, members: &mut Members, key: &str, signed: i64) -> Result<(), Oom>
-    ensures { OnOk result (members_view members.new.entries ≡ put key.now (number (of_integer signed)) (members_view members.old.entries)) }
+    ensures { OnOk result (members_view members.new.entries
+        ≡ put key.now (number (of_integer signed)) (members_view members.old.entries)) }
 {
     put(alloc, members, key, Value::from(signed))
 }

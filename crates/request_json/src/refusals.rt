@@ -31,7 +31,8 @@ pub fn put_event_text(
     key: &str,
     event: &Event,
 ) -> Result<(), Oom>
-    ensures { OnOk result (members_view members.new.entries ≡ put_text key.now (event_text event.now) (members_view members.old.entries)) }
+    ensures { OnOk result (members_view members.new.entries
+        ≡ put_text key.now (event_text event.now) (members_view members.old.entries)) }
 {
     let mut text = List::new(alloc);
     put_event(alloc, &mut text, event)?;
@@ -39,7 +40,8 @@ pub fn put_event_text(
 }
 
 fn put_zone(alloc: Global, members: &mut Members, zone: &Zone) -> Result<(), Oom>
-    ensures { OnOk result (members_view members.new.entries ≡ put_zone zone.now (members_view members.old.entries)) }
+    ensures { OnOk result (members_view members.new.entries
+        ≡ put_zone zone.now (members_view members.old.entries)) }
 {
     put_text(alloc, members, "zone", &zone_text(zone))
 }
@@ -50,7 +52,8 @@ fn put_event_zone(
     event: &Event,
     zone: &Zone,
 ) -> Result<(), Oom>
-    ensures { OnOk result (members_view members.new.entries ≡ put_event_zone event.now zone.now (members_view members.old.entries)) }
+    ensures { OnOk result (members_view members.new.entries
+        ≡ put_event_zone event.now zone.now (members_view members.old.entries)) }
 {
     put_zone(alloc, members, zone)?;
     put_event_text(alloc, members, "event", event)
@@ -64,7 +67,8 @@ fn put_clash(
     first: &Event,
     second: &Event,
 ) -> Result<(), Oom>
-    ensures { OnOk result (members_view members.new.entries ≡ put_clash zone.now first.now second.now (members_view members.old.entries)) }
+    ensures { OnOk result (members_view members.new.entries
+        ≡ put_clash zone.now first.now second.now (members_view members.old.entries)) }
 {
     put_zone(alloc, members, zone)?;
     put_event_text(alloc, members, "first", first)?;
@@ -73,7 +77,8 @@ fn put_clash(
 
 /// Sets the name of a text, and the index of a byte in it.
 fn put_place_in(alloc: Global, members: &mut Members, field: &[u8], at: usize) -> Result<(), Oom>
-    ensures { OnOk result (members_view members.new.entries ≡ put_place_in field.now at (members_view members.old.entries)) }
+    ensures { OnOk result (members_view members.new.entries
+        ≡ put_place_in field.now at (members_view members.old.entries)) }
 {
     put_text(alloc, members, "field", field)?;
     put_size(alloc, members, "at", at)
@@ -82,7 +87,8 @@ fn put_place_in(alloc: Global, members: &mut Members, field: &[u8], at: usize) -
 /// Sets the values of a refusal, each under its name.
 #[tactic(auto, unfolding(crate::specs::Replies::put_values))]
 fn put_values(alloc: Global, members: &mut Members, refusal: &Refusal) -> Result<(), Oom>
-    ensures { OnOk result (members_view members.new.entries ≡ put_values refusal.now (members_view members.old.entries)) }
+    ensures { OnOk result (members_view members.new.entries
+        ≡ put_values refusal.now (members_view members.old.entries)) }
 {
     match refusal {
         Refusal::WrongShape { field } | Refusal::TextTooLong { field } => {
@@ -125,7 +131,8 @@ fn put_values(alloc: Global, members: &mut Members, refusal: &Refusal) -> Result
 }
 
 fn refusal_members(alloc: Global, refusal: &Refusal) -> Result<Members, Oom>
-    ensures { IfOk result (λ members. members_view members.entries ≡ put_values refusal.now (labelled (label refusal.now))) }
+    ensures { IfOk result (λ members. members_view members.entries
+        ≡ put_values refusal.now (labelled (label refusal.now))) }
 {
     let (no, rule) = label(refusal);
     let mut members = Map::new(alloc);

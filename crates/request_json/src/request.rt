@@ -70,7 +70,8 @@ fn verb_field(alloc: Global, value: &Value) -> Result<Verb, Or<Refusal>>
 }
 
 fn category_of(value: &Value) -> Option<Category>
-    ensures { result ≡ option_and_then (value_beside category_rows) (text_at (codes "category") (view value.now)) }
+    ensures { result
+        ≡ option_and_then (value_beside category_rows) (text_at (codes "category") (view value.now)) }
 {
     let text = text_at(value, "category")?;
     Category::at(text.as_bytes())
@@ -173,7 +174,8 @@ fn texts_field(alloc: Global, value: &Value) -> Result<Texts, Or<Refusal>>
 /// Returns the texts of a correction, an empty list if there is no member `texts`, or `None` if it
 /// is wrong.
 fn event_texts_or_none(alloc: Global, value: &Value) -> Result<Option<List<EventTexts>>, Oom>
-    ensures { IfOk result (λ texts. texts ≡ event_texts_or_none (get (codes "texts") (view value.now))) }
+    ensures { IfOk result (λ texts. texts
+        ≡ event_texts_or_none (get (codes "texts") (view value.now))) }
 {
     match value.get("texts") {
         None => Ok(Some(List::new(alloc))),
@@ -317,7 +319,9 @@ fn known<T: Drop>(
     members: &Map<String, Value>,
     read: T,
 ) -> Result<T, Or<Refusal>>
-    ensures { Gives result (if all_known keys (members_view members.now.entries) then Ok read else Err (Refusal.WrongShape (codes "?"))) }
+    ensures { Gives result (if all_known keys (members_view members.now.entries)
+        then Ok read
+        else Err (Refusal.WrongShape (codes "?"))) }
 {
     if keys.know_all(members) {
         Ok(read)
@@ -344,7 +348,8 @@ fn asked_in(alloc: Global, value: &Value) -> Result<Asked, Or<Refusal>>
 /// Returns the JSON value that the bytes are, or `NotJson`.
 fn read_json(alloc: Global, bytes: &[u8]) -> Result<Value, Or<Refusal>>
     ensures ok { IfOk result (λ value. json_of bytes.now ≡ Some (view value)) }
-    ensures refused { (refusal : Refused) → result ≡ Err (Or.No refusal) → json_of bytes.now ≡ None }
+    ensures refused { (refusal : Refused) → result ≡ Err (Or.No refusal) →
+        json_of bytes.now ≡ None }
     ensures named { (refusal : Refused) → result ≡ Err (Or.No refusal) → refusal ≡ Refusal.NotJson }
 {
     match Value::from_slice(alloc, bytes) {
