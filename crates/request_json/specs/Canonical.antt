@@ -1,4 +1,4 @@
--- Canonical texts: compact JSON. `put` sets a member at its key's place, so keys are in byte order.
+-- Canonical texts of requests: compact JSON. `put` keeps members in byte order of their keys.
 use Rattle.std.specs.Prelude.{ℕ, List, map, Option, Some, None, codes}
 use Rattle.std.specs.Str.Lossy.{utf8_lossy}
 use Rattle.serde_json.specs.Data.{Data, number, unsigned, string, array, object, Items, Members, no_members, put}
@@ -29,11 +29,11 @@ use Rattle.hazard_types.specs.declared.request.Target.TheVariants as target
 use Rattle.hazard_types.specs.declared.request.Texts.{Texts}
 use Rattle.request_json.specs.declared.asked.Asked.{Asked}
 
--- a text; bytes that are no UTF-8 are written lossily
+-- bytes as a string; those that are not UTF-8 become replacement characters
 unfoldable pub as_text : List ℕ → Data
 as_text bytes = string (utf8_lossy bytes)
 
--- members in their places, one behind another
+-- the members with one more, a string
 abbrev pub put_text : List ℕ → List ℕ → Members → Members
 put_text key bytes ms = put key (as_text bytes) ms
 
@@ -54,7 +54,7 @@ zone_data z = as_text (zone_text z)
 abbrev pub zone_items : List Place → Items
 zone_items zs = items_of (map zone_data zs)
 
--- the four texts, also where they are empty
+-- the four texts, empty ones too
 unfoldable pub texts_data : Texts → Data
 texts_data t = object (put_text (codes "details") t.details (put_text (codes "impacts") t.impacts (put_text (codes "area") t.area (put_text (codes "what") t.what no_members))))
 
@@ -73,7 +73,7 @@ event_texts_data t = object (put (codes "texts") (texts_data t.texts) (put_text 
 abbrev pub event_texts_items : List EventTexts → Items
 event_texts_items ts = items_of (map event_texts_data ts)
 
--- flood values are left out where there are none
+-- H-VTEC values, if there are some
 abbrev pub put_flood : Option Flood → Members → Members
 put_flood None ms = ms
 put_flood (Some f) ms = put (codes "flood") (flood_data f) ms
@@ -99,7 +99,7 @@ put_event_part p ms = put_zones_texts p.zones p.texts (put_text (codes "event") 
 unfoldable pub put_routine : RoutinePart → Members → Members
 put_routine p ms = put_zones_texts p.zones p.texts (put_text (codes "hazard") (hazard_code p.hazard) ms)
 
--- with what the request does
+-- the members with `do`
 abbrev pub put_do : List ℕ → Members → Members
 put_do word ms = put_text (codes "do") word ms
 
@@ -112,7 +112,7 @@ put_event_do word p ms = put_event_part p (put_do word ms)
 abbrev pub put_routine_do : RoutinePart → Members → Members
 put_routine_do p ms = put_routine p (put_do (codes "routine") ms)
 
--- a step of a draft: its request without desk, number and draft
+-- an intent: its request without desk, number and draft
 unfoldable pub put_intent : Intent → Members → Members
 put_intent (intent.Put p) ms = put_put_do (codes "put") p ms
 put_intent (intent.Finish p) ms = put_event_do (codes "end") p ms
@@ -137,7 +137,7 @@ put_drop n place ms = put_number (codes "place") place (put_draft_do (codes "dro
 abbrev pub put_open : Category → Members → Members
 put_open c ms = put_text (codes "category") (category_code c) (put_do (codes "open") ms)
 
--- the texts of a correction are an array, also where there are none
+-- the texts of a correction are an array, empty if there are none
 abbrev pub put_correct : ℕ → List EventTexts → Members → Members
 put_correct n ts ms = put (codes "texts") (array (event_texts_items ts)) (put_number (codes "product") n (put_do (codes "correct") ms))
 

@@ -1,4 +1,4 @@
--- Compact texts of JSON, laid piece by piece.
+-- Pieces of compact JSON, of which the texts of issues and replies are made.
 use Rattle.std.specs.Prelude.{◌==◌, ◌&&◌, not, ℕ, nat_le, nat_lt, Bool, List, ◌++◌, codes}
 use Rattle.serde_json.specs.Data.{number, unsigned, array}
 use Rattle.serde_json.specs.Written.{compact_text}
@@ -15,7 +15,7 @@ use Rattle.hazard_types.specs.declared.request.Texts.{Texts}
 use Rattle.request_json.specs.Canonical.{as_text, texts_data, zone_items}
 use Rattle.request_json.specs.Replies.{event_items}
 
--- a byte that stands for itself in a string
+-- a byte that strings have as it is: printable, other than `"` and `\`
 abbrev pub is_plain : ℕ → Bool
 is_plain b = nat_le 32 b && nat_lt b 127 && not (b == 34) && not (b == 92)
 
@@ -50,7 +50,7 @@ area_details t = codes "{\"area\":" ++ (string_text t.area ++ (codes ",\"details
 unfoldable pub impacts_what : Texts → List ℕ
 impacts_what t = codes ",\"impacts\":" ++ (string_text t.impacts ++ (codes ",\"what\":" ++ (string_text t.what ++ codes "}")))
 
--- ---- an issue of a new event without flood values
+-- ---- an issue of a new event without H-VTEC values
 
 unfoldable pub begin_desk : Begin → List ℕ → List ℕ
 begin_desk b desk = codes "{\"begin\":" ++ (string_text (begin_bytes b) ++ (codes ",\"desk\":" ++ string_text desk))

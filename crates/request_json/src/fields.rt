@@ -95,7 +95,8 @@ pub fn zones_of(alloc: Global, values: &[Value]) -> Result<Option<List<Zone>>, O
 /// Out of memory.
 pub fn zones_at(alloc: Global, value: &Value) -> Result<Option<List<Zone>>, Oom>
     ensures { IfOk result (λ zones. zones
-        ≡ option_and_then zones_of (option_and_then as_array (get (codes "zones") (view value.now)))) }
+        ≡ option_and_then zones_of
+        (option_and_then as_array (get (codes "zones") (view value.now)))) }
 {
     match value.get("zones").and_then(Value::as_array) {
         Some(values) => zones_of(alloc, values),

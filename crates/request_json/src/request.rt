@@ -71,7 +71,8 @@ fn verb_field(alloc: Global, value: &Value) -> Result<Verb, Or<Refusal>>
 
 fn category_of(value: &Value) -> Option<Category>
     ensures { result
-        ≡ option_and_then (value_beside category_rows) (text_at (codes "category") (view value.now)) }
+        ≡ option_and_then (value_beside category_rows)
+        (text_at (codes "category") (view value.now)) }
 {
     let text = text_at(value, "category")?;
     Category::at(text.as_bytes())
