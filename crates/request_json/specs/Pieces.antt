@@ -15,7 +15,7 @@ use Rattle.hazard_types.specs.declared.request.Texts.{Texts}
 use Rattle.request_json.specs.Canonical.{as_text, texts_data, zone_items}
 use Rattle.request_json.specs.Replies.{event_items}
 
--- a byte that strings have as it is: printable, other than `"` and `\`
+-- a byte that strings have as it is: a printable one, but no quote and no backslash
 abbrev pub is_plain : ℕ → Bool
 is_plain b = nat_le 32 b && nat_lt b 127 && not (b == 34) && not (b == 92)
 

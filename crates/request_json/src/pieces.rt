@@ -10,7 +10,7 @@ use hazard_types::{Event, Oom, Text, Texts, Zone, put_event, zone_text};
 use itoa::Buffer;
 use std::alloc::Global;
 
-/// Whether JSON strings have the byte as it is: a printable ASCII character other than `"` and `\`.
+/// Whether JSON strings have the byte as it is: a printable one, but no quote and no backslash.
 fn is_plain(byte: u8) -> bool
     ensures { result ≡ is_plain byte }
 {
