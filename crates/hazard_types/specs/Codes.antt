@@ -26,12 +26,14 @@ module _ {T : Type 0} where
   -- the value of the first row with this code
   abbrev pub value_beside : List (Coded T) → List ℕ → Option T
   value_beside [] code = None
-  value_beside (row ∷ rows) code = if bytes_eq (unfilled row.code) code then Some row.value else value_beside rows code
+  value_beside (row ∷ rows) code =
+      if bytes_eq (unfilled row.code) code then Some row.value else value_beside rows code
 
   -- the code of the first row with this value
   abbrev pub code_beside : (T → T → Bool) → List (Coded T) → T → Option (List ℕ)
   code_beside same [] value = None
-  code_beside same (row ∷ rows) value = if same row.value value then Some row.code else code_beside same rows value
+  code_beside same (row ∷ rows) value =
+      if same row.value value then Some row.code else code_beside same rows value
 
   -- a row has the property
   abbrev pub SomeRow : (Coded T → Type 0) → List (Coded T) → Type 0
@@ -40,7 +42,8 @@ module _ {T : Type 0} where
 
   -- no row of these has the code of this row, and none has its value
   abbrev pub StandsAlone : Coded T → List (Coded T) → Type 0
-  StandsAlone row rows = AllByRecursion (λ (other : Coded T). (row.code ≢ other.code) × (row.value ≢ other.value)) rows
+  StandsAlone row rows =
+      AllByRecursion (λ (other : Coded T). (row.code ≢ other.code) × (row.value ≢ other.value)) rows
 
   -- each code has its form, and no two rows have the same code or the same value
   abbrev pub IsTable : List (Coded T) → Type 0

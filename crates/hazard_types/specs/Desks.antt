@@ -20,8 +20,11 @@ pub record IsName (bytes : List ℕ) (count : ℕ) : Type 0 where
   pub rest : drop count bytes ≡ replicate (16 - count) 0
 
 -- the name of such bytes, filled up with zeros, is the bytes
-pub padded_back : (bytes : List ℕ) (count : ℕ) → IsName bytes count → (padded (take count bytes) ≡ bytes) × (length (take count bytes) ≡ count)
+pub padded_back : (bytes : List ℕ) (count : ℕ) → IsName bytes count
+    → (padded (take count bytes) ≡ bytes) × (length (take count bytes) ≡ count)
 padded_back bytes count h =
-    let size : length (take count bytes) ≡ count = omega (arith, length-take count bytes, h.size, h.within) in
-    let whole : take count bytes ++ replicate (16 - count) 0 ≡ bytes = rw (sym h.rest) (take-append-drop count bytes) in
+    let size : length (take count bytes) ≡ count =
+    omega (arith, length-take count bytes, h.size, h.within) in
+    let whole : take count bytes ++ replicate (16 - count) 0 ≡ bytes =
+    rw (sym h.rest) (take-append-drop count bytes) in
     (rw size whole, size)

@@ -33,7 +33,10 @@ two_at text i = 10 * (slice_index text i - 48) + (slice_index text (i + 1) - 48)
 
 -- six bytes, each a digit
 abbrev pub six_digits : List ℕ → Bool
-six_digits text = (length text == 6) && is_digit (slice_index text 0) && is_digit (slice_index text 1) && is_digit (slice_index text 2) && is_digit (slice_index text 3) && is_digit (slice_index text 4) && is_digit (slice_index text 5)
+six_digits text =
+    (length text == 6) && is_digit (slice_index text 0) && is_digit (slice_index text 1)
+    && is_digit (slice_index text 2) && is_digit (slice_index text 3)
+    && is_digit (slice_index text 4) && is_digit (slice_index text 5)
 
 -- the day, the hour and the minute that six digits are
 abbrev pub day_stamp_at : List ℕ → DayStamp
@@ -41,4 +44,5 @@ day_stamp_at text = record { day = two_at text 0; hour = two_at text 2; minute =
 
 -- the day stamp of a text, if it is one
 unfoldable pub day_stamp_in : List ℕ → Option DayStamp
-day_stamp_in text = if six_digits text && is_day_stamp (day_stamp_at text) then Some (day_stamp_at text) else None
+day_stamp_in text =
+    if six_digits text && is_day_stamp (day_stamp_at text) then Some (day_stamp_at text) else None

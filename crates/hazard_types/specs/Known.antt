@@ -11,4 +11,5 @@ hazard_in row = record { phen = row.letters; sig = row.sig }
 -- the value of the first row with a hazard
 abbrev pub told_beside : {X : Type 0} → List (Known X) → Hazard → Option X
 told_beside [] h = None
-told_beside (row ∷ rows) h = if same_hazard (hazard_in row) h then Some row.value else told_beside rows h
+told_beside (row ∷ rows) h =
+    if same_hazard (hazard_in row) h then Some row.value else told_beside rows h

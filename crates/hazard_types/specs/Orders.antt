@@ -27,11 +27,15 @@ by_letter = on sig_letter nat_cmp
 
 -- hazards by phenomenon, then the letter of the significance
 abbrev pub by_hazard : Hazard → Hazard → Ordering
-by_hazard = then_cmp (on (λ (h : Hazard). h.phen) (slice_cmp nat_cmp)) (on (λ (h : Hazard). h.sig) by_letter)
+by_hazard =
+    then_cmp (on (λ (h : Hazard). h.phen) (slice_cmp nat_cmp))
+    (on (λ (h : Hazard). h.sig) by_letter)
 
 -- events by phenomenon, letter of the significance, number, year
 abbrev pub by_event : Event → Event → Ordering
-by_event = then_cmp (on (λ (e : Event). e.hazard) by_hazard) (then_cmp (on (λ (e : Event). e.etn) nat_cmp) (on (λ (e : Event). e.year) nat_cmp))
+by_event =
+    then_cmp (on (λ (e : Event). e.hazard) by_hazard)
+    (then_cmp (on (λ (e : Event). e.etn) nat_cmp) (on (λ (e : Event). e.year) nat_cmp))
 
 -- ends by minute, each before until further notice
 abbrev pub by_end : End → End → Ordering

@@ -14,7 +14,9 @@ time_text (Some m) = stamp_of m
 
 -- the minute of a stamp, or no minute for zeros, if the text is either
 unfoldable pub time_at : List ℕ → Option (Option ℕ)
-time_at text = if bytes_eq text (codes "000000T0000Z") then Some None else option_map (λ m. Some m) (stamp_at text)
+time_at text =
+    if bytes_eq text (codes "000000T0000Z") then Some None
+    else option_map (λ m. Some m) (stamp_at text)
 
 -- the stamp of an end, or zeros for until further notice
 abbrev pub end_text : End → List ℕ

@@ -49,7 +49,9 @@ abbrev pub verb_field : Data → Result Verb Refusal
 verb_field d = given (option_and_then verb_at (text_at (codes "do") d)) (codes "do")
 
 abbrev pub category_field : Data → Result Category Refusal
-category_field d = given (option_and_then (value_beside category_rows) (text_at (codes "category") d)) (codes "category")
+category_field d =
+    given (option_and_then (value_beside category_rows) (text_at (codes "category") d))
+    (codes "category")
 
 abbrev pub number_field : List ℕ → Data → Result ℕ Refusal
 number_field key d = given (number_at key d) key
@@ -61,7 +63,9 @@ abbrev pub event_field : Data → Result Event Refusal
 event_field d = given (option_and_then event_at (text_at (codes "event") d)) (codes "event")
 
 abbrev pub zones_field : Data → Result (List Place) Refusal
-zones_field d = given (option_and_then zones_of (option_and_then as_array (get (codes "zones") d))) (codes "zones")
+zones_field d =
+    given (option_and_then zones_of (option_and_then as_array (get (codes "zones") d)))
+    (codes "zones")
 
 abbrev pub begin_field : Data → Result Begin Refusal
 begin_field d = given (option_and_then begin_at (text_at (codes "begin") d)) (codes "begin")
@@ -142,7 +146,8 @@ draft_in verb.Put draft d = put_part d >>= λ part. Ok (request.Put draft part)
 draft_in verb.End draft d = event_part d >>= λ part. Ok (request.Finish draft part)
 draft_in verb.Restate draft d = event_part d >>= λ part. Ok (request.Restate draft part)
 draft_in verb.Routine draft d = routine_part d >>= λ part. Ok (request.Routine draft part)
-draft_in verb.Drop draft d = number_field (codes "place") d >>= λ place. Ok (request.Drop draft place)
+draft_in verb.Drop draft d =
+    number_field (codes "place") d >>= λ place. Ok (request.Drop draft place)
 draft_in verb.Take draft d = Ok (request.Take draft)
 draft_in verb.Discard draft d = Ok (request.Discard draft)
 draft_in v draft d = Ok (request.Send draft)
@@ -154,7 +159,10 @@ draft_request v d = number_field (codes "draft") d >>= λ draft. draft_in v draf
 unfoldable pub request_in : Verb → Data → Result Request Refusal
 request_in verb.Open d = category_field d >>= λ category. Ok (request.Begin category)
 request_in verb.Issue d = issue_part d >>= λ part. Ok (request.Issue part)
-request_in verb.Correct d = number_field (codes "product") d >>= λ product. event_texts_field d >>= λ texts. Ok (request.Correct product texts)
+request_in verb.Correct d =
+    number_field (codes "product") d >>= λ product.
+    event_texts_field d >>= λ texts.
+    Ok (request.Correct product texts)
 request_in v d = draft_request v d
 
 -- a whole request: its desk, its number and what it does come first, and it has no other keys
@@ -165,7 +173,8 @@ asked_in d =
     seq_field d >>= λ seq.
     verb_field d >>= λ v.
     request_in v d >>= λ r.
-    if all_known (keys_of v) ms then Ok (record { desk = desk; seq = seq; request = r }) else Err (WrongShape (codes "?"))
+    if all_known (keys_of v) ms then Ok (record { desk = desk; seq = seq; request = r })
+    else Err (WrongShape (codes "?"))
 
 -- the request that the bytes are, or the first fault
 unfoldable pub asked_of : List ℕ → Result Asked Refusal

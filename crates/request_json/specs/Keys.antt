@@ -24,11 +24,14 @@ verb_at w =
 
 -- the keys of all requests
 abbrev pub is_common : List ℕ → Bool
-is_common key = bytes_eq key (codes "desk") || bytes_eq key (codes "seq") || bytes_eq key (codes "do")
+is_common key =
+    bytes_eq key (codes "desk") || bytes_eq key (codes "seq") || bytes_eq key (codes "do")
 
 -- the keys of all requests that put an event into zones
 abbrev pub is_of_put : List ℕ → Bool
-is_of_put key = bytes_eq key (codes "zones") || bytes_eq key (codes "begin") || bytes_eq key (codes "end") || bytes_eq key (codes "flood") || bytes_eq key (codes "texts")
+is_of_put key =
+    bytes_eq key (codes "zones") || bytes_eq key (codes "begin") || bytes_eq key (codes "end")
+    || bytes_eq key (codes "flood") || bytes_eq key (codes "texts")
 
 -- the keys of an issue, apart from the common ones
 abbrev pub is_of_issue : List ℕ → Bool
@@ -36,23 +39,36 @@ is_of_issue key = bytes_eq key (codes "hazard") || is_of_put key
 
 -- the keys of a put into a draft, apart from the common ones
 abbrev pub is_of_draft_put : List ℕ → Bool
-is_of_draft_put key = bytes_eq key (codes "draft") || (bytes_eq key (codes "hazard") || (bytes_eq key (codes "event") || is_of_put key))
+is_of_draft_put key =
+    bytes_eq key (codes "draft")
+    || (bytes_eq key (codes "hazard") || (bytes_eq key (codes "event") || is_of_put key))
 
 -- the keys of `end` and `restate`, apart from the common ones
 abbrev pub is_of_event : List ℕ → Bool
-is_of_event key = bytes_eq key (codes "draft") || (bytes_eq key (codes "event") || (bytes_eq key (codes "zones") || bytes_eq key (codes "texts")))
+is_of_event key =
+    bytes_eq key (codes "draft")
+    || (bytes_eq key (codes "event")
+    || (bytes_eq key (codes "zones") || bytes_eq key (codes "texts")))
 
 -- the keys of `routine`, apart from the common ones
 abbrev pub is_of_routine : List ℕ → Bool
-is_of_routine key = bytes_eq key (codes "draft") || (bytes_eq key (codes "hazard") || (bytes_eq key (codes "zones") || bytes_eq key (codes "texts")))
+is_of_routine key =
+    bytes_eq key (codes "draft")
+    || (bytes_eq key (codes "hazard")
+    || (bytes_eq key (codes "zones") || bytes_eq key (codes "texts")))
 
 -- the keys of H-VTEC values
 abbrev pub is_of_flood : List ℕ → Bool
-is_of_flood key = bytes_eq key (codes "site") || bytes_eq key (codes "severity") || bytes_eq key (codes "cause") || bytes_eq key (codes "begin") || bytes_eq key (codes "crest") || bytes_eq key (codes "end") || bytes_eq key (codes "status")
+is_of_flood key =
+    bytes_eq key (codes "site") || bytes_eq key (codes "severity") || bytes_eq key (codes "cause")
+    || bytes_eq key (codes "begin") || bytes_eq key (codes "crest") || bytes_eq key (codes "end")
+    || bytes_eq key (codes "status")
 
 -- the keys of texts
 abbrev pub is_of_texts : List ℕ → Bool
-is_of_texts key = bytes_eq key (codes "what") || bytes_eq key (codes "area") || bytes_eq key (codes "impacts") || bytes_eq key (codes "details")
+is_of_texts key =
+    bytes_eq key (codes "what") || bytes_eq key (codes "area") || bytes_eq key (codes "impacts")
+    || bytes_eq key (codes "details")
 
 unfoldable pub has_key : Keys → List ℕ → Bool
 has_key keys.Open key = is_common key || bytes_eq key (codes "category")
@@ -61,9 +77,11 @@ has_key keys.Training key = bytes_eq key (codes "do") || is_of_issue key
 has_key keys.Put key = is_common key || is_of_draft_put key
 has_key keys.Event key = is_common key || is_of_event key
 has_key keys.Routine key = is_common key || is_of_routine key
-has_key keys.Drop key = is_common key || (bytes_eq key (codes "draft") || bytes_eq key (codes "place"))
+has_key keys.Drop key =
+    is_common key || (bytes_eq key (codes "draft") || bytes_eq key (codes "place"))
 has_key keys.Draft key = is_common key || bytes_eq key (codes "draft")
-has_key keys.Correct key = is_common key || (bytes_eq key (codes "product") || bytes_eq key (codes "texts"))
+has_key keys.Correct key =
+    is_common key || (bytes_eq key (codes "product") || bytes_eq key (codes "texts"))
 has_key keys.Flood key = is_of_flood key
 has_key keys.Texts key = is_of_texts key
 has_key keys.EventTexts key = bytes_eq key (codes "event") || bytes_eq key (codes "texts")

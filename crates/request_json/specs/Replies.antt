@@ -34,7 +34,9 @@ abbrev pub put_event_zone : Event → Place → Members → Members
 put_event_zone e z ms = put_text (codes "event") (event_text e) (put_zone z ms)
 
 abbrev pub put_clash : Place → Event → Event → Members → Members
-put_clash zone first second ms = put_text (codes "second") (event_text second) (put_text (codes "first") (event_text first) (put_zone zone ms))
+put_clash zone first second ms =
+    put_text (codes "second") (event_text second)
+    (put_text (codes "first") (event_text first) (put_zone zone ms))
 
 abbrev pub put_place_in : List ℕ → ℕ → Members → Members
 put_place_in field at ms = put_number (codes "at") at (put_text (codes "field") field ms)
@@ -101,8 +103,11 @@ put_sent s ms =
     put_text (codes "ok") (codes "send") ms)))
 
 unfoldable pub put_reply : Reply → Members → Members
-put_reply (reply.Draft w n) ms = put_text (codes "ok") (word_code w) (put_number (codes "draft") n ms)
-put_reply (reply.Placed n place) ms = put_text (codes "ok") (codes "put") (put_number (codes "place") place (put_number (codes "draft") n ms))
+put_reply (reply.Draft w n) ms =
+    put_text (codes "ok") (word_code w) (put_number (codes "draft") n ms)
+put_reply (reply.Placed n place) ms =
+    put_text (codes "ok") (codes "put")
+    (put_number (codes "place") place (put_number (codes "draft") n ms))
 put_reply (reply.Sent s) ms = put_sent s ms
 
 unfoldable pub reply_text : Reply → List ℕ
