@@ -365,7 +365,7 @@ fn text_by_members(alloc: Global, desk: &Desk, seq: u32, request: &Request) -> R
 }
 
 /// Returns the put of an issue and the hazard of the event that it opens, or `None` if the request
-/// is another one or has H-VTEC values.
+/// is no issue, joins an event or has H-VTEC values.
 fn bare_issue(request: &Request) -> Option<(&PutPart, Hazard)>
     ensures { IfSome result (λ found. (request.now ≡ Issue found.0.now)
         × (found.0.now.target ≡ Fresh found.1) × (found.0.now.flood ≡ None)) }

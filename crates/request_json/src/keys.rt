@@ -42,7 +42,7 @@ pub enum Keys {
 }
 
 impl Verb {
-    /// Returns the verb that the word is, or `None` if it is none.
+    /// Returns the verb that the word is, or `None` if it is not one.
     pub fn at(word: &str) -> Option<Verb>
         ensures { result ≡ verb_at word.now }
     {

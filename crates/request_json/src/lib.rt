@@ -1,5 +1,5 @@
-//! Requests of the desks as JSON, read and written, and the texts of replies, refusals and drafts.
-//! Also reads the lines of the training office.
+//! Reads the requests of the desks and the lines of the training office as JSON, and writes the
+//! texts of requests, replies, refusals and drafts.
 //!
 //! For crates that read requests or write replies. One begins with `read_request`, `reply_text` and
 //! `refusal_text`.
