@@ -78,7 +78,7 @@ pub fn is_day_stamp(d: DayStamp) -> bool
 
 /// Returns a day stamp in range as six digits: day, hour, minute.
 ///
-/// Source: NWS Instruction 10-1702, UGC purge time; NWS Instruction 10-1701, WMO heading.
+/// Source: NWS Instruction 10-1702, UGC expiry; NWS Instruction 10-1701, WMO heading.
 pub fn day_text(d: DayStamp) -> [u8; 6]
     requires { IsTrue (is_day_stamp d) }
     ensures { result ≡ day_text d }
@@ -129,7 +129,7 @@ fn day_stamp_of(text: &[u8]) -> Option<DayStamp>
 /// Returns the day stamp that six digits are, or `None` if the bytes are not six digits or are out
 /// of range.
 ///
-/// Source: NWS Instruction 10-1702, UGC purge time; NWS Instruction 10-1701, WMO heading.
+/// Source: NWS Instruction 10-1702, UGC expiry; NWS Instruction 10-1701, WMO heading.
 #[tactic(auto, using(crate::proofs::DayTexts::day_stamp_back, crate::proofs::DayTexts::day_stamp_is_read))]
 pub fn day_stamp_in(text: &[u8]) -> Option<DayStamp>
     ensures found { IfSome result (λ d. IsTrue (is_day_stamp d) × (text.now ≡ day_text d)) }

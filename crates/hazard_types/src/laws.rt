@@ -21,7 +21,8 @@ use crate::period::End;
 use crate::request::Request;
 use crate::zone::Zone;
 
-/// `==` holds exactly of identical values.
+/// `==` of zones, hazards, events, H-VTEC values, lines, rows, desks and requests holds exactly of
+/// identical values.
 #[tactic(auto, using(crate::proofs::Equality::zone_decides, crate::proofs::Equality::hazard_decides, crate::proofs::Equality::event_decides, crate::proofs::Equality::flood_decides, crate::proofs::Equality::line_decides, crate::proofs::Equality::seg_line_decides, crate::proofs::Equality::row_decides, crate::proofs::Equality::desk_decides, crate::proofs::Equality::request_decides))]
 pub fn equality_is_identity()
     ensures zones { (a b : Place) → Decides (⟦<Zone as PartialEq>⟧.eq a b) (a ≡ b) }
